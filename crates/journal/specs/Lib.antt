@@ -12,3 +12,6 @@ pub mod Copies
 pub mod Intervals
 pub mod Brought
 pub mod Blocks
+pub mod Log
+pub mod InRange
+pub mod Holding

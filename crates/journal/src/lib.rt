@@ -3,5 +3,10 @@
 #![tactic(auto)]
 
 mod event;
+mod journal;
+mod replay;
+mod traffic;
 
 pub use event::{Event, Kind};
+pub use journal::Journal;
+pub use traffic::Traffic;

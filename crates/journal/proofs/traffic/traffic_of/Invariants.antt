@@ -1,0 +1,7 @@
+use Rattle.std.proofs.Common.{◌≡◌, ◌*◌, ◌^◌, ◌≤◌, take}
+use Rattle.journal.specs.Traffic.{messages, records, words}
+use Rattle.journal.proofs.Spending.{Spent}
+use Rattle.journal.proofs.traffic.traffic_of.Given as goal
+
+abbrev pub invariant-loop-event : goal.invariant-loop-event
+invariant-loop-event l = Spent l.traffic l.events l.event-index
