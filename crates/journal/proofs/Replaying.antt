@@ -3,7 +3,7 @@ use Rattle.std.proofs.Common.{◌≡◌, ◌<◌, ◌+◌, ◌∙◌, ℕ, List,
 use Rattle.std.specs.Prelude.{Some, slice_get}
 use Rattle.std.proofs.lemmas.Option.{same_Some}
 use Rattle.journal.specs.declared.event.Kind.{Kind}
-use Rattle.lists.specs.Writes.{wrote, written}
+use Rattle.lists.specs.Writes.{wrote}
 use Rattle.lists.proofs.Written.{written-append}
 use Rattle.lists.proofs.Fronts.{take-at}
 use Rattle.journal.specs.declared.event.Event.{Event}
@@ -25,7 +25,7 @@ memory_after-suc start events n e at =
 pub replays-suc : (start memory : List ℕ) (events : List Event) (n : ℕ) (e : Event) → slice_get events n ≡ Some e → ReplaysSoFar start memory events n → AnswersWord memory e.kind → ReplaysSoFar start (wrote memory (flat_write e.kind)) events (n + 1)
 replays-suc start memory events n e at so answers = record {
   memory_is = rw (memory_after-suc start events n e at, so.memory_is) refl;
-  loads = below_more _ _ so.loads (λ p a v does. rw (← so.memory_is) (answers_load p a v does))
+  loads = below_more _ _ so.loads (λ p a v does. rw (← so.memory_is) (answers_load p a v does));
 }
   where
     answers_load : (p a v : ℕ) → Does events n p (Load a v) → slice_get memory a ≡ Some v

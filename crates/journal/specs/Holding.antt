@@ -1,5 +1,5 @@
 -- How a journal holds its events.
-use Rattle.std.specs.Prelude.{ℕ, ◌+◌, ◌^◌, ◌≤◌, length, vec_len, vec_capacity}
+use Rattle.std.specs.Prelude.{◌+◌, ◌^◌, ◌≤◌, vec_len, vec_capacity}
 use Rattle.journal.specs.declared.journal.Journal.TheInside.{Inside}
 use Rattle.journal.specs.Log.{Log}
 use Rattle.journal.specs.InRange.{AddressesInRange}

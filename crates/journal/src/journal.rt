@@ -5,12 +5,11 @@ ghost use Rattle.journal.specs.InRange.{AddressInRange, AddressesInRange};
 ghost use Rattle.journal.specs.Flat.{Replays, memory_after};
 ghost use Rattle.journal.specs.Traffic.{messages, records, words};
 
-use std::alloc::{AllocError, Global};
-use std::marker::Model;
-
 use crate::event::Event;
 use crate::replay::replay_of;
 use crate::traffic::{Traffic, traffic_of};
+use std::alloc::{AllocError, Global};
+use std::marker::Model;
 
 /// The events of a cluster in the order in which they were handed in, at most 2^21 of them.
 ///

@@ -5,6 +5,8 @@
 mod event;
 mod journal;
 mod replay;
+#[cfg(test)]
+mod tests;
 mod traffic;
 
 pub use event::{Event, Kind};

@@ -5,9 +5,8 @@ ghost use Rattle.journal.specs.Flat.{Replays, memory_after, flat_write, AnswersW
 ghost use Rattle.journal.specs.InRange.{AddressInRange, AddressesInRange};
 ghost use Rattle.lists.specs.Writes.{wrote};
 
-use std::alloc::{AllocError, Global};
-
 use crate::event::{Event, Kind};
+use std::alloc::{AllocError, Global};
 
 /// Does an event to the memory, and says whether a load's reply is its word.
 fn do_event(memory: &mut [u32], kind: Kind) -> bool
@@ -41,7 +40,11 @@ fn do_events(memory: &mut [u32], events: &[Event]) -> bool
 
 /// The memory of `addresses` words after these events are done to it in their order, from zeros; None
 /// where some load's reply isn't its word at that place.
-pub(crate) fn replay_of(alloc: Global, addresses: usize, events: &[Event]) -> Result<Option<Vec<u32>>, AllocError>
+pub(crate) fn replay_of(
+    alloc: Global,
+    addresses: usize,
+    events: &[Event],
+) -> Result<Option<Vec<u32>>, AllocError>
     requires { AddressesInRange addresses events.now }
     ensures replays { IfOk result (λ o. IsSome o ↔ Replays (replicate addresses 0) events.now) }
     ensures memory { IfOk result (λ o. IfSome o (λ v. v.items ≡ memory_after (replicate addresses 0) events.now)) }

@@ -1,5 +1,3 @@
-use Rattle.std.proofs.Common.{◌≡◌, ◌*◌, ◌^◌, ◌≤◌, take}
-use Rattle.journal.specs.Traffic.{messages, records, words}
 use Rattle.journal.proofs.Spending.{Spent}
 use Rattle.journal.proofs.traffic.traffic_of.Given as goal
 
