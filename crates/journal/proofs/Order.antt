@@ -1,8 +1,8 @@
 -- Happens-before goes forward, is transitive, and is the same in every journal that begins with this one.
-use Rattle.std.proofs.Common.{◌≡◌, ℕ, ◌+◌, ◌<◌, ◌≤◌, ◌↔◌, List, ◌++◌, length, take, ap, sym, ◌∙◌, arith, lt_trans}
+use Rattle.std.proofs.Common.{ℕ, ◌<◌, ◌≤◌, ◌↔◌, List, ◌++◌, length, sym, ◌∙◌, arith, lt_trans}
 use Rattle.journal.specs.declared.event.Event.{Event}
-use Rattle.journal.specs.Events.{At, count_of, is_arrive, is_depart}
-use Rattle.journal.specs.Order.{LetsThrough, MeetAt, Link, Edge, HappensBefore}
+use Rattle.journal.specs.Events.{is_arrive, is_depart}
+use Rattle.journal.specs.Order.{Link, Edge, HappensBefore}
 use Rattle.journal.specs.Order.Link.{same, lets, meets}
 use Rattle.journal.specs.Order.HappensBefore.{edge, on}
 use Rattle.journal.proofs.Places.{at_within, at_longer, at_shorter, count_of-front}
@@ -39,16 +39,16 @@ link_shorter j es i k e f hi hk (meets m) = meets (record { arrives = m.arrives;
 -- edges stay
 pub edge_longer : (j es : List Event) {i k : ℕ} → Edge j i k → Edge (j ++ es) i k
 edge_longer j es {i} {k} e =
-  let a = at_within j i e.from e.from_at in
-  let b = at_within j k e.to e.to_at in
-  record { before = e.before; from = e.from; to = e.to; from_at = at_longer j es i e.from e.from_at; to_at = at_longer j es k e.to e.to_at; link = link_longer j es i k e.from e.to (omega arith) (omega arith) e.link }
+    let a = at_within j i e.from e.from_at in
+    let b = at_within j k e.to e.to_at in
+    record { before = e.before; from = e.from; to = e.to; from_at = at_longer j es i e.from e.from_at; to_at = at_longer j es k e.to e.to_at; link = link_longer j es i k e.from e.to (omega arith) (omega arith) e.link }
 
 -- and no new ones come between old places
 pub edge_shorter : (j es : List Event) {i k : ℕ} → k < length j → Edge (j ++ es) i k → Edge j i k
 edge_shorter j es {i} {k} h e =
-  let lt = e.before in
-  let hi : i < length j = omega arith in
-  record { before = e.before; from = e.from; to = e.to; from_at = at_shorter j es i e.from hi e.from_at; to_at = at_shorter j es k e.to h e.to_at; link = link_shorter j es i k e.from e.to (omega arith) (omega arith) e.link }
+    let lt = e.before in
+    let hi : i < length j = omega arith in
+    record { before = e.before; from = e.from; to = e.to; from_at = at_shorter j es i e.from hi e.from_at; to_at = at_shorter j es k e.to h e.to_at; link = link_shorter j es i k e.from e.to (omega arith) (omega arith) e.link }
 
 -- happens-before stays
 pub longer : (j es : List Event) {i k : ℕ} → HappensBefore j i k → HappensBefore (j ++ es) i k

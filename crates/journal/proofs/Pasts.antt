@@ -1,19 +1,19 @@
 -- What a processor's past is, as the journal goes on.
-use Rattle.std.proofs.Common.{◌≡◌, ◌≢◌, ℕ, ◌+◌, ◌<◌, ◌≤◌, ◌⊎◌, inl, inr, ◌↔◌, List, [], ◌∷◌, ◌++◌, length, take, Bool, true, false, subst, sym, refl, ap, ◌∙◌, arith}
+use Rattle.std.proofs.Common.{◌≡◌, ◌≢◌, ℕ, ◌<◌, ◌⊎◌, inl, inr, ◌↔◌, List, [], ◌∷◌, ◌++◌, length, false, subst, sym, refl, ap, ◌∙◌, arith}
 use Rattle.std.proofs.Math.Seq.{take-append_seam}
 use Rattle.journal.specs.declared.event.Event.{Event}
 use Rattle.journal.specs.declared.event.Kind.{Kind}
-use Rattle.journal.specs.declared.event.Kind.TheVariants.{Load, Store, Fetch, Ask, Acquire, Release, Arrive, Depart, Set, Watch, Await}
+use Rattle.journal.specs.declared.event.Kind.TheVariants.{Acquire, Release, Arrive, Depart, Set, Await}
 use Rattle.journal.specs.Events.{At, count_of, is_arrive, is_depart, is_taking}
-use Rattle.journal.specs.Order.{LetsThrough, MeetAt, Link, Edge, HappensBefore}
+use Rattle.journal.specs.Order.{LetsThrough, Link, Edge, HappensBefore}
 use Rattle.journal.specs.Order.Link.{same, lets, meets}
 use Rattle.journal.specs.Order.HappensBefore.{edge, on}
 use Rattle.journal.specs.WellFormed.{Does}
 use Rattle.journal.specs.Pasts.{UpTo, InPast, UpToSome}
-use Rattle.journal.specs.Brings.{SomeDoes, ArrivesAt, SomeArrives, Sources, Brings}
+use Rattle.journal.specs.Brings.{ArrivesAt, Sources, Brings}
 use Rattle.lists.proofs.Places.{push_cases, append_cases}
-use Rattle.journal.proofs.Places.{at_within, at_same, at_longer, at_shorter, at_last, does_at, count_of-front}
-use Rattle.journal.proofs.Order.{goes_forward, begins_within, transitive, longer, shorter}
+use Rattle.journal.proofs.Places.{at_within, at_same, at_longer, at_shorter, at_last, count_of-front}
+use Rattle.journal.proofs.Order.{begins_within, transitive, longer, shorter}
 
 -- a past is closed backwards
 pub up_to_back : (j : List Event) (i k m : ℕ) → HappensBefore j i k → UpTo j m k → UpTo j m i
@@ -61,8 +61,9 @@ others j es p i away = (back, past_longer j es p i)
   where
     back : InPast (j ++ es) p i → InPast j p i
     back x = elim (append_cases j es x.own x.event x.at) [
-        inl a ↦ record { own = x.own; event = x.event; at = a.1; mine = x.mine; reaches = up_to_shorter j es x.own i a.0 x.reaches }
-      | inr b ↦ absurd (away b.0 x.event b.2 x.mine) ]
+      | inl a ↦ record { own = x.own; event = x.event; at = a.1; mine = x.mine; reaches = up_to_shorter j es x.own i a.0 x.reaches }
+      | inr b ↦ absurd (away b.0 x.event b.2 x.mine)
+    ]
 
 lets_source : (j : List Event) (m q p : ℕ) (a b : Kind) → Does j m q a → LetsThrough a b → Sources j p b m
 lets_source j m q p (Release l) (Acquire n) d h = let P : ℕ → Type 0 = λ x. Does j m q (Release x) in (q, subst P h d)
@@ -73,22 +74,22 @@ link_source : (j : List Event) (e f : Event) (m : ℕ) → At j m f → m < leng
 link_source j e f m at lt (same s) = inl s
 link_source j e f m at lt (lets l) = inr (lets_source j m f.processor e.processor f.kind e.kind at l)
 link_source j e f m at lt (meets x) =
-  let P : Kind → Type 0 = λ k. Does j m f.processor k in
-  let front = count_of-front is_arrive j (e ∷ []) m f.processor (omega arith) in
-  let whole = ap (λ (xs : List Event). count_of is_depart xs e.processor) (take-append_seam j (e ∷ [])) in
-  let now : ArrivesAt j (count_of is_depart j e.processor) f.processor m = record { does = subst P x.arrives at; number = sym front ∙ x.episode ∙ whole } in
-  inr (subst (λ k. Sources j e.processor k m) (sym x.departs) (f.processor, now))
+    let P : Kind → Type 0 = λ k. Does j m f.processor k in
+    let front = count_of-front is_arrive j (e ∷ []) m f.processor (omega arith) in
+    let whole = ap (λ (xs : List Event). count_of is_depart xs e.processor) (take-append_seam j (e ∷ [])) in
+    let now : ArrivesAt j (count_of is_depart j e.processor) f.processor m = record { does = subst P x.arrives at; number = sym front ∙ x.episode ∙ whole } in
+    inr (subst (λ k. Sources j e.processor k m) (sym x.departs) (f.processor, now))
 
 -- what an event brings reaches it
 source_link : (j : List Event) (p m : ℕ) (b : Kind) → Sources j p b m → (f : Event) × At j m f × Link (j ++ record { processor = p; kind = b } ∷ []) m (length j) f (record { processor = p; kind = b })
 source_link j p m (Acquire l) h = (record { processor = h.0; kind = Release l }, h.1, lets refl)
 source_link j p m (Await f) h = (record { processor = h.0; kind = Set f }, h.1, lets refl)
 source_link j p m Depart h =
-  let e : Event = record { processor = p; kind = Depart } in
-  let lt = at_within j m (record { processor = h.0; kind = Arrive }) h.1.does in
-  let front = count_of-front is_arrive j (e ∷ []) m h.0 (omega arith) in
-  let whole = ap (λ (xs : List Event). count_of is_depart xs p) (take-append_seam j (e ∷ [])) in
-  (record { processor = h.0; kind = Arrive }, h.1.does, meets (record { arrives = refl; departs = refl; episode = front ∙ h.1.number ∙ sym whole }))
+    let e : Event = record { processor = p; kind = Depart } in
+    let lt = at_within j m (record { processor = h.0; kind = Arrive }) h.1.does in
+    let front = count_of-front is_arrive j (e ∷ []) m h.0 (omega arith) in
+    let whole = ap (λ (xs : List Event). count_of is_depart xs p) (take-append_seam j (e ∷ [])) in
+    (record { processor = h.0; kind = Arrive }, h.1.does, meets (record { arrives = refl; departs = refl; episode = front ∙ h.1.number ∙ sym whole }))
 source_link j p m _ h = absurd h
 
 last_edge : (j : List Event) (e f : Event) (m : ℕ) → At j m f → Link (j ++ e ∷ []) m (length j) f e → Edge (j ++ e ∷ []) m (length j)
@@ -96,13 +97,14 @@ last_edge j e f m at l = record { before = at_within j m f at; from = f; to = e;
 
 by_edge : (j : List Event) (e : Event) (i m : ℕ) → UpTo (j ++ e ∷ []) m i → Edge (j ++ e ∷ []) m (length j) → InPast j e.processor i ⊎ Brings j e.processor e.kind i
 by_edge j e i m up d =
-  let lt = d.before in
-  let at = at_shorter j (e ∷ []) m d.from lt d.from_at in
-  let is = at_same (j ++ e ∷ []) (length j) d.to e d.to_at (at_last j e) in
-  let old = up_to_shorter j (e ∷ []) m i lt up in
-  elim (link_source j e d.from m at lt (subst (λ x. Link (j ++ e ∷ []) m (length j) d.from x) is d.link)) [
-      inl mine ↦ inl (record { own = m; event = d.from; at = at; mine = mine; reaches = old })
-    | inr source ↦ inr (m, source, old) ]
+    let lt = d.before in
+    let at = at_shorter j (e ∷ []) m d.from lt d.from_at in
+    let is = at_same (j ++ e ∷ []) (length j) d.to e d.to_at (at_last j e) in
+    let old = up_to_shorter j (e ∷ []) m i lt up in
+    elim (link_source j e d.from m at lt (subst (λ x. Link (j ++ e ∷ []) m (length j) d.from x) is d.link)) [
+      | inl mine ↦ inl (record { own = m; event = d.from; at = at; mine = mine; reaches = old })
+      | inr source ↦ inr (m, source, old)
+    ]
 
 into_last : (j : List Event) (e : Event) (i k : ℕ) → k ≡ length j → HappensBefore (j ++ e ∷ []) i k → InPast j e.processor i ⊎ Brings j e.processor e.kind i
 into_last j e i k is (edge d) = by_edge j e i i (inl refl) (subst (λ x. Edge (j ++ e ∷ []) i x) is d)
@@ -123,10 +125,13 @@ past_push j e i = (there, back)
     last : UpTo (j ++ e ∷ []) (length j) i → (i ≡ length j) ⊎ (InPast j e.processor i ⊎ Brings j e.processor e.kind i)
     last (inl is) = inl is
     last (inr h) = inr ((reaches_push j e i).0 h)
+
     there : InPast (j ++ e ∷ []) e.processor i → (i ≡ length j) ⊎ (InPast j e.processor i ⊎ Brings j e.processor e.kind i)
     there x = elim (push_cases j e x.own x.event x.at) [
-        inl a ↦ inr (inl (record { own = x.own; event = x.event; at = a.1; mine = x.mine; reaches = up_to_shorter j (e ∷ []) x.own i a.0 x.reaches }))
-      | inr b ↦ last (subst (λ m. UpTo (j ++ e ∷ []) m i) b.0 x.reaches) ]
+      | inl a ↦ inr (inl (record { own = x.own; event = x.event; at = a.1; mine = x.mine; reaches = up_to_shorter j (e ∷ []) x.own i a.0 x.reaches }))
+      | inr b ↦ last (subst (λ m. UpTo (j ++ e ∷ []) m i) b.0 x.reaches)
+    ]
+
     back : (i ≡ length j) ⊎ (InPast j e.processor i ⊎ Brings j e.processor e.kind i) → InPast (j ++ e ∷ []) e.processor i
     back (inl is) = record { own = length j; event = e; at = at_last j e; mine = refl; reaches = inl is }
     back (inr b) = record { own = length j; event = e; at = at_last j e; mine = refl; reaches = inr ((reaches_push j e i).1 b) }
@@ -148,6 +153,7 @@ own_past j e i quiet = (there, back)
   where
     there : InPast (j ++ e ∷ []) e.processor i → InPast j e.processor i ⊎ (i ≡ length j)
     there x = elim ((past_push j e i).0 x) [ inl is ↦ inr is | inr y ↦ elim y [ inl z ↦ inl z | inr b ↦ absurd (brings_none j e.processor i e.kind quiet b) ] ]
+
     back : InPast j e.processor i ⊎ (i ≡ length j) → InPast (j ++ e ∷ []) e.processor i
     back (inl x) = (past_push j e i).1 (inr (inl x))
     back (inr is) = (past_push j e i).1 (inl is)

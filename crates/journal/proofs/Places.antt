@@ -1,5 +1,5 @@
 -- Places of events in journals that go on, and counts of their fronts.
-use Rattle.std.proofs.Common.{◌≡◌, ℕ, ◌+◌, ◌<◌, ◌≤◌, ◌⊎◌, List, [], ◌∷◌, ◌++◌, length, take, Bool, true, IsTrue, Some, slice_get, ◌==◌, ◌&&◌, ap, sym, ◌∙◌, subst, refl, arith}
+use Rattle.std.proofs.Common.{◌≡◌, ℕ, ◌+◌, ◌<◌, ◌≤◌, List, [], ◌∷◌, ◌++◌, length, take, Bool, IsTrue, ◌==◌, ◌&&◌, ap, sym, ◌∙◌, subst, refl}
 use Rattle.std.proofs.lemmas.Option.{slice_get_within, same_Some}
 use Rattle.std.proofs.lemmas.List.{take-append-le}
 use Rattle.std.proofs.lemmas.Bool.{eq-eqb, eqb-true, and_from, and_parts}
@@ -7,7 +7,7 @@ use Rattle.journal.specs.declared.event.Event.{Event}
 use Rattle.journal.specs.declared.event.Kind.{Kind}
 use Rattle.journal.specs.Events.{At, count_of}
 use Rattle.journal.specs.WellFormed.{Does}
-use Rattle.lists.proofs.Places.{slice_get-append_left, slice_get-append_right, slice_get-last, push_cases, count_by-append, count_by-mono, count_by-take-le, count_by-past, count_by-within, counted, CountedAt}
+use Rattle.lists.proofs.Places.{slice_get-append_left, slice_get-append_right, slice_get-last, count_by-append, count_by-mono, count_by-take-le, count_by-past, count_by-within, counted}
 
 -- an event stands within its journal
 pub at_within : (j : List Event) (k : ℕ) (e : Event) → At j k e → k < length j
@@ -42,8 +42,8 @@ does_at j k p e h mine = let P : ℕ → Type 0 = λ q. At j k (record { process
 -- two doings at one place are one
 pub does_same : (j : List Event) (k p q : ℕ) (a b : Kind) → Does j k p a → Does j k q b → (p ≡ q) × (a ≡ b)
 does_same j k p q a b h g =
-  let e = at_same j k (record { processor = p; kind = a }) (record { processor = q; kind = b }) h g in
-  (ap (λ x. x.processor) e, ap (λ x. x.kind) e)
+    let e = at_same j k (record { processor = p; kind = a }) (record { processor = q; kind = b }) h g in
+    (ap (λ x. x.processor) e, ap (λ x. x.kind) e)
 
 -- a count over a journal that goes on
 pub count_of-append : (is : Kind → Bool) (j es : List Event) (q : ℕ) → count_of is (j ++ es) q ≡ count_of is j q + count_of is es q
@@ -78,6 +78,6 @@ pub record NumberedAt (is : Kind → Bool) (j : List Event) (q n : ℕ) : Type 0
 -- each number below the count has its place
 pub numbered : (is : Kind → Bool) (j : List Event) (q n : ℕ) → n < count_of is j q → NumberedAt is j q n
 numbered is j q n h =
-  let c = counted (λ (e : Event). (e.processor == q) && is e.kind) j n h in
-  let both = and_parts (c.item.processor == q) (is c.item.kind) c.counts in
-  record { place = c.place; kind = c.item.kind; does = does_at j c.place q c.item c.at (eqb-true c.item.processor q both.0); counts = both.1; number = c.before }
+    let c = counted (λ (e : Event). (e.processor == q) && is e.kind) j n h in
+    let both = and_parts (c.item.processor == q) (is c.item.kind) c.counts in
+    record { place = c.place; kind = c.item.kind; does = does_at j c.place q c.item c.at (eqb-true c.item.processor q both.0); counts = both.1; number = c.before }
