@@ -1,0 +1,4 @@
+pub mod Sets
+pub mod LastWrites
+pub mod Records
+pub mod Harvests
