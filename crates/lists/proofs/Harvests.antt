@@ -1,10 +1,10 @@
 -- The dirty words of a page are the record of the writes that made them.
-use Rattle.std.proofs.Common.{ℕ, zero, suc, ◌+◌, ◌≡◌, ◌≢◌, ◌<◌, ◌≤◌, ◌⊎◌, ◌↔◌, inl, inr, List, [], ◌∷◌, ◌++◌, Option, Some, None, Bool, true, false, slice_get, slice_set, ap₂, add-zero, zero-add, length, replicate, length-set, arith, refl, sym, ap, ◌∙◌, true≢false}
+use Rattle.std.proofs.Common.{ℕ, zero, suc, ◌+◌, ◌≡◌, ◌<◌, ◌⊎◌, inl, inr, List, [], ◌∷◌, ◌++◌, Option, Some, None, Bool, true, false, slice_get, slice_set, ap₂, add-zero, zero-add, length, replicate, length-set, arith, refl, sym, ap, ◌∙◌, true≢false}
 use Rattle.std.proofs.lemmas.Bool.{cases_eq}
 use Rattle.std.proofs.lemmas.List.{length-replicate}
 use Rattle.std.proofs.lemmas.Option.{slice_get_within, same_Some, none-some, some_pair_parts}
 use Rattle.lists.specs.Places.{Has, InOrder}
-use Rattle.lists.specs.Writes.{wrote, written, Unwritten, LastWrite}
+use Rattle.lists.specs.Writes.{written, LastWrite}
 use Rattle.lists.specs.Records.{record_applied, IsRecordOf, mark, marked, harvest}
 use Rattle.lists.proofs.Sets.{slice_get-set_same, slice_get-set_other, slice_get-replicate_found}
 use Rattle.lists.proofs.LastWrites.{word_written, last_word}
@@ -27,9 +27,10 @@ marked_from {A} f marks (x ∷ xs) o h = go (f x) refl (marked_from f (mark mark
     go : (p : Option (ℕ × ℕ)) → f x ≡ p → MarkedFrom f (mark marks p) xs o → MarkedFrom f marks (x ∷ xs) o
     go p e (inr w) = inr (suc w.0, w.1, w.2, w.3, w.4)
     go None e (inl m) = inl m
-    go (Some p) e (inl m) = elim (cases_eq o p.0)
-        [ inl d ↦ inr (0, x, p.1, refl, e ∙ ap (λ (a : ℕ). Some (a, p.1)) (sym d))
-        | inr d ↦ inl (sym (slice_get-set_other marks p.0 o true d) ∙ m) ]
+    go (Some p) e (inl m) = elim (cases_eq o p.0) [
+      | inl d ↦ inr (0, x, p.1, refl, e ∙ ap (λ (a : ℕ). Some (a, p.1)) (sym d))
+      | inr d ↦ inl (sym (slice_get-set_other marks p.0 o true d) ∙ m)
+    ]
 
 -- a mark stays
 pub marked_kept : {A : Type 0} (f : A → Option (ℕ × ℕ)) (marks : List Bool) (xs : List A) (o : ℕ) → slice_get marks o ≡ Some true → slice_get (marked f marks xs) o ≡ Some true
@@ -38,9 +39,10 @@ marked_kept f marks (x ∷ xs) o h = marked_kept f (mark marks (f x)) xs o (go (
   where
     go : (p : Option (ℕ × ℕ)) → slice_get (mark marks p) o ≡ Some true
     go None = h
-    go (Some p) = elim (cases_eq o p.0)
-        [ inl d ↦ ap (slice_get (slice_set marks p.0 true)) d ∙ slice_get-set_same marks p.0 true (rw d at (slice_get_within marks o true h))
-        | inr d ↦ slice_get-set_other marks p.0 o true d ∙ h ]
+    go (Some p) = elim (cases_eq o p.0) [
+      | inl d ↦ ap (slice_get (slice_set marks p.0 true)) d ∙ slice_get-set_same marks p.0 true (rw d at (slice_get_within marks o true h))
+      | inr d ↦ slice_get-set_other marks p.0 o true d ∙ h
+    ]
 
 -- marking keeps the number of marks
 length-mark : (marks : List Bool) (p : Option (ℕ × ℕ)) → length (mark marks p) ≡ length marks
@@ -101,16 +103,20 @@ harvest_is_record {A} f words xs within = record { each = λ o v. (there o v, ba
   where
     marks : List Bool
     marks = marked f (replicate (length words) false) xs
+
     there : (o v : ℕ) → Has (harvest 0 (written f words xs) marks) (o, v) → LastWrite f xs o v
     there o v h =
         let r = harvest_found 0 (written f words xs) marks h.0 o v h.1 in
         let e : o ≡ r.0 = r.1 ∙ zero-add r.0 in
         let dirty : MarkedFrom f (replicate (length words) false) xs o = marked_from f (replicate (length words) false) xs o (ap (slice_get marks) e ∙ r.3) in
-        elim (word_written f words xs o v (ap (slice_get (written f words xs)) e ∙ r.2))
-            [ inl l ↦ l
-            | inr n ↦ elim dirty
-                [ inl m ↦ absurd (true≢false (sym (slice_get-replicate_found (length words) false true o m)))
-                | inr w ↦ absurd (n.1 w.0 w.1 w.2 w.3 w.4) ] ]
+        elim (word_written f words xs o v (ap (slice_get (written f words xs)) e ∙ r.2)) [
+          | inl l ↦ l
+          | inr n ↦ elim dirty [
+            | inl m ↦ absurd (true≢false (sym (slice_get-replicate_found (length words) false true o m)))
+            | inr w ↦ absurd (n.1 w.0 w.1 w.2 w.3 w.4)
+          ]
+        ]
+
     back : (o v : ℕ) → LastWrite f xs o v → Has (harvest 0 (written f words xs) marks) (o, v)
     back o v l =
         let inside : o < length words = within l.item o v l.writes in

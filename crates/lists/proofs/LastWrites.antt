@@ -1,10 +1,10 @@
 -- What a list of writes leaves at a place: its last write there, or what was there before.
-use Rattle.std.proofs.Common.{ℕ, zero, suc, ◌≡◌, ◌≢◌, ◌<◌, ◌⊎◌, ◌↔◌, inl, inr, List, [], ◌∷◌, ◌++◌, Option, Some, None, Bool, true, false, cond, filter, map, slice_get, slice_set, length, replicate, get_or, ap₂, length-set, arith, refl, sym, ap, ◌∙◌, zero-lt-suc}
+use Rattle.std.proofs.Common.{ℕ, zero, suc, ◌≡◌, ◌≢◌, ◌<◌, ◌⊎◌, ◌↔◌, inl, inr, List, [], ◌∷◌, ◌++◌, Option, Some, None, Bool, true, false, cond, filter, map, slice_get, slice_set, length, replicate, get_or, ap₂, length-set, arith, refl, sym, ap, ◌∙◌}
 use Rattle.std.proofs.lemmas.List.{length-replicate}
 use Rattle.std.proofs.lemmas.Bool.{cases_eq, cases_order}
 use Rattle.std.proofs.lemmas.Option.{slice_get-get_or, slice_get_within, same_Some, none-some, some_pair_parts}
 use Rattle.lists.specs.Writes.{wrote, written, Unwritten, LastWrite}
-use Rattle.lists.proofs.Sets.{slice_get-set_same, slice_get-set_found, slice_get-set_other, slice_get-replicate_found, same_places}
+use Rattle.lists.proofs.Sets.{slice_get-set_found, slice_get-set_other, slice_get-replicate_found, same_places}
 
 -- the last write of a list without its first item is the last write of the whole
 pub last_later : {A : Type 0} (f : A → Option (ℕ × ℕ)) (x : A) (xs : List A) (o v : ℕ) → LastWrite f xs o v → LastWrite f (x ∷ xs) o v
@@ -54,11 +54,13 @@ word_written {A} f words (x ∷ xs) o w h = go (f x) refl (word_written f (wrote
   where
     Result : Type 0
     Result = LastWrite f (x ∷ xs) o w ⊎ ((slice_get words o ≡ Some w) × Unwritten f (x ∷ xs) o)
+
     at : (p : ℕ × ℕ) → f x ≡ Some p → slice_get (slice_set words p.0 p.1) o ≡ Some w → Unwritten f xs o → (o ≡ p.0) ⊎ (o ≢ p.0) → Result
     at p e g n (inl d) =
         let same : p.1 ≡ w = slice_get-set_found words p.0 p.1 w (ap (slice_get (slice_set words p.0 p.1)) (sym d) ∙ g) in
         inl (last_first f x xs o w (e ∙ ap₂ (λ (a b : ℕ). Some (a, b)) (sym d) same) n)
     at p e g n (inr d) = inr (sym (slice_get-set_other words p.0 o p.1 d) ∙ g, unwritten-cons f x xs o (λ u k. d (some_pair_parts o p.0 u p.1 (sym k ∙ e)).0) n)
+
     go : (p : Option (ℕ × ℕ)) → f x ≡ p → LastWrite f xs o w ⊎ ((slice_get (wrote words p) o ≡ Some w) × Unwritten f xs o) → Result
     go p e (inl l) = inl (last_later f x xs o w l)
     go None e (inr h) = inr (h.0, unwritten-cons f x xs o (λ u g. none-some (o, u) (sym e ∙ g)) h.1)
@@ -85,13 +87,16 @@ half_written f g words xs ys same o w e = go (word_written f words xs o w e)
   where
     within : o < length words
     within = rw length-written at (slice_get_within (written f words xs) o w e)
+
     there : slice_get (written g words ys) o ≡ Some (get_or (written g words ys) o 0)
     there = slice_get-get_or (written g words ys) o 0 (rw length-written within)
+
     go : LastWrite f xs o w ⊎ ((slice_get words o ≡ Some w) × Unwritten f xs o) → slice_get (written g words ys) o ≡ Some w
     go (inl l) = last_word g words ys o w within ((same o w).0 l)
-    go (inr h) = elim (word_written g words ys o (get_or (written g words ys) o 0) there)
-        [ inl m ↦ let l : LastWrite f xs o (get_or (written g words ys) o 0) = (same o (get_or (written g words ys) o 0)).1 m in absurd (h.1 l.place l.item (get_or (written g words ys) o 0) l.at l.writes)
-        | inr k ↦ there ∙ sym k.0 ∙ h.0 ]
+    go (inr h) = elim (word_written g words ys o (get_or (written g words ys) o 0) there) [
+      | inl m ↦ let l : LastWrite f xs o (get_or (written g words ys) o 0) = (same o (get_or (written g words ys) o 0)).1 m in absurd (h.1 l.place l.item (get_or (written g words ys) o 0) l.at l.writes)
+      | inr k ↦ there ∙ sym k.0 ∙ h.0
+    ]
 
 -- two lists with the same last writes do the same to any words
 pub same_written : {A B : Type 0} (f : A → Option (ℕ × ℕ)) (g : B → Option (ℕ × ℕ)) (words : List ℕ) (xs : List A) (ys : List B) → ((o v : ℕ) → LastWrite f xs o v ↔ LastWrite g ys o v) → written f words xs ≡ written g words ys
@@ -128,9 +133,10 @@ written_same f g words (x ∷ xs) h = ap (λ (a : Option (ℕ × ℕ)). written 
 
 -- a last write, told by what the writes leave in words that differ from it
 pub last_found : {A : Type 0} (f : A → Option (ℕ × ℕ)) (xs : List A) (o v : ℕ) → slice_get (written f (replicate (suc o) (suc v)) xs) o ≡ Some v → LastWrite f xs o v
-last_found f xs o v h = elim (word_written f (replicate (suc o) (suc v)) xs o v h)
-    [ inl l ↦ l
-    | inr n ↦ let e : suc v ≡ v = slice_get-replicate_found (suc o) (suc v) v o n.0 in absurd (omega arith) ]
+last_found f xs o v h = elim (word_written f (replicate (suc o) (suc v)) xs o v h) [
+  | inl l ↦ l
+  | inr n ↦ let e : suc v ≡ v = slice_get-replicate_found (suc o) (suc v) v o n.0 in absurd (omega arith)
+]
 
 -- lists that do the same to all words have the same last writes
 pub last_same : {A B : Type 0} (f : A → Option (ℕ × ℕ)) (g : B → Option (ℕ × ℕ)) (xs : List A) (ys : List B) (o v : ℕ) → ((words : List ℕ) → written f words xs ≡ written g words ys) → LastWrite f xs o v → LastWrite g ys o v

@@ -1,5 +1,5 @@
 -- A record does to a page what all the writes that it comes from do.
-use Rattle.std.proofs.Common.{ℕ, ◌≡◌, ◌<◌, ◌≢◌, ◌↔◌, List, [], ◌∷◌, ◌++◌, Option, Some, slice_get, arith, refl, sym, ap, ◌∙◌}
+use Rattle.std.proofs.Common.{ℕ, ◌≡◌, ◌<◌, ◌↔◌, List, Option, Some, arith, refl, sym, ap, ◌∙◌}
 use Rattle.std.proofs.lemmas.Option.{same_Some}
 use Rattle.std.specs.List.{concat}
 use Rattle.lists.specs.Places.{Has}
@@ -13,6 +13,7 @@ last_of_record f xs words o v r = (there, back)
   where
     there : LastWrite (λ (x : ℕ × ℕ). Some x) words o v → LastWrite f xs o v
     there l = (r.each o v).0 (l.place, l.at ∙ l.writes)
+
     back : LastWrite f xs o v → LastWrite (λ (x : ℕ × ℕ). Some x) words o v
     back l =
         let h : Has words (o, v) = (r.each o v).1 l in
@@ -22,9 +23,9 @@ last_of_record f xs words o v r = (there, back)
           at = h.1;
           writes = refl;
           last = λ k y u less at e.
-            let rises : o < y.0 = r.rising h.0 k (o, v) y less h.1 at in
-            let same : y.0 ≡ o = ap (λ (z : ℕ × ℕ). z.0) (same_Some y (o, u) e) in
-            absurd (omega arith);
+              let rises : o < y.0 = r.rising h.0 k (o, v) y less h.1 at in
+              let same : y.0 ≡ o = ap (λ (z : ℕ × ℕ). z.0) (same_Some y (o, u) e) in
+              absurd (omega arith);
         }
 
 -- last values do what all writes do
