@@ -1,3 +1,9 @@
 pub mod Written
 pub mod Fronts
 pub mod Places
+pub mod Sets
+pub mod LastWrites
+pub mod Records
+pub mod Harvests
+pub mod Joined
+pub mod Once
