@@ -1,11 +1,11 @@
 -- Replay, an event at a time.
-use Rattle.std.proofs.Common.{◌≡◌, ◌<◌, ◌+◌, ◌∙◌, ℕ, List, [], ◌∷◌, take, refl, sym, ap, subst, below_more}
+use Rattle.std.proofs.Common.{◌≡◌, ◌<◌, ◌+◌, ◌∙◌, ℕ, List, [], ◌∷◌, take, refl, sym, ap, subst, below_more, add-one}
 use Rattle.std.specs.Prelude.{Some, slice_get}
 use Rattle.std.proofs.lemmas.Option.{same_Some}
 use Rattle.journal.specs.declared.event.Kind.{Kind}
 use Rattle.lists.specs.Writes.{wrote}
-use Rattle.lists.proofs.Written.{written-append}
-use Rattle.lists.proofs.Fronts.{take-at}
+use Rattle.lists.proofs.LastWrites.{written-append}
+use Rattle.lists.proofs.Places.{take-suc_at}
 use Rattle.journal.specs.declared.event.Event.{Event}
 use Rattle.journal.specs.declared.event.Kind.TheVariants.{Load}
 use Rattle.journal.specs.WellFormed.{Does}
@@ -19,7 +19,7 @@ pub record ReplaysSoFar (start memory : List ℕ) (events : List Event) (n : ℕ
 -- the memory after one more event
 pub memory_after-suc : (start : List ℕ) (events : List Event) (n : ℕ) (e : Event) → slice_get events n ≡ Some e → memory_after start (take (n + 1) events) ≡ wrote (memory_after start (take n events)) (flat_write e.kind)
 memory_after-suc start events n e at =
-    rw (take-at events n e at, written-append (λ (x : Event). flat_write x.kind) start (take n events) (e ∷ [])) refl
+    rw (add-one, take-suc_at events n e at, written-append (λ (x : Event). flat_write x.kind) start (take n events) (e ∷ [])) refl
 
 -- one more event that answers
 pub replays-suc : (start memory : List ℕ) (events : List Event) (n : ℕ) (e : Event) → slice_get events n ≡ Some e → ReplaysSoFar start memory events n → AnswersWord memory e.kind → ReplaysSoFar start (wrote memory (flat_write e.kind)) events (n + 1)

@@ -1,5 +1,3 @@
-pub mod Written
-pub mod Fronts
 pub mod Places
 pub mod Sets
 pub mod LastWrites
