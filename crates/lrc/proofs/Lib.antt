@@ -1,2 +1,4 @@
 pub mod Histories
 pub mod Alone
+pub mod Calling
+pub mod Reporting

@@ -2,3 +2,4 @@ pub mod Machine
 pub mod History
 pub mod Holding
 pub mod Follows
+pub mod Runs

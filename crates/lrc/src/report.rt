@@ -1,8 +1,11 @@
 //! What a run of a script answers.
 
+use std::alloc::AllocError;
+
 use journal::{Journal, Traffic};
 use thiserror::Error;
 
+use crate::gate::Stopped;
 use crate::one_processor::Refused;
 
 /// The answer of a run: the shown addresses in order with their last words, whether the journal has a
@@ -24,6 +27,24 @@ pub enum Cause {
     /// A call was refused.
     #[error("{0}")]
     Refused(Refused),
+}
+
+impl From<Stopped> for Cause {
+    fn from(_stopped: Stopped) -> Cause {
+        Cause::Gate
+    }
+}
+
+impl From<Refused> for Cause {
+    fn from(refused: Refused) -> Cause {
+        Cause::Refused(refused)
+    }
+}
+
+impl From<AllocError> for Cause {
+    fn from(error: AllocError) -> Cause {
+        Cause::Refused(Refused::from(error))
+    }
 }
 
 /// A run that ended without a report: the processor that went no further, and why.
