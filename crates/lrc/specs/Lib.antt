@@ -3,3 +3,5 @@ pub mod History
 pub mod Holding
 pub mod Follows
 pub mod Runs
+pub mod Writing
+pub mod ReportText

@@ -3,6 +3,7 @@
 
 mod gate;
 mod one_processor;
+mod render;
 mod report;
 mod run;
 
