@@ -5,3 +5,4 @@ pub mod Follows
 pub mod Runs
 pub mod Writing
 pub mod ReportText
+pub mod Words

@@ -3,8 +3,10 @@
 
 mod gate;
 mod one_processor;
+mod options;
 mod render;
 mod report;
 mod run;
+mod words;
 
 fn main() {}
