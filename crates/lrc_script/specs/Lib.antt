@@ -1,3 +1,4 @@
 pub mod Plan
 pub mod Lawful
 pub mod Text
+pub mod Reading

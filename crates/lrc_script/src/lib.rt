@@ -2,4 +2,5 @@
 #![tactic(auto)]
 
 pub mod fault;
+mod line;
 pub mod script;
