@@ -1,2 +1,10 @@
 pub mod Splits
 pub mod Numbers
+pub mod Steps
+pub mod Words
+pub mod Lines
+pub mod Run
+pub mod Fronts
+pub mod Verdict
+pub mod Keywords
+pub mod LineReading

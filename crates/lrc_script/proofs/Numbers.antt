@@ -1,7 +1,8 @@
 -- Numbers and their decimal digits.
-use Rattle.std.proofs.Common.{◌≡◌, ℕ, suc, ◌+◌, ◌^◌, ◌<◌, ◌≤◌, Bool, true, false, not, ◌&&◌, cond, eqb, ltb, List, [], ◌∷◌, ◌++◌, length, get_or, Option, Some, None, Result, Ok, Err, refl, sym, ap, ◌∙◌, inl, inr, zero, arith, rules}
+use Rattle.std.proofs.Common.{◌≡◌, ℕ, suc, ◌+◌, ◌^◌, ◌<◌, ◌≤◌, ◌≢◌, Bool, true, false, not, ◌&&◌, cond, eqb, ltb, List, [], ◌∷◌, ◌++◌, length, get_or, map, subst, append_assoc, Option, Some, None, Result, Ok, Err, refl, sym, ap, ◌∙◌, inl, inr, zero, arith, rules}
 use Rattle.std.specs.Char.{is_ascii_digit}
-use Rattle.std.specs.List.{list_all}
+use Rattle.std.specs.Prelude.{Contains, is_some, unwrap_or}
+use Rattle.std.specs.List.{list_all, AllByRecursion}
 use Rattle.std.specs.Fmt.{decimal}
 use Rattle.std.specs.Result.{OkIff, result_ok}
 use Rattle.std.specs.Str.{IsUtf8}
@@ -11,13 +12,17 @@ use Rattle.std.proofs.lemmas.Bool.Decides.{nat_tests}
 use Rattle.std.proofs.lemmas.Str.{IsUtf8-from_ascii}
 use Rattle.std.proofs.lemmas.Str.Parse.{IsNumeralModel, numerals_by_value, parse_digits}
 use Rattle.std.proofs.lemmas.Fmt.{decimal-digits_value, digits_decimal, digits_value-decimal, decimal_nonempty, first_decimal, decimal_digit, IsAscii-from_digits}
-use Rattle.lrc_script.specs.Reading.{is_decimal, number_of}
+use Rattle.std.proofs.lemmas.List.{append-nil}
+use Rattle.std.proofs.lemmas.List.Elements.{Contains-append_right}
+use Rattle.lrc_script.specs.declared.fault.ScriptFault.{ScriptFault}
+use Rattle.lrc_script.specs.declared.fault.ScriptFault.TheVariants.{BadNumber}
+use Rattle.lrc_script.specs.Reading.{is_decimal, number_of, numbers_after}
 
 -- our test for digits is std's
 pub own : IsNumeralModel (λ ds. list_all is_ascii_digit ds ≡ true) (digits_value 10)
 own = numerals_by_value _ (search rules)
 
-and_true : (a b : Bool) → (a && b) ≡ true → (a ≡ true) × (b ≡ true)
+pub and_true : (a b : Bool) → (a && b) ≡ true → (a ≡ true) × (b ≡ true)
 and_true true true e = (refl, refl)
 and_true true false e = absurd cc
 and_true false b e = absurd cc
@@ -85,3 +90,45 @@ parsed_is w r e h = parsed_cases w r (decimal_parts w e) e (parse_digits own 32 
     parsed_cases : {E : Type 0} (w : List ℕ) (r : Result ℕ E) → Decimal w → is_decimal w ≡ true → OkIff r ((0 < length w) × (digits_value 10 w < 2 ^ 32)) (digits_value 10 w) → result_ok r ≡ number_of w
     parsed_cases w (Ok x) d e h = let small = lt-ltb _ _ h.0.1 in rw (e, small, h.1) refl
     parsed_cases w (Err x) d e h = let big : ltb (digits_value 10 w) (2 ^ 32) ≡ false = le-ltb _ _ (elim (cases_lt (digits_value 10 w) (2 ^ 32)) [ inl lt ↦ absurd (h (d.some, lt)) | inr le ↦ le ]) in rw (e, big) refl
+
+abbrev pub AreWords : List ℕ → Type 0
+AreWords ns = AllByRecursion (λ n. n < 2 ^ 32) ns
+
+-- the words of a list are decimals
+pub record Reads (front : List ℕ) (words : List (List ℕ)) (all : List ℕ) : Type 0 where
+  pub numbers : List ℕ
+  pub all_is : all ≡ front ++ numbers
+  pub words_are : words ≡ map decimal numbers
+  pub small : AreWords numbers
+
+pub numbers_take : (front : List ℕ) (words : List (List ℕ)) (all : List ℕ) → numbers_after front words ≡ Ok all → Reads front words all
+numbers_take front [] all e = record { numbers = []; all_is = (let same : front ≡ all = cc in sym same ∙ sym (append-nil front)); words_are = refl; small = tt }
+numbers_take front (w ∷ ws) all e = first_taken front w ws all (number_of w) refl e (numbers_take (front ++ unwrap_or (number_of w) 0 ∷ []) ws all)
+  where
+    first_taken : (front w : List ℕ) (ws : List (List ℕ)) (all : List ℕ) (o : Option ℕ) → number_of w ≡ o → cond (is_some o) (numbers_after (front ++ unwrap_or o 0 ∷ []) ws) (Err BadNumber) ≡ Ok all → (numbers_after (front ++ unwrap_or (number_of w) 0 ∷ []) ws ≡ Ok all → Reads (front ++ unwrap_or (number_of w) 0 ∷ []) ws all) → Reads front (w ∷ ws) all
+    first_taken front w ws all None n e rest = absurd cc
+    first_taken front w ws all (Some k) n e rest =
+        let r : Reads (front ++ k ∷ []) ws all = subst (λ (o : Option ℕ). numbers_after (front ++ unwrap_or o 0 ∷ []) ws ≡ Ok all → Reads (front ++ unwrap_or o 0 ∷ []) ws all) n rest e in
+        let t = number_takes w k n in
+        record { numbers = k ∷ r.numbers; all_is = r.all_is ∙ append_assoc front (k ∷ []) r.numbers; words_are = ap (λ (v : List ℕ). v ∷ ws) t.0 ∙ ap (λ (vs : List (List ℕ)). decimal k ∷ vs) r.words_are; small = (t.1, r.small) }
+
+pub numbers_again : (front numbers : List ℕ) → AreWords numbers → numbers_after front (map decimal numbers) ≡ Ok (front ++ numbers)
+numbers_again front [] small = ap (λ (ns : List ℕ). Ok ns) (sym (append-nil front))
+numbers_again front (n ∷ ns) small = rw (number_again n small.0) (numbers_again (front ++ n ∷ []) ns small.1 ∙ ap (λ (ms : List ℕ). Ok ms) (append_assoc front (n ∷ []) ns))
+
+-- a word that is no number
+pub record NotNumber (words : List (List ℕ)) (fault : ScriptFault) : Type 0 where
+  pub fault_is : fault ≡ BadNumber
+  pub word : List ℕ
+  pub within : Contains words word
+  pub none : (n : ℕ) → n < 2 ^ 32 → word ≢ decimal n
+
+pub numbers_refused : (front : List ℕ) (words : List (List ℕ)) (fault : ScriptFault) → numbers_after front words ≡ Err fault → NotNumber words fault
+numbers_refused front [] fault e = absurd cc
+numbers_refused front (w ∷ ws) fault e = first_refused front w ws fault (number_of w) refl e (numbers_refused (front ++ unwrap_or (number_of w) 0 ∷ []) ws fault)
+  where
+    first_refused : (front w : List ℕ) (ws : List (List ℕ)) (fault : ScriptFault) (o : Option ℕ) → number_of w ≡ o → cond (is_some o) (numbers_after (front ++ unwrap_or o 0 ∷ []) ws) (Err BadNumber) ≡ Err fault → (numbers_after (front ++ unwrap_or (number_of w) 0 ∷ []) ws ≡ Err fault → NotNumber ws fault) → NotNumber (w ∷ ws) fault
+    first_refused front w ws fault None n e rest = record { fault_is = cc; word = w; within = (0, omega arith, refl); none = λ k lt same. let again = number_again k lt in absurd (cc) }
+    first_refused front w ws fault (Some k) n e rest =
+        let r : NotNumber ws fault = subst (λ (o : Option ℕ). numbers_after (front ++ unwrap_or o 0 ∷ []) ws ≡ Err fault → NotNumber ws fault) n rest e in
+        record { fault_is = r.fault_is; word = r.word; within = Contains-append_right (w ∷ []) ws r.word r.within; none = r.none }

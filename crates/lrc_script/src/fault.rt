@@ -3,7 +3,7 @@
 ghost use Rattle.std.specs.Prelude.{◌≡◌};
 ghost use Rattle.lrc_script.specs.declared.fault.ScriptFault.TheVariants.{NoMemory};
 
-use std::alloc::AllocFailed;
+use std::alloc::{AllocError, AllocFailed};
 use thiserror::Error;
 
 /// Why bytes aren't the text of a script that can be run. On one line the tests come in the order
@@ -52,6 +52,14 @@ impl<T: Drop> From<AllocFailed<T>> for ScriptFault {
     ghost from_gives = { λ _ e. e ≡ NoMemory };
 
     fn from(_e: AllocFailed<T>) -> ScriptFault {
+        ScriptFault::NoMemory
+    }
+}
+
+impl From<AllocError> for ScriptFault {
+    ghost from_gives = { λ _ e. e ≡ NoMemory };
+
+    fn from(_e: AllocError) -> ScriptFault {
         ScriptFault::NoMemory
     }
 }

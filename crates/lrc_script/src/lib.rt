@@ -3,4 +3,6 @@
 
 pub mod fault;
 mod line;
+mod progress;
 pub mod script;
+mod section;

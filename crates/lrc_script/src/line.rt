@@ -68,11 +68,14 @@ pub fn is_separated(line: &[u8]) -> bool
     line.split(|byte| *byte == b' ').all(|word| !word.is_empty())
 }
 
-/// How many words the line has.
-pub fn word_count(line: &[u8]) -> usize
-    ensures { result ≡ length (parts_of 32 line.now) }
+/// How many words these are.
+pub fn number_count(words: Option<&[u8]>) -> usize
+    ensures { result ≡ length (parts_left 32 words.entry) }
 {
-    line.split(|byte| *byte == b' ').count()
+    match words {
+        Some(line) => line.split(|byte| *byte == b' ').count(),
+        None => 0,
+    }
 }
 
 fn are_digits(word: &[u8]) -> bool

@@ -21,6 +21,43 @@ pub enum Instruction {
     Await(usize),
 }
 
+impl Instruction {
+    ghost use Rattle.std.specs.Prelude.{◌≡◌};
+    ghost use Rattle.lrc_script.specs.Lawful.{address_of, lock_of, flag_of};
+
+    /// The address that the instruction reads or writes.
+    pub fn address(self) -> Option<usize>
+        ensures { result ≡ address_of self }
+    {
+        match self {
+            Instruction::Load(address)
+            | Instruction::Store(address, _)
+            | Instruction::Add(address, _) => Some(address),
+            _ => None,
+        }
+    }
+
+    /// The lock that the instruction acquires or releases.
+    pub fn lock(self) -> Option<usize>
+        ensures { result ≡ lock_of self }
+    {
+        match self {
+            Instruction::Acquire(lock) | Instruction::Release(lock) => Some(lock),
+            _ => None,
+        }
+    }
+
+    /// The flag that the instruction sets or awaits.
+    pub fn flag(self) -> Option<usize>
+        ensures { result ≡ flag_of self }
+    {
+        match self {
+            Instruction::Set(flag) | Instruction::Await(flag) => Some(flag),
+            _ => None,
+        }
+    }
+}
+
 /// A script for a cluster of `processors` processors that share `pages` pages of `words` words,
 /// `locks` locks and `flags` flags. Section k has the instructions of processor k in order. At the end
 /// processor 0 loads the addresses of `shown` in order.
