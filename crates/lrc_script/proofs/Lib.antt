@@ -8,3 +8,5 @@ pub mod Fronts
 pub mod Verdict
 pub mod Keywords
 pub mod LineReading
+pub mod Adds
+pub mod Refused
