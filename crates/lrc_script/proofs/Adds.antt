@@ -66,7 +66,7 @@ section_lines-append k (x ∷ xs) ys =
     ap (λ (ls : List Line). section_line k ∷ map instruction_line x ++ ls) (section_lines-append (suc k) xs ys ∙ ap (λ (n : ℕ). section_lines (suc k) xs ++ section_lines n ys) next)
     ∙ sym (append_assoc (section_line k ∷ map instruction_line x) (section_lines (suc k) xs) (section_lines (k + suc (length xs)) ys))
 
-nothing_stands : (s : Plan) → IsSection s []
+pub nothing_stands : (s : Plan) → IsSection s []
 nothing_stands s = record {
   most = omega arith;
   served = All-nil IsServed;

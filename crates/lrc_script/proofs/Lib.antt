@@ -10,3 +10,5 @@ pub mod Keywords
 pub mod LineReading
 pub mod Adds
 pub mod Refused
+pub mod Complete
+pub mod Positions

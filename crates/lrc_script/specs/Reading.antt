@@ -15,6 +15,7 @@ use Rattle.lrc_script.specs.declared.progress.Progress.{Progress}
 use Rattle.lrc_script.specs.declared.progress.Progress.TheVariants as progress
 use Rattle.lrc_script.specs.Plan.{Plan, plan_of}
 use Rattle.lrc_script.specs.Lawful.{addresses, address_of, lock_of, flag_of, holds}
+use Rattle.lrc_script.specs.Faults.{HasNoLineFeed}
 use Rattle.lrc_script.specs.Front.{Front, Nothing, Headed, Within, Whole}
 
 -- a function that runs out of memory may answer so; any other answer, seen by view, is what reading gives
@@ -34,6 +35,11 @@ parts_of separator bytes = slice_split (λ b. b == separator) bytes
 abbrev pub parts_left : ℕ → Option (Bor (List ℕ)) → List (List ℕ)
 parts_left separator None = []
 parts_left separator (Some rest) = parts_of separator rest.now
+
+-- the bytes are a line, its line feed, and the rest
+pub record IsCut (bytes line rest : List ℕ) : Type 0 where
+  pub bytes_are : bytes ≡ line ++ 10 ∷ rest
+  pub one_line : HasNoLineFeed line
 
 abbrev pub has_bytes : List ℕ → Bool
 has_bytes w = nat_lt 0 (length w)

@@ -1,9 +1,10 @@
 //! One line of a script: a keyword, and numbers with one space before each.
 
-ghost use Rattle.std.specs.Prelude.{◌≡◌, ◌<◌, ◌∷◌, [], length, IfSome};
+ghost use Rattle.std.specs.Prelude.{◌≡◌, ◌<◌, ◌∷◌, [], length, IfSome, MatchOption};
 ghost use Rattle.std.specs.Char.{is_ascii_digit};
 ghost use Rattle.std.specs.List.{list_all};
-ghost use Rattle.lrc_script.specs.Reading.{Gives, parts_of, parts_left, has_bytes, keyword_of, is_decimal, number_of, numbers_after};
+ghost use Rattle.lrc_script.specs.Faults.{HasNoLineFeed};
+ghost use Rattle.lrc_script.specs.Reading.{Gives, IsCut, parts_of, parts_left, has_bytes, keyword_of, is_decimal, number_of, numbers_after};
 
 use crate::fault::ScriptFault;
 use smallvec::SmallVec;
@@ -58,6 +59,17 @@ pub fn split_at_byte(bytes: &[u8], separator: u8) -> (&[u8], Option<&[u8]>)
     match bytes.iter().position(|byte| *byte == separator) {
         Some(at) => (&bytes[..at], Some(&bytes[at + 1..])),
         None => (bytes, None),
+    }
+}
+
+/// The first line without its line feed, and the bytes after it, if there is a line feed.
+pub fn split_line(bytes: &[u8]) -> Option<(&[u8], &[u8])>
+    ensures { MatchOption result (HasNoLineFeed bytes.now) (λ x. IsCut bytes.now x.0.now x.1.now) }
+{
+    let (line, rest) = split_at_byte(bytes, b'\n');
+    match rest {
+        Some(rest) => Some((line, rest)),
+        None => None,
     }
 }
 

@@ -1,8 +1,8 @@
 //! How far a script is read, and what each line adds.
 
-ghost use Rattle.std.specs.Prelude.{◌≡◌, ℕ, ◌≤◌, nat_le, length, Some, IfOk};
+ghost use Rattle.std.specs.Prelude.{◌≡◌, ℕ, ◌≤◌, ◌<◌, nat_le, [], length, Some, IfOk, IfSome, IfNone};
 ghost use Rattle.std.specs.List.{list_any};
-ghost use Rattle.lrc_script.specs.Plan.{plan_of};
+ghost use Rattle.lrc_script.specs.Plan.{Plan, plan_of};
 ghost use Rattle.lrc_script.specs.Front.{IsBegun, Headed, Within, Whole};
 ghost use Rattle.lrc_script.specs.Lawful.{addresses};
 ghost use Rattle.lrc_script.specs.Reading.{Gives, front_of, is_due, takes, are_sizes, headed, first_section, next_section, ended, instruction_of, is_past, refusal, with_instruction, step, after};
@@ -249,5 +249,16 @@ impl Progress {
         }
         let numbers = read_numbers(alloc, words)?;
         self.step(alloc, keyword, numbers.as_slice())
+    }
+
+    /// The script, if all its lines were read and nothing is left.
+    pub fn whole(self, rest: &[u8]) -> Option<Script>
+        ensures found { IfSome result (λ s. (front_of self ≡ Whole (plan_of s)) × (rest.now ≡ [])) }
+        ensures none { IfNone result ((s : Plan) → front_of self ≡ Whole s → 0 < length rest.now) }
+    {
+        match self {
+            Progress::Whole(script) if rest.is_empty() => Some(script),
+            _ => None,
+        }
     }
 }
