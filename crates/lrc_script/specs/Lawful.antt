@@ -1,4 +1,4 @@
-use Rattle.std.specs.Prelude.{◌≡◌, ℕ, ◌*◌, ◌^◌, ◌<◌, ◌≤◌, ◌==◌, Bool, true, false, if◌then◌else◌, List, [], ◌∷◌, ◌++◌, length, fold, All, count_by, slice_index_or}
+use Rattle.std.specs.Prelude.{◌≡◌, ℕ, ◌*◌, ◌^◌, ◌<◌, ◌≤◌, ◌==◌, Bool, true, false, if◌then◌else◌, List, [], ◌∷◌, ◌++◌, length, fold, All, count_by, slice_index_or, Option, Some, None}
 use Rattle.lrc_script.specs.declared.script.Instruction.{Instruction}
 use Rattle.lrc_script.specs.declared.script.Instruction.TheVariants.{Load, Store, Add, Acquire, Release, Barrier, Set, Await}
 use Rattle.lrc_script.specs.Plan.{Plan}
@@ -22,6 +22,23 @@ IsServed (Load a) = Unit {0}
 IsServed (Store a v) = Unit {0}
 IsServed (Add a v) = Unit {0}
 IsServed _ = ⊥
+
+-- the address, the lock and the flag that an instruction names
+abbrev pub address_of : Instruction → Option ℕ
+address_of (Load a) = Some a
+address_of (Store a v) = Some a
+address_of (Add a v) = Some a
+address_of _ = None
+
+abbrev pub lock_of : Instruction → Option ℕ
+lock_of (Acquire l) = Some l
+lock_of (Release l) = Some l
+lock_of _ = None
+
+abbrev pub flag_of : Instruction → Option ℕ
+flag_of (Set f) = Some f
+flag_of (Await f) = Some f
+flag_of _ = None
 
 -- an address, a lock and a flag are the cluster's, and a value is a word
 abbrev pub IsInRange : Plan → Instruction → Type 0

@@ -2,4 +2,7 @@
 #![tactic(auto)]
 
 pub mod fault;
+mod line;
+mod progress;
 pub mod script;
+mod section;
