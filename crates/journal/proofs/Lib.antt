@@ -3,3 +3,5 @@ pub mod Order
 pub mod Pasts
 pub mod BlockPasts
 pub mod Leaving
+pub mod Times
+pub mod Pushes
