@@ -5,3 +5,4 @@ pub mod BlockPasts
 pub mod Leaving
 pub mod Times
 pub mod Pushes
+pub mod Kept
