@@ -1,16 +1,15 @@
 -- What a lock, a flag and an episode keep: the time of all up to their releases, sets and arrivals.
-use Rattle.std.proofs.Common.{◌≡◌, ◌≢◌, ℕ, ◌+◌, ◌<◌, ◌≤◌, max, ◌⊎◌, inl, inr, ◌↔◌, List, [], ◌∷◌, ◌++◌, length, take, true, false, subst, sym, refl, ap, ◌∙◌, arith}
+use Rattle.std.proofs.Common.{◌≡◌, ◌≢◌, ℕ, ◌<◌, max, ◌⊎◌, inl, inr, ◌↔◌, List, [], ◌∷◌, ◌++◌, length, take, subst, sym, refl, ap, ◌∙◌, arith}
 use Rattle.std.proofs.Math.Seq.{take-append_seam}
 use Rattle.journal.specs.declared.event.Event.{Event}
 use Rattle.journal.specs.declared.event.Kind.{Kind}
 use Rattle.journal.specs.declared.event.Kind.TheVariants.{Acquire, Release, Arrive, Depart, Set, Await}
 use Rattle.journal.specs.Events.{At, count_of, is_arrive, is_depart}
-use Rattle.journal.specs.WellFormed.{Does}
-use Rattle.journal.specs.Pasts.{UpTo, InPast, UpToSome}
-use Rattle.journal.specs.Times.{IsTimeIn, IsTimeOf, IsTimeAt}
-use Rattle.journal.specs.Brings.{SomeDoes, ArrivesAt, SomeArrives, Brings}
+use Rattle.journal.specs.Pasts.{UpTo, UpToSome}
+use Rattle.journal.specs.Times.{IsTimeIn, IsTimeOf}
+use Rattle.journal.specs.Brings.{SomeDoes, ArrivesAt, SomeArrives}
 use Rattle.lists.proofs.Places.{push_cases, append_cases}
-use Rattle.journal.proofs.Places.{at_within, at_longer, at_shorter, at_last, does_at, count_of-front}
+use Rattle.journal.proofs.Places.{at_within, at_longer, at_last, count_of-front}
 use Rattle.journal.proofs.Pasts.{up_to_longer, up_to_shorter, up_to_within}
 use Rattle.journal.proofs.Times.{time_same, time_joined, time_longer}
 use Rattle.journal.proofs.Pushes.{own_taking, time_at_last}
@@ -21,6 +20,7 @@ kept_others j es some others t inside is a = time_longer j es (UpToSome j some) 
   where
     there : (i : ℕ) → UpToSome j some i → UpToSome (j ++ es) others i
     there i h = (h.0, (is h.0).0 h.1, up_to_longer j es h.0 i h.2)
+
     back : (i : ℕ) → UpToSome (j ++ es) others i → UpToSome j some i
     back i h = let old = (is h.0).1 h.1 in (h.0, old, up_to_shorter j es h.0 i (inside h.0 old) h.2)
 
@@ -33,6 +33,7 @@ kept_now j e some others t u inside is a b =
     there : (i : ℕ) → UpToSome (j ++ e ∷ []) some i ⊎ UpTo (j ++ e ∷ []) (length j) i → UpToSome (j ++ e ∷ []) others i
     there i (inl h) = (h.0, (is h.0).1 (inl h.1), h.2)
     there i (inr h) = (length j, (is (length j)).1 (inr refl), h)
+
     back : (i : ℕ) → UpToSome (j ++ e ∷ []) others i → UpToSome (j ++ e ∷ []) some i ⊎ UpTo (j ++ e ∷ []) (length j) i
     back i h = elim ((is h.0).0 h.1) [ inl old ↦ inl (h.0, old, h.2) | inr new ↦ inr (subst (λ m. UpTo (j ++ e ∷ []) m i) new h.2) ]
 
@@ -49,6 +50,7 @@ does_kept j es k i away = (there, back)
   where
     there : SomeDoes j k i → SomeDoes (j ++ es) k i
     there h = (h.0, at_longer j es i (record { processor = h.0; kind = k }) h.1)
+
     back : SomeDoes (j ++ es) k i → SomeDoes j k i
     back h = elim (append_cases j es i (record { processor = h.0; kind = k }) h.1) [ inl a ↦ (h.0, a.1) | inr b ↦ absurd (away b.0 (record { processor = h.0; kind = k }) b.2 refl) ]
 
@@ -58,6 +60,7 @@ does_now j e i = (there, back)
   where
     there : SomeDoes (j ++ e ∷ []) e.kind i → SomeDoes j e.kind i ⊎ (i ≡ length j)
     there h = elim (push_cases j e i (record { processor = h.0; kind = e.kind }) h.1) [ inl a ↦ inl (h.0, a.1) | inr b ↦ inr b.0 ]
+
     back : SomeDoes j e.kind i ⊎ (i ≡ length j) → SomeDoes (j ++ e ∷ []) e.kind i
     back (inl h) = (h.0, at_longer j (e ∷ []) i (record { processor = h.0; kind = e.kind }) h.1)
     back (inr is) = (e.processor, subst (λ m. At (j ++ e ∷ []) m e) (sym is) (at_last j e))
@@ -72,8 +75,8 @@ kind_joins j e t u a b = kept_now j e (SomeDoes j e.kind) (SomeDoes (j ++ e ∷ 
 
 arrives_longer : (j es : List Event) (n i : ℕ) → SomeArrives j n i → SomeArrives (j ++ es) n i
 arrives_longer j es n i h =
-  let lt = arrives_within j n i h in
-  (h.0, record { does = at_longer j es i (record { processor = h.0; kind = Arrive }) h.1.does; number = count_of-front is_arrive j es i h.0 (omega arith) ∙ h.1.number })
+    let lt = arrives_within j n i h in
+    (h.0, record { does = at_longer j es i (record { processor = h.0; kind = Arrive }) h.1.does; number = count_of-front is_arrive j es i h.0 (omega arith) ∙ h.1.number })
 
 arrives_shorter : (j es : List Event) (n q i : ℕ) → i < length j → At j i (record { processor = q; kind = Arrive }) → ArrivesAt (j ++ es) n q i → SomeArrives j n i
 arrives_shorter j es n q i lt does h = (q, record { does = does; number = sym (count_of-front is_arrive j es i q (omega arith)) ∙ h.number })
@@ -87,9 +90,9 @@ arrives_kept j es n i away = (arrives_longer j es n i, back)
 
 last_number : (j : List Event) (e : Event) (n q i : ℕ) → i ≡ length j → e.processor ≡ q → ArrivesAt (j ++ e ∷ []) n q i → count_of is_arrive j e.processor ≡ n
 last_number j e n q i is mine h =
-  let all = ap (λ (xs : List Event). count_of is_arrive xs e.processor) (take-append_seam j (e ∷ [])) in
-  let P : ℕ → ℕ → Type 0 = λ m x. count_of is_arrive (take m (j ++ e ∷ [])) x ≡ n in
-  sym all ∙ subst (λ m. P m e.processor) is (subst (λ x. P i x) (sym mine) h.number)
+    let all = ap (λ (xs : List Event). count_of is_arrive xs e.processor) (take-append_seam j (e ∷ [])) in
+    let P : ℕ → ℕ → Type 0 = λ m x. count_of is_arrive (take m (j ++ e ∷ [])) x ≡ n in
+    sym all ∙ subst (λ m. P m e.processor) is (subst (λ x. P i x) (sym mine) h.number)
 
 -- an arrival at another episode leaves who arrives at this one
 pub arrives_others : (j : List Event) (e : Event) (n i : ℕ) → count_of is_arrive j e.processor ≢ n → SomeArrives j n i ↔ SomeArrives (j ++ e ∷ []) n i
@@ -97,8 +100,9 @@ arrives_others j e n i away = (arrives_longer j (e ∷ []) n i, back)
   where
     back : SomeArrives (j ++ e ∷ []) n i → SomeArrives j n i
     back h = elim (push_cases j e i (record { processor = h.0; kind = Arrive }) h.1.does) [
-        inl a ↦ arrives_shorter j (e ∷ []) n h.0 i a.0 a.1 h.1
-      | inr b ↦ absurd (away (last_number j e n h.0 i b.0 (ap (λ x. x.processor) b.1) h.1)) ]
+      | inl a ↦ arrives_shorter j (e ∷ []) n h.0 i a.0 a.1 h.1
+      | inr b ↦ absurd (away (last_number j e n h.0 i b.0 (ap (λ x. x.processor) b.1) h.1))
+    ]
 
 -- an arrival at an episode is one more
 pub arrives_now : (j : List Event) (e : Event) (i : ℕ) → e.kind ≡ Arrive → SomeArrives (j ++ e ∷ []) (count_of is_arrive j e.processor) i ↔ (SomeArrives j (count_of is_arrive j e.processor) i ⊎ (i ≡ length j))
@@ -106,8 +110,10 @@ arrives_now j e i arrive = (there, back)
   where
     there : SomeArrives (j ++ e ∷ []) (count_of is_arrive j e.processor) i → SomeArrives j (count_of is_arrive j e.processor) i ⊎ (i ≡ length j)
     there h = elim (push_cases j e i (record { processor = h.0; kind = Arrive }) h.1.does) [ inl a ↦ inl (arrives_shorter j (e ∷ []) (count_of is_arrive j e.processor) h.0 i a.0 a.1 h.1) | inr b ↦ inr b.0 ]
+
     now : ArrivesAt (j ++ e ∷ []) (count_of is_arrive j e.processor) e.processor (length j)
     now = record { does = subst (λ k. At (j ++ e ∷ []) (length j) (record { processor = e.processor; kind = k })) arrive (at_last j e); number = ap (λ (xs : List Event). count_of is_arrive xs e.processor) (take-append_seam j (e ∷ [])) }
+
     back : SomeArrives j (count_of is_arrive j e.processor) i ⊎ (i ≡ length j) → SomeArrives (j ++ e ∷ []) (count_of is_arrive j e.processor) i
     back (inl h) = arrives_longer j (e ∷ []) (count_of is_arrive j e.processor) i h
     back (inr is) = subst (λ m. SomeArrives (j ++ e ∷ []) (count_of is_arrive j e.processor) m) (sym is) (e.processor, now)

@@ -6,3 +6,8 @@ pub mod Leaving
 pub mod Times
 pub mod Pushes
 pub mod Kept
+pub mod Steps
+pub mod Locks
+pub mod Ready
+pub mod Balance
+pub mod Uses

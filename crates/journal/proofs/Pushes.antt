@@ -1,18 +1,17 @@
 -- What each event does to the timestamps of processors and events.
-use Rattle.std.proofs.Common.{◌≡◌, ◌≢◌, ℕ, ◌+◌, ◌<◌, ◌≤◌, max, ◌⊎◌, inl, inr, ◌↔◌, List, [], ◌∷◌, ◌++◌, length, take, Bool, true, false, IsTrue, subst, sym, refl, ap, ◌∙◌, arith}
-use Rattle.std.proofs.lemmas.Bool.{cases_lt, cases_eq}
+use Rattle.std.proofs.Common.{◌≡◌, ◌≢◌, ℕ, ◌+◌, ◌<◌, ◌≤◌, max, inl, inr, ◌↔◌, List, [], ◌∷◌, ◌++◌, length, false, IsTrue, subst, sym, refl, ap, ◌∙◌, arith}
+use Rattle.std.proofs.lemmas.Bool.{cases_lt}
 use Rattle.std.proofs.Math.Seq.{take-append_seam}
 use Rattle.journal.specs.declared.event.Event.{Event}
 use Rattle.journal.specs.declared.event.Kind.{Kind}
 use Rattle.journal.specs.Events.{At, count_of, interval_at, is_closing, is_taking}
 use Rattle.journal.specs.Order.{HappensBefore}
 use Rattle.journal.specs.WellFormed.{Does}
-use Rattle.journal.specs.Pasts.{UpTo, InPast, UpToSome}
+use Rattle.journal.specs.Pasts.{UpTo, InPast}
 use Rattle.journal.specs.Times.{ClosesAt, IsTimeIn, IsTimeOf, IsTimeAt}
 use Rattle.journal.specs.Brings.{Brings}
 use Rattle.lists.proofs.Places.{push_cases}
-use Rattle.journal.proofs.Places.{at_same, at_last, does_at, count_of-append, count_of-front, count_of-mono, count_of-past, count_of-within, numbered}
-use Rattle.journal.proofs.Order.{extension}
+use Rattle.journal.proofs.Places.{at_last, does_at, count_of-append, count_of-front, count_of-mono, count_of-past, count_of-within, numbered}
 use Rattle.journal.proofs.Pasts.{past_back, past_push, reaches_push, own_in_past, past_within, others, brings_none, up_to_back, up_to_longer, up_to_shorter, up_to_within}
 use Rattle.journal.proofs.Leaving.{LeavesAt, leaving, leaving_at, back_own}
 use Rattle.journal.proofs.Times.{time_longer, time_equal, time_none, count_of-one}
@@ -20,13 +19,14 @@ use Rattle.journal.proofs.Times.{time_longer, time_equal, time_none, count_of-on
 -- a processor's own entry counts its closing events
 pub own_entry : (j : List Event) (p : ℕ) (t : ℕ → ℕ) → IsTimeOf j p t → t p ≡ count_of is_closing j p
 own_entry j p t a = elim (cases_lt (t p) (count_of is_closing j p)) [
-    inl lt ↦
+  | inl lt ↦
       (let n = numbered is_closing j p (t p) lt in
       let closes : ClosesAt j p n.place = record { kind = n.kind; does = n.does; closes = n.counts } in
       let number = n.number in
       let below = (a.covers p n.place closes).0 (own_in_past j p n.place (record { processor = p; kind = n.kind }) n.does refl) in
       absurd (omega arith))
-  | inr le ↦ (let top = a.within p in omega arith) ]
+  | inr le ↦ (let top = a.within p in omega arith)
+]
 
 -- others' events leave a processor's timestamp
 pub others_keep : (j es : List Event) (p : ℕ) (t : ℕ → ℕ) → ((m : ℕ) (e : Event) → At es m e → e.processor ≢ p) → IsTimeOf j p t → IsTimeOf (j ++ es) p t
@@ -42,34 +42,43 @@ time_push j e t u a b = record { covers = covers; within = within }
   where
     back : (q i : ℕ) → ClosesAt j q i → interval_at j q i < max (t q) (u q) + count_of is_closing (e ∷ []) q → InPast (j ++ e ∷ []) e.processor i
     back q i c lt = elim (cases_lt (interval_at j q i) (t q)) [
-        inl x ↦ (past_push j e i).1 (inr (inl ((a.covers q i c).1 x)))
+      | inl x ↦ (past_push j e i).1 (inr (inl ((a.covers q i c).1 x)))
       | inr no_t ↦ elim (cases_lt (interval_at j q i) (u q)) [
-          inl x ↦ (past_push j e i).1 (inr (inr ((b.covers q i c).1 x)))
+        | inl x ↦ (past_push j e i).1 (inr (inr ((b.covers q i c).1 x)))
         | inr no_u ↦ elim (count_of-one is_closing e q) [
-            inl none ↦ absurd (omega arith)
-          | inr one ↦ (past_push j e i).1 (inr (inl (own_in_past j e.processor i (record { processor = q; kind = c.kind }) c.does (sym one.0)))) ] ] ]
+          | inl none ↦ absurd (omega arith)
+          | inr one ↦ (past_push j e i).1 (inr (inl (own_in_past j e.processor i (record { processor = q; kind = c.kind }) c.does (sym one.0))))
+        ]
+      ]
+    ]
+
     there : (q i : ℕ) → ClosesAt j q i → i < length j → InPast (j ++ e ∷ []) e.processor i → interval_at j q i < max (t q) (u q) + count_of is_closing (e ∷ []) q
     there q i c lt x = elim ((past_push j e i).0 x) [
-        inl is ↦ absurd (omega arith)
-      | inr y ↦ elim y [ inl z ↦ (let below = (a.covers q i c).0 z in omega arith) | inr z ↦ (let below = (b.covers q i c).0 z in omega arith) ] ]
+      | inl is ↦ absurd (omega arith)
+      | inr y ↦ elim y [ inl z ↦ (let below = (a.covers q i c).0 z in omega arith) | inr z ↦ (let below = (b.covers q i c).0 z in omega arith) ]
+    ]
+
     last : (q i : ℕ) → ClosesAt (j ++ e ∷ []) q i → i ≡ length j → (e.processor ≡ q) × IsTrue (is_closing e.kind) → interval_at (j ++ e ∷ []) q i < max (t q) (u q) + count_of is_closing (e ∷ []) q
     last q i c is mine =
-      let own = own_entry j e.processor t a in
-      let entry = subst (λ x. t x ≡ count_of is_closing j x) mine.0 own in
-      let all = ap (λ (xs : List Event). count_of is_closing xs q) (take-append_seam j (e ∷ [])) in
-      let number : interval_at (j ++ e ∷ []) q i ≡ count_of is_closing j q = ap (λ x. interval_at (j ++ e ∷ []) q x) is ∙ all in
-      let more = count_of-within is_closing (e ∷ []) 0 q e.kind (does_at (e ∷ []) 0 q e refl mine.0) mine.1 in
-      omega arith
+        let own = own_entry j e.processor t a in
+        let entry = subst (λ x. t x ≡ count_of is_closing j x) mine.0 own in
+        let all = ap (λ (xs : List Event). count_of is_closing xs q) (take-append_seam j (e ∷ [])) in
+        let number : interval_at (j ++ e ∷ []) q i ≡ count_of is_closing j q = ap (λ x. interval_at (j ++ e ∷ []) q x) is ∙ all in
+        let more = count_of-within is_closing (e ∷ []) 0 q e.kind (does_at (e ∷ []) 0 q e refl mine.0) mine.1 in
+        omega arith
+
     covers : (q i : ℕ) → ClosesAt (j ++ e ∷ []) q i → InPast (j ++ e ∷ []) e.processor i ↔ (interval_at (j ++ e ∷ []) q i < max (t q) (u q) + count_of is_closing (e ∷ []) q)
     covers q i c = elim (push_cases j e i (record { processor = q; kind = c.kind }) c.does) [
-        inl old ↦
+      | inl old ↦
           (let number = count_of-front is_closing j (e ∷ []) i q (let lt = old.0 in omega arith) in
           let closes : ClosesAt j q i = record { kind = c.kind; does = old.1; closes = c.closes } in
           (λ x. (let below = there q i closes old.0 x in omega arith), λ lt. back q i closes (omega arith)))
       | inr new ↦
           (let mine = ap (λ x. x.processor) new.1 in
           let kind = ap (λ x. is_closing x.kind) new.1 in
-          (λ x. last q i c new.0 (mine, kind ∙ c.closes), λ lt. (past_push j e i).1 (inl new.0))) ]
+          (λ x. last q i c new.0 (mine, kind ∙ c.closes), λ lt. (past_push j e i).1 (inl new.0)))
+    ]
+
     within : (q : ℕ) → max (t q) (u q) + count_of is_closing (e ∷ []) q ≤ count_of is_closing (j ++ e ∷ []) q
     within q = let x = a.within q in let y = b.within q in let sum = count_of-append is_closing j (e ∷ []) q in omega arith
 
@@ -101,8 +110,10 @@ time_at_last j e t a = record { covers = covers; within = a.within }
   where
     there : (i : ℕ) → UpTo (j ++ e ∷ []) (length j) i → InPast (j ++ e ∷ []) e.processor i
     there i h = record { own = length j; event = e; at = at_last j e; mine = refl; reaches = h }
+
     back : (i : ℕ) → InPast (j ++ e ∷ []) e.processor i → UpTo (j ++ e ∷ []) (length j) i
     back i x = elim ((past_push j e i).0 x) [ inl is ↦ inl is | inr y ↦ inr ((reaches_push j e i).1 y) ]
+
     covers : (q i : ℕ) → ClosesAt (j ++ e ∷ []) q i → UpTo (j ++ e ∷ []) (length j) i ↔ (interval_at (j ++ e ∷ []) q i < t q)
     covers q i c = ((λ h. (a.covers q i c).0 (there i h)), (λ lt. back i ((a.covers q i c).1 lt)))
 
@@ -112,19 +123,20 @@ covered_in j among t q i a time back does leaves = (there, here)
   where
     there : among i → interval_at j q i < t q
     there h =
-      let l = leaves h in
-      let below = (time.covers q l.close l.closes).0 l.inside in
-      let up = count_of-mono is_closing j i l.close q l.from in
-      omega arith
+        let l = leaves h in
+        let below = (time.covers q l.close l.closes).0 l.inside in
+        let up = count_of-mono is_closing j i l.close q l.from in
+        omega arith
+
     here : interval_at j q i < t q → among i
     here lt =
-      let top = time.within q in
-      let n = numbered is_closing j q (interval_at j q i) (omega arith) in
-      let closes : ClosesAt j q n.place = record { kind = n.kind; does = n.does; closes = n.counts } in
-      let number = n.number in
-      let inside = (time.covers q n.place closes).1 (omega arith) in
-      let from : n.place < i → ⊥ = λ before. (let up = count_of-past is_closing j n.place i q n.kind n.does n.counts before in omega arith) in
-      back_own j among q i n.place a n.kind back does n.does (omega arith) inside
+        let top = time.within q in
+        let n = numbered is_closing j q (interval_at j q i) (omega arith) in
+        let closes : ClosesAt j q n.place = record { kind = n.kind; does = n.does; closes = n.counts } in
+        let number = n.number in
+        let inside = (time.covers q n.place closes).1 (omega arith) in
+        let from : n.place < i → ⊥ = λ before. (let up = count_of-past is_closing j n.place i q n.kind n.does n.counts before in omega arith) in
+        back_own j among q i n.place a n.kind back does n.does (omega arith) inside
 
 -- another's event is in a processor's past exactly where the timestamp counts its interval
 pub covered : (j : List Event) (p q i : ℕ) (a : Kind) (t : ℕ → ℕ) → IsTimeOf j p t → Does j i q a → q ≢ p → InPast j p i ↔ (interval_at j q i < t q)

@@ -1,13 +1,12 @@
 -- Timestamps over sets of places: they are unique, rise with the set, and stay as the journal goes on.
-use Rattle.std.proofs.Common.{◌≡◌, ℕ, ◌+◌, ◌<◌, ◌≤◌, max, ◌⊎◌, inl, inr, ◌↔◌, List, [], ◌∷◌, ◌++◌, length, take, Bool, true, false, IsTrue, ◌==◌, ◌&&◌, subst, sym, refl, ap, ◌∙◌, arith}
-use Rattle.std.proofs.lemmas.Bool.{cases_lt, cases_eq, eqb-true, and_parts}
+use Rattle.std.proofs.Common.{◌≡◌, ℕ, ◌<◌, ◌≤◌, max, ◌⊎◌, inl, inr, ◌↔◌, List, [], ◌∷◌, ◌++◌, length, Bool, true, false, IsTrue, ◌==◌, ◌&&◌, refl, ap, arith}
+use Rattle.std.proofs.lemmas.Bool.{cases_lt, eqb-true, and_parts}
 use Rattle.std.proofs.Math.Seq.{take-append_seam}
 use Rattle.journal.specs.declared.event.Event.{Event}
 use Rattle.journal.specs.declared.event.Kind.{Kind}
-use Rattle.journal.specs.Events.{At, count_of, interval_at, is_closing}
-use Rattle.journal.specs.WellFormed.{Does}
+use Rattle.journal.specs.Events.{count_of, interval_at, is_closing}
 use Rattle.journal.specs.Times.{ClosesAt, IsTimeIn}
-use Rattle.journal.proofs.Places.{at_within, at_longer, at_shorter, count_of-append, count_of-front, count_of-mono, count_of-within, numbered}
+use Rattle.journal.proofs.Places.{at_longer, at_shorter, count_of-append, count_of-front, count_of-mono, numbered}
 
 -- closing events keep their places
 pub closes_longer : (j es : List Event) (q i : ℕ) → ClosesAt j q i → ClosesAt (j ++ es) q i
@@ -19,40 +18,43 @@ closes_shorter j es q i lt c = record { kind = c.kind; does = at_shorter j es i 
 -- an interval behind a journal has a number past it
 pub interval_behind : (j es : List Event) (q i : ℕ) → length j ≤ i → count_of is_closing j q ≤ interval_at (j ++ es) q i
 interval_behind j es q i h =
-  let up = count_of-mono is_closing (j ++ es) (length j) i q h in
-  let all = ap (λ (xs : List Event). count_of is_closing xs q) (take-append_seam j es) in
-  omega arith
+    let up = count_of-mono is_closing (j ++ es) (length j) i q h in
+    let all = ap (λ (xs : List Event). count_of is_closing xs q) (take-append_seam j es) in
+    omega arith
 
 -- more places, a later time
 pub time_mono : (j : List Event) (some others : ℕ → Type 0) (t u : ℕ → ℕ) (q : ℕ) → ((i : ℕ) → some i → others i) → IsTimeIn j some t → IsTimeIn j others u → t q ≤ u q
 time_mono j some others t u q more a b = elim (cases_lt (u q) (t q)) [
-    inr le ↦ le
+  | inr le ↦ le
   | inl lt ↦
       (let within = a.within q in
       let n = numbered is_closing j q (u q) (omega arith) in
       let closes : ClosesAt j q n.place = record { kind = n.kind; does = n.does; closes = n.counts } in
       let number = n.number in
       let below = (b.covers q n.place closes).0 (more n.place ((a.covers q n.place closes).1 (omega arith))) in
-      absurd (omega arith)) ]
+      absurd (omega arith))
+]
 
 -- a set of places has one time
 pub time_unique : (j : List Event) (some : ℕ → Type 0) (t u : ℕ → ℕ) (q : ℕ) → IsTimeIn j some t → IsTimeIn j some u → t q ≡ u q
 time_unique j some t u q a b =
-  let up = time_mono j some some t u q (λ i h. h) a b in
-  let down = time_mono j some some u t q (λ i h. h) b a in
-  omega arith
+    let up = time_mono j some some t u q (λ i h. h) a b in
+    let down = time_mono j some some u t q (λ i h. h) b a in
+    omega arith
 
 -- equal sets have equal times
 pub time_same : (j : List Event) (some others : ℕ → Type 0) (t : ℕ → ℕ) → ((i : ℕ) → some i ↔ others i) → IsTimeIn j some t → IsTimeIn j others t
 time_same j some others t is a = record {
   covers = λ q i c. ((λ h. (a.covers q i c).0 ((is i).1 h)), (λ lt. (is i).0 ((a.covers q i c).1 lt)));
-  within = a.within }
+  within = a.within;
+}
 
 -- equal entries are one time
 pub time_equal : (j : List Event) (some : ℕ → Type 0) (t u : ℕ → ℕ) → ((q : ℕ) → t q ≡ u q) → IsTimeIn j some t → IsTimeIn j some u
 time_equal j some t u is a = record {
   covers = λ q i c. (let e = is q in (λ h. (let lt = (a.covers q i c).0 h in omega arith), λ lt. (a.covers q i c).1 (omega arith)));
-  within = λ q. (let e = is q in let within = a.within q in omega arith) }
+  within = λ q. (let e = is q in let within = a.within q in omega arith);
+}
 
 -- no places, no time
 pub time_none : (j : List Event) (some : ℕ → Type 0) → ((i : ℕ) → some i → ⊥) → IsTimeIn j some (λ _. 0)
@@ -65,6 +67,7 @@ time_joined j some others t u a b = record { covers = λ q i c. (there q i c, ba
     there : (q i : ℕ) → ClosesAt j q i → some i ⊎ others i → interval_at j q i < max (t q) (u q)
     there q i c (inl h) = let lt = (a.covers q i c).0 h in omega arith
     there q i c (inr h) = let lt = (b.covers q i c).0 h in omega arith
+
     back : (q i : ℕ) → ClosesAt j q i → interval_at j q i < max (t q) (u q) → some i ⊎ others i
     back q i c lt = elim (cases_lt (interval_at j q i) (t q)) [ inl x ↦ inl ((a.covers q i c).1 x) | inr y ↦ inr ((b.covers q i c).1 (omega arith)) ]
 
@@ -74,14 +77,16 @@ time_longer j es some others t is old a = record { covers = covers; within = wit
   where
     covers : (q i : ℕ) → ClosesAt (j ++ es) q i → others i ↔ (interval_at (j ++ es) q i < t q)
     covers q i c = elim (cases_lt i (length j)) [
-        inl lt ↦
+      | inl lt ↦
           (let here = a.covers q i (closes_shorter j es q i lt c) in
           let number = count_of-front is_closing j es i q (omega arith) in
           (λ h. (let below = here.0 ((is i lt).1 h) in omega arith), λ below. (is i lt).0 (here.1 (omega arith))))
       | inr le ↦
           (let past = interval_behind j es q i le in
           let top = a.within q in
-          (λ h. (let lt = old i h in absurd (omega arith)), λ below. absurd (omega arith))) ]
+          (λ h. (let lt = old i h in absurd (omega arith)), λ below. absurd (omega arith)))
+    ]
+
     within : (q : ℕ) → t q ≤ count_of is_closing (j ++ es) q
     within q = let top = a.within q in let sum = count_of-append is_closing j es q in omega arith
 
