@@ -1,3 +1,5 @@
+pub mod Spending
+pub mod Replaying
 pub mod Places
 pub mod Order
 pub mod Pasts
