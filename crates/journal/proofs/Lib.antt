@@ -13,3 +13,4 @@ pub mod Locks
 pub mod Ready
 pub mod Balance
 pub mod Uses
+mod Entries

@@ -17,3 +17,4 @@ pub mod InRange
 pub mod Holding
 pub mod Brings
 pub mod Waits
+pub mod Clocks

@@ -2,6 +2,7 @@
 //! said of them alone: happens-before, races, replay on one flat memory, traffic.
 #![tactic(auto)]
 
+mod clock;
 mod event;
 mod journal;
 mod replay;
