@@ -1,7 +1,7 @@
 -- Entries of lists of timestamps.
 use Rattle.std.proofs.Common.{◌≡◌, ◌≢◌, ℕ, zero, suc, ◌+◌, ◌<◌, ◌≤◌, List, [], ◌∷◌, ◌++◌, length, replicate, slice_set, slice_index, slice_index_or, refl, ap, ◌∙◌, arith}
 use Rattle.std.proofs.lemmas.List.{get_or-set_same, get_or-set_other}
-use Rattle.journal.specs.Clocks.{entry}
+use Rattle.journal.specs.Entries.{entry}
 
 -- zeros are zeros
 pub index-zeros : (n q : ℕ) → slice_index (replicate n 0) q ≡ 0

@@ -17,4 +17,5 @@ pub mod InRange
 pub mod Holding
 pub mod Brings
 pub mod Waits
+pub mod Entries
 pub mod Clocks

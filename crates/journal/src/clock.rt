@@ -1,7 +1,7 @@
 //! Vector timestamps of sixteen processors, for the race checker.
 
 ghost use Rattle.std.specs.Prelude.{◌≡◌, ℕ, ◌+◌, ◌<◌, ◌≤◌, ◌^◌, ◌≢◌, ◌↔◌, ◌==◌, IsTrue, IfOk, OnOk, cond, max, length, slice_index, slice_index_or, vec_len};
-ghost use Rattle.journal.specs.Clocks.{entry};
+ghost use Rattle.journal.specs.Entries.{entry, IsJoinedAt};
 
 use std::alloc::AllocError;
 
@@ -66,8 +66,7 @@ pub(crate) fn join_at(
     place: usize,
     clock: &Clock,
 ) -> Result<(), AllocError>
-    ensures same { OnOk result ((n q : ℕ) → n ≢ place → entry clocks.new.items n q ≡ entry clocks.old.items n q) }
-    ensures joined { OnOk result ((q : ℕ) → entry clocks.new.items place q ≡ max (entry clocks.old.items place q) (slice_index clock.now q)) }
+    ensures { OnOk result (IsJoinedAt clocks.old.items clocks.new.items place (slice_index clock.now)) }
 {
     grow_to(clocks, place)?;
     let mut kept = clocks[place];

@@ -3,6 +3,7 @@
 #![tactic(auto)]
 
 mod clock;
+mod clocks;
 mod event;
 mod journal;
 mod replay;
