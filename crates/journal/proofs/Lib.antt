@@ -14,3 +14,4 @@ pub mod Ready
 pub mod Balance
 pub mod Uses
 mod Entries
+mod ClockSteps

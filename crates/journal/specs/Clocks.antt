@@ -17,12 +17,12 @@ brought_entry c p (Await f) q = entry c.flags.items f q
 brought_entry c p Depart q = entry c.episodes.items (slice_index c.departures p) q
 brought_entry c p _ q = 0
 
--- what is kept, after an event of p of this kind that left p at this timestamp
-abbrev pub Keeps : Clocks → Clocks → ℕ → (ℕ → ℕ) → Kind → Type 0
-Keeps c d p own (Release l) = IsJoinedAt c.locks.items d.locks.items l own × (d.flags ≡ c.flags) × (d.episodes ≡ c.episodes)
-Keeps c d p own (Set f) = (d.locks ≡ c.locks) × IsJoinedAt c.flags.items d.flags.items f own × (d.episodes ≡ c.episodes)
-Keeps c d p own Arrive = (d.locks ≡ c.locks) × (d.flags ≡ c.flags) × IsJoinedAt c.episodes.items d.episodes.items (slice_index c.arrivals p) own
-Keeps c d p own _ = (d.locks ≡ c.locks) × (d.flags ≡ c.flags) × (d.episodes ≡ c.episodes)
+-- what locks, flags and episodes keep, after an event of p of this kind that left p at this timestamp
+abbrev pub Keeps : Clocks → List (List ℕ) → List (List ℕ) → List (List ℕ) → ℕ → (ℕ → ℕ) → Kind → Type 0
+Keeps c locks flags episodes p own (Release l) = IsJoinedAt c.locks.items locks l own × (flags ≡ c.flags.items) × (episodes ≡ c.episodes.items)
+Keeps c locks flags episodes p own (Set f) = (locks ≡ c.locks.items) × IsJoinedAt c.flags.items flags f own × (episodes ≡ c.episodes.items)
+Keeps c locks flags episodes p own Arrive = (locks ≡ c.locks.items) × (flags ≡ c.flags.items) × IsJoinedAt c.episodes.items episodes (slice_index c.arrivals p) own
+Keeps c locks flags episodes p own _ = (locks ≡ c.locks.items) × (flags ≡ c.flags.items) × (episodes ≡ c.episodes.items)
 
 -- the timestamps of the processors, locks, flags and episodes, and the counts of arrivals and departures, are those of the journal
 pub record AreClocks (j : List Event) (c : Clocks) : Type 0 where

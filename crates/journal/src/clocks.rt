@@ -101,7 +101,7 @@ impl Clocks {
         ensures processors { self.new.processors ≡ self.old.processors }
         ensures arrivals { self.new.arrivals ≡ self.old.arrivals }
         ensures departures { self.new.departures ≡ self.old.departures }
-        ensures keeps { OnOk result (Keeps self.old self.new event.processor (slice_index own.now) event.kind) }
+        ensures keeps { OnOk result (Keeps self.old self.new.locks.items self.new.flags.items self.new.episodes.items event.processor (slice_index own.now) event.kind) }
     {
         match event.kind {
             Kind::Release(lock) => join_at(&mut self.locks, lock, own),
@@ -131,5 +131,24 @@ impl Clocks {
             Kind::Depart => self.departures[event.processor] += 1,
             _ => {}
         }
+    }
+
+    /// Takes note of the event at this place, the next one.
+    pub(crate) fn note(&mut self, events: &[Event], place: usize) -> Result<(), AllocError>
+        requires place { place < length events.now }
+        requires few { length events.now ≤ 2 ^ 21 }
+        requires processors { ProcessorsInRange 16 events.now }
+        requires so_far { AreClocks (take place events.now) self.old }
+        ensures { OnOk result (AreClocks (take (place + 1) events.now) self.new) }
+    {
+        let event = events[place];
+        if is_plain(event.kind) {
+            return Ok(());
+        }
+        let own = self.own_after(event);
+        self.keep(event, &own)?;
+        self.processors[event.processor] = own;
+        self.count(event);
+        Ok(())
     }
 }
