@@ -19,3 +19,4 @@ pub mod Brings
 pub mod Waits
 pub mod Entries
 pub mod Clocks
+pub mod Accesses

@@ -1,6 +1,6 @@
 //! Vector timestamps of sixteen processors, for the race checker.
 
-ghost use Rattle.std.specs.Prelude.{◌≡◌, ℕ, ◌+◌, ◌<◌, ◌≤◌, ◌^◌, ◌≢◌, ◌↔◌, ◌==◌, IsTrue, IfOk, OnOk, cond, max, length, slice_index, slice_index_or, vec_len};
+ghost use Rattle.std.specs.Prelude.{◌≡◌, ◌⊎◌, ℕ, ◌+◌, ◌<◌, ◌≤◌, ◌^◌, ◌≢◌, ◌↔◌, ◌==◌, IsTrue, IfOk, OnOk, cond, max, length, slice_index, slice_index_or, vec_len};
 ghost use Rattle.journal.specs.Entries.{entry, IsJoinedAt};
 
 use std::alloc::AllocError;
@@ -73,4 +73,16 @@ pub(crate) fn join_at(
     join(&mut kept, clock);
     clocks[place] = kept;
     Ok(())
+}
+
+/// Sets the processor's entry of the timestamp at this place.
+pub(crate) fn set_at(clocks: &mut [Clock], place: usize, processor: usize, value: u32)
+    requires place { place < length clocks.old }
+    requires processor { processor < 16 }
+    ensures set { entry clocks.new place processor ≡ value }
+    ensures same { (n q : ℕ) → (n ≢ place) ⊎ (q ≢ processor) → entry clocks.new n q ≡ entry clocks.old n q }
+{
+    let mut clock = clocks[place];
+    clock[processor] = value;
+    clocks[place] = clock;
 }

@@ -23,7 +23,7 @@ pub(crate) struct Clocks {
 }
 
 /// Whether an event of this kind closes its processor's interval.
-fn closes(kind: Kind) -> bool
+pub(crate) fn closes(kind: Kind) -> bool
     ensures { result ≡ is_closing kind }
 {
     match kind {

@@ -6,6 +6,7 @@ mod clock;
 mod clocks;
 mod event;
 mod journal;
+mod race;
 mod replay;
 #[cfg(test)]
 mod tests;

@@ -1,0 +1,15 @@
+-- What the race checker keeps of each address.
+use Rattle.std.specs.Prelude.{ℕ, ◌≡◌, ◌<◌, List, vec_len}
+use Rattle.journal.specs.declared.event.Event.{Event}
+use Rattle.journal.specs.declared.event.Kind.TheVariants.{Load, Store}
+use Rattle.journal.specs.declared.race.Accesses.{Accesses}
+use Rattle.journal.specs.Events.{interval_at}
+use Rattle.journal.specs.WellFormed.{Does}
+use Rattle.journal.specs.Entries.{entry}
+
+-- the intervals of all stores and loads of an address lie below the entries
+pub record AreAccesses (j : List Event) (addresses : ℕ) (x : Accesses) : Type 0 where
+  pub stores_long : vec_len x.stores ≡ addresses
+  pub loads_long : vec_len x.loads ≡ addresses
+  pub stores : (a q i v : ℕ) → Does j i q (Store a v) → interval_at j q i < entry x.stores.items a q
+  pub loads : (a q i v : ℕ) → Does j i q (Load a v) → interval_at j q i < entry x.loads.items a q
