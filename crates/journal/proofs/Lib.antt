@@ -15,3 +15,4 @@ pub mod Balance
 pub mod Uses
 mod Entries
 mod ClockSteps
+mod RaceSteps

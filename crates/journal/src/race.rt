@@ -6,9 +6,9 @@ ghost use Rattle.journal.specs.Times.{IsTimeOf};
 ghost use Rattle.journal.specs.Races.{Conflict, Race, IsFirstRace, RaceFree};
 ghost use Rattle.journal.specs.InRange.{AddressInRange, AddressesInRange, ProcessorsInRange};
 ghost use Rattle.journal.specs.Entries.{entry};
-ghost use Rattle.journal.specs.Accesses.{AreAccesses};
+ghost use Rattle.journal.specs.Accesses.{AreAccesses, IsNoted};
 
-use crate::clock::{Clock, is_within, set_at};
+use crate::clock::{Clock, is_within, set_at, tick};
 use crate::clocks::{Clocks, closes};
 use crate::event::{Event, Kind};
 use std::alloc::{AllocError, Global};
@@ -49,6 +49,28 @@ impl Accesses {
             _ => true,
         }
     }
+
+    /// Takes note of the event, which lies in the interval of this number of its processor.
+    fn note(&mut self, event: Event, interval: u32)
+        requires processor { event.processor < 16 }
+        requires interval { interval < 2 ^ 22 }
+        requires stores { AddressInRange (vec_len self.old.stores) event.kind }
+        requires loads { AddressInRange (vec_len self.old.loads) event.kind }
+        ensures stores_long { vec_len self.new.stores ≡ vec_len self.old.stores }
+        ensures loads_long { vec_len self.new.loads ≡ vec_len self.old.loads }
+        ensures stores { IsNoted self.old.stores.items self.new.stores.items event.processor (interval + 1) (λ a. (v : ℕ) × (event.kind ≡ Kind.Store a v)) }
+        ensures loads { IsNoted self.old.loads.items self.new.loads.items event.processor (interval + 1) (λ a. (v : ℕ) × (event.kind ≡ Kind.Load a v)) }
+    {
+        match event.kind {
+            Kind::Load(address, _) => {
+                set_at(&mut self.loads, address, event.processor, interval + 1);
+            }
+            Kind::Store(address, _) => {
+                set_at(&mut self.stores, address, event.processor, interval + 1);
+            }
+            _ => {}
+        }
+    }
 }
 
 /// Whether the events are by two processors and conflict: one address, and a store at least on one side.
@@ -61,4 +83,57 @@ fn is_conflict(first: Event, second: Event) -> bool
         _ => false,
     };
     conflicts && first.processor != second.processor
+}
+
+/// The first event that races with the event at this place, whose processor has this timestamp before it.
+fn first_racing(events: &[Event], place: usize, event: Event, time: &Clock) -> Option<usize>
+    requires at { slice_get events.now place ≡ Some event }
+    requires few { length events.now ≤ 2 ^ 21 }
+    requires processors { ProcessorsInRange 16 events.now }
+    requires time { IsTimeOf (take place events.now) event.processor (slice_index time.now) }
+    ensures { MatchOption result ((i : ℕ) → ¬ Race events.now i place) (λ i. Race events.now i place × ((m : ℕ) → Race events.now m place → i ≤ m)) }
+{
+    let mut closings: Clock = [0; 16];
+    for i in 0..place {
+        let earlier = events[i];
+        if is_conflict(earlier, event) && time[earlier.processor] <= closings[earlier.processor] {
+            return Some(i);
+        }
+        if closes(earlier.kind) {
+            tick(&mut closings, earlier.processor);
+        }
+    }
+    None
+}
+
+/// The pair of the first race of these events: the least second place, and with it the least first one;
+/// None where no events race. The only error is want of memory.
+///
+/// It takes time in the order of the events and memory in the order of the addresses: a timestamp tells
+/// which intervals an event's past has, and of each address and processor only the latest store and load
+/// are looked at. The least first place is looked for once, at the end.
+pub(crate) fn first_race_of(
+    alloc: Global,
+    addresses: usize,
+    events: &[Event],
+) -> Result<Option<(usize, usize)>, AllocError>
+    requires few { length events.now ≤ 2 ^ 21 }
+    requires addresses { AddressesInRange addresses events.now }
+    requires processors { ProcessorsInRange 16 events.now }
+    ensures { IfOk result (λ o. MatchOption o (RaceFree events.now) (λ r. IsFirstRace events.now r.0 r.1)) }
+{
+    let mut clocks = Clocks::new(alloc)?;
+    let mut accesses = Accesses::new(alloc, addresses)?;
+    for place in 0..events.len() {
+        let event = events[place];
+        let time = *clocks.of(event.processor);
+        if !accesses.are_counted(event, &time) {
+            if let Some(first) = first_racing(events, place, event, &time) {
+                return Ok(Some((first, place)));
+            }
+        }
+        accesses.note(event, time[event.processor]);
+        clocks.note(events, place)?;
+    }
+    Ok(None)
 }
