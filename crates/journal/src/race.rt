@@ -50,17 +50,18 @@ impl Accesses {
         }
     }
 
-    /// Takes note of the event, which lies in the interval of this number of its processor.
-    fn note(&mut self, event: Event, interval: u32)
+    /// Takes note of the event, whose processor has this timestamp before it.
+    fn note(&mut self, event: Event, time: &Clock)
         requires processor { event.processor < 16 }
-        requires interval { interval < 2 ^ 22 }
+        requires interval { slice_index time.now event.processor < 2 ^ 22 }
         requires stores { AddressInRange (vec_len self.old.stores) event.kind }
         requires loads { AddressInRange (vec_len self.old.loads) event.kind }
         ensures stores_long { vec_len self.new.stores ≡ vec_len self.old.stores }
         ensures loads_long { vec_len self.new.loads ≡ vec_len self.old.loads }
-        ensures stores { IsNoted self.old.stores.items self.new.stores.items event.processor (interval + 1) (λ a. (v : ℕ) × (event.kind ≡ Kind.Store a v)) }
-        ensures loads { IsNoted self.old.loads.items self.new.loads.items event.processor (interval + 1) (λ a. (v : ℕ) × (event.kind ≡ Kind.Load a v)) }
+        ensures stores { IsNoted self.old.stores.items self.new.stores.items event.processor (slice_index time.now event.processor + 1) (λ a. (v : ℕ) × (event.kind ≡ Kind.Store a v)) }
+        ensures loads { IsNoted self.old.loads.items self.new.loads.items event.processor (slice_index time.now event.processor + 1) (λ a. (v : ℕ) × (event.kind ≡ Kind.Load a v)) }
     {
+        let interval = time[event.processor];
         match event.kind {
             Kind::Load(address, _) => {
                 set_at(&mut self.loads, address, event.processor, interval + 1);
@@ -106,6 +107,27 @@ fn first_racing(events: &[Event], place: usize, event: Event, time: &Clock) -> O
     None
 }
 
+impl Accesses {
+    /// The first event that races with the event at this place, whose processor has this timestamp before
+    /// it. The events before are only gone through where one of them may.
+    fn race_at(&self, events: &[Event], place: usize, event: Event, time: &Clock) -> Option<usize>
+        requires at { slice_get events.now place ≡ Some event }
+        requires few { length events.now ≤ 2 ^ 21 }
+        requires processors { ProcessorsInRange 16 events.now }
+        requires stores { AddressInRange (vec_len self.now.stores) event.kind }
+        requires loads { AddressInRange (vec_len self.now.loads) event.kind }
+        requires time { IsTimeOf (take place events.now) event.processor (slice_index time.now) }
+        requires kept { AreAccesses (take place events.now) (vec_len self.now.stores) self.now }
+        ensures { MatchOption result ((i : ℕ) → ¬ Race events.now i place) (λ i. Race events.now i place × ((m : ℕ) → Race events.now m place → i ≤ m)) }
+    {
+        if self.are_counted(event, time) {
+            None
+        } else {
+            first_racing(events, place, event, time)
+        }
+    }
+}
+
 /// The pair of the first race of these events: the least second place, and with it the least first one;
 /// None where no events race. The only error is want of memory.
 ///
@@ -127,12 +149,10 @@ pub(crate) fn first_race_of(
     for place in 0..events.len() {
         let event = events[place];
         let time = *clocks.of(event.processor);
-        if !accesses.are_counted(event, &time) {
-            if let Some(first) = first_racing(events, place, event, &time) {
-                return Ok(Some((first, place)));
-            }
+        if let Some(first) = accesses.race_at(events, place, event, &time) {
+            return Ok(Some((first, place)));
         }
-        accesses.note(event, time[event.processor]);
+        accesses.note(event, &time);
         clocks.note(events, place)?;
     }
     Ok(None)
