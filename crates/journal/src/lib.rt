@@ -9,6 +9,8 @@ mod journal;
 mod race;
 mod replay;
 #[cfg(test)]
+mod race_tests;
+#[cfg(test)]
 mod tests;
 mod traffic;
 
