@@ -10,6 +10,7 @@ mod race;
 mod replay;
 #[cfg(test)]
 mod race_tests;
+mod slow;
 #[cfg(test)]
 mod tests;
 mod traffic;

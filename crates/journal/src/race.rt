@@ -75,7 +75,7 @@ impl Accesses {
 }
 
 /// Whether the events are by two processors and conflict: one address, and a store at least on one side.
-fn is_conflict(first: Event, second: Event) -> bool
+pub(crate) fn is_conflict(first: Event, second: Event) -> bool
     ensures { IsTrue result ↔ ((first.processor ≢ second.processor) × Conflict first second) }
 {
     let conflicts = match (first.kind, second.kind) {
