@@ -17,4 +17,5 @@ mod traffic;
 
 pub use event::{Event, Kind};
 pub use journal::Journal;
+pub use slow::{happens_before, is_race};
 pub use traffic::Traffic;

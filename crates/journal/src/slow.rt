@@ -1,7 +1,7 @@
 //! Happens-before and races straight from their definitions: small, plain and slow. What faster
 //! programs answer is compared with it.
 
-ghost use Rattle.std.specs.Prelude.{◌≡◌, ◌↔◌, ℕ, ◌+◌, ◌<◌, ◌≤◌, IsTrue, IfOk, Some, true, length, take, slice_get};
+ghost use Rattle.std.specs.Prelude.{◌≡◌, ◌↔◌, ℕ, ◌+◌, ◌<◌, ◌≤◌, IsTrue, IfOk, Some, true, length, take, slice_get, vec_len};
 ghost use Rattle.journal.specs.Events.{is_arrive, is_depart, count_of};
 ghost use Rattle.journal.specs.Order.{LetsThrough, Edge, HappensBefore};
 ghost use Rattle.journal.specs.Races.{Conflict, Race};
@@ -73,4 +73,63 @@ fn is_edge(events: &[Event], first: usize, second: usize) -> bool
             && departs(to.kind)
             && arrivals_before(events, first, from.processor)
                 == departures_before(events, second, to.processor)
+}
+
+/// Whether the first place happens before this one, where it is marked of each place before this one
+/// whether it does so.
+fn is_reached(events: &[Event], first: usize, after: &[bool], place: usize) -> bool
+    requires within { place < length events.now }
+    requires long { length after.now ≡ place }
+    requires marks { (m : ℕ) → m < place → slice_get after.now m ≡ Some true ↔ HappensBefore events.now first m }
+    ensures { IsTrue result ↔ HappensBefore events.now first place }
+{
+    for m in 0..place {
+        if (m == first || after[m]) && is_edge(events, m, place) {
+            return true;
+        }
+    }
+    false
+}
+
+/// Of each place, whether the first one happens before it. The only error is want of memory.
+fn places_after(alloc: Global, events: &[Event], first: usize) -> Result<Vec<bool>, AllocError>
+    ensures long { IfOk result (λ v. vec_len v ≡ length events.now) }
+    ensures marks { IfOk result (λ v. (m : ℕ) → slice_get v.items m ≡ Some true ↔ HappensBefore events.now first m) }
+{
+    let mut after = Vec::new(alloc);
+    for place in 0..events.len() {
+        let reached = is_reached(events, first, &after, place);
+        after.push(reached)?;
+    }
+    Ok(after)
+}
+
+/// Whether the event at the first place happens before the one at the second. It searches the places
+/// that edges lead to from the first. The only error is want of memory.
+pub fn happens_before(
+    alloc: Global,
+    events: &[Event],
+    first: usize,
+    second: usize,
+) -> Result<bool, AllocError>
+    ensures { IfOk result (λ b. IsTrue b ↔ HappensBefore events.now first second) }
+{
+    let after = places_after(alloc, events, first)?;
+    Ok(second < after.len() && after[second])
+}
+
+/// Whether the events at these places race. The only error is want of memory.
+pub fn is_race(
+    alloc: Global,
+    events: &[Event],
+    first: usize,
+    second: usize,
+) -> Result<bool, AllocError>
+    ensures { IfOk result (λ b. IsTrue b ↔ Race events.now first second) }
+{
+    if first < second && second < events.len() && is_conflict(events[first], events[second]) {
+        Ok(!happens_before(alloc, events, first, second)?)
+    } else {
+        Ok(false)
+    }
 }
