@@ -12,6 +12,8 @@ mod replay;
 mod race_tests;
 mod slow;
 #[cfg(test)]
+mod slow_tests;
+#[cfg(test)]
 mod tests;
 mod traffic;
 
