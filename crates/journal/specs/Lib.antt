@@ -16,3 +16,7 @@ pub mod Log
 pub mod InRange
 pub mod Holding
 pub mod Brings
+pub mod Waits
+pub mod Entries
+pub mod Clocks
+pub mod Accesses

@@ -1,11 +1,13 @@
 //! The journal: a list of events with room for more.
 
-ghost use Rattle.std.specs.Prelude.{◌≡◌, ◌-◌, ◌^◌, ◌<◌, ◌≤◌, ◌++◌, ◌∷◌, [], ◌↔◌, IfOk, OnOk, OnErr, IfSome, IsSome, IsTrue, length, replicate, max, option_copied, slice_get};
+ghost use Rattle.std.specs.Prelude.{◌≡◌, ◌-◌, ◌^◌, ◌<◌, ◌≤◌, ◌++◌, ◌∷◌, [], ◌↔◌, IfOk, OnOk, OnErr, IfSome, IsSome, IsTrue, MatchOption, length, replicate, max, option_copied, slice_get};
 ghost use Rattle.journal.specs.InRange.{AddressInRange, AddressesInRange};
 ghost use Rattle.journal.specs.Flat.{Replays, memory_after};
+ghost use Rattle.journal.specs.Races.{RaceFree, IsFirstRace};
 ghost use Rattle.journal.specs.Traffic.{messages, records, words};
 
 use crate::event::Event;
+use crate::race::first_race_of;
 use crate::replay::replay_of;
 use crate::traffic::{Traffic, traffic_of};
 use std::alloc::{AllocError, Global};
@@ -36,9 +38,10 @@ impl Model for Journal {
 }
 
 impl Journal {
-    /// An empty journal of a cluster of `processors` processors and `addresses` addresses. The only
-    /// error is want of memory.
+    /// An empty journal of a cluster of `processors` processors, at most 16, and `addresses` addresses.
+    /// The only error is want of memory.
     pub fn new(alloc: Global, processors: usize, addresses: usize) -> Result<Journal, AllocError>
+        requires { processors ≤ 16 }
         ensures { IfOk result (λ j. j ≡ record { processors = processors; addresses = addresses; events = []; room = 0 }) }
     {
         Ok(Journal {
@@ -132,6 +135,18 @@ impl Journal {
     {
         let events = &self.events;
         replay_of(*events.allocator(), self.addresses, events)
+    }
+
+    /// The first race: None where there is none, else the pair with the least second place and, among
+    /// these, the least first one. The only error is want of memory.
+    ///
+    /// Two accesses of one address race where one of them is a store, two processors make them, and
+    /// neither happens before the other (Adve and Hill 1990).
+    pub fn first_race(&self) -> Result<Option<(usize, usize)>, AllocError>
+        ensures { IfOk result (λ o. MatchOption o (RaceFree self.now.events) (λ r. IsFirstRace self.now.events r.0 r.1)) }
+    {
+        let events = &self.events;
+        first_race_of(*events.allocator(), self.addresses, events)
     }
 
     /// What the events cost. It takes no memory.
