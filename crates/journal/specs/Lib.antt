@@ -12,3 +12,4 @@ pub mod Copies
 pub mod Intervals
 pub mod Brought
 pub mod Blocks
+pub mod Brings

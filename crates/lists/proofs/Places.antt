@@ -82,23 +82,23 @@ count_by-take-le p xs i = sum_by-take-le (λ x. cond (p x) 1 0) xs i
 -- a counted item counts one
 pub count_by-suc_at : {A : Type 0} (p : A → Bool) (xs : List A) (k : ℕ) (x : A) → slice_get xs k ≡ Some x → p x ≡ true → count_by p (take (suc k) xs) ≡ suc (count_by p (take k xs))
 count_by-suc_at p xs k x at is =
-  let one : count_by p (x ∷ []) ≡ 1 = rw is in
-  let sum = count_by-append p (take k xs) (x ∷ []) in
-  rw (take-suc_at xs k x at) (omega arith)
+    let one : count_by p (x ∷ []) ≡ 1 = rw is in
+    let sum = count_by-append p (take k xs) (x ∷ []) in
+    rw (take-suc_at xs k x at) (omega arith)
 
 -- a front past a counted item counts more than the front up to it
 pub count_by-past : {A : Type 0} (p : A → Bool) (xs : List A) (i k : ℕ) (x : A) → slice_get xs i ≡ Some x → p x ≡ true → i < k → count_by p (take i xs) < count_by p (take k xs)
 count_by-past p xs i k x at is h =
-  let more = count_by-suc_at p xs i x at is in
-  let up = count_by-mono p xs (suc i) k h in
-  omega arith
+    let more = count_by-suc_at p xs i x at is in
+    let up = count_by-mono p xs (suc i) k h in
+    omega arith
 
 -- the list counts more than the front up to a counted item
 pub count_by-within : {A : Type 0} (p : A → Bool) (xs : List A) (i : ℕ) (x : A) → slice_get xs i ≡ Some x → p x ≡ true → count_by p (take i xs) < count_by p xs
 count_by-within p xs i x at is =
-  let more = count_by-suc_at p xs i x at is in
-  let up = count_by-take-le p xs (suc i) in
-  omega arith
+    let more = count_by-suc_at p xs i x at is in
+    let up = count_by-take-le p xs (suc i) in
+    omega arith
 
 -- the counted item at place k has n counted ones before it
 pub record CountedAt {A : Type 0} (p : A → Bool) (xs : List A) (n : ℕ) : Type 0 where
@@ -114,25 +114,29 @@ counted {A} p xs n = push_induction (λ ys. n < count_by p ys → CountedAt p ys
   where
     longer : (ys : List A) (y : A) → CountedAt p ys n → CountedAt p (ys ++ y ∷ []) n
     longer ys y c =
-      let lt = slice_get_within ys c.place c.item c.at in
-      let le : c.place ≤ length ys = omega arith in
-      record { place = c.place; item = c.item; at = slice_get-append_left ys (y ∷ []) c.place lt ∙ c.at; counts = c.counts; before = rw take-append-le c.before }
+        let lt = slice_get_within ys c.place c.item c.at in
+        let le : c.place ≤ length ys = omega arith in
+        record { place = c.place; item = c.item; at = slice_get-append_left ys (y ∷ []) c.place lt ∙ c.at; counts = c.counts; before = rw take-append-le c.before }
+
     now : (ys : List A) (y : A) (b : Bool) → p y ≡ b → n < count_by p (ys ++ y ∷ []) → count_by p ys ≤ n → CountedAt p (ys ++ y ∷ []) n
     now ys y true e h le =
-      let sum = count_by-append p ys (y ∷ []) in
-      let one : count_by p (y ∷ []) ≡ 1 = rw e in
-      record { place = length ys; item = y; at = slice_get-last ys y; counts = e; before = rw take-append_seam (omega arith) }
+        let sum = count_by-append p ys (y ∷ []) in
+        let one : count_by p (y ∷ []) ≡ 1 = rw e in
+        record { place = length ys; item = y; at = slice_get-last ys y; counts = e; before = rw take-append_seam (omega arith) }
     now ys y false e h le =
-      let sum = count_by-append p ys (y ∷ []) in
-      let none : count_by p (y ∷ []) ≡ 0 = rw e in
-      absurd (omega arith)
+        let sum = count_by-append p ys (y ∷ []) in
+        let none : count_by p (y ∷ []) ≡ 0 = rw e in
+        absurd (omega arith)
+
     step : (ys : List A) (y : A) → (n < count_by p ys → CountedAt p ys n) → n < count_by p (ys ++ y ∷ []) → CountedAt p (ys ++ y ∷ []) n
     step ys y ih h = elim (cases_lt n (count_by p ys)) [ inl lt ↦ longer ys y (ih lt) | inr le ↦ now ys y (p y) refl h le ]
 
 -- two counted items with one number stand at one place
 pub same_number : {A : Type 0} (p : A → Bool) (xs : List A) (i k : ℕ) (x y : A) → slice_get xs i ≡ Some x → slice_get xs k ≡ Some y → p x ≡ true → p y ≡ true → count_by p (take i xs) ≡ count_by p (take k xs) → i ≡ k
 same_number p xs i k x y at to is too e = elim (cases_order i k) [
-    inl same ↦ same
+  | inl same ↦ same
   | inr apart ↦ elim apart [
-      inl lt ↦ (let up = count_by-past p xs i k x at is lt in absurd (omega arith))
-    | inr lt ↦ (let up = count_by-past p xs k i y to too lt in absurd (omega arith)) ] ]
+    | inl lt ↦ (let up = count_by-past p xs i k x at is lt in absurd (omega arith))
+    | inr lt ↦ (let up = count_by-past p xs k i y to too lt in absurd (omega arith))
+  ]
+]

@@ -1,0 +1,5 @@
+pub mod Places
+pub mod Order
+pub mod Pasts
+pub mod BlockPasts
+pub mod Leaving
