@@ -6,3 +6,6 @@ pub mod Leaving
 pub mod Stores
 pub mod FlatMemory
 pub mod Answers
+pub mod Keeping
+pub mod Fetching
+pub mod OpenBlocks

@@ -1,5 +1,6 @@
 -- Lists joined end to end: what they have, their order, and that nothing stands in them twice.
-use Rattle.std.proofs.Common.{ℕ, zero, suc, ◌+◌, ◌≡◌, ◌<◌, ◌⊎◌, ◌↔◌, inl, inr, List, [], ◌∷◌, ◌++◌, Some, slice_get, length, map, option_map, subst, arith, refl, ap, ◌∙◌}
+use Rattle.std.proofs.Common.{ℕ, zero, suc, ◌+◌, ◌≡◌, ◌≢◌, ◌<◌, ◌⊎◌, ◌↔◌, inl, inr, List, [], ◌∷◌, ◌++◌, Some, slice_get, length, map, option_map, subst, arith, refl, ap, ◌∙◌}
+use Rattle.std.proofs.lemmas.Bool.{cases_eq}
 use Rattle.std.proofs.lemmas.Option.{slice_get-map, slice_get_within, same_Some, none-some}
 use Rattle.std.specs.List.{concat}
 use Rattle.lists.specs.Places.{Has, InOrder}
@@ -93,3 +94,17 @@ in_order-map {A} {B} R f (x ∷ xs) h = in_order-cons R (f x) (map f xs) first (
   where
     first : (b : B) → Has (map f xs) b → R (f x) b
     first b m = let r = (has-map f xs b).0 m in let P : B → Type 0 = R (f x) in subst P r.2 (h 0 (suc r.1.0) x r.0 (omega arith) refl r.1.1)
+
+-- a list of one item is in order
+pub in_order_single : {A : Type 0} (R : A → A → Type 0) (x : A) → InOrder R (x ∷ [])
+in_order_single R x = in_order-cons R x [] (λ b h. absurd (has-nil b h)) (in_order-nil R)
+
+-- a number stands in a list or not
+pub has_or_not : (xs : List ℕ) (x : ℕ) → Has xs x ⊎ (Has xs x → ⊥)
+has_or_not [] x = inr (λ h. has-nil x h)
+has_or_not (y ∷ xs) x = go (cases_eq y x) (has_or_not xs x)
+  where
+    go : (y ≡ x) ⊎ (y ≢ x) → Has xs x ⊎ (Has xs x → ⊥) → Has (y ∷ xs) x ⊎ (Has (y ∷ xs) x → ⊥)
+    go (inl e) later = inl (0, ap Some e)
+    go (inr d) (inl h) = inl (suc h.0, h.1)
+    go (inr d) (inr n) = inr (λ h. elim ((has-cons y xs x).0 h) [ inl e ↦ d e | inr m ↦ n m ])
