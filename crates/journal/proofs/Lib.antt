@@ -9,3 +9,6 @@ pub mod Answers
 pub mod Keeping
 pub mod Fetching
 pub mod OpenBlocks
+pub mod CopyLaws
+pub mod CopySteps
+pub mod Complete

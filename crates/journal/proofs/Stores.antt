@@ -65,3 +65,10 @@ stores_at s j n i e at x = does_same j i e.processor x.by e.kind (Store x.addres
 -- pages of a journal that goes on
 pub page_after_longer : (s : Sizes) (j es : List Event) (page is : List ℕ) → ((i : ℕ) → Has is i → i < length j) → page_after s (j ++ es) page is ≡ page_after s j page is
 page_after_longer s j es page is within = written_same (λ (i : ℕ). page_write s (slice_get (j ++ es) i)) (λ (i : ℕ). page_write s (slice_get j i)) page is (λ k i at. ap (page_write s) (slice_get-append_left j es i (within i (k, at))))
+
+-- an event is what its processor does
+pub event_is : (e : Event) (p : ℕ) (k : Kind) → e.processor ≡ p → e.kind ≡ k → e ≡ record { processor = p; kind = k }
+event_is e p k mine is = ap₂ (λ (q : ℕ) (a : Kind). event q a) mine is
+  where
+    event : ℕ → Kind → Event
+    event q a = record { processor = q; kind = a }
