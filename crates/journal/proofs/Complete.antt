@@ -1,15 +1,14 @@
 -- Copies that lack nothing: what keeps them so, and what a block changes.
-use Rattle.std.proofs.Common.{ℕ, ◌≡◌, ◌≢◌, ◌<◌, ◌≤◌, ◌+◌, ◌⊎◌, ◌↔◌, inl, inr, List, [], ◌∷◌, ◌++◌, Option, None, slice_get, length, arith, sym, subst, ◌∙◌}
+use Rattle.std.proofs.Common.{ℕ, ◌≡◌, ◌≢◌, ◌≤◌, ◌+◌, ◌↔◌, inl, inr, List, ◌++◌, None, slice_get, length, arith, sym, subst}
 use Rattle.std.specs.List.{concat}
 use Rattle.journal.specs.declared.event.Event.{Event}
-use Rattle.journal.specs.declared.event.Kind.{Kind}
 use Rattle.journal.specs.declared.event.Kind.TheVariants.{Store, Fetch}
 use Rattle.journal.specs.Sizes.{Sizes}
 use Rattle.journal.specs.Events.{At}
 use Rattle.journal.specs.Order.{HappensBefore}
 use Rattle.journal.specs.Pasts.{InPast}
 use Rattle.journal.specs.WellFormed.{Does}
-use Rattle.journal.specs.Copies.{StoresTo, page_write, Mine, InGap, IsImage, Lawful}
+use Rattle.journal.specs.Copies.{StoresTo, page_write, Mine, InGap, Lawful}
 use Rattle.journal.specs.Brought.{Brought, IsCopy, NoGap, Complete}
 use Rattle.journal.specs.Blocks.{write_in, IsBlock, OpenLawful}
 use Rattle.lists.specs.Places.{Has, InOrder, IsOnce}
@@ -48,20 +47,22 @@ complete_others s j es p n away = complete_on s j es p n (λ i x. (others j es p
 -- a store behind j is the block's own
 block_mine : (s : Sizes) (j block : List Event) (p n i : ℕ) → IsBlock p block → StoresTo s (j ++ block) n i → length j ≤ i → Mine (j ++ block) p i
 block_mine s j block p n i is x behind =
-  let e : Event = record { processor = x.by; kind = Store x.address x.value } in
-  (e, x.does, elim (append_cases j block i e x.does) [ inl h ↦ absurd (omega (arith, h.0)) | inr h ↦ (is h.0 e h.2).0 ])
+    let e : Event = record { processor = x.by; kind = Store x.address x.value } in
+    (e, x.does, elim (append_cases j block i e x.does) [ inl h ↦ absurd (omega (arith, h.0)) | inr h ↦ (is h.0 e h.2).0 ])
 
 -- nor does a block
 pub complete_block : (s : Sizes) (j block : List Event) (p n : ℕ) → IsBlock p block → Complete s j p n → Complete s (j ++ block) p n
-complete_block s j block p n is complete i x past = elim ((block_past j block p i is).0 past)
-  [ inl old ↦ brought_longer j block p n i (complete i (stores_shorter s j block n i (past_within j p i old) x) old)
-  | inr b ↦ inl (block_mine s j block p n i is x b.0) ]
+complete_block s j block p n is complete i x past = elim ((block_past j block p i is).0 past) [
+  | inl old ↦ brought_longer j block p n i (complete i (stores_shorter s j block n i (past_within j p i old) x) old)
+  | inr b ↦ inl (block_mine s j block p n i is x b.0)
+]
 
 -- a block that fetches the page leaves nothing out
 pub complete_fetched : (s : Sizes) (j block : List Event) (p n k w r d : ℕ) → IsBlock p block → Does block k p (Fetch n w r d) → Complete s (j ++ block) p n
-complete_fetched s j block p n k w r d is fetch i x past = elim ((block_past j block p i is).0 past)
-  [ inl old ↦ inr (length j + k, (w, r, d, at_behind j block k e fetch), (block_reaches j block p i k is (at_within block k e fetch)).1 (inl old))
-  | inr b ↦ inl (block_mine s j block p n i is x b.0) ]
+complete_fetched s j block p n k w r d is fetch i x past = elim ((block_past j block p i is).0 past) [
+  | inl old ↦ inr (length j + k, (w, r, d, at_behind j block k e fetch), (block_reaches j block p i k is (at_within block k e fetch)).1 (inl old))
+  | inr b ↦ inl (block_mine s j block p n i is x b.0)
+]
   where
     e : Event
     e = record { processor = p; kind = Fetch n w r d }
@@ -71,16 +72,20 @@ pub gap_block : (s : Sizes) (j block : List Event) (p n i : ℕ) → IsBlock p b
 gap_block s j block p n i is none = (there, back)
   where
     there : InGap s (j ++ block) p n i → InGap s j p n i
-    there g = elim ((block_past j block p i is).0 g.past)
-      [ inl old ↦ (gap_is s j p n i).1 (old, stores_shorter s j block n i (past_within j p i old) g.store, λ b. ((gap_is s (j ++ block) p n i).0 g).2 (brought_longer j block p n i b))
-      | inr b ↦ absurd (g.others (block_mine s j block p n i is g.store b.0)) ]
+    there g = elim ((block_past j block p i is).0 g.past) [
+      | inl old ↦ (gap_is s j p n i).1 (old, stores_shorter s j block n i (past_within j p i old) g.store, λ b. ((gap_is s (j ++ block) p n i).0 g).2 (brought_longer j block p n i b))
+      | inr b ↦ absurd (g.others (block_mine s j block p n i is g.store b.0))
+    ]
+
     old : InGap s j p n i → Brought (j ++ block) p n i → ⊥
     old g (inl m) = g.others (m.0, at_shorter j block i m.0 (past_within j p i g.past) m.1, m.2)
     old g (inr m) =
         let f = m.1 in
-        elim (append_cases j block m.0 (record { processor = p; kind = Fetch n f.0 f.1 f.2 }) f.3)
-          [ inl h ↦ g.new m.0 (f.0, f.1, f.2, h.1) (shorter j block h.0 m.2)
-          | inr h ↦ none h.0 f.0 f.1 f.2 h.2 ]
+        elim (append_cases j block m.0 (record { processor = p; kind = Fetch n f.0 f.1 f.2 }) f.3) [
+          | inl h ↦ g.new m.0 (f.0, f.1, f.2, h.1) (shorter j block h.0 m.2)
+          | inr h ↦ none h.0 f.0 f.1 f.2 h.2
+        ]
+
     back : InGap s j p n i → InGap s (j ++ block) p n i
     back g = (gap_is s (j ++ block) p n i).1 ((block_past j block p i is).1 (inl g.past), stores_longer s j block n i g.store, old g)
 

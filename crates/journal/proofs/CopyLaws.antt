@@ -1,26 +1,21 @@
 -- One fact for all copies of a page, valid or stale, and what each event does to it.
-use Rattle.std.proofs.Common.{ℕ, ◌≡◌, ◌≢◌, ◌<◌, ◌⊎◌, ◌↔◌, ◌/◌, ◌%◌, inl, inr, List, [], ◌∷◌, ◌++◌, Option, Some, replicate, slice_get, slice_set, length, arith, refl, sym, ap, subst, ◌∙◌}
+use Rattle.std.proofs.Common.{ℕ, ◌≡◌, ◌≢◌, ◌⊎◌, ◌↔◌, ◌/◌, inl, inr, List, [], ◌∷◌, ◌++◌, replicate, length, refl, sym, ap, subst, ◌∙◌}
 use Rattle.std.proofs.lemmas.Option.{none-some}
 use Rattle.journal.specs.declared.event.Event.{Event}
-use Rattle.journal.specs.declared.event.Kind.{Kind}
 use Rattle.journal.specs.declared.event.Kind.TheVariants.{Store, Fetch}
 use Rattle.journal.specs.Sizes.{Sizes}
 use Rattle.journal.specs.Events.{At}
 use Rattle.journal.specs.Order.{HappensBefore}
 use Rattle.journal.specs.Pasts.{InPast}
-use Rattle.journal.specs.WellFormed.{Does}
-use Rattle.journal.specs.Copies.{StoresTo, page_write, page_after, Fetches, Mine, InGap, IsImage, Lawful}
+use Rattle.journal.specs.Copies.{StoresTo, InGap}
 use Rattle.journal.specs.Brought.{Brought, IsCopy, NoGap}
-use Rattle.lists.specs.Writes.{wrote}
-use Rattle.lists.specs.Places.{Has, InOrder, IsOnce}
 use Rattle.lists.proofs.Places.{push_cases}
-use Rattle.lists.proofs.Joined.{has-nil, has-cons, in_order-nil, in_order_single, has_or_not}
-use Rattle.journal.proofs.Places.{at_within, at_longer, at_shorter, at_last}
-use Rattle.journal.proofs.Order.{goes_forward, begins_within, longer, shorter}
-use Rattle.journal.proofs.Pasts.{past_back, past_within, past_longer, own_in_past, own_past, reaches_new}
-use Rattle.journal.proofs.Stores.{stores_to, stores_longer, stores_shorter, stores_within, stores_at, event_is}
-use Rattle.journal.proofs.Keeping.{image_kept, image_more, image_among}
-use Rattle.journal.proofs.Fetching.{fetched}
+use Rattle.lists.proofs.Joined.{has-nil, in_order-nil, has_or_not}
+use Rattle.journal.proofs.Places.{at_longer, at_last}
+use Rattle.journal.proofs.Order.{begins_within, longer, shorter}
+use Rattle.journal.proofs.Pasts.{past_back, past_within, own_in_past}
+use Rattle.journal.proofs.Stores.{stores_shorter, stores_at, event_is}
+use Rattle.journal.proofs.Keeping.{image_kept}
 
 -- what was brought stays so
 pub brought_longer : (j es : List Event) (p n i : ℕ) → Brought j p n i → Brought (j ++ es) p n i
@@ -38,14 +33,16 @@ brought_past j p n i (inr x) =
 
 -- what was brought to a store of the page by one more event
 pub brought_push : (s : Sizes) (j : List Event) (e : Event) (p n i : ℕ) → ((w r d : ℕ) → e ≢ record { processor = p; kind = Fetch n w r d }) → StoresTo s (j ++ e ∷ []) n i → Brought (j ++ e ∷ []) p n i → Brought j p n i ⊎ ((i ≡ length j) × (e.processor ≡ p))
-brought_push s j e p n i no_fetch x (inl m) = elim (push_cases j e i m.0 m.1)
-  [ inl h ↦ inl (inl (m.0, h.1, m.2))
-  | inr h ↦ inr (h.0, ap (λ (f : Event). f.processor) h.1 ∙ m.2) ]
+brought_push s j e p n i no_fetch x (inl m) = elim (push_cases j e i m.0 m.1) [
+  | inl h ↦ inl (inl (m.0, h.1, m.2))
+  | inr h ↦ inr (h.0, ap (λ (f : Event). f.processor) h.1 ∙ m.2)
+]
 brought_push s j e p n i no_fetch x (inr m) =
     let f = m.1 in
-    elim (push_cases j e m.0 (record { processor = p; kind = Fetch n f.0 f.1 f.2 }) f.3)
-      [ inl h ↦ inl (inr (m.0, (f.0, f.1, f.2, h.1), shorter j (e ∷ []) h.0 m.2))
-      | inr h ↦ absurd (no_fetch f.0 f.1 f.2 h.1) ]
+    elim (push_cases j e m.0 (record { processor = p; kind = Fetch n f.0 f.1 f.2 }) f.3) [
+      | inl h ↦ inl (inr (m.0, (f.0, f.1, f.2, h.1), shorter j (e ∷ []) h.0 m.2))
+      | inr h ↦ absurd (no_fetch f.0 f.1 f.2 h.1)
+    ]
 
 -- the gap is the stores of the past that were not brought
 pub gap_is : (s : Sizes) (j : List Event) (p n i : ℕ) → InGap s j p n i ↔ (InPast j p i × StoresTo s j n i × (Brought j p n i → ⊥))
@@ -53,9 +50,10 @@ gap_is s j p n i = (λ g. (g.past, g.store, λ b. elim b [ inl m ↦ g.others m 
 
 -- a copy that lacks nothing has each store of the past
 pub gapless : (s : Sizes) (j : List Event) (p n : ℕ) (page : List ℕ) → NoGap s j p n → IsCopy s j p n page → (i : ℕ) → StoresTo s j n i → InPast j p i → Brought j p n i
-gapless s j p n page none copy i x past = elim (has_or_not copy.image.order i)
-  [ inl h ↦ ((copy.image.each i).0 h).0
-  | inr away ↦ absurd (none i ((gap_is s j p n i).1 (past, x, λ b. away ((copy.image.each i).1 (b, x))))) ]
+gapless s j p n page none copy i x past = elim (has_or_not copy.image.order i) [
+  | inl h ↦ ((copy.image.each i).0 h).0
+  | inr away ↦ absurd (none i ((gap_is s j p n i).1 (past, x, λ b. away ((copy.image.each i).1 (b, x)))))
+]
 
 -- at the start each copy is the zero page
 pub copy_start : (s : Sizes) (p n : ℕ) → IsCopy s [] p n (replicate s.words 0)
@@ -75,15 +73,16 @@ pub copy_kept : (s : Sizes) (j : List Event) (e : Event) (p n : ℕ) (page : Lis
 copy_kept s j e p n page no_store no_fetch copy = record {
   image = image_kept s j (e ∷ []) (Brought j p n) (Brought (j ++ e ∷ []) p n) n page (λ i x. brought_longer j (e ∷ []) p n i) (λ i x b. (old i x b, past_within j p i (brought_past j p n i (old i x b)))) copy.image;
   closed = λ i k x y b before.
-    let o = old i x b in
-    let within = past_within j p i (brought_past j p n i o) in
-    let h = shorter j (e ∷ []) within before in
-    brought_longer j (e ∷ []) p n k (copy.closed i k (stores_shorter s j (e ∷ []) n i within x) (stores_shorter s j (e ∷ []) n k (begins_within j h) y) o h);
+      let o = old i x b in
+      let within = past_within j p i (brought_past j p n i o) in
+      let h = shorter j (e ∷ []) within before in
+      brought_longer j (e ∷ []) p n k (copy.closed i k (stores_shorter s j (e ∷ []) n i within x) (stores_shorter s j (e ∷ []) n k (begins_within j h) y) o h);
 }
   where
     old : (i : ℕ) → StoresTo s (j ++ e ∷ []) n i → Brought (j ++ e ∷ []) p n i → Brought j p n i
-    old i x b = elim (brought_push s j e p n i no_fetch x b)
-      [ inl o ↦ o
+    old i x b = elim (brought_push s j e p n i no_fetch x b) [
+      | inl o ↦ o
       | inr m ↦ (let P : ℕ → Type 0 = λ k. At (j ++ e ∷ []) k e in
-                 let at = stores_at s (j ++ e ∷ []) n i e (subst P (sym m.0) (at_last j e)) x in
-                 absurd (no_store x.address x.value x.in_page (event_is e p (Store x.address x.value) m.1 at.1))) ]
+          let at = stores_at s (j ++ e ∷ []) n i e (subst P (sym m.0) (at_last j e)) x in
+          absurd (no_store x.address x.value x.in_page (event_is e p (Store x.address x.value) m.1 at.1)))
+    ]

@@ -12,3 +12,5 @@ pub mod OpenBlocks
 pub mod CopyLaws
 pub mod CopySteps
 pub mod Complete
+pub mod Closing
+pub mod IntervalNumbers
