@@ -14,3 +14,11 @@ pub mod CopySteps
 pub mod Complete
 pub mod Closing
 pub mod IntervalNumbers
+pub mod Times
+pub mod Pushes
+pub mod Kept
+pub mod Steps
+pub mod Locks
+pub mod Ready
+pub mod Balance
+pub mod Uses

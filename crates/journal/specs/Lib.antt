@@ -13,3 +13,4 @@ pub mod Intervals
 pub mod Brought
 pub mod Blocks
 pub mod Brings
+pub mod Waits
