@@ -22,3 +22,4 @@ pub mod Locks
 pub mod Ready
 pub mod Balance
 pub mod Uses
+pub mod Since

@@ -14,3 +14,4 @@ pub mod Brought
 pub mod Blocks
 pub mod Brings
 pub mod Waits
+pub mod Groups

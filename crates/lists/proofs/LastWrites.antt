@@ -146,3 +146,17 @@ last_same f g xs ys o v same l = last_found g ys o v (rw (← same (replicate (s
 pub written_nothing : {A : Type 0} (f : A → Option (ℕ × ℕ)) (words : List ℕ) (xs : List A) → ((k : ℕ) (x : A) → slice_get xs k ≡ Some x → f x ≡ None) → written f words xs ≡ words
 written_nothing f words [] h = refl
 written_nothing f words (x ∷ xs) h = ap (λ (a : Option (ℕ × ℕ)). written f (wrote words a) xs) (h 0 x refl) ∙ written_nothing f words xs (λ k. h (suc k))
+
+-- where an item writes, there is a last write
+pub last_exists : {A : Type 0} (f : A → Option (ℕ × ℕ)) (xs : List A) (k o u : ℕ) (x : A) → slice_get xs k ≡ Some x → f x ≡ Some (o, u) → (v : ℕ) × LastWrite f xs o v
+last_exists f xs k o u x at writes = go (word_written f words xs o word found)
+  where
+    words : List ℕ
+    words = replicate (suc o) 0
+    word : ℕ
+    word = get_or (written f words xs) o 0
+    found : slice_get (written f words xs) o ≡ Some word
+    found = slice_get-get_or (written f words xs) o 0 (rw (length-written, length-replicate) (omega arith))
+    go : LastWrite f xs o word ⊎ ((slice_get words o ≡ Some word) × Unwritten f xs o) → (v : ℕ) × LastWrite f xs o v
+    go (inl l) = (word, l)
+    go (inr n) = absurd (n.1 k x u at writes)
