@@ -23,3 +23,4 @@ pub mod Ready
 pub mod Balance
 pub mod Uses
 pub mod Since
+pub mod Contents
