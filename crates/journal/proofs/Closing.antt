@@ -2,7 +2,9 @@
 use Rattle.std.proofs.Common.{ℕ, ◌≡◌, ◌≢◌, ◌<◌, ◌≤◌, ◌⊎◌, ◌↔◌, inl, inr, List, true, arith, refl, sym, ap, subst, ◌∙◌, le_of_lt}
 use Rattle.std.proofs.lemmas.Bool.{cases_eq, cases_lt, cases_order}
 use Rattle.journal.specs.declared.event.Event.{Event}
+use Rattle.journal.specs.declared.event.Kind.{Kind}
 use Rattle.journal.specs.Events.{At, is_closing, count_of, interval_at}
+use Rattle.journal.specs.WellFormed.{Does}
 use Rattle.journal.specs.Order.{HappensBefore}
 use Rattle.journal.specs.Pasts.{InPast}
 use Rattle.journal.specs.Intervals.{ClosedAt}
@@ -108,3 +110,15 @@ pub past_is_closed : (j : List Event) (p i : ℕ) (e : Event) → At j i e → i
 past_is_closed j p i e at open_at apart h =
     let l = leaving j p e.processor i e.kind at apart h in
     closed_from j i l.close e at open_at l.from l.closes
+
+-- whose interval is closed
+pub closed_of : (j : List Event) (q i c : ℕ) (a : Kind) (x : ClosedAt j i c) → Does j i q a → x.event.processor ≡ q
+closed_of j q i c a x does = ap (λ (e : Event). e.processor) (at_same j i x.event (record { processor = q; kind = a }) x.at does)
+
+-- the closing event is the processor's first from the event on
+pub closes_first : (j : List Event) (q i c m : ℕ) (a : Kind) → ClosedAt j i c → Does j i q a → i ≤ m → ClosesAt j q m → c ≤ m
+closes_first j q i c m a x does from closes = let P : ℕ → Type 0 = λ r. ClosesAt j r m in closer_least j i c m x from (subst P (sym (closed_of j q i c a x does)) closes)
+
+-- q's event is in another's past exactly where the closing event of its interval is
+pub closed_past : (j : List Event) (p q i c : ℕ) (a : Kind) → ClosedAt j i c → Does j i q a → q ≢ p → InPast j p i ↔ InPast j p c
+closed_past j p q i c a x does apart = interval_past j p i c x (λ e. apart (sym (closed_of j q i c a x does) ∙ e))

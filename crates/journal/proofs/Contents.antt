@@ -1,6 +1,8 @@
 -- The record of the events of an interval is the record of their places, and stays so.
-use Rattle.std.proofs.Common.{ℕ, ◌≡◌, ◌≢◌, ◌<◌, ◌≤◌, ◌↔◌, ◌/◌, ◌%◌, ◌==◌, List, [], ◌∷◌, ◌++◌, Bool, true, false, cond, Option, Some, None, is_some, filter, map, take, slice_get, length, arith, refl, sym, ap, subst, ◌∙◌, eqb-true, eq-eqb, true≢false}
-use Rattle.std.proofs.lemmas.Option.{none-some, some_pair_parts}
+use Rattle.std.proofs.Common.{ℕ, ◌≡◌, ◌≢◌, ◌<◌, ◌≤◌, ◌/◌, ◌%◌, ◌==◌, List, [], ◌∷◌, ◌++◌, Bool, true, false, cond, Option, Some, None, is_some, filter, slice_get, length, arith, refl, sym, ap, subst, ◌∙◌, eqb-true, eq-eqb, mod-lt, inl, inr, true≢false}
+use Rattle.std.proofs.lemmas.Bool.{cases_lt}
+use Rattle.std.proofs.Math.Seq.{take-append_seam}
+use Rattle.std.proofs.lemmas.Option.{some_pair_parts}
 use Rattle.journal.specs.declared.event.Event.{Event}
 use Rattle.journal.specs.declared.event.Kind.{Kind}
 use Rattle.journal.specs.declared.event.Kind.TheVariants.{Store}
@@ -11,16 +13,16 @@ use Rattle.journal.specs.Copies.{word_write, page_write}
 use Rattle.journal.specs.Blocks.{write_in}
 use Rattle.journal.specs.Groups.{since, StoresIn, IsContent}
 use Rattle.lists.specs.Places.{Has}
-use Rattle.lists.specs.Writes.{written, LastWrite}
+use Rattle.lists.specs.Writes.{written}
 use Rattle.lists.specs.Records.{IsRecordOf}
-use Rattle.lists.proofs.Places.{append_cases, push_cases, slice_get-append_left}
+use Rattle.lists.proofs.Places.{append_cases, push_cases}
 use Rattle.lists.proofs.Joined.{has-nil}
 use Rattle.lists.proofs.Picked.{has-filter, in_order-filter}
 use Rattle.lists.proofs.LastWrites.{written_map, written_filter, written_same, last_exists}
 use Rattle.lists.proofs.Records.{record_moved}
-use Rattle.journal.proofs.Places.{at_within, at_last, at_longer, at_shorter, at_same, does_same, count_of-front, count_of-mono, count_of-take-le}
-use Rattle.journal.proofs.Stores.{does_kind, store_writes}
-use Rattle.journal.proofs.Since.{IsOpenAt, AreOpen, open_places}
+use Rattle.journal.proofs.Places.{at_within, at_longer, at_shorter, count_of-front, count_of-mono}
+use Rattle.journal.proofs.Stores.{does_kind, store_writes, page_after_longer}
+use Rattle.journal.proofs.Since.{AreOpen, open_places}
 
 -- what the event at a place, if there is one, stores in page n
 abbrev pub write_at : Sizes → ℕ → Option Event → Option (ℕ × ℕ)
@@ -82,8 +84,10 @@ since_content s j p n words record_of = record {
   where
     places : List ℕ
     places = (open_places j p).0
+
     open_at : AreOpen j p places
     open_at = (open_places j p).1
+
     there : (i : ℕ) → Has (filter (picks s n j) places) i → StoresIn s j p (count_of is_closing j p) n i
     there i h =
         let m = (has-filter (picks s n j) places i).0 h in
@@ -91,7 +95,79 @@ since_content s j p n words record_of = record {
         let y = picked_store s n j i x.event x.at m.1 in
         let P : ℕ → Type 0 = λ q. Does j i q (Store y.0 y.1) in
         (y.0, y.1, subst P x.mine y.2, y.3, x.number)
+
     back : (i : ℕ) → StoresIn s j p (count_of is_closing j p) n i → Has (filter (picks s n j) places) i
     back i x =
         let e : Event = record { processor = p; kind = Store x.0 x.1 } in
         (has-filter (picks s n j) places i).1 ((open_at.each i).1 (record { event = e; at = x.2; mine = refl; open_at = refl; number = x.4 }), ap (λ (o : Option Event). is_some (write_at s n o)) x.2 ∙ ap is_some (store_in s n x.0 x.1 x.3))
+
+-- a store of an interval stays one as the journal goes on
+pub stores_in_longer : (s : Sizes) (j es : List Event) (q k n i : ℕ) → StoresIn s j q k n i → StoresIn s (j ++ es) q k n i
+stores_in_longer s j es q k n i x =
+    let e : Event = record { processor = q; kind = Store x.0 x.1 } in
+    let within = at_within j i e x.2 in
+    (x.0, x.1, at_longer j es i e x.2, x.3, count_of-front is_closing j es i q (omega arith) ∙ x.4)
+
+-- and was one before
+pub stores_in_shorter : (s : Sizes) (j es : List Event) (q k n i : ℕ) → i < length j → StoresIn s (j ++ es) q k n i → StoresIn s j q k n i
+stores_in_shorter s j es q k n i within x =
+    (x.0, x.1, at_shorter j es i (record { processor = q; kind = Store x.0 x.1 }) within x.2, x.3, sym (count_of-front is_closing j es i q (omega arith)) ∙ x.4)
+
+-- what an interval comes to in a page stays as long as it stores nothing more there
+pub content_on : (s : Sizes) (j es : List Event) (q k n : ℕ) (words : List (ℕ × ℕ)) → ((i : ℕ) → StoresIn s (j ++ es) q k n i → i < length j) → IsContent s j q k n words → IsContent s (j ++ es) q k n words
+content_on s j es q k n words within content = record {
+  places = content.places;
+  each = λ i. (λ h. stores_in_longer s j es q k n i ((content.each i).0 h), λ x. (content.each i).1 (stores_in_shorter s j es q k n i (within i x) x));
+  rising = content.rising;
+  sums = record_moved (λ (i : ℕ). page_write s (slice_get j i)) (λ (i : ℕ). page_write s (slice_get (j ++ es) i)) content.places content.places words (λ page. sym (page_after_longer s j es page content.places inside)) content.sums;
+}
+  where
+    inside : (i : ℕ) → Has content.places i → i < length j
+    inside i h = let x = (content.each i).0 h in at_within j i (record { processor = q; kind = Store x.0 x.1 }) x.2
+
+-- so through others' events
+pub content_others : (s : Sizes) (j es : List Event) (q k n : ℕ) (words : List (ℕ × ℕ)) → ((m : ℕ) (e : Event) → At es m e → e.processor ≢ q) → IsContent s j q k n words → IsContent s (j ++ es) q k n words
+content_others s j es q k n words away = content_on s j es q k n words (λ i x.
+    let e : Event = record { processor = q; kind = Store x.0 x.1 } in
+    elim (append_cases j es i e x.2) [ inl h ↦ h.0 | inr h ↦ absurd (away h.0 e h.2 refl) ])
+
+-- through the closing event
+pub content_closing : (s : Sizes) (j : List Event) (e : Event) (q k n : ℕ) (words : List (ℕ × ℕ)) → is_closing e.kind ≡ true → IsContent s j q k n words → IsContent s (j ++ e ∷ []) q k n words
+content_closing s j e q k n words closes = content_on s j (e ∷ []) q k n words (λ i x.
+    let f : Event = record { processor = q; kind = Store x.0 x.1 } in
+    elim (push_cases j e i f x.2) [ inl h ↦ h.0 | inr h ↦ absurd (true≢false (sym closes ∙ ap (λ (g : Event). is_closing g.kind) h.1)) ])
+
+-- and, once the interval is closed, through all events
+pub content_closed : (s : Sizes) (j es : List Event) (q k n : ℕ) (words : List (ℕ × ℕ)) → k < count_of is_closing j q → IsContent s j q k n words → IsContent s (j ++ es) q k n words
+content_closed s j es q k n words closed = content_on s j es q k n words (λ i x. elim (cases_lt i (length j)) [ inl less ↦ less | inr from ↦ absurd (late i x from) ])
+  where
+    late : (i : ℕ) → StoresIn s (j ++ es) q k n i → length j ≤ i → ⊥
+    late i x from =
+        let whole : interval_at (j ++ es) q (length j) ≡ count_of is_closing j q = ap (λ (xs : List Event). count_of is_closing xs q) (take-append_seam j es) in
+        let up = count_of-mono is_closing (j ++ es) (length j) i q from in
+        let same = x.4 in
+        omega arith
+
+-- an interval that comes to no word stores nothing in the page
+pub content_none : (s : Sizes) (j : List Event) (q k n i : ℕ) → IsContent s j q k n [] → StoresIn s j q k n i → ⊥
+content_none s j q k n i content x =
+    let h = (content.each i).1 x in
+    let last = last_exists (λ (m : ℕ). page_write s (slice_get j m)) content.places h.0 (x.0 % s.words) x.1 i h.1 (store_writes s j i q x.0 x.1 x.2) in
+    has-nil (x.0 % s.words, last.0) ((content.sums.each (x.0 % s.words) last.0).1 last.1)
+
+-- each word that it comes to has a store
+pub content_word : (s : Sizes) (j : List Event) (q k n o v : ℕ) (words : List (ℕ × ℕ)) → IsContent s j q k n words → Has words (o, v) → (i : ℕ) × (a : ℕ) × Does j i q (Store a v) × (a / s.words ≡ n) × (a % s.words ≡ o) × (interval_at j q i ≡ k)
+content_word s j q k n o v words content h =
+    let l = (content.sums.each o v).0 h in
+    let x = (content.each l.item).0 (l.place, l.at) in
+    let e = some_pair_parts (x.0 % s.words) o x.1 v (sym (store_writes s j l.item q x.0 x.1 x.2) ∙ l.writes) in
+    let P : ℕ → Type 0 = λ w. Does j l.item q (Store x.0 w) in
+    (l.item, x.0, subst P e.1 x.2, x.3, e.0, x.4)
+
+-- and lies within the page
+pub content_within : (s : Sizes) (j : List Event) (q k n o v : ℕ) (words : List (ℕ × ℕ)) → 0 < s.words → IsContent s j q k n words → Has words (o, v) → o < s.words
+content_within s j q k n o v words some content h =
+    let x = content_word s j q k n o v words content h in
+    let below = mod-lt x.1 some in
+    let same = x.4 in
+    omega arith

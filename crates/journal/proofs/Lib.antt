@@ -24,3 +24,4 @@ pub mod Balance
 pub mod Uses
 pub mod Since
 pub mod Contents
+pub mod Gaps

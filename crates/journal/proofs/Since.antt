@@ -1,5 +1,5 @@
 -- The places of a processor's events since its last closing one.
-use Rattle.std.proofs.Common.{ℕ, suc, ◌+◌, ◌≡◌, ◌≢◌, ◌<◌, ◌≤◌, ◌⊎◌, ◌↔◌, ◌==◌, ◌&&◌, inl, inr, List, [], ◌∷◌, ◌++◌, Bool, true, false, cond, fold, map, take, count_by, Option, Some, slice_get, length, arith, refl, sym, ap, ap₂, subst, ◌∙◌, eqb-true, eq-eqb, ne_eqb, true≢false}
+use Rattle.std.proofs.Common.{ℕ, suc, ◌≡◌, ◌≢◌, ◌<◌, ◌≤◌, ◌⊎◌, ◌↔◌, ◌==◌, inl, inr, List, [], ◌∷◌, ◌++◌, Bool, true, false, cond, fold, map, Option, Some, slice_get, length, arith, refl, sym, ap, ap₂, subst, ◌∙◌, eqb-true, eq-eqb, ne_eqb, true≢false}
 use Rattle.std.proofs.lemmas.Bool.{cases_eq}
 use Rattle.std.proofs.lemmas.List.{map-append}
 use Rattle.std.proofs.lemmas.List.Sums.{fold-append}
@@ -66,9 +66,10 @@ open_longer j e p i inner x =
 
 -- an open place is one of before, or the last
 open_cases : (j : List Event) (e : Event) (p i : ℕ) → (e.processor ≡ p → is_closing e.kind ≡ false) → IsOpenAt (j ++ e ∷ []) p i → IsOpenAt j p i ⊎ ((i ≡ length j) × (e.processor ≡ p))
-open_cases j e p i inner x = elim (push_cases j e i x.event x.at)
-  [ inl h ↦ (let within : i < length j = h.0 in inl (record { event = x.event; at = h.1; mine = x.mine; open_at = x.open_at; number = sym (count_of-front is_closing j (e ∷ []) i p (omega arith)) ∙ x.number ∙ closed_more j e p inner }))
-  | inr h ↦ inr (h.0, ap (λ (f : Event). f.processor) h.1 ∙ x.mine) ]
+open_cases j e p i inner x = elim (push_cases j e i x.event x.at) [
+  | inl h ↦ (let within : i < length j = h.0 in inl (record { event = x.event; at = h.1; mine = x.mine; open_at = x.open_at; number = sym (count_of-front is_closing j (e ∷ []) i p (omega arith)) ∙ x.number ∙ closed_more j e p inner }))
+  | inr h ↦ inr (h.0, ap (λ (f : Event). f.processor) h.1 ∙ x.mine)
+]
 
 -- the events at places of before
 events_longer : (j : List Event) (e : Event) (p : ℕ) (places : List ℕ) → AreOpen j p places → ◌≡◌ {A = List (Option Event)} (map (slice_get (j ++ e ∷ [])) places) (map Some (since j p))
@@ -89,14 +90,15 @@ open_closed j e p mine closes = record {
 }
   where
     none : (i : ℕ) → IsOpenAt (j ++ e ∷ []) p i → ⊥
-    none i x = elim (push_cases j e i x.event x.at)
-      [ inl h ↦ (let front : interval_at (j ++ e ∷ []) p i ≡ interval_at j p i = count_of-front is_closing j (e ∷ []) i p (omega (arith, h.0)) in
-                 let most : interval_at j p i ≤ count_of is_closing j p = count_of-take-le is_closing j i p in
-                 let sum = count_of-append is_closing j (e ∷ []) p in
-                 let same = x.number in
-                 let one : count_of is_closing (e ∷ []) p ≡ 1 = rw (eq-eqb e.processor p mine, closes) in
-                 omega arith)
-      | inr h ↦ true≢false (sym closes ∙ ap (λ (f : Event). is_closing f.kind) h.1 ∙ x.open_at) ]
+    none i x = elim (push_cases j e i x.event x.at) [
+      | inl h ↦ (let front : interval_at (j ++ e ∷ []) p i ≡ interval_at j p i = count_of-front is_closing j (e ∷ []) i p (omega (arith, h.0)) in
+          let most : interval_at j p i ≤ count_of is_closing j p = count_of-take-le is_closing j i p in
+          let sum = count_of-append is_closing j (e ∷ []) p in
+          let same = x.number in
+          let one : count_of is_closing (e ∷ []) p ≡ 1 = rw (eq-eqb e.processor p mine, closes) in
+          omega arith)
+      | inr h ↦ true≢false (sym closes ∙ ap (λ (f : Event). is_closing f.kind) h.1 ∙ x.open_at)
+    ]
 
 open_more : (j : List Event) (e : Event) (p : ℕ) (places : List ℕ) → e.processor ≡ p → is_closing e.kind ≡ false → AreOpen j p places → AreOpen (j ++ e ∷ []) p (places ++ length j ∷ [])
 open_more j e p places mine inner open_places = record {
@@ -107,6 +109,7 @@ open_more j e p places mine inner open_places = record {
   where
     last : (i : ℕ) → length j ≡ i → IsOpenAt (j ++ e ∷ []) p i
     last i is = subst (IsOpenAt (j ++ e ∷ []) p) is (record { event = e; at = at_last j e; mine = mine; open_at = inner; number = ap (λ (xs : List Event). count_of is_closing xs p) (take-append_seam j (e ∷ [])) ∙ sym (closed_more j e p (λ _. inner)) })
+
     before : (a b : ℕ) → Has places a → Has (length j ∷ []) b → a < b
     before a b old new =
         let x = (open_places.each a).0 old in
@@ -120,10 +123,12 @@ open_places j p = push_induction (λ xs. (places : List ℕ) × AreOpen xs p pla
   where
     start : AreOpen [] p []
     start = record { each = λ i. (λ h. absurd (has-nil i h), λ x. absurd (has-nil x.event (i, x.at))); rising = in_order-nil (λ i m. i < m); events = refl }
+
     step : (xs : List Event) (e : Event) → ((places : List ℕ) × AreOpen xs p places) → (places : List ℕ) × AreOpen (xs ++ e ∷ []) p places
-    step xs e ih = elim (cases_eq e.processor p)
-      [ inl mine ↦ own xs e ih mine (is_closing e.kind) refl
-      | inr away ↦ (ih.0, open_other xs e p ih.0 away ih.1) ]
+    step xs e ih = elim (cases_eq e.processor p) [
+      | inl mine ↦ own xs e ih mine (is_closing e.kind) refl
+      | inr away ↦ (ih.0, open_other xs e p ih.0 away ih.1)
+    ]
       where
         own : (xs : List Event) (e : Event) → ((places : List ℕ) × AreOpen xs p places) → e.processor ≡ p → (b : Bool) → is_closing e.kind ≡ b → (places : List ℕ) × AreOpen (xs ++ e ∷ []) p places
         own xs e ih mine true closes = ([], open_closed xs e p mine closes)
