@@ -122,3 +122,14 @@ closes_first j q i c m a x does from closes = let P : ℕ → Type 0 = λ r. Clo
 -- q's event is in another's past exactly where the closing event of its interval is
 pub closed_past : (j : List Event) (p q i c : ℕ) (a : Kind) → ClosedAt j i c → Does j i q a → q ≢ p → InPast j p i ↔ InPast j p c
 closed_past j p q i c a x does apart = interval_past j p i c x (λ e. apart (sym (closed_of j q i c a x does) ∙ e))
+
+-- an interval is closed at one place
+pub closed_once : (j : List Event) (i c d : ℕ) → ClosedAt j i c → ClosedAt j i d → c ≡ d
+closed_once j i c d x y =
+    let same : x.event.processor ≡ y.event.processor = closed_of j y.event.processor i c y.event.kind x y.at in
+    let less = x.before in
+    let later = y.before in
+    let P : ℕ → ℕ → Type 0 = λ q m. ClosesAt j q m in
+    let up = closer_least j i c d x (omega arith) (subst (λ q. P q d) (sym same) (closer_closes j i d y)) in
+    let down = closer_least j i d c y (omega arith) (subst (λ q. P q c) same (closer_closes j i c x)) in
+    omega arith

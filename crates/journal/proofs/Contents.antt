@@ -148,12 +148,16 @@ content_closed s j es q k n words closed = content_on s j es q k n words (λ i x
         let same = x.4 in
         omega arith
 
--- an interval that comes to no word stores nothing in the page
-pub content_none : (s : Sizes) (j : List Event) (q k n i : ℕ) → IsContent s j q k n [] → StoresIn s j q k n i → ⊥
-content_none s j q k n i content x =
+-- each store of an interval has a word at its offset
+pub content_has : (s : Sizes) (j : List Event) (q k n i : ℕ) (words : List (ℕ × ℕ)) → IsContent s j q k n words → (x : StoresIn s j q k n i) → (v : ℕ) × Has words (x.0 % s.words, v)
+content_has s j q k n i words content x =
     let h = (content.each i).1 x in
     let last = last_exists (λ (m : ℕ). page_write s (slice_get j m)) content.places h.0 (x.0 % s.words) x.1 i h.1 (store_writes s j i q x.0 x.1 x.2) in
-    has-nil (x.0 % s.words, last.0) ((content.sums.each (x.0 % s.words) last.0).1 last.1)
+    (last.0, (content.sums.each (x.0 % s.words) last.0).1 last.1)
+
+-- an interval that comes to no word stores nothing in the page
+pub content_none : (s : Sizes) (j : List Event) (q k n i : ℕ) → IsContent s j q k n [] → StoresIn s j q k n i → ⊥
+content_none s j q k n i content x = let h = content_has s j q k n i [] content x in has-nil (x.0 % s.words, h.0) h.1
 
 -- each word that it comes to has a store
 pub content_word : (s : Sizes) (j : List Event) (q k n o v : ℕ) (words : List (ℕ × ℕ)) → IsContent s j q k n words → Has words (o, v) → (i : ℕ) × (a : ℕ) × Does j i q (Store a v) × (a / s.words ≡ n) × (a % s.words ≡ o) × (interval_at j q i ≡ k)

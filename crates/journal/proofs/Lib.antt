@@ -25,3 +25,5 @@ pub mod Uses
 pub mod Since
 pub mod Contents
 pub mod Gaps
+pub mod MissingGroups
+pub mod MissingLaws

@@ -15,3 +15,4 @@ pub mod Blocks
 pub mod Brings
 pub mod Waits
 pub mod Groups
+pub mod Missing

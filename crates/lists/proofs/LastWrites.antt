@@ -153,10 +153,13 @@ last_exists f xs k o u x at writes = go (word_written f words xs o word found)
   where
     words : List ℕ
     words = replicate (suc o) 0
+
     word : ℕ
     word = get_or (written f words xs) o 0
+
     found : slice_get (written f words xs) o ≡ Some word
     found = slice_get-get_or (written f words xs) o 0 (rw (length-written, length-replicate) (omega arith))
+
     go : LastWrite f xs o word ⊎ ((slice_get words o ≡ Some word) × Unwritten f xs o) → (v : ℕ) × LastWrite f xs o v
     go (inl l) = (word, l)
     go (inr n) = absurd (n.1 k x u at writes)

@@ -1,5 +1,5 @@
 -- What a filter and a function make of a list's items and their order.
-use Rattle.std.proofs.Common.{ℕ, zero, suc, ◌≡◌, ◌≢◌, ◌<◌, ◌⊎◌, ◌↔◌, inl, inr, List, [], ◌∷◌, ◌++◌, Bool, true, false, cond, filter, map, Some, slice_get, arith, refl, sym, ap, ap₂, subst, ◌∙◌, true≢false}
+use Rattle.std.proofs.Common.{suc, ◌≡◌, ◌↔◌, inl, inr, List, [], ◌∷◌, Bool, true, false, cond, filter, map, Some, arith, refl, sym, ap, ap₂, ◌∙◌, true≢false}
 use Rattle.lists.specs.Places.{Has, InOrder}
 use Rattle.lists.proofs.Joined.{has-nil, has-cons, in_order-nil, in_order-cons, in_order_tail}
 
@@ -10,14 +10,15 @@ has-filter {A} pick (y ∷ xs) x = go (pick y) refl (has-filter pick xs x)
   where
     here : pick y ≡ true → Has xs x × (pick x ≡ true) → Has (y ∷ xs) x × (pick x ≡ true)
     here e h = ((suc h.0.0, h.0.1), h.1)
+
     go : (b : Bool) → pick y ≡ b → (Has (filter pick xs) x ↔ (Has xs x × (pick x ≡ true))) → Has (cond b (y ∷ filter pick xs) (filter pick xs)) x ↔ (Has (y ∷ xs) x × (pick x ≡ true))
     go true e ih = (
       λ h. elim ((has-cons y (filter pick xs) x).0 h) [ inl same ↦ ((0, ap Some same), ap pick (sym same) ∙ e) | inr m ↦ (let r = ih.0 m in ((suc r.0.0, r.0.1), r.1)) ],
-      λ h. elim ((has-cons y xs x).0 h.0) [ inl same ↦ (0, ap Some same) | inr m ↦ (let r = ih.1 (m, h.1) in (suc r.0, r.1)) ]
+      λ h. elim ((has-cons y xs x).0 h.0) [ inl same ↦ (0, ap Some same) | inr m ↦ (let r = ih.1 (m, h.1) in (suc r.0, r.1)) ],
     )
     go false e ih = (
       λ h. let r = ih.0 h in ((suc r.0.0, r.0.1), r.1),
-      λ h. elim ((has-cons y xs x).0 h.0) [ inl same ↦ absurd (true≢false (sym h.1 ∙ ap pick (sym same) ∙ e)) | inr m ↦ ih.1 (m, h.1) ]
+      λ h. elim ((has-cons y xs x).0 h.0) [ inl same ↦ absurd (true≢false (sym h.1 ∙ ap pick (sym same) ∙ e)) | inr m ↦ ih.1 (m, h.1) ],
     )
 
 -- a filter keeps the order
@@ -27,6 +28,7 @@ in_order-filter {A} R pick (y ∷ xs) h = go (pick y) (in_order-filter R pick xs
   where
     first : (b : A) → Has (filter pick xs) b → R y b
     first b m = let r = (has-filter pick xs b).0 m in h 0 (suc r.0.0) y b (omega arith) refl r.0.1
+
     go : (b : Bool) → InOrder R (filter pick xs) → InOrder R (cond b (y ∷ filter pick xs) (filter pick xs))
     go true ih = in_order-cons R y (filter pick xs) first ih
     go false ih = ih
