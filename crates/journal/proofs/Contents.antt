@@ -175,3 +175,7 @@ content_within s j q k n o v words some content h =
     let below = mod-lt x.1 some in
     let same = x.4 in
     omega arith
+
+-- and an interval that comes to some word stores in the page
+pub content_some : (s : Sizes) (j : List Event) (q k n : ℕ) (w : ℕ × ℕ) (words : List (ℕ × ℕ)) → IsContent s j q k n (w ∷ words) → (i : ℕ) × StoresIn s j q k n i
+content_some s j q k n w words content = let x = content_word s j q k n w.0 w.1 (w ∷ words) content (0, refl) in (x.0, (x.1, w.1, x.2, x.3, x.5))

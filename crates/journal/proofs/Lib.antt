@@ -27,3 +27,4 @@ pub mod Contents
 pub mod Gaps
 pub mod MissingGroups
 pub mod MissingLaws
+pub mod MissingKept
