@@ -6,12 +6,11 @@ use Rattle.std.proofs.lemmas.Bool.{cases_eq, cases_order}
 use Rattle.journal.specs.declared.event.Event.{Event}
 use Rattle.journal.specs.declared.event.Kind.{Kind}
 use Rattle.journal.specs.declared.event.Kind.TheVariants.{Load, Store}
-use Rattle.journal.specs.Sizes.{Sizes, addresses}
 use Rattle.journal.specs.Events.{At, address_of}
 use Rattle.journal.specs.Order.{HappensBefore}
 use Rattle.journal.specs.Order.Link.{same}
 use Rattle.journal.specs.Order.HappensBefore.{edge}
-use Rattle.journal.specs.WellFormed.{Does, KindInRange}
+use Rattle.journal.specs.WellFormed.{Does}
 use Rattle.journal.specs.Loads.{LatestStore, IsAnswer, Explained}
 use Rattle.journal.specs.Races.{Race, Conflict, IsFirstRace, RaceFree}
 use Rattle.journal.specs.Flat.{flat_write, memory_after, Replays}
@@ -64,15 +63,15 @@ answers_last j k i p a v w explained free less loads l = go (explained i p a v l
     go (inl n) = absurd (ordered l.place l.item.processor w i p (Load a v) before less refl stores loads (n.1 l.place l.item.processor w stores))
     go (inr s) = latest s (cases_order l.place s.place)
 
--- up to a place before which no race ends, an explained journal replays
-pub flat_up_to : (s : Sizes) (j : List Event) (k : ℕ) → ((i : ℕ) (e : Event) → At j i e → KindInRange s e.kind) → Explained j → ((m n : ℕ) → n < k → ¬ Race j m n) → Replays (replicate (addresses s) 0) (take k j)
-flat_up_to s j k ranges explained free i p a v loads = subst P (sym (take-take i k j before_k)) (found ∙ ap Some (go (word_written f memory (take i j) a word found)))
+-- with loads in range: up to a place before which no race ends, an explained journal replays
+pub flat_up_to : (size : ℕ) (j : List Event) (k : ℕ) → ((i p a v : ℕ) → Does j i p (Load a v) → a < size) → Explained j → ((m n : ℕ) → n < k → ¬ Race j m n) → Replays (replicate size 0) (take k j)
+flat_up_to size j k ranges explained free i p a v loads = subst P (sym (take-take i k j before_k)) (found ∙ ap Some (go (word_written f memory (take i j) a word found)))
   where
     f : Event → Option (ℕ × ℕ)
     f e = flat_write e.kind
 
     memory : List ℕ
-    memory = replicate (addresses s) 0
+    memory = replicate size 0
 
     P : List Event → Type 0
     P es = slice_get (memory_after memory es) a ≡ Some v
@@ -90,10 +89,10 @@ flat_up_to s j k ranges explained free i p a v loads = subst P (sym (take-take i
     word = get_or (memory_after memory (take i j)) a 0
 
     found : slice_get (memory_after memory (take i j)) a ≡ Some word
-    found = slice_get-get_or (memory_after memory (take i j)) a 0 (rw (length-written, length-replicate) (ranges i (record { processor = p; kind = Load a v }) does))
+    found = slice_get-get_or (memory_after memory (take i j)) a 0 (rw (length-written, length-replicate) (ranges i p a v does))
 
     untouched : (slice_get memory a ≡ Some word) × Unwritten f (take i j) a → IsAnswer j i a v → word ≡ v
-    untouched n (inl z) = sym (slice_get-replicate_found (addresses s) 0 word a n.0) ∙ sym z.0
+    untouched n (inl z) = sym (slice_get-replicate_found size 0 word a n.0) ∙ sym z.0
     untouched n (inr x) = absurd (n.1 x.place (record { processor = x.by; kind = Store a v }) v (slice_get-take j i x.place (goes_forward j x.before) ∙ x.stores) refl)
 
     go : LastWrite f (take i j) a word ⊎ ((slice_get memory a ≡ Some word) × Unwritten f (take i j) a) → word ≡ v
@@ -101,9 +100,9 @@ flat_up_to s j k ranges explained free i p a v loads = subst P (sym (take-take i
     go (inr n) = untouched n (explained i p a v does)
 
 -- up to the second event of its first race, an explained journal replays
-pub flat_before_race : (s : Sizes) (j : List Event) (i k : ℕ) → ((m : ℕ) (e : Event) → At j m e → KindInRange s e.kind) → Explained j → IsFirstRace j i k → Replays (replicate (addresses s) 0) (take k j)
-flat_before_race s j i k ranges explained first = flat_up_to s j k ranges explained (λ m n h r. let least : k ≤ n = first.least_second m n r in absurd (omega arith))
+pub flat_before_race : (size : ℕ) (j : List Event) (i k : ℕ) → ((m p a v : ℕ) → Does j m p (Load a v) → a < size) → Explained j → IsFirstRace j i k → Replays (replicate size 0) (take k j)
+flat_before_race size j i k ranges explained first = flat_up_to size j k ranges explained (λ m n h r. let least : k ≤ n = first.least_second m n r in absurd (omega arith))
 
 -- an explained journal without a race replays whole
-pub flat_memory : (s : Sizes) (j : List Event) → ((i : ℕ) (e : Event) → At j i e → KindInRange s e.kind) → Explained j → RaceFree j → Replays (replicate (addresses s) 0) j
-flat_memory s j ranges explained free = subst (Replays (replicate (addresses s) 0)) (take_all (length j) j (le_refl (length j))) (flat_up_to s j (length j) ranges explained (λ m n h. free m n))
+pub flat_memory : (size : ℕ) (j : List Event) → ((i p a v : ℕ) → Does j i p (Load a v) → a < size) → Explained j → RaceFree j → Replays (replicate size 0) j
+flat_memory size j ranges explained free = subst (Replays (replicate size 0)) (take_all (length j) j (le_refl (length j))) (flat_up_to size j (length j) ranges explained (λ m n h. free m n))

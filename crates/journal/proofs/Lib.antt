@@ -28,3 +28,4 @@ pub mod Gaps
 pub mod MissingGroups
 pub mod MissingLaws
 pub mod MissingKept
+pub mod Counted
