@@ -89,10 +89,15 @@ gap_block s j block p n i is none = (there, back)
     back : InGap s j p n i → InGap s (j ++ block) p n i
     back g = (gap_is s (j ++ block) p n i).1 ((block_past j block p i is).1 (inl g.past), stores_longer s j block n i g.store, old g)
 
--- the missing records, applied to a copy, make it lawful under a block that stores nothing in the page
+-- the missing records, applied to a copy, make it lawful
+pub fetched_gap : (s : Sizes) (j : List Event) (p n : ℕ) (page : List ℕ) (groups : List (List ℕ)) (records : List (List (ℕ × ℕ))) → AreRecordsOf (λ (i : ℕ). page_write s (slice_get j i)) groups records → ((i : ℕ) → Has (concat groups) i ↔ InGap s j p n i) → IsOnce (concat groups) → InOrder (λ i k. ¬ HappensBefore j k i) (concat groups) → IsCopy s j p n page → Lawful s j p n (records_applied page records)
+fetched_gap s j p n page groups records are each once extends copy =
+    subst (Lawful s j p n) (sym (records_same (λ (i : ℕ). page_write s (slice_get j i)) page are)) (fetched s j p (Brought j p n) n page (concat groups) (λ i x. brought_past j p n i) copy.closed (λ i. (λ h. (gap_is s j p n i).0 ((each i).0 h), λ x. (each i).1 ((gap_is s j p n i).1 x))) once extends copy.image)
+
+-- so under a block that stores nothing in the page
 pub open_fetch : (s : Sizes) (j block : List Event) (p n : ℕ) (page : List ℕ) (groups : List (List ℕ)) (records : List (List (ℕ × ℕ))) → AreRecordsOf (λ (i : ℕ). page_write s (slice_get j i)) groups records → ((i : ℕ) → Has (concat groups) i ↔ InGap s j p n i) → IsOnce (concat groups) → InOrder (λ i k. ¬ HappensBefore j k i) (concat groups) → ((k : ℕ) (e : Event) → At block k e → write_in s n e.kind ≡ None) → IsCopy s j p n page → OpenLawful s j block p n (records_applied page records)
 open_fetch s j block p n page groups records are each once extends none copy = record {
   base = records_applied page records;
-  lawful = subst (Lawful s j p n) (sym (records_same (λ (i : ℕ). page_write s (slice_get j i)) page are)) (fetched s j p (Brought j p n) n page (concat groups) (λ i x. brought_past j p n i) copy.closed (λ i. (λ h. (gap_is s j p n i).0 ((each i).0 h), λ x. (each i).1 ((gap_is s j p n i).1 x))) once extends copy.image);
+  lawful = fetched_gap s j p n page groups records are each once extends copy;
   gives = sym (written_nothing (λ (e : Event). write_in s n e.kind) (records_applied page records) block none);
 }

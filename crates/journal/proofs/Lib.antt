@@ -29,3 +29,4 @@ pub mod MissingGroups
 pub mod MissingLaws
 pub mod MissingKept
 pub mod Counted
+pub mod Pages

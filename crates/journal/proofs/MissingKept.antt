@@ -12,7 +12,7 @@ use Rattle.journal.specs.Copies.{InGap, StoredInGap}
 use Rattle.journal.specs.Brought.{NoGap}
 use Rattle.journal.specs.Blocks.{IsBlock}
 use Rattle.journal.specs.Groups.{StoresIn, IsContent}
-use Rattle.journal.specs.Missing.{Missing, ClosesBefore, InClosingOrder, AreMissing}
+use Rattle.journal.specs.Missing.{Missing, ClosesBefore, InClosingOrder, AreMissing, AreNews}
 use Rattle.lists.specs.Places.{Has}
 use Rattle.lists.proofs.Joined.{has-nil, has-append, in_order_weaker}
 use Rattle.journal.proofs.Places.{at_within, at_longer, at_shorter, count_of-front, count_of-within}
@@ -20,7 +20,7 @@ use Rattle.journal.proofs.Stores.{stores_within, store_same}
 use Rattle.journal.proofs.Complete.{gap_block}
 use Rattle.journal.proofs.IntervalNumbers.{number_closed}
 use Rattle.journal.proofs.Gaps.{gap_apart, gap_others, gap_taken}
-use Rattle.journal.proofs.Contents.{content_closed}
+use Rattle.journal.proofs.Contents.{content_on, content_closed}
 
 -- nothing is missing where there is no gap
 pub none_missing : (s : Sizes) (j : List Event) (p n : ℕ) → NoGap s j p n → AreMissing s j p n []
@@ -102,8 +102,8 @@ order_on j es missing = in_order_weaker (λ (x y : Missing). ClosesBefore j x.ow
     }
 
 -- an event by which p gets to know of others' adds the intervals between its timestamps that store in the page
-pub missing_taken : (s : Sizes) (j : List Event) (p n : ℕ) (k : Kind) (t t' : ℕ → ℕ) (missing new : List Missing) → is_taking k ≡ true → IsTimeOf j p t → IsTimeOf (j ++ record { processor = p; kind = k } ∷ []) p t' → ((q m : ℕ) → ((x : Missing) × Has new x × (x.owner ≡ q) × (x.number ≡ m)) ↔ ((i : ℕ) × StoresIn s j q m n i × (q ≢ p) × (t q ≤ m) × (m < t' q))) → ((x : Missing) → Has new x → IsContent s (j ++ record { processor = p; kind = k } ∷ []) x.owner x.number n x.words) → AreMissing s j p n missing → AreMissing s (j ++ record { processor = p; kind = k } ∷ []) p n (missing ++ new)
-missing_taken s j p n k t t' missing new takes time after news contents are = record { each = λ q m. (λ x. there q m x.0 x.2 x.3 ((has-append missing new x.0).0 x.1), back q m); contents = λ x h. elim ((has-append missing new x).0 h) [ inl old ↦ contents_on s j (e ∷ []) p n missing are x old | inr now ↦ contents x now ] }
+pub missing_taken : (s : Sizes) (j : List Event) (p n : ℕ) (k : Kind) (t t' : ℕ → ℕ) (missing new : List Missing) → is_taking k ≡ true → IsTimeOf j p t → IsTimeOf (j ++ record { processor = p; kind = k } ∷ []) p t' → AreNews s j p n t t' new → AreMissing s j p n missing → AreMissing s (j ++ record { processor = p; kind = k } ∷ []) p n (missing ++ new)
+missing_taken s j p n k t t' missing new takes time after news are = record { each = λ q m. (λ x. there q m x.0 x.2 x.3 ((has-append missing new x.0).0 x.1), back q m); contents = λ x h. elim ((has-append missing new x).0 h) [ inl old ↦ contents_on s j (e ∷ []) p n missing are x old | inr now ↦ now_on x now ] }
   where
     e : Event
     e = record { processor = p; kind = k }
@@ -113,6 +113,12 @@ missing_taken s j p n k t t' missing new takes time after news contents are = re
 
     number : (q i a v : ℕ) → Does j i q (Store a v) → interval_at (j ++ e ∷ []) q i ≡ interval_at j q i
     number q i a v does = count_of-front is_closing j (e ∷ []) i q (le_of_lt (at_within j i (record { processor = q; kind = Store a v }) does))
+
+    old : (q i a v : ℕ) → Does (j ++ e ∷ []) i q (Store a v) → Does j i q (Store a v)
+    old q i a v does = elim (push_cases j e i (record { processor = q; kind = Store a v }) does) [ inl h ↦ h.1 | inr h ↦ absurd (true≢false (sym takes ∙ ap (λ (f : Event). is_taking f.kind) h.1)) ]
+
+    now_on : (x : Missing) → Has new x → IsContent s (j ++ e ∷ []) x.owner x.number n x.words
+    now_on x h = content_on s j (e ∷ []) x.owner x.number n x.words (λ i y. at_within j i (record { processor = x.owner; kind = Store y.0 y.1 }) (old x.owner i y.0 y.1 y.2)) (news.contents x h)
 
     from_gap : (q m : ℕ) → ((a : ℕ) × StoredInGap s j p n (q, m, a)) → (a : ℕ) × StoredInGap s (j ++ e ∷ []) p n (q, m, a)
     from_gap q m x =
@@ -131,14 +137,11 @@ missing_taken s j p n k t t' missing new takes time after news contents are = re
 
     there : (q m : ℕ) (x : Missing) → x.owner ≡ q → x.number ≡ m → Has missing x ⊎ Has new x → (a : ℕ) × StoredInGap s (j ++ e ∷ []) p n (q, m, a)
     there q m x mine is (inl h) = from_gap q m ((are.each q m).0 (x, h, mine, is))
-    there q m x mine is (inr h) = from_new q m ((news q m).0 (x, h, mine, is))
+    there q m x mine is (inr h) = from_new q m ((news.each q m).0 (x, h, mine, is))
 
     add : (q m : ℕ) → ((x : Missing) × Has missing x × (x.owner ≡ q) × (x.number ≡ m)) ⊎ ((x : Missing) × Has new x × (x.owner ≡ q) × (x.number ≡ m)) → (x : Missing) × Has (missing ++ new) x × (x.owner ≡ q) × (x.number ≡ m)
     add q m (inl x) = (x.0, (has-append missing new x.0).1 (inl x.1), x.2, x.3)
     add q m (inr x) = (x.0, (has-append missing new x.0).1 (inr x.1), x.2, x.3)
-
-    old : (q i a v : ℕ) → Does (j ++ e ∷ []) i q (Store a v) → Does j i q (Store a v)
-    old q i a v does = elim (push_cases j e i (record { processor = q; kind = Store a v }) does) [ inl h ↦ h.1 | inr h ↦ absurd (true≢false (sym takes ∙ ap (λ (f : Event). is_taking f.kind) h.1)) ]
 
     back : (q m : ℕ) → ((a : ℕ) × StoredInGap s (j ++ e ∷ []) p n (q, m, a)) → (x : Missing) × Has (missing ++ new) x × (x.owner ≡ q) × (x.number ≡ m)
     back q m x =
@@ -150,5 +153,5 @@ missing_taken s j p n k t t' missing new takes time after news contents are = re
         let same : interval_at j q g.0 ≡ m = sym (number q g.0 x.0 g.1 does) ∙ g.4 in
         elim ((gap_taken s j p n q g.0 x.0 g.1 k t t' takes time after does page apart).0 g.3) [
           | inl h ↦ add q m (inl ((are.each q m).1 (x.0, (g.0, g.1, does, h, same))))
-          | inr h ↦ (let le = h.0 in let less = h.1 in add q m (inr ((news q m).1 (g.0, (x.0, g.1, does, page, same), apart, omega arith, omega arith))))
+          | inr h ↦ (let le = h.0 in let less = h.1 in add q m (inr ((news.each q m).1 (g.0, (x.0, g.1, does, page, same), apart, omega arith, omega arith))))
         ]

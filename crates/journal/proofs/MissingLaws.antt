@@ -1,32 +1,31 @@
 -- A fetch of the missing intervals: the copy that it gives, and its three counts.
-use Rattle.std.proofs.Common.{ℕ, ◌≡◌, ◌≢◌, ◌<◌, ◌+◌, ◌*◌, ◌/◌, ◌%◌, div-add-mod', ◌↔◌, List, None, map, length, flat_map, sum_by, arith, refl, sym, ap, ap₂, subst, subst₂, ◌∙◌}
+use Rattle.std.proofs.Common.{ℕ, ◌≡◌, ◌≢◌, ◌<◌, ◌+◌, ◌*◌, ◌/◌, ◌%◌, div-add-mod', ◌↔◌, List, map, length, flat_map, sum_by, arith, refl, sym, ap, ap₂, subst, subst₂, ◌∙◌}
 use Rattle.std.proofs.lemmas.List.{length-map}
 use Rattle.std.proofs.lemmas.List.Concat.{length-flat_map}
 use Rattle.journal.specs.declared.event.Event.{Event}
 use Rattle.journal.specs.Sizes.{Sizes}
-use Rattle.journal.specs.Events.{At, interval_at}
+use Rattle.journal.specs.Events.{interval_at}
 use Rattle.journal.specs.Times.{ClosesAt}
-use Rattle.journal.specs.Copies.{HasCount, StoredInGap, GapCounts}
+use Rattle.journal.specs.Copies.{Lawful, HasCount, StoredInGap, GapCounts}
 use Rattle.journal.specs.Brought.{IsCopy}
-use Rattle.journal.specs.Blocks.{write_in, OpenLawful}
 use Rattle.journal.specs.Groups.{IsContent}
 use Rattle.journal.specs.Missing.{Missing, ClosesBefore, InClosingOrder, AreMissing}
 use Rattle.lists.specs.Places.{Has, InOrder, IsOnce}
 use Rattle.lists.specs.Records.{records_applied}
 use Rattle.lists.proofs.Joined.{has-flat_map, in_order-flat_map, has-map, in_order-map, in_order_weaker}
-use Rattle.journal.proofs.Complete.{open_fetch}
+use Rattle.journal.proofs.Complete.{fetched_gap}
 use Rattle.journal.proofs.IntervalNumbers.{same_closer}
 use Rattle.journal.proofs.Contents.{content_word, content_has}
 use Rattle.journal.proofs.Stores.{store_same}
 use Rattle.journal.proofs.Gaps.{gap_whole}
 use Rattle.journal.proofs.MissingGroups.{groups_of, groups_gap, groups_extend}
 
--- the missing records, applied in closing order, make the copy lawful under a block that stores nothing in the page
-pub missing_fetched : (s : Sizes) (j block : List Event) (p n : ℕ) (page : List ℕ) (missing : List Missing) → AreMissing s j p n missing → InClosingOrder j missing → ((k : ℕ) (e : Event) → At block k e → write_in s n e.kind ≡ None) → IsCopy s j p n page → OpenLawful s j block p n (records_applied page (map (λ (x : Missing). x.words) missing))
-missing_fetched s j block p n page missing are order nothing copy =
+-- the missing records, applied in closing order, make the copy lawful
+pub missing_fetched : (s : Sizes) (j : List Event) (p n : ℕ) (page : List ℕ) (missing : List Missing) → AreMissing s j p n missing → InClosingOrder j missing → IsCopy s j p n page → Lawful s j p n (records_applied page (map (λ (x : Missing). x.words) missing))
+missing_fetched s j p n page missing are order copy =
     let g = groups_of s j n missing are.contents in
     let e = groups_extend s j n missing g.0 order g.1 in
-    open_fetch s j block p n page g.0 (map (λ (x : Missing). x.words) missing) g.1.records_of (groups_gap s j p n missing g.0 are g.1) e.0 e.1 nothing copy
+    fetched_gap s j p n page g.0 (map (λ (x : Missing). x.words) missing) g.1.records_of (groups_gap s j p n missing g.0 are g.1) e.0 e.1 copy
 
 -- an interval's owner and number
 abbrev pub label : Missing → ℕ × ℕ

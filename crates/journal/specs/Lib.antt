@@ -16,3 +16,4 @@ pub mod Brings
 pub mod Waits
 pub mod Groups
 pub mod Missing
+pub mod Pages

@@ -1,12 +1,12 @@
 -- What a stale copy of a page misses, by intervals.
-use Rattle.std.specs.Prelude.{ℕ, ◌≡◌, ◌<◌, ◌↔◌, List}
+use Rattle.std.specs.Prelude.{ℕ, ◌≡◌, ◌≢◌, ◌<◌, ◌≤◌, ◌↔◌, List}
 use Rattle.journal.specs.declared.event.Event.{Event}
 use Rattle.lists.specs.Places.{Has, InOrder}
 use Rattle.journal.specs.Sizes.{Sizes}
 use Rattle.journal.specs.Events.{interval_at}
 use Rattle.journal.specs.Times.{ClosesAt}
 use Rattle.journal.specs.Copies.{StoredInGap}
-use Rattle.journal.specs.Groups.{IsContent}
+use Rattle.journal.specs.Groups.{StoresIn, IsContent}
 
 -- what the owner's interval with this number comes to in a page
 pub record Missing : Type 0 where
@@ -32,3 +32,8 @@ InClosingOrder j missing = InOrder (λ (x y : Missing). ClosesBefore j x.owner x
 pub record AreMissing (s : Sizes) (j : List Event) (p n : ℕ) (missing : List Missing) : Type 0 where
   pub each : (q k : ℕ) → ((x : Missing) × Has missing x × (x.owner ≡ q) × (x.number ≡ k)) ↔ ((a : ℕ) × StoredInGap s j p n (q, k, a))
   pub contents : (x : Missing) → Has missing x → IsContent s j x.owner x.number n x.words
+
+-- these are others' intervals that store in the page and that the time t' counts and t doesn't
+pub record AreNews (s : Sizes) (j : List Event) (p n : ℕ) (t t' : ℕ → ℕ) (new : List Missing) : Type 0 where
+  pub each : (q m : ℕ) → ((x : Missing) × Has new x × (x.owner ≡ q) × (x.number ≡ m)) ↔ ((i : ℕ) × StoresIn s j q m n i × (q ≢ p) × (t q ≤ m) × (m < t' q))
+  pub contents : (x : Missing) → Has new x → IsContent s j x.owner x.number n x.words
