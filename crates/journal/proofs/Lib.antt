@@ -30,3 +30,4 @@ pub mod MissingLaws
 pub mod MissingKept
 pub mod Counted
 pub mod Pages
+pub mod Dirty

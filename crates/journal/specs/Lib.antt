@@ -17,3 +17,4 @@ pub mod Waits
 pub mod Groups
 pub mod Missing
 pub mod Pages
+pub mod Dirty
