@@ -1,5 +1,5 @@
 -- The join of two timestamps, entry by entry.
-use Rattle.std.proofs.Common.{◌≡◌, ℕ, zero, suc, ◌<◌, List, [], ◌∷◌, length, max, get_or, set, take, refl, ap, sym, ◌∙◌, arith, add-one}
+use Rattle.std.proofs.Common.{◌≡◌, ℕ, zero, suc, ◌<◌, List, [], ◌∷◌, length, max, get_or, set, take, refl, ap, sym, arith}
 use Rattle.std.proofs.Math.Nat.{max-zero, zero-max}
 use Rattle.vtime.specs.Times.{join}
 
@@ -22,7 +22,7 @@ get_or-join (t ∷ ts) (u ∷ us) (suc q) = get_or-join ts us q
 
 -- one more entry taken over
 pub join-take_suc : (ts us : List ℕ) (q : ℕ) → q < length ts → q < length us
-  → join ts (take (suc q) us) ≡ set (join ts (take q us)) q (max (get_or (join ts (take q us)) q 0) (get_or us q 0))
+    → join ts (take (suc q) us) ≡ set (join ts (take q us)) q (max (get_or (join ts (take q us)) q 0) (get_or us q 0))
 join-take_suc [] us q here there = absurd (omega arith)
 join-take_suc (t ∷ ts) [] q here there = absurd (omega arith)
 join-take_suc (t ∷ ts) (u ∷ us) zero here there = ap (λ xs. max t u ∷ xs) (join-nil ts)

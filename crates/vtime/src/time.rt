@@ -6,9 +6,6 @@ use smallvec::SmallVec;
 use std::alloc::Global;
 use std::marker::Model;
 
-/// The most processors that a timestamp has an entry for.
-pub const MOST_PROCESSORS: usize = 16;
-
 /// A vector timestamp: entry q is how many of processor q's intervals have been performed here.
 ///
 /// It has 1 to 16 entries, and they lie in the value itself, so no call takes memory. The order that
@@ -125,15 +122,56 @@ fn join_entries(mine: &mut [u64], theirs: &[u64])
 #[cfg(test)]
 mod tests {
     use super::VTime;
+    use std::alloc::Global;
+    use std::process::Abort;
+
+    /// The timestamp with these entries, each below 10.
+    fn stamp(alloc: Global, counts: &[u64]) -> VTime
+        requires some { 1 ≤ length counts.now }
+        requires most { length counts.now ≤ 16 }
+        ensures { length result ≡ length counts.now }
+    {
+        let mut time = VTime::zero(alloc, counts.len());
+        for (q, count) in counts.iter().enumerate() {
+            while time.entry(q) < (*count).min(10) {
+                time.tick(q);
+            }
+        }
+        time
+    }
+
+    fn has_entries(time: &VTime, wanted: &[u64]) -> bool
+        requires { length wanted.now ≡ length time.now }
+    {
+        for (q, count) in wanted.iter().enumerate() {
+            if time.entry(q) != *count {
+                return false;
+            }
+        }
+        true
+    }
 
     #[test]
     fn joins_by_place(rt: HostRuntime) {
-        let mut time = VTime::zero(rt.alloc(), 3);
-        time.tick(0);
-        time.tick(0);
-        for _ in 0..5 {
-            assert!(rt; time.entry(2) < 5);
-            time.tick(2);
-        }
+        let mut time = stamp(rt.alloc(), &[2, 0, 5]);
+        time.join(&stamp(rt.alloc(), &[1, 3, 5]));
+        assert!(rt; has_entries(&time, &[2, 3, 5]));
+        assert!(rt; time.covers(0, 1));
+        assert!(rt; !time.covers(0, 2));
+        assert!(rt; time == stamp(rt.alloc(), &[2, 3, 5]));
+        assert!(rt; time != stamp(rt.alloc(), &[2, 3, 4]));
+    }
+
+    #[test]
+    fn has_sixteen_entries(rt: HostRuntime) {
+        let mut time = VTime::zero(rt.alloc(), 16);
+        assert!(rt; has_entries(&time, &[0; 16]));
+        assert!(rt; !time.covers(15, 0));
+        time.tick(15);
+        assert!(rt; time.covers(15, 0));
+        let before = time.copy();
+        time.join(&VTime::zero(rt.alloc(), 16));
+        assert!(rt; time == before);
+        assert!(rt; has_entries(&before, &[0, 0, 0, 0, 0, 0, 0, 0, 0, 0, 0, 0, 0, 0, 0, 1]));
     }
 }

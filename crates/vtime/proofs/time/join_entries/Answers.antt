@@ -1,4 +1,4 @@
-use Rattle.std.proofs.Common.{add-one, arith, ◌<◌, length, ◌≡◌, ◌∙◌, sym, ap, max, get_or, set, take}
+use Rattle.std.proofs.Common.{add-one, arith, ◌≡◌, ◌∙◌, sym, ap, take}
 use Rattle.std.proofs.lemmas.List.{take_all}
 use Rattle.vtime.specs.Times.{join}
 use Rattle.vtime.proofs.Joins.{join-nil, join-take_suc, get_or-join}
