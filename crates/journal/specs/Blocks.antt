@@ -1,0 +1,38 @@
+-- A processor's open block: events of its own that no journal has yet.
+use Rattle.std.specs.Prelude.{ℕ, ◌≡◌, ◌==◌, ◌/◌, ◌%◌, false, cond, Option, Some, None, List, slice_get, take}
+use Rattle.journal.specs.declared.event.Event.{Event}
+use Rattle.journal.specs.declared.event.Kind.{Kind}
+use Rattle.journal.specs.declared.event.Kind.TheVariants.{Load, Store}
+use Rattle.journal.specs.Sizes.{Sizes}
+use Rattle.journal.specs.Events.{At, is_taking}
+use Rattle.journal.specs.WellFormed.{Does}
+use Rattle.lists.specs.Writes.{written}
+use Rattle.journal.specs.Copies.{Lawful}
+
+-- what an event stores in page n
+abbrev pub write_in : Sizes → ℕ → Kind → Option (ℕ × ℕ)
+write_in s n (Store a v) = cond (a / s.words == n) (Some (a % s.words, v)) None
+write_in s n _ = None
+
+-- page n after the block's stores
+abbrev pub block_done : Sizes → ℕ → List ℕ → List Event → List ℕ
+block_done s n page block = written (λ (e : Event). write_in s n e.kind) page block
+
+-- events of p that take nothing
+abbrev pub IsBlock : ℕ → List Event → Type 0
+IsBlock p block = (k : ℕ) (e : Event) → At block k e → (e.processor ≡ p) × (is_taking e.kind ≡ false)
+
+-- the copy is what the block's stores make of a copy that is lawful before the block
+pub record OpenLawful (s : Sizes) (j block : List Event) (p n : ℕ) (page : List ℕ) : Type 0 where
+  pub base : List ℕ
+  pub lawful : Lawful s j p n base
+  pub gives : page ≡ block_done s n base block
+
+-- each load of the block answers the word of its page, which is lawful, after the block's earlier stores
+pub record BlockAnswers (s : Sizes) (j block : List Event) (p : ℕ) (base : ℕ → List ℕ) : Type 0 where
+  pub lawful : (k a v : ℕ) → Does block k p (Load a v) → Lawful s j p (a / s.words) (base (a / s.words))
+  pub answers : (k a v : ℕ) → Does block k p (Load a v) → slice_get (block_done s (a / s.words) (base (a / s.words)) (take k block)) (a % s.words) ≡ Some v
+
+-- these pages, with another one at n
+abbrev pub with_page : ℕ → List ℕ → (ℕ → List ℕ) → ℕ → List ℕ
+with_page n page base m = cond (m == n) page (base m)

@@ -1,0 +1,14 @@
+pub mod Sizes
+pub mod Events
+pub mod Order
+pub mod WellFormed
+pub mod Pasts
+pub mod Times
+pub mod Loads
+pub mod Races
+pub mod Flat
+pub mod Traffic
+pub mod Copies
+pub mod Intervals
+pub mod Brought
+pub mod Blocks

@@ -1,0 +1,32 @@
+-- Conflicts and races.
+use Rattle.std.specs.Prelude.{ℕ, ◌≡◌, ◌≢◌, ◌<◌, ◌≤◌, ◌⊎◌, List, Some, IsTrue}
+use Rattle.journal.specs.declared.event.Event.{Event}
+use Rattle.journal.specs.Events.{At, address_of, is_store}
+use Rattle.journal.specs.Order.{HappensBefore}
+
+-- one address, and a store at least on one side
+pub record Conflict (e f : Event) : Type 0 where
+  pub address : ℕ
+  pub first : address_of e.kind ≡ Some address
+  pub second : address_of f.kind ≡ Some address
+  pub stores : IsTrue (is_store e.kind) ⊎ IsTrue (is_store f.kind)
+
+-- two accesses that conflict, by two processors, the first of which does not happen before the second
+pub record Race (j : List Event) (i k : ℕ) : Type 0 where
+  pub before : i < k
+  pub first : Event
+  pub second : Event
+  pub first_at : At j i first
+  pub second_at : At j k second
+  pub apart : first.processor ≢ second.processor
+  pub conflict : Conflict first second
+  pub unordered : ¬ HappensBefore j i k
+
+-- the pair with the least second place, and among these the least first one
+pub record IsFirstRace (j : List Event) (i k : ℕ) : Type 0 where
+  pub race : Race j i k
+  pub least_second : (m n : ℕ) → Race j m n → k ≤ n
+  pub least_first : (m : ℕ) → Race j m k → i ≤ m
+
+abbrev pub RaceFree : List Event → Type 0
+RaceFree j = (i k : ℕ) → ¬ Race j i k

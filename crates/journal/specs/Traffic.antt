@@ -1,0 +1,30 @@
+-- What the events cost in messages, records and words.
+use Rattle.std.specs.Prelude.{ℕ, ◌*◌, List, sum_by}
+use Rattle.journal.specs.declared.event.Event.{Event}
+use Rattle.journal.specs.declared.event.Kind.{Kind}
+use Rattle.journal.specs.declared.event.Kind.TheVariants.{Fetch, Acquire, Arrive, Depart, Await}
+
+abbrev pub messages_of : Kind → ℕ
+messages_of (Acquire l) = 2
+messages_of (Await f) = 2
+messages_of Arrive = 1
+messages_of Depart = 1
+messages_of (Fetch n writers records words) = 2 * writers
+messages_of _ = 0
+
+abbrev pub records_of : Kind → ℕ
+records_of (Fetch n writers records words) = records
+records_of _ = 0
+
+abbrev pub words_of : Kind → ℕ
+words_of (Fetch n writers records words) = words
+words_of _ = 0
+
+abbrev pub messages : List Event → ℕ
+messages j = sum_by (λ e. messages_of e.kind) j
+
+abbrev pub records : List Event → ℕ
+records j = sum_by (λ e. records_of e.kind) j
+
+abbrev pub words : List Event → ℕ
+words j = sum_by (λ e. words_of e.kind) j

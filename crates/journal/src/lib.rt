@@ -1,0 +1,7 @@
+//! The journal of a cluster: its events in the order in which they were handed in, and what can be
+//! said of them alone: happens-before, races, replay on one flat memory, traffic.
+#![tactic(auto)]
+
+mod event;
+
+pub use event::{Event, Kind};
