@@ -24,7 +24,7 @@ impl Model for VTime {
 
     ghost view = { λ time. time.entries.items };
 
-    ghost invariant = { λ time. (time.entries.capacity ≡ 16) × (length time.entries.items ≤ 16) };
+    ghost invariant = { λ time. (time.entries.capacity ≡ 16) × (1 ≤ length time.entries.items) × (length time.entries.items ≤ 16) };
 }
 
 impl VTime {
