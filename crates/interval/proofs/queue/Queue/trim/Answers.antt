@@ -1,0 +1,1 @@
+use Rattle.interval.proofs.queue.Queue.trim.Goals as goal
