@@ -1,5 +1,5 @@
 //! A processor's copy of a page: its words, and a dirty bit for each.
-ghost use Rattle.std.specs.Prelude.{◌≡◌, ◌≤◌, ◌<◌, ◌^◌, ◌↔◌, IsTrue, IfOk, IfSome, MatchOption, Some, None, Ok, true, false, length, replicate, slice_get, slice_set};
+ghost use Rattle.std.specs.Prelude.{◌≡◌, ◌≤◌, ◌<◌, ◌^◌, ◌↔◌, IsTrue, IfOk, IfSome, IfNone, Some, None, Ok, true, length, replicate, slice_get, slice_set};
 ghost use Rattle.lists.specs.Records.{record_applied, harvest};
 ghost use Rattle.page.specs.Marks.{marks_of, IsBelow};
 
@@ -114,4 +114,61 @@ impl Page {
     {
         self.dirty = 0;
     }
+
+    /// Whether no word is dirty.
+    pub fn is_clean(&self) -> bool
+        ensures { IsTrue result ↔ IsClean self.now }
+    {
+        self.dirty == 0
+    }
+
+    /// Puts a record's words into an invalid copy. Which words are dirty stays as it was.
+    pub fn apply(&mut self, changes: &Record)
+        requires invalid { self.old.access ≡ Access.Invalid }
+        requires in_range { FitsIn (length self.old.words) changes.now.words }
+        ensures words { self.new.words ≡ record_applied self.old.words changes.now.words }
+        ensures dirty { self.new.dirty ≡ self.old.dirty }
+        ensures access { self.new.access ≡ self.old.access }
+    {
+        for (offset, value) in changes.words() {
+            self.words[*offset] = *value;
+        }
+    }
+
+    /// The record of the dirty words, as words of page `page`: `None` where no word is dirty.
+    /// Costs in the order of what is dirty, and takes memory only where some word is.
+    pub fn harvest(&self, page: usize) -> Result<Option<Record>, AllocError>
+        ensures clean { IsClean self.now → result ≡ Ok None }
+        ensures none { IfOk result (λ r. IfNone r (IsClean self.now)) }
+        ensures page { IfOk result (λ r. IfSome r (λ changes. changes.page ≡ page)) }
+        ensures words { IfOk result (λ r. IfSome r (λ changes. changes.words ≡ harvest 0 self.now.words self.now.dirty)) }
+        ensures fits { IfOk result (λ r. IfSome r (λ changes. FitsIn (length self.now.words) changes.words)) }
+
+        // Whatever stores to a clean page led here, the record does what they did.
+        ensures carries { IfOk result (λ r. CarriesStores self.now r) }
+    {
+        if self.dirty == 0 {
+            return Ok(None);
+        }
+        let words = dirty_words(*self.words.allocator(), &self.words, self.dirty)?;
+        Ok(Some(Record::new(page, words)))
+    }
+}
+
+/// The words whose bits are set, lowest first, each with its offset.
+fn dirty_words(alloc: Global, words: &[u32], dirty: u64) -> Result<Vec<(usize, u32)>, AllocError>
+    requires { IsBelow (length words.now) dirty }
+    ensures { IfOk result (λ found. found.items ≡ harvest 0 words.now (marks_of (length words.now) dirty)) }
+{
+    let mut found = Vec::with_capacity(alloc, dirty.count_ones() as usize)?;
+    let mut rest = dirty;
+    let mut offset = 0;
+    while rest != 0 {
+        let skipped = rest.trailing_zeros();
+        offset += skipped as usize;
+        found.push((offset, words[offset]))?;
+        rest = rest >> skipped >> 1;
+        offset += 1;
+    }
+    Ok(found)
 }
