@@ -9,32 +9,14 @@ use Rattle.page.proofs.Harvested.{harvest_rises, harvest_fits}
 use Rattle.page.proofs.Merged.{carries_record, carries_none}
 use Rattle.page.proofs.pages.Page.harvest.Goals as goal
 
-pub returns-then-self-eq0-clause-none : goal.returns-then-self-eq0-clause-none
-returns-then-self-eq0-clause-none c =
-    let n = length c.self.inside.words.items in
-    let P : Contents → Type 0 = λ q. IsClean q in
-    subst P c.self.view_is (ap (λ (word : ℕ). marks_of n word) c.if-self-eq0.true ∙ marks_of-zero n)
-
-pub returns-then-self-eq0-clause-carries : goal.returns-then-self-eq0-clause-carries
-returns-then-self-eq0-clause-carries c = carries_none c.args.self.now (returns-then-self-eq0-clause-none c)
-
-pub returns-in_err-words-clause-clean : goal.returns-in_err-words-clause-clean
-returns-in_err-words-clause-clean c clean =
-    let p = c.self.inside in
-    let P : Contents → Type 0 = λ q. IsClean q in
-    absurd (c.if-self-eq0.false (zero_from_clean (length p.words.items) p.dirty c.self.invariant.1 (subst P (sym c.self.view_is) clean)))
+pub returns-then-is_clean-clause-carries : goal.returns-then-is_clean-clause-carries
+returns-then-is_clean-clause-carries c = carries_none c.args.self.now (c.is_clean.ensures.0 c.if-is_clean.true)
 
 pub new-requires : goal.new-requires
 new-requires c =
     let words = c.deref.result.now in
     let P : List (ℕ × ℕ) → Type 0 = λ found. IsRising found in
     subst P (sym c.in_ok-words.ensures) (harvest_rises 0 words (marks_of (length words) c.self.inside.dirty))
-
-pub returns-clause-clean : goal.returns-clause-clean
-returns-clause-clean c clean =
-    let p = c.self.inside in
-    let P : Contents → Type 0 = λ q. IsClean q in
-    absurd (c.if-self-eq0.false (zero_from_clean (length p.words.items) p.dirty c.self.invariant.1 (subst P (sym c.self.view_is) clean)))
 
 -- the record has the harvest of the page that the caller sees
 found : (c : goal.After-new) → c.new.result.words ≡ harvest 0 c.args.self.now.words c.args.self.now.dirty
