@@ -1,5 +1,5 @@
 -- The dirty words, one after another.
-use Rattle.std.proofs.Common.{ℕ, zero, suc, ◌≡◌, ◌<◌, ◌≤◌, ◌+◌, ◌*◌, ◌/◌, ◌%◌, ◌^◌, ◌==◌, Bool, true, false, Some, List, [], ◌∷◌, ◌++◌, append_assoc, length, get_or, drop, slice_get, w64, refl, sym, ap, ◌∙◌, subst, arith, inl, inr}
+use Rattle.std.proofs.Common.{ℕ, zero, suc, ◌≡◌, ◌<◌, ◌≤◌, ◌+◌, ◌/◌, ◌%◌, ◌^◌, ◌==◌, Bool, true, false, Some, List, [], ◌∷◌, ◌++◌, append_assoc, length, get_or, drop, slice_get, w64, refl, sym, ap, ◌∙◌, subst, arith, inl, inr}
 use Rattle.std.specs.Int.{bit_at, trailing_zeros}
 use Rattle.std.proofs.Math.Nat.{div-div-eq-div-mul, pow-succ'}
 use Rattle.std.proofs.lemmas.Nat.Bits.{bit_at_lowest, bit_at-suc, bit_at-trailing_zeros}
@@ -50,7 +50,7 @@ pub first_within : (words : List ℕ) (rest : ℕ) → 0 < rest → rest < 2 ^ 6
 first_within words rest some fits below =
     let first = bit_at-trailing_zeros w64 rest some fits in
     elim (cases_lt (trailing_zeros w64 rest) (length words)) [
-        inl within ↦ within
+      | inl within ↦ within
       | inr past ↦ let none = below (trailing_zeros w64 rest) past in absurd (omega arith)
     ]
 

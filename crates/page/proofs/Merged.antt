@@ -1,11 +1,10 @@
 -- A record carries what stores did: the dirty words of one page, put into another.
-use Rattle.std.proofs.Common.{ℕ, zero, suc, ◌≡◌, ◌+◌, Bool, true, false, Option, Some, None, List, [], ◌∷◌, ◌++◌, length, set, replicate, refl, sym, ap, ◌∙◌, append_assoc, arith}
+use Rattle.std.proofs.Common.{ℕ, zero, suc, ◌≡◌, Bool, true, false, Some, None, List, [], ◌∷◌, ◌++◌, length, set, replicate, refl, sym, ap, ◌∙◌, append_assoc, arith}
 use Rattle.std.proofs.lemmas.List.{set_at, length-set, length_push, length-replicate}
-use Rattle.lists.specs.Writes.{written}
 use Rattle.lists.specs.Records.{record_applied, marked, harvest}
 use Rattle.page.specs.Changes.{Changes}
 use Rattle.page.specs.Contents.{Contents, IsClean}
-use Rattle.page.specs.Carries.{stored, carried, IsAfter, CarriesStores}
+use Rattle.page.specs.Carries.{stored, IsAfter, CarriesStores}
 
 -- the page with the marked words in place of its own
 abbrev merged : List ℕ → List ℕ → List Bool → List ℕ

@@ -1,5 +1,4 @@
-use Rattle.std.proofs.Common.{ℕ, ◌<◌, ◌≡◌, ◌+◌, List, [], ◌++◌, length, drop, append-nil, w64, ap, sym, ◌∙◌, arith}
-use Rattle.std.specs.Int.{trailing_zeros}
+use Rattle.std.proofs.Common.{ℕ, ◌≡◌, List, ◌++◌, length, drop, append-nil, ap, sym, ◌∙◌, arith}
 use Rattle.std.proofs.lemmas.List.{length-drop}
 use Rattle.lists.specs.Records.{harvest}
 use Rattle.page.specs.Marks.{marks_of}
@@ -20,7 +19,7 @@ loop-rest-preserved c =
     record {
       within = omega (arith, length-drop l.offset words);
       below = below_more words l.offset l.rest l.invariant.below;
-      so_far = rw c.in_ok-push.ensures.items (found_more l.found.items words (harvest 0 words (marks_of (length words) c.args.dirty)) l.offset l.rest (omega arith) (omega arith) l.invariant.below l.invariant.so_far)
+      so_far = rw c.in_ok-push.ensures.items (found_more l.found.items words (harvest 0 words (marks_of (length words) c.args.dirty)) l.offset l.rest (omega arith) (omega arith) l.invariant.below l.invariant.so_far);
     }
 
 pub returns : goal.returns

@@ -1,10 +1,9 @@
-use Rattle.std.proofs.Common.{ℕ, ◌≡◌, List, Some, length, ap, sym, ◌∙◌, subst}
+use Rattle.std.proofs.Common.{ℕ, ◌≡◌, List, length, ap, sym, ◌∙◌, subst}
 use Rattle.lists.specs.Records.{harvest}
 use Rattle.page.specs.Changes.{IsRising}
-use Rattle.page.specs.Contents.{Contents, IsClean}
+use Rattle.page.specs.Contents.{Contents}
 use Rattle.page.specs.Carries.{FitsIn}
 use Rattle.page.specs.Marks.{marks_of}
-use Rattle.page.proofs.MarkLemmas.{marks_of-zero, zero_from_clean}
 use Rattle.page.proofs.Harvested.{harvest_rises, harvest_fits}
 use Rattle.page.proofs.Merged.{carries_record, carries_none}
 use Rattle.page.proofs.pages.Page.harvest.Goals as goal

@@ -9,6 +9,7 @@ pub returns : goal.returns
 returns c =
     let p = c.self.inside in
     let n = length p.words.items in
-    let P : Contents → Type 0 = λ q. IsClean q in
-    (λ e. subst P c.self.view_is (ap (λ (word : ℕ). marks_of n word) (eqb-true p.dirty 0 e) ∙ marks_of-zero n),
-     λ clean. eq-eqb p.dirty 0 (zero_from_clean n p.dirty c.self.invariant.1 (subst P (sym c.self.view_is) clean)))
+    let P : Contents → Type 0 = λ q. IsClean q in (
+      λ e. subst P c.self.view_is (ap (λ (word : ℕ). marks_of n word) (eqb-true p.dirty 0 e) ∙ marks_of-zero n),
+      λ clean. eq-eqb p.dirty 0 (zero_from_clean n p.dirty c.self.invariant.1 (subst P (sym c.self.view_is) clean)),
+    )

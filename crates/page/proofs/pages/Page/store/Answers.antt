@@ -1,7 +1,6 @@
-use Rattle.std.proofs.Common.{ℕ, ◌<◌, List, Bool, true, length, set, ap, sym, ◌∙◌, arith}
+use Rattle.std.proofs.Common.{◌<◌, true, length, set, ap, ◌∙◌, arith}
 use Rattle.std.proofs.lemmas.List.{length-set}
 use Rattle.page.specs.Contents.{Contents}
-use Rattle.page.specs.Marks.{marks_of}
 use Rattle.page.proofs.MarkLemmas.{marks_of-set, IsBelow-set}
 use Rattle.page.proofs.pages.Page.store.Goals as goal
 
