@@ -12,3 +12,7 @@ pub mod Copies
 pub mod Intervals
 pub mod Brought
 pub mod Blocks
+pub mod Log
+pub mod InRange
+pub mod Holding
+pub mod Brings

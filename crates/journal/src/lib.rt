@@ -3,5 +3,12 @@
 #![tactic(auto)]
 
 mod event;
+mod journal;
+mod replay;
+#[cfg(test)]
+mod tests;
+mod traffic;
 
 pub use event::{Event, Kind};
+pub use journal::Journal;
+pub use traffic::Traffic;

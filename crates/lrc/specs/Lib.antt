@@ -1,0 +1,4 @@
+pub mod Machine
+pub mod History
+pub mod Holding
+pub mod Follows

@@ -1,0 +1,5 @@
+//! Scripts of a cluster: what they say, their exact text, and the reader of that text.
+#![tactic(auto)]
+
+pub mod fault;
+pub mod script;
