@@ -4,4 +4,4 @@
 
 mod lines;
 
-
+pub use lines::Locks;
