@@ -1,20 +1,20 @@
 -- Lines at a lock stay orderly: whoever joins one was not in it, and whoever leaves one stood at its head.
-use Rattle.std.proofs.Common.{ℕ, zero, suc, ◌≡◌, ◌≢◌, ◌<◌, ◌≤◌, ◌+◌, Option, Some, None, List, [], ◌∷◌, ◌++◌, length, refl, sym, ap, ◌∙◌, subst, append_assoc, arith, inl, inr}
+use Rattle.std.proofs.Common.{ℕ, ◌≡◌, ◌≢◌, ◌<◌, ◌≤◌, Option, Some, None, List, [], ◌∷◌, ◌++◌, length, sym, ap, ◌∙◌, subst, append_assoc, arith, inl, inr}
 use Rattle.std.specs.Option.{option_to_list}
 use Rattle.std.specs.List.{range_with_len}
-use Rattle.std.proofs.lemmas.List.{length-append}
+use Rattle.std.proofs.lemmas.List.{length-append, get_or-set_same}
 use Rattle.std.proofs.lemmas.List.FromFn.{length-range_with_len, get_or-range_with_len}
-use Rattle.std.proofs.lemmas.Option.{slice_get-get_or, none-some}
-use Rattle.lists.specs.Places.{Has, IsOnce, InOrder}
+use Rattle.std.proofs.lemmas.Option.{slice_get-get_or}
+use Rattle.lists.specs.Places.{Has, IsOnce}
 use Rattle.lists.proofs.Joined.{has-append, has-cons, has-nil, in_order-nil, in_order-cons, in_order_tail}
 use Rattle.lists.proofs.Once.{once_le, once-append}
-use Rattle.lockq.specs.Lock.{Lock, line, asked, joined, released, passed, IsOrderly}
+use Rattle.lockq.specs.Lock.{Lock, Locks, lock_at, with_lock, unheld, line, asked, joined, IsOrderly}
 
 -- a list of one item
 once-one : (p : ℕ) → IsOnce (p ∷ [])
 once-one p = in_order-cons (λ (a b : ℕ). a ≢ b) p [] (λ b has. absurd (has-nil b has)) (in_order-nil (λ (a b : ℕ). a ≢ b))
 
-has-one : (p x : ℕ) → Has (p ∷ []) x → p ≡ x
+pub has-one : (p x : ℕ) → Has (p ∷ []) x → p ≡ x
 has-one p x has = elim ((has-cons p [] x).0 has) [ inl same ↦ same | inr none ↦ absurd (has-nil x none) ]
 
 -- one more, who was not among them
@@ -50,7 +50,7 @@ orderly-queued n k p orderly held apart fits =
       once = subst Once same (once-push (line k) p orderly.once apart);
       within = subst Within same (within-push n (line k) p orderly.within fits);
       held = λ none. absurd (held none);
-      long = orderly.long
+      long = orderly.long;
     }
 
 -- there is room for who asks while the lock is held
@@ -69,5 +69,13 @@ orderly-passed n k next queue time orderly is held long =
       once = subst Once is (once-queue k.holder k.queue orderly.once);
       within = λ p has. let P : List ℕ → Type 0 = λ xs. Has xs p in orderly.within p ((has-append (option_to_list k.holder) k.queue p).1 (inr (subst P (sym is) has)));
       held = held;
-      long = long
+      long = long;
     }
+
+-- what lock l is after it was changed
+pub lock_at-with_lock : (s : Locks) (l : ℕ) (k : Lock) → l < length s.locks → lock_at (with_lock s l k) l ≡ k
+lock_at-with_lock s l k lt = get_or-set_same s.locks l k (unheld s.processors) lt
+
+-- who asks while the lock is held is last in the queue
+pub asked-held : (k : Lock) (q p : ℕ) → k.holder ≡ Some q → asked k p ≡ record k { queue = k.queue ++ p ∷ [] }
+asked-held k q p held = ap (λ (h : Option ℕ). joined h k p) held

@@ -1,7 +1,7 @@
-use Rattle.std.proofs.Common.{ℕ, ◌<◌, ◌≢◌, None, length, is_some, true, ap, sym, ◌∙◌, subst, arith}
+use Rattle.std.proofs.Common.{◌<◌, ◌≢◌, None, length, is_some, ap, sym, ◌∙◌, subst, arith}
 use Rattle.std.proofs.lemmas.Bool.{false≢true}
 use Rattle.lists.specs.Places.{Has}
-use Rattle.lockq.specs.Lock.{Lock, line, IsOrderly}
+use Rattle.lockq.specs.Lock.{Lock, line}
 use Rattle.lockq.proofs.Orderly.{room, orderly-queued}
 use Rattle.lockq.proofs.lines.Lock.ask.Goals as goal
 

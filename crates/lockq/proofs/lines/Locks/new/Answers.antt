@@ -1,4 +1,4 @@
-use Rattle.std.proofs.Common.{ℕ, ◌≡◌, Some, List, length, slice_get, ap, sym, ◌∙◌}
+use Rattle.std.proofs.Common.{List, length, slice_get, ap, sym, ◌∙◌}
 use Rattle.std.proofs.lemmas.List.{length-replicate}
 use Rattle.lists.proofs.Sets.{slice_get-replicate_found}
 use Rattle.lockq.specs.Lock.{Lock, unheld}

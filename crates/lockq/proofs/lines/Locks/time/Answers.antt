@@ -1,4 +1,4 @@
-use Rattle.std.proofs.Common.{ℕ, ◌≡◌, Some, List, length, get_or, slice_get, refl, ap, sym, ◌∙◌, arith}
+use Rattle.std.proofs.Common.{length, refl, ap, ◌∙◌, arith}
 use Rattle.std.proofs.lemmas.Option.{slice_get_read}
 use Rattle.lockq.specs.Lock.{Lock, Locks}
 use Rattle.lockq.proofs.lines.Locks.time.Goals as goal
