@@ -1,6 +1,6 @@
 -- The barrier's episodes: each is complete when all processors have arrived.
-use Rattle.std.specs.Prelude.{ℕ, Bool, true, false, List, length, replicate, slice_set}
-use Rattle.std.specs.List.{list_all}
+use Rattle.std.specs.Prelude.{ℕ, ◌≡◌, Bool, true, false, List, [], ◌∷◌, ◌++◌, length, replicate, slice_set, count_by}
+use Rattle.std.specs.List.{list_all, fold}
 use Rattle.vtime.specs.Times.{join}
 use Rattle.barrier.specs.declared.episodes.Stage.{Stage}
 use Rattle.barrier.specs.declared.episodes.Stage.TheVariants.{Away, Here, Free}
@@ -39,3 +39,17 @@ arrived b p time = completed (is_full (joined b p time)) (joined b p time)
 -- the barrier after p departed
 abbrev pub departed : Episodes → ℕ → Episodes
 departed b p = record b { stages = slice_set b.stages p Away }
+
+-- the greatest entries by place of these times of n processors
+abbrev pub joins : ℕ → List (List ℕ) → List ℕ
+joins n times = fold join (replicate n 0) times
+
+-- the open episode's arrivals so far came at these times
+pub record HasGathered (b : Episodes) (times : List (List ℕ)) : Type 0 where
+  pub joined_are : b.gathered ≡ joins (length b.stages) times
+  pub count_is : count_by is_here b.stages ≡ length times
+
+-- an arrival at this time makes the episode complete, with the join of all its arrivals, or is gathered
+abbrev pub Gathers : Bool → Episodes → List ℕ → List (List ℕ) → Type 0
+Gathers true new time times = (new.last ≡ joins (length new.stages) (times ++ time ∷ [])) × HasGathered new []
+Gathers false new time times = HasGathered new (times ++ time ∷ [])

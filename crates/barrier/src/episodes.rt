@@ -1,7 +1,7 @@
 //! Episodes of the barrier.
-ghost use Rattle.std.specs.Prelude.{◌≡◌, ◌≤◌, ◌<◌, ◌+◌, ◌↔◌, IsTrue, Some, length, replicate, slice_get, count_by};
+ghost use Rattle.std.specs.Prelude.{ℕ, ◌≡◌, ◌≤◌, ◌<◌, ◌+◌, ◌↔◌, IsTrue, Some, List, [], length, replicate, slice_get, count_by};
 ghost use Rattle.std.specs.List.{list_all};
-ghost use Rattle.barrier.specs.Episodes.{Episodes, unmet, is_here, completed, arrived, departed};
+ghost use Rattle.barrier.specs.Episodes.{unmet, is_here, arrived, departed, HasGathered, Gathers};
 
 use smallvec::SmallVec;
 use std::alloc::Global;
@@ -47,7 +47,8 @@ impl Barrier {
     pub fn new(alloc: Global, processors: usize) -> Self
         requires some { 1 ≤ processors }
         requires most { processors ≤ 16 }
-        ensures { result ≡ unmet processors }
+        ensures value { result ≡ unmet processors }
+        ensures gathers { HasGathered result [] }
     {
         Barrier {
             stages: SmallVec::from_elem(alloc, Stage::Away, processors).unwrap(),
@@ -64,6 +65,9 @@ impl Barrier {
         ensures barrier { self.new ≡ arrived self.old processor time.now }
         ensures complete { IsTrue result ↔ (count_by is_here self.old.stages + 1 ≡ length self.old.stages) }
         ensures same_length { length self.new.stages ≡ length self.old.stages }
+
+        // Whichever arrivals led here, the time of a complete episode is the join of them all.
+        ensures gathers { (times : List (List ℕ)) → HasGathered self.old times → Gathers result self.new time.now times }
     {
         self.stages[processor] = Stage::Here;
         self.gathered.join(time);
@@ -103,7 +107,8 @@ impl Barrier {
     /// Lets a processor that is ready depart.
     pub fn depart(&mut self, processor: usize)
         requires { slice_get self.old.stages processor ≡ Some Stage.Free }
-        ensures { self.new ≡ departed self.old processor }
+        ensures barrier { self.new ≡ departed self.old processor }
+        ensures gathers { (times : List (List ℕ)) → HasGathered self.old times → HasGathered self.new times }
     {
         self.stages[processor] = Stage::Away;
     }
