@@ -1,2 +1,5 @@
 pub mod Stages
 pub mod Chairs
+pub mod Places
+pub mod Tickets
+pub mod Boards

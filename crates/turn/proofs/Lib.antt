@@ -1,0 +1,3 @@
+pub mod Lists
+mod Places
+mod Steps
