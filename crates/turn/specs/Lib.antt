@@ -3,3 +3,5 @@ pub mod Chairs
 pub mod Places
 pub mod Tickets
 pub mod Boards
+pub mod Moves
+pub mod BoardLaws

@@ -8,8 +8,10 @@
 //! alternatives for shared-memory multiprocessors", IEEE TPDS 1990).
 #![tactic(auto)]
 
+mod board;
 mod chair;
 mod contract;
 
+pub use board::{Board, Change, Changing, Counter, Row};
 pub use chair::{Chair, Hand, Held, Seating, Sitting, Spent, Stage};
 pub use contract::{Keeper, Outcome, Turn};
