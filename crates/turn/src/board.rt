@@ -64,6 +64,16 @@ pub trait Board: Send + Sync {
     ghost lawful: { (n : ℕ) → 0 < n → IsBoard (width n) (shows n) (at n) passed };
 }
 
+/// How many words a board has for a lock with this many chairs.
+#[derive(Drop)]
+pub struct Layout<W: Board> {
+    pub(crate) seats: usize,
+    pub(crate) words: usize,
+    pub(crate) board: PhantomData<W>,
+    ghost some: { 1 ≤ seats },
+    ghost wide: { words ≡ W.width seats },
+}
+
 /// The board of the ticket lock: one word for all chairs, the number that is served.
 pub struct Counter;
 

@@ -11,7 +11,9 @@
 mod board;
 mod chair;
 mod contract;
+mod lock;
 
-pub use board::{Board, Change, Changing, Counter, Row};
+pub use board::{Board, Change, Changing, Counter, Layout, Row};
 pub use chair::{Chair, Hand, Held, Seating, Sitting, Spent, Stage};
 pub use contract::{Keeper, Outcome, Turn};
+pub use lock::{ArrayLock, Lock, Sizes, TicketLock, Tickets};
