@@ -1,3 +1,4 @@
 pub mod Lists
 mod Places
 mod Steps
+mod Rounds
