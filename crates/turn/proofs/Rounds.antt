@@ -23,11 +23,15 @@ use Rattle.turn.proofs.Steps.{draws, not_out, enters, leaves, served}
 waiting_once : {B : Type 0} (g : Stage B) (m k : ℕ) → g ≡ Waiting m → g ≡ Waiting k → m ≡ k
 waiting_once g m k d e = let both : Waiting m ≡ Waiting k = sym d ∙ e in cc
 
+-- a slot taken alone is the one taken last
+pub taken_last : {S : Type 0} (xs : List (ℕ × S)) (x : S) → xs ≡ (0, x) ∷ [] → xs ≡ (0, x) ∷ rest xs
+taken_last {S = S} xs x e = e ∙ ap (λ (ys : List (ℕ × S)). (0, x) ∷ ys) (sym (ap rest e))
+
 book_or : {B : Type 0} → B → List (ℕ × Option B) → B
 book_or b [] = b
 book_or b (x ∷ xs) = unwrap_or x.1 b
 
-slot_once : {B : Type 0} (xs : List (ℕ × Option B)) (a b : B) → xs ≡ (0, Some a) ∷ [] → xs ≡ (0, Some b) ∷ [] → a ≡ b
+pub slot_once : {B : Type 0} (xs : List (ℕ × Option B)) (a b : B) → xs ≡ (0, Some a) ∷ [] → xs ≡ (0, Some b) ∷ [] → a ≡ b
 unfolding book_or
 slot_once xs a b d e = sym (ap (book_or a) d) ∙ ap (book_or a) e
 
@@ -123,3 +127,11 @@ module _ (B V : Type 0) (fact : B → List V → Type 0) (width : ℕ) (shows : 
         moved (Option B) (Sitting B V) n (Turns fact shows limit) s h id p c d words (put_back s.homes me.1) mine' (subst (λ (hs : List (maybe.Option (Option B))). Turns fact shows limit words hs (set h.chairs p d)) (sym back) r),
         (ap (λ (xs : List (ℕ × Option B)). (one p d, rest xs)) has_slot, λ b e. subst (λ (x : B). then x v w.0) (slot_once me.1 book b has_slot e) w.1),
       )
+
+  -- the same once the book was put back into the slot
+  pub leaves_after : (then : B → V → V → Type 0) (m : ℕ) (found book : B) (was me : Hold) → Sits (Inside m found) was → me ≡ (was.0, (0, Some book) ∷ rest was.1) → MayHandIn fact then found book was.0.place was.0.lead.view
+      → Allows Rule slots id me (at (m + 1)) (passed m) (λ _ after. Leaves then me after)
+  leaves_after then m found book was me sits put may =
+      let back : Hold = (was.0, (0, Some book) ∷ rest was.1) in
+      let inside : back ≡ ((turned_to (Inside m found) back).0, (0, Some book) ∷ []) = ap (λ (x : Hold). (x.0, (0, Some book) ∷ rest x.1)) sits in
+      subst (λ (x : Hold). Allows Rule slots id x (at (m + 1)) (passed m) (λ _ after. Leaves then x after)) (sym put) (leaves_allowed then m found book back inside may)

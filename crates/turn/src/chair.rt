@@ -1,5 +1,6 @@
 //! What a thread enters with: its chair, and what it has while it is inside.
 ghost use Rattle.std.specs.Prelude.{◌≡◌, ◌+◌, ◌^◌, ◌<◌, ◌≤◌, true, []};
+ghost use Rattle.turn.specs.declared.chair.Stage.TheVariants.{Outside};
 ghost use Rattle.turn.specs.Stages.{carried};
 
 use crate::contract::Keeper;
@@ -42,6 +43,35 @@ pub struct Seating<B, V> {
     ghost single: { (seat.me.0.live ≡ true) × (seat.me.0.others ≡ []) },
     ghost counted: { (entries ≡ seat.me.0.lead.entries) × (entries ≤ limit) },
     ghost carries: { seat.me.1 ≡ carried seat.me.0.lead.stage },
+}
+
+impl<B, V> Seating<B, V> {
+    ghost use Rattle.turn.specs.Chairs.{lock_id, IsFresh};
+    ghost use Rattle.turn.specs.Moves.{Sits};
+
+    // A chair that never entered.
+    pub(crate) fn fresh(seat: Seat<Option<B>, Hand<Sitting<B, V>>>, limit: u64) -> Seating<B, V>
+        requires outside { Sits Outside seat.me }
+        requires never { seat.me.0.lead.entries ≡ 0 }
+        ensures { IsFresh (lock_id seat.table_id limit) seat.me.0.place seat.me.0.lead.view result }
+    {
+        Seating {
+            seat,
+            entries: 0,
+            limit,
+        }
+    }
+
+    pub(crate) fn into_seat(self) -> Seat<Option<B>, Hand<Sitting<B, V>>>
+        ensures { result ≡ self.seat }
+    {
+        let Seating {
+            seat,
+            entries: _,
+            limit: _,
+        } = self;
+        seat
+    }
 }
 
 /// The right to be inside, which `enter` alone gives and `leave` takes. It must be spent.

@@ -4,11 +4,13 @@ ghost use Rattle.std.specs.Bool.{OnTrue, OnFalse};
 ghost use Rattle.turn.specs.declared.chair.Stage.TheVariants.{Outside, Waiting, Inside};
 
 use crate::board::{Board, Change, Counter, Layout, Row};
-use crate::chair::{Hand, Sitting};
+use crate::chair::{Chair, Hand, Seating, Sitting};
 use crate::contract::{Keeper, Outcome};
-use atomic_table::{Play, Seat, Table, TableRule};
+use atomic_table::{Join, Play, Seat, Split, Table, TableRule};
+use crossbeam_utils::Backoff;
 use std::alloc::Global;
 use std::marker::PhantomData;
+use std::sync::Wait;
 
 /// What a lock is told once, when it is made.
 pub struct Sizes {
@@ -49,6 +51,32 @@ impl<B, K: Keeper<B>> Play<Option<B>, Hand<Sitting<B, K::View>>> for Look<K> {
     ghost then = { λ _ before found after. Looks K.fact before found after };
 }
 
+// The first chair of a hand goes to a new seat.
+struct Deal;
+
+impl<C> Split<Hand<C>> for Deal {
+    ghost use Rattle.turn.specs.Places.{rest_of, first_of};
+
+    ghost left = { λ h. rest_of h };
+
+    ghost right = { λ h. first_of h };
+}
+
+// A seat takes in the chair at the place before its own.
+struct Gather<K> {
+    keeper: PhantomData<K>,
+}
+
+impl<B, K: Keeper<B>> Join<Hand<Sitting<B, K::View>>> for Gather<K> {
+    ghost use Rattle.std.specs.Prelude.{false};
+    ghost use Rattle.turn.specs.Places.{hand, both_of};
+    ghost use Rattle.turn.specs.Moves.{fresh};
+
+    ghost both = { λ h g. both_of h g };
+
+    ghost spent = { hand false 0 (fresh K.first) [] };
+}
+
 struct StepOut<M> {
     outcome: PhantomData<M>,
 }
@@ -81,7 +109,7 @@ pub type ArrayLock<B, K, const ENTRIES: u64> = Lock<B, K, Row, ENTRIES>;
 
 impl<B, K: Keeper<B>, W: Board, const ENTRIES: u64> Lock<B, K, W, ENTRIES> {
     ghost use Rattle.turn.specs.Moves.{seated, turned_to, Sits, StepsIn};
-    ghost use Rattle.turn.specs.Chairs.{MayHandIn};
+    ghost use Rattle.turn.specs.Chairs.{Stands, MayHandIn};
 
     // The step 'draw': one addition to the next number. The chair waits with the number found.
     fn draw(&self, seat: &mut Place<B, K::View>) -> u64
@@ -107,5 +135,66 @@ impl<B, K: Keeper<B>, W: Board, const ENTRIES: u64> Lock<B, K, W, ENTRIES> {
         let word = W::at(self.layout.seats, number);
         let found = self.table.shared.load::<Look<K>>(seat, word);
         found == number
+    }
+
+    // The plain read of the slot, which the seat has.
+    fn take_book(&self, seat: &mut Place<B, K::View>) -> B
+        requires own { seat.old.table_id ≡ self.now.table.shared.table_id }
+        requires full { (book : B) × (seat.old.me.1 ≡ (0, Some book) ∷ []) }
+        ensures own { seat.new.table_id ≡ seat.old.table_id }
+        ensures book { seat.old.me.1 ≡ (0, Some result) ∷ [] }
+        ensures empty { seat.new.me ≡ (seat.old.me.0, (0, None) ∷ []) }
+    {
+        let taken = self.table.shared.exchange(seat, 0, None);
+        let Some(book) = taken else {
+            unreachable!()
+        };
+        book
+    }
+
+    // Looks until the chair's number is served, and gives way between two looks.
+    fn wait_until_served<R: Wait>(&self, rt: &R, seat: &mut Place<B, K::View>, number: u64)
+        requires own { seat.old.table_id ≡ self.now.table.shared.table_id }
+        requires waits { Sits (Waiting number) seat.old.me }
+        ensures own { seat.new.table_id ≡ seat.old.table_id }
+        ensures enter { StepsIn K.fact number seat.old.me seat.new.me }
+    {
+        let backoff = Backoff::new();
+        for _ in rt.forever() {
+            if self.look(seat, number) {
+                return;
+            }
+            backoff.snooze();
+        }
+        unreachable!()
+    }
+
+    // Waits for the chair's turn, and takes the book.
+    fn step_in<R: Wait>(&self, rt: &R, seat: &mut Place<B, K::View>, number: u64) -> B
+        requires own { seat.old.table_id ≡ self.now.table.shared.table_id }
+        requires waits { Sits (Waiting number) seat.old.me }
+        ensures own { seat.new.table_id ≡ seat.old.table_id }
+        ensures inside { seat.new.me ≡ turned_to (Inside number result) seat.old.me }
+        ensures fact { Stands K.fact result seat.old.me.0.place seat.old.me.0.lead.view }
+    {
+        self.wait_until_served(rt, seat, number);
+        self.take_book(seat)
+    }
+
+    // Puts the book back into the slot, and then makes the step 'leave', which gives the slot back and lets the next
+    // number in.
+    fn hand_in<M: Outcome<B, K::View>>(&self, seat: &mut Place<B, K::View>, number: u64, book: B)
+        requires own { seat.old.table_id ≡ self.now.table.shared.table_id }
+        requires small { number + 1 < 2 ^ 64 }
+        requires inside { (found : B) × Sits (Inside number found) seat.old.me × MayHandIn K.fact M.then found book seat.old.me.0.place seat.old.me.0.lead.view }
+        ensures own { seat.new.table_id ≡ seat.old.table_id }
+        ensures outside { seat.new.me ≡ seated seat.old.me.0.place Outside seat.old.me.0.lead.entries seat.new.me.0.lead.view }
+        ensures then { M.then book seat.old.me.0.lead.view seat.new.me.0.lead.view }
+    {
+        let taken = self.table.shared.exchange(seat, 0, Some(book));
+        let None = taken else {
+            unreachable!()
+        };
+        W::pass::<_, _, _, _, StepOut<M>>(&self.table.shared, seat, self.layout.seats, number);
     }
 }
