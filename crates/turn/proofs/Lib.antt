@@ -2,3 +2,4 @@ pub mod Lists
 mod Places
 mod Steps
 mod Rounds
+mod Dealing

@@ -15,7 +15,7 @@ use Rattle.turn.specs.Tickets.{number, shelf, Fits, sitting, view_of, drawn, Has
 use Rattle.turn.specs.Boards.{IsBoard}
 use Rattle.turn.proofs.Lists.{at_set, set_here, set_else, set_again, at_map, at_below, at_once, map-set}
 
-not_true : (b : Bool) → (b ≡ true → ⊥) → b ≡ false
+pub not_true : (b : Bool) → (b ≡ true → ⊥) → b ≡ false
 not_true true h = absurd (h refl)
 not_true false h = refl
 
@@ -24,7 +24,7 @@ module _ {B : Type 0} where
   inside_waits : (m k : ℕ) (b : B) → Inside m b ≡ Waiting k → ⊥
   inside_waits m k b e = cc
 
-  inside_outside : (m : ℕ) (b : B) → Inside m b ≡ Outside → ⊥
+  pub inside_outside : (m : ℕ) (b : B) → Inside m b ≡ Outside → ⊥
   inside_outside m b e = cc
 
   fits_more : (s n n' : ℕ) (out : Bool) (book : B) (g : Stage B) → n ≤ n' → Fits s n out book g → Fits s n' out book g

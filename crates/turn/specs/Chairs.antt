@@ -5,6 +5,7 @@ use lib.ListN.{get_elem?}
 use Rattle.atomic_table.specs.Seated.{TableId}
 use Rattle.turn.specs.declared.chair.Stage.{Stage}
 use Rattle.turn.specs.declared.chair.Stage.TheVariants.{Outside, Inside}
+use Rattle.turn.specs.declared.chair.Sitting.{Sitting}
 use Rattle.turn.specs.declared.chair.Seating.{Seating}
 use Rattle.turn.specs.declared.chair.Held.{Held}
 
@@ -32,6 +33,10 @@ module _ {B V : Type 0} where
   -- how often the chair has entered
   abbrev pub entries : Seating B V → ℕ
   entries c = c.seat.me.0.lead.entries
+
+  -- what the lock's rule says of the chair
+  abbrev pub sitting_of : Seating B V → Sitting B V
+  sitting_of c = c.seat.me.0.lead
 
   abbrev pub stage : Seating B V → Stage B
   stage c = c.seat.me.0.lead.stage

@@ -1,5 +1,5 @@
 //! The lock: one text for both boards.
-ghost use Rattle.std.specs.Prelude.{◌≡◌, ℕ, ◌+◌, ◌^◌, ◌<◌, ◌≤◌, [], ◌∷◌, None, Some};
+ghost use Rattle.std.specs.Prelude.{◌≡◌, ℕ, ◌+◌, ◌^◌, ◌<◌, ◌≤◌, true, [], ◌∷◌, map, length, vec_capacity, None, Some};
 ghost use Rattle.std.specs.Bool.{OnTrue, OnFalse};
 ghost use Rattle.turn.specs.declared.chair.Stage.TheVariants.{Outside, Waiting, Inside};
 
@@ -108,8 +108,9 @@ pub type TicketLock<B, K, const ENTRIES: u64> = Lock<B, K, Counter, ENTRIES>;
 pub type ArrayLock<B, K, const ENTRIES: u64> = Lock<B, K, Row, ENTRIES>;
 
 impl<B, K: Keeper<B>, W: Board, const ENTRIES: u64> Lock<B, K, W, ENTRIES> {
-    ghost use Rattle.turn.specs.Moves.{seated, turned_to, Sits, StepsIn};
-    ghost use Rattle.turn.specs.Chairs.{Stands, MayHandIn};
+    ghost use Rattle.turn.specs.Moves.{deck, seated, turned_to, Sits, StepsIn};
+    ghost use Rattle.turn.specs.Places.{chairs_of};
+    ghost use Rattle.turn.specs.Chairs.{lock_id, sitting_of, AreFresh, AreAll, Stands, MayHandIn};
 
     // The step 'draw': one addition to the next number. The chair waits with the number found.
     fn draw(&self, seat: &mut Place<B, K::View>) -> u64
@@ -196,5 +197,39 @@ impl<B, K: Keeper<B>, W: Board, const ENTRIES: u64> Lock<B, K, W, ENTRIES> {
             unreachable!()
         };
         W::pass::<_, _, _, _, StepOut<M>>(&self.table.shared, seat, self.layout.seats, number);
+    }
+
+    // Gives each place of the lock to a chair of its own.
+    fn deal(&self, mut rest: Place<B, K::View>, mut chairs: Vec<Chair<B, K>>) -> Vec<Chair<B, K>>
+        requires own { rest.table_id ≡ self.now.table.shared.table_id }
+        requires whole { rest.me ≡ (deck K.first 0 self.now.layout.seats, []) }
+        requires room { (chairs.items ≡ []) × (self.now.layout.seats ≤ vec_capacity chairs) }
+        ensures all { length result.items ≡ self.now.layout.seats }
+        ensures fresh { AreFresh (lock_id self.now.table.shared.table_id ENTRIES) K.first result.items }
+    {
+        for _ in 0..self.layout.seats {
+            let seat = self.table.shared.split_seat::<Deal>(&mut rest);
+            chairs.push_reserved(Seating::fresh(seat, ENTRIES));
+        }
+        chairs
+    }
+
+    // Takes the chairs in, the last one first, so that one seat has all places.
+    fn gather(&self, mut chairs: Vec<Chair<B, K>>) -> Place<B, K::View>
+        requires { AreAll (lock_id self.now.table.shared.table_id ENTRIES) self.now.layout.seats chairs.items }
+        ensures own { result.table_id ≡ self.now.table.shared.table_id }
+        ensures free { result.me.1 ≡ [] }
+        ensures whole { (result.me.0.live ≡ true) × (result.me.0.place ≡ 0) × (chairs_of result.me.0 ≡ map sitting_of chairs.items) }
+    {
+        let Some(last) = chairs.pop() else {
+            unreachable!()
+        };
+        let mut whole = last.into_seat();
+        while let Some(chair) = chairs.pop() {
+            self.table
+                .shared
+                .join_seat::<Gather<K>>(&mut whole, chair.into_seat());
+        }
+        whole
     }
 }
