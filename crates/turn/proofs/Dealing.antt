@@ -1,23 +1,22 @@
 -- The lock at its start and at its end: its rule holds of the first table, each chair gets its place, and all places come together again.
-use Rattle.std.proofs.Common.{◌≡◌, ◌≢◌, ℕ, zero, suc, ◌+◌, ◌-◌, ◌*◌, ◌^◌, ◌<◌, ◌≤◌, List, [], ◌∷◌, ◌++◌, map, replicate, length, get_or, Bool, true, false, Option, Some, refl, sym, ap, ◌∙◌, subst, inl, inr, ⊎_elim, zero-le, append_assoc, length-append, arith}
+use Rattle.std.proofs.Common.{◌≡◌, ℕ, zero, suc, ◌+◌, ◌-◌, ◌*◌, ◌^◌, ◌<◌, ◌≤◌, List, [], ◌∷◌, ◌++◌, map, replicate, length, get_or, Bool, true, false, Option, Some, refl, sym, ap, ◌∙◌, subst, ⊎_elim, zero-le, append_assoc, length-append, arith}
 use Rattle.std.proofs.lemmas.List.{length-replicate, length-map, map-append}
 use mathlib.Core.Option as maybe
 use mathlib.Core.Option.{some, none, some-injective, some-ne-none}
 use lib.ListN.{get_elem?}
-use Rattle.atomic_table.specs.Table.{State, Me, opening, Final, Seen}
+use Rattle.atomic_table.specs.Table.{Me, opening, Final, Seen}
 use Rattle.atomic_table.specs.Seated.{TableId}
 use Rattle.atomic_table.specs.declared.shared.Seat.{Seat}
-use Rattle.turn.specs.declared.chair.Stage.{Stage}
-use Rattle.turn.specs.declared.chair.Stage.TheVariants.{Outside, Inside}
+use Rattle.turn.specs.declared.chair.Stage.TheVariants.{Outside}
 use Rattle.turn.specs.declared.chair.Sitting.{Sitting}
 use Rattle.turn.specs.declared.chair.Hand.{Hand}
 use Rattle.turn.specs.declared.chair.Seating.{Seating}
 use Rattle.turn.specs.Stages.{carried}
-use Rattle.turn.specs.Chairs.{lock_id, lock, place, view, IsOutside, IsFresh, AreFresh, AreAll, sitting_of}
+use Rattle.turn.specs.Chairs.{lock_id, lock, place, view, IsOutside, IsFresh, AreFresh, sitting_of}
 use Rattle.turn.specs.Places.{chairs_of, rest_of, first_of, both_of, Dealt}
-use Rattle.turn.specs.Tickets.{number, shelf, view_of, drawn, HasNumber, Turns, Fits}
+use Rattle.turn.specs.Tickets.{number, shelf, view_of, drawn, Turns, Fits}
 use Rattle.turn.specs.Moves.{fresh, deck, Sits}
-use Rattle.turn.proofs.Lists.{at_end, at_longer, at_last, at_below}
+use Rattle.turn.proofs.Lists.{at_end, at_longer, at_last}
 use Rattle.turn.proofs.Places.{opens, gathered}
 use Rattle.turn.proofs.Steps.{not_true, inside_outside}
 
@@ -86,9 +85,9 @@ module _ (B V : Type 0) (fact : B → List V → Type 0) (shows : List ℕ → �
       let count : length (chairs_of v) ≡ n = ap length all ∙ length-map cs sitting_of ∙ long in
       let chairs : d.chairs ≡ map sitting_of cs = gathered (Option B) (Sitting B V) n (Turns fact shows limit) s d id v last.1.1 live first count ∙ all in
       let off : t.out ≡ false = not_true t.out (λ o.
-          let q = t.taken o in
-          let c = at_unmap sitting_of cs q.0 q.2 (subst (λ (l : List (Sitting B V)). get_elem? l q.0 ≡ some q.2) chairs q.3) in
-          inside_outside q.1 t.book (sym q.4 ∙ ap (λ (x : Sitting B V). x.stage) (sym c.2) ∙ outside q.0 c.0 c.1)) in
+      let q = t.taken o in
+      let c = at_unmap sitting_of cs q.0 q.2 (subst (λ (l : List (Sitting B V)). get_elem? l q.0 ≡ some q.2) chairs q.3) in
+      inside_outside q.1 t.book (sym q.4 ∙ ap (λ (x : Sitting B V). x.stage) (sym c.2) ∙ outside q.0 c.0 c.1)) in
       let lies : s.homes ≡ some (Some t.book) ∷ [] = t.lies ∙ ap (λ (o : Bool). shelf o t.book) off in
       let views : map view_of d.chairs ≡ map view cs = ap (map view_of) chairs ∙ map_map view_of sitting_of cs in
       (t.book, last.4 0 (Some t.book) (ap (λ (hs : List (maybe.Option (Option B))). get_elem? hs 0) lies), subst (λ (vs : List V). fact t.book vs) views t.kept)
@@ -132,7 +131,7 @@ module _ {B V : Type 0} where
           fresh = λ k c e. ⊎_elim
               (λ (f : get_elem? chairs k ≡ some c). d.fresh k c f)
               (λ (f : (k ≡ length chairs) × (chair ≡ c)). subst (λ (x : Seating B V). IsFresh (lock_id table limit) k first x) f.1
-                  (new.0 ∙ ap (λ (z : TableId). lock_id z limit) (same' ∙ d.own), new.1 ∙ at.2 ∙ sym (f.0 ∙ d.long), new.2 ∙ at.3, new.3, new.4))
+              (new.0 ∙ ap (λ (z : TableId). lock_id z limit) (same' ∙ d.own), new.1 ∙ at.2 ∙ sym (f.0 ∙ d.long), new.2 ∙ at.3, new.3, new.4))
               (at_end chairs chair c k e);
         }
 

@@ -1,13 +1,11 @@
 -- What a seat does to the chairs at its places: it changes one, gives one away, takes one in, and knows them all once it has all.
-use Rattle.std.proofs.Common.{◌≡◌, ◌≢◌, ℕ, zero, suc, ◌+◌, ◌<◌, List, [], ◌∷◌, ◌++◌, map, length, set, Bool, true, false, cond, eqb, eq-eqb, ne_eqb, refl, sym, ap, ◌∙◌, subst, ⊎_elim, add-zero, arith}
+use Rattle.std.proofs.Common.{◌≡◌, ◌≢◌, ℕ, zero, suc, ◌+◌, List, [], ◌∷◌, map, length, set, Bool, true, false, cond, eqb, eq-eqb, ne_eqb, refl, sym, ap, ◌∙◌, subst, ⊎_elim, add-zero, arith}
 use Rattle.std.proofs.Math.ListN.{length-set}
 use mathlib.Core.Option.{Option, some, some-injective, some-ne-none}
-use native.Mathlib.Decide.{ℕ_discrete}
-use mathlib.Core.Logic.{dite}
 use lib.ListN.{get_elem?}
 use Rattle.atomic_table.specs.Table.{State, opening, Splits, Joins}
 use Rattle.turn.specs.declared.chair.Hand.{Hand}
-use Rattle.turn.specs.Places.{hand, one, chairs_of, after_first, rest_of, first_of, both_of, Knows, Dealt}
+use Rattle.turn.specs.Places.{one, chairs_of, after_first, rest_of, first_of, both_of, Knows, Dealt}
 use Rattle.turn.proofs.Lists.{at_set, set_here, set_else, at_end, at_below, same_list}
 
 -- f with one place given to another seat
@@ -42,13 +40,13 @@ module _ (S C : Type 0) (n : ℕ) (core : List ℕ → List (Option S) → List 
   moved_known s d id p c c' at j h e live =
       let mine = d.known id (one p c) at refl zero c refl in
       ⊎_elim
-        (λ (t : (j ≡ id) × (one p c' ≡ h)). subst (λ (g : Hand C). Knows (set d.chairs p c') d.owner j g) t.1 (only C (λ i x. (get_elem? (set d.chairs p c') (p + i) ≡ some x) × (d.owner (p + i) ≡ j)) c'
-            (subst (λ (k : ℕ). get_elem? (set d.chairs p c') k ≡ some c') (sym (add-zero p)) (set_here d.chairs p c' (at_below d.chairs p c (at_place s d id p c at))), mine.1 ∙ sym t.0)))
-        (λ (t : (j ≢ id) × (get_elem? s.views j ≡ some h)). λ (i : ℕ) (x : C) (f : get_elem? (chairs_of h) i ≡ some x).
-            let k = d.known j h t.1 live i x f in
-            let apart : h.place + i ≢ p = λ same. t.0 (sym k.1 ∙ ap d.owner (same ∙ sym (add-zero p)) ∙ mine.1) in
-            (set_else d.chairs p (h.place + i) c' apart ∙ k.0, k.1))
-        (at_set s.views id j (one p c') h e)
+      (λ (t : (j ≡ id) × (one p c' ≡ h)). subst (λ (g : Hand C). Knows (set d.chairs p c') d.owner j g) t.1 (only C (λ i x. (get_elem? (set d.chairs p c') (p + i) ≡ some x) × (d.owner (p + i) ≡ j)) c'
+      (subst (λ (k : ℕ). get_elem? (set d.chairs p c') k ≡ some c') (sym (add-zero p)) (set_here d.chairs p c' (at_below d.chairs p c (at_place s d id p c at))), mine.1 ∙ sym t.0)))
+      (λ (t : (j ≢ id) × (get_elem? s.views j ≡ some h)). λ (i : ℕ) (x : C) (f : get_elem? (chairs_of h) i ≡ some x).
+      let k = d.known j h t.1 live i x f in
+      let apart : h.place + i ≢ p = λ same. t.0 (sym k.1 ∙ ap d.owner (same ∙ sym (add-zero p)) ∙ mine.1) in
+      (set_else d.chairs p (h.place + i) c' apart ∙ k.0, k.1))
+      (at_set s.views id j (one p c') h e)
 
   -- a seat with one place changes its chair
   pub moved : (s : State S (Hand C)) (d : Dealt n core s) (id p : ℕ) (c c' : C) (words : List ℕ) (homes : List (Option S)) → get_elem? s.views id ≡ some (one p c)
@@ -85,19 +83,19 @@ module _ (S C : Type 0) (n : ℕ) (core : List ℕ → List (Option S) → List 
         all = d.all;
         known = λ j h e alive. ⊎_elim
             (λ (f : get_elem? (set s.views id (rest_of v)) j ≡ some h). ⊎_elim
-              (λ (t : (j ≡ id) × (rest_of v ≡ h)).
-                  let K = rest_known s d id m v.place v.lead v.others (d.known id v at live) in
-                  let g = subst (λ (g : Hand C). g.live ≡ true → Knows d.chairs (given d.owner v.place m) id g) t.1 K in
-                  subst (λ (i : ℕ). Knows d.chairs (given d.owner v.place m) i h) (sym t.0) (g alive))
-              (λ (t : (j ≢ id) × (get_elem? s.views j ≡ some h)). λ (i : ℕ) (x : C) (g : get_elem? (chairs_of h) i ≡ some x).
-                  let k = d.known j h t.1 alive i x g in
-                  let mine = d.known id v at live zero v.lead refl in
-                  let apart : h.place + i ≢ v.place = λ same. t.0 (sym k.1 ∙ ap d.owner (same ∙ sym (add-zero v.place)) ∙ mine.1) in
-                  (k.0, given_else d.owner v.place m (h.place + i) apart ∙ k.1))
-              (at_set s.views id j (rest_of v) h f))
+            (λ (t : (j ≡ id) × (rest_of v ≡ h)).
+            let K = rest_known s d id m v.place v.lead v.others (d.known id v at live) in
+            let g = subst (λ (g : Hand C). g.live ≡ true → Knows d.chairs (given d.owner v.place m) id g) t.1 K in
+            subst (λ (i : ℕ). Knows d.chairs (given d.owner v.place m) i h) (sym t.0) (g alive))
+            (λ (t : (j ≢ id) × (get_elem? s.views j ≡ some h)). λ (i : ℕ) (x : C) (g : get_elem? (chairs_of h) i ≡ some x).
+            let k = d.known j h t.1 alive i x g in
+            let mine = d.known id v at live zero v.lead refl in
+            let apart : h.place + i ≢ v.place = λ same. t.0 (sym k.1 ∙ ap d.owner (same ∙ sym (add-zero v.place)) ∙ mine.1) in
+            (k.0, given_else d.owner v.place m (h.place + i) apart ∙ k.1))
+            (at_set s.views id j (rest_of v) h f))
             (λ (t : (j ≡ length (set s.views id (rest_of v))) × (first_of v ≡ h)).
-                subst (λ (g : Hand C). Knows d.chairs (given d.owner v.place m) j g) t.1
-                  (subst (λ (i : ℕ). Knows d.chairs (given d.owner v.place m) i (first_of v)) (sym (t.0 ∙ long)) (first_known s d id v live at m)))
+            subst (λ (g : Hand C). Knows d.chairs (given d.owner v.place m) j g) t.1
+            (subst (λ (i : ℕ). Knows d.chairs (given d.owner v.place m) i (first_of v)) (sym (t.0 ∙ long)) (first_known s d id v live at m)))
             (at_end (set s.views id (rest_of v)) (first_of v) h j e);
         keeps = d.keeps;
       }
@@ -117,18 +115,18 @@ module _ (S C : Type 0) (n : ℕ) (core : List ℕ → List (Option S) → List 
         known = λ j h e up. ⊎_elim
             (λ (t : (j ≡ other) × (spent ≡ h)). let f : h.live ≡ false = ap (λ (g : Hand C). g.live) (sym t.1) ∙ dead in cc)
             (λ (t : (j ≢ other) × (get_elem? (set s.views id both) j ≡ some h)). ⊎_elim
-              (λ (u : (j ≡ id) × (both ≡ h)). subst (λ (g : Hand C). Knows d.chairs own j g) u.1
-                  (more C (λ i x. (get_elem? d.chairs (w.place + i) ≡ some x) × (own (w.place + i) ≡ j)) w.lead (chairs_of v)
-                    (first.0, given_here d.owner w.place id (w.place + zero) (add-zero w.place) ∙ sym u.0)
-                    (λ i x f.
-                        let k = d.known id v at live i x f in
-                        let same : v.place + i ≡ w.place + suc i = omega arith in
-                        (subst (λ (p : ℕ). get_elem? d.chairs p ≡ some x) same k.0, given_else d.owner w.place id (w.place + suc i) (λ z. omega arith) ∙ ap d.owner (sym same) ∙ k.1 ∙ sym u.0))))
-              (λ (u : (j ≢ id) × (get_elem? s.views j ≡ some h)). λ (i : ℕ) (x : C) (f : get_elem? (chairs_of h) i ≡ some x).
-                  let k = d.known j h u.1 up i x f in
-                  let apart : h.place + i ≢ w.place = λ same. t.0 (sym k.1 ∙ ap d.owner (same ∙ sym (add-zero w.place)) ∙ first.1) in
-                  (k.0, given_else d.owner w.place id (h.place + i) apart ∙ k.1))
-              (at_set s.views id j both h t.1))
+            (λ (u : (j ≡ id) × (both ≡ h)). subst (λ (g : Hand C). Knows d.chairs own j g) u.1
+            (more C (λ i x. (get_elem? d.chairs (w.place + i) ≡ some x) × (own (w.place + i) ≡ j)) w.lead (chairs_of v)
+            (first.0, given_here d.owner w.place id (w.place + zero) (add-zero w.place) ∙ sym u.0)
+            (λ i x f.
+            let k = d.known id v at live i x f in
+            let same : v.place + i ≡ w.place + suc i = omega arith in
+            (subst (λ (p : ℕ). get_elem? d.chairs p ≡ some x) same k.0, given_else d.owner w.place id (w.place + suc i) (λ z. omega arith) ∙ ap d.owner (sym same) ∙ k.1 ∙ sym u.0))))
+            (λ (u : (j ≢ id) × (get_elem? s.views j ≡ some h)). λ (i : ℕ) (x : C) (f : get_elem? (chairs_of h) i ≡ some x).
+            let k = d.known j h u.1 up i x f in
+            let apart : h.place + i ≢ w.place = λ same. t.0 (sym k.1 ∙ ap d.owner (same ∙ sym (add-zero w.place)) ∙ first.1) in
+            (k.0, given_else d.owner w.place id (h.place + i) apart ∙ k.1))
+            (at_set s.views id j both h t.1))
             (at_set (set s.views id both) other j spent h e);
         keeps = d.keeps;
       }

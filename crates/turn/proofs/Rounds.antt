@@ -1,5 +1,5 @@
 -- Each step of the lock is one that the table allows.
-use Rattle.std.proofs.Common.{◌≡◌, ◌≢◌, ℕ, ◌+◌, ◌%◌, ◌^◌, ◌<◌, ◌≤◌, List, [], ◌∷◌, map, length, set, get_or, Bool, true, false, eqb, eq-eqb, ne_eqb, Option, Some, None, MatchBool, unwrap_or, refl, sym, ap, ◌∙◌, subst, arith}
+use Rattle.std.proofs.Common.{◌≡◌, ◌≢◌, ℕ, ◌+◌, ◌%◌, ◌^◌, ◌<◌, List, [], ◌∷◌, map, set, get_or, Bool, eq-eqb, ne_eqb, Option, Some, MatchBool, unwrap_or, refl, sym, ap, ◌∙◌, subst, arith}
 use Rattle.std.proofs.lemmas.List.{set-get_or, get_or-set_other}
 use mathlib.Core.Option as maybe
 use mathlib.Core.Option.{some, none}
@@ -11,7 +11,7 @@ use Rattle.turn.specs.declared.chair.Stage.{Stage}
 use Rattle.turn.specs.declared.chair.Stage.TheVariants.{Outside, Waiting, Inside}
 use Rattle.turn.specs.declared.chair.Sitting.{Sitting}
 use Rattle.turn.specs.declared.chair.Hand.{Hand}
-use Rattle.turn.specs.Chairs.{Stands, MayHandIn}
+use Rattle.turn.specs.Chairs.{MayHandIn}
 use Rattle.turn.specs.Places.{one, Dealt}
 use Rattle.turn.specs.Tickets.{shelf, sitting, view_of, Turns}
 use Rattle.turn.specs.Boards.{IsBoard}
@@ -79,11 +79,11 @@ module _ (B V : Type 0) (fact : B → List V → Type 0) (width : ℕ) (shows : 
         takes 0 (Some t.book),
         ap (λ (hs : List (maybe.Option (Option B))). get_elem? hs 0) lies,
         subst (λ (ws : List ℕ). Rule (record { words = ws; homes = set s.homes 0 none; views = set s.views id (one p d) })) (sym (set-get_or s.words (at m) 0))
-          (moved (Option B) (Sitting B V) n (Turns fact shows limit) s h id p c d s.words (set s.homes 0 none) mine' (subst (λ (hs : List (maybe.Option (Option B))). Turns fact shows limit s.words hs (set h.chairs p d)) (sym empty) r)),
+            (moved (Option B) (Sitting B V) n (Turns fact shows limit) s h id p c d s.words (set s.homes 0 none) mine' (subst (λ (hs : List (maybe.Option (Option B))). Turns fact shows limit s.words hs (set h.chairs p d)) (sym empty) r)),
         λ k waits.
             let same : m ≡ k = waiting_once me.0.lead.stage m k (ap (λ (x : Hold). x.0.lead.stage) sits) waits in
             subst (λ (b : Bool). MatchBool b (StepsIn fact k me (one p d, (0, Some t.book) ∷ me.1)) ((one p d, (0, Some t.book) ∷ me.1) ≡ me)) (sym (eq-eqb (get_or s.words (at m) 0) k (found ∙ same)))
-              (subst (λ (i : ℕ). StepsIn fact i me (one p d, (0, Some t.book) ∷ me.1)) same took),
+            (subst (λ (i : ℕ). StepsIn fact i me (one p d, (0, Some t.book) ∷ me.1)) same took),
       )
 
   -- a look that finds another number
@@ -94,7 +94,7 @@ module _ (B V : Type 0) (fact : B → List V → Type 0) (width : ℕ) (shows : 
     keeps,
     tt,
     subst (λ (ws : List ℕ). Rule (record { words = ws; homes = s.homes; views = set s.views id me.0 })) (sym (set-get_or s.words (at m) 0))
-      (subst (λ (vs : List (Hand (Sitting B V))). Rule (record { words = s.words; homes = s.homes; views = vs })) (sym (set_again s.views id me.0 mine)) h),
+        (subst (λ (vs : List (Hand (Sitting B V))). Rule (record { words = s.words; homes = s.homes; views = vs })) (sym (set_again s.views id me.0 mine)) h),
     λ k waits.
         let same : m ≡ k = waiting_once me.0.lead.stage m k (ap (λ (x : Hold). x.0.lead.stage) sits) waits in
         subst (λ (b : Bool). MatchBool b (StepsIn fact k me me) (me ≡ me)) (sym (ne_eqb (get_or s.words (at m) 0) k (λ e. found (e ∙ sym same)))) refl,

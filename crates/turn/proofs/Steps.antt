@@ -1,8 +1,8 @@
 -- Each step of the lock keeps its rule, over the words, the slot and the chairs.
-use Rattle.std.proofs.Common.{◌≡◌, ◌≢◌, ℕ, zero, suc, ◌+◌, ◌*◌, ◌%◌, ◌^◌, ◌<◌, ◌≤◌, ◌⊎◌, List, [], ◌∷◌, map, length, set, get_or, Bool, true, false, Option, Some, refl, sym, ap, ◌∙◌, subst, inl, inr, ⊎_elim, le_refl, zero-le, suc-mul, arith}
+use Rattle.std.proofs.Common.{◌≡◌, ◌≢◌, ℕ, zero, suc, ◌+◌, ◌*◌, ◌%◌, ◌^◌, ◌<◌, ◌≤◌, ◌⊎◌, List, [], ◌∷◌, map, length, set, get_or, Bool, true, false, Option, Some, refl, sym, ap, ◌∙◌, subst, inl, inr, ⊎_elim, zero-le, suc-mul, arith}
 use Rattle.std.proofs.Math.ListN.{length-set}
 use Rattle.std.proofs.Math.Nat.{mod-eq_of_lt}
-use Rattle.std.proofs.lemmas.List.{get_or-set_same, get_or-set_other}
+use Rattle.std.proofs.lemmas.List.{get_or-set_same}
 use mathlib.Core.Option as maybe
 use mathlib.Core.Option.{some, none, some-injective, some-ne-none}
 use native.Mathlib.Decide.{ℕ_discrete}
@@ -109,37 +109,39 @@ module _ (B V : Type 0) (fact : B → List V → Type 0) (width : ℕ) (shows : 
       let room : length (set cs k d) * limit < 2 ^ 64 = subst (λ (n : ℕ). n * limit < 2 ^ 64) (sym long) t.room in
       let bound = drawn-le limit (set cs k d) within in
       let small : next + 1 < 2 ^ 64 = omega arith in
-      let none_yet : number c.stage ≡ none = ap number out in
-      (small, record {
-        serving = t.serving;
-        book = t.book;
-        out = t.out;
-        room = room;
-        within = within;
-        next_is = get_or-set_same ws 0 ((next + 1) % 2 ^ 64) 0 (board.has_next ws t.serving t.shown) ∙ mod-eq_of_lt small ∙ ap (λ (n : ℕ). n + 1) next_is ∙ sym one_more;
-        shown = board.draws ws t.serving ((next + 1) % 2 ^ 64) t.shown;
-        behind = omega arith;
-        fits = each_set (λ _ x. Fits t.serving (drawn (set cs k d)) t.out t.book x.stage) cs k d (omega arith, omega arith)
-            (λ j x _ e. fits_more t.serving (drawn cs) (drawn (set cs k d)) t.out t.book x.stage (omega arith) (t.fits j x e));
-        apart = λ i j m f g. ⊎_elim
-            (λ (p : (i ≡ k) × (some next ≡ some m)). ⊎_elim
+      let none_yet : number c.stage ≡ none = ap number out in (
+        small,
+        record {
+          serving = t.serving;
+          book = t.book;
+          out = t.out;
+          room = room;
+          within = within;
+          next_is = get_or-set_same ws 0 ((next + 1) % 2 ^ 64) 0 (board.has_next ws t.serving t.shown) ∙ mod-eq_of_lt small ∙ ap (λ (n : ℕ). n + 1) next_is ∙ sym one_more;
+          shown = board.draws ws t.serving ((next + 1) % 2 ^ 64) t.shown;
+          behind = omega arith;
+          fits = each_set (λ _ x. Fits t.serving (drawn (set cs k d)) t.out t.book x.stage) cs k d (omega arith, omega arith)
+              (λ j x _ e. fits_more t.serving (drawn cs) (drawn (set cs k d)) t.out t.book x.stage (omega arith) (t.fits j x e));
+          apart = λ i j m f g. ⊎_elim
+              (λ (p : (i ≡ k) × (some next ≡ some m)). ⊎_elim
               (λ (q : (j ≡ k) × (some next ≡ some m)). p.0 ∙ sym q.0)
               (λ (q : (j ≢ k) × HasNumber cs j m). let low = fits_number t.serving (drawn cs) m t.out t.book q.1.0.stage q.1.2 (t.fits j q.1.0 q.1.1) in let e : next ≡ m = some-injective next m p.1 in absurd (omega arith))
               (has_set cs k d j m g))
-            (λ (p : (i ≢ k) × HasNumber cs i m). ⊎_elim
+              (λ (p : (i ≢ k) × HasNumber cs i m). ⊎_elim
               (λ (q : (j ≡ k) × (some next ≡ some m)). let low = fits_number t.serving (drawn cs) m t.out t.book p.1.0.stage p.1.2 (t.fits i p.1.0 p.1.1) in let e : next ≡ m = some-injective next m q.1 in absurd (omega arith))
               (λ (q : (j ≢ k) × HasNumber cs j m). t.apart i j m p.1 q.1)
               (has_set cs k d j m g))
-            (has_set cs k d i m f);
-        queued = λ m low high. dite (ℕ_discrete m next)
-            (λ (e : m ≡ next). (k, has_here cs k c d m here (ap some (sym e))))
-            (λ (e : m ≢ next). let q = t.queued m low (omega arith) in
-                (q.0, has_else cs k d q.0 m (λ z. some-ne-none m (sym (has_known cs k c q.0 m here q.1 z) ∙ none_yet)) q.1));
-        lies = t.lies;
-        taken = λ o. let q = t.taken o in
-            (q.0, q.1, q.2, set_else cs k q.0 d (λ z. inside_outside q.1 t.book (sym q.4 ∙ ap (λ (y : Sitting B V). y.stage) (at_once cs k q.2 c (subst (λ (i : ℕ). get_elem? cs i ≡ some q.2) z q.3) here) ∙ out)) ∙ q.3, q.4);
-        kept = subst (λ (vs : List V). fact t.book vs) (sym (views_same cs k c d here refl)) t.kept;
-      })
+              (has_set cs k d i m f);
+          queued = λ m low high. dite (ℕ_discrete m next)
+              (λ (e : m ≡ next). (k, has_here cs k c d m here (ap some (sym e))))
+              (λ (e : m ≢ next). let q = t.queued m low (omega arith) in
+              (q.0, has_else cs k d q.0 m (λ z. some-ne-none m (sym (has_known cs k c q.0 m here q.1 z) ∙ none_yet)) q.1));
+          lies = t.lies;
+          taken = λ o. let q = t.taken o in
+              (q.0, q.1, q.2, set_else cs k q.0 d (λ z. inside_outside q.1 t.book (sym q.4 ∙ ap (λ (y : Sitting B V). y.stage) (at_once cs k q.2 c (subst (λ (i : ℕ). get_elem? cs i ≡ some q.2) z q.3) here) ∙ out)) ∙ q.3, q.4);
+          kept = subst (λ (vs : List V). fact t.book vs) (sym (views_same cs k c d here refl)) t.kept;
+        },
+      )
 
   pub not_out : (m : ℕ) → c.stage ≡ Waiting m → m ≡ t.serving → t.out ≡ false
   not_out m waits served = not_true t.out (λ o.
@@ -173,9 +175,9 @@ module _ (B V : Type 0) (fact : B → List V → Type 0) (width : ℕ) (shows : 
             (λ j x _ e. fits_out t.serving (drawn (set cs k d)) t.out t.book x.stage off (fits_more t.serving (drawn cs) (drawn (set cs k d)) t.out t.book x.stage more (t.fits j x e)));
         apart = λ i j n f g.
             let back : ((l : ℕ) → HasNumber (set cs k d) l n → HasNumber cs l n) = λ l h. ⊎_elim
-                (λ (p : (l ≡ k) × (some m ≡ some n)). let e : HasNumber cs k n = (c, here, number_is ∙ p.1) in subst (λ (z : ℕ). HasNumber cs z n) (sym p.0) e)
-                (λ (p : (l ≢ k) × HasNumber cs l n). p.1)
-                (has_set cs k d l n h) in
+            (λ (p : (l ≡ k) × (some m ≡ some n)). let e : HasNumber cs k n = (c, here, number_is ∙ p.1) in subst (λ (z : ℕ). HasNumber cs z n) (sym p.0) e)
+            (λ (p : (l ≢ k) × HasNumber cs l n). p.1)
+            (has_set cs k d l n h) in
             t.apart i j n (back i f) (back j g);
         queued = λ n low high. let q = t.queued n low (omega arith) in dite (ℕ_discrete q.0 k)
             (λ (e : q.0 ≡ k). (k, has_here cs k c d n here (sym number_is ∙ has_known cs k c q.0 n here q.1 e)))
@@ -204,14 +206,14 @@ module _ (B V : Type 0) (fact : B → List V → Type 0) (width : ℕ) (shows : 
         behind = let low = mine.1 in omega arith;
         fits = each_set (λ _ x. Fits (m + 1) (drawn (set cs k d)) false handed x.stage) cs k d tt
             (λ j x ne e.
-                let other : number x.stage ≡ some m → ⊥ = λ f. ne (t.apart j k m (x, e, f) (c, here, number_is)) in
-                let f = subst (λ (s : ℕ). Fits s (drawn cs) t.out t.book x.stage) (sym mine.0) (t.fits j x e) in
-                fits_next m (drawn (set cs k d)) t.out t.book handed x.stage other (fits_more m (drawn cs) (drawn (set cs k d)) t.out t.book x.stage (omega arith) f));
+            let other : number x.stage ≡ some m → ⊥ = λ f. ne (t.apart j k m (x, e, f) (c, here, number_is)) in
+            let f = subst (λ (s : ℕ). Fits s (drawn cs) t.out t.book x.stage) (sym mine.0) (t.fits j x e) in
+            fits_next m (drawn (set cs k d)) t.out t.book handed x.stage other (fits_more m (drawn cs) (drawn (set cs k d)) t.out t.book x.stage (omega arith) f));
         apart = λ i j n f g.
             let back : ((l : ℕ) → HasNumber (set cs k d) l n → HasNumber cs l n) = λ l h. ⊎_elim
-                (λ (p : (l ≡ k) × (none ≡ some n)). absurd (some-ne-none n (sym p.1)))
-                (λ (p : (l ≢ k) × HasNumber cs l n). p.1)
-                (has_set cs k d l n h) in
+            (λ (p : (l ≡ k) × (none ≡ some n)). absurd (some-ne-none n (sym p.1)))
+            (λ (p : (l ≢ k) × HasNumber cs l n). p.1)
+            (has_set cs k d l n h) in
             t.apart i j n (back i f) (back j g);
         queued = λ n low high.
             let served = mine.0 in

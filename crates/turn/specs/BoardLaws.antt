@@ -1,5 +1,5 @@
 -- The two boards meet their laws.
-use Rattle.std.proofs.Common.{◌≡◌, ◌≢◌, ℕ, ◌+◌, ◌%◌, ◌^◌, ◌<◌, ◌≤◌, List, length, set, get_or, refl, sym, ap, ◌∙◌, subst, arith}
+use Rattle.std.proofs.Common.{◌≡◌, ◌≢◌, ℕ, ◌+◌, ◌%◌, ◌^◌, ◌<◌, ◌≤◌, length, set, get_or, sym, ap, ◌∙◌, subst, arith}
 use Rattle.std.proofs.Math.ListN.{length-set}
 use Rattle.std.proofs.Math.Nat.{mod-eq_of_lt, mod-lt}
 use Rattle.std.proofs.lemmas.List.{get_or-set_same, get_or-set_other}
@@ -37,8 +37,11 @@ points n some = record {
       let here : i < n = mod-lt (m + 1) some in
       let long = shown.0 in
       let below : i + 1 < length words = omega arith in
-      let new : get_or (set words (i + 1) (m + 1)) (i + 1) 0 ≡ m + 1 = get_or-set_same words (i + 1) (m + 1) 0 below in
-      (length-set words (i + 1) (m + 1) ∙ shown.0, new, λ j low. dite (ℕ_discrete j i)
-          (λ (e : j ≡ i). subst (λ (a : ℕ). get_or (set words (i + 1) (m + 1)) (a + 1) 0 ≤ m + 1) (sym e) (let z = new in omega arith))
-          (λ (e : j ≢ i). let o = get_or-set_other words (i + 1) (j + 1) (m + 1) 0 (λ q. e (omega arith)) in let h = shown.2 j low in omega arith));
+      let new : get_or (set words (i + 1) (m + 1)) (i + 1) 0 ≡ m + 1 = get_or-set_same words (i + 1) (m + 1) 0 below in (
+        length-set words (i + 1) (m + 1) ∙ shown.0,
+        new,
+        λ j low. dite (ℕ_discrete j i)
+            (λ (e : j ≡ i). subst (λ (a : ℕ). get_or (set words (i + 1) (m + 1)) (a + 1) 0 ≤ m + 1) (sym e) (let z = new in omega arith))
+            (λ (e : j ≢ i). let o = get_or-set_other words (i + 1) (j + 1) (m + 1) 0 (λ q. e (omega arith)) in let h = shown.2 j low in omega arith),
+      );
 }

@@ -22,7 +22,7 @@ impl<S, V, M: Change<S, V>> Play<S, V> for Changing<M> {
 }
 
 /// Where a lock shows whose turn it is. Word 0 of the lock is the next number to draw.
-pub trait Board: Send + Sync {
+pub trait Board {
     // How many words a lock with this many chairs has.
     ghost width: { ℕ → ℕ };
 

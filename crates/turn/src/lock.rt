@@ -4,15 +4,16 @@ ghost use Rattle.std.specs.Bool.{OnTrue, OnFalse};
 ghost use Rattle.turn.specs.declared.chair.Stage.TheVariants.{Outside, Waiting, Inside};
 
 use crate::board::{Board, Change, Counter, Layout, Row};
-use crate::chair::{Chair, Hand, Seating, Sitting};
-use crate::contract::{Keeper, Outcome};
+use crate::chair::{Chair, Hand, Held, Seating, Sitting, Spent};
+use crate::contract::{Keeper, Outcome, Turn};
 use atomic_table::{Join, Play, Seat, Split, Table, TableRule};
 use crossbeam_utils::Backoff;
-use std::alloc::Global;
+use std::alloc::{AllocError, Global};
 use std::marker::PhantomData;
 use std::sync::Wait;
 
 /// What a lock is told once, when it is made.
+#[derive(Clone, Copy, Drop)]
 pub struct Sizes {
     pub seats: usize,
     pub entries: u64,
@@ -23,7 +24,8 @@ pub struct Tickets<K, W> {
     of: PhantomData<(K, W)>,
 }
 
-impl<B, K: Keeper<B>, W: Board> TableRule<Option<B>, Hand<Sitting<B, K::View>>, Sizes> for Tickets<K, W> {
+impl<B, K: Keeper<B>, W: Board> TableRule<Option<B>, Hand<Sitting<B, K::View>>, Sizes>
+    for Tickets<K, W> {
     ghost use Rattle.turn.specs.Places.{Dealt};
     ghost use Rattle.turn.specs.Tickets.{Turns};
     ghost use Rattle.turn.specs.Moves.{deck};
@@ -147,9 +149,7 @@ impl<B, K: Keeper<B>, W: Board, const ENTRIES: u64> Lock<B, K, W, ENTRIES> {
         ensures empty { seat.new.me ≡ (seat.old.me.0, (0, None) ∷ []) }
     {
         let taken = self.table.shared.exchange(seat, 0, None);
-        let Some(book) = taken else {
-            unreachable!()
-        };
+        let Some(book) = taken else { unreachable!() };
         book
     }
 
@@ -193,9 +193,7 @@ impl<B, K: Keeper<B>, W: Board, const ENTRIES: u64> Lock<B, K, W, ENTRIES> {
         ensures then { M.then book seat.old.me.0.lead.view seat.new.me.0.lead.view }
     {
         let taken = self.table.shared.exchange(seat, 0, Some(book));
-        let None = taken else {
-            unreachable!()
-        };
+        let None = taken else { unreachable!() };
         W::pass::<_, _, _, _, StepOut<M>>(&self.table.shared, seat, self.layout.seats, number);
     }
 
@@ -231,5 +229,71 @@ impl<B, K: Keeper<B>, W: Board, const ENTRIES: u64> Lock<B, K, W, ENTRIES> {
                 .join_seat::<Gather<K>>(&mut whole, chair.into_seat());
         }
         whole
+    }
+}
+
+impl<B: Send, K: Keeper<B>, W: Board + Sync, const ENTRIES: u64> Turn<B, K>
+    for Lock<B, K, W, ENTRIES> {
+    ghost use Rattle.turn.specs.Chairs.{lock_id, view, AreAll};
+
+    const ENTRIES: u64 = ENTRIES;
+
+    ghost ENTRIES = { ENTRIES };
+
+    ghost id = { λ l. lock_id l.table.shared.table_id ENTRIES };
+
+    ghost size = { λ l. l.layout.seats };
+
+    fn new(alloc: Global, book: B, seats: usize) -> Result<(Self, Vec<Chair<B, K>>), AllocError>
+    where
+        B: Drop,
+    {
+        let chairs = Vec::with_capacity(alloc, seats)?;
+        let words = W::words(alloc, seats)?;
+        let mut slots = Vec::with_capacity(alloc, 1)?;
+        slots.push_reserved(Some(book));
+        let sizes = Sizes {
+            seats,
+            entries: ENTRIES,
+        };
+        let Ok((table, rest)) = Table::new(alloc, words.as_slice(), slots, &sizes) else {
+            return Err(AllocError);
+        };
+        let layout = Layout {
+            seats,
+            words: words.len(),
+            board: PhantomData,
+        };
+        let lock = Lock { table, layout };
+        let chairs = lock.deal(rest, chairs);
+        Ok((lock, chairs))
+    }
+
+    fn enter<R: Wait>(&self, rt: &R, chair: &mut Chair<B, K>) -> Result<(Held, B), Spent> {
+        if chair.entries == chair.limit {
+            return Err(Spent);
+        }
+        let number = self.draw(&mut chair.seat);
+        let book = self.step_in(rt, &mut chair.seat, number);
+        chair.entries += 1;
+        Ok((Held { number }, book))
+    }
+
+    fn leave<M: Outcome<B, K::View>>(&self, chair: &mut Chair<B, K>, held: Held, book: B) {
+        let Held { number } = held;
+        self.hand_in::<M>(&mut chair.seat, number, book);
+    }
+
+    fn close(self, chairs: Vec<Chair<B, K>>) -> B
+        requires { AreAll (lock_id self.table.shared.table_id ENTRIES) self.layout.seats chairs.items }
+        ensures { K.fact result (map view chairs.items) }
+    {
+        let whole = self.gather(chairs);
+        let Lock { table, layout: _ } = self;
+        let mut closed = table.close_with(whole);
+        let slot = closed.take(0);
+        closed.free();
+        let Some(book) = slot else { unreachable!() };
+        book
     }
 }

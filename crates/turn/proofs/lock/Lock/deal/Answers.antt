@@ -1,4 +1,4 @@
-use Rattle.std.proofs.Common.{◌<◌, Option, arith}
+use Rattle.std.proofs.Common.{Option, arith}
 use Rattle.turn.specs.declared.chair.Sitting.{Sitting}
 use Rattle.turn.specs.Tickets.{Turns}
 use Rattle.turn.proofs.Places.{deals}
@@ -11,7 +11,7 @@ split_seat-seat-requires g c =
     let wide = lock.wide in
     let laid = lock.layout.wide in
     let some = lock.layout.some in
-    let laws = g.met.W.Board g.world.𝓛 g.world.𝓜 g.world.𝓡 ((λ s x. x), (λ x. x), (λ x. x), λ x. x) in
+    let laws = g.met.W.Board in
     let here = laws.lawful lock.layout.seats (omega arith) in
     let within = here.within 0 in
     let d = c.loop.invariant.0 in

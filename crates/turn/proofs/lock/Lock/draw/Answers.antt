@@ -1,4 +1,4 @@
-use Rattle.std.proofs.Common.{ℕ, ◌<◌, arith}
+use Rattle.std.proofs.Common.{◌<◌, arith}
 use Rattle.turn.proofs.Rounds.{draws_allowed}
 use Rattle.turn.proofs.lock.Lock.draw.Goals as goal
 
@@ -12,7 +12,7 @@ fetch_add-requires g c =
     let n = lock.table.shared.key.seats in
     let positive : 0 < n = omega arith in
     let left = c.requires.left in
-    let laws = g.met.W.Board g.world.𝓛 g.world.𝓜 g.world.𝓡 ((λ s x. x), (λ x. x), (λ x. x), λ x. x) in
+    let laws = g.met.W.Board in
     let here = laws.lawful lock.layout.seats (omega arith) in
     let board = laws.lawful n positive in
     let within = here.within 0 in
