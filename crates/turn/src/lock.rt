@@ -297,3 +297,11 @@ impl<B: Send, K: Keeper<B>, W: Board + Sync, const ENTRIES: u64> Turn<B, K>
         book
     }
 }
+
+impl<B: Drop, K: Keeper<B>, W: Board, const ENTRIES: u64> Drop for Lock<B, K, W, ENTRIES> {
+    fn drop(self) {
+        let Lock { table, layout } = self;
+        drop(table);
+        drop(layout);
+    }
+}
