@@ -1,6 +1,6 @@
 -- Lists read by `get_elem?`. The lemmas of atomic_table are passed on, for the crates above.
 pub use Rattle.atomic_table.proofs.Lists.{at_set, set_here, set_else, set_again, at_longer, at_last, at_map}
-use Rattle.std.proofs.Common.{◌≡◌, ℕ, zero, suc, ◌<◌, ◌⊎◌, List, [], ◌∷◌, ◌++◌, map, length, set, refl, sym, ap, ◌∙◌, inl, inr, ⊎_elim, arith}
+use Rattle.std.proofs.Common.{◌≡◌, ℕ, zero, suc, ◌<◌, ◌⊎◌, List, [], ◌∷◌, ◌++◌, map, length, get_or, set, refl, sym, ap, ◌∙◌, inl, inr, ⊎_elim, arith}
 use mathlib.Core.Option.{some, some-injective, some-ne-none}
 use lib.ListN.{get_elem?}
 
@@ -17,6 +17,12 @@ module _ {A : Type 0} where
   at_below [] j a e = absurd (some-ne-none a (sym e))
   at_below (x ∷ xs) zero a e = omega arith
   at_below (x ∷ xs) (suc j) a e = let h = at_below xs j a e in omega arith
+
+  -- what `get_or` reads at a place with an element
+  pub read_at : (l : List A) (j : ℕ) (a d : A) → get_elem? l j ≡ some a → get_or l j d ≡ a
+  read_at [] j a d e = absurd (some-ne-none a (sym e))
+  read_at (x ∷ xs) zero a d e = some-injective x a e
+  read_at (x ∷ xs) (suc j) a d e = read_at xs j a d e
 
   -- two elements at one place are one
   pub at_once : (l : List A) (j : ℕ) (a b : A) → get_elem? l j ≡ some a → get_elem? l j ≡ some b → a ≡ b
