@@ -16,7 +16,7 @@ use Rattle.turn.specs.Chairs.{lock_id, lock, place, view, IsOutside, IsFresh, Ar
 use Rattle.turn.specs.Places.{chairs_of, rest_of, first_of, both_of, Dealt}
 use Rattle.turn.specs.Tickets.{number, shelf, view_of, drawn, Turns, Fits}
 use Rattle.turn.specs.Moves.{fresh, deck, Sits}
-use Rattle.turn.proofs.Lists.{at_end, at_longer, at_last}
+use Rattle.turn.proofs.Lists.{at_end, at_longer, at_last, at_unmap}
 use Rattle.turn.proofs.Places.{opens, gathered}
 use Rattle.turn.proofs.Steps.{not_true, inside_outside}
 
@@ -30,11 +30,6 @@ module _ {A B : Type 0} where
   map_replicate : (f : A → B) (n : ℕ) (a : A) → map f (replicate n a) ≡ replicate n (f a)
   map_replicate f zero a = refl
   map_replicate f (suc n) a = ap (λ t. f a ∷ t) (map_replicate f n a)
-
-  at_unmap : (f : A → B) (l : List A) (k : ℕ) (b : B) → get_elem? (map f l) k ≡ some b → (a : A) × (get_elem? l k ≡ some a) × (f a ≡ b)
-  at_unmap f [] k b e = absurd (some-ne-none b (sym e))
-  at_unmap f (x ∷ xs) zero b e = (x, refl, some-injective (f x) b e)
-  at_unmap f (x ∷ xs) (suc k) b e = at_unmap f xs k b e
 
 map_map : {A B C : Type 0} (g : B → C) (f : A → B) (l : List A) → map g (map f l) ≡ map (λ a. g (f a)) l
 map_map g f [] = refl

@@ -1,5 +1,5 @@
 -- Lists read by `get_elem?`. The lemmas of atomic_table are passed on, for the crates above.
-pub use Rattle.atomic_table.proofs.Lists.{at_set, set_here, set_else, set_again, at_longer, at_last, at_map}
+pub use Rattle.atomic_table.proofs.Lists.{at_index, at_set, set_here, set_else, set_again, at_longer, at_last, at_map}
 use Rattle.std.proofs.Common.{◌≡◌, ℕ, zero, suc, ◌<◌, ◌⊎◌, List, [], ◌∷◌, ◌++◌, map, length, get_or, set, refl, sym, ap, ◌∙◌, inl, inr, ⊎_elim, arith}
 use mathlib.Core.Option.{some, some-injective, some-ne-none}
 use lib.ListN.{get_elem?}
@@ -49,3 +49,9 @@ module _ {A B : Type 0} where
   map-set f [] i a = refl
   map-set f (x ∷ xs) zero a = refl
   map-set f (x ∷ xs) (suc i) a = ap (λ t. f x ∷ t) (map-set f xs i a)
+
+  -- what stands in a list of images is an image
+  pub at_unmap : (f : A → B) (l : List A) (k : ℕ) (b : B) → get_elem? (map f l) k ≡ some b → (a : A) × (get_elem? l k ≡ some a) × (f a ≡ b)
+  at_unmap f [] k b e = absurd (some-ne-none b (sym e))
+  at_unmap f (x ∷ xs) zero b e = (x, refl, some-injective (f x) b e)
+  at_unmap f (x ∷ xs) (suc k) b e = at_unmap f xs k b e

@@ -1,12 +1,13 @@
 //! Counting under a lock.
 ghost use Rattle.std.specs.Prelude.{◌≡◌, ℕ, [], ◌∷◌, ◌+◌, ◌*◌, ◌^◌, ◌<◌, ◌≤◌, length, map, sum, vec_capacity, MatchOption, MatchResult, OnOk, OnErr, IfOk};
+ghost use Rattle.std.specs.List.{list_all};
 ghost use Rattle.turn.specs.Chairs.{lock, place, view, entries, IsOutside, IsSameChair, AreAll};
 ghost use Rattle.turn_uses.specs.Tallies.{IsNew, HasAdded};
 
 use crate::tally::{AddsOne, Tally};
 use std::alloc::{AllocError, Global};
 use std::sync::Wait;
-use std::thread::{Threads, join};
+use std::thread::{Threads, join, map_vec};
 use turn::{Chair, Spent, Turn};
 
 /// Adds one to the count.
@@ -126,6 +127,54 @@ pub fn count_in_two<T: Turn<u64, Tally>, R: Threads + Wait + Sync>(
     );
     let count = close_two(turn, chairs, first, second);
     if one && two {
+        Ok(Some(count))
+    } else {
+        Ok(None)
+    }
+}
+
+// The chairs of so many threads, in order, and whether each could enter as often as it was to.
+fn chairs_of(
+    alloc: Global,
+    results: Vec<(Chair<u64, Tally>, bool)>,
+) -> Result<(Vec<Chair<u64, Tally>>, bool), AllocError>
+    ensures chairs { IfOk result (λ r. r.0.items ≡ map (λ p. p.0) results.items) }
+    ensures done { IfOk result (λ r. r.1 ≡ list_all (λ p. p.1) results.items) }
+{
+    let mut chairs = Vec::with_capacity(alloc, results.len())?;
+    let mut all = true;
+    for (chair, done) in results {
+        chairs.push(chair)?;
+        all = all && done;
+    }
+    Ok((chairs, all))
+}
+
+/// What so many threads count that add one so many times each; None where a chair may not enter as often.
+pub fn count_in_many<T: Turn<u64, Tally> + Drop, R: Threads + Wait + Sync>(
+    rt: &R,
+    alloc: Global,
+    threads: usize,
+    times: u64,
+) -> Result<Option<u64>, AllocError>
+    requires threads { (1 ≤ threads) × (threads ≤ 2 ^ 16) }
+    requires room { times ≤ 2 ^ 32 }
+    requires entries { threads * T.ENTRIES < 2 ^ 64 }
+    ensures { IfOk result (λ count. MatchOption count (T.ENTRIES < times) (λ n. (n ≡ threads * times) × (times ≤ T.ENTRIES))) }
+{
+    let (turn, chairs) = T::new(alloc, 0, threads)?;
+    let shared = &turn;
+    let results = map_vec(
+        rt,
+        chairs,
+        &|chair: Chair<u64, Tally>| -> (Chair<u64, Tally>, bool)
+            requires { IsNew (T.id shared.now) chair × (times ≤ 2 ^ 32) }
+            ensures { HasAdded T.ENTRIES times chair result.0 result.1 }
+        { added(rt, shared, chair, times) },
+    )?;
+    let (chairs, all) = chairs_of(alloc, results)?;
+    let count = turn.close(chairs);
+    if all {
         Ok(Some(count))
     } else {
         Ok(None)

@@ -5,5 +5,5 @@
 mod counting;
 mod tally;
 
-pub use counting::{add_many, add_one, count_in_two};
+pub use counting::{add_many, add_one, count_in_many, count_in_two};
 pub use tally::{AddsOne, Tally};
