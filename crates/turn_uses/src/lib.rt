@@ -4,6 +4,8 @@
 
 mod counting;
 mod tally;
+#[cfg(test)]
+mod tests;
 
 pub use counting::{add_many, add_one, count_in_many, count_in_two};
 pub use tally::{AddsOne, Tally};
