@@ -16,7 +16,7 @@ use Rattle.turn.specs.Chairs.{lock_id, lock, place, view, IsOutside, IsFresh, Ar
 use Rattle.turn.specs.Places.{chairs_of, rest_of, first_of, both_of, Dealt}
 use Rattle.turn.specs.Tickets.{number, shelf, view_of, drawn, Turns, Fits}
 use Rattle.turn.specs.Moves.{fresh, deck, Sits}
-use Rattle.turn.proofs.Lists.{at_end, at_longer, at_last, at_unmap}
+use Rattle.turn.proofs.Lists.{at_end, at_longer, at_last, at_once, at_unmap}
 use Rattle.turn.proofs.Places.{opens, gathered}
 use Rattle.turn.proofs.Steps.{not_true, inside_outside}
 
@@ -69,11 +69,11 @@ module _ (B V : Type 0) (fact : B → List V → Type 0) (shows : List ℕ → �
   begins (suc n) words book v any room next shown keeps =
       opens (Option B) (Sitting B V) (suc n) (Turns fact shows limit) words (Some book ∷ []) (deck v 0 (suc n)) refl refl (length-replicate (suc n) (fresh {B = B} v)) (first_turns (suc n) words book v room next shown keeps)
 
-  -- the last table has the book in its slot, and the fact holds of it and the chairs' views
-  pub ends : (n id : ℕ) (v : Hand (Sitting B V)) (cs : List (Seating B V)) (words : List ℕ) (slots : List (Option B)) → v.live ≡ true → v.place ≡ 0 → chairs_of v ≡ map sitting_of cs → length cs ≡ n
+  -- the slot of the last table has the book, and the fact holds of it and the chairs' views
+  pub ends : (n id : ℕ) (v : Hand (Sitting B V)) (cs : List (Seating B V)) (words : List ℕ) (slots : List (Option B)) (slot : Option B) → v.live ≡ true → v.place ≡ 0 → chairs_of v ≡ map sitting_of cs → length cs ≡ n
       → ((k : ℕ) (c : Seating B V) → get_elem? cs k ≡ some c → IsOutside c) → Final (Seen (Dealt n (Turns fact shows limit)) id v) words slots
-      → (book : B) × (get_elem? slots 0 ≡ some (Some book)) × fact book (map view cs)
-  ends n id v cs words slots live first all long outside last =
+      → get_elem? slots 0 ≡ some slot → (book : B) × (slot ≡ Some book) × fact book (map view cs)
+  ends n id v cs words slots slot live first all long outside last found =
       let s = last.0 in
       let d = last.1.0 in
       let t = d.keeps in
@@ -85,7 +85,8 @@ module _ (B V : Type 0) (fact : B → List V → Type 0) (shows : List ℕ → �
       inside_outside q.1 t.book (sym q.4 ∙ ap (λ (x : Sitting B V). x.stage) (sym c.2) ∙ outside q.0 c.0 c.1)) in
       let lies : s.homes ≡ some (Some t.book) ∷ [] = t.lies ∙ ap (λ (o : Bool). shelf o t.book) off in
       let views : map view_of d.chairs ≡ map view cs = ap (map view_of) chairs ∙ map_map view_of sitting_of cs in
-      (t.book, last.4 0 (Some t.book) (ap (λ (hs : List (maybe.Option (Option B))). get_elem? hs 0) lies), subst (λ (vs : List V). fact t.book vs) views t.kept)
+      let full : get_elem? slots 0 ≡ some (Some t.book) = last.4 0 (Some t.book) (ap (λ (hs : List (maybe.Option (Option B))). get_elem? hs 0) lies) in
+      (t.book, at_once slots 0 slot (Some t.book) found full, subst (λ (vs : List V). fact t.book vs) views t.kept)
 
 module _ {B V : Type 0} where
   -- the chairs that were dealt, and the seat with the places that are left
@@ -181,3 +182,7 @@ module _ {B V : Type 0} where
                 ∙ append_assoc (map sitting_of rest') (sitting_of c ∷ []) (chairs_of whole.me.0) ∙ ap (λ (m : Me (Option B) (Hand (Sitting B V))). map sitting_of rest' ++ chairs_of m.0) (sym joined);
             left = λ k x f. each_left k x (at_longer rest' (c ∷ []) k x f);
           }
+
+-- a list of one, pushed to an empty one
+pub pushed_one : {A : Type 0} (before after : List A) (a : A) → before ≡ [] → after ≡ before ++ a ∷ [] → after ≡ a ∷ []
+pushed_one {A = A} before after a empty e = e ∙ ap (λ (l : List A). l ++ a ∷ []) empty

@@ -1,4 +1,5 @@
 pub mod Lists
+pub mod ChairLists
 mod Places
 mod Steps
 mod Rounds

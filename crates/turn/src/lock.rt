@@ -305,3 +305,6 @@ impl<B: Drop, K: Keeper<B>, W: Board, const ENTRIES: u64> Drop for Lock<B, K, W,
         drop(layout);
     }
 }
+
+#[cfg(test)]
+mod tests;
