@@ -44,5 +44,5 @@ flat_map_next f xs i x old mid new at before this =
 pub flat_map_front : {A : Type 0} (f : A → List ℕ) (xs : List A) (i : ℕ) (x : A) (old mid new : Option (List ℕ)) → slice_get xs i ≡ Some x → Appends old mid (flat_map f (take i xs)) → AppendsFront mid new (f x) → AppendsFront old new (flat_map f xs)
 flat_map_front f xs i x old mid new at before this =
     let whole : flat_map f xs ≡ (flat_map f (take i xs) ++ f x) ++ flat_map f (drop (suc i) xs) =
-      ap (flat_map f) (sym (take-append-drop (suc i) xs)) ∙ flat_map-append f (take (suc i) xs) (drop (suc i) xs) ∙ ap (λ l. l ++ flat_map f (drop (suc i) xs)) (ap (flat_map f) (take-suc_at xs i x at) ∙ flat_map-append f (take i xs) (x ∷ []) ∙ ap (λ l. flat_map f (take i xs) ++ l) (append-nil (f x))) in
+    ap (flat_map f) (sym (take-append-drop (suc i) xs)) ∙ flat_map-append f (take (suc i) xs) (drop (suc i) xs) ∙ ap (λ l. l ++ flat_map f (drop (suc i) xs)) (ap (flat_map f) (take-suc_at xs i x at) ∙ flat_map-append f (take i xs) (x ∷ []) ∙ ap (λ l. flat_map f (take i xs) ++ l) (append-nil (f x))) in
     rw whole (front_longer old new (flat_map f (take i xs) ++ f x) (flat_map f (drop (suc i) xs)) (front_then old mid new (flat_map f (take i xs)) (f x) before this))

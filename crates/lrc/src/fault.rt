@@ -1,15 +1,13 @@
 //! Why the program ends without a report.
 
-use std::alloc::AllocError;
-use std::io;
-use std::io::ErrorKind;
-
-use lrc_script::fault::ScriptFault;
-use thiserror::Error;
-
 use crate::one_processor::Refused;
 use crate::render::OutFault;
 use crate::report::{Cause, RunFault};
+use lrc_script::fault::ScriptFault;
+use std::alloc::AllocError;
+use std::io;
+use std::io::ErrorKind;
+use thiserror::Error;
 
 /// What the program says on standard error after `lrc: `.
 #[derive(Clone, Copy, Debug, PartialEq, Eq, Error)]

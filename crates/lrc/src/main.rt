@@ -9,18 +9,18 @@ mod program;
 mod render;
 mod report;
 mod run;
+#[cfg(test)]
+mod tests;
 mod words;
-
-use std::fs::File;
-use std::io::Write;
-use std::process::ExitCode;
-
-use clap::Error;
-use clap::error::ErrorKind;
 
 use crate::fault::ProgramFault;
 use crate::program::program;
 use crate::words::options;
+use clap::Error;
+use clap::error::ErrorKind;
+use std::fs::File;
+use std::io::Write;
+use std::process::ExitCode;
 
 /// Says why the program doesn't start, and answers its status.
 fn refuse(rt: &HostRuntime, fault: ProgramFault) -> u8 {

@@ -4,13 +4,11 @@ ghost use Rattle.std.specs.List.{flat_map};
 ghost use Rattle.lrc.specs.ReportText.{piece_text, word_line, verdict_line, traffic_line, report_text};
 ghost use Rattle.lrc.specs.Writing.{Writes};
 
-use std::io::Write;
-
+use crate::report::Report;
 use itoa::Buffer;
 use journal::Traffic;
+use std::io::Write;
 use thiserror::Error;
-
-use crate::report::Report;
 
 /// A write failed or took no byte.
 #[derive(Clone, Copy, Debug, PartialEq, Eq, Error)]

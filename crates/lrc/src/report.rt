@@ -1,12 +1,10 @@
 //! What a run of a script answers.
 
-use std::alloc::AllocError;
-
-use journal::{Journal, Traffic};
-use thiserror::Error;
-
 use crate::gate::Stopped;
 use crate::one_processor::Refused;
+use journal::{Journal, Traffic};
+use std::alloc::AllocError;
+use thiserror::Error;
 
 /// The answer of a run: the shown addresses in order with their last words, whether the journal has a
 /// race, its traffic, and the journal itself.

@@ -8,13 +8,11 @@ ghost use Rattle.lrc.specs.Runs.{IsReportOf};
 ghost use Rattle.lrc.specs.Machine.{Calls};
 ghost use Rattle.lrc.specs.Follows.{DoesInstruction, DoesAll, IsWithin, load_of};
 
-use std::alloc::{AllocError, Global};
-
-use lrc_script::script::{Instruction, Script};
-
 use crate::gate::Gate;
 use crate::one_processor::{OneProcessor, Refused};
 use crate::report::{Cause, Report, RunFault};
+use lrc_script::script::{Instruction, Script};
+use std::alloc::{AllocError, Global};
 
 /// Loads the word at an address, after a flush where the block is full.
 fn load(memory: &mut OneProcessor, address: usize) -> Result<u32, Refused>
@@ -67,7 +65,11 @@ fn do_instruction(memory: &mut OneProcessor, instruction: Instruction) -> Result
 }
 
 /// Does the instructions of processor 0's section, each behind the gate.
-fn do_section<G: Gate>(memory: &mut OneProcessor, gate: &G, section: &[Instruction]) -> Result<(), Cause>
+fn do_section<G: Gate>(
+    memory: &mut OneProcessor,
+    gate: &G,
+    section: &[Instruction],
+) -> Result<(), Cause>
     requires served { All IsServed section.now }
     requires in_range { All (IsWithin memory.old.addresses) section.now }
     ensures { OnOk result (DoesAll memory.old memory.new section.now) }
@@ -80,7 +82,11 @@ fn do_section<G: Gate>(memory: &mut OneProcessor, gate: &G, section: &[Instructi
 }
 
 /// Loads the shown addresses in order.
-fn show(alloc: Global, memory: &mut OneProcessor, shown: &[usize]) -> Result<Vec<(usize, u32)>, Refused>
+fn show(
+    alloc: Global,
+    memory: &mut OneProcessor,
+    shown: &[usize],
+) -> Result<Vec<(usize, u32)>, Refused>
     requires { All (λ a. a < memory.old.addresses) shown.now }
     ensures calls { IfOk result (λ words. Calls memory.old memory.new (map load_of words.items)) }
     ensures addresses { IfOk result (λ words. map (λ x. x.0) words.items ≡ shown.now) }
@@ -122,5 +128,8 @@ pub fn run<G: Gate>(alloc: Global, script: &Script, gate: &G) -> Result<Report, 
     requires { IsLawful (plan_of script.now) }
     ensures { IfOk result (IsReportOf (plan_of script.now)) }
 {
-    run_alone(alloc, script, gate).map_err(|cause| RunFault { processor: 0, cause })
+    run_alone(alloc, script, gate).map_err(|cause| RunFault {
+        processor: 0,
+        cause,
+    })
 }

@@ -4,11 +4,9 @@ ghost use Rattle.std.specs.Prelude.{◌≡◌, IfOk, map, option_map, string_byt
 ghost use Rattle.lrc.specs.Words.{lrc_app, file_in, file_given};
 ghost use Rattle.clap.specs.Words.{app_of, subcommand_rows_of};
 
-use std::alloc::{AllocError, Global};
-
-use clap::{Arg, ArgMatches, Command, Error};
-
 use crate::options::Options;
+use clap::{Arg, ArgMatches, Command, Error};
+use std::alloc::{AllocError, Global};
 
 /// The command that the words are read by.
 fn command<'a>(alloc: Global) -> Result<Command<'a>, AllocError>
