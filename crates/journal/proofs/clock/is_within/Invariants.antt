@@ -1,4 +1,4 @@
-use Rattle.std.proofs.Common.{◌≡◌, ◌≢◌, ◌↔◌, ℕ, ◌<◌, ◌≤◌, IsTrue, slice_index}
+use Rattle.std.proofs.Common.{◌≢◌, ◌↔◌, ℕ, ◌<◌, ◌≤◌, IsTrue, slice_index}
 use Rattle.journal.proofs.clock.is_within.Given as goal
 
 abbrev pub invariant-loop-q : goal.invariant-loop-q
