@@ -59,6 +59,17 @@ note-requires-clause-interval c =
     let few = c.requires.few in
     omega arith
 
+pub race_at-requires-clause-room : goal.race_at-requires-clause-room
+race_at-requires-clause-room c =
+    let e = here c.args.events.now c.loop-place.place in
+    let at = slice_get-get_or c.args.events.now c.loop-place.place (record { processor = 0; kind = Load 0 0 }) (omega arith) in
+    let lt = c.requires.processors c.loop-place.place e at in
+    let small = time_small (take c.loop-place.place c.args.events.now) (InPast (take c.loop-place.place c.args.events.now) e.processor) (entry c.loop-place.clocks.processors.items e.processor) e.processor (c.loop-place.invariant.0.times e.processor lt) in
+    let long = length-take-le c.loop-place.place c.args.events.now (omega arith) in
+    let is = c.of.ensures e.processor in
+    let few = c.requires.few in
+    omega arith
+
 pub note-requires-clause-stores : goal.note-requires-clause-stores
 note-requires-clause-stores c =
     let at = slice_get-get_or c.args.events.now c.loop-place.place (record { processor = 0; kind = Load 0 0 }) (omega arith) in
