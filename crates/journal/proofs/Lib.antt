@@ -16,3 +16,5 @@ pub mod Uses
 mod Entries
 mod ClockSteps
 mod RaceSteps
+pub mod Blocks
+pub mod Brought
