@@ -36,3 +36,5 @@ pub mod MissingKept
 pub mod Counted
 pub mod Pages
 pub mod Dirty
+pub mod Blocks
+pub mod Brought

@@ -111,3 +111,10 @@ holds_cases j e p l h = elim (push_cases j e h.place (record { processor = p; ki
   )
   | inr new ↦ inr new.1
 ]
+
+-- a processor's last event after one more: that one, or another processor's before it
+pub last_cases : (j : List Event) (e : Event) (p i : ℕ) (a : Kind) → LastIs (j ++ e ∷ []) p i a → ((e.processor ≡ p) × (i ≡ length j) × (a ≡ e.kind)) ⊎ ((e.processor ≢ p) × LastIs j p i a)
+last_cases j e p i a x = elim (cases_eq e.processor p) [
+  | inl is ↦ (let same = last_unique (j ++ e ∷ []) p i (length j) a e.kind x (subst (λ q. LastIs (j ++ e ∷ []) q (length j) e.kind) is (last_now j e)) in inl (is, same.0, same.1))
+  | inr isnt ↦ inr (isnt, last_shorter j (e ∷ []) p i a (λ m f at same. elim (push_cases [] e m f at) [ inl old ↦ absurd (none-some f old.1) | inr new ↦ isnt (ap (λ y. y.processor) new.1 ∙ same) ]) x)
+]

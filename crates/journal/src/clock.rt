@@ -23,16 +23,30 @@ pub(crate) fn tick(clock: &mut Clock, processor: usize)
     requires room { slice_index clock.old processor < 2 ^ 22 }
     ensures { (q : ℕ) → slice_index clock.new q ≡ slice_index clock.old q + cond (processor == q) 1 0 }
 {
-    clock[processor] += 1;
+    // Entry by entry, so that the whole timestamp can be read at once right after.
+    for q in 0..16 {
+        clock[q] += u32::from(q == processor);
+    }
 }
 
-/// Whether each entry but the processor's is at most the other timestamp's.
-pub(crate) fn is_within(clock: &Clock, other: &Clock, processor: usize) -> bool
-    ensures { IsTrue result ↔ ((q : ℕ) → q ≢ processor → slice_index clock.now q ≤ slice_index other.now q) }
+/// The timestamp with one more closing event of the processor.
+pub(crate) fn ticked(clock: &Clock, processor: usize) -> Clock
+    requires processor { processor < 16 }
+    requires room { slice_index clock.now processor < 2 ^ 22 }
+    ensures { (q : ℕ) → slice_index result q ≡ slice_index clock.now q + cond (processor == q) 1 0 }
+{
+    let mut next = *clock;
+    tick(&mut next, processor);
+    next
+}
+
+/// Whether each entry is at most the other timestamp's.
+pub(crate) fn is_within(clock: &Clock, other: &Clock) -> bool
+    ensures { IsTrue result ↔ ((q : ℕ) → slice_index clock.now q ≤ slice_index other.now q) }
 {
     let mut within = true;
     for q in 0..16 {
-        within &= q == processor || clock[q] <= other[q];
+        within &= clock[q] <= other[q];
     }
     within
 }
@@ -82,7 +96,6 @@ pub(crate) fn set_at(clocks: &mut [Clock], place: usize, processor: usize, value
     ensures set { entry clocks.new place processor ≡ value }
     ensures same { (n q : ℕ) → (n ≢ place) ⊎ (q ≢ processor) → entry clocks.new n q ≡ entry clocks.old n q }
 {
-    let mut clock = clocks[place];
+    let clock = &mut clocks[place];
     clock[processor] = value;
-    clocks[place] = clock;
 }

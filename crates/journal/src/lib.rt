@@ -7,9 +7,9 @@ mod clocks;
 mod event;
 mod journal;
 mod race;
-mod replay;
 #[cfg(test)]
 mod race_tests;
+mod replay;
 mod slow;
 #[cfg(test)]
 mod slow_tests;

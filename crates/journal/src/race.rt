@@ -8,7 +8,7 @@ ghost use Rattle.journal.specs.InRange.{AddressInRange, AddressesInRange, Proces
 ghost use Rattle.journal.specs.Entries.{entry};
 ghost use Rattle.journal.specs.Accesses.{AreAccesses, IsNoted};
 
-use crate::clock::{Clock, is_within, set_at, tick};
+use crate::clock::{Clock, is_within, set_at, tick, ticked};
 use crate::clocks::{Clocks, closes};
 use crate::event::{Event, Kind};
 use std::alloc::{AllocError, Global};
@@ -35,16 +35,22 @@ impl Accesses {
     /// Whether the earlier accesses by others that conflict with the event lie in intervals that the
     /// timestamp counts.
     fn are_counted(&self, event: Event, time: &Clock) -> bool
+        requires processor { event.processor < 16 }
+        requires room { slice_index time.now event.processor < 2 ^ 22 }
         requires stores { AddressInRange (vec_len self.now.stores) event.kind }
         requires loads { AddressInRange (vec_len self.now.loads) event.kind }
         ensures stores { IsTrue result → (a q : ℕ) → address_of event.kind ≡ Some a → q ≢ event.processor → entry self.now.stores.items a q ≤ slice_index time.now q }
         ensures loads { IsTrue result → (a v q : ℕ) → event.kind ≡ Kind.Store a v → q ≢ event.processor → entry self.now.loads.items a q ≤ slice_index time.now q }
     {
         match event.kind {
-            Kind::Load(address, _) => is_within(&self.stores[address], time, event.processor),
+            // The processor's own accesses lie in its open interval at the latest.
+            Kind::Load(address, _) => {
+                let now = ticked(time, event.processor);
+                is_within(&self.stores[address], &now)
+            }
             Kind::Store(address, _) => {
-                is_within(&self.stores[address], time, event.processor)
-                    && is_within(&self.loads[address], time, event.processor)
+                let now = ticked(time, event.processor);
+                is_within(&self.stores[address], &now) && is_within(&self.loads[address], &now)
             }
             _ => true,
         }
@@ -116,6 +122,8 @@ impl Accesses {
         requires processors { ProcessorsInRange 16 events.now }
         requires stores { AddressInRange (vec_len self.now.stores) event.kind }
         requires loads { AddressInRange (vec_len self.now.loads) event.kind }
+        requires processor { event.processor < 16 }
+        requires room { slice_index time.now event.processor < 2 ^ 22 }
         requires time { IsTimeOf (take place events.now) event.processor (slice_index time.now) }
         requires kept { AreAccesses (take place events.now) (vec_len self.now.stores) self.now }
         ensures { MatchOption result ((i : ℕ) → ¬ Race events.now i place) (λ i. Race events.now i place × ((m : ℕ) → Race events.now m place → i ≤ m)) }

@@ -177,3 +177,26 @@ fn flags_and_barrier(rt: HostRuntime) -> Result<(), Fail> {
     assert_eq!(rt; first_race_in(&rt, rt.alloc(), &events)?, Some((9, 11)));
     Ok(())
 }
+
+/// A journal of 2^20 events of eight processors under locks is checked within a test's time.
+#[test]
+fn long_journal(rt: HostRuntime) -> Result<(), Fail> {
+    let mut events = Vec::new(rt.alloc());
+    for round in 0..131072usize {
+        let processor = round % 8;
+        let lock = round / 8 % 32;
+        let address = lock * 128 + round / 256 % 128;
+        events.push(by(processor, Kind::Ask(lock)))?;
+        events.push(by(processor, Kind::Acquire(lock)))?;
+        events.push(by(processor, Kind::Load(address, 0)))?;
+        events.push(by(processor, Kind::Store(address, 0)))?;
+        events.push(by(processor, Kind::Store(address, 0)))?;
+        events.push(by(processor, Kind::Load(address, 0)))?;
+        events.push(by(processor, Kind::Load(address, 0)))?;
+        events.push(by(processor, Kind::Release(lock)))?;
+    }
+    let journal = journal_of(&rt, rt.alloc(), 8, 4096, &events)?;
+    assert_eq!(rt; journal.len(), 1048576);
+    assert_eq!(rt; journal.first_race()?, None);
+    Ok(())
+}

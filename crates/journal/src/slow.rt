@@ -47,7 +47,10 @@ fn arrivals_before(events: &[Event], place: usize, processor: usize) -> usize
     ensures { result ≡ count_of is_arrive (take place events.now) processor }
 {
     let front = &events[..place];
-    front.iter().filter(|e| e.processor == processor && arrives(e.kind)).count()
+    front
+        .iter()
+        .filter(|e| e.processor == processor && arrives(e.kind))
+        .count()
 }
 
 /// How often the processor has departed before this place.
@@ -56,7 +59,10 @@ fn departures_before(events: &[Event], place: usize, processor: usize) -> usize
     ensures { result ≡ count_of is_depart (take place events.now) processor }
 {
     let front = &events[..place];
-    front.iter().filter(|e| e.processor == processor && departs(e.kind)).count()
+    front
+        .iter()
+        .filter(|e| e.processor == processor && departs(e.kind))
+        .count()
 }
 
 /// Whether an edge leads from the first place to the second.

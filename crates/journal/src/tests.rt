@@ -40,7 +40,7 @@ pub(crate) fn journal_of<R: Abort>(
     for event in events {
         let event = *event;
         assert!(rt; is_taken(event, processors, addresses));
-        assert!(rt; journal.len() < 1000);
+        assert!(rt; journal.len() < 2097152);
         journal.reserve(1)?;
         journal.append(event);
     }

@@ -1,4 +1,4 @@
-use Rattle.std.proofs.Common.{◌≡◌, ◌<◌, true, arith}
+use Rattle.std.proofs.Common.{◌<◌, true, arith}
 use Rattle.std.proofs.lemmas.Option.{slice_get_within}
 use Rattle.journal.proofs.Order.{ends_within}
 use Rattle.journal.proofs.slow.places_after.Goals as goal
@@ -14,4 +14,5 @@ returns-clause-marks c = λ m. (
       let within = ends_within c.args.events.now h in
       let over = c.loop-place-test.false in
       let lt : m < c.loop-place.place = omega arith in
-      (c.loop-place.invariant.1 m lt).1 h)
+      (c.loop-place.invariant.1 m lt).1 h,
+)

@@ -1,4 +1,4 @@
-use Rattle.std.proofs.Common.{◌≡◌, ℕ, vec_len, refl, slice_index}
+use Rattle.std.proofs.Common.{vec_len, refl, slice_index}
 use Rattle.journal.proofs.RaceSteps.{no_race}
 use Rattle.journal.proofs.race.Accesses.race_at.Goals as goal
 
