@@ -15,11 +15,11 @@ use Rattle.journal.specs.Groups.{StoresIn, IsContent}
 use Rattle.journal.specs.Missing.{Missing, ClosesBefore, InClosingOrder, AreMissing, AreNews}
 use Rattle.lists.specs.Places.{Has}
 use Rattle.lists.proofs.Joined.{has-nil, has-append, in_order_weaker}
-use Rattle.journal.proofs.Places.{at_within, at_longer, at_shorter, count_of-front, count_of-within}
-use Rattle.journal.proofs.Stores.{stores_within, store_same}
+use Rattle.journal.proofs.Places.{at_within, at_longer, count_of-front, count_of-within}
+use Rattle.journal.proofs.Stores.{store_same}
 use Rattle.journal.proofs.Complete.{gap_block}
 use Rattle.journal.proofs.IntervalNumbers.{number_closed}
-use Rattle.journal.proofs.Gaps.{gap_apart, gap_others, gap_taken}
+use Rattle.journal.proofs.Gaps.{gap_apart, gap_others, gap_taken, stored_on}
 use Rattle.journal.proofs.Contents.{content_on, content_closed}
 
 -- nothing is missing where there is no gap
@@ -55,22 +55,10 @@ contents_on s j es p n missing are x h =
 
 -- events that leave the gap leave the missing intervals
 pub missing_on : (s : Sizes) (j es : List Event) (p n : ℕ) (missing : List Missing) → ((i : ℕ) → InGap s (j ++ es) p n i ↔ InGap s j p n i) → AreMissing s j p n missing → AreMissing s (j ++ es) p n missing
-missing_on s j es p n missing same are = record { each = λ q k. (λ x. there q k ((are.each q k).0 x), λ x. (are.each q k).1 (back q k x)); contents = contents_on s j es p n missing are }
-  where
-    there : (q k : ℕ) → ((a : ℕ) × StoredInGap s j p n (q, k, a)) → (a : ℕ) × StoredInGap s (j ++ es) p n (q, k, a)
-    there q k x =
-        let g = x.1 in
-        let e : Event = record { processor = q; kind = Store x.0 g.1 } in
-        let within = at_within j g.0 e g.2 in
-        (x.0, (g.0, g.1, at_longer j es g.0 e g.2, (same g.0).1 g.3, count_of-front is_closing j es g.0 q (le_of_lt within) ∙ g.4))
-
-    back : (q k : ℕ) → ((a : ℕ) × StoredInGap s (j ++ es) p n (q, k, a)) → (a : ℕ) × StoredInGap s j p n (q, k, a)
-    back q k x =
-        let g = x.1 in
-        let e : Event = record { processor = q; kind = Store x.0 g.1 } in
-        let old = (same g.0).0 g.3 in
-        let within = stores_within s j n g.0 old.store in
-        (x.0, (g.0, g.1, at_shorter j es g.0 e within g.2, old, sym (count_of-front is_closing j es g.0 q (le_of_lt within)) ∙ g.4))
+missing_on s j es p n missing same are = record {
+  each = λ q k. (λ x. let g = (are.each q k).0 x in (g.0, (stored_on s j es p n same (q, k, g.0)).1 g.1), λ g. (are.each q k).1 (g.0, (stored_on s j es p n same (q, k, g.0)).0 g.1));
+  contents = contents_on s j es p n missing are;
+}
 
 -- so others' events
 pub missing_others : (s : Sizes) (j es : List Event) (p n : ℕ) (missing : List Missing) → ((k : ℕ) (e : Event) → At es k e → e.processor ≢ p) → AreMissing s j p n missing → AreMissing s (j ++ es) p n missing

@@ -6,11 +6,13 @@ use Rattle.journal.specs.declared.event.Kind.{Kind}
 use Rattle.journal.specs.declared.event.Kind.TheVariants.{Load, Store, Fetch}
 use Rattle.journal.specs.Sizes.{Sizes}
 use Rattle.journal.specs.Events.{At, is_taking, interval_at}
+use Rattle.journal.specs.WellFormed.{Does}
 use Rattle.journal.specs.Pasts.{InPast}
 use Rattle.journal.specs.Times.{IsTimeOf}
 use Rattle.journal.specs.Copies.{StoresTo, Lawful, HasCount, GapCounts}
 use Rattle.journal.specs.Brought.{IsCopy, Complete}
 use Rattle.journal.specs.Blocks.{write_in, block_done, IsBlock, BlockAnswers, with_page}
+use Rattle.journal.specs.Counted.{BlockCounts}
 use Rattle.journal.specs.Groups.{StoresIn}
 use Rattle.journal.specs.Missing.{Missing, InClosingOrder, AreNews}
 use Rattle.journal.specs.Pages.{Touches, IsValidCopy, IsStaleCopy}
@@ -26,8 +28,9 @@ use Rattle.journal.proofs.CopyLaws.{copy_start, copy_kept}
 use Rattle.journal.proofs.CopySteps.{copy_lawful}
 use Rattle.journal.proofs.Complete.{copy_of_lawful, complete_no_gap, complete_on, complete_others, complete_block, complete_fetched}
 use Rattle.journal.proofs.Gaps.{nothing_taken}
+use Rattle.journal.proofs.Counted.{block_counts_push}
 use Rattle.journal.proofs.MissingLaws.{missing_fetched, missing_counts}
-use Rattle.journal.proofs.MissingKept.{none_missing, missing_others, missing_block, missing_taken, order_on}
+use Rattle.journal.proofs.MissingKept.{none_missing, missing_others, missing_block, missing_taken}
 
 -- at the start each copy is valid and zero
 pub valid_start : (s : Sizes) (p n : ℕ) → IsValidCopy s [] [] p n (replicate s.words 0) (replicate s.words 0)
@@ -136,9 +139,24 @@ stale_fetched s j block p n w r d page missing order stale = record {
       | inr h ↦ (let P : Event → Type 0 = λ g. write_in s n g.kind ≡ None in subst P h.1 refl)
     ]
 
--- the fetch's counts are those of the missing intervals
-pub stale_counts : (s : Sizes) (j block : List Event) (p n writers : ℕ) (page : List ℕ) (missing : List Missing) → IsBlock p block → InClosingOrder j missing → HasCount (λ (q : ℕ). (x : Missing) × Has missing x × (x.owner ≡ q)) writers → IsStaleCopy s j block p n page missing → GapCounts s (j ++ block) p n writers (length missing) (sum_by (λ (x : Missing). length x.words) missing)
-stale_counts s j block p n writers page missing is order count stale = missing_counts s (j ++ block) p n writers missing (stale_handed s j block p n page missing is stale).lacks (order_on j block missing order) count
+-- the fetch's counts are how many owners, intervals and words the missing list has
+pub stale_counted : (s : Sizes) (j block : List Event) (p n writers : ℕ) (page : List ℕ) (missing : List Missing) → InClosingOrder j missing → HasCount (λ (q : ℕ). (x : Missing) × Has missing x × (x.owner ≡ q)) writers → IsStaleCopy s j block p n page missing → BlockCounts s j block p → BlockCounts s j (block ++ record { processor = p; kind = Fetch n writers (length missing) (sum_by (λ (x : Missing). length x.words) missing) } ∷ []) p
+stale_counted s j block p n writers page missing order count stale counts = block_counts_push s j block (record { processor = p; kind = Fetch n writers (length missing) (sum_by (λ (x : Missing). length x.words) missing) }) p new counts
+  where
+    words : ℕ
+    words = sum_by (λ (x : Missing). length x.words) missing
+
+    Result : ℕ → ℕ → ℕ → ℕ → Type 0
+    Result m w r d = GapCounts s j p m w r d × ((i w' r' d' : ℕ) → ¬ Does block i p (Fetch m w' r' d'))
+
+    new : (m w r d : ℕ) → ◌≡◌ {A = Event} (record { processor = p; kind = Fetch n writers (length missing) words }) (record { processor = p; kind = Fetch m w r d }) → Result m w r d
+    new m w r d e =
+        let kinds : Fetch n writers (length missing) words ≡ Fetch m w r d = ap (λ (x : Event). x.kind) e in
+        let a : n ≡ m = cc in
+        let b : writers ≡ w = cc in
+        let c : length missing ≡ r = cc in
+        let f : words ≡ d = cc in
+        subst (λ x. Result m w r x) f (subst (λ x. Result m w x words) c (subst₂ (λ x y. Result x y (length missing) words) a b (missing_counts s j p n writers missing stale.lacks order count, λ i w' r' d' g. stale.untouched i (record { processor = p; kind = Fetch n w' r' d' }) g refl)))
 
 -- what the block's loads answer is untouched by a fetch of a page that was stale
 pub answers_fetched : (s : Sizes) (j block : List Event) (p n w r d : ℕ) (page new : List ℕ) (missing : List Missing) (base : ℕ → List ℕ) → IsStaleCopy s j block p n page missing → BlockAnswers s j block p base → BlockAnswers s j (block ++ record { processor = p; kind = Fetch n w r d } ∷ []) p (with_page n new base)
