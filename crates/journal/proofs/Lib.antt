@@ -31,3 +31,4 @@ pub mod MissingKept
 pub mod Counted
 pub mod Pages
 pub mod Dirty
+pub mod News

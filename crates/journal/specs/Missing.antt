@@ -1,5 +1,5 @@
 -- What a stale copy of a page misses, by intervals.
-use Rattle.std.specs.Prelude.{ℕ, ◌≡◌, ◌≢◌, ◌<◌, ◌≤◌, ◌↔◌, List}
+use Rattle.std.specs.Prelude.{ℕ, ◌≡◌, ◌≢◌, ◌<◌, ◌≤◌, ◌↔◌, Bool, true, false, List, [], ◌∷◌}
 use Rattle.journal.specs.declared.event.Event.{Event}
 use Rattle.lists.specs.Places.{Has, InOrder}
 use Rattle.journal.specs.Sizes.{Sizes}
@@ -13,6 +13,14 @@ pub record Missing : Type 0 where
   pub owner : ℕ
   pub number : ℕ
   pub words : List (ℕ × ℕ)
+
+abbrev pub some_words : List (ℕ × ℕ) → Bool
+some_words [] = false
+some_words (w ∷ words) = true
+
+-- the interval comes to some word
+abbrev pub has_words : Missing → Bool
+has_words x = some_words x.words
 
 -- q's interval k is closed before r's interval m
 pub record ClosesBefore (j : List Event) (q k r m : ℕ) : Type 0 where
