@@ -25,6 +25,7 @@ pub mod Uses
 pub mod Since
 pub mod Contents
 pub mod Gaps
+pub mod Placed
 pub mod MissingGroups
 pub mod MissingLaws
 pub mod MissingKept

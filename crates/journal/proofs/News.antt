@@ -3,14 +3,14 @@ use Rattle.std.proofs.Common.{ℕ, ◌≡◌, ◌≢◌, ◌<◌, ◌≤◌, ◌
 use Rattle.journal.specs.declared.event.Event.{Event}
 use Rattle.journal.specs.Sizes.{Sizes}
 use Rattle.journal.specs.Groups.{StoresIn, IsContent}
-use Rattle.journal.specs.Missing.{Missing, AreNews, some_words, has_words}
+use Rattle.journal.specs.Missing.{IsPlaced, Missing, AreNews, some_words, has_words}
 use Rattle.lists.specs.Places.{Has}
 use Rattle.lists.proofs.Picked.{has-filter}
 use Rattle.journal.proofs.Contents.{content_none, content_some}
 
 -- with the contents of all intervals between p's timestamps, those with words are the news
-pub news_of : (s : Sizes) (j : List Event) (p n : ℕ) (t t' : ℕ → ℕ) (all : List Missing) → t p ≡ t' p → ((q m : ℕ) → ((x : Missing) × Has all x × (x.owner ≡ q) × (x.number ≡ m)) ↔ ((t q ≤ m) × (m < t' q))) → ((x : Missing) → Has all x → IsContent s j x.owner x.number n x.words) → AreNews s j p n t t' (filter has_words all)
-news_of s j p n t t' all own each contents = record { each = λ q m. (there q m, back q m); contents = λ x h. contents x ((has-filter has_words all x).0 h).0 }
+pub news_of : (s : Sizes) (j : List Event) (p n : ℕ) (t t' : ℕ → ℕ) (all : List Missing) → t p ≡ t' p → ((q m : ℕ) → ((x : Missing) × Has all x × (x.owner ≡ q) × (x.number ≡ m)) ↔ ((t q ≤ m) × (m < t' q))) → ((x : Missing) → Has all x → IsPlaced j x.owner x.number x.place) → ((x : Missing) → Has all x → IsContent s j x.owner x.number n x.words) → AreNews s j p n t t' (filter has_words all)
+news_of s j p n t t' all own each placed contents = record { each = λ q m. (there q m, back q m); placed = λ x h. placed x ((has-filter has_words all x).0 h).0; contents = λ x h. contents x ((has-filter has_words all x).0 h).0 }
   where
     stores : (q k : ℕ) (words : List (ℕ × ℕ)) → some_words words ≡ true → IsContent s j q k n words → (i : ℕ) × StoresIn s j q k n i
     stores q k [] h content = absurd (true≢false (sym h))

@@ -120,7 +120,7 @@ stale_handed s j block p n page missing is stale = record {
 }
 
 -- a fetch applies the missing records in closing order, and makes it valid
-pub stale_fetched : (s : Sizes) (j block : List Event) (p n w r d : ℕ) (page : List ℕ) (missing : List Missing) → InClosingOrder j missing → IsStaleCopy s j block p n page missing → IsValidCopy s j (block ++ record { processor = p; kind = Fetch n w r d } ∷ []) p n (records_applied page (map (λ (x : Missing). x.words) missing)) (records_applied page (map (λ (x : Missing). x.words) missing))
+pub stale_fetched : (s : Sizes) (j block : List Event) (p n w r d : ℕ) (page : List ℕ) (missing : List Missing) → InClosingOrder missing → IsStaleCopy s j block p n page missing → IsValidCopy s j (block ++ record { processor = p; kind = Fetch n w r d } ∷ []) p n (records_applied page (map (λ (x : Missing). x.words) missing)) (records_applied page (map (λ (x : Missing). x.words) missing))
 stale_fetched s j block p n w r d page missing order stale = record {
   lawful = missing_fetched s j p n page missing stale.lacks order stale.copy;
   gives = sym (written_nothing (λ (f : Event). write_in s n f.kind) new (block ++ e ∷ []) nothing);
@@ -140,7 +140,7 @@ stale_fetched s j block p n w r d page missing order stale = record {
     ]
 
 -- the fetch's counts are how many owners, intervals and words the missing list has
-pub stale_counted : (s : Sizes) (j block : List Event) (p n writers : ℕ) (page : List ℕ) (missing : List Missing) → InClosingOrder j missing → HasCount (λ (q : ℕ). (x : Missing) × Has missing x × (x.owner ≡ q)) writers → IsStaleCopy s j block p n page missing → BlockCounts s j block p → BlockCounts s j (block ++ record { processor = p; kind = Fetch n writers (length missing) (sum_by (λ (x : Missing). length x.words) missing) } ∷ []) p
+pub stale_counted : (s : Sizes) (j block : List Event) (p n writers : ℕ) (page : List ℕ) (missing : List Missing) → InClosingOrder missing → HasCount (λ (q : ℕ). (x : Missing) × Has missing x × (x.owner ≡ q)) writers → IsStaleCopy s j block p n page missing → BlockCounts s j block p → BlockCounts s j (block ++ record { processor = p; kind = Fetch n writers (length missing) (sum_by (λ (x : Missing). length x.words) missing) } ∷ []) p
 stale_counted s j block p n writers page missing order count stale counts = block_counts_push s j block (record { processor = p; kind = Fetch n writers (length missing) (sum_by (λ (x : Missing). length x.words) missing) }) p new counts
   where
     words : ℕ
