@@ -33,3 +33,4 @@ pub mod Counted
 pub mod Pages
 pub mod Dirty
 pub mod News
+pub mod OneImage
