@@ -30,6 +30,10 @@ none_missing s j p n none = record { each = λ q k. (λ x. absurd (has-nil x.0 x
 pub missing_none : (s : Sizes) (j : List Event) (p n : ℕ) → AreMissing s j p n [] → NoGap s j p n
 missing_none s j p n are i g = let w = g.store in let x = (are.each w.by (interval_at j w.by i)).1 (w.address, (i, w.value, w.does, g, refl)) in has-nil x.0 x.1
 
+-- and there is one where something is
+pub missing_some : (s : Sizes) (j : List Event) (p n : ℕ) (x : Missing) (missing : List Missing) → AreMissing s j p n (x ∷ missing) → (i : ℕ) × InGap s j p n i
+missing_some s j p n x missing are = let g = (are.each x.owner x.number).0 (x, (0, refl), refl, refl) in (g.1.0, g.1.3)
+
 -- another list of the same intervals
 pub missing_same : (s : Sizes) (j : List Event) (p n : ℕ) (missing other : List Missing) → ((x : Missing) → Has missing x ↔ Has other x) → AreMissing s j p n missing → AreMissing s j p n other
 missing_same s j p n missing other same are = record {

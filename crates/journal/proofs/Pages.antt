@@ -1,5 +1,5 @@
 -- What each call does to a processor's copies under its open block.
-use Rattle.std.proofs.Common.{ℕ, ◌≡◌, ◌≢◌, ◌<◌, ◌≤◌, ◌/◌, ◌%◌, inl, inr, List, [], ◌∷◌, ◌++◌, Some, None, true, replicate, map, length, sum_by, slice_get, ne_eqb, refl, sym, ap, subst, subst₂, ◌∙◌, append_assoc, append-nil, true≢false}
+use Rattle.std.proofs.Common.{ℕ, ◌≡◌, ◌≢◌, ◌/◌, ◌%◌, inl, inr, List, [], ◌∷◌, ◌++◌, Some, None, true, replicate, map, length, sum_by, slice_get, ne_eqb, refl, sym, ap, subst, subst₂, ◌∙◌, append_assoc, append-nil, true≢false}
 use Rattle.std.proofs.lemmas.Option.{none-some}
 use Rattle.journal.specs.declared.event.Event.{Event}
 use Rattle.journal.specs.declared.event.Kind.{Kind}
@@ -9,16 +9,16 @@ use Rattle.journal.specs.Events.{At, is_taking, interval_at}
 use Rattle.journal.specs.WellFormed.{Does}
 use Rattle.journal.specs.Pasts.{InPast}
 use Rattle.journal.specs.Times.{IsTimeOf}
-use Rattle.journal.specs.Copies.{StoresTo, Lawful, HasCount, GapCounts}
-use Rattle.journal.specs.Brought.{IsCopy, Complete}
+use Rattle.journal.specs.Copies.{InGap, StoresTo, Lawful, HasCount, GapCounts}
+use Rattle.journal.specs.Brought.{IsCopy, NoGap, Complete}
 use Rattle.journal.specs.Blocks.{write_in, block_done, IsBlock, BlockAnswers, with_page}
 use Rattle.journal.specs.Counted.{BlockCounts}
-use Rattle.journal.specs.Groups.{StoresIn}
 use Rattle.journal.specs.Missing.{Missing, InClosingOrder, AreNews}
 use Rattle.journal.specs.Pages.{Touches, IsValidCopy, IsStaleCopy}
 use Rattle.lists.specs.Places.{Has}
 use Rattle.lists.specs.Writes.{wrote}
 use Rattle.lists.specs.Records.{records_applied}
+use Rattle.lists.proofs.Joined.{has-nil}
 use Rattle.lists.proofs.Places.{push_cases, push_induction}
 use Rattle.lists.proofs.LastWrites.{written_nothing}
 use Rattle.journal.proofs.Places.{at_longer, at_last}
@@ -30,7 +30,7 @@ use Rattle.journal.proofs.Complete.{copy_of_lawful, complete_no_gap, complete_on
 use Rattle.journal.proofs.Gaps.{nothing_taken}
 use Rattle.journal.proofs.Counted.{block_counts_push}
 use Rattle.journal.proofs.MissingLaws.{missing_fetched, missing_counts}
-use Rattle.journal.proofs.MissingKept.{none_missing, missing_others, missing_block, missing_taken}
+use Rattle.journal.proofs.MissingKept.{none_missing, missing_some, missing_others, missing_block, missing_taken}
 
 -- at the start each copy is valid and zero
 pub valid_start : (s : Sizes) (p n : ℕ) → IsValidCopy s [] [] p n (replicate s.words 0) (replicate s.words 0)
@@ -43,6 +43,14 @@ valid_start s p n = record {
 -- a valid copy is lawful after the block
 pub valid_lawful : (s : Sizes) (j block : List Event) (p n : ℕ) (base page : List ℕ) → IsBlock p block → IsValidCopy s j block p n base page → Lawful s (j ++ block) p n page
 valid_lawful s j block p n base page is valid = rw (valid.gives) (lawful_block s j block p n base is valid.lawful)
+
+-- and has all of the past
+pub valid_complete : (s : Sizes) (j block : List Event) (p n : ℕ) (base page : List ℕ) → IsBlock p block → IsValidCopy s j block p n base page → Complete s (j ++ block) p n
+valid_complete s j block p n base page is valid = elim valid.full [ inl c ↦ complete_block s j block p n is c | inr f ↦ complete_fetched s j block p n f.0 f.1.0 f.1.1 f.1.2 is f.1.3 ]
+
+-- so it lacks nothing
+pub valid_no_gap : (s : Sizes) (j block : List Event) (p n : ℕ) (base page : List ℕ) → IsBlock p block → IsValidCopy s j block p n base page → NoGap s (j ++ block) p n
+valid_no_gap s j block p n base page is valid = complete_no_gap s (j ++ block) p n (valid_complete s j block p n base page is valid)
 
 -- others' events leave it valid
 pub valid_others : (s : Sizes) (j es block : List Event) (p n : ℕ) (base page : List ℕ) → ((k : ℕ) (e : Event) → At es k e → e.processor ≢ p) → IsValidCopy s j block p n base page → IsValidCopy s (j ++ es) block p n base page
@@ -62,11 +70,7 @@ valid_push s j block e p n base page valid = record {
 
 -- a block that is handed in leaves it valid
 pub valid_handed : (s : Sizes) (j block : List Event) (p n : ℕ) (base page : List ℕ) → IsBlock p block → IsValidCopy s j block p n base page → IsValidCopy s (j ++ block) [] p n page page
-valid_handed s j block p n base page is valid = record {
-  lawful = valid_lawful s j block p n base page is valid;
-  gives = refl;
-  full = inl (elim valid.full [ inl c ↦ complete_block s j block p n is c | inr f ↦ complete_fetched s j block p n f.0 f.1.0 f.1.1 f.1.2 is f.1.3 ]);
-}
+valid_handed s j block p n base page is valid = record { lawful = valid_lawful s j block p n base page is valid; gives = refl; full = inl (valid_complete s j block p n base page is valid) }
 
 -- a load of a valid copy is one that the block may answer
 pub valid_load : (s : Sizes) (j block : List Event) (p a v : ℕ) (base : ℕ → List ℕ) (page : List ℕ) → IsValidCopy s j block p (a / s.words) (base (a / s.words)) page → slice_get page (a % s.words) ≡ Some v → BlockAnswers s j block p base → BlockAnswers s j (block ++ record { processor = p; kind = Load a v } ∷ []) p base
@@ -118,6 +122,10 @@ stale_handed s j block p n page missing is stale = record {
   lacks = missing_block s j block p n missing is (λ k w r d f. stale.untouched k (record { processor = p; kind = Fetch n w r d }) f refl) stale.lacks;
   untouched = λ k e at. absurd (none-some e at);
 }
+
+-- and what some interval stored is in its gap
+pub stale_gap : (s : Sizes) (j block : List Event) (p n : ℕ) (page : List ℕ) (x : Missing) (missing : List Missing) → IsBlock p block → IsStaleCopy s j block p n page (x ∷ missing) → (i : ℕ) × InGap s (j ++ block) p n i
+stale_gap s j block p n page x missing is stale = missing_some s (j ++ block) p n x missing (stale_handed s j block p n page (x ∷ missing) is stale).lacks
 
 -- a fetch applies the missing records in closing order, and makes it valid
 pub stale_fetched : (s : Sizes) (j block : List Event) (p n w r d : ℕ) (page : List ℕ) (missing : List Missing) → InClosingOrder missing → IsStaleCopy s j block p n page missing → IsValidCopy s j (block ++ record { processor = p; kind = Fetch n w r d } ∷ []) p n (records_applied page (map (λ (x : Missing). x.words) missing)) (records_applied page (map (λ (x : Missing). x.words) missing))
@@ -190,8 +198,8 @@ stale_taken s j p n page k t t' missing new takes time after news stale = record
     taking m f at _ = elim (push_cases [] e m f at) [ inl h ↦ absurd (none-some f h.1) | inr h ↦ (let P : Event → Type 0 = λ g. ¬ Touches s n g.kind in subst P h.1 (takes_nothing k takes)) ]
 
 -- an event by which p gets to know of no store to the page leaves its valid copy so
-pub valid_taken : (s : Sizes) (j : List Event) (p n : ℕ) (base page : List ℕ) (k : Kind) (t t' : ℕ → ℕ) → is_taking k ≡ true → IsTimeOf j p t → IsTimeOf (j ++ record { processor = p; kind = k } ∷ []) p t' → ((q m i : ℕ) → StoresIn s j q m n i → q ≢ p → t q ≤ m → m < t' q → ⊥) → IsValidCopy s j [] p n base page → IsValidCopy s (j ++ record { processor = p; kind = k } ∷ []) [] p n page page
-valid_taken s j p n base page k t t' takes time after none valid = record {
+pub valid_taken : (s : Sizes) (j : List Event) (p n : ℕ) (base page : List ℕ) (k : Kind) (t t' : ℕ → ℕ) → is_taking k ≡ true → IsTimeOf j p t → IsTimeOf (j ++ record { processor = p; kind = k } ∷ []) p t' → AreNews s j p n t t' [] → IsValidCopy s j [] p n base page → IsValidCopy s (j ++ record { processor = p; kind = k } ∷ []) [] p n page page
+valid_taken s j p n base page k t t' takes time after no_news valid = record {
   lawful = lawful_on s j (e ∷ []) p n page nothing (subst (Lawful s j p n) (sym valid.gives) valid.lawful);
   gives = refl;
   full = inl (complete_on s j (e ∷ []) p n nothing (valid_full s j p n base page valid));
@@ -201,7 +209,7 @@ valid_taken s j p n base page k t t' takes time after none valid = record {
     e = record { processor = p; kind = k }
 
     nothing : (i : ℕ) → StoresTo s (j ++ e ∷ []) n i → InPast (j ++ e ∷ []) p i → InPast j p i
-    nothing = nothing_taken s j p n k t t' takes time after (λ q i a v apart does page le less. none q (interval_at j q i) i (a, v, does, page, refl) apart le less)
+    nothing = nothing_taken s j p n k t t' takes time after (λ q i a v apart does page le less. let x = (no_news.each q (interval_at j q i)).1 (i, (a, v, does, page, refl), apart, le, less) in has-nil x.0 x.1)
 
 -- and else it is stale by the new intervals
 pub valid_staled : (s : Sizes) (j : List Event) (p n : ℕ) (base page : List ℕ) (k : Kind) (t t' : ℕ → ℕ) (new : List Missing) → is_taking k ≡ true → IsTimeOf j p t → IsTimeOf (j ++ record { processor = p; kind = k } ∷ []) p t' → AreNews s j p n t t' new → IsValidCopy s j [] p n base page → IsStaleCopy s (j ++ record { processor = p; kind = k } ∷ []) [] p n page new
