@@ -34,3 +34,4 @@ pub mod Pages
 pub mod Dirty
 pub mod News
 pub mod OneImage
+pub mod FetchAndLoad

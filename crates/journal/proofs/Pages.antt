@@ -73,8 +73,8 @@ pub valid_handed : (s : Sizes) (j block : List Event) (p n : ℕ) (base page : L
 valid_handed s j block p n base page is valid = record { lawful = valid_lawful s j block p n base page is valid; gives = refl; full = inl (valid_complete s j block p n base page is valid) }
 
 -- a load of a valid copy is one that the block may answer
-pub valid_load : (s : Sizes) (j block : List Event) (p a v : ℕ) (base : ℕ → List ℕ) (page : List ℕ) → IsValidCopy s j block p (a / s.words) (base (a / s.words)) page → slice_get page (a % s.words) ≡ Some v → BlockAnswers s j block p base → BlockAnswers s j (block ++ record { processor = p; kind = Load a v } ∷ []) p base
-valid_load s j block p a v base page valid at answers = answers_push s j block (record { processor = p; kind = Load a v }) p base answers again
+pub valid_load : (s : Sizes) (j block : List Event) (p a v : ℕ) (base : ℕ → List ℕ) (over page : List ℕ) → base (a / s.words) ≡ over → IsValidCopy s j block p (a / s.words) over page → slice_get page (a % s.words) ≡ Some v → BlockAnswers s j block p base → BlockAnswers s j (block ++ record { processor = p; kind = Load a v } ∷ []) p base
+valid_load s j block p a v base over page is valid at answers = answers_push s j block (record { processor = p; kind = Load a v }) p base answers again
   where
     P : ℕ → ℕ → Type 0
     P b w = Lawful s j p (b / s.words) (base (b / s.words)) × (slice_get (block_done s (b / s.words) (base (b / s.words)) block) (b % s.words) ≡ Some w)
@@ -84,7 +84,7 @@ valid_load s j block p a v base page valid at answers = answers_push s j block (
         let kinds : Load a v ≡ Load b w = ap (λ (x : Event). x.kind) e in
         let same_address : a ≡ b = cc in
         let same_value : v ≡ w = cc in
-        subst₂ P same_address same_value (valid.lawful, ap (λ (ws : List ℕ). slice_get ws (a % s.words)) (sym valid.gives) ∙ at)
+        subst₂ P same_address same_value (rw is (valid.lawful, ap (λ (ws : List ℕ). slice_get ws (a % s.words)) (sym valid.gives) ∙ at))
 
 -- a block without events answers no load
 pub answers_start : (s : Sizes) (j : List Event) (p : ℕ) (base : ℕ → List ℕ) → BlockAnswers s j [] p base
