@@ -15,17 +15,17 @@ use Rattle.lists.specs.Records.{mark, marked, harvest, IsRecordOf}
 use Rattle.lists.proofs.LastWrites.{written-append, written_nothing, length-written}
 use Rattle.lists.proofs.Harvests.{marked-append, marked_nothing, marked_written, harvest_is_record}
 use Rattle.lists.proofs.Sets.{slice_get-replicate_found}
-use Rattle.journal.proofs.Since.{since_others, since_closing, since_inner}
+use Rattle.journal.proofs.Since.{since_under, since_closing, since_inner}
 use Rattle.journal.proofs.Contents.{since_content}
 
 -- at the start no word is dirty
 pub dirty_start : (s : Sizes) (p n : ℕ) (page : List ℕ) → length page ≡ s.words → IsDirty s [] p n page (replicate s.words false)
 dirty_start s p n page long = record { clean = page; long = long; page_is = refl; marks_are = refl }
 
--- others' events change no dirty bit
-pub dirty_others : (s : Sizes) (j es : List Event) (p n : ℕ) (page : List ℕ) (marks : List Bool) → ((k : ℕ) (e : Event) → At es k e → e.processor ≢ p) → IsDirty s j p n page marks → IsDirty s (j ++ es) p n page marks
-dirty_others s j es p n page marks away dirty =
-    let same = since_others j es p away in
+-- others' events change no dirty bit, also under an open block
+pub dirty_others : (s : Sizes) (j es block : List Event) (p n : ℕ) (page : List ℕ) (marks : List Bool) → ((k : ℕ) (e : Event) → At es k e → e.processor ≢ p) → IsDirty s (j ++ block) p n page marks → IsDirty s ((j ++ es) ++ block) p n page marks
+dirty_others s j es block p n page marks away dirty =
+    let same = since_under j es block p away in
     record { clean = dirty.clean; long = dirty.long; page_is = rw same (dirty.page_is); marks_are = rw same (dirty.marks_are) }
 
 -- an own event that closes no interval does what it stores, and marks it

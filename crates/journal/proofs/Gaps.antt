@@ -11,7 +11,7 @@ use Rattle.journal.specs.WellFormed.{Does}
 use Rattle.journal.specs.Pasts.{UpTo, InPast}
 use Rattle.journal.specs.Times.{ClosesAt, IsTimeOf, IsTimeAt}
 use Rattle.journal.specs.Intervals.{ClosedAt}
-use Rattle.journal.specs.Copies.{StoresTo, Fetches, Mine, InGap}
+use Rattle.journal.specs.Copies.{StoresTo, Fetches, Mine, InGap, StoredInGap}
 use Rattle.journal.specs.Brought.{Brought}
 use Rattle.lists.proofs.Places.{append_cases, push_cases}
 use Rattle.journal.proofs.Places.{at_within, at_longer, at_shorter, at_same, does_same, count_of-front}
@@ -20,7 +20,7 @@ use Rattle.journal.proofs.Pasts.{up_to_back, past_within, past_longer, own_in_pa
 use Rattle.journal.proofs.Leaving.{LeavesAt, leaving_at, own_order}
 use Rattle.journal.proofs.Pushes.{covered}
 use Rattle.journal.proofs.Uses.{ordered_by_time}
-use Rattle.journal.proofs.Stores.{stores_to, stores_longer, stores_shorter}
+use Rattle.journal.proofs.Stores.{stores_to, stores_within, stores_longer, stores_shorter}
 use Rattle.journal.proofs.CopyLaws.{brought_longer, brought_past, brought_push, gap_is}
 use Rattle.journal.proofs.Closing.{closes_first, closed_past}
 use Rattle.journal.proofs.IntervalNumbers.{closed_by, number_closed}
@@ -179,3 +179,21 @@ gap_whole s j p n q i m a b v w g does other page same = record {
           | inl is ↦ (let P : ℕ → Type 0 = λ x. Does j x q (Store a v) in absurd (apart (does_same j f q p (Store a v) (Fetch n fetch.0 fetch.1 fetch.2) (subst P is does) fetch.3).0))
           | inr h ↦ h
         ]
+
+-- where the gap is the same, so are the stores in it
+pub stored_on : (s : Sizes) (j es : List Event) (p n : ℕ) → ((i : ℕ) → InGap s (j ++ es) p n i ↔ InGap s j p n i) → (z : ℕ × ℕ × ℕ) → StoredInGap s (j ++ es) p n z ↔ StoredInGap s j p n z
+stored_on s j es p n same z = (there, back)
+  where
+    number : (i : ℕ) → i < length j → interval_at (j ++ es) z.0 i ≡ interval_at j z.0 i
+    number i within = count_of-front is_closing j es i z.0 (le_of_lt within)
+
+    there : StoredInGap s (j ++ es) p n z → StoredInGap s j p n z
+    there g =
+        let old = (same g.0).0 g.3 in
+        let within = stores_within s j n g.0 old.store in
+        (g.0, g.1, at_shorter j es g.0 (record { processor = z.0; kind = Store z.2 g.1 }) within g.2, old, sym (number g.0 within) ∙ g.4)
+
+    back : StoredInGap s j p n z → StoredInGap s (j ++ es) p n z
+    back g =
+        let within = stores_within s j n g.0 g.3.store in
+        (g.0, g.1, at_longer j es g.0 (record { processor = z.0; kind = Store z.2 g.1 }) g.2, (same g.0).1 g.3, number g.0 within ∙ g.4)

@@ -30,6 +30,7 @@ mod RaceSteps
 pub mod Since
 pub mod Contents
 pub mod Gaps
+pub mod Placed
 pub mod MissingGroups
 pub mod MissingLaws
 pub mod MissingKept
@@ -38,3 +39,6 @@ pub mod Pages
 pub mod Dirty
 pub mod Blocks
 pub mod Brought
+pub mod News
+pub mod OneImage
+pub mod FetchAndLoad

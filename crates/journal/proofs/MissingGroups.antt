@@ -11,13 +11,14 @@ use Rattle.journal.specs.Times.{ClosesAt}
 use Rattle.journal.specs.Intervals.{ClosedAt}
 use Rattle.journal.specs.Copies.{page_write, InGap}
 use Rattle.journal.specs.Groups.{StoresIn, IsContent}
-use Rattle.journal.specs.Missing.{Missing, InClosingOrder, AreMissing}
+use Rattle.journal.specs.Missing.{IsPlaced, Missing, InClosingOrder, AreMissing}
 use Rattle.lists.specs.Places.{Has, InOrder, IsOnce}
 use Rattle.lists.specs.Records.{AreRecordsOf, none, more}
 use Rattle.lists.proofs.Joined.{has_concat, in_order_concat}
 use Rattle.journal.proofs.Order.{goes_forward}
 use Rattle.journal.proofs.Closing.{closing_extends, closed_once}
 use Rattle.journal.proofs.IntervalNumbers.{closed_by}
+use Rattle.journal.proofs.Placed.{placed_before}
 use Rattle.journal.proofs.Gaps.{gap_whole}
 
 -- these are the places of each interval's stores
@@ -73,8 +74,8 @@ pub store_closed : (s : Sizes) (j : List Event) (q k n i c : ℕ) → StoresIn s
 store_closed s j q k n i c x closes number = closed_by j q i c (Store x.0 x.1) x.2 (λ h. true≢false (sym h)) closes (x.4 ∙ sym number)
 
 -- of two intervals in closing order, the stores of the second don't happen before those of the first
-pub groups_extend : (s : Sizes) (j : List Event) (n : ℕ) (missing : List Missing) (groups : List (List ℕ)) → InClosingOrder j missing → AreGroups s j n missing groups → IsOnce (concat groups) × InOrder (λ i k. ¬ HappensBefore j k i) (concat groups)
-groups_extend s j n missing groups order of = (
+pub groups_extend : (s : Sizes) (j : List Event) (n : ℕ) (missing : List Missing) (groups : List (List ℕ)) → ((x : Missing) → Has missing x → IsPlaced j x.owner x.number x.place) → InClosingOrder missing → AreGroups s j n missing groups → IsOnce (concat groups) × InOrder (λ i k. ¬ HappensBefore j k i) (concat groups)
+groups_extend s j n missing groups placed order of = (
   in_order_concat (λ (i k : ℕ). i ≢ k) groups (λ g h x y a b less at to same. let r = of.of h.0 g h.1 in let up = r.3 x y a b less at to in omega arith) apart,
   in_order_concat (λ i k. ¬ HappensBefore j k i) groups (λ g h x y a b less at to before. let r = of.of h.0 g h.1 in let up = r.3 x y a b less at to in let down = goes_forward j before in omega arith) extends,
 )
@@ -83,8 +84,9 @@ groups_extend s j n missing groups order of = (
     pair x y g h less at to a b in_g in_h =
         let r = of.of x g at in
         let t = of.of y h to in
-        let o = order x y r.0 t.0 less r.1 t.1 in
-        (o.first, o.second, store_closed s j r.0.owner r.0.number n a o.first ((r.2 a).0 in_g) o.closes_first o.first_number, store_closed s j t.0.owner t.0.number n b o.second ((t.2 b).0 in_h) o.closes_second o.second_number, o.before)
+        let c = placed r.0 (x, r.1) in
+        let d = placed t.0 (y, t.1) in
+        (c.at, d.at, store_closed s j r.0.owner r.0.number n a c.at ((r.2 a).0 in_g) c.closes c.number, store_closed s j t.0.owner t.0.number n b d.at ((t.2 b).0 in_h) d.closes d.number, placed_before j r.0.owner r.0.number r.0.place t.0.owner t.0.number t.0.place c d (order x y r.0 t.0 less r.1 t.1))
 
     apart : InOrder (λ (g h : List ℕ). (a b : ℕ) → Has g a → Has h b → a ≢ b) groups
     apart x y g h less at to a b in_g in_h same =

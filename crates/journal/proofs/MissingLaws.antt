@@ -4,27 +4,25 @@ use Rattle.std.proofs.lemmas.List.{length-map}
 use Rattle.std.proofs.lemmas.List.Concat.{length-flat_map}
 use Rattle.journal.specs.declared.event.Event.{Event}
 use Rattle.journal.specs.Sizes.{Sizes}
-use Rattle.journal.specs.Events.{interval_at}
-use Rattle.journal.specs.Times.{ClosesAt}
 use Rattle.journal.specs.Copies.{Lawful, HasCount, StoredInGap, GapCounts}
 use Rattle.journal.specs.Brought.{IsCopy}
 use Rattle.journal.specs.Groups.{IsContent}
-use Rattle.journal.specs.Missing.{Missing, ClosesBefore, InClosingOrder, AreMissing}
+use Rattle.journal.specs.Missing.{IsPlaced, Missing, InClosingOrder, AreMissing}
 use Rattle.lists.specs.Places.{Has, InOrder, IsOnce}
 use Rattle.lists.specs.Records.{records_applied}
 use Rattle.lists.proofs.Joined.{has-flat_map, in_order-flat_map, has-map, in_order-map, in_order_weaker}
 use Rattle.journal.proofs.Complete.{fetched_gap}
-use Rattle.journal.proofs.IntervalNumbers.{same_closer}
+use Rattle.journal.proofs.Placed.{placed_once}
 use Rattle.journal.proofs.Contents.{content_word, content_has}
 use Rattle.journal.proofs.Stores.{store_same}
 use Rattle.journal.proofs.Gaps.{gap_whole}
 use Rattle.journal.proofs.MissingGroups.{groups_of, groups_gap, groups_extend}
 
 -- the missing records, applied in closing order, make the copy lawful
-pub missing_fetched : (s : Sizes) (j : List Event) (p n : ℕ) (page : List ℕ) (missing : List Missing) → AreMissing s j p n missing → InClosingOrder j missing → IsCopy s j p n page → Lawful s j p n (records_applied page (map (λ (x : Missing). x.words) missing))
+pub missing_fetched : (s : Sizes) (j : List Event) (p n : ℕ) (page : List ℕ) (missing : List Missing) → AreMissing s j p n missing → InClosingOrder missing → IsCopy s j p n page → Lawful s j p n (records_applied page (map (λ (x : Missing). x.words) missing))
 missing_fetched s j p n page missing are order copy =
     let g = groups_of s j n missing are.contents in
-    let e = groups_extend s j n missing g.0 order g.1 in
+    let e = groups_extend s j n missing g.0 are.placed order g.1 in
     fetched_gap s j p n page g.0 (map (λ (x : Missing). x.words) missing) g.1.records_of (groups_gap s j p n missing g.0 are g.1) e.0 e.1 copy
 
 -- an interval's owner and number
@@ -35,20 +33,18 @@ label x = (x.owner, x.number)
 abbrev pub stored : Sizes → ℕ → Missing → List (ℕ × ℕ × ℕ)
 stored s n x = map (λ (w : ℕ × ℕ). (x.owner, x.number, n * s.words + w.0)) x.words
 
--- of two intervals of which one closes before the other the labels differ
-labels_apart : (j : List Event) (x y : Missing) → ClosesBefore j x.owner x.number y.owner y.number → label x ≢ label y
-labels_apart j x y b same =
+-- of two intervals with two closing numbers the labels differ
+labels_apart : (j : List Event) (x y : Missing) → IsPlaced j x.owner x.number x.place → IsPlaced j y.owner y.number y.place → x.place < y.place → label x ≢ label y
+labels_apart j x y here there less same =
     let owners : x.owner ≡ y.owner = ap (λ (l : ℕ × ℕ). l.0) same in
     let numbers : x.number ≡ y.number = ap (λ (l : ℕ × ℕ). l.1) same in
-    let P : ℕ → Type 0 = λ q. ClosesAt j q b.second in
-    let Q : ℕ → Type 0 = λ q. interval_at j q b.second ≡ y.number in
-    let e = same_closer j x.owner b.first b.second b.closes_first (subst P (sym owners) b.closes_second) (b.first_number ∙ numbers ∙ sym (subst Q (sym owners) b.second_number)) in
-    let less = b.before in
+    let P : ℕ → ℕ → Type 0 = λ q k. IsPlaced j q k x.place in
+    let e = placed_once j y.owner y.number x.place y.place (subst₂ P owners numbers here) there in
     omega arith
 
 -- intervals in closing order stand once
-pub labels_once : (j : List Event) (missing : List Missing) → InClosingOrder j missing → IsOnce (map label missing)
-labels_once j missing order = in_order-map (λ (a b : ℕ × ℕ). a ≢ b) label missing (in_order_weaker (λ (x y : Missing). ClosesBefore j x.owner x.number y.owner y.number) (λ (x y : Missing). label x ≢ label y) missing (λ x y _ _ b. labels_apart j x y b) order)
+pub labels_once : (s : Sizes) (j : List Event) (p n : ℕ) (missing : List Missing) → AreMissing s j p n missing → InClosingOrder missing → IsOnce (map label missing)
+labels_once s j p n missing are order = in_order-map (λ (a b : ℕ × ℕ). a ≢ b) label missing (in_order_weaker (λ (x y : Missing). x.place < y.place) (λ (x y : Missing). label x ≢ label y) missing (λ x y h g less. labels_apart j x y (are.placed x h) (are.placed y g) less) order)
 
 -- the owners of the missing intervals are those who stored in the gap
 pub writers_counted : (s : Sizes) (j : List Event) (p n writers : ℕ) (missing : List Missing) → AreMissing s j p n missing → HasCount (λ (q : ℕ). (x : Missing) × Has missing x × (x.owner ≡ q)) writers → HasCount (λ (q : ℕ). (k : ℕ) × (a : ℕ) × StoredInGap s j p n (q, k, a)) writers
@@ -61,8 +57,8 @@ writers_counted s j p n writers missing are count = record { list = count.list; 
     back q x = let r = (are.each q x.0).1 (x.1, x.2) in (r.0, r.1, r.2)
 
 -- the records are as many as the missing intervals
-pub records_counted : (s : Sizes) (j : List Event) (p n : ℕ) (missing : List Missing) → AreMissing s j p n missing → InClosingOrder j missing → HasCount (λ (x : ℕ × ℕ). (a : ℕ) × StoredInGap s j p n (x.0, x.1, a)) (length missing)
-records_counted s j p n missing are order = record { list = map label missing; each = λ l. (λ h. there l ((has-map label missing l).0 h), λ x. (has-map label missing l).1 (back l x)); once = labels_once j missing order; length_is = length-map missing label }
+pub records_counted : (s : Sizes) (j : List Event) (p n : ℕ) (missing : List Missing) → AreMissing s j p n missing → InClosingOrder missing → HasCount (λ (x : ℕ × ℕ). (a : ℕ) × StoredInGap s j p n (x.0, x.1, a)) (length missing)
+records_counted s j p n missing are order = record { list = map label missing; each = λ l. (λ h. there l ((has-map label missing l).0 h), λ x. (has-map label missing l).1 (back l x)); once = labels_once s j p n missing are order; length_is = length-map missing label }
   where
     there : (l : ℕ × ℕ) → ((x : Missing) × Has missing x × (label x ≡ l)) → (a : ℕ) × StoredInGap s j p n (l.0, l.1, a)
     there l x = (are.each l.0 l.1).0 (x.0, x.1, ap (λ (m : ℕ × ℕ). m.0) x.2, ap (λ (m : ℕ × ℕ). m.1) x.2)
@@ -100,7 +96,7 @@ stored_in_gap s j p n missing z are = (there, back)
         (x, m.1, (has-map (λ (w : ℕ × ℕ). (x.owner, x.number, n * s.words + w.0)) x.words z).1 ((z.2 % s.words, word.0), word.1, is))
 
 -- the words are as many as those of the missing intervals
-pub words_counted : (s : Sizes) (j : List Event) (p n : ℕ) (missing : List Missing) → AreMissing s j p n missing → InClosingOrder j missing → HasCount (StoredInGap s j p n) (sum_by (λ (x : Missing). length x.words) missing)
+pub words_counted : (s : Sizes) (j : List Event) (p n : ℕ) (missing : List Missing) → AreMissing s j p n missing → InClosingOrder missing → HasCount (StoredInGap s j p n) (sum_by (λ (x : Missing). length x.words) missing)
 words_counted s j p n missing are order = record {
   list = flat_map (stored s n) missing;
   each = λ z. (λ h. (stored_in_gap s j p n missing z are).0 ((has-flat_map (stored s n) missing z).0 h), λ g. (has-flat_map (stored s n) missing z).1 ((stored_in_gap s j p n missing z are).1 g));
@@ -117,8 +113,8 @@ words_counted s j p n missing are order = record {
     across i k x y less at to a b in_x in_y same =
         let v = (has-map (λ (w : ℕ × ℕ). (x.owner, x.number, n * s.words + w.0)) x.words a).0 in_x in
         let w = (has-map (λ (w : ℕ × ℕ). (y.owner, y.number, n * s.words + w.0)) y.words b).0 in_y in
-        labels_apart j x y (order i k x y less at to) (ap (λ (l : ℕ × ℕ × ℕ). (l.0, l.1)) (v.2 ∙ same ∙ sym w.2))
+        labels_apart j x y (are.placed x (i, at)) (are.placed y (k, to)) (order i k x y less at to) (ap (λ (l : ℕ × ℕ × ℕ). (l.0, l.1)) (v.2 ∙ same ∙ sym w.2))
 
 -- a fetch's counts are how many owners, intervals and words the missing list has
-pub missing_counts : (s : Sizes) (j : List Event) (p n writers : ℕ) (missing : List Missing) → AreMissing s j p n missing → InClosingOrder j missing → HasCount (λ (q : ℕ). (x : Missing) × Has missing x × (x.owner ≡ q)) writers → GapCounts s j p n writers (length missing) (sum_by (λ (x : Missing). length x.words) missing)
+pub missing_counts : (s : Sizes) (j : List Event) (p n writers : ℕ) (missing : List Missing) → AreMissing s j p n missing → InClosingOrder missing → HasCount (λ (q : ℕ). (x : Missing) × Has missing x × (x.owner ≡ q)) writers → GapCounts s j p n writers (length missing) (sum_by (λ (x : Missing). length x.words) missing)
 missing_counts s j p n writers missing are order count = record { writers_are = writers_counted s j p n writers missing are count; records_are = records_counted s j p n missing are order; words_are = words_counted s j p n missing are order }

@@ -1,11 +1,12 @@
 -- Copies and loads under a processor's open block.
-use Rattle.std.proofs.Common.{ℕ, ◌≡◌, ◌≢◌, ◌<◌, ◌/◌, ◌%◌, List, [], ◌∷◌, ◌++◌, Some, Bool, true, false, ◌==◌, cond, inl, inr, take, length, slice_get, eqb-true, arith, refl, sym, ap, subst, ◌∙◌, append_assoc, append-nil}
+use Rattle.std.proofs.Common.{ℕ, ◌≡◌, ◌≢◌, ◌<◌, ◌/◌, ◌%◌, List, [], ◌∷◌, ◌++◌, Some, false, inl, inr, take, length, slice_get, eq-eqb, ne_eqb, arith, refl, sym, ap, subst, ◌∙◌, append_assoc, append-nil}
+use Rattle.std.proofs.lemmas.Option.{none-some}
 use Rattle.std.proofs.lemmas.List.{take-append-le}
 use Rattle.std.proofs.Math.Seq.{take-append_seam}
 use Rattle.journal.specs.declared.event.Event.{Event}
 use Rattle.journal.specs.declared.event.Kind.TheVariants.{Load}
 use Rattle.journal.specs.Sizes.{Sizes}
-use Rattle.journal.specs.Events.{At}
+use Rattle.journal.specs.Events.{At, is_taking}
 use Rattle.journal.specs.WellFormed.{Does}
 use Rattle.journal.specs.Loads.{IsAnswer, Explained}
 use Rattle.journal.specs.Copies.{Lawful}
@@ -17,6 +18,17 @@ use Rattle.journal.proofs.Places.{at_within, at_longer, at_last}
 use Rattle.journal.proofs.BlockPasts.{block_front, block_last}
 use Rattle.journal.proofs.Keeping.{lawful_others, lawful_event}
 use Rattle.journal.proofs.Answers.{load_answers, explained_push}
+
+-- no event is a block
+pub block_start : (p : ℕ) → IsBlock p []
+block_start p k e at = absurd (none-some e at)
+
+-- a block with one more own event that takes nothing is one
+pub block_push : (p : ℕ) (block : List Event) (e : Event) → e.processor ≡ p → is_taking e.kind ≡ false → IsBlock p block → IsBlock p (block ++ e ∷ [])
+block_push p block e mine quiet is k f at = elim (push_cases block e k f at) [
+  | inl h ↦ is k f h.1
+  | inr h ↦ (let P : Event → Type 0 = λ g. (g.processor ≡ p) × (is_taking g.kind ≡ false) in subst P h.1 (mine, quiet))
+]
 
 -- a block with one more event does that event's store besides
 pub block_done-push : (s : Sizes) (n : ℕ) (page : List ℕ) (block : List Event) (e : Event) → block_done s n page (block ++ e ∷ []) ≡ wrote (block_done s n page block) (write_in s n e.kind)
@@ -106,10 +118,14 @@ answers_rebase s j block p base other same x = record {
   answers = λ k a v d. rw (same k a v d) (x.answers k a v d);
 }
 
+-- the page that was put in
+pub with_page_same : (n : ℕ) (page : List ℕ) (base : ℕ → List ℕ) → with_page n page base n ≡ page
+with_page_same n page base = rw (eq-eqb n n refl)
+
+-- the other pages
+pub with_page_other : (n m : ℕ) (page : List ℕ) (base : ℕ → List ℕ) → m ≢ n → with_page n page base m ≡ base m
+with_page_other n m page base apart = rw (ne_eqb m n apart)
+
 -- another base of a page that the block does not load from
 pub answers_with_page : (s : Sizes) (j block : List Event) (p n : ℕ) (page : List ℕ) (base : ℕ → List ℕ) → ((k a v : ℕ) → Does block k p (Load a v) → a / s.words ≢ n) → BlockAnswers s j block p base → BlockAnswers s j block p (with_page n page base)
-answers_with_page s j block p n page base away = answers_rebase s j block p base (with_page n page base) (λ k a v d. go (a / s.words) (a / s.words == n) refl (away k a v d))
-  where
-    go : (m : ℕ) (b : Bool) → (m == n) ≡ b → m ≢ n → cond (m == n) page (base m) ≡ base m
-    go m true e d = absurd (d (eqb-true m n e))
-    go m false e d = rw e
+answers_with_page s j block p n page base away = answers_rebase s j block p base (with_page n page base) (λ k a v d. with_page_other n (a / s.words) page base (away k a v d))

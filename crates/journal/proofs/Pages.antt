@@ -1,22 +1,24 @@
 -- What each call does to a processor's copies under its open block.
-use Rattle.std.proofs.Common.{ℕ, ◌≡◌, ◌≢◌, ◌<◌, ◌≤◌, ◌/◌, ◌%◌, inl, inr, List, [], ◌∷◌, ◌++◌, Some, None, true, replicate, map, length, sum_by, slice_get, ne_eqb, refl, sym, ap, subst, subst₂, ◌∙◌, append_assoc, append-nil, true≢false}
+use Rattle.std.proofs.Common.{ℕ, ◌≡◌, ◌≢◌, ◌/◌, ◌%◌, inl, inr, List, [], ◌∷◌, ◌++◌, Some, None, true, replicate, map, length, sum_by, slice_get, ne_eqb, refl, sym, ap, subst, subst₂, ◌∙◌, append_assoc, append-nil, true≢false}
 use Rattle.std.proofs.lemmas.Option.{none-some}
 use Rattle.journal.specs.declared.event.Event.{Event}
 use Rattle.journal.specs.declared.event.Kind.{Kind}
 use Rattle.journal.specs.declared.event.Kind.TheVariants.{Load, Store, Fetch}
 use Rattle.journal.specs.Sizes.{Sizes}
 use Rattle.journal.specs.Events.{At, is_taking, interval_at}
+use Rattle.journal.specs.WellFormed.{Does}
 use Rattle.journal.specs.Pasts.{InPast}
 use Rattle.journal.specs.Times.{IsTimeOf}
-use Rattle.journal.specs.Copies.{StoresTo, Lawful, HasCount, GapCounts}
-use Rattle.journal.specs.Brought.{IsCopy, Complete}
+use Rattle.journal.specs.Copies.{InGap, StoresTo, Lawful, HasCount, GapCounts}
+use Rattle.journal.specs.Brought.{IsCopy, NoGap, Complete}
 use Rattle.journal.specs.Blocks.{write_in, block_done, IsBlock, BlockAnswers, with_page}
-use Rattle.journal.specs.Groups.{StoresIn}
+use Rattle.journal.specs.Counted.{BlockCounts}
 use Rattle.journal.specs.Missing.{Missing, InClosingOrder, AreNews}
 use Rattle.journal.specs.Pages.{Touches, IsValidCopy, IsStaleCopy}
 use Rattle.lists.specs.Places.{Has}
 use Rattle.lists.specs.Writes.{wrote}
 use Rattle.lists.specs.Records.{records_applied}
+use Rattle.lists.proofs.Joined.{has-nil}
 use Rattle.lists.proofs.Places.{push_cases, push_induction}
 use Rattle.lists.proofs.LastWrites.{written_nothing}
 use Rattle.journal.proofs.Places.{at_longer, at_last}
@@ -26,8 +28,9 @@ use Rattle.journal.proofs.CopyLaws.{copy_start, copy_kept}
 use Rattle.journal.proofs.CopySteps.{copy_lawful}
 use Rattle.journal.proofs.Complete.{copy_of_lawful, complete_no_gap, complete_on, complete_others, complete_block, complete_fetched}
 use Rattle.journal.proofs.Gaps.{nothing_taken}
+use Rattle.journal.proofs.Counted.{block_counts_push}
 use Rattle.journal.proofs.MissingLaws.{missing_fetched, missing_counts}
-use Rattle.journal.proofs.MissingKept.{none_missing, missing_others, missing_block, missing_taken, order_on}
+use Rattle.journal.proofs.MissingKept.{none_missing, missing_some, missing_others, missing_block, missing_taken}
 
 -- at the start each copy is valid and zero
 pub valid_start : (s : Sizes) (p n : ℕ) → IsValidCopy s [] [] p n (replicate s.words 0) (replicate s.words 0)
@@ -40,6 +43,14 @@ valid_start s p n = record {
 -- a valid copy is lawful after the block
 pub valid_lawful : (s : Sizes) (j block : List Event) (p n : ℕ) (base page : List ℕ) → IsBlock p block → IsValidCopy s j block p n base page → Lawful s (j ++ block) p n page
 valid_lawful s j block p n base page is valid = rw (valid.gives) (lawful_block s j block p n base is valid.lawful)
+
+-- and has all of the past
+pub valid_complete : (s : Sizes) (j block : List Event) (p n : ℕ) (base page : List ℕ) → IsBlock p block → IsValidCopy s j block p n base page → Complete s (j ++ block) p n
+valid_complete s j block p n base page is valid = elim valid.full [ inl c ↦ complete_block s j block p n is c | inr f ↦ complete_fetched s j block p n f.0 f.1.0 f.1.1 f.1.2 is f.1.3 ]
+
+-- so it lacks nothing
+pub valid_no_gap : (s : Sizes) (j block : List Event) (p n : ℕ) (base page : List ℕ) → IsBlock p block → IsValidCopy s j block p n base page → NoGap s (j ++ block) p n
+valid_no_gap s j block p n base page is valid = complete_no_gap s (j ++ block) p n (valid_complete s j block p n base page is valid)
 
 -- others' events leave it valid
 pub valid_others : (s : Sizes) (j es block : List Event) (p n : ℕ) (base page : List ℕ) → ((k : ℕ) (e : Event) → At es k e → e.processor ≢ p) → IsValidCopy s j block p n base page → IsValidCopy s (j ++ es) block p n base page
@@ -59,15 +70,11 @@ valid_push s j block e p n base page valid = record {
 
 -- a block that is handed in leaves it valid
 pub valid_handed : (s : Sizes) (j block : List Event) (p n : ℕ) (base page : List ℕ) → IsBlock p block → IsValidCopy s j block p n base page → IsValidCopy s (j ++ block) [] p n page page
-valid_handed s j block p n base page is valid = record {
-  lawful = valid_lawful s j block p n base page is valid;
-  gives = refl;
-  full = inl (elim valid.full [ inl c ↦ complete_block s j block p n is c | inr f ↦ complete_fetched s j block p n f.0 f.1.0 f.1.1 f.1.2 is f.1.3 ]);
-}
+valid_handed s j block p n base page is valid = record { lawful = valid_lawful s j block p n base page is valid; gives = refl; full = inl (valid_complete s j block p n base page is valid) }
 
 -- a load of a valid copy is one that the block may answer
-pub valid_load : (s : Sizes) (j block : List Event) (p a v : ℕ) (base : ℕ → List ℕ) (page : List ℕ) → IsValidCopy s j block p (a / s.words) (base (a / s.words)) page → slice_get page (a % s.words) ≡ Some v → BlockAnswers s j block p base → BlockAnswers s j (block ++ record { processor = p; kind = Load a v } ∷ []) p base
-valid_load s j block p a v base page valid at answers = answers_push s j block (record { processor = p; kind = Load a v }) p base answers again
+pub valid_load : (s : Sizes) (j block : List Event) (p a v : ℕ) (base : ℕ → List ℕ) (over page : List ℕ) → base (a / s.words) ≡ over → IsValidCopy s j block p (a / s.words) over page → slice_get page (a % s.words) ≡ Some v → BlockAnswers s j block p base → BlockAnswers s j (block ++ record { processor = p; kind = Load a v } ∷ []) p base
+valid_load s j block p a v base over page is valid at answers = answers_push s j block (record { processor = p; kind = Load a v }) p base answers again
   where
     P : ℕ → ℕ → Type 0
     P b w = Lawful s j p (b / s.words) (base (b / s.words)) × (slice_get (block_done s (b / s.words) (base (b / s.words)) block) (b % s.words) ≡ Some w)
@@ -77,7 +84,7 @@ valid_load s j block p a v base page valid at answers = answers_push s j block (
         let kinds : Load a v ≡ Load b w = ap (λ (x : Event). x.kind) e in
         let same_address : a ≡ b = cc in
         let same_value : v ≡ w = cc in
-        subst₂ P same_address same_value (valid.lawful, ap (λ (ws : List ℕ). slice_get ws (a % s.words)) (sym valid.gives) ∙ at)
+        subst₂ P same_address same_value (rw is (valid.lawful, ap (λ (ws : List ℕ). slice_get ws (a % s.words)) (sym valid.gives) ∙ at))
 
 -- a block without events answers no load
 pub answers_start : (s : Sizes) (j : List Event) (p : ℕ) (base : ℕ → List ℕ) → BlockAnswers s j [] p base
@@ -116,8 +123,12 @@ stale_handed s j block p n page missing is stale = record {
   untouched = λ k e at. absurd (none-some e at);
 }
 
+-- and what some interval stored is in its gap
+pub stale_gap : (s : Sizes) (j block : List Event) (p n : ℕ) (page : List ℕ) (x : Missing) (missing : List Missing) → IsBlock p block → IsStaleCopy s j block p n page (x ∷ missing) → (i : ℕ) × InGap s (j ++ block) p n i
+stale_gap s j block p n page x missing is stale = missing_some s (j ++ block) p n x missing (stale_handed s j block p n page (x ∷ missing) is stale).lacks
+
 -- a fetch applies the missing records in closing order, and makes it valid
-pub stale_fetched : (s : Sizes) (j block : List Event) (p n w r d : ℕ) (page : List ℕ) (missing : List Missing) → InClosingOrder j missing → IsStaleCopy s j block p n page missing → IsValidCopy s j (block ++ record { processor = p; kind = Fetch n w r d } ∷ []) p n (records_applied page (map (λ (x : Missing). x.words) missing)) (records_applied page (map (λ (x : Missing). x.words) missing))
+pub stale_fetched : (s : Sizes) (j block : List Event) (p n w r d : ℕ) (page : List ℕ) (missing : List Missing) → InClosingOrder missing → IsStaleCopy s j block p n page missing → IsValidCopy s j (block ++ record { processor = p; kind = Fetch n w r d } ∷ []) p n (records_applied page (map (λ (x : Missing). x.words) missing)) (records_applied page (map (λ (x : Missing). x.words) missing))
 stale_fetched s j block p n w r d page missing order stale = record {
   lawful = missing_fetched s j p n page missing stale.lacks order stale.copy;
   gives = sym (written_nothing (λ (f : Event). write_in s n f.kind) new (block ++ e ∷ []) nothing);
@@ -136,9 +147,24 @@ stale_fetched s j block p n w r d page missing order stale = record {
       | inr h ↦ (let P : Event → Type 0 = λ g. write_in s n g.kind ≡ None in subst P h.1 refl)
     ]
 
--- the fetch's counts are those of the missing intervals
-pub stale_counts : (s : Sizes) (j block : List Event) (p n writers : ℕ) (page : List ℕ) (missing : List Missing) → IsBlock p block → InClosingOrder j missing → HasCount (λ (q : ℕ). (x : Missing) × Has missing x × (x.owner ≡ q)) writers → IsStaleCopy s j block p n page missing → GapCounts s (j ++ block) p n writers (length missing) (sum_by (λ (x : Missing). length x.words) missing)
-stale_counts s j block p n writers page missing is order count stale = missing_counts s (j ++ block) p n writers missing (stale_handed s j block p n page missing is stale).lacks (order_on j block missing order) count
+-- the fetch's counts are how many owners, intervals and words the missing list has
+pub stale_counted : (s : Sizes) (j block : List Event) (p n writers : ℕ) (page : List ℕ) (missing : List Missing) → InClosingOrder missing → HasCount (λ (q : ℕ). (x : Missing) × Has missing x × (x.owner ≡ q)) writers → IsStaleCopy s j block p n page missing → BlockCounts s j block p → BlockCounts s j (block ++ record { processor = p; kind = Fetch n writers (length missing) (sum_by (λ (x : Missing). length x.words) missing) } ∷ []) p
+stale_counted s j block p n writers page missing order count stale counts = block_counts_push s j block (record { processor = p; kind = Fetch n writers (length missing) (sum_by (λ (x : Missing). length x.words) missing) }) p new counts
+  where
+    words : ℕ
+    words = sum_by (λ (x : Missing). length x.words) missing
+
+    Result : ℕ → ℕ → ℕ → ℕ → Type 0
+    Result m w r d = GapCounts s j p m w r d × ((i w' r' d' : ℕ) → ¬ Does block i p (Fetch m w' r' d'))
+
+    new : (m w r d : ℕ) → ◌≡◌ {A = Event} (record { processor = p; kind = Fetch n writers (length missing) words }) (record { processor = p; kind = Fetch m w r d }) → Result m w r d
+    new m w r d e =
+        let kinds : Fetch n writers (length missing) words ≡ Fetch m w r d = ap (λ (x : Event). x.kind) e in
+        let a : n ≡ m = cc in
+        let b : writers ≡ w = cc in
+        let c : length missing ≡ r = cc in
+        let f : words ≡ d = cc in
+        subst (λ x. Result m w r x) f (subst (λ x. Result m w x words) c (subst₂ (λ x y. Result x y (length missing) words) a b (missing_counts s j p n writers missing stale.lacks order count, λ i w' r' d' g. stale.untouched i (record { processor = p; kind = Fetch n w' r' d' }) g refl)))
 
 -- what the block's loads answer is untouched by a fetch of a page that was stale
 pub answers_fetched : (s : Sizes) (j block : List Event) (p n w r d : ℕ) (page new : List ℕ) (missing : List Missing) (base : ℕ → List ℕ) → IsStaleCopy s j block p n page missing → BlockAnswers s j block p base → BlockAnswers s j (block ++ record { processor = p; kind = Fetch n w r d } ∷ []) p (with_page n new base)
@@ -172,8 +198,8 @@ stale_taken s j p n page k t t' missing new takes time after news stale = record
     taking m f at _ = elim (push_cases [] e m f at) [ inl h ↦ absurd (none-some f h.1) | inr h ↦ (let P : Event → Type 0 = λ g. ¬ Touches s n g.kind in subst P h.1 (takes_nothing k takes)) ]
 
 -- an event by which p gets to know of no store to the page leaves its valid copy so
-pub valid_taken : (s : Sizes) (j : List Event) (p n : ℕ) (base page : List ℕ) (k : Kind) (t t' : ℕ → ℕ) → is_taking k ≡ true → IsTimeOf j p t → IsTimeOf (j ++ record { processor = p; kind = k } ∷ []) p t' → ((q m i : ℕ) → StoresIn s j q m n i → q ≢ p → t q ≤ m → m < t' q → ⊥) → IsValidCopy s j [] p n base page → IsValidCopy s (j ++ record { processor = p; kind = k } ∷ []) [] p n page page
-valid_taken s j p n base page k t t' takes time after none valid = record {
+pub valid_taken : (s : Sizes) (j : List Event) (p n : ℕ) (base page : List ℕ) (k : Kind) (t t' : ℕ → ℕ) → is_taking k ≡ true → IsTimeOf j p t → IsTimeOf (j ++ record { processor = p; kind = k } ∷ []) p t' → AreNews s j p n t t' [] → IsValidCopy s j [] p n base page → IsValidCopy s (j ++ record { processor = p; kind = k } ∷ []) [] p n page page
+valid_taken s j p n base page k t t' takes time after no_news valid = record {
   lawful = lawful_on s j (e ∷ []) p n page nothing (subst (Lawful s j p n) (sym valid.gives) valid.lawful);
   gives = refl;
   full = inl (complete_on s j (e ∷ []) p n nothing (valid_full s j p n base page valid));
@@ -183,7 +209,7 @@ valid_taken s j p n base page k t t' takes time after none valid = record {
     e = record { processor = p; kind = k }
 
     nothing : (i : ℕ) → StoresTo s (j ++ e ∷ []) n i → InPast (j ++ e ∷ []) p i → InPast j p i
-    nothing = nothing_taken s j p n k t t' takes time after (λ q i a v apart does page le less. none q (interval_at j q i) i (a, v, does, page, refl) apart le less)
+    nothing = nothing_taken s j p n k t t' takes time after (λ q i a v apart does page le less. let x = (no_news.each q (interval_at j q i)).1 (i, (a, v, does, page, refl), apart, le, less) in has-nil x.0 x.1)
 
 -- and else it is stale by the new intervals
 pub valid_staled : (s : Sizes) (j : List Event) (p n : ℕ) (base page : List ℕ) (k : Kind) (t t' : ℕ → ℕ) (new : List Missing) → is_taking k ≡ true → IsTimeOf j p t → IsTimeOf (j ++ record { processor = p; kind = k } ∷ []) p t' → AreNews s j p n t t' new → IsValidCopy s j [] p n base page → IsStaleCopy s (j ++ record { processor = p; kind = k } ∷ []) [] p n page new

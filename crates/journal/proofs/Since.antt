@@ -133,3 +133,7 @@ open_places j p = push_induction (λ xs. (places : List ℕ) × AreOpen xs p pla
         own : (xs : List Event) (e : Event) → ((places : List ℕ) × AreOpen xs p places) → e.processor ≡ p → (b : Bool) → is_closing e.kind ≡ b → (places : List ℕ) × AreOpen (xs ++ e ∷ []) p places
         own xs e ih mine true closes = ([], open_closed xs e p mine closes)
         own xs e ih mine false inner = (ih.0 ++ length xs ∷ [], open_more xs e p ih.0 mine inner ih.1)
+
+-- others' events under an open block
+pub since_under : (j es block : List Event) (p : ℕ) → ((k : ℕ) (e : Event) → At es k e → e.processor ≢ p) → since ((j ++ es) ++ block) p ≡ since (j ++ block) p
+since_under j es block p away = fold-append (with_next p) [] (j ++ es) block ∙ ap (λ (xs : List Event). fold (with_next p) xs block) (since_others j es p away) ∙ sym (fold-append (with_next p) [] j block)

@@ -24,3 +24,4 @@ pub mod Groups
 pub mod Missing
 pub mod Pages
 pub mod Dirty
+pub mod Counted
