@@ -1,4 +1,4 @@
-use Rattle.std.proofs.Common.{◌≡◌, Some, Option, List, map, slice_set, ap, ◌∙◌}
+use Rattle.std.proofs.Common.{Some, Option, List, slice_set, ap, ◌∙◌}
 use Rattle.std.specs.Option.{option_map}
 use Rattle.std.proofs.lemmas.List.{map-set}
 use Rattle.transit.specs.Letters.{Letter, letter}
