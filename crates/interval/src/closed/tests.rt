@@ -112,7 +112,11 @@ fn has_between(
 fn sends_in_closing_order(rt: HostRuntime) -> Result<(), Fail> {
     let closed = four_intervals(rt.alloc())?;
     let pages = [(notice(0, 1, 0), 1), (notice(2, 1, 0), 1)];
-    let both = [(notice(0, 1, 0), 1), (notice(2, 1, 0), 1), (notice(3, 1, 1), 3)];
+    let both = [
+        (notice(0, 1, 0), 1),
+        (notice(2, 1, 0), 1),
+        (notice(3, 1, 1), 3),
+    ];
     assert!(rt; has_between(&rt, &closed, [1, 0], [2, 2], &both)?);
     assert!(rt; has_between(&rt, &closed, [0, 0], [1, 0], &[(notice(3, 0, 0), 0)])?);
     assert!(rt; has_between(&rt, &closed, [2, 0], [1, 1], &pages)?);
@@ -131,7 +135,11 @@ fn sends_what_a_trim_leaves(rt: HostRuntime) -> Result<(), Fail> {
     closed.trim(0, 1);
     assert!(rt; closed.record_of(&notice(3, 0, 0)).is_none());
     let pages = [(notice(0, 1, 0), 1), (notice(2, 1, 0), 1)];
-    let both = [(notice(0, 1, 0), 1), (notice(2, 1, 0), 1), (notice(3, 1, 1), 3)];
+    let both = [
+        (notice(0, 1, 0), 1),
+        (notice(2, 1, 0), 1),
+        (notice(3, 1, 1), 3),
+    ];
     assert!(rt; has_between(&rt, &closed, [1, 0], [2, 2], &both)?);
     assert!(rt; has_between(&rt, &closed, [2, 0], [1, 1], &pages)?);
     assert!(rt; has_between(&rt, &closed, [2, 2], [2, 2], &[])?);
