@@ -1,8 +1,8 @@
 -- What is found in the merged list by owner and number.
-use Rattle.std.proofs.Common.{◌≡◌, ℕ, zero, suc, ◌<◌, ◌≤◌, ◌+◌, ◌-◌, Bool, true, ◌==◌, inl, inr, Option, Some, None, List, [], ◌∷◌, map, find, slice_get, length, refl, sym, ap, subst, arith, ◌∙◌}
+use Rattle.std.proofs.Common.{◌≡◌, ℕ, zero, suc, ◌<◌, ◌≤◌, ◌+◌, ◌-◌, Bool, true, ◌==◌, inl, inr, Option, Some, None, List, [], ◌∷◌, map, find, slice_get, get_or, length, refl, sym, ap, subst, arith, ◌∙◌}
 use Rattle.std.specs.Option.{MatchOption, option_and_then}
 use Rattle.std.proofs.lemmas.Bool.{cases_order, cases_Bool, and_parts, and_from, eqb-true, eq-eqb}
-use Rattle.std.proofs.lemmas.Option.{slice_get_within, slice_get-get_or}
+use Rattle.std.proofs.lemmas.Option.{slice_get_within, slice_get-get_or, slice_get_read}
 use Rattle.page.specs.Changes.{Changes}
 use Rattle.interval.specs.declared.notice.Notice.{Notice}
 use Rattle.interval.specs.declared.kept.Kept.{Kept}
@@ -134,3 +134,8 @@ record_found queues count value n o is found =
     let kepts : value.kept ≡ merged queues = ap (λ (c : Closings). c.kept) (sym is) in
     ap (λ (ks : List Kept). option_and_then (λ (k : Kept). find (λ (r : Changes). r.page == n.page) k.interval.records) (find (is_noticed n) ks)) kepts
     ∙ ap (option_and_then (λ (k : Kept). find (λ (r : Changes). r.page == n.page) k.interval.records)) found
+
+-- the owner's queue, as it is read from a slice of the queues
+pub queue_read : (queues items : List Queue) (o : ℕ) (queue : Queue) → items ≡ queues → o < length items → queue ≡ get_or items o queue → slice_get queues o ≡ Some queue
+queue_read queues items o queue same inside read =
+    ap (λ (qs : List Queue). slice_get qs o) (sym same) ∙ slice_get_read items (length items) o queue refl inside read
