@@ -53,22 +53,26 @@ fn four_intervals(alloc: Global) -> Result<Closed, AllocError>
     Ok(closed)
 }
 
+/// Raises the entry, while it is below 9.
+fn raise(time: &mut VTime, q: usize, count: u64)
+    requires { q < length time.old }
+    ensures { length time.new ≡ length time.old }
+{
+    for _ in 0..count.min(9) {
+        if time.entry(q) < 9 {
+            time.tick(q);
+        }
+    }
+}
+
 /// The timestamp with these two entries, each below 10.
 fn stamp(alloc: Global, entries: [u64; 2]) -> VTime
     ensures { length result ≡ 2 }
 {
     let mut time = VTime::zero(alloc, 2);
     let [first, second] = entries;
-    'firsts: for _ in 0..first.min(9) {
-        if time.entry(0) < 9 {
-            time.tick(0);
-        }
-    }
-    'seconds: for _ in 0..second.min(9) {
-        if time.entry(1) < 9 {
-            time.tick(1);
-        }
-    }
+    raise(&mut time, 0, first);
+    raise(&mut time, 1, second);
     time
 }
 
