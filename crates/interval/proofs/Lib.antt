@@ -9,4 +9,5 @@ pub mod Trimmed
 pub mod Earliest
 pub mod Between
 pub mod Looked
+pub mod News
 pub mod Sending

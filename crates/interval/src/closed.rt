@@ -1,5 +1,5 @@
 //! The closed intervals of all owners.
-ghost use Rattle.std.specs.Prelude.{◌≡◌, ℕ, ◌-◌, ◌^◌, ◌<◌, ◌≤◌, ◌==◌, MatchOption, OnOk, OnErr, IfOk, replicate, [], ◌∷◌, length, find, filter, slice_get, slice_index};
+ghost use Rattle.std.specs.Prelude.{◌≡◌, ℕ, ◌-◌, ◌^◌, ◌<◌, ◌≤◌, ◌==◌, MatchOption, OnOk, OnErr, IfOk, List, replicate, [], ◌∷◌, length, find, filter, slice_get, slice_index};
 ghost use Rattle.std.specs.Option.{option_copied};
 ghost use Rattle.vtime.specs.Times.{tick};
 ghost use Rattle.interval.specs.Intervals.{HasRisingPages, IsInClosingOrder};
@@ -54,6 +54,10 @@ impl Closed {
         requires pages { HasRisingPages interval.records }
         requires fits { self.old.pushed < 2 ^ 64 - 1 }
         ensures ok { OnOk result (self.new ≡ pushed self.old interval) }
+
+        // Who is not to perform the interval is sent what was sent before.
+        ensures same_news { OnOk result ((old new : List ℕ) → slice_index new interval.owner ≤ interval.number
+            → between self.new old new ≡ between self.old old new) }
         ensures err { OnErr result (self.new ≡ self.old) }
     {
         let owner = interval.owner;
@@ -93,7 +97,7 @@ impl Closed {
         requires none_trimmed { (q : ℕ) → slice_index self.now.first q ≤ slice_index at.now q }
         ensures { MatchOption result (filter (is_news at.now new.now) self.now.kept ≡ [])
             (λ k. filter (is_news at.now new.now) self.now.kept
-                ≡ k.now ∷ filter (is_news (tick at.now k.now.interval.owner) new.now) self.now.kept) }
+            ≡ k.now ∷ filter (is_news (tick at.now k.now.interval.owner) new.now) self.now.kept) }
     {
         let mut earliest = None;
         for (owner, queue) in self.queues.iter().enumerate() {
@@ -129,7 +133,10 @@ impl Closed {
     /// Drops the owner's intervals with numbers below `to`, which everyone has performed.
     pub fn trim(&mut self, owner: usize, to: u64)
         requires { owner < length self.old.first }
-        ensures { self.new ≡ trimmed self.old owner to }
+        ensures value { self.new ≡ trimmed self.old owner to }
+
+        // Who has performed the intervals that are dropped is sent what was sent before.
+        ensures same_news { (old new : List ℕ) → to ≤ slice_index old owner → between self.new old new ≡ between self.old old new }
     {
         self.queues[owner].trim(to);
     }

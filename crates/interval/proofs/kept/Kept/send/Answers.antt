@@ -1,4 +1,4 @@
-use Rattle.std.proofs.Common.{◌≡◌, [], ◌∷◌, ◌++◌, map, take, ap, sym, ◌∙◌}
+use Rattle.std.proofs.Common.{[], ◌∷◌, ◌++◌, map, ap, sym, ◌∙◌}
 use Rattle.std.specs.Arc.{arc_value}
 use Rattle.std.proofs.lemmas.List.{take_all, append-nil}
 use Rattle.interval.specs.Closings.{sent_record}
@@ -11,7 +11,7 @@ loop-record-init c = sym (append-nil c.args.sent.now.items)
 pub loop-record-preserved : goal.loop-record-preserved
 loop-record-preserved c =
     let more = pushed_more arc_value (sent_record c.args.self.now) c.shared_records-record-items.result.now c.loop-record.record-index c.record-item.result c.args.sent.now.items c.loop-record.sent.items c.loop-record-test.true c.record-item.is c.loop-record.invariant in
-    c.in_ok-push.ensures.items ∙ ap (λ s. c.loop-record.sent.items ++ s ∷ []) c.in_ok-sent.ensures ∙ more
+    cc (more, c.in_ok-push.ensures.items, c.in_ok-sent.ensures)
 
 pub returns : goal.returns
 returns c =
