@@ -4,7 +4,8 @@ use Rattle.page.specs.Changes.{IsRising}
 use Rattle.page.specs.Contents.{Contents}
 use Rattle.page.specs.Carries.{FitsIn}
 use Rattle.page.specs.Marks.{marks_of}
-use Rattle.page.proofs.Harvested.{harvest_rises, harvest_fits}
+use Rattle.lists.proofs.Harvests.{harvest_rises}
+use Rattle.page.proofs.Harvested.{harvest_fits}
 use Rattle.page.proofs.Merged.{carries_record, carries_none}
 use Rattle.page.proofs.pages.Page.harvest.Goals as goal
 
