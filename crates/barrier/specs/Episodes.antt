@@ -30,7 +30,7 @@ completed false b = b
 completed true b = record {
   stages = replicate (length b.stages) Free;
   gathered = replicate (length b.stages) 0;
-  last = b.gathered
+  last = b.gathered;
 }
 
 -- p is here, at this time

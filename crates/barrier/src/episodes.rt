@@ -39,12 +39,10 @@ impl Model for Barrier {
 
     ghost view = { λ b. record { stages = b.stages.items; gathered = b.gathered; last = b.last } };
 
-    ghost invariant = {
-        λ b.
-            let processors = length b.stages.items in
-            (1 ≤ processors) × (processors ≤ 16)
-            × (length b.gathered ≡ processors) × (length b.last ≡ processors)
-    };
+    ghost invariant = { λ b.
+        let processors = length b.stages.items in
+        (1 ≤ processors) × (processors ≤ 16)
+        × (length b.gathered ≡ processors) × (length b.last ≡ processors) };
 }
 
 impl Barrier {
@@ -68,17 +66,13 @@ impl Barrier {
         requires away { slice_get self.old.stages processor ≡ Some Stage.Away }
         requires long { length time.now ≡ length self.old.stages }
         ensures barrier { self.new ≡ arrived self.old processor time.now }
-        ensures complete {
-            IsTrue result ↔ (count_by is_here self.old.stages + 1 ≡ length self.old.stages)
-        }
+        ensures complete { IsTrue result ↔ (count_by is_here self.old.stages + 1 ≡ length self.old.stages) }
         ensures same_length { length self.new.stages ≡ length self.old.stages }
 
         // Whichever arrivals led here, the time of a complete episode is the join of them all.
-        ensures gathers {
-            (times : List (List ℕ)) →
+        ensures gathers { (times : List (List ℕ)) →
             HasGathered self.old times →
-              Gathers result self.new time.now times
-        }
+            Gathers result self.new time.now times }
     {
         self.stages[processor] = Stage::Here;
         self.gathered.join(time);
@@ -119,9 +113,7 @@ impl Barrier {
     pub fn depart(&mut self, processor: usize)
         requires { slice_get self.old.stages processor ≡ Some Stage.Free }
         ensures barrier { self.new ≡ departed self.old processor }
-        ensures gathers {
-            (times : List (List ℕ)) → HasGathered self.old times → HasGathered self.new times
-        }
+        ensures gathers { (times : List (List ℕ)) → HasGathered self.old times → HasGathered self.new times }
     {
         self.stages[processor] = Stage::Away;
     }

@@ -37,4 +37,4 @@ CarriesStores p r =
     (stores : List (ℕ × ℕ)) (words other : List ℕ) →
     IsAfter stores words p →
     length other ≡ length words →
-      carried other r ≡ stored other stores
+    carried other r ≡ stored other stores

@@ -33,13 +33,11 @@ impl Model for Page {
 
     ghost Value = { Contents };
 
-    ghost view = {
-        λ p. record {
-            words = p.words.items;
-            dirty = marks_of (length p.words.items) p.dirty;
-            access = p.access
-        }
-    };
+    ghost view = { λ p. record {
+      words = p.words.items;
+      dirty = marks_of (length p.words.items) p.dirty;
+      access = p.access;
+    } };
 
     ghost invariant = { λ p. (length p.words.items ≤ 64) × IsBelow (length p.words.items) p.dirty };
 }
@@ -162,10 +160,8 @@ impl Page {
 /// The words whose bits are set, lowest first, each with its offset.
 fn dirty_words(alloc: Global, words: &[u32], dirty: u64) -> Result<Vec<(usize, u32)>, AllocError>
     requires { IsBelow (length words.now) dirty }
-    ensures {
-        let marks = marks_of (length words.now) dirty in
-        IfOk result (λ found. found.items ≡ harvest 0 words.now marks)
-    }
+    ensures { let marks = marks_of (length words.now) dirty in
+        IfOk result (λ found. found.items ≡ harvest 0 words.now marks) }
 {
     let mut found = Vec::with_capacity(alloc, dirty.count_ones() as usize)?;
     let mut rest = dirty;

@@ -33,7 +33,7 @@ returns-clause-dirty_words c =
     record {
       page_is = c.new.ensures.page;
       words_are = found c;
-      fits = subst P (sym (found c)) (harvest_fits q.words q.dirty)
+      fits = subst P (sym (found c)) (harvest_fits q.words q.dirty);
     }
 
 pub returns-clause-carries : goal.returns-clause-carries
