@@ -5,7 +5,8 @@ use Rattle.vtime.specs.Times.{join}
 use Rattle.barrier.specs.declared.episodes.Stage.{Stage}
 use Rattle.barrier.specs.declared.episodes.Stage.TheVariants.{Away, Here, Free}
 
--- where each processor is, the join of the open episode's arrivals so far, and that of the last complete episode's
+-- where each processor is, the join of the open episode's arrivals so far, and that of the last
+-- complete episode's
 pub record Episodes : Type 0 where
   pub stages : List Stage
   pub gathered : List ℕ
@@ -26,7 +27,11 @@ is_full b = list_all is_here b.stages
 -- a full episode is complete: all may depart, and the next one opens
 abbrev pub completed : Bool → Episodes → Episodes
 completed false b = b
-completed true b = record { stages = replicate (length b.stages) Free; gathered = replicate (length b.stages) 0; last = b.gathered }
+completed true b = record {
+  stages = replicate (length b.stages) Free;
+  gathered = replicate (length b.stages) 0;
+  last = b.gathered;
+}
 
 -- p is here, at this time
 abbrev pub joined : Episodes → ℕ → List ℕ → Episodes
@@ -49,7 +54,8 @@ pub record HasGathered (b : Episodes) (times : List (List ℕ)) : Type 0 where
   pub joined_are : b.gathered ≡ joins (length b.stages) times
   pub count_is : count_by is_here b.stages ≡ length times
 
--- an arrival at this time makes the episode complete, with the join of all its arrivals, or is gathered
+-- an arrival at this time completes the episode, with the join of all its arrivals, or is gathered
 abbrev pub Gathers : Bool → Episodes → List ℕ → List (List ℕ) → Type 0
-Gathers true new time times = (new.last ≡ joins (length new.stages) (times ++ time ∷ [])) × HasGathered new []
+Gathers true new time times =
+    (new.last ≡ joins (length new.stages) (times ++ time ∷ [])) × HasGathered new []
 Gathers false new time times = HasGathered new (times ++ time ∷ [])

@@ -39,7 +39,10 @@ impl Model for Barrier {
 
     ghost view = { λ b. record { stages = b.stages.items; gathered = b.gathered; last = b.last } };
 
-    ghost invariant = { λ b. (1 ≤ length b.stages.items) × (length b.stages.items ≤ 16) × (length b.gathered ≡ length b.stages.items) × (length b.last ≡ length b.stages.items) };
+    ghost invariant = { λ b.
+        let processors = length b.stages.items in
+        (1 ≤ processors) × (processors ≤ 16)
+        × (length b.gathered ≡ processors) × (length b.last ≡ processors) };
 }
 
 impl Barrier {
@@ -67,7 +70,9 @@ impl Barrier {
         ensures same_length { length self.new.stages ≡ length self.old.stages }
 
         // Whichever arrivals led here, the time of a complete episode is the join of them all.
-        ensures gathers { (times : List (List ℕ)) → HasGathered self.old times → Gathers result self.new time.now times }
+        ensures gathers { (times : List (List ℕ)) →
+            HasGathered self.old times →
+            Gathers result self.new time.now times }
     {
         self.stages[processor] = Stage::Here;
         self.gathered.join(time);

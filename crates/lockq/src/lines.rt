@@ -25,7 +25,9 @@ impl Model for Lock {
 
     ghost view = { λ k. record { holder = k.holder; queue = k.queue.items; time = k.time } };
 
-    ghost invariant = { λ k. IsOrderly (length k.time) (record { holder = k.holder; queue = k.queue.items; time = k.time }) × (length k.time ≤ deque_capacity k.queue) };
+    ghost invariant = { λ k.
+        let state : State = record { holder = k.holder; queue = k.queue.items; time = k.time } in
+        IsOrderly (length k.time) state × (length k.time ≤ deque_capacity k.queue) };
 }
 
 impl Lock {
@@ -131,8 +133,8 @@ impl Locks {
         lock.ask(processor)
     }
 
-    /// Takes a lock from the processor that holds it, keeps `time` with it, and answers who holds it
-    /// next: the first of its queue, if there is one.
+    /// Takes a lock from the processor that holds it, keeps `time` with it, and answers who holds
+    /// it next: the first of its queue, if there is one.
     pub fn release(&mut self, lock: usize, processor: usize, time: VTime) -> Option<usize>
         requires lock { lock < length self.old.locks }
         requires holder { (lock_at self.old lock).holder ≡ Some processor }

@@ -1,13 +1,13 @@
 -- The dirty words, one after another.
-use Rattle.std.proofs.Common.{ℕ, zero, suc, ◌≡◌, ◌<◌, ◌≤◌, ◌+◌, ◌/◌, ◌%◌, ◌^◌, ◌==◌, Bool, true, false, Some, List, [], ◌∷◌, ◌++◌, append_assoc, length, get_or, drop, slice_get, w64, refl, sym, ap, ◌∙◌, subst, arith, inl, inr}
+use Rattle.std.proofs.Common.{ℕ, zero, suc, ◌≡◌, ◌<◌, ◌+◌, ◌/◌, ◌%◌, ◌^◌, ◌==◌, Bool, false, List, [], ◌∷◌, ◌++◌, append_assoc, length, get_or, drop, w64, refl, sym, ap, ◌∙◌, subst, arith, inl, inr}
 use Rattle.std.specs.Int.{bit_at, trailing_zeros}
 use Rattle.std.proofs.Math.Nat.{div-div-eq-div-mul, pow-succ'}
 use Rattle.std.proofs.lemmas.Nat.Bits.{bit_at_lowest, bit_at-suc, bit_at-trailing_zeros}
 use Rattle.std.proofs.lemmas.List.{length-drop, drop-drop, get_or-drop}
 use Rattle.std.proofs.lemmas.Bool.{cases_lt, eq-eqb}
-use Rattle.std.proofs.lemmas.Option.{same_Some, none-some}
+use Rattle.std.proofs.lemmas.Option.{slice_get_within}
 use Rattle.lists.specs.Records.{harvest}
-use Rattle.page.specs.Changes.{IsRising}
+use Rattle.lists.proofs.Harvests.{harvest_found}
 use Rattle.page.specs.Carries.{FitsIn}
 use Rattle.page.specs.Marks.{marks_of, IsBelow}
 
@@ -54,27 +54,13 @@ first_within words rest some fits below =
       | inr past ↦ let none = below (trailing_zeros w64 rest) past in absurd (omega arith)
     ]
 
--- each harvested offset is the first one or later, and lies among the words
-pub harvest_bounds : (o : ℕ) (words : List ℕ) (marks : List Bool) (k : ℕ) (x : ℕ × ℕ) → slice_get (harvest o words marks) k ≡ Some x → (o ≤ x.0) × (x.0 < o + length words)
-harvest_bounds o [] marks k x at = absurd (none-some x at)
-harvest_bounds o (w ∷ words) [] k x at = absurd (none-some x at)
-harvest_bounds o (w ∷ words) (true ∷ marks) zero x at = let e = ap (λ (y : ℕ × ℕ). y.0) (same_Some (o, w) x at) in (omega arith, omega arith)
-harvest_bounds o (w ∷ words) (true ∷ marks) (suc k) x at = let h = harvest_bounds (suc o) words marks k x at in (omega arith, omega arith)
-harvest_bounds o (w ∷ words) (false ∷ marks) k x at = let h = harvest_bounds (suc o) words marks k x at in (omega arith, omega arith)
-
+-- harvested offsets lie among the words
 pub harvest_fits : (words : List ℕ) (marks : List Bool) → FitsIn (length words) (harvest 0 words marks)
-harvest_fits words marks x has = let h = harvest_bounds 0 words marks has.0 x has.1 in omega arith
-
-pub harvest_rises : (o : ℕ) (words : List ℕ) (marks : List Bool) → IsRising (harvest o words marks)
-harvest_rises o [] marks x y a b lt at_x at_y = absurd (none-some a at_x)
-harvest_rises o (w ∷ words) [] x y a b lt at_x at_y = absurd (none-some a at_x)
-harvest_rises o (w ∷ words) (true ∷ marks) x zero a b lt at_x at_y = absurd (omega arith)
-harvest_rises o (w ∷ words) (true ∷ marks) zero (suc y) a b lt at_x at_y =
-    let e = ap (λ (z : ℕ × ℕ). z.0) (same_Some (o, w) a at_x) in
-    let h = harvest_bounds (suc o) words marks y b at_y in
+harvest_fits words marks x has =
+    let found = harvest_found 0 words marks has.0 x.0 x.1 has.1 in
+    let within = slice_get_within words found.0 x.1 found.2 in
+    let offset = found.1 in
     omega arith
-harvest_rises o (w ∷ words) (true ∷ marks) (suc x) (suc y) a b lt at_x at_y = harvest_rises (suc o) words marks x y a b (omega arith) at_x at_y
-harvest_rises o (w ∷ words) (false ∷ marks) x y a b lt at_x at_y = harvest_rises (suc o) words marks x y a b lt at_x at_y
 
 -- one step: the first dirty word joins those found
 pub found_more : (found : List (ℕ × ℕ)) (words : List ℕ) (all : List (ℕ × ℕ)) (o rest : ℕ) → 0 < rest → rest < 2 ^ 64 → IsBelow (length (drop o words)) rest → found ++ harvest o (drop o words) (marks_of (length (drop o words)) rest) ≡ all → let s = trailing_zeros w64 rest in (found ++ (o + s, get_or words (o + s) 0) ∷ []) ++ harvest (o + s + 1) (drop (o + s + 1) words) (marks_of (length (drop (o + s + 1) words)) (rest / 2 ^ s / 2)) ≡ all

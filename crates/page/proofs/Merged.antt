@@ -2,6 +2,7 @@
 use Rattle.std.proofs.Common.{ℕ, zero, suc, ◌≡◌, Bool, true, false, Some, None, List, [], ◌∷◌, ◌++◌, length, set, replicate, refl, sym, ap, ◌∙◌, append_assoc, arith}
 use Rattle.std.proofs.lemmas.List.{set_at, length-set, length_push, length-replicate}
 use Rattle.lists.specs.Records.{record_applied, marked, harvest}
+use Rattle.lists.proofs.LastWrites.{length-written}
 use Rattle.page.specs.Changes.{Changes}
 use Rattle.page.specs.Contents.{Contents, IsClean}
 use Rattle.page.specs.Carries.{stored, IsAfter, CarriesStores}
@@ -52,10 +53,6 @@ merged-clean [] words same = refl
 merged-clean (p ∷ page) [] same = refl
 merged-clean (p ∷ page) (w ∷ words) same = ap (λ (ps : List ℕ). p ∷ ps) (merged-clean page words (omega arith))
 
-length-stored : (words : List ℕ) (stores : List (ℕ × ℕ)) → length (stored words stores) ≡ length words
-length-stored words [] = refl
-length-stored words (x ∷ stores) = length-stored (set words x.0 x.1) stores ∙ length-set words x.0 x.1
-
 -- the marked words of a copy, put into another page, are what the stores that led there make of it
 merged-after : (stores : List (ℕ × ℕ)) (words other : List ℕ) (p : Contents) → IsAfter stores words p → length other ≡ length words → merged other p.words p.dirty ≡ stored other stores
 merged-after stores words other p after same =
@@ -67,11 +64,11 @@ merged-after stores words other p after same =
 pub carries_record : (p : Contents) (r : Changes) → r.words ≡ harvest 0 p.words p.dirty → CarriesStores p (Some r)
 carries_record p r is stores words other after same =
     ap (λ (ws : List (ℕ × ℕ)). record_applied other ws) is
-    ∙ record_applied-append 0 [] other p.words p.dirty refl (same ∙ sym (ap (λ (ws : List ℕ). length ws) after.words_are ∙ length-stored words stores))
+    ∙ record_applied-append 0 [] other p.words p.dirty refl (same ∙ sym (ap (λ (ws : List ℕ). length ws) after.words_are ∙ length-written (λ (x : ℕ × ℕ). Some x) words stores))
     ∙ merged-after stores words other p after same
 
 pub carries_none : (p : Contents) → IsClean p → CarriesStores p None
 carries_none p clean stores words other after same =
-    sym (merged-clean other p.words (same ∙ sym (ap (λ (ws : List ℕ). length ws) after.words_are ∙ length-stored words stores)))
+    sym (merged-clean other p.words (same ∙ sym (ap (λ (ws : List ℕ). length ws) after.words_are ∙ length-written (λ (x : ℕ × ℕ). Some x) words stores)))
     ∙ ap (λ (ms : List Bool). merged other p.words ms) (sym clean)
     ∙ merged-after stores words other p after same

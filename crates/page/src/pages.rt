@@ -33,14 +33,18 @@ impl Model for Page {
 
     ghost Value = { Contents };
 
-    ghost view = { λ p. record { words = p.words.items; dirty = marks_of (length p.words.items) p.dirty; access = p.access } };
+    ghost view = { λ p. record {
+      words = p.words.items;
+      dirty = marks_of (length p.words.items) p.dirty;
+      access = p.access;
+    } };
 
     ghost invariant = { λ p. (length p.words.items ≤ 64) × IsBelow (length p.words.items) p.dirty };
 }
 
 impl Page {
     ghost use Rattle.page.specs.Contents.{IsClean};
-    ghost use Rattle.page.specs.Carries.{FitsIn, CarriesStores};
+    ghost use Rattle.page.specs.Carries.{FitsIn, IsHarvest, CarriesStores};
 
     /// A page of `words` words, valid and zero.
     pub fn zero(alloc: Global, words: usize) -> Result<Self, AllocError>
@@ -140,9 +144,7 @@ impl Page {
     pub fn harvest(&self, page: usize) -> Result<Option<Record>, AllocError>
         ensures clean { IsClean self.now → result ≡ Ok None }
         ensures none { IfOk result (λ r. IfNone r (IsClean self.now)) }
-        ensures page { IfOk result (λ r. IfSome r (λ changes. changes.page ≡ page)) }
-        ensures words { IfOk result (λ r. IfSome r (λ changes. changes.words ≡ harvest 0 self.now.words self.now.dirty)) }
-        ensures fits { IfOk result (λ r. IfSome r (λ changes. FitsIn (length self.now.words) changes.words)) }
+        ensures dirty_words { IfOk result (λ r. IfSome r (IsHarvest page self.now)) }
 
         // Whatever stores to a clean page led here, the record does what they did.
         ensures carries { IfOk result (λ r. CarriesStores self.now r) }
@@ -158,7 +160,8 @@ impl Page {
 /// The words whose bits are set, lowest first, each with its offset.
 fn dirty_words(alloc: Global, words: &[u32], dirty: u64) -> Result<Vec<(usize, u32)>, AllocError>
     requires { IsBelow (length words.now) dirty }
-    ensures { IfOk result (λ found. found.items ≡ harvest 0 words.now (marks_of (length words.now) dirty)) }
+    ensures { let marks = marks_of (length words.now) dirty in
+        IfOk result (λ found. found.items ≡ harvest 0 words.now marks) }
 {
     let mut found = Vec::with_capacity(alloc, dirty.count_ones() as usize)?;
     let mut rest = dirty;

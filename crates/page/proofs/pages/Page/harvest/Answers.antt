@@ -4,7 +4,8 @@ use Rattle.page.specs.Changes.{IsRising}
 use Rattle.page.specs.Contents.{Contents}
 use Rattle.page.specs.Carries.{FitsIn}
 use Rattle.page.specs.Marks.{marks_of}
-use Rattle.page.proofs.Harvested.{harvest_rises, harvest_fits}
+use Rattle.lists.proofs.Harvests.{harvest_rises}
+use Rattle.page.proofs.Harvested.{harvest_fits}
 use Rattle.page.proofs.Merged.{carries_record, carries_none}
 use Rattle.page.proofs.pages.Page.harvest.Goals as goal
 
@@ -25,11 +26,15 @@ found c =
     ∙ ap (λ (ws : List ℕ). harvest 0 ws (marks_of (length ws) c.self.inside.dirty)) c.deref.ensures.value
     ∙ ap (λ (q : Contents). harvest 0 q.words q.dirty) c.self.view_is
 
-pub returns-clause-fits : goal.returns-clause-fits
-returns-clause-fits c =
+pub returns-clause-dirty_words : goal.returns-clause-dirty_words
+returns-clause-dirty_words c =
     let q = c.args.self.now in
     let P : List (ℕ × ℕ) → Type 0 = λ ws. FitsIn (length q.words) ws in
-    subst P (sym (found c)) (harvest_fits q.words q.dirty)
+    record {
+      page_is = c.new.ensures.page;
+      words_are = found c;
+      fits = subst P (sym (found c)) (harvest_fits q.words q.dirty);
+    }
 
 pub returns-clause-carries : goal.returns-clause-carries
 returns-clause-carries c = carries_record c.args.self.now c.new.result (found c)
