@@ -1,6 +1,6 @@
 -- Lists read by `get_elem?`. The lemmas of atomic_table are passed on, for the crates above.
 pub use Rattle.atomic_table.proofs.Lists.{at_index, at_set, set_here, set_else, set_again, at_longer, at_last, at_map}
-use Rattle.std.proofs.Common.{◌≡◌, ℕ, zero, suc, ◌<◌, ◌⊎◌, List, [], ◌∷◌, ◌++◌, map, length, get_or, set, refl, sym, ap, ◌∙◌, inl, inr, ⊎_elim, arith}
+use Rattle.std.proofs.Common.{◌≡◌, ℕ, zero, suc, ◌<◌, ◌⊎◌, List, [], ◌∷◌, ◌++◌, map, length, get_or, set, refl, sym, ap, ◌∙◌, Some, slice_get, inl, inr, ⊎_elim, arith}
 use mathlib.Core.Option.{some, some-injective, some-ne-none}
 use lib.ListN.{get_elem?}
 
@@ -23,6 +23,17 @@ module _ {A : Type 0} where
   read_at [] j a d e = absurd (some-ne-none a (sym e))
   read_at (x ∷ xs) zero a d e = some-injective x a e
   read_at (x ∷ xs) (suc j) a d e = read_at xs j a d e
+
+  -- the same in std's words
+  pub got_at : (l : List A) (j : ℕ) (a : A) → get_elem? l j ≡ some a → slice_get l j ≡ Some a
+  got_at [] j a e = absurd (some-ne-none a (sym e))
+  got_at (x ∷ xs) zero a e = ap Some (some-injective x a e)
+  got_at (x ∷ xs) (suc j) a e = got_at xs j a e
+
+  pub at_got : (l : List A) (j : ℕ) (a : A) → slice_get l j ≡ Some a → get_elem? l j ≡ some a
+  at_got [] j a e = cc
+  at_got (x ∷ xs) zero a e = let same : x ≡ a = cc in ap some same
+  at_got (x ∷ xs) (suc j) a e = at_got xs j a e
 
   -- two elements at one place are one
   pub at_once : (l : List A) (j : ℕ) (a b : A) → get_elem? l j ≡ some a → get_elem? l j ≡ some b → a ≡ b

@@ -13,7 +13,6 @@ mod chair;
 mod contract;
 mod lock;
 
-pub use board::{Board, Change, Changing, Counter, Layout, Row};
-pub use chair::{Chair, Hand, Held, Seating, Sitting, Spent, Stage};
+pub use chair::{Chair, Held, Seating, Spent};
 pub use contract::{Keeper, Outcome, Turn};
-pub use lock::{ArrayLock, Lock, Sizes, TicketLock, Tickets};
+pub use lock::{ArrayLock, TicketLock};

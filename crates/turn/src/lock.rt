@@ -128,16 +128,15 @@ impl<B, K: Keeper<B>, W: Board, const ENTRIES: u64> Lock<B, K, W, ENTRIES> {
 
     // The steps 'look' and 'enter': one load of the chair's word. Where it finds another number, nothing changes; where
     // it finds the chair's own, the chair is inside, and its seat alone has the slot with the book.
-    fn look(&self, seat: &mut Place<B, K::View>, number: u64) -> bool
+    fn look(&self, seat: &mut Place<B, K::View>, word: usize, number: u64) -> bool
         requires own { seat.old.table_id ≡ self.now.table.shared.table_id }
+        requires word { word ≡ W.at self.now.layout.seats number }
         requires waits { Sits (Waiting number) seat.old.me }
         ensures own { seat.new.table_id ≡ seat.old.table_id }
         ensures enter { OnTrue result (StepsIn K.fact number seat.old.me seat.new.me) }
         ensures look { OnFalse result (seat.new.me ≡ seat.old.me) }
     {
-        let word = W::at(self.layout.seats, number);
-        let found = self.table.shared.load::<Look<K>>(seat, word);
-        found == number
+        self.table.shared.load::<Look<K>>(seat, word) == number
     }
 
     // The plain read of the slot, which the seat has.
@@ -160,9 +159,10 @@ impl<B, K: Keeper<B>, W: Board, const ENTRIES: u64> Lock<B, K, W, ENTRIES> {
         ensures own { seat.new.table_id ≡ seat.old.table_id }
         ensures enter { StepsIn K.fact number seat.old.me seat.new.me }
     {
+        let word = W::at(self.layout.seats, number);
         let backoff = Backoff::new();
         for _ in rt.forever() {
-            if self.look(seat, number) {
+            if self.look(seat, word, number) {
                 return;
             }
             backoff.snooze();

@@ -174,9 +174,5 @@ pub fn count_in_many<T: Turn<u64, Tally> + Drop, R: Threads + Wait + Sync>(
     )?;
     let (chairs, all) = chairs_of(alloc, results)?;
     let count = turn.close(chairs);
-    if all {
-        Ok(Some(count))
-    } else {
-        Ok(None)
-    }
+    if all { Ok(Some(count)) } else { Ok(None) }
 }

@@ -1,4 +1,4 @@
-use Rattle.std.proofs.Common.{◌+◌, refl, arith, Fits, w64}
+use Rattle.std.proofs.Common.{◌+◌, refl, arith}
 use Rattle.turn.specs.Chairs.{place, view}
 use Rattle.turn_uses.proofs.Sums.{adds, bounded}
 use Rattle.turn_uses.proofs.counting.add_one.Goals as goal
