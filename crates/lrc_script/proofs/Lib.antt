@@ -12,3 +12,4 @@ pub mod Adds
 pub mod Refused
 pub mod Complete
 pub mod Positions
+pub mod Printing

@@ -1,6 +1,7 @@
 //! Scripts of a cluster: what they say, their exact text, and the reader of that text.
 #![tactic(auto)]
 
+mod display;
 pub mod fault;
 mod line;
 mod progress;
