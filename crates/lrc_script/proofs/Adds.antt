@@ -1,20 +1,20 @@
 -- What a line that is read adds to the lines before it.
-use Rattle.std.proofs.Common.{◌≡◌, ◌≢◌, ℕ, zero, suc, ◌+◌, ◌-◌, ◌*◌, ◌^◌, ◌<◌, ◌≤◌, Bool, true, false, not, ◌&&◌, ◌||◌, cond, eqb, ltb, leb, List, [], ◌∷◌, ◌++◌, length, map, Option, Some, None, Result, Ok, Err, refl, sym, ap, subst, ◌∙◌, append_assoc, arith, inl, inr, ◌⊎◌}
+use Rattle.std.proofs.Common.{◌≡◌, ℕ, suc, ◌+◌, ◌<◌, Bool, true, false, not, ◌&&◌, ◌||◌, cond, eqb, ltb, leb, List, [], ◌∷◌, ◌++◌, length, map, Option, Some, None, Result, Ok, Err, refl, sym, ap, subst, ◌∙◌, append_assoc, arith, inl, inr, ◌⊎◌}
 use Rattle.std.specs.Prelude.{All, codes}
-use Rattle.std.specs.List.{flat_map, AllByRecursion, list_any}
+use Rattle.std.specs.List.{AllByRecursion, list_any}
 use Rattle.std.proofs.lemmas.Bool.Decides.{nat_tests}
-use Rattle.std.proofs.lemmas.List.{append-nil, length-append, map_push, same_from_push}
-use Rattle.std.proofs.lemmas.List.Elements.{recursion_from_All, All-from_recursion, All-weaker, All-nil, All-push}
+use Rattle.std.proofs.lemmas.List.{append-nil, length-append, map_push}
+use Rattle.std.proofs.lemmas.List.Elements.{All-from_recursion, All-weaker, All-nil, All-push}
 use Rattle.lrc_script.specs.declared.fault.ScriptFault.{ScriptFault}
 use Rattle.lrc_script.specs.declared.script.Instruction.{Instruction}
 use Rattle.lrc_script.specs.declared.script.Instruction.TheVariants as instruction
 use Rattle.lrc_script.specs.declared.line.Keyword.{Keyword}
 use Rattle.lrc_script.specs.declared.line.Keyword.TheVariants as keyword
 use Rattle.lrc_script.specs.Plan.{Plan}
-use Rattle.lrc_script.specs.Lawful.{addresses, AreSizes, IsServed, IsInRange, MayStandAfter, IsSection, IsLawfulButUneven, address_of, lock_of, flag_of}
-use Rattle.lrc_script.specs.Text.{Line, cluster_line, section_line, instruction_line, show_line, section_lines, lines_of}
+use Rattle.lrc_script.specs.Lawful.{addresses, AreSizes, IsServed, IsInRange, MayStandAfter, IsSection, address_of, lock_of, flag_of}
+use Rattle.lrc_script.specs.Text.{Line, cluster_line, section_line, instruction_line, show_line, section_lines}
 use Rattle.lrc_script.specs.Front.{Front, Nothing, Headed, Within, Whole, IsBegun, IsHeaded, IsWithin, lines_before}
-use Rattle.lrc_script.specs.Reading.{are_sizes, is_due, takes, sized, headed, first_section, next_section, ended, instruction_of, is_past, takes_held, gives_unheld, refusal, entered, with_instruction, closed, step}
+use Rattle.lrc_script.specs.Reading.{are_sizes, is_due, sized, headed, first_section, next_section, ended, is_past, takes_held, gives_unheld, refusal, entered, closed, step}
 use Rattle.lrc_script.proofs.Numbers.{and_true, AreWords}
 use Rattle.lrc_script.proofs.Fronts.{sizes_from_test, sizes_small, head_plan, section_with, sizes_with}
 use Rattle.lrc_script.proofs.Keywords.{spelled}
@@ -152,7 +152,7 @@ snoc_cases (x ∷ xs) (b ∷ bs) i j after e =
     elim (snoc_cases xs bs i j after tail) [
       | inl p ↦ inl (ap (λ (y : Instruction). y ∷ bs) (sym head) ∙ ap (λ (ys : List Instruction). x ∷ ys) p.0, p.1)
       | inr p ↦ inr (p.0, ap (λ (y : Instruction). y ∷ xs) head ∙ ap (λ (ys : List Instruction). b ∷ ys) p.1)
-      ]
+    ]
 
 -- no test refuses the instruction
 pub record Passed (s : Plan) (is : List Instruction) (i : Instruction) : Type 0 where
@@ -195,10 +195,10 @@ entered_adds s is i g None refused h served ranges e =
     let start = section_lines-append 0 s.sections (is ∷ []) in
     let n = 0 + length s.sections in
     let lines : section_lines 0 (s.sections ++ (is ++ i ∷ []) ∷ []) ≡ section_lines 0 (s.sections ++ is ∷ []) ++ instruction_line i ∷ [] =
-      section_lines-append 0 s.sections ((is ++ i ∷ []) ∷ [])
-      ∙ ap (λ (ls : List Line). section_lines 0 s.sections ++ (section_line n ∷ ls)) (append-nil (map instruction_line (is ++ i ∷ [])) ∙ map_push instruction_line is i ∙ ap (λ (ls : List Line). ls ++ instruction_line i ∷ []) (sym (append-nil (map instruction_line is))))
-      ∙ sym (append_assoc (section_lines 0 s.sections) (section_line n ∷ map instruction_line is ++ []) (instruction_line i ∷ []))
-      ∙ ap (λ (ls : List Line). ls ++ instruction_line i ∷ []) (sym start) in
+    section_lines-append 0 s.sections ((is ++ i ∷ []) ∷ [])
+    ∙ ap (λ (ls : List Line). section_lines 0 s.sections ++ (section_line n ∷ ls)) (append-nil (map instruction_line (is ++ i ∷ [])) ∙ map_push instruction_line is i ∙ ap (λ (ls : List Line). ls ++ instruction_line i ∷ []) (sym (append-nil (map instruction_line is))))
+    ∙ sym (append_assoc (section_lines 0 s.sections) (section_line n ∷ map instruction_line is ++ []) (instruction_line i ∷ []))
+    ∙ ap (λ (ls : List Line). ls ++ instruction_line i ∷ []) (sym start) in
     let may = may_from s is i p in
     let section : IsSection s (is ++ i ∷ []) = record {
       most = grind (arith, nat_tests, room, length-append is (i ∷ []));
@@ -207,7 +207,7 @@ entered_adds s is i g None refused h served ranges e =
       holding = λ before j after e. elim (snoc_cases is before i j after e) [
         | inl q ↦ subst (λ (k : Instruction). MayStandAfter before k) (sym q.1) (subst (λ (ks : List Instruction). MayStandAfter ks i) (sym q.0) may)
         | inr q ↦ h.last.holding before j q.0 q.1
-        ];
+      ];
     } in
     subst (λ (x : Front). Adds (Within s is) (instruction_line i) x) same (record {
       lines_are = ap (λ (ls : List Line). cluster_line s ∷ ls) lines;

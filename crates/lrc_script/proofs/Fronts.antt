@@ -1,23 +1,21 @@
 -- The lines of a script lead from nothing to the whole script.
-use Rattle.std.proofs.Common.{◌≡◌, ◌≢◌, ℕ, zero, suc, ◌+◌, ◌-◌, ◌*◌, ◌^◌, ◌<◌, ◌≤◌, Bool, true, false, not, ◌&&◌, ◌||◌, cond, eqb, ltb, leb, List, [], ◌∷◌, ◌++◌, length, map, Option, Some, None, Result, Ok, Err, refl, sym, ap, subst, ◌∙◌, append_assoc, arith}
+use Rattle.std.proofs.Common.{◌≡◌, ℕ, suc, ◌+◌, ◌*◌, ◌<◌, ◌≤◌, Bool, true, false, ◌&&◌, cond, eqb, ltb, leb, List, [], ◌∷◌, ◌++◌, length, map, None, refl, sym, ap, subst, ◌∙◌, append_assoc, arith}
 use Rattle.std.specs.Prelude.{All, codes}
-use Rattle.std.specs.List.{flat_map, AllByRecursion, list_any}
+use Rattle.std.specs.List.{AllByRecursion, list_any}
 use Rattle.std.proofs.lemmas.Bool.{eqb-true}
 use Rattle.std.proofs.lemmas.Bool.Decides.{nat_tests}
 use Rattle.std.proofs.Math.Nat.{mul-le-mul}
 use Rattle.std.proofs.lemmas.List.{append-nil, length-append}
 use Rattle.std.proofs.lemmas.List.Elements.{recursion_from_All, All-from_recursion, All-weaker}
-use Rattle.lrc_script.specs.declared.fault.ScriptFault.{ScriptFault}
 use Rattle.lrc_script.specs.declared.script.Instruction.{Instruction}
 use Rattle.lrc_script.specs.declared.script.Instruction.TheVariants as instruction
-use Rattle.lrc_script.specs.declared.line.Keyword.{Keyword}
 use Rattle.lrc_script.specs.declared.line.Keyword.TheVariants as keyword
 use Rattle.lrc_script.specs.Plan.{Plan}
-use Rattle.lrc_script.specs.Lawful.{addresses, AreSizes, IsServed, IsInRange, MayStandAfter, IsSection, IsLawfulButUneven, address_of, lock_of, flag_of}
+use Rattle.lrc_script.specs.Lawful.{addresses, AreSizes, IsServed, IsInRange, MayStandAfter, IsSection, IsLawfulButUneven}
 use Rattle.lrc_script.specs.Text.{Line, cluster_line, section_line, instruction_line, show_line, section_lines, lines_of}
 use Rattle.lrc_script.specs.Front.{Front, Nothing, Headed, Within, Whole, IsBegun, IsHeaded, IsWithin, lines_before}
-use Rattle.lrc_script.specs.Reading.{are_sizes, headed, first_section, next_section, ended, instruction_of, is_past, takes_held, gives_unheld, refusal, with_instruction, closed, step}
-use Rattle.lrc_script.proofs.Numbers.{and_true, AreWords}
+use Rattle.lrc_script.specs.Reading.{are_sizes, refusal, closed, step}
+use Rattle.lrc_script.proofs.Numbers.{AreWords}
 use Rattle.lrc_script.proofs.Lines.{Goes, goes}
 use Rattle.lrc_script.proofs.Run.{Passes, Passes-append}
 
@@ -77,12 +75,12 @@ head_plan_goes p n w l g true e h =
     let none : g ≡ 0 = eqb-true g 0 e in
     let test : are_sizes (head_plan p n w l 0) ≡ true = subst (λ (x : ℕ). are_sizes (head_plan p n w l x) ≡ true) none (sizes_test (head_plan p n w l g) h) in
     goes Nothing (Headed (head_plan p n w l g)) keyword.Cluster (codes "cluster") (p ∷ n ∷ w ∷ l ∷ []) refl refl (omega (arith, small.processors), (omega (arith, small.pages), (omega (arith, small.words), (omega (arith, small.locks), tt)))) refl
-      (rw (test, none) refl)
+    (rw (test, none) refl)
 head_plan_goes p n w l g false e h =
     let small = sizes_small (head_plan p n w l g) h in
     let some : ltb 0 g ≡ true = grind (arith, nat_tests, e) in
     goes Nothing (Headed (head_plan p n w l g)) keyword.Cluster (codes "cluster") (p ∷ n ∷ w ∷ l ∷ g ∷ []) refl refl (omega (arith, small.processors), (omega (arith, small.pages), (omega (arith, small.words), (omega (arith, small.locks), (omega (arith, small.flags), tt))))) refl
-      (rw (some, sizes_test (head_plan p n w l g) h) refl)
+    (rw (some, sizes_test (head_plan p n w l g) h) refl)
 
 -- the cluster line
 pub head_goes : (s : Plan) → IsHeaded s → Goes Nothing (cluster_line s) (Headed s)
@@ -182,7 +180,7 @@ with_sections s sections = record s { sections = sections }
 -- what each instruction of a list needs
 abbrev pub StandAfter : Plan → List Instruction → List Instruction → Type 0
 StandAfter s before after = AllByRecursion IsServed after × AllByRecursion (IsInRange s) after × (length before + length after ≤ 10000)
-  × ((front : List Instruction) (i : Instruction) (back : List Instruction) → after ≡ front ++ i ∷ back → MayStandAfter (before ++ front) i)
+    × ((front : List Instruction) (i : Instruction) (back : List Instruction) → after ≡ front ++ i ∷ back → MayStandAfter (before ++ front) i)
 
 instructions_pass : (s : Plan) (before after : List Instruction) → AreSizes s → StandAfter s before after → Passes (Within s before) (map instruction_line after) (Within s (before ++ after))
 instructions_pass s before [] sizes h = ap (λ (is : List Instruction). Within s is) (sym (append-nil before))

@@ -1,5 +1,5 @@
 -- Keywords: how they are spelled, and where they are allowed.
-use Rattle.std.proofs.Common.{◌≡◌, ◌≢◌, ℕ, zero, suc, ◌+◌, ◌<◌, ◌≤◌, Bool, true, false, not, ◌&&◌, ◌||◌, cond, eqb, ltb, leb, List, [], ◌∷◌, ◌++◌, length, map, Option, Some, None, Result, Ok, Err, refl, sym, ap, subst, ◌∙◌, arith, inl, inr, ◌⊎◌}
+use Rattle.std.proofs.Common.{◌≡◌, ℕ, ◌+◌, Bool, true, false, ◌||◌, cond, eqb, leb, List, length, Option, Some, refl, ap, ◌∙◌, arith, inl, inr, ◌⊎◌}
 use Rattle.std.specs.Prelude.{codes}
 use Rattle.std.specs.Str.{bytes_eq}
 use Rattle.std.proofs.lemmas.Bool.Decides.{nat_tests}
@@ -13,7 +13,7 @@ use Rattle.lrc_script.specs.Lawful.{IsServed}
 use Rattle.lrc_script.specs.Text.{instruction_line}
 use Rattle.lrc_script.specs.Front.{Front, Nothing, Headed, Within, Whole}
 use Rattle.lrc_script.specs.Faults.{Allows}
-use Rattle.lrc_script.specs.Reading.{keyword_of, is_due, takes}
+use Rattle.lrc_script.specs.Reading.{keyword_of, is_due}
 use Rattle.lrc_script.proofs.Numbers.{and_true}
 
 abbrev pub spelled : Keyword → List ℕ
@@ -33,7 +33,7 @@ spelled_if : (w : List ℕ) (k : Keyword) (rest : Option Keyword) (found : Keywo
 spelled_if w k rest found later e = elim (bytes_eq w (spelled k)) as (λ b. bytes_eq w (spelled k) ≡ b → cond b (Some k) rest ≡ Some found → w ≡ spelled found) [
   | true ↦ λ t h. let same : k ≡ found = cc in (bytes_eq-Decides w (spelled k)).0 t ∙ ap spelled same
   | false ↦ λ t h. later h
-  ] refl e
+] refl e
 
 -- a keyword's word is its spelling
 pub keyword_spelled : (w : List ℕ) (k : Keyword) → keyword_of w ≡ Some k → w ≡ spelled k

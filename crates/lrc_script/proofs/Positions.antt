@@ -1,22 +1,20 @@
 -- Reading from line to line through the bytes of a script.
-use Rattle.std.proofs.Common.{◌≡◌, ◌≢◌, ℕ, zero, suc, ◌+◌, ◌-◌, ◌<◌, ◌≤◌, List, [], ◌∷◌, ◌++◌, length, eqb, Result, Ok, Err, refl, sym, ap, subst, ◌∙◌, append_assoc, arith}
-use Rattle.std.specs.Prelude.{All, slice_index_or}
+use Rattle.std.proofs.Common.{◌≡◌, ◌≢◌, ℕ, ◌+◌, ◌<◌, ◌≤◌, List, [], ◌∷◌, ◌++◌, length, eqb, Ok, Err, refl, sym, ap, subst, ◌∙◌, append_assoc, arith}
 use Rattle.std.specs.List.{flat_map, AllByRecursion}
 use Rattle.std.proofs.lemmas.List.{append-nil, length-append, get_or_default}
 use Rattle.std.proofs.lemmas.List.Splits.{length-slice_split}
 use Rattle.std.proofs.lemmas.List.Concat.{flat_map-append}
 use Rattle.lrc_script.specs.declared.fault.ScriptFault.{ScriptFault}
 use Rattle.lrc_script.specs.declared.fault.ScriptFault.TheVariants.{Truncated, NoMemory}
-use Rattle.lrc_script.specs.declared.script.Instruction.{Instruction}
 use Rattle.lrc_script.specs.Plan.{Plan}
 use Rattle.lrc_script.specs.Lawful.{IsLawfulButUneven, IsLawful, IsEven, barriers}
-use Rattle.lrc_script.specs.Text.{Line, line_text, line_bytes, lines_of, text}
-use Rattle.lrc_script.specs.Front.{Front, Nothing, Headed, Within, Whole, IsBegun, lines_before, text_before}
-use Rattle.lrc_script.specs.Faults.{BeginsText, IsAt, IsLineFault, IsTruncated, IsFault}
+use Rattle.lrc_script.specs.Text.{Line, line_text, line_bytes, text}
+use Rattle.lrc_script.specs.Front.{Front, Nothing, Whole, lines_before, text_before}
+use Rattle.lrc_script.specs.Faults.{IsAt, IsFault}
 use Rattle.lrc_script.specs.Reading.{Fails, parts_of, IsCut, after}
-use Rattle.lrc_script.proofs.Words.{HasNo, joined, parts_clean, parts_whole}
+use Rattle.lrc_script.proofs.Words.{HasNo, parts_clean, parts_whole}
 use Rattle.lrc_script.proofs.Verdict.{never_there, never_begins, text_ends}
-use Rattle.lrc_script.proofs.Refused.{AddsLine, line_adds, line_says, behind_from}
+use Rattle.lrc_script.proofs.Refused.{line_adds, line_says, behind_from}
 use Rattle.lrc_script.proofs.Complete.{front_begins}
 
 joined_again : (rest : List ℕ) (parts : List (List ℕ)) → parts_of 10 rest ≡ parts → 0 < length parts → flat_map (λ v. 10 ∷ v) parts ≡ 10 ∷ rest
@@ -59,7 +57,8 @@ abbrev pub IsNoText : List ℕ → Type 0
 IsNoText bytes = (s : Plan) → IsLawful s → bytes ≢ text s
 
 pub refused_fault : (bytes : List ℕ) (n : ℕ) (f : Front) (now line rest : List ℕ) (g : ScriptFault) → IsAt bytes n f now → IsCut now line rest → after f line ≡ Err g → IsFault bytes n g × IsNoText bytes
-refused_fault bytes n f now line rest g at cut read = (record {
+refused_fault bytes n f now line rest g at cut read = (
+  record {
     front = f;
     rest = now;
     at = at;
@@ -72,18 +71,23 @@ refused_fault bytes n f now line rest g at cut read = (record {
       says = line_says f line g read;
       never = never_begins f line g at.begun cut.one_line read;
     });
-  }, λ s lawful same. never_there f line rest g s at.begun cut.one_line read lawful.but_uneven (sym same ∙ at.whole ∙ ap (λ (x : List ℕ). text_before f ++ x) cut.bytes_are))
+  },
+  λ s lawful same. never_there f line rest g s at.begun cut.one_line read lawful.but_uneven (sym same ∙ at.whole ∙ ap (λ (x : List ℕ). text_before f ++ x) cut.bytes_are),
+)
 
 pub truncated_fault : (bytes : List ℕ) (n : ℕ) (f : Front) (rest : List ℕ) → IsAt bytes n f rest → HasNo 10 rest → ((s : Plan) → f ≡ Whole s → 0 < length rest) → IsFault bytes n Truncated × IsNoText bytes
-truncated_fault bytes n f rest at clean over = (record {
+truncated_fault bytes n f rest at clean over = (
+  record {
     front = f;
     rest = rest;
     at = at;
     begins = front_begins f at.begun;
     behind = record { no_line = clean; not_over = over };
-  }, λ s lawful same.
-    let ends = text_ends f rest s at.begun clean lawful.but_uneven (sym same ∙ at.whole) in
-    omega (arith, over s ends.0, ap (λ (x : List ℕ). length x) ends.1))
+  },
+  λ s lawful same.
+      let ends = text_ends f rest s at.begun clean lawful.but_uneven (sym same ∙ at.whole) in
+      omega (arith, over s ends.0, ap (λ (x : List ℕ). length x) ends.1),
+)
 
 pub memory_fault : (bytes : List ℕ) (n : ℕ) (f : Front) (rest : List ℕ) → IsAt bytes n f rest → IsFault bytes n NoMemory
 memory_fault bytes n f rest at = record { front = f; rest = rest; at = at; begins = front_begins f at.begun; behind = tt }

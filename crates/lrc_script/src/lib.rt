@@ -7,3 +7,5 @@ mod line;
 mod progress;
 pub mod script;
 mod section;
+#[cfg(test)]
+mod tests;

@@ -175,7 +175,11 @@ fn show(
     Ok(Progress::Whole(script))
 }
 
-fn add(script: Script, mut section: Section, instruction: Instruction) -> Result<Progress, ScriptFault>
+fn add(
+    script: Script,
+    mut section: Section,
+    instruction: Instruction,
+) -> Result<Progress, ScriptFault>
     requires fits { addresses (plan_of script) ≤ 4096 }
     requires locks { script.locks ≤ 32 }
     ensures { Gives front_of result (with_instruction (plan_of script) section.instructions.items (Some instruction)) }
@@ -207,12 +211,7 @@ impl Progress {
 
     /// What a line of this keyword and these numbers makes of it.
     #[tactic(auto, unfolding(crate::specs::Reading::step))]
-    fn step(
-        self,
-        alloc: Global,
-        keyword: Keyword,
-        numbers: &[u32],
-    ) -> Result<Progress, ScriptFault>
+    fn step(self, alloc: Global, keyword: Keyword, numbers: &[u32]) -> Result<Progress, ScriptFault>
         requires { IsBegun (front_of self) }
         ensures { Gives front_of result (step (front_of self) keyword numbers.now) }
     {

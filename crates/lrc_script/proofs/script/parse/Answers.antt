@@ -1,5 +1,5 @@
-use Rattle.std.proofs.Common.{◌≡◌, arith}
-use Rattle.lrc_script.proofs.Positions.{at_start, at_next, failed_fault, truncated_fault, found_text, number_fits, cut_shorter}
+use Rattle.std.proofs.Common.{arith}
+use Rattle.lrc_script.proofs.Positions.{at_start, at_next, failed_fault, truncated_fault, number_fits, cut_shorter}
 use Rattle.lrc_script.proofs.script.parse.Goals as goal
 
 pub loop-line-init : goal.loop-line-init
