@@ -11,7 +11,7 @@ use Rattle.lrc_script.specs.Lawful.{addresses, AreSizes, IsSection, IsLawfulButU
 use Rattle.lrc_script.specs.Text.{Line, line_text, cluster_line, section_lines, show_line, lines_of, text}
 use Rattle.lrc_script.specs.Front.{Front, Nothing, Headed, Within, Whole, IsBegun, lines_before, text_before}
 use Rattle.lrc_script.specs.Faults.{BeginsText}
-use Rattle.lrc_script.proofs.Fronts.{sizes_small}
+use Rattle.lrc_script.proofs.Fronts.{sizes_small, sizes_over, section_over}
 use Rattle.lrc_script.proofs.Adds.{section_lines-append, nothing_stands}
 
 -- the same sizes with these sections, then empty ones, and one address shown
@@ -23,9 +23,9 @@ filled_lawful s sections sizes fit each =
     let whole = filled s sections in
     let small = sizes_small s sizes in
     let blanks = replicate (s.processors - length sections) [] in
-    let as_whole : (is : List Instruction) → IsSection s is → IsSection whole is = λ is k. record { most = k.most; served = k.served; in_range = k.in_range; holding = k.holding } in
+    let as_whole : (is : List Instruction) → IsSection s is → IsSection whole is = λ is k. section_over s (sections ++ blanks) (0 ∷ []) is k in
     record {
-      sizes = record { processors = sizes.processors; pages = sizes.pages; some_words = sizes.some_words; most_words = sizes.most_words; locks = sizes.locks; flags = sizes.flags };
+      sizes = sizes_over s (sections ++ blanks) (0 ∷ []) sizes;
       one_each = omega (arith, length-append sections blanks, length-replicate {A = List Instruction} (s.processors - length sections) [], fit);
       sections = All-weaker (IsSection s) (IsSection whole) as_whole (sections ++ blanks) (All-append (IsSection s) sections blanks each (All-replicate (IsSection s) (s.processors - length sections) [] (nothing_stands s)));
       some_shown = omega arith;
@@ -48,7 +48,7 @@ least = record { processors = 1; pages = 1; words = 1; locks = 0; flags = 0; sec
 least_lawful : IsLawfulButUneven least
 unfolding least
 least_lawful = record {
-  sizes = record { processors = refl; pages = refl; some_words = omega arith; most_words = omega arith; locks = refl; flags = refl };
+  sizes = record { some_processors = omega arith; most_processors = omega arith; some_pages = omega arith; most_pages = omega arith; some_words = omega arith; most_words = omega arith; locks = omega arith; flags = omega arith };
   one_each = refl;
   sections = All-from_recursion (IsSection least) ([] ∷ []) (nothing_stands least, tt);
   some_shown = omega arith;

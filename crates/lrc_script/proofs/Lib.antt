@@ -13,3 +13,4 @@ pub mod Refused
 pub mod Complete
 pub mod Positions
 pub mod Printing
+pub mod Alike

@@ -13,7 +13,7 @@ use Rattle.lrc_script.specs.Plan.{Plan}
 use Rattle.lrc_script.specs.Lawful.{addresses, AreSizes, address_of, lock_of, flag_of, holds}
 use Rattle.lrc_script.specs.Text.{Line, line_bytes, section_line, instruction_line, show_line}
 use Rattle.lrc_script.specs.Front.{Front, Nothing, Headed, Within, Whole, IsBegun}
-use Rattle.lrc_script.specs.Faults.{Allows, IsOutOfTurn, AreNoSizes, SaysWithin, Says, IsLineFault, IsFaultBehind}
+use Rattle.lrc_script.specs.Faults.{Allows, IsOutOfTurn, AreNoSizes, SaysWithin, Says, IsLineFault, IsFaultBehind, IsFaultAt, IsFault}
 use Rattle.lrc_script.specs.Reading.{are_sizes, is_due, headed, first_section, next_section, ended, is_past, takes_held, gives_unheld, refusal, entered, closed, step, after}
 use Rattle.lrc_script.proofs.Fronts.{sizes_test, head_plan}
 use Rattle.lrc_script.proofs.Keywords.{spelled, keyword_spelled, due_allows, allows_due}
@@ -163,7 +163,21 @@ command_says (Within s is) keyword.Add (a ∷ v ∷ []) g due e = within_says g 
 command_says (Within s is) keyword.Add [] g due e = absurd cc
 command_says (Within s is) keyword.Add (a ∷ []) g due e = absurd cc
 command_says (Within s is) keyword.Add (a ∷ b ∷ c ∷ ns) g due e = absurd (grind (arith, nat_tests, due))
-command_says (Within s is) _ ns g due e = absurd cc
+command_says (Within s is) keyword.Acquire (l ∷ []) g due e = within_says g s is _ (entered_says s is (instruction.Acquire l) g _ refl e)
+command_says (Within s is) keyword.Acquire [] g due e = absurd cc
+command_says (Within s is) keyword.Acquire (a ∷ b ∷ ns) g due e = absurd (grind (arith, nat_tests, due))
+command_says (Within s is) keyword.Release (l ∷ []) g due e = within_says g s is _ (entered_says s is (instruction.Release l) g _ refl e)
+command_says (Within s is) keyword.Release [] g due e = absurd cc
+command_says (Within s is) keyword.Release (a ∷ b ∷ ns) g due e = absurd (grind (arith, nat_tests, due))
+command_says (Within s is) keyword.Barrier [] g due e = within_says g s is _ (entered_says s is instruction.Barrier g _ refl e)
+command_says (Within s is) keyword.Barrier (a ∷ ns) g due e = absurd (grind (arith, nat_tests, due))
+command_says (Within s is) keyword.Set (f ∷ []) g due e = within_says g s is _ (entered_says s is (instruction.Set f) g _ refl e)
+command_says (Within s is) keyword.Set [] g due e = absurd cc
+command_says (Within s is) keyword.Set (a ∷ b ∷ ns) g due e = absurd (grind (arith, nat_tests, due))
+command_says (Within s is) keyword.Await (f ∷ []) g due e = within_says g s is _ (entered_says s is (instruction.Await f) g _ refl e)
+command_says (Within s is) keyword.Await [] g due e = absurd cc
+command_says (Within s is) keyword.Await (a ∷ b ∷ ns) g due e = absurd (grind (arith, nat_tests, due))
+command_says (Within s is) keyword.Cluster ns g due e = absurd cc
 command_says (Whole s) k ns g due e = absurd cc
 
 -- ---- any line
@@ -215,3 +229,14 @@ pub behind_from : (g : ScriptFault) (f : Front) (rest : List ℕ) → IsLineFaul
 behind_from fault.Truncated f rest h = absurd (never_truncated f h.line h.says)
 behind_from fault.NoMemory f rest h = tt
 behind_from _ f rest h = h
+
+-- nor as if its sections differed
+never_uneven : (f : Front) (line : List ℕ) → Says fault.Uneven f line → ⊥
+never_uneven Nothing line h = h
+never_uneven (Headed s) line h = h
+never_uneven (Within s is) line h = h
+never_uneven (Whole s) line h = h
+
+pub fault_from : (bytes : List ℕ) (n : ℕ) (g : ScriptFault) → IsFaultAt bytes n g → IsFault bytes n g
+fault_from bytes n fault.Uneven h = absurd (never_uneven h.front h.behind.line h.behind.says)
+fault_from bytes n _ h = h

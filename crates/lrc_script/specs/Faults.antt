@@ -1,14 +1,14 @@
 -- What each fault says of the bytes.
-use Rattle.std.specs.Prelude.{◌≡◌, ◌≢◌, ℕ, suc, ◌^◌, ◌<◌, ◌≤◌, ◌⊎◌, true, false, List, [], ◌∷◌, ◌++◌, length, codes, Contains, IsSomeAnd, Any}
+use Rattle.std.specs.Prelude.{◌≡◌, ◌≢◌, ℕ, suc, ◌^◌, ◌<◌, ◌≤◌, ◌⊎◌, true, false, List, [], ◌∷◌, ◌++◌, length, take, slice_index_or, codes, Contains, IsSomeAnd, Any}
 use Rattle.std.specs.List.{flat_map, AllByRecursion}
 use Rattle.std.specs.Fmt.{decimal}
 use Rattle.lrc_script.specs.declared.fault.ScriptFault.{ScriptFault}
-use Rattle.lrc_script.specs.declared.fault.ScriptFault.TheVariants.{Truncated, BadLine, BadNumber, BadSize, OutOfRange, BadLock, BadFlag, AlreadyHeld, NotHeld, TooLong, NoMemory}
+use Rattle.lrc_script.specs.declared.fault.ScriptFault.TheVariants.{Truncated, BadLine, BadNumber, BadSize, OutOfRange, BadLock, BadFlag, AlreadyHeld, NotHeld, TooLong, Uneven, NoMemory}
 use Rattle.lrc_script.specs.declared.script.Instruction.{Instruction}
 use Rattle.lrc_script.specs.declared.script.Instruction.TheVariants.{Acquire, Release}
 use Rattle.lrc_script.specs.Plan.{Plan}
-use Rattle.lrc_script.specs.Lawful.{addresses, address_of, lock_of, flag_of, holds, AreSizes, IsServed, IsLawfulButUneven}
-use Rattle.lrc_script.specs.Text.{line_bytes, section_line, instruction_line, show_line, text}
+use Rattle.lrc_script.specs.Lawful.{addresses, address_of, lock_of, flag_of, holds, barriers, AreSizes, IsLawfulButUneven}
+use Rattle.lrc_script.specs.Text.{cluster_line, section_lines, line_bytes, section_line, instruction_line, show_line, text}
 use Rattle.lrc_script.specs.Front.{Front, Nothing, Headed, Within, Whole, IsBegun, lines_before, text_before}
 
 -- a word has a byte, and no space
@@ -29,7 +29,7 @@ Allows (Headed s) word n = (word ≡ codes "p") × (n ≡ 1)
 Allows (Within s is) word n =
     ((word ≡ codes "p") × (n ≡ 1))
     ⊎ ((word ≡ codes "show") × (1 ≤ n) × (suc (length s.sections) ≡ s.processors))
-    ⊎ ((i : Instruction) × IsServed i × (word ≡ (instruction_line i).word) × (n ≡ length (instruction_line i).numbers))
+    ⊎ ((i : Instruction) × (word ≡ (instruction_line i).word) × (n ≡ length (instruction_line i).numbers))
 Allows (Whole s) word n = ⊥
 
 -- the section isn't the next one, or is past the last
@@ -110,9 +110,28 @@ IsFaultBehind NoMemory f rest = Unit {0}
 IsFaultBehind fault f rest = IsLineFault fault f rest
 
 -- line n has the fault: the lines before it begin the text of a script, and the fault says what is wrong
-pub record IsFault (bytes : List ℕ) (n : ℕ) (fault : ScriptFault) : Type 0 where
+pub record IsFaultAt (bytes : List ℕ) (n : ℕ) (fault : ScriptFault) : Type 0 where
   pub front : Front
   pub rest : List ℕ
   pub at : IsAt bytes n front rest
   pub begins : BeginsText (text_before front)
   pub behind : IsFaultBehind fault front rest
+
+-- line n is the head of the first section with another number of barriers than section 0
+pub record IsUneven (s : Plan) (n : ℕ) : Type 0 where
+  pub section : ℕ
+  pub within : section < length s.sections
+  pub differs : barriers (slice_index_or s.sections section []) ≢ barriers (slice_index_or s.sections 0 [])
+  pub first : (k : ℕ) → k < section → barriers (slice_index_or s.sections k []) ≡ barriers (slice_index_or s.sections 0 [])
+  pub line : n ≡ suc (length (cluster_line s ∷ section_lines 0 (take section s.sections)))
+
+-- the bytes are the text of a script that is lawful but for evenness, and line n says where it is uneven
+pub record IsUnevenText (bytes : List ℕ) (n : ℕ) : Type 0 where
+  pub script : Plan
+  pub lawful : IsLawfulButUneven script
+  pub text_is : bytes ≡ text script
+  pub uneven : IsUneven script n
+
+abbrev pub IsFault : List ℕ → ℕ → ScriptFault → Type 0
+IsFault bytes n Uneven = IsUnevenText bytes n
+IsFault bytes n fault = IsFaultAt bytes n fault

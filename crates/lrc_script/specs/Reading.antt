@@ -78,13 +78,20 @@ abbrev pub ◌>>=◌ : {A B : Type 0} → Result A ScriptFault → (A → Result
 
 -- which sizes a script may have
 abbrev pub are_sizes : Plan → Bool
-are_sizes s = (s.processors == 1) && (s.pages == 1) && nat_le 1 s.words && nat_le s.words 64 && (s.locks == 0) && (s.flags == 0)
+are_sizes s =
+  nat_le 1 s.processors && nat_le s.processors 16 && nat_le 1 s.pages && nat_le s.pages 64 && nat_le 1 s.words && nat_le s.words 64
+  && nat_le s.locks 32 && nat_le s.flags 32
 
--- which instructions a script may have, and how many numbers each takes
+-- how many numbers the instruction of a keyword takes
 abbrev pub takes : Keyword → ℕ → Bool
 takes keyword.Load n = n == 1
 takes keyword.Store n = n == 2
 takes keyword.Add n = n == 2
+takes keyword.Acquire n = n == 1
+takes keyword.Release n = n == 1
+takes keyword.Barrier n = n == 0
+takes keyword.Set n = n == 1
+takes keyword.Await n = n == 1
 takes _ n = false
 
 -- which keywords are allowed at this point, with so many numbers

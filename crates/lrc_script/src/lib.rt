@@ -2,6 +2,7 @@
 #![tactic(auto)]
 
 mod display;
+mod evenness;
 pub mod fault;
 mod line;
 mod progress;

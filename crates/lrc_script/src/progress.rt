@@ -30,21 +30,28 @@ fn takes(keyword: Keyword, numbers: usize) -> bool
     ensures { result ≡ takes keyword numbers }
 {
     match keyword {
-        Keyword::Load => numbers == 1,
         Keyword::Store | Keyword::Add => numbers == 2,
-        _ => false,
+        Keyword::Load
+        | Keyword::Acquire
+        | Keyword::Release
+        | Keyword::Set
+        | Keyword::Await => numbers == 1,
+        Keyword::Barrier => numbers == 0,
+        Keyword::Cluster | Keyword::Section | Keyword::Show => false,
     }
 }
 
 fn are_sizes(script: &Script) -> bool
     ensures { result ≡ are_sizes (plan_of script.now) }
 {
-    script.processors == 1
-        && script.pages == 1
-        && script.words >= 1
+    1 <= script.processors
+        && script.processors <= 16
+        && 1 <= script.pages
+        && script.pages <= 64
+        && 1 <= script.words
         && script.words <= 64
-        && script.locks == 0
-        && script.flags == 0
+        && script.locks <= 32
+        && script.flags <= 32
 }
 
 fn instruction(keyword: Keyword, numbers: &[u32]) -> Option<Instruction>
