@@ -1,12 +1,12 @@
 -- Looking for the first section with another number of barriers.
-use Rattle.std.proofs.Common.{◌≡◌, ◌≢◌, ℕ, suc, ◌+◌, ◌*◌, ◌<◌, ◌≤◌, List, [], ◌∷◌, ◌++◌, length, map, take, get_or, refl, sym, ap, subst, ◌∙◌, append_assoc, below_more, arith}
+use Rattle.std.proofs.Common.{◌≡◌, ◌≢◌, ℕ, suc, ◌+◌, ◌*◌, ◌<◌, ◌≤◌, List, [], ◌∷◌, ◌++◌, length, map, take, get_or, refl, sym, ap, subst, ◌∙◌, below_more, arith}
 use Rattle.std.specs.Prelude.{All, Some, slice_get}
 use Rattle.std.specs.Global.{Vec}
-use Rattle.std.proofs.lemmas.List.{take_more, take-map, length-map, length-append, length-take, get_or-map, get_or_default, map_push}
+use Rattle.std.proofs.lemmas.List.{take_more, length-map, length-append, get_or-map, get_or_default}
 use Rattle.lrc_script.specs.declared.script.Instruction.{Instruction}
 use Rattle.lrc_script.specs.Plan.{Plan}
 use Rattle.lrc_script.specs.Lawful.{barriers, IsEven}
-use Rattle.lrc_script.specs.Text.{Line, cluster_line, section_line, instruction_line, section_lines}
+use Rattle.lrc_script.specs.Text.{Line, section_line, instruction_line, section_lines}
 use Rattle.lrc_script.specs.Faults.{IsUneven}
 use Rattle.lrc_script.proofs.Adds.{section_lines-append}
 
@@ -32,8 +32,8 @@ alike_more sections count expected line section h lt read few same =
     let front = take count (items_of sections) in
     let more : take (count + 1) (items_of sections) ≡ front ++ section.items ∷ [] = take_more (items_of sections) count [] fits ∙ ap (λ (is : List Instruction). front ++ is ∷ []) here in
     let lines : length (section_lines 0 (take (count + 1) (items_of sections))) ≡ length (section_lines 0 front) + suc (length section.items) =
-      ap (λ (xs : List (List Instruction)). length (section_lines 0 xs)) more ∙ ap (λ (ls : List Line). length ls) (section_lines-append 0 front (section.items ∷ [])) ∙ length-append (section_lines 0 front) (section_lines (0 + length front) (section.items ∷ []))
-      ∙ ap (λ (n : ℕ). length (section_lines 0 front) + n) (section_lines-one (0 + length front) section.items) in
+    ap (λ (xs : List (List Instruction)). length (section_lines 0 xs)) more ∙ ap (λ (ls : List Line). length ls) (section_lines-append 0 front (section.items ∷ [])) ∙ length-append (section_lines 0 front) (section_lines (0 + length front) (section.items ∷ []))
+    ∙ ap (λ (n : ℕ). length (section_lines 0 front) + n) (section_lines-one (0 + length front) section.items) in
     record {
       same = below_more (λ k. barriers (get_or (items_of sections) k []) ≡ expected) count h.same (ap barriers here ∙ same);
       line_is = omega (arith, h.line_is, lines);

@@ -14,7 +14,7 @@ use Rattle.lrc_script.specs.Plan.{Plan}
 use Rattle.lrc_script.specs.Lawful.{IsSection, IsLawfulButUneven, IsLawful}
 use Rattle.lrc_script.specs.Text.{Line, line_text, line_bytes, text}
 use Rattle.lrc_script.specs.Front.{Front, Nothing, Whole, IsBegun, lines_before, text_before}
-use Rattle.lrc_script.specs.Faults.{BeginsText, IsAt, IsLineFault, IsTruncated, IsFaultAt, IsFault, IsUneven, IsUnevenText}
+use Rattle.lrc_script.specs.Faults.{IsAt, IsFaultAt, IsFault, IsUneven, IsUnevenText}
 use Rattle.lrc_script.specs.Reading.{Fails, parts_of, IsCut, after}
 use Rattle.lrc_script.proofs.Words.{HasNo, parts_clean, parts_whole}
 use Rattle.lrc_script.proofs.Verdict.{never_there, never_begins, text_ends, text_injective}
@@ -104,10 +104,13 @@ whole_text bytes n f rest s at ends =
 
 -- the text of an uneven script is no lawful script's
 pub uneven_fault : (bytes : List ℕ) (s : Plan) (n : ℕ) → IsLawfulButUneven s → bytes ≡ text s → IsUneven s n → IsUnevenText bytes n × IsNoText bytes
-uneven_fault bytes s n lawful text-is h = (record { script = s; lawful = lawful; text_is = text-is; uneven = h }, λ t lawful' same.
-    let one : s ≡ t = text_injective s t lawful lawful'.but_uneven (sym text-is ∙ same) in
-    let u = subst (λ (x : Plan). IsUneven x n) one h in
-    u.differs (lawful'.even u.section [] u.within))
+uneven_fault bytes s n lawful text-is h = (
+  record { script = s; lawful = lawful; text_is = text-is; uneven = h },
+  λ t lawful' same.
+      let one : s ≡ t = text_injective s t lawful lawful'.but_uneven (sym text-is ∙ same) in
+      let u = subst (λ (x : Plan). IsUneven x n) one h in
+      u.differs (lawful'.even u.section [] u.within),
+)
 
 lines_have : (ls : List Line) → length ls ≤ length (flat_map line_text ls)
 lines_have [] = omega arith

@@ -79,8 +79,8 @@ abbrev pub ◌>>=◌ : {A B : Type 0} → Result A ScriptFault → (A → Result
 -- which sizes a script may have
 abbrev pub are_sizes : Plan → Bool
 are_sizes s =
-  nat_le 1 s.processors && nat_le s.processors 16 && nat_le 1 s.pages && nat_le s.pages 64 && nat_le 1 s.words && nat_le s.words 64
-  && nat_le s.locks 32 && nat_le s.flags 32
+    nat_le 1 s.processors && nat_le s.processors 16 && nat_le 1 s.pages && nat_le s.pages 64 && nat_le 1 s.words && nat_le s.words 64
+    && nat_le s.locks 32 && nat_le s.flags 32
 
 -- how many numbers the instruction of a keyword takes
 abbrev pub takes : Keyword → ℕ → Bool

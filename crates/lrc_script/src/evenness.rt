@@ -16,7 +16,10 @@ fn is_barrier(instruction: Instruction) -> bool
 fn barriers(section: &[Instruction]) -> usize
     ensures { result ≡ barriers section.now }
 {
-    section.iter().filter(|instruction| is_barrier(**instruction)).count()
+    section
+        .iter()
+        .filter(|instruction| is_barrier(**instruction))
+        .count()
 }
 
 /// The line of the first section that has another number of barriers than section 0.

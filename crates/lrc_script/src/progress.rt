@@ -31,11 +31,8 @@ fn takes(keyword: Keyword, numbers: usize) -> bool
 {
     match keyword {
         Keyword::Store | Keyword::Add => numbers == 2,
-        Keyword::Load
-        | Keyword::Acquire
-        | Keyword::Release
-        | Keyword::Set
-        | Keyword::Await => numbers == 1,
+        Keyword::Load | Keyword::Acquire | Keyword::Release | Keyword::Set | Keyword::Await =>
+            numbers == 1,
         Keyword::Barrier => numbers == 0,
         Keyword::Cluster | Keyword::Section | Keyword::Show => false,
     }
