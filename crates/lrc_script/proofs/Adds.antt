@@ -1,22 +1,22 @@
 -- What a line that is read adds to the lines before it.
-use Rattle.std.proofs.Common.{◌≡◌, ◌≢◌, ℕ, zero, suc, ◌+◌, ◌-◌, ◌*◌, ◌^◌, ◌<◌, ◌≤◌, Bool, true, false, not, ◌&&◌, ◌||◌, cond, eqb, ltb, leb, List, [], ◌∷◌, ◌++◌, length, map, Option, Some, None, Result, Ok, Err, refl, sym, ap, subst, ◌∙◌, append_assoc, arith, inl, inr, ◌⊎◌}
+use Rattle.std.proofs.Common.{◌≡◌, ℕ, suc, ◌+◌, ◌<◌, Bool, true, false, not, ◌&&◌, ◌||◌, cond, eqb, ltb, leb, List, [], ◌∷◌, ◌++◌, length, map, Option, Some, None, Result, Ok, Err, refl, sym, ap, subst, ◌∙◌, append_assoc, arith, inl, inr, ◌⊎◌}
 use Rattle.std.specs.Prelude.{All, codes}
-use Rattle.std.specs.List.{flat_map, AllByRecursion, list_any}
+use Rattle.std.specs.List.{AllByRecursion, list_any}
 use Rattle.std.proofs.lemmas.Bool.Decides.{nat_tests}
-use Rattle.std.proofs.lemmas.List.{append-nil, length-append, map_push, same_from_push}
-use Rattle.std.proofs.lemmas.List.Elements.{recursion_from_All, All-from_recursion, All-weaker, All-nil, All-push}
+use Rattle.std.proofs.lemmas.List.{append-nil, length-append, map_push}
+use Rattle.std.proofs.lemmas.List.Elements.{All-from_recursion, All-weaker, All-nil, All-push}
 use Rattle.lrc_script.specs.declared.fault.ScriptFault.{ScriptFault}
 use Rattle.lrc_script.specs.declared.script.Instruction.{Instruction}
 use Rattle.lrc_script.specs.declared.script.Instruction.TheVariants as instruction
 use Rattle.lrc_script.specs.declared.line.Keyword.{Keyword}
 use Rattle.lrc_script.specs.declared.line.Keyword.TheVariants as keyword
 use Rattle.lrc_script.specs.Plan.{Plan}
-use Rattle.lrc_script.specs.Lawful.{addresses, AreSizes, IsServed, IsInRange, MayStandAfter, IsSection, IsLawfulButUneven, address_of, lock_of, flag_of}
-use Rattle.lrc_script.specs.Text.{Line, cluster_line, section_line, instruction_line, show_line, section_lines, lines_of}
+use Rattle.lrc_script.specs.Lawful.{addresses, AreSizes, IsInRange, MayStandAfter, IsSection, address_of, lock_of, flag_of}
+use Rattle.lrc_script.specs.Text.{Line, cluster_line, section_line, instruction_line, show_line, section_lines}
 use Rattle.lrc_script.specs.Front.{Front, Nothing, Headed, Within, Whole, IsBegun, IsHeaded, IsWithin, lines_before}
-use Rattle.lrc_script.specs.Reading.{are_sizes, is_due, takes, sized, headed, first_section, next_section, ended, instruction_of, is_past, takes_held, gives_unheld, refusal, entered, with_instruction, closed, step}
+use Rattle.lrc_script.specs.Reading.{are_sizes, is_due, sized, headed, first_section, next_section, ended, is_past, takes_held, gives_unheld, refusal, entered, closed, step}
 use Rattle.lrc_script.proofs.Numbers.{and_true, AreWords}
-use Rattle.lrc_script.proofs.Fronts.{sizes_from_test, sizes_small, head_plan, section_with, sizes_with}
+use Rattle.lrc_script.proofs.Fronts.{sizes_from_test, sizes_small, head_plan, section_with, sizes_with, section_over, sizes_over}
 use Rattle.lrc_script.proofs.Keywords.{spelled}
 
 guard_ok : {A : Type 0} (b : Bool) (x y : A) (fault : ScriptFault) → cond b (Ok x) (Err fault) ≡ Ok y → (b ≡ true) × (x ≡ y)
@@ -69,7 +69,6 @@ section_lines-append k (x ∷ xs) ys =
 pub nothing_stands : (s : Plan) → IsSection s []
 nothing_stands s = record {
   most = omega arith;
-  served = All-nil IsServed;
   in_range = All-nil (IsInRange s);
   holding = λ before i after e. absurd (omega (arith, ap (λ (is : List Instruction). length is) e, length-append before (i ∷ after)));
 }
@@ -127,11 +126,11 @@ show_adds s is ns g h due e =
     let all = both.1 in
     let short = few.0 in
     let sections = s.sections ++ is ∷ [] in
-    let as_whole : (is : List Instruction) → IsSection s is → IsSection whole is = λ is k. record { most = k.most; served = k.served; in_range = k.in_range; holding = k.holding } in
+    let as_whole : (is : List Instruction) → IsSection s is → IsSection whole is = λ js k. section_over s sections ns js k in
     subst (λ (x : Front). Adds (Within s is) (show_line ns) x) same (record {
       lines_are = refl;
       begun = record {
-        sizes = record { processors = h.sizes.processors; pages = h.sizes.pages; some_words = h.sizes.some_words; most_words = h.sizes.most_words; locks = h.sizes.locks; flags = h.sizes.flags };
+        sizes = sizes_over s sections ns h.sizes;
         one_each = grind (arith, nat_tests, all, length-append s.sections (is ∷ []));
         sections = All-weaker (IsSection s) (IsSection whole) as_whole sections (All-push (IsSection s) s.sections is h.sections h.last);
         some_shown = grind (arith, nat_tests, some);
@@ -152,7 +151,7 @@ snoc_cases (x ∷ xs) (b ∷ bs) i j after e =
     elim (snoc_cases xs bs i j after tail) [
       | inl p ↦ inl (ap (λ (y : Instruction). y ∷ bs) (sym head) ∙ ap (λ (ys : List Instruction). x ∷ ys) p.0, p.1)
       | inr p ↦ inr (p.0, ap (λ (y : Instruction). y ∷ xs) head ∙ ap (λ (ys : List Instruction). b ∷ ys) p.1)
-      ]
+    ]
 
 -- no test refuses the instruction
 pub record Passed (s : Plan) (is : List Instruction) (i : Instruction) : Type 0 where
@@ -186,28 +185,27 @@ may_from s is (instruction.Acquire l) p = p.held
 may_from s is (instruction.Release l) p = not_false _ p.unheld
 may_from s is _ p = tt
 
-entered_adds : (s : Plan) (is : List Instruction) (i : Instruction) (g : Front) (o : Option ScriptFault) → refusal s is i ≡ o → IsWithin s is → IsServed i → (Passed s is i → IsInRange s i) → entered s is i o ≡ Ok g → Adds (Within s is) (instruction_line i) g
-entered_adds s is i g (Some fault) refused h served ranges e = absurd cc
-entered_adds s is i g None refused h served ranges e =
+entered_adds : (s : Plan) (is : List Instruction) (i : Instruction) (g : Front) (o : Option ScriptFault) → refusal s is i ≡ o → IsWithin s is → (Passed s is i → IsInRange s i) → entered s is i o ≡ Ok g → Adds (Within s is) (instruction_line i) g
+entered_adds s is i g (Some fault) refused h ranges e = absurd cc
+entered_adds s is i g None refused h ranges e =
     let p = passed s is i refused in
     let room = p.room in
     let same : Within s (is ++ i ∷ []) ≡ g = cc in
     let start = section_lines-append 0 s.sections (is ∷ []) in
     let n = 0 + length s.sections in
     let lines : section_lines 0 (s.sections ++ (is ++ i ∷ []) ∷ []) ≡ section_lines 0 (s.sections ++ is ∷ []) ++ instruction_line i ∷ [] =
-      section_lines-append 0 s.sections ((is ++ i ∷ []) ∷ [])
-      ∙ ap (λ (ls : List Line). section_lines 0 s.sections ++ (section_line n ∷ ls)) (append-nil (map instruction_line (is ++ i ∷ [])) ∙ map_push instruction_line is i ∙ ap (λ (ls : List Line). ls ++ instruction_line i ∷ []) (sym (append-nil (map instruction_line is))))
-      ∙ sym (append_assoc (section_lines 0 s.sections) (section_line n ∷ map instruction_line is ++ []) (instruction_line i ∷ []))
-      ∙ ap (λ (ls : List Line). ls ++ instruction_line i ∷ []) (sym start) in
+    section_lines-append 0 s.sections ((is ++ i ∷ []) ∷ [])
+    ∙ ap (λ (ls : List Line). section_lines 0 s.sections ++ (section_line n ∷ ls)) (append-nil (map instruction_line (is ++ i ∷ [])) ∙ map_push instruction_line is i ∙ ap (λ (ls : List Line). ls ++ instruction_line i ∷ []) (sym (append-nil (map instruction_line is))))
+    ∙ sym (append_assoc (section_lines 0 s.sections) (section_line n ∷ map instruction_line is ++ []) (instruction_line i ∷ []))
+    ∙ ap (λ (ls : List Line). ls ++ instruction_line i ∷ []) (sym start) in
     let may = may_from s is i p in
     let section : IsSection s (is ++ i ∷ []) = record {
       most = grind (arith, nat_tests, room, length-append is (i ∷ []));
-      served = All-push IsServed is i h.last.served served;
       in_range = All-push (IsInRange s) is i h.last.in_range (ranges p);
       holding = λ before j after e. elim (snoc_cases is before i j after e) [
         | inl q ↦ subst (λ (k : Instruction). MayStandAfter before k) (sym q.1) (subst (λ (ks : List Instruction). MayStandAfter ks i) (sym q.0) may)
         | inr q ↦ h.last.holding before j q.0 q.1
-        ];
+      ];
     } in
     subst (λ (x : Front). Adds (Within s is) (instruction_line i) x) same (record {
       lines_are = ap (λ (ls : List Line). cluster_line s ∷ ls) lines;
@@ -226,11 +224,21 @@ command_adds (Headed s) keyword.Section ns g h due small e = first_adds s ns g h
 command_adds (Headed s) _ ns g h due small e = absurd cc
 command_adds (Within s is) keyword.Section ns g h due small e = next_adds s is ns g h e
 command_adds (Within s is) keyword.Show ns g h due small e = show_adds s is ns g h due e
-command_adds (Within s is) keyword.Load (a ∷ []) g h due small e = entered_adds s is (instruction.Load a) g _ refl h tt (λ p. below_from a (addresses s) p.address) e
+command_adds (Within s is) keyword.Load (a ∷ []) g h due small e = entered_adds s is (instruction.Load a) g _ refl h (λ p. below_from a (addresses s) p.address) e
 command_adds (Within s is) keyword.Load _ g h due small e = absurd cc
-command_adds (Within s is) keyword.Store (a ∷ v ∷ []) g h due small e = entered_adds s is (instruction.Store a v) g _ refl h tt (λ p. (below_from a (addresses s) p.address, small.1.0)) e
+command_adds (Within s is) keyword.Store (a ∷ v ∷ []) g h due small e = entered_adds s is (instruction.Store a v) g _ refl h (λ p. (below_from a (addresses s) p.address, small.1.0)) e
 command_adds (Within s is) keyword.Store _ g h due small e = absurd cc
-command_adds (Within s is) keyword.Add (a ∷ v ∷ []) g h due small e = entered_adds s is (instruction.Add a v) g _ refl h tt (λ p. (below_from a (addresses s) p.address, small.1.0)) e
+command_adds (Within s is) keyword.Add (a ∷ v ∷ []) g h due small e = entered_adds s is (instruction.Add a v) g _ refl h (λ p. (below_from a (addresses s) p.address, small.1.0)) e
 command_adds (Within s is) keyword.Add _ g h due small e = absurd cc
-command_adds (Within s is) _ ns g h due small e = absurd cc
+command_adds (Within s is) keyword.Acquire (l ∷ []) g h due small e = entered_adds s is (instruction.Acquire l) g _ refl h (λ p. below_from l s.locks p.lock) e
+command_adds (Within s is) keyword.Acquire _ g h due small e = absurd cc
+command_adds (Within s is) keyword.Release (l ∷ []) g h due small e = entered_adds s is (instruction.Release l) g _ refl h (λ p. below_from l s.locks p.lock) e
+command_adds (Within s is) keyword.Release _ g h due small e = absurd cc
+command_adds (Within s is) keyword.Barrier [] g h due small e = entered_adds s is instruction.Barrier g _ refl h (λ p. tt) e
+command_adds (Within s is) keyword.Barrier _ g h due small e = absurd cc
+command_adds (Within s is) keyword.Set (f ∷ []) g h due small e = entered_adds s is (instruction.Set f) g _ refl h (λ p. below_from f s.flags p.flag) e
+command_adds (Within s is) keyword.Set _ g h due small e = absurd cc
+command_adds (Within s is) keyword.Await (f ∷ []) g h due small e = entered_adds s is (instruction.Await f) g _ refl h (λ p. below_from f s.flags p.flag) e
+command_adds (Within s is) keyword.Await _ g h due small e = absurd cc
+command_adds (Within s is) keyword.Cluster ns g h due small e = absurd cc
 command_adds (Whole s) k ns g h due small e = absurd cc

@@ -1,17 +1,17 @@
 -- What is begun can be completed: the lines before begin the text of some script.
-use Rattle.std.proofs.Common.{◌≡◌, ℕ, zero, suc, ◌+◌, ◌-◌, ◌*◌, ◌<◌, ◌≤◌, List, [], ◌∷◌, ◌++◌, length, replicate, refl, sym, ap, subst, ◌∙◌, append_assoc, arith}
+use Rattle.std.proofs.Common.{◌≡◌, ◌+◌, ◌-◌, ◌<◌, ◌≤◌, List, [], ◌∷◌, ◌++◌, length, replicate, refl, sym, ap, ◌∙◌, append_assoc, arith}
 use Rattle.std.specs.Prelude.{All}
-use Rattle.std.specs.List.{flat_map, AllByRecursion}
+use Rattle.std.specs.List.{flat_map}
 use Rattle.std.proofs.lemmas.List.{append-nil, length-append, length-replicate}
 use Rattle.std.proofs.lemmas.List.Concat.{flat_map-append}
 use Rattle.std.proofs.lemmas.List.Elements.{All-from_recursion, All-append, All-replicate, All-weaker, All-push, All-nil}
 use Rattle.lrc_script.specs.declared.script.Instruction.{Instruction}
 use Rattle.lrc_script.specs.Plan.{Plan}
-use Rattle.lrc_script.specs.Lawful.{addresses, AreSizes, IsServed, IsInRange, IsSection, IsLawfulButUneven}
+use Rattle.lrc_script.specs.Lawful.{addresses, AreSizes, IsSection, IsLawfulButUneven}
 use Rattle.lrc_script.specs.Text.{Line, line_text, cluster_line, section_lines, show_line, lines_of, text}
 use Rattle.lrc_script.specs.Front.{Front, Nothing, Headed, Within, Whole, IsBegun, lines_before, text_before}
 use Rattle.lrc_script.specs.Faults.{BeginsText}
-use Rattle.lrc_script.proofs.Fronts.{sizes_small}
+use Rattle.lrc_script.proofs.Fronts.{sizes_small, sizes_over, section_over}
 use Rattle.lrc_script.proofs.Adds.{section_lines-append, nothing_stands}
 
 -- the same sizes with these sections, then empty ones, and one address shown
@@ -23,9 +23,9 @@ filled_lawful s sections sizes fit each =
     let whole = filled s sections in
     let small = sizes_small s sizes in
     let blanks = replicate (s.processors - length sections) [] in
-    let as_whole : (is : List Instruction) → IsSection s is → IsSection whole is = λ is k. record { most = k.most; served = k.served; in_range = k.in_range; holding = k.holding } in
+    let as_whole : (is : List Instruction) → IsSection s is → IsSection whole is = λ is k. section_over s (sections ++ blanks) (0 ∷ []) is k in
     record {
-      sizes = record { processors = sizes.processors; pages = sizes.pages; some_words = sizes.some_words; most_words = sizes.most_words; locks = sizes.locks; flags = sizes.flags };
+      sizes = sizes_over s (sections ++ blanks) (0 ∷ []) sizes;
       one_each = omega (arith, length-append sections blanks, length-replicate {A = List Instruction} (s.processors - length sections) [], fit);
       sections = All-weaker (IsSection s) (IsSection whole) as_whole (sections ++ blanks) (All-append (IsSection s) sections blanks each (All-replicate (IsSection s) (s.processors - length sections) [] (nothing_stands s)));
       some_shown = omega arith;
@@ -48,7 +48,7 @@ least = record { processors = 1; pages = 1; words = 1; locks = 0; flags = 0; sec
 least_lawful : IsLawfulButUneven least
 unfolding least
 least_lawful = record {
-  sizes = record { processors = refl; pages = refl; some_words = omega arith; most_words = omega arith; locks = refl; flags = refl };
+  sizes = record { some_processors = omega arith; most_processors = omega arith; some_pages = omega arith; most_pages = omega arith; some_words = omega arith; most_words = omega arith; locks = omega arith; flags = omega arith };
   one_each = refl;
   sections = All-from_recursion (IsSection least) ([] ∷ []) (nothing_stands least, tt);
   some_shown = omega arith;

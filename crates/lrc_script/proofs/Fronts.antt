@@ -1,39 +1,50 @@
 -- The lines of a script lead from nothing to the whole script.
-use Rattle.std.proofs.Common.{◌≡◌, ◌≢◌, ℕ, zero, suc, ◌+◌, ◌-◌, ◌*◌, ◌^◌, ◌<◌, ◌≤◌, Bool, true, false, not, ◌&&◌, ◌||◌, cond, eqb, ltb, leb, List, [], ◌∷◌, ◌++◌, length, map, Option, Some, None, Result, Ok, Err, refl, sym, ap, subst, ◌∙◌, append_assoc, arith}
+use Rattle.std.proofs.Common.{◌≡◌, ℕ, suc, ◌+◌, ◌*◌, ◌<◌, ◌≤◌, Bool, true, false, ◌&&◌, cond, eqb, ltb, leb, List, [], ◌∷◌, ◌++◌, length, map, None, refl, sym, ap, subst, ◌∙◌, append_assoc, arith}
 use Rattle.std.specs.Prelude.{All, codes}
-use Rattle.std.specs.List.{flat_map, AllByRecursion, list_any}
+use Rattle.std.specs.List.{AllByRecursion, list_any}
 use Rattle.std.proofs.lemmas.Bool.{eqb-true}
 use Rattle.std.proofs.lemmas.Bool.Decides.{nat_tests}
 use Rattle.std.proofs.Math.Nat.{mul-le-mul}
 use Rattle.std.proofs.lemmas.List.{append-nil, length-append}
 use Rattle.std.proofs.lemmas.List.Elements.{recursion_from_All, All-from_recursion, All-weaker}
-use Rattle.lrc_script.specs.declared.fault.ScriptFault.{ScriptFault}
 use Rattle.lrc_script.specs.declared.script.Instruction.{Instruction}
 use Rattle.lrc_script.specs.declared.script.Instruction.TheVariants as instruction
-use Rattle.lrc_script.specs.declared.line.Keyword.{Keyword}
 use Rattle.lrc_script.specs.declared.line.Keyword.TheVariants as keyword
 use Rattle.lrc_script.specs.Plan.{Plan}
-use Rattle.lrc_script.specs.Lawful.{addresses, AreSizes, IsServed, IsInRange, MayStandAfter, IsSection, IsLawfulButUneven, address_of, lock_of, flag_of}
+use Rattle.lrc_script.specs.Lawful.{addresses, AreSizes, IsInRange, MayStandAfter, IsSection, IsLawfulButUneven}
 use Rattle.lrc_script.specs.Text.{Line, cluster_line, section_line, instruction_line, show_line, section_lines, lines_of}
 use Rattle.lrc_script.specs.Front.{Front, Nothing, Headed, Within, Whole, IsBegun, IsHeaded, IsWithin, lines_before}
-use Rattle.lrc_script.specs.Reading.{are_sizes, headed, first_section, next_section, ended, instruction_of, is_past, takes_held, gives_unheld, refusal, with_instruction, closed, step}
+use Rattle.lrc_script.specs.Reading.{are_sizes, refusal, closed, step}
 use Rattle.lrc_script.proofs.Numbers.{and_true, AreWords}
 use Rattle.lrc_script.proofs.Lines.{Goes, goes}
 use Rattle.lrc_script.proofs.Run.{Passes, Passes-append}
 
 -- the test for sizes
 pub sizes_test : (s : Plan) → AreSizes s → are_sizes s ≡ true
-sizes_test s h = grind (arith, nat_tests, h.processors, h.pages, h.some_words, h.most_words, h.locks, h.flags)
+sizes_test s h = grind (arith, nat_tests, h.some_processors, h.most_processors, h.some_pages, h.most_pages, h.some_words, h.most_words, h.locks, h.flags)
+
+from_leb : (a b : ℕ) → leb a b ≡ true → a ≤ b
+from_leb a b e = grind (arith, nat_tests, e)
 
 pub sizes_from_test : (s : Plan) → are_sizes s ≡ true → AreSizes s
-sizes_from_test s e = record {
-  processors = grind (arith, nat_tests, e);
-  pages = grind (arith, nat_tests, e);
-  some_words = grind (arith, nat_tests, e);
-  most_words = grind (arith, nat_tests, e);
-  locks = grind (arith, nat_tests, e);
-  flags = grind (arith, nat_tests, e);
-}
+sizes_from_test s e =
+    let h = and_true (leb 1 s.processors && leb s.processors 16 && leb 1 s.pages && leb s.pages 64 && leb 1 s.words && leb s.words 64 && leb s.locks 32) (leb s.flags 32) e in
+    let g = and_true (leb 1 s.processors && leb s.processors 16 && leb 1 s.pages && leb s.pages 64 && leb 1 s.words && leb s.words 64) (leb s.locks 32) h.0 in
+    let f = and_true (leb 1 s.processors && leb s.processors 16 && leb 1 s.pages && leb s.pages 64 && leb 1 s.words) (leb s.words 64) g.0 in
+    let d = and_true (leb 1 s.processors && leb s.processors 16 && leb 1 s.pages && leb s.pages 64) (leb 1 s.words) f.0 in
+    let c = and_true (leb 1 s.processors && leb s.processors 16 && leb 1 s.pages) (leb s.pages 64) d.0 in
+    let b = and_true (leb 1 s.processors && leb s.processors 16) (leb 1 s.pages) c.0 in
+    let a = and_true (leb 1 s.processors) (leb s.processors 16) b.0 in
+    record {
+      some_processors = from_leb 1 s.processors a.0;
+      most_processors = from_leb s.processors 16 a.1;
+      some_pages = from_leb 1 s.pages b.1;
+      most_pages = from_leb s.pages 64 c.1;
+      some_words = from_leb 1 s.words d.1;
+      most_words = from_leb s.words 64 f.1;
+      locks = from_leb s.locks 32 g.1;
+      flags = from_leb s.flags 32 h.1;
+    }
 
 -- how large sizes are
 pub record AreSmall (s : Plan) : Type 0 where
@@ -51,17 +62,33 @@ product_small a b some_a most_a some_b most_b = (grind (arith, mul-le-mul), grin
 
 pub sizes_small : (s : Plan) → AreSizes s → AreSmall s
 sizes_small s h =
-    let product = product_small s.pages s.words (omega (arith, h.pages)) (omega (arith, h.pages)) h.some_words h.most_words in
+    let product = product_small s.pages s.words h.some_pages h.most_pages h.some_words h.most_words in
     record {
-      some = omega (arith, h.processors);
-      processors = omega (arith, h.processors);
-      pages = omega (arith, h.pages);
+      some = h.some_processors;
+      processors = h.most_processors;
+      pages = h.most_pages;
       words = h.most_words;
-      locks = omega (arith, h.locks);
-      flags = omega (arith, h.flags);
+      locks = h.locks;
+      flags = h.flags;
       address = product.0;
       addresses_fit = product.1;
     }
+
+-- sections and shown addresses don't change what sizes and sections need
+pub sizes_over : (s : Plan) (sections : List (List Instruction)) (shown : List ℕ) → AreSizes s → AreSizes (record s { sections = sections; shown = shown })
+sizes_over s sections shown h = record {
+  some_processors = h.some_processors;
+  most_processors = h.most_processors;
+  some_pages = h.some_pages;
+  most_pages = h.most_pages;
+  some_words = h.some_words;
+  most_words = h.most_words;
+  locks = h.locks;
+  flags = h.flags;
+}
+
+pub section_over : (s : Plan) (sections : List (List Instruction)) (shown : List ℕ) (is : List Instruction) → IsSection s is → IsSection (record s { sections = sections; shown = shown }) is
+section_over s sections shown is h = record { most = h.most; in_range = h.in_range; holding = h.holding }
 
 -- a plan of sizes alone
 abbrev pub head_plan : ℕ → ℕ → ℕ → ℕ → ℕ → Plan
@@ -77,12 +104,12 @@ head_plan_goes p n w l g true e h =
     let none : g ≡ 0 = eqb-true g 0 e in
     let test : are_sizes (head_plan p n w l 0) ≡ true = subst (λ (x : ℕ). are_sizes (head_plan p n w l x) ≡ true) none (sizes_test (head_plan p n w l g) h) in
     goes Nothing (Headed (head_plan p n w l g)) keyword.Cluster (codes "cluster") (p ∷ n ∷ w ∷ l ∷ []) refl refl (omega (arith, small.processors), (omega (arith, small.pages), (omega (arith, small.words), (omega (arith, small.locks), tt)))) refl
-      (rw (test, none) refl)
+    (rw (test, none) refl)
 head_plan_goes p n w l g false e h =
     let small = sizes_small (head_plan p n w l g) h in
     let some : ltb 0 g ≡ true = grind (arith, nat_tests, e) in
     goes Nothing (Headed (head_plan p n w l g)) keyword.Cluster (codes "cluster") (p ∷ n ∷ w ∷ l ∷ g ∷ []) refl refl (omega (arith, small.processors), (omega (arith, small.pages), (omega (arith, small.words), (omega (arith, small.locks), (omega (arith, small.flags), tt))))) refl
-      (rw (some, sizes_test (head_plan p n w l g) h) refl)
+    (rw (some, sizes_test (head_plan p n w l g) h) refl)
 
 -- the cluster line
 pub head_goes : (s : Plan) → IsHeaded s → Goes Nothing (cluster_line s) (Headed s)
@@ -125,22 +152,32 @@ refusal_none s before (instruction.Await f) range may room =
     rw (below, fits) refl
 
 -- an instruction that may stand behind these
-pub instruction_goes : (s : Plan) (before : List Instruction) (i : Instruction) → AreSizes s → IsServed i → IsInRange s i → MayStandAfter before i → length before < 10000 → Goes (Within s before) (instruction_line i) (Within s (before ++ i ∷ []))
+pub instruction_goes : (s : Plan) (before : List Instruction) (i : Instruction) → AreSizes s → IsInRange s i → MayStandAfter before i → length before < 10000 → Goes (Within s before) (instruction_line i) (Within s (before ++ i ∷ []))
 unfolding step
-instruction_goes s before (instruction.Load a) sizes served range may room =
+instruction_goes s before (instruction.Load a) sizes range may room =
     let small = sizes_small s sizes in
     goes (Within s before) _ keyword.Load (codes "load") (a ∷ []) refl refl (omega (arith, small.addresses_fit, range), tt) refl (rw (refusal_none s before (instruction.Load a) range may room) refl)
-instruction_goes s before (instruction.Store a v) sizes served range may room =
+instruction_goes s before (instruction.Store a v) sizes range may room =
     let small = sizes_small s sizes in
     goes (Within s before) _ keyword.Store (codes "store") (a ∷ v ∷ []) refl refl (omega (arith, small.addresses_fit, range.0), (range.1, tt)) refl (rw (refusal_none s before (instruction.Store a v) range may room) refl)
-instruction_goes s before (instruction.Add a v) sizes served range may room =
+instruction_goes s before (instruction.Add a v) sizes range may room =
     let small = sizes_small s sizes in
     goes (Within s before) _ keyword.Add (codes "add") (a ∷ v ∷ []) refl refl (omega (arith, small.addresses_fit, range.0), (range.1, tt)) refl (rw (refusal_none s before (instruction.Add a v) range may room) refl)
-instruction_goes s before (instruction.Acquire l) sizes served range may room = absurd served
-instruction_goes s before (instruction.Release l) sizes served range may room = absurd served
-instruction_goes s before instruction.Barrier sizes served range may room = absurd served
-instruction_goes s before (instruction.Set f) sizes served range may room = absurd served
-instruction_goes s before (instruction.Await f) sizes served range may room = absurd served
+instruction_goes s before (instruction.Acquire l) sizes range may room =
+    let small = sizes_small s sizes in
+    goes (Within s before) _ keyword.Acquire (codes "acquire") (l ∷ []) refl refl (omega (arith, small.locks, range), tt) refl (rw (refusal_none s before (instruction.Acquire l) range may room) refl)
+instruction_goes s before (instruction.Release l) sizes range may room =
+    let small = sizes_small s sizes in
+    goes (Within s before) _ keyword.Release (codes "release") (l ∷ []) refl refl (omega (arith, small.locks, range), tt) refl (rw (refusal_none s before (instruction.Release l) range may room) refl)
+instruction_goes s before instruction.Barrier sizes range may room =
+    let small = sizes_small s sizes in
+    goes (Within s before) _ keyword.Barrier (codes "barrier") ([]) refl refl tt refl (rw (refusal_none s before instruction.Barrier range may room) refl)
+instruction_goes s before (instruction.Set f) sizes range may room =
+    let small = sizes_small s sizes in
+    goes (Within s before) _ keyword.Set (codes "set") (f ∷ []) refl refl (omega (arith, small.flags, range), tt) refl (rw (refusal_none s before (instruction.Set f) range may room) refl)
+instruction_goes s before (instruction.Await f) sizes range may room =
+    let small = sizes_small s sizes in
+    goes (Within s before) _ keyword.Await (codes "await") (f ∷ []) refl refl (omega (arith, small.flags, range), tt) refl (rw (refusal_none s before (instruction.Await f) range may room) refl)
 
 section_goes : (s : Plan) (is : List Instruction) → AreSizes s → suc (length s.sections) < s.processors → Goes (Within s is) (section_line (suc (length s.sections))) (Within (closed s is) [])
 unfolding step
@@ -181,25 +218,25 @@ with_sections s sections = record s { sections = sections }
 
 -- what each instruction of a list needs
 abbrev pub StandAfter : Plan → List Instruction → List Instruction → Type 0
-StandAfter s before after = AllByRecursion IsServed after × AllByRecursion (IsInRange s) after × (length before + length after ≤ 10000)
-  × ((front : List Instruction) (i : Instruction) (back : List Instruction) → after ≡ front ++ i ∷ back → MayStandAfter (before ++ front) i)
+StandAfter s before after = AllByRecursion (IsInRange s) after × (length before + length after ≤ 10000)
+    × ((front : List Instruction) (i : Instruction) (back : List Instruction) → after ≡ front ++ i ∷ back → MayStandAfter (before ++ front) i)
 
 instructions_pass : (s : Plan) (before after : List Instruction) → AreSizes s → StandAfter s before after → Passes (Within s before) (map instruction_line after) (Within s (before ++ after))
 instructions_pass s before [] sizes h = ap (λ (is : List Instruction). Within s is) (sym (append-nil before))
 instructions_pass s before (i ∷ after) sizes h =
-    let first = instruction_goes s before i sizes h.0.0 h.1.0 (subst (λ (is : List Instruction). MayStandAfter is i) (append-nil before) (h.3 [] i after refl)) (omega (arith, h.2)) in
-    let rest = instructions_pass s (before ++ i ∷ []) after sizes (h.0.1, h.1.1, omega (arith, h.2, length-append before (i ∷ [])), λ front j back e. subst (λ (is : List Instruction). MayStandAfter is j) (sym (append_assoc before (i ∷ []) front)) (h.3 (i ∷ front) j back (ap (λ (is : List Instruction). i ∷ is) e))) in
+    let first = instruction_goes s before i sizes h.0.0 (subst (λ (is : List Instruction). MayStandAfter is i) (append-nil before) (h.2 [] i after refl)) (omega (arith, h.1)) in
+    let rest = instructions_pass s (before ++ i ∷ []) after sizes (h.0.1, omega (arith, h.1, length-append before (i ∷ [])), λ front j back e. subst (λ (is : List Instruction). MayStandAfter is j) (sym (append_assoc before (i ∷ []) front)) (h.2 (i ∷ front) j back (ap (λ (is : List Instruction). i ∷ is) e))) in
     (Within s (before ++ i ∷ []), first, subst (λ (is : List Instruction). Passes (Within s (before ++ i ∷ [])) (map instruction_line after) (Within s is)) (append_assoc before (i ∷ []) after) rest)
 
 section_passes : (s : Plan) (is : List Instruction) → AreSizes s → IsSection s is → Passes (Within s []) (map instruction_line is) (Within s is)
-section_passes s is sizes h = instructions_pass s [] is sizes (recursion_from_All IsServed is h.served, recursion_from_All (IsInRange s) is h.in_range, omega (arith, h.most), h.holding)
+section_passes s is sizes h = instructions_pass s [] is sizes (recursion_from_All (IsInRange s) is h.in_range, omega (arith, h.most), h.holding)
 
 -- sections don't change what a section needs
 pub section_with : (s : Plan) (sections : List (List Instruction)) (is : List Instruction) → IsSection s is → IsSection (with_sections s sections) is
-section_with s sections is h = record { most = h.most; served = h.served; in_range = h.in_range; holding = h.holding }
+section_with s sections is h = section_over s sections s.shown is h
 
 pub sizes_with : (s : Plan) (sections : List (List Instruction)) → AreSizes s → AreSizes (with_sections s sections)
-sizes_with s sections h = record { processors = h.processors; pages = h.pages; some_words = h.some_words; most_words = h.most_words; locks = h.locks; flags = h.flags }
+sizes_with s sections h = sizes_over s sections s.shown h
 
 -- the sections behind the one that is open
 sections_pass : (s : Plan) (done : List (List Instruction)) (open' : List Instruction) (rest : List (List Instruction)) (last : List Instruction) → AreSizes s → length done + length rest + 1 < s.processors → AllByRecursion (IsSection s) rest → IsSection s last
@@ -263,8 +300,8 @@ whole_from s front last e h =
     let before = unshown s front in
     let each = AllByRecursion-split (IsSection s) front last (subst (λ (xs : List (List Instruction)). AllByRecursion (IsSection s) xs) e (recursion_from_All (IsSection s) s.sections h.sections)) in
     let count : suc (length front) ≡ s.processors = omega (arith, ap (λ (xs : List (List Instruction)). length xs) e, length-append front (last ∷ []), h.one_each) in
-    let sizes : AreSizes before = record { processors = h.sizes.processors; pages = h.sizes.pages; some_words = h.sizes.some_words; most_words = h.sizes.most_words; locks = h.sizes.locks; flags = h.sizes.flags } in
-    let as_before : (is : List Instruction) → IsSection s is → IsSection before is = λ is k. record { most = k.most; served = k.served; in_range = k.in_range; holding = k.holding } in
+    let sizes : AreSizes before = sizes_over s front [] h.sizes in
+    let as_before : (is : List Instruction) → IsSection s is → IsSection before is = λ is k. section_over s front [] is k in
     let within : IsWithin before last = record {
       sizes = sizes;
       sections = All-weaker (IsSection s) (IsSection before) as_before front (All-from_recursion (IsSection s) front each.0);

@@ -12,3 +12,5 @@ pub mod Adds
 pub mod Refused
 pub mod Complete
 pub mod Positions
+pub mod Printing
+pub mod Alike

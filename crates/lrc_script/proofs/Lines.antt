@@ -1,18 +1,17 @@
 -- A line of a keyword and numbers is read as that keyword and those numbers.
-use Rattle.std.proofs.Common.{◌≡◌, ◌≢◌, ℕ, zero, suc, ◌+◌, ◌^◌, ◌<◌, ◌≤◌, Bool, true, false, not, ◌&&◌, cond, eqb, ltb, List, [], ◌∷◌, ◌++◌, length, map, Option, Some, None, Result, Ok, Err, refl, sym, ap, subst, ◌∙◌, append_assoc, arith}
+use Rattle.std.proofs.Common.{◌≡◌, ℕ, ◌^◌, ◌<◌, Bool, true, not, ◌&&◌, eqb, ltb, List, [], ◌∷◌, ◌++◌, length, map, Some, Ok, refl, ap, ◌∙◌, arith}
 use Rattle.std.specs.Char.{is_ascii_digit}
 use Rattle.std.specs.List.{list_all, flat_map, AllByRecursion}
 use Rattle.std.specs.Fmt.{decimal}
 use Rattle.std.proofs.lemmas.Bool.Decides.{nat_tests}
 use Rattle.std.proofs.lemmas.List.{length-map}
-use Rattle.lrc_script.specs.declared.fault.ScriptFault.{ScriptFault}
 use Rattle.lrc_script.specs.declared.line.Keyword.{Keyword}
 use Rattle.lrc_script.specs.Text.{Line, spaced, line_bytes}
 use Rattle.lrc_script.specs.Front.{Front}
 use Rattle.lrc_script.specs.Faults.{IsWord, IsSplit}
-use Rattle.lrc_script.specs.Reading.{◌>>=◌, parts_of, has_bytes, keyword_of, is_due, numbers_after, step, after, after_words, after_keyword}
+use Rattle.lrc_script.specs.Reading.{◌>>=◌, keyword_of, is_due, numbers_after, step, after, after_words, after_keyword}
 use Rattle.lrc_script.proofs.Numbers.{and_true, AreWords, numbers_again, Decimal-decimal}
-use Rattle.lrc_script.proofs.Words.{HasNo, HasNo-append, joined, parts_from_split}
+use Rattle.lrc_script.proofs.Words.{HasNo, HasNo-append, parts_from_split}
 
 -- a first word: bytes, none of them a space or a line feed
 abbrev pub is_plain : List ℕ → Bool

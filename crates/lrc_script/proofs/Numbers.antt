@@ -1,5 +1,5 @@
 -- Numbers and their decimal digits.
-use Rattle.std.proofs.Common.{◌≡◌, ℕ, suc, ◌+◌, ◌^◌, ◌<◌, ◌≤◌, ◌≢◌, Bool, true, false, not, ◌&&◌, cond, eqb, ltb, List, [], ◌∷◌, ◌++◌, length, get_or, map, subst, append_assoc, Option, Some, None, Result, Ok, Err, refl, sym, ap, ◌∙◌, inl, inr, zero, arith, rules}
+use Rattle.std.proofs.Common.{◌≡◌, ℕ, suc, ◌^◌, ◌<◌, ◌≢◌, Bool, true, false, not, ◌&&◌, cond, eqb, ltb, List, [], ◌∷◌, ◌++◌, length, get_or, map, subst, append_assoc, Option, Some, None, Result, Ok, Err, refl, sym, ap, ◌∙◌, inl, inr, zero, arith, rules}
 use Rattle.std.specs.Char.{is_ascii_digit}
 use Rattle.std.specs.Prelude.{Contains, is_some, unwrap_or}
 use Rattle.std.specs.List.{list_all, AllByRecursion}
@@ -45,7 +45,7 @@ decimal_whole w d =
     let front : (not (eqb (length w) 0) && not (eqb (get_or w 0 0) 48 && ltb 1 (length w))) ≡ true = elim (eqb (get_or w 0 0) 48) as (λ b. eqb (get_or w 0 0) 48 ≡ b → (not (eqb (length w) 0) && not (b && ltb 1 (length w))) ≡ true) [
       | true ↦ λ t. let one = d.alone (grind (arith, nat_tests, t)) in grind (arith, nat_tests, one)
       | false ↦ λ t. grind (arith, nat_tests, some)
-      ] refl in
+    ] refl in
     rw (front, d.digits) refl
 
 take_some : (b : Bool) (v n : ℕ) → cond b (Some v) None ≡ Some n → (b ≡ true) × (v ≡ n)
@@ -69,7 +69,7 @@ Decimal-decimal n lt = record {
   alone = elim n as (λ k. k < 2 ^ 64 → get_or (decimal k) 0 0 ≡ 48 → length (decimal k) ≡ 1) [
     | zero ↦ λ l z. ap length (decimal_digit 0 (omega arith))
     | suc k ↦ λ l z. absurd (omega (arith, first_decimal (suc k) (omega arith) l, z))
-    ] lt;
+  ] lt;
 }
 
 pub number_again : (n : ℕ) → n < 2 ^ 32 → number_of (decimal n) ≡ Some n

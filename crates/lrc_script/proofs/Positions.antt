@@ -1,22 +1,24 @@
 -- Reading from line to line through the bytes of a script.
-use Rattle.std.proofs.Common.{◌≡◌, ◌≢◌, ℕ, zero, suc, ◌+◌, ◌-◌, ◌<◌, ◌≤◌, List, [], ◌∷◌, ◌++◌, length, eqb, Result, Ok, Err, refl, sym, ap, subst, ◌∙◌, append_assoc, arith}
-use Rattle.std.specs.Prelude.{All, slice_index_or}
+use Rattle.std.proofs.Common.{◌≡◌, ◌≢◌, ℕ, ◌+◌, ◌<◌, ◌≤◌, map, List, [], ◌∷◌, ◌++◌, length, eqb, Ok, Err, refl, sym, ap, subst, ◌∙◌, append_assoc, arith}
+use Rattle.std.specs.Prelude.{All}
+use Rattle.std.specs.Global.{Vec}
 use Rattle.std.specs.List.{flat_map, AllByRecursion}
-use Rattle.std.proofs.lemmas.List.{append-nil, length-append, get_or_default}
+use Rattle.std.proofs.lemmas.List.{append-nil, length-append, length-map, get_or-map}
+use Rattle.std.proofs.lemmas.List.Elements.{All-weaker}
 use Rattle.std.proofs.lemmas.List.Splits.{length-slice_split}
 use Rattle.std.proofs.lemmas.List.Concat.{flat_map-append}
 use Rattle.lrc_script.specs.declared.fault.ScriptFault.{ScriptFault}
 use Rattle.lrc_script.specs.declared.fault.ScriptFault.TheVariants.{Truncated, NoMemory}
 use Rattle.lrc_script.specs.declared.script.Instruction.{Instruction}
 use Rattle.lrc_script.specs.Plan.{Plan}
-use Rattle.lrc_script.specs.Lawful.{IsLawfulButUneven, IsLawful, IsEven, barriers}
-use Rattle.lrc_script.specs.Text.{Line, line_text, line_bytes, lines_of, text}
-use Rattle.lrc_script.specs.Front.{Front, Nothing, Headed, Within, Whole, IsBegun, lines_before, text_before}
-use Rattle.lrc_script.specs.Faults.{BeginsText, IsAt, IsLineFault, IsTruncated, IsFault}
+use Rattle.lrc_script.specs.Lawful.{IsSection, IsLawfulButUneven, IsLawful}
+use Rattle.lrc_script.specs.Text.{Line, line_text, line_bytes, text}
+use Rattle.lrc_script.specs.Front.{Front, Nothing, Whole, IsBegun, lines_before, text_before}
+use Rattle.lrc_script.specs.Faults.{IsAt, IsFaultAt, IsFault, IsUneven, IsUnevenText}
 use Rattle.lrc_script.specs.Reading.{Fails, parts_of, IsCut, after}
-use Rattle.lrc_script.proofs.Words.{HasNo, joined, parts_clean, parts_whole}
-use Rattle.lrc_script.proofs.Verdict.{never_there, never_begins, text_ends}
-use Rattle.lrc_script.proofs.Refused.{AddsLine, line_adds, line_says, behind_from}
+use Rattle.lrc_script.proofs.Words.{HasNo, parts_clean, parts_whole}
+use Rattle.lrc_script.proofs.Verdict.{never_there, never_begins, text_ends, text_injective}
+use Rattle.lrc_script.proofs.Refused.{line_adds, line_says, behind_from, fault_from}
 use Rattle.lrc_script.proofs.Complete.{front_begins}
 
 joined_again : (rest : List ℕ) (parts : List (List ℕ)) → parts_of 10 rest ≡ parts → 0 < length parts → flat_map (λ v. 10 ∷ v) parts ≡ 10 ∷ rest
@@ -58,8 +60,9 @@ at_next bytes n f g now line rest at cut read =
 abbrev pub IsNoText : List ℕ → Type 0
 IsNoText bytes = (s : Plan) → IsLawful s → bytes ≢ text s
 
-pub refused_fault : (bytes : List ℕ) (n : ℕ) (f : Front) (now line rest : List ℕ) (g : ScriptFault) → IsAt bytes n f now → IsCut now line rest → after f line ≡ Err g → IsFault bytes n g × IsNoText bytes
-refused_fault bytes n f now line rest g at cut read = (record {
+pub refused_fault : (bytes : List ℕ) (n : ℕ) (f : Front) (now line rest : List ℕ) (g : ScriptFault) → IsAt bytes n f now → IsCut now line rest → after f line ≡ Err g → IsFaultAt bytes n g × IsNoText bytes
+refused_fault bytes n f now line rest g at cut read = (
+  record {
     front = f;
     rest = now;
     at = at;
@@ -72,31 +75,42 @@ refused_fault bytes n f now line rest g at cut read = (record {
       says = line_says f line g read;
       never = never_begins f line g at.begun cut.one_line read;
     });
-  }, λ s lawful same. never_there f line rest g s at.begun cut.one_line read lawful.but_uneven (sym same ∙ at.whole ∙ ap (λ (x : List ℕ). text_before f ++ x) cut.bytes_are))
+  },
+  λ s lawful same. never_there f line rest g s at.begun cut.one_line read lawful.but_uneven (sym same ∙ at.whole ∙ ap (λ (x : List ℕ). text_before f ++ x) cut.bytes_are),
+)
 
 pub truncated_fault : (bytes : List ℕ) (n : ℕ) (f : Front) (rest : List ℕ) → IsAt bytes n f rest → HasNo 10 rest → ((s : Plan) → f ≡ Whole s → 0 < length rest) → IsFault bytes n Truncated × IsNoText bytes
-truncated_fault bytes n f rest at clean over = (record {
+truncated_fault bytes n f rest at clean over = (
+  record {
     front = f;
     rest = rest;
     at = at;
     begins = front_begins f at.begun;
     behind = record { no_line = clean; not_over = over };
-  }, λ s lawful same.
-    let ends = text_ends f rest s at.begun clean lawful.but_uneven (sym same ∙ at.whole) in
-    omega (arith, over s ends.0, ap (λ (x : List ℕ). length x) ends.1))
+  },
+  λ s lawful same.
+      let ends = text_ends f rest s at.begun clean lawful.but_uneven (sym same ∙ at.whole) in
+      omega (arith, over s ends.0, ap (λ (x : List ℕ). length x) ends.1),
+)
 
 pub memory_fault : (bytes : List ℕ) (n : ℕ) (f : Front) (rest : List ℕ) → IsAt bytes n f rest → IsFault bytes n NoMemory
 memory_fault bytes n f rest at = record { front = f; rest = rest; at = at; begins = front_begins f at.begun; behind = tt }
 
--- one section is as even as itself
-even_alone : (s : Plan) → IsLawfulButUneven s → IsEven s
-even_alone s h = λ k d lt.
-    let zero-is : k ≡ 0 = omega (arith, lt, h.one_each, h.sizes.processors) in
-    let some : 0 < length s.sections = omega (arith, lt) in
-    rw zero-is (ap barriers (get_or_default s.sections 0 d [] some))
+-- where nothing is left, the bytes are the text of a script that is lawful but for evenness
+pub whole_text : (bytes : List ℕ) (n : ℕ) (f : Front) (rest : List ℕ) (s : Plan) → IsAt bytes n f rest → (f ≡ Whole s) × (rest ≡ []) → IsLawfulButUneven s × (bytes ≡ text s)
+whole_text bytes n f rest s at ends =
+    let whole : bytes ≡ text_before (Whole s) ++ [] = at.whole ∙ ap (λ (g : Front). text_before g ++ rest) ends.0 ∙ ap (λ (x : List ℕ). text s ++ x) ends.1 in
+    (subst IsBegun ends.0 at.begun, whole ∙ append-nil (text s))
 
-pub found_text : (bytes : List ℕ) (n : ℕ) (s : Plan) → IsAt bytes n (Whole s) [] → IsLawful s × (bytes ≡ text s)
-found_text bytes n s at = (record { but_uneven = at.begun; even = even_alone s at.begun }, at.whole ∙ append-nil (text s))
+-- the text of an uneven script is no lawful script's
+pub uneven_fault : (bytes : List ℕ) (s : Plan) (n : ℕ) → IsLawfulButUneven s → bytes ≡ text s → IsUneven s n → IsUnevenText bytes n × IsNoText bytes
+uneven_fault bytes s n lawful text-is h = (
+  record { script = s; lawful = lawful; text_is = text-is; uneven = h },
+  λ t lawful' same.
+      let one : s ≡ t = text_injective s t lawful lawful'.but_uneven (sym text-is ∙ same) in
+      let u = subst (λ (x : Plan). IsUneven x n) one h in
+      u.differs (lawful'.even u.section [] u.within),
+)
 
 lines_have : (ls : List Line) → length ls ≤ length (flat_map line_text ls)
 lines_have [] = omega arith
@@ -113,4 +127,19 @@ cut_shorter now line rest cut = omega (arith, ap (λ (x : List ℕ). length x) c
 -- what a line that fails says, whatever the error
 pub failed_fault : (bytes : List ℕ) (n : ℕ) (f : Front) (now line rest : List ℕ) (g : ScriptFault) → IsAt bytes n f now → IsCut now line rest → Fails g (after f line) → IsFault bytes n g × (g ≢ NoMemory → IsNoText bytes)
 failed_fault bytes n f now line rest NoMemory at cut read = (memory_fault bytes n f now at, λ h. absurd (h refl))
-failed_fault bytes n f now line rest g at cut read = let r = refused_fault bytes n f now line rest g at cut read in (r.0, λ h. r.1)
+failed_fault bytes n f now line rest g at cut read = let r = refused_fault bytes n f now line rest g at cut read in (fault_from bytes n g r.0, λ h. r.1)
+
+-- what is read has one script
+pub read_again : (bytes : List ℕ) (t : Plan) → IsLawful t × (bytes ≡ text t) → (s : Plan) → IsLawful s → bytes ≡ text s → t ≡ s
+read_again bytes t found s lawful same = text_injective t s found.0.but_uneven lawful.but_uneven (sym found.1 ∙ same)
+
+-- ---- sections in memory
+
+items_length : (sections : List (Vec Instruction)) → All (λ is. length is ≤ 10000) (map (λ section. section.items) sections) → All (λ section. length section.items ≤ 10000) sections
+items_length sections h = λ k d lt. subst (λ (is : List Instruction). length is ≤ 10000) (get_or-map (λ section. section.items) sections k d [] lt) (h k [] (omega (arith, lt, length-map sections (λ (section : Vec Instruction). section.items))))
+
+-- what looking for an uneven section needs
+pub sections_fit : (s : Plan) (sections : List (Vec Instruction)) → s.sections ≡ map (λ section. section.items) sections → IsLawfulButUneven s → (length sections ≤ 16) × All (λ section. length section.items ≤ 10000) sections
+sections_fit s sections e h =
+    let each : All (λ is. length is ≤ 10000) s.sections = All-weaker (IsSection s) (λ is. length is ≤ 10000) (λ is k. k.most) s.sections h.sections in
+    (omega (arith, ap (λ (xs : List (List Instruction)). length xs) e, length-map sections (λ (section : Vec Instruction). section.items), h.one_each, h.sizes.most_processors), items_length sections (subst (All (λ is. length is ≤ 10000)) e each))

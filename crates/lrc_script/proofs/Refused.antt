@@ -1,7 +1,7 @@
 -- What a fault says of the line that is refused.
-use Rattle.std.proofs.Common.{◌≡◌, ◌≢◌, ℕ, zero, suc, ◌+◌, ◌*◌, ◌^◌, ◌<◌, ◌≤◌, Bool, true, false, not, ◌&&◌, ◌||◌, cond, eqb, ltb, leb, List, [], ◌∷◌, ◌++◌, length, get_or, map, Option, Some, None, Result, Ok, Err, refl, sym, ap, subst, ◌∙◌, append_assoc, arith, inl, inr, ◌⊎◌}
-use Rattle.std.specs.Prelude.{All, Any, IsSomeAnd, codes}
-use Rattle.std.specs.List.{flat_map, AllByRecursion, list_any}
+use Rattle.std.proofs.Common.{◌≡◌, ◌≢◌, ℕ, suc, ◌+◌, ◌≤◌, Bool, true, false, not, ◌&&◌, ◌||◌, cond, eqb, ltb, leb, List, [], ◌∷◌, length, Option, Some, None, Result, Ok, Err, refl, sym, ap, subst, ◌∙◌, arith, inl, inr, ◌⊎◌}
+use Rattle.std.specs.Prelude.{Any, IsSomeAnd, codes}
+use Rattle.std.specs.List.{list_any}
 use Rattle.std.proofs.lemmas.Bool.Decides.{nat_tests}
 use Rattle.lrc_script.specs.declared.fault.ScriptFault.{ScriptFault}
 use Rattle.lrc_script.specs.declared.fault.ScriptFault.TheVariants as fault
@@ -12,10 +12,9 @@ use Rattle.lrc_script.specs.declared.line.Keyword.TheVariants as keyword
 use Rattle.lrc_script.specs.Plan.{Plan}
 use Rattle.lrc_script.specs.Lawful.{addresses, AreSizes, address_of, lock_of, flag_of, holds}
 use Rattle.lrc_script.specs.Text.{Line, line_bytes, section_line, instruction_line, show_line}
-use Rattle.lrc_script.specs.Front.{Front, Nothing, Headed, Within, Whole, IsBegun, lines_before}
-use Rattle.lrc_script.specs.Faults.{Allows, IsOutOfTurn, AreNoSizes, IsInstruction, SaysWithin, Says, IsLineFault, IsFaultBehind}
-use Rattle.lrc_script.specs.Reading.{are_sizes, is_due, sized, headed, first_section, next_section, ended, is_past, takes_held, gives_unheld, refusal, entered, closed, step, after}
-use Rattle.lrc_script.proofs.Numbers.{and_true}
+use Rattle.lrc_script.specs.Front.{Front, Nothing, Headed, Within, Whole, IsBegun}
+use Rattle.lrc_script.specs.Faults.{Allows, IsOutOfTurn, AreNoSizes, SaysWithin, Says, IsLineFault, IsFaultBehind, IsFaultAt, IsFault}
+use Rattle.lrc_script.specs.Reading.{are_sizes, is_due, headed, first_section, next_section, ended, is_past, takes_held, gives_unheld, refusal, entered, closed, step, after}
 use Rattle.lrc_script.proofs.Fronts.{sizes_test, head_plan}
 use Rattle.lrc_script.proofs.Keywords.{spelled, keyword_spelled, due_allows, allows_due}
 use Rattle.lrc_script.proofs.LineReading.{Reading, Shapeless, NoNumber, Reached, reading}
@@ -88,8 +87,8 @@ ended_says s is ns g e = elim (refused_if (list_any (λ a. leb (addresses s) a) 
   | inr t ↦ elim (refused_if (ltb 64 (length ns)) _ _ g t.1) [
     | inl u ↦ let long = u.0 in subst (λ (x : ScriptFault). SaysWithin x s is (line_bytes (show_line ns))) u.1 (inr (ns, refl, grind (arith, nat_tests, long)))
     | inr u ↦ absurd (let none = u.1 in cc)
-    ]
   ]
+]
 
 -- ---- an instruction
 
@@ -115,20 +114,25 @@ some_if false f g rest e = inr (refl, e)
 
 refusal_says : (s : Plan) (is : List Instruction) (i : Instruction) (g : ScriptFault) → refusal s is i ≡ Some g → SaysWithin g s is (line_bytes (instruction_line i))
 refusal_says s is i g e = let P : ScriptFault → Type 0 = λ x. SaysWithin x s is (line_bytes (instruction_line i)) in
-  elim (some_if (is_past (address_of i) (addresses s)) _ g _ e) [
-  | inl t ↦ subst P t.1 (inl (i, refl, past_says (address_of i) (addresses s) t.0))
-  | inr t ↦ elim (some_if (is_past (lock_of i) s.locks) _ g _ t.1) [
-  | inl u ↦ subst P u.1 (i, refl, past_says (lock_of i) s.locks u.0)
-  | inr u ↦ elim (some_if (is_past (flag_of i) s.flags) _ g _ u.1) [
-  | inl v ↦ subst P v.1 (i, refl, past_says (flag_of i) s.flags v.0)
-  | inr v ↦ elim (some_if (takes_held is i) _ g _ v.1) [
-  | inl w ↦ subst P w.1 (i, refl, held_says is i w.0)
-  | inr w ↦ elim (some_if (gives_unheld is i) _ g _ w.1) [
-  | inl x ↦ subst P x.1 (i, refl, unheld_says is i x.0)
-  | inr x ↦ elim (some_if (leb 10000 (length is)) _ g None x.1) [
-  | inl y ↦ let long = y.0 in subst P y.1 (inl (i, refl, grind (arith, nat_tests, long)))
-  | inr y ↦ absurd (let none = y.1 in cc)
-  ] ] ] ] ] ]
+    elim (some_if (is_past (address_of i) (addresses s)) _ g _ e) [
+      | inl t ↦ subst P t.1 (inl (i, refl, past_says (address_of i) (addresses s) t.0))
+      | inr t ↦ elim (some_if (is_past (lock_of i) s.locks) _ g _ t.1) [
+        | inl u ↦ subst P u.1 (i, refl, past_says (lock_of i) s.locks u.0)
+        | inr u ↦ elim (some_if (is_past (flag_of i) s.flags) _ g _ u.1) [
+          | inl v ↦ subst P v.1 (i, refl, past_says (flag_of i) s.flags v.0)
+          | inr v ↦ elim (some_if (takes_held is i) _ g _ v.1) [
+            | inl w ↦ subst P w.1 (i, refl, held_says is i w.0)
+            | inr w ↦ elim (some_if (gives_unheld is i) _ g _ w.1) [
+              | inl x ↦ subst P x.1 (i, refl, unheld_says is i x.0)
+              | inr x ↦ elim (some_if (leb 10000 (length is)) _ g None x.1) [
+                | inl y ↦ let long = y.0 in subst P y.1 (inl (i, refl, grind (arith, nat_tests, long)))
+                | inr y ↦ absurd (let none = y.1 in cc)
+              ]
+            ]
+          ]
+        ]
+      ]
+    ]
 
 entered_says : (s : Plan) (is : List Instruction) (i : Instruction) (g : ScriptFault) (o : Option ScriptFault) → refusal s is i ≡ o → entered s is i o ≡ Err g → SaysWithin g s is (line_bytes (instruction_line i))
 entered_says s is i g None refused e = absurd cc
@@ -159,7 +163,21 @@ command_says (Within s is) keyword.Add (a ∷ v ∷ []) g due e = within_says g 
 command_says (Within s is) keyword.Add [] g due e = absurd cc
 command_says (Within s is) keyword.Add (a ∷ []) g due e = absurd cc
 command_says (Within s is) keyword.Add (a ∷ b ∷ c ∷ ns) g due e = absurd (grind (arith, nat_tests, due))
-command_says (Within s is) _ ns g due e = absurd cc
+command_says (Within s is) keyword.Acquire (l ∷ []) g due e = within_says g s is _ (entered_says s is (instruction.Acquire l) g _ refl e)
+command_says (Within s is) keyword.Acquire [] g due e = absurd cc
+command_says (Within s is) keyword.Acquire (a ∷ b ∷ ns) g due e = absurd (grind (arith, nat_tests, due))
+command_says (Within s is) keyword.Release (l ∷ []) g due e = within_says g s is _ (entered_says s is (instruction.Release l) g _ refl e)
+command_says (Within s is) keyword.Release [] g due e = absurd cc
+command_says (Within s is) keyword.Release (a ∷ b ∷ ns) g due e = absurd (grind (arith, nat_tests, due))
+command_says (Within s is) keyword.Barrier [] g due e = within_says g s is _ (entered_says s is instruction.Barrier g _ refl e)
+command_says (Within s is) keyword.Barrier (a ∷ ns) g due e = absurd (grind (arith, nat_tests, due))
+command_says (Within s is) keyword.Set (f ∷ []) g due e = within_says g s is _ (entered_says s is (instruction.Set f) g _ refl e)
+command_says (Within s is) keyword.Set [] g due e = absurd cc
+command_says (Within s is) keyword.Set (a ∷ b ∷ ns) g due e = absurd (grind (arith, nat_tests, due))
+command_says (Within s is) keyword.Await (f ∷ []) g due e = within_says g s is _ (entered_says s is (instruction.Await f) g _ refl e)
+command_says (Within s is) keyword.Await [] g due e = absurd cc
+command_says (Within s is) keyword.Await (a ∷ b ∷ ns) g due e = absurd (grind (arith, nat_tests, due))
+command_says (Within s is) keyword.Cluster ns g due e = absurd cc
 command_says (Whole s) k ns g due e = absurd cc
 
 -- ---- any line
@@ -211,3 +229,14 @@ pub behind_from : (g : ScriptFault) (f : Front) (rest : List ℕ) → IsLineFaul
 behind_from fault.Truncated f rest h = absurd (never_truncated f h.line h.says)
 behind_from fault.NoMemory f rest h = tt
 behind_from _ f rest h = h
+
+-- nor as if its sections differed
+never_uneven : (f : Front) (line : List ℕ) → Says fault.Uneven f line → ⊥
+never_uneven Nothing line h = h
+never_uneven (Headed s) line h = h
+never_uneven (Within s is) line h = h
+never_uneven (Whole s) line h = h
+
+pub fault_from : (bytes : List ℕ) (n : ℕ) (g : ScriptFault) → IsFaultAt bytes n g → IsFault bytes n g
+fault_from bytes n fault.Uneven h = absurd (never_uneven h.front h.behind.line h.behind.says)
+fault_from bytes n _ h = h

@@ -1,12 +1,11 @@
 -- What reading a line says of all scripts.
-use Rattle.std.proofs.Common.{◌≡◌, ◌≢◌, ℕ, zero, suc, ◌+◌, ◌<◌, ◌≤◌, List, [], ◌∷◌, ◌++◌, length, Result, Ok, Err, refl, sym, ap, subst, ◌∙◌, append_assoc, arith}
-use Rattle.std.specs.List.{flat_map}
+use Rattle.std.proofs.Common.{◌≡◌, ◌≢◌, ℕ, List, [], ◌∷◌, ◌++◌, Ok, Err, refl, sym, ap, subst, ◌∙◌, append_assoc}
 use Rattle.std.proofs.lemmas.List.{append-nil, append_cancel_left}
 use Rattle.lrc_script.specs.declared.fault.ScriptFault.{ScriptFault}
 use Rattle.lrc_script.specs.Plan.{Plan}
-use Rattle.lrc_script.specs.Lawful.{IsLawfulButUneven, IsLawful}
-use Rattle.lrc_script.specs.Text.{line_text, lines_of, text}
-use Rattle.lrc_script.specs.Front.{Front, Nothing, Headed, Within, Whole, IsBegun, lines_before, text_before}
+use Rattle.lrc_script.specs.Lawful.{IsLawfulButUneven}
+use Rattle.lrc_script.specs.Text.{text}
+use Rattle.lrc_script.specs.Front.{Front, Nothing, Whole, IsBegun, lines_before, text_before}
 use Rattle.lrc_script.specs.Faults.{BeginsText}
 use Rattle.lrc_script.specs.Reading.{◌>>=◌, parts_of, after}
 use Rattle.lrc_script.proofs.Words.{HasNo, parts_none}

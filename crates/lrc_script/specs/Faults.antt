@@ -1,5 +1,5 @@
 -- What each fault says of the bytes.
-use Rattle.std.specs.Prelude.{◌≡◌, ◌≢◌, ℕ, suc, ◌*◌, ◌^◌, ◌<◌, ◌≤◌, ◌⊎◌, true, false, List, [], ◌∷◌, ◌++◌, length, codes, Contains, IsSomeAnd, Any}
+use Rattle.std.specs.Prelude.{◌≡◌, ◌≢◌, ℕ, suc, ◌^◌, ◌<◌, ◌≤◌, ◌⊎◌, true, false, List, [], ◌∷◌, ◌++◌, length, take, slice_index_or, codes, Contains, IsSomeAnd, Any}
 use Rattle.std.specs.List.{flat_map, AllByRecursion}
 use Rattle.std.specs.Fmt.{decimal}
 use Rattle.lrc_script.specs.declared.fault.ScriptFault.{ScriptFault}
@@ -7,8 +7,8 @@ use Rattle.lrc_script.specs.declared.fault.ScriptFault.TheVariants.{Truncated, B
 use Rattle.lrc_script.specs.declared.script.Instruction.{Instruction}
 use Rattle.lrc_script.specs.declared.script.Instruction.TheVariants.{Acquire, Release}
 use Rattle.lrc_script.specs.Plan.{Plan}
-use Rattle.lrc_script.specs.Lawful.{addresses, address_of, lock_of, flag_of, holds, AreSizes, IsServed, IsLawfulButUneven}
-use Rattle.lrc_script.specs.Text.{Line, line_bytes, section_line, instruction_line, show_line, text}
+use Rattle.lrc_script.specs.Lawful.{addresses, address_of, lock_of, flag_of, holds, barriers, AreSizes, IsLawfulButUneven}
+use Rattle.lrc_script.specs.Text.{cluster_line, section_lines, line_bytes, section_line, instruction_line, show_line, text}
 use Rattle.lrc_script.specs.Front.{Front, Nothing, Headed, Within, Whole, IsBegun, lines_before, text_before}
 
 -- a word has a byte, and no space
@@ -27,9 +27,9 @@ abbrev pub Allows : Front → List ℕ → ℕ → Type 0
 Allows Nothing word n = (word ≡ codes "cluster") × ((n ≡ 4) ⊎ (n ≡ 5))
 Allows (Headed s) word n = (word ≡ codes "p") × (n ≡ 1)
 Allows (Within s is) word n =
-  ((word ≡ codes "p") × (n ≡ 1))
-  ⊎ ((word ≡ codes "show") × (1 ≤ n) × (suc (length s.sections) ≡ s.processors))
-  ⊎ ((i : Instruction) × IsServed i × (word ≡ (instruction_line i).word) × (n ≡ length (instruction_line i).numbers))
+    ((word ≡ codes "p") × (n ≡ 1))
+    ⊎ ((word ≡ codes "show") × (1 ≤ n) × (suc (length s.sections) ≡ s.processors))
+    ⊎ ((i : Instruction) × (word ≡ (instruction_line i).word) × (n ≡ length (instruction_line i).numbers))
 Allows (Whole s) word n = ⊥
 
 -- the section isn't the next one, or is past the last
@@ -41,9 +41,9 @@ IsOutOfTurn _ k = ⊥
 -- the numbers aren't sizes that a script may have; no flags are written with four numbers
 abbrev pub AreNoSizes : List ℕ → Type 0
 AreNoSizes (p ∷ n ∷ w ∷ l ∷ []) =
-  AreSizes (record { processors = p; pages = n; words = w; locks = l; flags = 0; sections = []; shown = [] }) → ⊥
+    AreSizes (record { processors = p; pages = n; words = w; locks = l; flags = 0; sections = []; shown = [] }) → ⊥
 AreNoSizes (p ∷ n ∷ w ∷ l ∷ g ∷ []) =
-  (g ≡ 0) ⊎ (AreSizes (record { processors = p; pages = n; words = w; locks = l; flags = g; sections = []; shown = [] }) → ⊥)
+    (g ≡ 0) ⊎ (AreSizes (record { processors = p; pages = n; words = w; locks = l; flags = g; sections = []; shown = [] }) → ⊥)
 AreNoSizes _ = ⊥
 
 -- the line is an instruction with this property
@@ -57,7 +57,7 @@ IsShow line P = (shown : List ℕ) × (line ≡ line_bytes (show_line shown)) ×
 -- what a fault says of a line behind these sizes, sections and instructions
 abbrev pub SaysWithin : ScriptFault → Plan → List Instruction → List ℕ → Type 0
 SaysWithin OutOfRange s is line =
-  IsInstruction line (λ i. IsSomeAnd (address_of i) (λ a. addresses s ≤ a)) ⊎ IsShow line (Any (λ a. addresses s ≤ a))
+    IsInstruction line (λ i. IsSomeAnd (address_of i) (λ a. addresses s ≤ a)) ⊎ IsShow line (Any (λ a. addresses s ≤ a))
 SaysWithin BadLock s is line = IsInstruction line (λ i. IsSomeAnd (lock_of i) (λ l. s.locks ≤ l))
 SaysWithin BadFlag s is line = IsInstruction line (λ i. IsSomeAnd (flag_of i) (λ f. s.flags ≤ f))
 SaysWithin AlreadyHeld s is line = IsInstruction line (λ i. (l : ℕ) × (i ≡ Acquire l) × (holds is l ≡ true))
@@ -68,11 +68,11 @@ SaysWithin _ s is line = ⊥
 -- what a fault says of a line behind these lines
 abbrev pub Says : ScriptFault → Front → List ℕ → Type 0
 Says BadLine f line =
-  ((word : List ℕ) (words : List (List ℕ)) → IsSplit line word words → Allows f word (length words) → ⊥)
-  ⊎ ((k : ℕ) × (line ≡ line_bytes (section_line k)) × IsOutOfTurn f k)
+    ((word : List ℕ) (words : List (List ℕ)) → IsSplit line word words → Allows f word (length words) → ⊥)
+    ⊎ ((k : ℕ) × (line ≡ line_bytes (section_line k)) × IsOutOfTurn f k)
 Says BadNumber f line =
-  (word : List ℕ) × (words : List (List ℕ)) × IsSplit line word words × Allows f word (length words)
-  × (w : List ℕ) × Contains words w × ((n : ℕ) → n < 2 ^ 32 → w ≢ decimal n)
+    (word : List ℕ) × (words : List (List ℕ)) × IsSplit line word words × Allows f word (length words)
+    × (w : List ℕ) × Contains words w × ((n : ℕ) → n < 2 ^ 32 → w ≢ decimal n)
 Says BadSize Nothing line = (ns : List ℕ) × (line ≡ line_bytes (record { word = codes "cluster"; numbers = ns })) × AreNoSizes ns
 Says fault (Within s is) line = SaysWithin fault s is line
 Says _ f line = ⊥
@@ -110,9 +110,28 @@ IsFaultBehind NoMemory f rest = Unit {0}
 IsFaultBehind fault f rest = IsLineFault fault f rest
 
 -- line n has the fault: the lines before it begin the text of a script, and the fault says what is wrong
-pub record IsFault (bytes : List ℕ) (n : ℕ) (fault : ScriptFault) : Type 0 where
+pub record IsFaultAt (bytes : List ℕ) (n : ℕ) (fault : ScriptFault) : Type 0 where
   pub front : Front
   pub rest : List ℕ
   pub at : IsAt bytes n front rest
   pub begins : BeginsText (text_before front)
   pub behind : IsFaultBehind fault front rest
+
+-- line n is the head of the first section with another number of barriers than section 0
+pub record IsUneven (s : Plan) (n : ℕ) : Type 0 where
+  pub section : ℕ
+  pub within : section < length s.sections
+  pub differs : barriers (slice_index_or s.sections section []) ≢ barriers (slice_index_or s.sections 0 [])
+  pub first : (k : ℕ) → k < section → barriers (slice_index_or s.sections k []) ≡ barriers (slice_index_or s.sections 0 [])
+  pub line : n ≡ suc (length (cluster_line s ∷ section_lines 0 (take section s.sections)))
+
+-- the bytes are the text of a script that is lawful but for evenness, and line n says where it is uneven
+pub record IsUnevenText (bytes : List ℕ) (n : ℕ) : Type 0 where
+  pub script : Plan
+  pub lawful : IsLawfulButUneven script
+  pub text_is : bytes ≡ text script
+  pub uneven : IsUneven script n
+
+abbrev pub IsFault : List ℕ → ℕ → ScriptFault → Type 0
+IsFault bytes n Uneven = IsUnevenText bytes n
+IsFault bytes n fault = IsFaultAt bytes n fault

@@ -1,5 +1,5 @@
 -- What reading a line does, as a function of its bytes.
-use Rattle.std.specs.Prelude.{◌≡◌, ℕ, ◌+◌, ◌^◌, ◌==◌, nat_lt, nat_le, Bool, true, false, not, ◌&&◌, ◌||◌, if◌then◌else◌, List, [], ◌∷◌, ◌++◌, length, slice_index, codes, Option, Some, None, is_some, unwrap_or, Result, Ok, Err}
+use Rattle.std.specs.Prelude.{◌≡◌, ℕ, ◌+◌, ◌^◌, ◌==◌, nat_lt, nat_le, Bool, false, not, ◌&&◌, ◌||◌, if◌then◌else◌, List, [], ◌∷◌, ◌++◌, length, slice_index, codes, Option, Some, None, is_some, unwrap_or, Result, Ok, Err}
 use Rattle.std.specs.Borrow.{Bor}
 use Rattle.std.specs.Char.{is_ascii_digit}
 use Rattle.std.specs.List.{slice_split, list_all, list_any}
@@ -46,17 +46,17 @@ has_bytes w = nat_lt 0 (length w)
 
 abbrev pub keyword_of : List ℕ → Option Keyword
 keyword_of w =
-  if bytes_eq w (codes "cluster") then Some keyword.Cluster else
-  if bytes_eq w (codes "p") then Some keyword.Section else
-  if bytes_eq w (codes "load") then Some keyword.Load else
-  if bytes_eq w (codes "store") then Some keyword.Store else
-  if bytes_eq w (codes "add") then Some keyword.Add else
-  if bytes_eq w (codes "acquire") then Some keyword.Acquire else
-  if bytes_eq w (codes "release") then Some keyword.Release else
-  if bytes_eq w (codes "barrier") then Some keyword.Barrier else
-  if bytes_eq w (codes "set") then Some keyword.Set else
-  if bytes_eq w (codes "await") then Some keyword.Await else
-  if bytes_eq w (codes "show") then Some keyword.Show else None
+    if bytes_eq w (codes "cluster") then Some keyword.Cluster else
+    if bytes_eq w (codes "p") then Some keyword.Section else
+    if bytes_eq w (codes "load") then Some keyword.Load else
+    if bytes_eq w (codes "store") then Some keyword.Store else
+    if bytes_eq w (codes "add") then Some keyword.Add else
+    if bytes_eq w (codes "acquire") then Some keyword.Acquire else
+    if bytes_eq w (codes "release") then Some keyword.Release else
+    if bytes_eq w (codes "barrier") then Some keyword.Barrier else
+    if bytes_eq w (codes "set") then Some keyword.Set else
+    if bytes_eq w (codes "await") then Some keyword.Await else
+    if bytes_eq w (codes "show") then Some keyword.Show else None
 
 -- digits, with no zero at the front of others
 abbrev pub is_decimal : List ℕ → Bool
@@ -78,13 +78,20 @@ abbrev pub ◌>>=◌ : {A B : Type 0} → Result A ScriptFault → (A → Result
 
 -- which sizes a script may have
 abbrev pub are_sizes : Plan → Bool
-are_sizes s = (s.processors == 1) && (s.pages == 1) && nat_le 1 s.words && nat_le s.words 64 && (s.locks == 0) && (s.flags == 0)
+are_sizes s =
+    nat_le 1 s.processors && nat_le s.processors 16 && nat_le 1 s.pages && nat_le s.pages 64 && nat_le 1 s.words && nat_le s.words 64
+    && nat_le s.locks 32 && nat_le s.flags 32
 
--- which instructions a script may have, and how many numbers each takes
+-- how many numbers the instruction of a keyword takes
 abbrev pub takes : Keyword → ℕ → Bool
 takes keyword.Load n = n == 1
 takes keyword.Store n = n == 2
 takes keyword.Add n = n == 2
+takes keyword.Acquire n = n == 1
+takes keyword.Release n = n == 1
+takes keyword.Barrier n = n == 0
+takes keyword.Set n = n == 1
+takes keyword.Await n = n == 1
 takes _ n = false
 
 -- which keywords are allowed at this point, with so many numbers
@@ -104,9 +111,9 @@ sized are s = if are then Ok (Headed s) else Err BadSize
 -- the numbers of a cluster line
 abbrev pub headed : List ℕ → Result Front ScriptFault
 headed (p ∷ n ∷ w ∷ l ∷ []) =
-  let s : Plan = record { processors = p; pages = n; words = w; locks = l; flags = 0; sections = []; shown = [] } in sized (are_sizes s) s
+    let s : Plan = record { processors = p; pages = n; words = w; locks = l; flags = 0; sections = []; shown = [] } in sized (are_sizes s) s
 headed (p ∷ n ∷ w ∷ l ∷ g ∷ []) =
-  let s : Plan = record { processors = p; pages = n; words = w; locks = l; flags = g; sections = []; shown = [] } in sized (nat_lt 0 g && are_sizes s) s
+    let s : Plan = record { processors = p; pages = n; words = w; locks = l; flags = g; sections = []; shown = [] } in sized (nat_lt 0 g && are_sizes s) s
 headed _ = Err BadLine
 
 -- the section is whole
@@ -126,8 +133,8 @@ next_section s is _ = Err BadLine
 -- the numbers of the show line
 abbrev pub ended : Plan → List Instruction → List ℕ → Result Front ScriptFault
 ended s is ns =
-  if list_any (λ a. nat_le (addresses s) a) ns then Err OutOfRange else
-  if nat_lt 64 (length ns) then Err TooLong else Ok (Whole (record (closed s is) { shown = ns }))
+    if list_any (λ a. nat_le (addresses s) a) ns then Err OutOfRange else
+    if nat_lt 64 (length ns) then Err TooLong else Ok (Whole (record (closed s is) { shown = ns }))
 
 -- the instruction of a keyword with these numbers
 abbrev pub instruction_of : Keyword → List ℕ → Option Instruction
@@ -156,12 +163,12 @@ is_past (Some place) count = nat_le count place
 -- why an instruction can't stand after these, by the order of the tests
 abbrev pub refusal : Plan → List Instruction → Instruction → Option ScriptFault
 refusal s is i =
-  if is_past (address_of i) (addresses s) then Some OutOfRange else
-  if is_past (lock_of i) s.locks then Some BadLock else
-  if is_past (flag_of i) s.flags then Some BadFlag else
-  if takes_held is i then Some AlreadyHeld else
-  if gives_unheld is i then Some NotHeld else
-  if nat_le 10000 (length is) then Some TooLong else None
+    if is_past (address_of i) (addresses s) then Some OutOfRange else
+    if is_past (lock_of i) s.locks then Some BadLock else
+    if is_past (flag_of i) s.flags then Some BadFlag else
+    if takes_held is i then Some AlreadyHeld else
+    if gives_unheld is i then Some NotHeld else
+    if nat_le 10000 (length is) then Some TooLong else None
 
 abbrev pub entered : Plan → List Instruction → Instruction → Option ScriptFault → Result Front ScriptFault
 entered s is i None = Ok (Within s (is ++ i ∷ []))

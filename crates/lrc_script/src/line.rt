@@ -77,7 +77,8 @@ pub fn split_line(bytes: &[u8]) -> Option<(&[u8], &[u8])>
 pub fn is_separated(line: &[u8]) -> bool
     ensures { result ≡ list_all has_bytes (parts_of 32 line.now) }
 {
-    line.split(|byte| *byte == b' ').all(|word| !word.is_empty())
+    line.split(|byte| *byte == b' ')
+        .all(|word| !word.is_empty())
 }
 
 /// How many words these are.

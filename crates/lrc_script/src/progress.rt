@@ -30,21 +30,25 @@ fn takes(keyword: Keyword, numbers: usize) -> bool
     ensures { result ≡ takes keyword numbers }
 {
     match keyword {
-        Keyword::Load => numbers == 1,
         Keyword::Store | Keyword::Add => numbers == 2,
-        _ => false,
+        Keyword::Load | Keyword::Acquire | Keyword::Release | Keyword::Set | Keyword::Await =>
+            numbers == 1,
+        Keyword::Barrier => numbers == 0,
+        Keyword::Cluster | Keyword::Section | Keyword::Show => false,
     }
 }
 
 fn are_sizes(script: &Script) -> bool
     ensures { result ≡ are_sizes (plan_of script.now) }
 {
-    script.processors == 1
-        && script.pages == 1
-        && script.words >= 1
+    1 <= script.processors
+        && script.processors <= 16
+        && 1 <= script.pages
+        && script.pages <= 64
+        && 1 <= script.words
         && script.words <= 64
-        && script.locks == 0
-        && script.flags == 0
+        && script.locks <= 32
+        && script.flags <= 32
 }
 
 fn instruction(keyword: Keyword, numbers: &[u32]) -> Option<Instruction>
@@ -175,7 +179,11 @@ fn show(
     Ok(Progress::Whole(script))
 }
 
-fn add(script: Script, mut section: Section, instruction: Instruction) -> Result<Progress, ScriptFault>
+fn add(
+    script: Script,
+    mut section: Section,
+    instruction: Instruction,
+) -> Result<Progress, ScriptFault>
     requires fits { addresses (plan_of script) ≤ 4096 }
     requires locks { script.locks ≤ 32 }
     ensures { Gives front_of result (with_instruction (plan_of script) section.instructions.items (Some instruction)) }
@@ -207,12 +215,7 @@ impl Progress {
 
     /// What a line of this keyword and these numbers makes of it.
     #[tactic(auto, unfolding(crate::specs::Reading::step))]
-    fn step(
-        self,
-        alloc: Global,
-        keyword: Keyword,
-        numbers: &[u32],
-    ) -> Result<Progress, ScriptFault>
+    fn step(self, alloc: Global, keyword: Keyword, numbers: &[u32]) -> Result<Progress, ScriptFault>
         requires { IsBegun (front_of self) }
         ensures { Gives front_of result (step (front_of self) keyword numbers.now) }
     {

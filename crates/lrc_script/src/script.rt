@@ -7,6 +7,7 @@ ghost use Rattle.lrc_script.specs.Lawful.{IsLawful};
 ghost use Rattle.lrc_script.specs.Text.{text};
 ghost use Rattle.lrc_script.specs.Faults.{IsFault};
 
+use crate::evenness::uneven_line;
 use crate::fault::ScriptFault;
 use crate::line::split_line;
 use crate::progress::Progress;
@@ -94,9 +95,12 @@ pub struct Script {
 pub fn parse(alloc: Global, bytes: &[u8]) -> Result<Script, (usize, ScriptFault)>
     // What is read is a lawful script, and the bytes are its text.
     ensures found { IfOk result (λ s. IsLawful (plan_of s) × (bytes.now ≡ text (plan_of s))) }
+    // It is the one script with this text.
+    ensures again { IfOk result (λ t. (s : Plan) → IsLawful s → bytes.now ≡ text s → plan_of t ≡ s) }
     // Nothing lawful is refused, unless memory runs out.
     ensures only { IfErr result (λ e. e.1 ≢ NoMemory → (s : Plan) → IsLawful s → bytes.now ≢ text s) }
-    // The lines before the fault begin a script's text, that line doesn't, and the fault says why.
+    // The lines before the fault begin a script's text, that line doesn't, and the fault says why. Uneven
+    // names the first section that differs from section 0.
     ensures fault { IfErr result (λ e. IsFault bytes.now e.0 e.1) }
 {
     let mut progress = Progress::Start;
@@ -110,8 +114,11 @@ pub fn parse(alloc: Global, bytes: &[u8]) -> Result<Script, (usize, ScriptFault)
         rest = after;
         number += 1;
     }
-    match progress.whole(rest) {
-        Some(script) => Ok(script),
-        None => Err((number, ScriptFault::Truncated)),
+    let Some(script) = progress.whole(rest) else {
+        return Err((number, ScriptFault::Truncated));
+    };
+    match uneven_line(&script) {
+        Some(line) => Err((line, ScriptFault::Uneven)),
+        None => Ok(script),
     }
 }

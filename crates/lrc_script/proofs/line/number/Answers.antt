@@ -1,4 +1,4 @@
-use Rattle.std.proofs.Common.{◌≡◌, ◌∙◌, true, rules, sym}
+use Rattle.std.proofs.Common.{◌≡◌, ◌∙◌, true}
 use Rattle.lrc_script.specs.Reading.{is_decimal}
 use Rattle.lrc_script.proofs.Numbers.{parsed_is, decimal_is_text}
 use Rattle.lrc_script.proofs.line.number.Goals as goal

@@ -1,6 +1,3 @@
-use Rattle.std.proofs.Common.{◌≡◌, ◌∷◌, ◌∙◌, ap, [], List, ℕ}
-use Rattle.std.specs.Prelude.{Option}
-use Rattle.lrc_script.specs.Reading.{parts_left}
 use Rattle.lrc_script.proofs.Positions.{cut_from_parts, uncut_from_parts}
 use Rattle.lrc_script.proofs.line.split_line.Goals as goal
 

@@ -1,4 +1,4 @@
-use Rattle.std.proofs.Common.{◌≡◌, sym, ap, refl, arith, rules}
+use Rattle.std.proofs.Common.{◌≡◌, sym, ap, arith, rules}
 use Rattle.std.specs.Prelude.{codes}
 use Rattle.std.proofs.lemmas.Slice.Eq.{text_from_reads}
 use Rattle.lrc_script.specs.Reading.{keyword_of}

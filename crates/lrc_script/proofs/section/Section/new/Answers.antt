@@ -1,4 +1,4 @@
-use Rattle.std.proofs.Common.{◌≡◌, ◌∙◌, false, sym, ap}
+use Rattle.std.proofs.Common.{◌∙◌, false, sym, ap}
 use Rattle.std.proofs.lemmas.List.{get_or-replicate}
 use Rattle.lrc_script.specs.Lawful.{holds}
 use Rattle.lrc_script.proofs.section.Section.new.Goals as goal
