@@ -11,8 +11,9 @@ use Rattle.journal.specs.Events.{part}
 use Rattle.lrc_script.specs.declared.script.Instruction.{Instruction}
 use Rattle.lrc_script.specs.declared.script.Instruction.TheVariants.{Load, Store, Add, Acquire, Release, Barrier, Set, Await}
 use Rattle.lrc_script.specs.Plan.{Plan}
-use Rattle.lrc_script.specs.Lawful.{IsLawful, IsSection, IsServed, IsInRange}
+use Rattle.lrc_script.specs.Lawful.{IsLawful, IsSection, IsInRange}
 use Rattle.lrc.specs.Machine.{Machine, history, by_first, Calls, sizes_of_one}
+use Rattle.lrc.specs.Served.{IsServed}
 use Rattle.lrc.specs.History.{IsHistory}
 use Rattle.lrc.specs.Follows.{sizes_of, is_fetch, calls_of, load_of, AreEventsOf, AreEventsOfAll, FollowsSection, Follows, IsWithin}
 use Rattle.journal.specs.Traffic.{messages, records, words}
@@ -76,24 +77,23 @@ run_history start first second last own loads none one two three =
     all.more ∙ ap (λ h. h ++ map by_first ((own ++ event.Arrive ∷ event.Depart ∷ []) ++ map load_of loads)) none ∙ ap (map by_first) (append_assoc own (event.Arrive ∷ event.Depart ∷ []) (map load_of loads))
 
 -- a lawful script has one section
-pub only_section : (s : Plan) (p : ℕ) (section : List Instruction) → IsLawful s → slice_get s.sections p ≡ Some section → p ≡ 0
-only_section s p section lawful at =
+pub only_section : (s : Plan) (p : ℕ) (section : List Instruction) → IsLawful s → IsServed s → slice_get s.sections p ≡ Some section → p ≡ 0
+only_section s p section lawful served at =
     let within = slice_get_within s.sections p section at in
     let one = lawful.but_uneven.one_each in
-    let alone = lawful.but_uneven.sizes.processors in
+    let alone = served.processors in
     omega arith
 
 -- its sizes are those of one processor
-pub sizes_one : (s : Plan) → IsLawful s → sizes_of s ≡ sizes_of_one (s.pages * s.words)
-sizes_one s lawful =
-    let z = lawful.but_uneven.sizes in
+pub sizes_one : (s : Plan) → IsServed s → sizes_of s ≡ sizes_of_one (s.pages * s.words)
+sizes_one s served =
     let e : s.words ≡ 1 * s.words = omega arith in
-    rw (z.processors, z.pages, z.locks, z.flags) (ap sizes_of_one e)
+    rw (served.processors, served.pages, served.locks, served.flags) (ap sizes_of_one e)
 
 -- a run follows the script
-pub run_follows : (s : Plan) (own : List Kind) (loads : List (ℕ × ℕ)) (section : List Instruction) → IsLawful s → slice_get s.sections 0 ≡ Some section → AreEventsOfAll section own → map (λ (x : ℕ × ℕ). x.0) loads ≡ s.shown → Follows s (map by_first (all_calls own loads))
-run_follows s own loads section lawful at are shown p other at_p =
-    let p_is = only_section s p other lawful at_p in
+pub run_follows : (s : Plan) (own : List Kind) (loads : List (ℕ × ℕ)) (section : List Instruction) → IsLawful s → IsServed s → slice_get s.sections 0 ≡ Some section → AreEventsOfAll section own → map (λ (x : ℕ × ℕ). x.0) loads ≡ s.shown → Follows s (map by_first (all_calls own loads))
+run_follows s own loads section lawful served at are shown p other at_p =
+    let p_is = only_section s p other lawful served at_p in
     let same : section ≡ other = same_Some section other (sym at ∙ ap (λ q. slice_get s.sections q) (sym p_is) ∙ at_p) in
     let P : ℕ → Type 0 = λ q. FollowsSection other (cond (q == 0) s.shown []) (calls_of (map by_first (all_calls own loads)) q) in
     let base : P 0 = record {
@@ -106,19 +106,23 @@ run_follows s own loads section lawful at are shown p other at_p =
     subst P (sym p_is) base
 
 -- the section of processor 0
-pub first_section : (s : Plan) (section : List Instruction) → IsLawful s → section ≡ get_or s.sections 0 section → (slice_get s.sections 0 ≡ Some section) × IsSection s section
-first_section s section lawful is =
+pub first_section : (s : Plan) (section : List Instruction) → IsLawful s → IsServed s → section ≡ get_or s.sections 0 section → (slice_get s.sections 0 ≡ Some section) × IsSection s section
+first_section s section lawful served is =
     let one = lawful.but_uneven.one_each in
-    let alone = lawful.but_uneven.sizes.processors in
+    let alone = served.processors in
     let inside : 0 < length s.sections = omega arith in
     (slice_get_read s.sections (length s.sections) 0 section refl inside is, rw is (lawful.but_uneven.sections 0 section inside))
 
 -- what is in range is within the words
-pub within : (s : Plan) (i : Instruction) → IsInRange s i → IsWithin (s.pages * s.words) i
-within s (Load a) h = h
-within s (Store a v) h = h.0
-within s (Add a v) h = h.0
-within s _ h = tt
+pub within : (s : Plan) (i : Instruction) → IsServed s → IsInRange s i → IsWithin (s.pages * s.words) i
+within s (Load a) served h = h
+within s (Store a v) served h = h.0
+within s (Add a v) served h = h.0
+within s (Acquire l) served h = let none = served.locks in absurd (omega arith)
+within s (Release l) served h = let none = served.locks in absurd (omega arith)
+within s Barrier served h = tt
+within s (Set f) served h = let none = served.flags in absurd (omega arith)
+within s (Await f) served h = let none = served.flags in absurd (omega arith)
 
 -- each event of such a history is processor 0's
 alone : (addresses : ℕ) (h : List Event) → IsHistory addresses h → IsAlone 0 h
@@ -127,11 +131,11 @@ alone addresses h history k e at =
     omega arith
 
 -- the report of a run
-pub report_is : (s : Plan) (section : List Instruction) (own : List Kind) (r : Report) → IsLawful s → slice_get s.sections 0 ≡ Some section → AreEventsOfAll section own → r.journal.events ≡ map by_first (all_calls own r.shown.items) → IsHistory (s.pages * s.words) r.journal.events → r.racy ≡ false → map (λ (x : ℕ × ℕ). x.0) r.shown.items ≡ s.shown → (r.traffic.messages ≡ messages r.journal.events) × (r.traffic.records ≡ records r.journal.events) × (r.traffic.words ≡ words r.journal.events) → IsReportOf s r
-report_is s section own r lawful at are events history quiet shown traffic = record {
-  well_formed = rw (sizes_one s lawful) history.well_formed;
+pub report_is : (s : Plan) (section : List Instruction) (own : List Kind) (r : Report) → IsLawful s → IsServed s → slice_get s.sections 0 ≡ Some section → AreEventsOfAll section own → r.journal.events ≡ map by_first (all_calls own r.shown.items) → IsHistory (s.pages * s.words) r.journal.events → r.racy ≡ false → map (λ (x : ℕ × ℕ). x.0) r.shown.items ≡ s.shown → (r.traffic.messages ≡ messages r.journal.events) × (r.traffic.records ≡ records r.journal.events) × (r.traffic.words ≡ words r.journal.events) → IsReportOf s r
+report_is s section own r lawful served at are events history quiet shown traffic = record {
+  well_formed = rw (sizes_one s served) history.well_formed;
   explained = explained_alone (s.pages * s.words) r.journal.events 0 (alone (s.pages * s.words) r.journal.events history) history.replays;
-  follows = rw events (run_follows s own r.shown.items section lawful at are shown);
+  follows = rw events (run_follows s own r.shown.items section lawful served at are shown);
   not_racy = quiet;
   race_free = race_free_alone r.journal.events 0 (alone (s.pages * s.words) r.journal.events history);
   addresses = shown;

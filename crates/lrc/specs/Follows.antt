@@ -62,9 +62,10 @@ DoesInstruction old new i = (kinds : List Kind) × Calls old new kinds × AreEve
 abbrev pub DoesAll : Machine → Machine → List Instruction → Type 0
 DoesAll old new is = (kinds : List Kind) × Calls old new kinds × AreEventsOfAll is kinds
 
--- an instruction of one processor names an address below this number
+-- an instruction of one processor alone names an address below this number, and no lock or flag
 abbrev pub IsWithin : ℕ → Instruction → Type 0
 IsWithin n (Load a) = a < n
 IsWithin n (Store a v) = a < n
 IsWithin n (Add a v) = a < n
-IsWithin n _ = Unit {0}
+IsWithin n Barrier = Unit {0}
+IsWithin n _ = ⊥

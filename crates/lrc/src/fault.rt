@@ -18,6 +18,9 @@ pub enum ProgramFault {
     /// The script has a fault, in this line.
     #[error("line {0}: {1}")]
     Script(usize, ScriptFault),
+    /// The script's cluster isn't served yet.
+    #[error("cluster not served yet")]
+    Unserved,
     /// A processor went no further.
     #[error("{0}")]
     Run(RunFault),
@@ -35,7 +38,10 @@ impl ProgramFault {
         match self {
             ProgramFault::Unreadable => 5,
             ProgramFault::Script(..) => 2,
-            ProgramFault::Run(_) | ProgramFault::Output | ProgramFault::NoMemory => 4,
+            ProgramFault::Unserved
+            | ProgramFault::Run(_)
+            | ProgramFault::Output
+            | ProgramFault::NoMemory => 4,
         }
     }
 }
@@ -68,6 +74,7 @@ impl From<(usize, ScriptFault)> for ProgramFault {
 impl From<RunFault> for ProgramFault {
     fn from(fault: RunFault) -> ProgramFault {
         match fault.cause {
+            Cause::Unserved => ProgramFault::Unserved,
             Cause::Refused(Refused::NoMemory) => ProgramFault::NoMemory,
             _ => ProgramFault::Run(fault),
         }

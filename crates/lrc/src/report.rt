@@ -22,6 +22,9 @@ pub enum Cause {
     /// The gate answered Stopped.
     #[error("stopped at the gate")]
     Gate,
+    /// The script's cluster isn't served yet.
+    #[error("cluster not served yet")]
+    Unserved,
     /// A call was refused.
     #[error("{0}")]
     Refused(Refused),

@@ -1,9 +1,10 @@
 //! Runs a script.
 
-ghost use Rattle.std.specs.Prelude.{◌≡◌, ◌<◌, ◌∷◌, [], IfOk, OnOk, All, map};
+ghost use Rattle.std.specs.Prelude.{◌≡◌, ◌<◌, ◌∷◌, [], IfOk, IsTrue, ◌↔◌, OnOk, All, map};
 ghost use Rattle.journal.specs.declared.event.Kind.TheVariants as event;
-ghost use Rattle.lrc_script.specs.Lawful.{IsServed, IsLawful};
+ghost use Rattle.lrc_script.specs.Lawful.{IsLawful};
 ghost use Rattle.lrc_script.specs.Plan.{plan_of};
+ghost use Rattle.lrc.specs.Served.{IsServed};
 ghost use Rattle.lrc.specs.Runs.{IsReportOf};
 ghost use Rattle.lrc.specs.Machine.{Calls};
 ghost use Rattle.lrc.specs.Follows.{DoesInstruction, DoesAll, IsWithin, load_of};
@@ -44,8 +45,7 @@ fn store(memory: &mut OneProcessor, address: usize, value: u32) -> Result<(), Re
 
 /// Does one instruction.
 fn do_instruction(memory: &mut OneProcessor, instruction: Instruction) -> Result<(), Refused>
-    requires served { IsServed instruction }
-    requires in_range { IsWithin memory.old.addresses instruction }
+    requires { IsWithin memory.old.addresses instruction }
     ensures { OnOk result (DoesInstruction memory.old memory.new instruction) }
 {
     match instruction {
@@ -60,7 +60,8 @@ fn do_instruction(memory: &mut OneProcessor, instruction: Instruction) -> Result
             store(memory, address, sum)?;
             Ok(())
         }
-        _ => unreachable!("a script of one processor has no such instruction"),
+        Instruction::Barrier => memory.pass_barrier(),
+        _ => unreachable!("there are no locks and no flags"),
     }
 }
 
@@ -70,8 +71,7 @@ fn do_section<G: Gate>(
     gate: &G,
     section: &[Instruction],
 ) -> Result<(), Cause>
-    requires served { All IsServed section.now }
-    requires in_range { All (IsWithin memory.old.addresses) section.now }
+    requires { All (IsWithin memory.old.addresses) section.now }
     ensures { OnOk result (DoesAll memory.old memory.new section.now) }
 {
     for (index, instruction) in section.iter().enumerate() {
@@ -99,9 +99,17 @@ fn show(
     Ok(words)
 }
 
+/// Whether the stand-in serves the script's cluster.
+fn is_served(script: &Script) -> bool
+    ensures { IsTrue result ↔ IsServed (plan_of script.now) }
+{
+    script.processors == 1 && script.pages == 1 && script.locks == 0 && script.flags == 0
+}
+
 /// Runs the script of one processor.
 fn run_alone<G: Gate>(alloc: Global, script: &Script, gate: &G) -> Result<Report, Cause>
-    requires { IsLawful (plan_of script.now) }
+    requires lawful { IsLawful (plan_of script.now) }
+    requires served { IsServed (plan_of script.now) }
     ensures { IfOk result (IsReportOf (plan_of script.now)) }
 {
     let mut memory = OneProcessor::new(alloc, script.pages * script.words)?;
@@ -123,11 +131,19 @@ fn run_alone<G: Gate>(alloc: Global, script: &Script, gate: &G) -> Result<Report
 ///
 /// # Errors
 ///
-/// The fault of processor 0, where the gate stops it or a call is refused.
+/// The fault of processor 0: Unserved where the cluster has more than one processor and one page, or locks
+/// or flags; else where the gate stops it or a call is refused.
 pub fn run<G: Gate>(alloc: Global, script: &Script, gate: &G) -> Result<Report, RunFault>
     requires { IsLawful (plan_of script.now) }
-    ensures { IfOk result (IsReportOf (plan_of script.now)) }
+    ensures report { IfOk result (IsReportOf (plan_of script.now)) }
+    ensures unserved { ¬ IsServed (plan_of script.now) → result ≡ Err (record { processor = 0; cause = Cause.Unserved }) }
 {
+    if !is_served(script) {
+        return Err(RunFault {
+            processor: 0,
+            cause: Cause::Unserved,
+        });
+    }
     run_alone(alloc, script, gate).map_err(|cause| RunFault {
         processor: 0,
         cause,

@@ -66,7 +66,7 @@ fn many_adds(rt: HostRuntime) -> Result<(), Fail> {
 
 #[test]
 fn refused_scripts(rt: HostRuntime) {
-    let rows: [(&[u8], &[u8]); 10] = [
+    let rows: [(&[u8], &[u8]); 11] = [
         (b"", b"lrc: line 1: file ends too early\n"),
         (
             b"cluster 1 1 1 0\np 0\nshow 0",
@@ -76,7 +76,8 @@ fn refused_scripts(rt: HostRuntime) {
             b"cluster 1 1 1 0\np 0\n",
             b"lrc: line 3: file ends too early\n",
         ),
-        (b"cluster 9 1 1 0\n", b"lrc: line 1: size out of range\n"),
+        (b"cluster 17 1 1 0\n", b"lrc: line 1: size out of range\n"),
+        (b"cluster 9 1 1 0\n", b"lrc: line 2: file ends too early\n"),
         (
             b"cluster 1 1 1 0\np 1\n",
             b"lrc: line 2: line not understood\n",
@@ -97,10 +98,42 @@ fn refused_scripts(rt: HostRuntime) {
             b"cluster 1 1 1 0\np 0\nshow 0\nshow 0\n",
             b"lrc: line 4: line not understood\n",
         ),
-        (b"cluster 1 1 1 1\n", b"lrc: line 1: size out of range\n"),
+        (
+            b"cluster 1 1 1 0\np 0\nacquire 0\nshow 0\n",
+            b"lrc: line 3: no such lock\n",
+        ),
     ];
     for (script, said) in rows {
         check(&rt, rt.alloc(), script, 2, b"", said);
+    }
+}
+
+/// A barrier of one processor costs an arrival and a departure.
+#[test]
+fn barrier_alone(rt: HostRuntime) {
+    let script = b"cluster 1 1 1 0\np 0\nstore 0 1\nbarrier\nadd 0 1\nshow 0\n";
+    let out = b"word 0 2\nverdict race-free\ntraffic 4 0 0\n";
+    check(&rt, rt.alloc(), script, 0, out, b"");
+}
+
+/// Clusters of more than one processor and one page, or with locks or flags, aren't served yet.
+#[test]
+fn not_served(rt: HostRuntime) {
+    let scripts: [&[u8]; 4] = [
+        b"cluster 2 1 2 0\np 0\nstore 0 5\nbarrier\np 1\nbarrier\nload 0\nshow 0\n",
+        b"cluster 1 2 1 0\np 0\nshow 0\n",
+        b"cluster 1 1 1 1\np 0\nacquire 0\nshow 0\n",
+        b"cluster 1 1 1 0 1\np 0\nset 0\nshow 0\n",
+    ];
+    for script in scripts {
+        check(
+            &rt,
+            rt.alloc(),
+            script,
+            4,
+            b"",
+            b"lrc: cluster not served yet\n",
+        );
     }
 }
 
