@@ -146,7 +146,7 @@ impl Journal {
         ensures { IfOk result (λ o. MatchOption o (RaceFree self.now.events) (λ r. IsFirstRace self.now.events r.0 r.1)) }
     {
         let events = &self.events;
-        first_race_of(*events.allocator(), self.addresses, events)
+        first_race_of(*events.allocator(), self.processors, self.addresses, events)
     }
 
     /// What the events cost. It takes no memory.
