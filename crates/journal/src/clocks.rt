@@ -155,9 +155,9 @@ impl Clocks {
         }
     }
 
-    /// Lets go of the first episode that is kept, where every processor has departed from it.
-    fn let_go(&mut self, processor: usize)
-        requires present { processor < self.old.present }
+    /// Lets go of the first episode that is kept, where the event is the last departure from it.
+    fn let_go(&mut self, event: Event)
+        requires present { event.processor < self.old.present }
         requires few { self.old.present ≤ 16 }
         ensures processors { self.new.processors ≡ self.old.processors }
         ensures locks { self.new.locks ≡ self.old.locks }
@@ -170,7 +170,8 @@ impl Clocks {
     {
         let gone = self.gone;
         let departures = &self.departures[..self.present];
-        if departures.iter().all(|d| *d as usize > gone) {
+        let departs = matches!(event.kind, Kind::Depart);
+        if departs && departures.iter().all(|d| *d as usize > gone) {
             let _ = self.episodes.pop_front();
             self.gone += 1;
         }
@@ -193,7 +194,7 @@ impl Clocks {
         self.keep(event, &own)?;
         self.processors[event.processor] = own;
         self.count(event);
-        self.let_go(event.processor);
+        self.let_go(event);
         Ok(())
     }
 }
