@@ -1,9 +1,11 @@
 //! Vector timestamps of sixteen processors, for the race checker.
 
 ghost use Rattle.std.specs.Prelude.{◌≡◌, ◌⊎◌, ℕ, ◌+◌, ◌<◌, ◌≤◌, ◌^◌, ◌≢◌, ◌↔◌, ◌==◌, IsTrue, IfOk, OnOk, cond, max, length, slice_index, slice_index_or, vec_len};
+ghost use Rattle.std.specs.VecDeque.{deque_len};
 ghost use Rattle.journal.specs.Entries.{entry, IsJoinedAt};
 
 use std::alloc::AllocError;
+use std::collections::VecDeque;
 
 /// A vector timestamp: of each processor, how many of its closing events are counted.
 pub(crate) type Clock = [u32; 16];
@@ -83,6 +85,43 @@ pub(crate) fn join_at(
     ensures { OnOk result (IsJoinedAt clocks.old.items clocks.new.items place (slice_index clock.now)) }
 {
     grow_to(clocks, place)?;
+    let mut kept = clocks[place];
+    join(&mut kept, clock);
+    clocks[place] = kept;
+    Ok(())
+}
+
+/// The timestamp at this place of the queue, zeros past its end.
+pub(crate) fn clock_in(clocks: &VecDeque<Clock>, place: usize) -> Clock
+    ensures { (q : ℕ) → slice_index result q ≡ entry clocks.now.items place q }
+{
+    if place < clocks.len() {
+        clocks[place]
+    } else {
+        [0; 16]
+    }
+}
+
+/// Makes the queue long enough for this place, with zeros.
+fn grow_in(clocks: &mut VecDeque<Clock>, place: usize) -> Result<(), AllocError>
+    ensures within { OnOk result (place < deque_len clocks.new) }
+    ensures same { OnOk result ((n q : ℕ) → entry clocks.new.items n q ≡ entry clocks.old.items n q) }
+{
+    while clocks.len() <= place {
+        clocks.push_back([0; 16])?;
+    }
+    Ok(())
+}
+
+/// Joins the timestamp into that at this place of the queue, which grows as far as it has to.
+pub(crate) fn join_in(
+    clocks: &mut VecDeque<Clock>,
+    place: usize,
+    clock: &Clock,
+) -> Result<(), AllocError>
+    ensures { OnOk result (IsJoinedAt clocks.old.items clocks.new.items place (slice_index clock.now)) }
+{
+    grow_in(clocks, place)?;
     let mut kept = clocks[place];
     join(&mut kept, clock);
     clocks[place] = kept;

@@ -1,14 +1,15 @@
 //! The timestamps that a journal's events give, an event at a time.
 
-ghost use Rattle.std.specs.Prelude.{◌≡◌, ℕ, ◌+◌, ◌<◌, ◌≤◌, ◌^◌, ◌==◌, ◌&&◌, [], IsTrue, IfOk, OnOk, cond, max, length, take, slice_get, slice_index, vec_len, false};
+ghost use Rattle.std.specs.Prelude.{◌≡◌, ℕ, ◌+◌, ◌-◌, ◌<◌, ◌≤◌, ◌^◌, ◌==◌, ◌&&◌, [], IsTrue, IfOk, OnOk, cond, max, length, take, slice_get, slice_index, vec_len, false};
 ghost use Rattle.journal.specs.Events.{is_closing, is_taking, is_arrive, is_depart};
 ghost use Rattle.journal.specs.InRange.{ProcessorsInRange};
 ghost use Rattle.journal.specs.Entries.{entry};
 ghost use Rattle.journal.specs.Clocks.{brought_entry, Keeps, AreClocks};
 
-use crate::clock::{Clock, clock_at, join, join_at, tick};
+use crate::clock::{Clock, clock_at, clock_in, join, join_at, join_in, tick};
 use crate::event::{Event, Kind};
 use std::alloc::{AllocError, Global};
+use std::collections::VecDeque;
 
 /// The timestamps after a journal's front: of each processor, and what each lock, each flag and each
 /// episode of the barrier keeps. The journal need not be one that a cluster can make.
@@ -17,9 +18,13 @@ pub(crate) struct Clocks {
     processors: Vec<Clock>,
     locks: Vec<Clock>,
     flags: Vec<Clock>,
-    episodes: Vec<Clock>,
+    episodes: VecDeque<Clock>,
     arrivals: [u32; 16],
     departures: [u32; 16],
+    /// The number of processors.
+    present: usize,
+    /// How many episodes every processor has departed from: `episodes` begins with the next one.
+    gone: usize,
 }
 
 /// Whether an event of this kind closes its processor's interval.
@@ -44,17 +49,21 @@ fn is_plain(kind: Kind) -> bool
 }
 
 impl Clocks {
-    /// The timestamps before the first event. The only error is want of memory.
-    pub(crate) fn new(alloc: Global) -> Result<Clocks, AllocError>
-        ensures { IfOk result (λ c. AreClocks [] c) }
+    /// The timestamps of this many processors before the first event. The only error is want of memory.
+    pub(crate) fn new(alloc: Global, processors: usize) -> Result<Clocks, AllocError>
+        requires { processors ≤ 16 }
+        ensures clocks { IfOk result (λ c. AreClocks [] c) }
+        ensures present { IfOk result (λ c. c.present ≡ processors) }
     {
         Ok(Clocks {
             processors: vec![in alloc; [0; 16]; 16]?,
             locks: Vec::new(alloc),
             flags: Vec::new(alloc),
-            episodes: Vec::new(alloc),
+            episodes: VecDeque::new(alloc),
             arrivals: [0; 16],
             departures: [0; 16],
+            present: processors,
+            gone: 0,
         })
     }
 
@@ -68,13 +77,17 @@ impl Clocks {
 
     /// What the event brings its processor.
     fn brought(&self, event: Event) -> Clock
-        requires { event.processor < 16 }
+        requires processor { event.processor < 16 }
+        requires left { self.now.gone ≤ slice_index self.now.departures event.processor }
         ensures { (q : ℕ) → slice_index result q ≡ brought_entry self.now event.processor event.kind q }
     {
         match event.kind {
             Kind::Acquire(lock) => clock_at(&self.locks, lock),
             Kind::Await(flag) => clock_at(&self.flags, flag),
-            Kind::Depart => clock_at(&self.episodes, self.departures[event.processor] as usize),
+            Kind::Depart => {
+                let episode = self.departures[event.processor] as usize;
+                clock_in(&self.episodes, episode - self.gone)
+            }
             _ => [0; 16],
         }
     }
@@ -83,6 +96,7 @@ impl Clocks {
     fn own_after(&self, event: Event) -> Clock
         requires processor { event.processor < 16 }
         requires long { vec_len self.now.processors ≡ 16 }
+        requires left { self.now.gone ≤ slice_index self.now.departures event.processor }
         requires room { max (entry self.now.processors.items event.processor event.processor) (brought_entry self.now event.processor event.kind event.processor) < 2 ^ 22 }
         ensures { (q : ℕ) → slice_index result q ≡ max (entry self.now.processors.items event.processor q) (brought_entry self.now event.processor event.kind q) + cond ((event.processor == q) && is_closing event.kind) 1 0 }
     {
@@ -101,6 +115,8 @@ impl Clocks {
         ensures processors { self.new.processors ≡ self.old.processors }
         ensures arrivals { self.new.arrivals ≡ self.old.arrivals }
         ensures departures { self.new.departures ≡ self.old.departures }
+        ensures present { self.new.present ≡ self.old.present }
+        ensures gone { self.new.gone ≡ self.old.gone }
         ensures keeps { OnOk result (Keeps self.old self.new.locks.items self.new.flags.items self.new.episodes.items event.processor (slice_index own.now) event.kind) }
     {
         match event.kind {
@@ -108,7 +124,11 @@ impl Clocks {
             Kind::Set(flag) => join_at(&mut self.flags, flag, own),
             Kind::Arrive => {
                 let episode = self.arrivals[event.processor] as usize;
-                join_at(&mut self.episodes, episode, own)
+                if episode < self.gone {
+                    Ok(())
+                } else {
+                    join_in(&mut self.episodes, episode - self.gone, own)
+                }
             }
             _ => Ok(()),
         }
@@ -123,6 +143,8 @@ impl Clocks {
         ensures locks { self.new.locks ≡ self.old.locks }
         ensures flags { self.new.flags ≡ self.old.flags }
         ensures episodes { self.new.episodes ≡ self.old.episodes }
+        ensures present { self.new.present ≡ self.old.present }
+        ensures gone { self.new.gone ≡ self.old.gone }
         ensures arrivals { (q : ℕ) → slice_index self.new.arrivals q ≡ slice_index self.old.arrivals q + cond ((event.processor == q) && is_arrive event.kind) 1 0 }
         ensures departures { (q : ℕ) → slice_index self.new.departures q ≡ slice_index self.old.departures q + cond ((event.processor == q) && is_depart event.kind) 1 0 }
     {
@@ -133,13 +155,36 @@ impl Clocks {
         }
     }
 
+    /// Lets go of the first episode that is kept, where the event is the last departure from it.
+    fn let_go(&mut self, event: Event)
+        requires present { event.processor < self.old.present }
+        requires few { self.old.present ≤ 16 }
+        ensures processors { self.new.processors ≡ self.old.processors }
+        ensures locks { self.new.locks ≡ self.old.locks }
+        ensures flags { self.new.flags ≡ self.old.flags }
+        ensures arrivals { self.new.arrivals ≡ self.old.arrivals }
+        ensures departures { self.new.departures ≡ self.old.departures }
+        ensures present { self.new.present ≡ self.old.present }
+        ensures left { (p : ℕ) → p < self.old.present → self.old.gone ≤ slice_index self.old.departures p → self.new.gone ≤ slice_index self.old.departures p }
+        ensures episodes { (n q : ℕ) → self.new.gone ≤ n → (self.old.gone ≤ n) × (entry self.new.episodes.items (n - self.new.gone) q ≡ entry self.old.episodes.items (n - self.old.gone) q) }
+    {
+        let gone = self.gone;
+        let departures = &self.departures[..self.present];
+        let departs = matches!(event.kind, Kind::Depart);
+        if departs && departures.iter().all(|d| *d as usize > gone) {
+            let _ = self.episodes.pop_front();
+            self.gone += 1;
+        }
+    }
+
     /// Takes note of the event at this place, the next one.
     pub(crate) fn note(&mut self, events: &[Event], place: usize) -> Result<(), AllocError>
         requires place { place < length events.now }
         requires few { length events.now ≤ 2 ^ 21 }
-        requires processors { ProcessorsInRange 16 events.now }
+        requires processors { ProcessorsInRange self.old.present events.now }
         requires so_far { AreClocks (take place events.now) self.old }
-        ensures { OnOk result (AreClocks (take (place + 1) events.now) self.new) }
+        ensures clocks { OnOk result (AreClocks (take (place + 1) events.now) self.new) }
+        ensures present { OnOk result (self.new.present ≡ self.old.present) }
     {
         let event = events[place];
         if is_plain(event.kind) {
@@ -149,6 +194,7 @@ impl Clocks {
         self.keep(event, &own)?;
         self.processors[event.processor] = own;
         self.count(event);
+        self.let_go(event);
         Ok(())
     }
 }

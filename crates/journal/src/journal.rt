@@ -149,7 +149,7 @@ impl Journal {
         ensures flat { IfOk result (λ o. IfSome o (λ r. Explained self.now.events → Replays (replicate self.now.addresses 0) (take r.1 self.now.events))) }
     {
         let events = &self.events;
-        first_race_of(*events.allocator(), self.addresses, events)
+        first_race_of(*events.allocator(), self.processors, self.addresses, events)
     }
 
     /// What the events cost. It takes no memory.

@@ -139,20 +139,23 @@ impl Accesses {
 /// The pair of the first race of these events: the least second place, and with it the least first one;
 /// None where no events race. The only error is want of memory.
 ///
-/// It takes time in the order of the events and memory in the order of the addresses: a timestamp tells
-/// which intervals an event's past has, and of each address and processor only the latest store and load
-/// are looked at. The least first place is looked for once, at the end.
+/// It takes time in the order of the events times the processors. A timestamp tells which intervals an
+/// event's past has, so of each address and processor only the latest store and load are looked at; the
+/// least first place is looked for once, at the end. It takes memory in the order of the addresses, locks,
+/// flags and open episodes times the processors.
 pub(crate) fn first_race_of(
     alloc: Global,
+    processors: usize,
     addresses: usize,
     events: &[Event],
 ) -> Result<Option<(usize, usize)>, AllocError>
     requires few { length events.now ≤ 2 ^ 21 }
+    requires few_processors { processors ≤ 16 }
     requires addresses { AddressesInRange addresses events.now }
-    requires processors { ProcessorsInRange 16 events.now }
+    requires processors { ProcessorsInRange processors events.now }
     ensures { IfOk result (λ o. MatchOption o (RaceFree events.now) (λ r. IsFirstRace events.now r.0 r.1)) }
 {
-    let mut clocks = Clocks::new(alloc)?;
+    let mut clocks = Clocks::new(alloc, processors)?;
     let mut accesses = Accesses::new(alloc, addresses)?;
     for place in 0..events.len() {
         let event = events[place];

@@ -1,4 +1,4 @@
-use Rattle.std.proofs.Common.{◌≡◌, ℕ, inl, inr, take, List, slice_index, slice_index_or, subst, sym, arith}
+use Rattle.std.proofs.Common.{◌<◌, ◌≡◌, ℕ, inl, inr, take, List, slice_index, slice_index_or, subst, sym, ◌∙◌, arith}
 use Rattle.std.proofs.lemmas.Option.{slice_get-get_or, slice_get_within}
 use Rattle.std.proofs.lemmas.List.{length-take-le}
 use Rattle.std.proofs.lemmas.Bool.{cases_lt}
@@ -19,6 +19,22 @@ use Rattle.journal.proofs.race.first_race_of.Goals as goal
 abbrev here : List Event → ℕ → Event
 here events place = slice_index_or events place (record { processor = 0; kind = Load 0 0 })
 
+pub of-requires : goal.of-requires
+of-requires c =
+    let at = slice_get-get_or c.args.events.now c.loop-place.place (record { processor = 0; kind = Load 0 0 }) (omega arith) in
+    let present = c.requires.processors c.loop-place.place (here c.args.events.now c.loop-place.place) at in
+    let long = c.loop-place.invariant.0.long in
+    omega (arith, c.requires.few_processors)
+
+pub race_at-requires-clause-at : goal.race_at-requires-clause-at
+race_at-requires-clause-at c = slice_get-get_or c.args.events.now c.loop-place.place (record { processor = 0; kind = Load 0 0 }) (omega arith)
+
+pub race_at-requires-clause-processor : goal.race_at-requires-clause-processor
+race_at-requires-clause-processor c =
+    let at = slice_get-get_or c.args.events.now c.loop-place.place (record { processor = 0; kind = Load 0 0 }) (omega arith) in
+    let present = c.requires.processors c.loop-place.place (here c.args.events.now c.loop-place.place) at in
+    omega (arith, c.requires.few_processors)
+
 pub race_at-requires-clause-stores : goal.race_at-requires-clause-stores
 race_at-requires-clause-stores c =
     let at = slice_get-get_or c.args.events.now c.loop-place.place (record { processor = 0; kind = Load 0 0 }) (omega arith) in
@@ -33,7 +49,8 @@ pub race_at-requires-clause-time : goal.race_at-requires-clause-time
 race_at-requires-clause-time c =
     let e = here c.args.events.now c.loop-place.place in
     let at = slice_get-get_or c.args.events.now c.loop-place.place (record { processor = 0; kind = Load 0 0 }) (omega arith) in
-    let lt = c.requires.processors c.loop-place.place e at in
+    let present = c.requires.processors c.loop-place.place e at in
+    let lt : e.processor < 16 = omega (arith, c.requires.few_processors) in
     time_equal (take c.loop-place.place c.args.events.now) (InPast (take c.loop-place.place c.args.events.now) e.processor) (entry c.loop-place.clocks.processors.items e.processor) (slice_index c.of.result.now) (λ q. sym (c.of.ensures q)) (c.loop-place.invariant.0.times e.processor lt)
 
 pub returns-in-Some : goal.returns-in-Some
@@ -46,13 +63,15 @@ returns-in-Some c = record {
 pub note-requires-clause-processor : goal.note-requires-clause-processor
 note-requires-clause-processor c =
     let at = slice_get-get_or c.args.events.now c.loop-place.place (record { processor = 0; kind = Load 0 0 }) (omega arith) in
-    c.requires.processors c.loop-place.place (here c.args.events.now c.loop-place.place) at
+    let present = c.requires.processors c.loop-place.place (here c.args.events.now c.loop-place.place) at in
+    omega (arith, c.requires.few_processors)
 
 pub note-requires-clause-interval : goal.note-requires-clause-interval
 note-requires-clause-interval c =
     let e = here c.args.events.now c.loop-place.place in
     let at = slice_get-get_or c.args.events.now c.loop-place.place (record { processor = 0; kind = Load 0 0 }) (omega arith) in
-    let lt = c.requires.processors c.loop-place.place e at in
+    let present = c.requires.processors c.loop-place.place e at in
+    let lt : e.processor < 16 = omega (arith, c.requires.few_processors) in
     let small = time_small (take c.loop-place.place c.args.events.now) (InPast (take c.loop-place.place c.args.events.now) e.processor) (entry c.loop-place.clocks.processors.items e.processor) e.processor (c.loop-place.invariant.0.times e.processor lt) in
     let long = length-take-le c.loop-place.place c.args.events.now (omega arith) in
     let is = c.of.ensures e.processor in
@@ -63,7 +82,8 @@ pub race_at-requires-clause-room : goal.race_at-requires-clause-room
 race_at-requires-clause-room c =
     let e = here c.args.events.now c.loop-place.place in
     let at = slice_get-get_or c.args.events.now c.loop-place.place (record { processor = 0; kind = Load 0 0 }) (omega arith) in
-    let lt = c.requires.processors c.loop-place.place e at in
+    let present = c.requires.processors c.loop-place.place e at in
+    let lt : e.processor < 16 = omega (arith, c.requires.few_processors) in
     let small = time_small (take c.loop-place.place c.args.events.now) (InPast (take c.loop-place.place c.args.events.now) e.processor) (entry c.loop-place.clocks.processors.items e.processor) e.processor (c.loop-place.invariant.0.times e.processor lt) in
     let long = length-take-le c.loop-place.place c.args.events.now (omega arith) in
     let is = c.of.ensures e.processor in
@@ -84,17 +104,19 @@ pub loop-place-preserved : goal.loop-place-preserved
 loop-place-preserved c =
     let e = here c.args.events.now c.loop-place.place in
     let at = slice_get-get_or c.args.events.now c.loop-place.place (record { processor = 0; kind = Load 0 0 }) (omega arith) in
-    let lt = c.requires.processors c.loop-place.place e at in
+    let present = c.requires.processors c.loop-place.place e at in
+    let lt : e.processor < 16 = omega (arith, c.requires.few_processors) in
     let front = take c.loop-place.place c.args.events.now in
     let time : IsTimeOf front e.processor (slice_index c.of.result.now) = time_equal front (InPast front e.processor) (entry c.loop-place.clocks.processors.items e.processor) (slice_index c.of.result.now) (λ q. sym (c.of.ensures q)) (c.loop-place.invariant.0.times e.processor lt) in
     let accesses = accesses_next front e (slice_index c.of.result.now) c.args.addresses c.loop-place.accesses c.note.new.self time c.loop-place.invariant.1 c.note.ensures.stores_long c.note.ensures.loads_long c.note.ensures.stores c.note.ensures.loads in
     let here_none : (i : ℕ) → Race c.args.events.now i c.loop-place.place → ⊥ = c.in_default.ensures in (
-      c.in_ok-note.ensures,
+      c.in_ok-note.ensures.clocks,
       subst (λ xs. AreAccesses xs c.args.addresses c.note.new.self) (sym (front_next c.args.events.now c.loop-place.place e at)) accesses,
       λ m n h r. elim (cases_lt n c.loop-place.place) [
         | inl below ↦ c.loop-place.invariant.2 m n below r
         | inr le ↦ (let is : n ≡ c.loop-place.place = omega arith in here_none m (subst (λ x. Race c.args.events.now m x) is r))
       ],
+      c.in_ok-note.ensures.present ∙ c.loop-place.invariant.3,
     )
 
 pub returns : goal.returns
