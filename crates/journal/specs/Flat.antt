@@ -18,3 +18,8 @@ memory_after memory es = written (λ (e : Event). flat_write e.kind) memory es
 -- each load answers its word at that place
 abbrev pub Replays : List ℕ → List Event → Type 0
 Replays start j = (i p a v : ℕ) → Does j i p (Load a v) → slice_get (memory_after start (take i j)) a ≡ Some v
+
+-- a load's reply is its word of the memory
+abbrev pub AnswersWord : List ℕ → Kind → Type 0
+AnswersWord memory (Load a v) = slice_get memory a ≡ Some v
+AnswersWord memory _ = Unit {0}

@@ -12,3 +12,15 @@ pub mod Copies
 pub mod Intervals
 pub mod Brought
 pub mod Blocks
+pub mod Log
+pub mod InRange
+pub mod Holding
+pub mod Brings
+pub mod Waits
+pub mod Entries
+pub mod Clocks
+pub mod Accesses
+pub mod Groups
+pub mod Missing
+pub mod Pages
+pub mod Dirty

@@ -2,6 +2,8 @@
 //! makes of the dirty words (Keleher, Cox and Zwaenepoel 1992, section 3).
 #![tactic(auto)]
 
+mod pages;
 mod records;
 
+pub use pages::{Access, Page};
 pub use records::Record;

@@ -1,0 +1,5 @@
+use Rattle.journal.proofs.Spending.{Spent}
+use Rattle.journal.proofs.traffic.traffic_of.Given as goal
+
+abbrev pub invariant-loop-event : goal.invariant-loop-event
+invariant-loop-event l = Spent l.traffic l.events l.event-index

@@ -1,0 +1,58 @@
+//! Replay on one flat memory.
+
+ghost use Rattle.std.specs.Prelude.{◌≡◌, ◌↔◌, IfOk, IfSome, IsSome, IsTrue, length, replicate};
+ghost use Rattle.journal.specs.Flat.{Replays, memory_after, flat_write, AnswersWord};
+ghost use Rattle.journal.specs.InRange.{AddressInRange, AddressesInRange};
+ghost use Rattle.lists.specs.Writes.{wrote};
+
+use crate::event::{Event, Kind};
+use std::alloc::{AllocError, Global};
+
+/// Does an event to the memory, and says whether a load's reply is its word.
+fn do_event(memory: &mut [u32], kind: Kind) -> bool
+    requires { AddressInRange (length memory.old) kind }
+    ensures memory { memory.new ≡ wrote memory.old (flat_write kind) }
+    ensures answers { IsTrue result ↔ AnswersWord memory.old kind }
+{
+    match kind {
+        Kind::Store(address, value) => {
+            memory[address] = value;
+            true
+        }
+        Kind::Load(address, value) => memory[address] == value,
+        _ => true,
+    }
+}
+
+/// Does the events to the memory in their order, up to one whose reply isn't its word.
+fn do_events(memory: &mut [u32], events: &[Event]) -> bool
+    requires { AddressesInRange (length memory.old) events.now }
+    ensures replays { IsTrue result ↔ Replays memory.old events.now }
+    ensures memory { IsTrue result → memory.new ≡ memory_after memory.old events.now }
+{
+    for event in events {
+        if !do_event(memory, event.kind) {
+            return false;
+        }
+    }
+    true
+}
+
+/// The memory of `addresses` words after these events are done to it in their order, from zeros; None
+/// where some load's reply isn't its word at that place.
+pub(crate) fn replay_of(
+    alloc: Global,
+    addresses: usize,
+    events: &[Event],
+) -> Result<Option<Vec<u32>>, AllocError>
+    requires { AddressesInRange addresses events.now }
+    ensures replays { IfOk result (λ o. IsSome o ↔ Replays (replicate addresses 0) events.now) }
+    ensures memory { IfOk result (λ o. IfSome o (λ v. v.items ≡ memory_after (replicate addresses 0) events.now)) }
+{
+    let mut memory = vec![in alloc; 0u32; addresses]?;
+    if do_events(&mut memory, events) {
+        Ok(Some(memory))
+    } else {
+        Ok(None)
+    }
+}

@@ -1,0 +1,61 @@
+//! What a journal's events cost in messages, records and words.
+
+ghost use Rattle.std.specs.Prelude.{◌≡◌, ◌^◌, ◌<◌, ◌≤◌, length};
+ghost use Rattle.journal.specs.Traffic.{messages, records, words, messages_of, records_of, words_of};
+
+use crate::event::{Event, Kind};
+
+/// Messages sent, and the records and words that fetches applied.
+///
+/// A hand-over of a lock or a flag costs two messages, an arrival or a departure one, and a fetch two
+/// for each processor whose records it applies.
+#[derive(Clone, Copy, Debug, Default, PartialEq, Eq)]
+pub struct Traffic {
+    pub messages: u64,
+    pub records: u64,
+    pub words: u64,
+}
+
+/// What one event costs.
+fn cost_of(kind: Kind) -> Traffic
+    ensures messages { result.messages ≡ messages_of kind }
+    ensures records { result.records ≡ records_of kind }
+    ensures words { result.words ≡ words_of kind }
+    ensures few { (result.messages < 2 ^ 33) × (result.records < 2 ^ 33) × (result.words < 2 ^ 33) }
+{
+    let messages = match kind {
+        Kind::Acquire(_) | Kind::Await(_) => 2,
+        Kind::Arrive | Kind::Depart => 1,
+        Kind::Fetch { writers, .. } => 2 * u64::from(writers),
+        _ => 0,
+    };
+    match kind {
+        Kind::Fetch { records, words, .. } => Traffic {
+            messages,
+            records: u64::from(records),
+            words: u64::from(words),
+        },
+        _ => Traffic {
+            messages,
+            records: 0,
+            words: 0,
+        },
+    }
+}
+
+/// The traffic of these events.
+pub(crate) fn traffic_of(events: &[Event]) -> Traffic
+    requires { length events.now ≤ 2 ^ 21 }
+    ensures messages { result.messages ≡ messages events.now }
+    ensures records { result.records ≡ records events.now }
+    ensures words { result.words ≡ words events.now }
+{
+    let mut traffic = Traffic::default();
+    for event in events {
+        let cost = cost_of(event.kind);
+        traffic.messages += cost.messages;
+        traffic.records += cost.records;
+        traffic.words += cost.words;
+    }
+    traffic
+}

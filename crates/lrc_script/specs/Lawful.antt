@@ -1,0 +1,101 @@
+use Rattle.std.specs.Prelude.{◌≡◌, ℕ, ◌*◌, ◌^◌, ◌<◌, ◌≤◌, ◌==◌, Bool, true, false, if◌then◌else◌, List, [], ◌∷◌, ◌++◌, length, fold, All, count_by, slice_index_or, Option, Some, None}
+use Rattle.lrc_script.specs.declared.script.Instruction.{Instruction}
+use Rattle.lrc_script.specs.declared.script.Instruction.TheVariants.{Load, Store, Add, Acquire, Release, Barrier, Set, Await}
+use Rattle.lrc_script.specs.Plan.{Plan}
+
+-- how many words the pages have together: addresses are below it
+abbrev pub addresses : Plan → ℕ
+addresses s = s.pages * s.words
+
+-- the sizes that a script may have
+pub record AreSizes (s : Plan) : Type 0 where
+  pub processors : s.processors ≡ 1
+  pub pages : s.pages ≡ 1
+  pub some_words : 1 ≤ s.words
+  pub most_words : s.words ≤ 64
+  pub locks : s.locks ≡ 0
+  pub flags : s.flags ≡ 0
+
+-- the instructions that a script may have
+abbrev pub IsServed : Instruction → Type 0
+IsServed (Load a) = Unit {0}
+IsServed (Store a v) = Unit {0}
+IsServed (Add a v) = Unit {0}
+IsServed _ = ⊥
+
+-- the address, the lock and the flag that an instruction names
+abbrev pub address_of : Instruction → Option ℕ
+address_of (Load a) = Some a
+address_of (Store a v) = Some a
+address_of (Add a v) = Some a
+address_of _ = None
+
+abbrev pub lock_of : Instruction → Option ℕ
+lock_of (Acquire l) = Some l
+lock_of (Release l) = Some l
+lock_of _ = None
+
+abbrev pub flag_of : Instruction → Option ℕ
+flag_of (Set f) = Some f
+flag_of (Await f) = Some f
+flag_of _ = None
+
+-- an address, a lock and a flag are the cluster's, and a value is a word
+abbrev pub IsInRange : Plan → Instruction → Type 0
+IsInRange s (Load a) = a < addresses s
+IsInRange s (Store a v) = (a < addresses s) × (v < 2 ^ 32)
+IsInRange s (Add a v) = (a < addresses s) × (v < 2 ^ 32)
+IsInRange s (Acquire l) = l < s.locks
+IsInRange s (Release l) = l < s.locks
+IsInRange s Barrier = Unit {0}
+IsInRange s (Set f) = f < s.flags
+IsInRange s (Await f) = f < s.flags
+
+-- whether a section holds the lock after an instruction, by whether it held it before
+abbrev pub still_holds : ℕ → Bool → Instruction → Bool
+still_holds l held (Acquire m) = if m == l then true else held
+still_holds l held (Release m) = if m == l then false else held
+still_holds l held _ = held
+
+-- whether a section holds the lock after these instructions
+abbrev pub holds : List Instruction → ℕ → Bool
+holds is l = fold (still_holds l) false is
+
+-- after these instructions the section doesn't hold a lock that it acquires, and holds one that it releases
+abbrev pub MayStandAfter : List Instruction → Instruction → Type 0
+MayStandAfter before (Acquire l) = holds before l ≡ false
+MayStandAfter before (Release l) = holds before l ≡ true
+MayStandAfter before _ = Unit {0}
+
+-- the instructions that one processor may have
+pub record IsSection (s : Plan) (is : List Instruction) : Type 0 where
+  pub most : length is ≤ 10000
+  pub served : All IsServed is
+  pub in_range : All (IsInRange s) is
+  pub holding : (before : List Instruction) (i : Instruction) (after : List Instruction) → is ≡ before ++ i ∷ after → MayStandAfter before i
+
+-- all that the grammar asks of a script, except that each section has as many barriers
+pub record IsLawfulButUneven (s : Plan) : Type 0 where
+  pub sizes : AreSizes s
+  pub one_each : length s.sections ≡ s.processors
+  pub sections : All (IsSection s) s.sections
+  pub some_shown : 1 ≤ length s.shown
+  pub most_shown : length s.shown ≤ 64
+  pub shown : All (λ a. a < addresses s) s.shown
+
+abbrev pub is_barrier : Instruction → Bool
+is_barrier Barrier = true
+is_barrier _ = false
+
+-- how many barriers a section has
+abbrev pub barriers : List Instruction → ℕ
+barriers is = count_by is_barrier is
+
+-- each section has as many barriers as section 0
+abbrev pub IsEven : Plan → Type 0
+IsEven s = All (λ is. barriers is ≡ barriers (slice_index_or s.sections 0 [])) s.sections
+
+-- all that the grammar asks of a script
+pub record IsLawful (s : Plan) : Type 0 where
+  pub but_uneven : IsLawfulButUneven s
+  pub even : IsEven s

@@ -1,0 +1,8 @@
+//! Scripts of a cluster: what they say, their exact text, and the reader of that text.
+#![tactic(auto)]
+
+pub mod fault;
+mod line;
+mod progress;
+pub mod script;
+mod section;
