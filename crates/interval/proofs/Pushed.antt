@@ -4,6 +4,8 @@ use Rattle.std.proofs.lemmas.Bool.{cases_eq}
 use Rattle.std.proofs.lemmas.List.{length_push, length-map, map-set, set-get_or}
 use Rattle.std.proofs.lemmas.Option.{slice_get_within, get_or_from_slice_get, slice_get_read}
 use Rattle.lists.specs.Places.{Has, InOrder}
+use Rattle.lists.proofs.Places.{slice_get-append_left, slice_get-last, push_cases}
+use Rattle.lists.proofs.Sets.{slice_get-set_same, slice_get-set_other}
 use Rattle.interval.specs.declared.kept.Kept.{Kept}
 use Rattle.interval.specs.Intervals.{HasRisingPages, ClosedInterval}
 use Rattle.interval.specs.Closings.{Closings, pushed}
@@ -11,35 +13,6 @@ use Rattle.interval.specs.Queues.{Queue, merged, closings, IsQueue, IsQueued, Ar
 use Rattle.interval.proofs.Members.{In, In-append, In-append_left, In-append_right}
 use Rattle.interval.proofs.Rising.{Rises-push, same_rising}
 use Rattle.interval.proofs.Merged.{Lies, merged_lies, lies_merged, Rises-merged, queued}
-
--- one item changed
-pub slice_get-set_same : {A : Type 0} → (xs : List A) (i : ℕ) (y : A) → i < length xs → slice_get (set xs i y) i ≡ Some y
-slice_get-set_same [] i y h = absurd (omega arith)
-slice_get-set_same (x ∷ xs) zero y h = refl
-slice_get-set_same (x ∷ xs) (suc i) y h = slice_get-set_same xs i y (omega arith)
-
-pub slice_get-set_other : {A : Type 0} → (xs : List A) (i j : ℕ) (y : A) → j ≢ i → slice_get (set xs i y) j ≡ slice_get xs j
-slice_get-set_other [] i j y h = refl
-slice_get-set_other (x ∷ xs) zero zero y h = absurd (h refl)
-slice_get-set_other (x ∷ xs) zero (suc j) y h = refl
-slice_get-set_other (x ∷ xs) (suc i) zero y h = refl
-slice_get-set_other (x ∷ xs) (suc i) (suc j) y h = slice_get-set_other xs i j y (λ e. h (ap suc e))
-
--- one item added
-pub slice_get-push : {A : Type 0} → (xs : List A) (x : A) (i : ℕ) (y : A) → slice_get (xs ++ x ∷ []) i ≡ Some y → (slice_get xs i ≡ Some y) ⊎ ((i ≡ length xs) × (x ≡ y))
-slice_get-push [] x zero y h = inr (refl, cc h)
-slice_get-push [] x (suc i) y h = absurd (cc h)
-slice_get-push (z ∷ zs) x zero y h = inl h
-slice_get-push (z ∷ zs) x (suc i) y h = elim (slice_get-push zs x i y h) [ inl l ↦ inl l | inr r ↦ inr (ap suc r.0, r.1) ]
-
-pub slice_get-push_old : {A : Type 0} → (xs : List A) (x : A) (i : ℕ) (y : A) → slice_get xs i ≡ Some y → slice_get (xs ++ x ∷ []) i ≡ Some y
-slice_get-push_old [] x i y h = absurd (cc h)
-slice_get-push_old (z ∷ zs) x zero y h = h
-slice_get-push_old (z ∷ zs) x (suc i) y h = slice_get-push_old zs x i y h
-
-pub slice_get-push_new : {A : Type 0} → (xs : List A) (x : A) → slice_get (xs ++ x ∷ []) (length xs) ≡ Some x
-slice_get-push_new [] x = refl
-slice_get-push_new (z ∷ zs) x = slice_get-push_new zs x
 
 -- the interval k comes last in the queue of its owner, and is closed last
 pub record Comes (queues : List Queue) (count owner : ℕ) (queue : Queue) (k : Kept) : Type 0 where
@@ -74,9 +47,9 @@ module _ (queues : List Queue) (count owner : ℕ) (queue : Queue) (k : Kept) (a
   was_before = are.each owner queue comes.owned
 
   queued_last : (i : ℕ) (j : Kept) → slice_get (queue.kept ++ k ∷ []) i ≡ Some j → IsQueued owner (count + 1) (with_last queue k) i j
-  queued_last i j at = elim (slice_get-push queue.kept k i j at) [
+  queued_last i j at = elim (push_cases queue.kept k i j at) [
     | inl old ↦
-        let was = was_before.each i j old in
+        let was = was_before.each i j old.1 in
         let before = was.closed in
         record { owner_is = was.owner_is; number_is = was.number_is; closed = omega arith; pages = was.pages }
     | inr new ↦
@@ -89,18 +62,18 @@ module _ (queues : List Queue) (count owner : ℕ) (queue : Queue) (k : Kept) (a
   ]
 
   rising_last : InOrder (λ (j k : Kept). j.place < k.place) (queue.kept ++ k ∷ [])
-  rising_last x y a b lt at_x at_y = elim (slice_get-push queue.kept k y b at_y) [
+  rising_last x y a b lt at_x at_y = elim (push_cases queue.kept k y b at_y) [
     | inl old_y ↦
-        let within = slice_get_within queue.kept y b old_y in
-        elim (slice_get-push queue.kept k x a at_x) [
-          | inl old_x ↦ was_before.rising x y a b lt old_x old_y
+        let within = old_y.0 in
+        elim (push_cases queue.kept k x a at_x) [
+          | inl old_x ↦ was_before.rising x y a b lt old_x.1 old_y.1
           | inr new_x ↦ let index = new_x.0 in absurd (omega arith)
         ]
     | inr new_y ↦
         let index = new_y.0 in
-        elim (slice_get-push queue.kept k x a at_x) [
+        elim (push_cases queue.kept k x a at_x) [
           | inl old_x ↦
-              let before = (was_before.each x a old_x).closed in
+              let before = (was_before.each x a old_x.1).closed in
               let place = comes.place_is in
               let same : k.place ≡ b.place = ap (λ (z : Kept). z.place) new_y.1 in
               omega arith
@@ -113,8 +86,8 @@ module _ (queues : List Queue) (count owner : ℕ) (queue : Queue) (k : Kept) (a
   came_from j l = elim (queue_cases l.owner l.queue l.owned) [
     | inl here ↦
         let at : slice_get (queue.kept ++ k ∷ []) l.index ≡ Some j = ap (λ (q : Queue). slice_get q.kept l.index) here.1 ∙ l.at in
-        elim (slice_get-push queue.kept k l.index j at) [
-          | inl old ↦ inr (record { owner = owner; queue = queue; index = l.index; owned = comes.owned; at = old })
+        elim (push_cases queue.kept k l.index j at) [
+          | inl old ↦ inr (record { owner = owner; queue = queue; index = l.index; owned = comes.owned; at = old.1 })
           | inr new ↦ inl (sym new.1)
         ]
     | inr there ↦ inr (record { owner = l.owner; queue = l.queue; index = l.index; owned = there.1; at = l.at })
@@ -125,12 +98,12 @@ module _ (queues : List Queue) (count owner : ℕ) (queue : Queue) (k : Kept) (a
     | inl e ↦
         let same : l.queue ≡ queue = let there : slice_get queues owner ≡ Some l.queue = ap (slice_get queues) (sym e) ∙ l.owned in cc (there, comes.owned) in
         let at : slice_get queue.kept l.index ≡ Some j = ap (λ (q : Queue). slice_get q.kept l.index) (sym same) ∙ l.at in
-        record { owner = owner; queue = with_last queue k; index = l.index; owned = slice_get-set_same queues owner (with_last queue k) inside; at = slice_get-push_old queue.kept k l.index j at }
+        record { owner = owner; queue = with_last queue k; index = l.index; owned = slice_get-set_same queues owner (with_last queue k) inside; at = slice_get-append_left queue.kept (k ∷ []) l.index (slice_get_within queue.kept l.index j at) ∙ at }
     | inr other ↦ record { owner = l.owner; queue = l.queue; index = l.index; owned = slice_get-set_other queues owner l.owner (with_last queue k) other ∙ l.owned; at = l.at }
   ]
 
   lies_last : Lies (with_queue queues owner queue k) k
-  lies_last = record { owner = owner; queue = with_last queue k; index = length queue.kept; owned = slice_get-set_same queues owner (with_last queue k) inside; at = slice_get-push_new queue.kept k }
+  lies_last = record { owner = owner; queue = with_last queue k; index = length queue.kept; owned = slice_get-set_same queues owner (with_last queue k) inside; at = slice_get-last queue.kept k }
 
   -- k is the only one with its place
   place_below : (j : Kept) → Lies queues j → j.place < count
@@ -141,8 +114,8 @@ module _ (queues : List Queue) (count owner : ℕ) (queue : Queue) (k : Kept) (a
   has_last q a j at (i, has) = elim (queue_cases q a at) [
     | inl here ↦
         let in_last : slice_get (queue.kept ++ k ∷ []) i ≡ Some j = ap (λ (q : Queue). slice_get q.kept i) here.1 ∙ has in
-        elim (slice_get-push queue.kept k i j in_last) [
-          | inl old ↦ inr (queue, ap (slice_get queues) here.0 ∙ comes.owned, (i, old))
+        elim (push_cases queue.kept k i j in_last) [
+          | inl old ↦ inr (queue, ap (slice_get queues) here.0 ∙ comes.owned, (i, old.1))
           | inr new ↦ inl (here.0, sym new.1)
         ]
     | inr there ↦ inr (a, there.1, (i, has))

@@ -1,9 +1,9 @@
 -- What is sent comes in closing order.
-use Rattle.std.proofs.Common.{ℕ, ◌≡◌, ◌<◌, inl, inr, List, [], ◌∷◌, map, filter, refl, sym, ap, subst}
+use Rattle.std.proofs.Common.{ℕ, ◌≡◌, ◌<◌, inl, inr, List, [], ◌∷◌, ◌++◌, map, filter, refl, sym, ap, subst, arith, ◌∙◌}
 use Rattle.std.specs.List.{flat_map}
 use Rattle.page.specs.Changes.{Changes}
 use Rattle.interval.specs.declared.kept.Kept.{Kept}
-use Rattle.interval.specs.Intervals.{SentRecord, HasRisingPages, ComesBefore, IsInClosingOrder}
+use Rattle.interval.specs.Intervals.{ClosedInterval, SentRecord, HasRisingPages, ComesBefore, IsInClosingOrder}
 use Rattle.interval.specs.Closings.{Closings, is_news, sent_record, sent_interval, between}
 use Rattle.interval.specs.Queues.{Queue, merged, closings, AreQueues}
 use Rattle.interval.proofs.Members.{In, In-filter, In-append, In-map, Ordered, Ordered-from_order, order-from_ordered, Ordered-append}
@@ -48,3 +48,23 @@ between_in_order queues count value old new sent is are sent_is =
     let P : List Kept → Type 0 = λ ks. Ordered ComesBefore (flat_map sent_interval (filter (is_news old new) ks)) in
     let Q : List SentRecord → Type 0 = λ s. IsInClosingOrder s in
     subst Q (sym sent_is) (order-from_ordered ComesBefore (between value old new) (subst P kepts ordered))
+
+-- and so it stays with one more interval, closed after all others
+pub after_in_order : (queues : List Queue) (count : ℕ) (value : Closings) (i : ClosedInterval) (old new : List ℕ) (before now : List SentRecord) → closings queues count ≡ value → AreQueues queues count → HasRisingPages i.records
+    → before ≡ between value old new → now ≡ before ++ sent_interval (record { place = count; interval = i }) → IsInClosingOrder now
+after_in_order queues count value i old new before now is are pages before_is now_is =
+    let k : Kept = record { place = count; interval = i } in
+    let kepts : merged queues ≡ value.kept = ap (λ (c : Closings). c.kept) is in
+    let news : before ≡ flat_map sent_interval (filter (is_news old new) (merged queues)) = before_is ∙ ap (λ (ks : List Kept). flat_map sent_interval (filter (is_news old new) ks)) (sym kepts) in
+    let front = Ordered-from_order ComesBefore before (between_in_order queues count value old new before is are before_is) in
+    let back = sent_rises k i.records (Ordered-from_order (λ (r s : Changes). r.page < s.page) i.records pages) in
+    let across : (a b : SentRecord) → In a before → In b (sent_interval k) → ComesBefore a b = λ a b h g.
+    let P : List SentRecord → Type 0 = λ s. In a s in
+    let there = among (filter (is_news old new) (merged queues)) a (subst P news h) in
+    let l = merged_lies queues there.0 (In-filter (is_news old new) (merged queues) there.0 there.1).0 in
+    let closed = (queued queues count are there.0 l).closed in
+    let place = there.2 in
+    let last = one_place k b g in
+    inl (omega arith) in
+    let Q : List SentRecord → Type 0 = λ s. IsInClosingOrder s in
+    subst Q (sym now_is) (order-from_ordered ComesBefore (before ++ sent_interval k) (Ordered-append ComesBefore before (sent_interval k) front back across))

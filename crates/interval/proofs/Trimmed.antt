@@ -10,7 +10,8 @@ use Rattle.interval.specs.Queues.{Queue, merged, closings, without, IsQueue, Are
 use Rattle.interval.proofs.Members.{In-filter, In-filter_from}
 use Rattle.interval.proofs.Rising.{Rises-filter, same_rising}
 use Rattle.interval.proofs.Merged.{Lies, merged_lies, lies_merged, Rises-merged}
-use Rattle.interval.proofs.Pushed.{slice_get-set_same, slice_get-set_other, entry_of}
+use Rattle.lists.proofs.Sets.{slice_get-set_same, slice_get-set_other}
+use Rattle.interval.proofs.Pushed.{entry_of}
 
 slice_get-drop : {A : Type 0} → (n : ℕ) (xs : List A) (i : ℕ) → slice_get (drop n xs) i ≡ slice_get xs (n + i)
 slice_get-drop zero xs i = let e : i ≡ 0 + i = omega arith in ap (slice_get xs) e

@@ -90,6 +90,30 @@ impl Closed {
         Ok(sent)
     }
 
+    /// What `between` will answer once the interval is pushed: with it a caller can take all the memory
+    /// that it needs before it changes anything.
+    pub fn between_after(
+        &self,
+        interval: &Interval,
+        old: &VTime,
+        new: &VTime,
+    ) -> Result<Vec<Sent>, AllocError>
+        requires owner { interval.now.owner < length self.now.next }
+        requires pages { HasRisingPages interval.now.records }
+        requires old_long { length old.now ≡ length self.now.first }
+        requires new_long { length new.now ≡ length self.now.first }
+        requires none_trimmed { (q : ℕ) → slice_index self.now.first q ≤ slice_index old.now q }
+        ensures value { IfOk result (λ sent. sent.items ≡ between (pushed self.now interval.now) old.now new.now) }
+        ensures in_order { IfOk result (λ sent. IsInClosingOrder sent.items) }
+    {
+        let mut sent = self.between(old, new)?;
+        let (owner, number) = (interval.owner, interval.number);
+        if new.covers(owner, number) && !old.covers(owner, number) {
+            interval.send(self.pushed, &mut sent)?;
+        }
+        Ok(sent)
+    }
+
     /// The first interval that `new` covers and `at` doesn't.
     fn earliest(&self, at: &VTime, new: &VTime) -> Option<&Kept>
         requires at_long { length at.now ≡ length self.now.first }

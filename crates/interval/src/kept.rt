@@ -46,6 +46,30 @@ impl Interval {
         None
     }
 
+    /// Adds each record, under its notice, to what is sent of the interval with this closing number.
+    pub(crate) fn send(&self, place: u64, sent: &mut Vec<Sent>) -> Result<(), AllocError>
+        ensures { OnOk result (sent.new.items ≡ sent.old.items ++ sent_interval (record { place = place; interval = self.now })) }
+    {
+        for record in self.shared_records() {
+            sent.push(self.sent(place, record)?)?;
+        }
+        Ok(())
+    }
+
+    fn sent(&self, place: u64, shared: &Arc<Record>) -> Result<Sent, AllocError>
+        ensures { IfOk result (λ sent. sent ≡ sent_record (record { place = place; interval = self.now }) (arc_value shared.now)) }
+    {
+        Ok(Sent {
+            notice: Notice {
+                page: shared.page(),
+                owner: self.owner,
+                number: self.number,
+            },
+            place,
+            content: shared.clone()?,
+        })
+    }
+
     fn shared_records(&self) -> &[Arc<Record>]
         ensures { map arc_value result.now ≡ self.now.records }
     {
@@ -74,23 +98,6 @@ impl Kept {
     pub(crate) fn send(&self, sent: &mut Vec<Sent>) -> Result<(), AllocError>
         ensures { OnOk result (sent.new.items ≡ sent.old.items ++ sent_interval self.now) }
     {
-        for record in self.interval.shared_records() {
-            sent.push(self.sent(record)?)?;
-        }
-        Ok(())
-    }
-
-    fn sent(&self, shared: &Arc<Record>) -> Result<Sent, AllocError>
-        ensures { IfOk result (λ sent. sent ≡ sent_record self.now (arc_value shared.now)) }
-    {
-        Ok(Sent {
-            notice: Notice {
-                page: shared.page(),
-                owner: self.interval.owner,
-                number: self.interval.number,
-            },
-            place: self.place,
-            content: shared.clone()?,
-        })
+        self.interval.send(self.place, sent)
     }
 }

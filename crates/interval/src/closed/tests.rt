@@ -161,16 +161,23 @@ fn sends_what_a_trim_leaves(rt: HostRuntime) -> Result<(), Fail> {
 fn has_sixteen_owners(rt: HostRuntime) -> Result<(), Fail> {
     let mut closed = Closed::new(rt.alloc(), 16)?;
     let records = vec![in rt.alloc(); record(rt.alloc(), 63)?]?;
-    closed.push(Interval {
+    let interval = Interval {
         owner: 15,
         number: 0,
         records,
-    })?;
+    };
     let old = VTime::zero(rt.alloc(), 16);
     let mut new = old.copy();
     new.tick(15);
+    let told = closed.between_after(&interval, &old, &new)?;
+    assert_eq!(rt; told.len(), 1);
+    closed.push(interval)?;
     let sent = closed.between(&old, &new)?;
     assert_eq!(rt; sent.len(), 1);
+    for (told, sent) in told.iter().zip(&sent) {
+        assert_eq!(rt; told.notice, sent.notice);
+        assert_eq!(rt; told.place, sent.place);
+    }
     closed.trim(15, 1);
     assert_eq!(rt; closed.first(15), 1);
     assert_eq!(rt; closed.first(0), 0);
