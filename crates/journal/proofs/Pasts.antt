@@ -157,3 +157,8 @@ own_past j e i quiet = (there, back)
     back : InPast j e.processor i ⊎ (i ≡ length j) → InPast (j ++ e ∷ []) e.processor i
     back (inl x) = (past_push j e i).1 (inr (inl x))
     back (inr is) = (past_push j e i).1 (inl is)
+
+-- what happens before a place is up to the start of an edge into it
+pub last_step : (j : List Event) (i k : ℕ) → HappensBefore j i k → (m : ℕ) × UpTo j m i × Edge j m k
+last_step j i k (edge d) = (i, inl refl, d)
+last_step j i k (on {m = m} h d) = (m, inr h, d)

@@ -2,13 +2,15 @@
 use Rattle.std.specs.Prelude.{◌+◌, ◌^◌, ◌≤◌, vec_len, vec_capacity}
 use Rattle.journal.specs.declared.journal.Journal.TheInside.{Inside}
 use Rattle.journal.specs.Log.{Log}
-use Rattle.journal.specs.InRange.{AddressesInRange}
+use Rattle.journal.specs.InRange.{AddressesInRange, ProcessorsInRange}
 
 abbrev pub log_of : Inside → Log
 log_of j = record { processors = j.processors; addresses = j.addresses; events = j.events.items; room = j.room }
 
--- the memory that is reserved is there, the events are few enough, and their addresses in range
+-- the memory that is reserved is there, processors and events are few enough, and the events' processors and addresses in range
 pub record IsHeld (j : Inside) : Type 0 where
   pub reserved : vec_len j.events + j.room ≤ vec_capacity j.events
   pub few : vec_len j.events ≤ 2 ^ 21
+  pub few_processors : j.processors ≤ 16
+  pub by_processors : ProcessorsInRange j.processors j.events.items
   pub in_range : AddressesInRange j.addresses j.events.items

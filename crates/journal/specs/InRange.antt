@@ -14,3 +14,7 @@ AddressInRange addresses _ = Unit {0}
 -- each event's address does
 abbrev pub AddressesInRange : ℕ → List Event → Type 0
 AddressesInRange addresses events = (i : ℕ) (e : Event) → At events i e → AddressInRange addresses e.kind
+
+-- each event's processor lies below this number
+abbrev pub ProcessorsInRange : ℕ → List Event → Type 0
+ProcessorsInRange processors events = (i : ℕ) (e : Event) → At events i e → e.processor < processors

@@ -16,3 +16,12 @@ pub mod Log
 pub mod InRange
 pub mod Holding
 pub mod Brings
+pub mod Waits
+pub mod Entries
+pub mod Clocks
+pub mod Accesses
+pub mod Groups
+pub mod Missing
+pub mod Pages
+pub mod Dirty
+pub mod Counted

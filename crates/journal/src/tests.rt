@@ -9,7 +9,7 @@ use std::process::Abort;
 use std::test::Fail;
 
 /// An event of processor `processor`.
-fn by(processor: usize, kind: Kind) -> Event
+pub(crate) fn by(processor: usize, kind: Kind) -> Event
     ensures { result ≡ record { processor = processor; kind = kind } }
 {
     Event { processor, kind }
@@ -28,18 +28,19 @@ fn is_taken(event: Event, processors: usize, addresses: usize) -> bool
 }
 
 /// The journal of a cluster of `processors` processors and `addresses` addresses with these events.
-fn journal_of<R: Abort>(
+pub(crate) fn journal_of<R: Abort>(
     rt: &R,
     alloc: Global,
     processors: usize,
     addresses: usize,
     events: &[Event],
 ) -> Result<Journal, Fail> {
+    assert!(rt; processors <= 16);
     let mut journal = Journal::new(alloc, processors, addresses)?;
     for event in events {
         let event = *event;
         assert!(rt; is_taken(event, processors, addresses));
-        assert!(rt; journal.len() < 1000);
+        assert!(rt; journal.len() < 2097152);
         journal.reserve(1)?;
         journal.append(event);
     }

@@ -62,16 +62,16 @@ latest_alone j p k a v f alone at w =
     let within = slice_get-take_within j k w.place w.item w.at in
     let stands : At j w.place w.item = slice_get-from_take j k w.place w.item w.at in
     let stores : Does j w.place w.item.processor (Store a v) =
-      (let P : Kind → Type 0 = λ x. At j w.place (record { processor = w.item.processor; kind = x }) in subst P (store_of w.item.kind a v w.writes) stands) in
+    (let P : Kind → Type 0 = λ x. At j w.place (record { processor = w.item.processor; kind = x }) in subst P (store_of w.item.kind a v w.writes) stands) in
     record {
       place = w.place;
       by = w.item.processor;
       stores = stores;
       before = in_turn j p w.place k w.item f alone within stands at;
       latest = λ i q u does before after.
-        let later = goes_forward j after in
-        let earlier = goes_forward j before in
-        absurd (w.last i (record { processor = q; kind = Store a u }) u later (slice_get-take j k i earlier ∙ does) refl);
+          let later = goes_forward j after in
+          let earlier = goes_forward j before in
+          absurd (w.last i (record { processor = q; kind = Store a u }) u later (slice_get-take j k i earlier ∙ does) refl);
     }
 
 -- a journal that replays from zeros is explained
@@ -80,9 +80,12 @@ explained_alone addresses j p alone replays k q a v does =
     let f : Event = record { processor = q; kind = Load a v } in
     elim (word_written (λ (e : Event). flat_write e.kind) (replicate addresses 0) (take k j) a v (replays k q a v does)) [
       | inl w ↦ inr (latest_alone j p k a v f alone does w)
-      | inr w ↦ inl (zero_there w.0, λ i r u stores before.
-        let earlier = goes_forward j before in
-        absurd (w.1 i (record { processor = r; kind = Store a u }) u (slice_get-take j k i earlier ∙ stores) refl))
+      | inr w ↦ inl (
+        zero_there w.0,
+        λ i r u stores before.
+            let earlier = goes_forward j before in
+            absurd (w.1 i (record { processor = r; kind = Store a u }) u (slice_get-take j k i earlier ∙ stores) refl),
+      )
     ]
   where
     zero_there : slice_get (replicate addresses 0) a ≡ Some v → v ≡ 0

@@ -28,8 +28,8 @@ pub well_formed_push : (s : Sizes) (j : List Event) (e : Event) → WellFormed s
 well_formed_push s j e well may k f at = elim (push_cases j e k f at) [
   | inl x ↦ rw (take_front j e k x.0) (well k f x.1)
   | inr x ↦
-    let P : Event → Type 0 = λ g. MayFollow s (take k (j ++ e ∷ [])) g in
-    subst P x.1 (rw (x.0, take-append_seam j (e ∷ [])) may)
+      let P : Event → Type 0 = λ g. MayFollow s (take k (j ++ e ∷ [])) g in
+      subst P x.1 (rw (x.0, take-append_seam j (e ∷ [])) may)
 ]
 
 -- a journal that replays with one more event, which answers the word where it loads
@@ -96,9 +96,9 @@ last_is_arrival : (h : List Event) → LastIs (h ++ by_first Arrive ∷ []) 0 (l
 last_is_arrival h = record {
   does = at_last h (by_first Arrive);
   last = λ m f later at.
-    let within = at_within (h ++ by_first Arrive ∷ []) m f at in
-    let long = length-append h (by_first Arrive ∷ []) in
-    absurd (omega arith);
+      let within = at_within (h ++ by_first Arrive ∷ []) m f at in
+      let long = length-append h (by_first Arrive ∷ []) in
+      absurd (omega arith);
 }
 
 -- a whole barrier episode of one processor
@@ -109,8 +109,8 @@ history_barrier addresses h history =
     let departs = count_of-append is_depart h (by_first Arrive ∷ []) 0 in
     let arrives = count_of-append is_arrive h (by_first Arrive ∷ []) 0 in
     let all_arrived : AllArrived s arrived (count_of is_depart arrived 0 + 1) = λ q below. (
-      let first : q ≡ 0 = omega arith in
-      rw first (let b = history.balanced in omega arith)
+    let first : q ≡ 0 = omega arith in
+    rw first (let b = history.balanced in omega arith)
     ) in
     let may_depart : MayFollow s arrived (by_first Depart) = record {
       processor = omega arith;
@@ -121,14 +121,14 @@ history_barrier addresses h history =
     record {
       well_formed = well_formed_push s arrived (by_first Depart) (well_formed_push s h (by_first Arrive) history.well_formed (may_follow addresses h Arrive history tt tt)) may_depart;
       replays = replays_push (replicate addresses 0) arrived (by_first Depart) (
-        replays_push (replicate addresses 0) h (by_first Arrive) history.replays (λ p b w is. let kinds : Arrive ≡ Load b w = ap (λ (e : Event). e.kind) is in absurd (cc))
-      ) (λ p b w is. let kinds : Depart ≡ Load b w = ap (λ (e : Event). e.kind) is in absurd (cc));
+          replays_push (replicate addresses 0) h (by_first Arrive) history.replays (λ p b w is. let kinds : Arrive ≡ Load b w = ap (λ (e : Event). e.kind) is in absurd (cc))
+          ) (λ p b w is. let kinds : Depart ≡ Load b w = ap (λ (e : Event). e.kind) is in absurd (cc));
       idle = λ i k last. rw (last_push arrived 0 i Depart k last) refl;
       balanced =
-        let after_departs = count_of-append is_depart arrived (by_first Depart ∷ []) 0 in
-        let after_arrives = count_of-append is_arrive arrived (by_first Depart ∷ []) 0 in
-        let b = history.balanced in
-        omega arith;
+          let after_departs = count_of-append is_depart arrived (by_first Depart ∷ []) 0 in
+          let after_arrives = count_of-append is_arrive arrived (by_first Depart ∷ []) 0 in
+          let b = history.balanced in
+          omega arith;
     }
 
 -- the memory keeps its length

@@ -1,5 +1,5 @@
 -- A journal follows a script: what each processor called is what its section says, the closing barrier, and at processor 0 the loads of the shown addresses.
-use Rattle.std.specs.Prelude.{ℕ, ◌≡◌, ◌+◌, ◌%◌, ◌^◌, ◌==◌, Bool, true, false, cond, Some, List, [], ◌∷◌, ◌++◌, filter, map, slice_get, not}
+use Rattle.std.specs.Prelude.{ℕ, ◌≡◌, ◌<◌, ◌+◌, ◌%◌, ◌^◌, ◌==◌, Bool, true, false, cond, Some, List, [], ◌∷◌, ◌++◌, filter, map, slice_get, not}
 use Rattle.journal.specs.declared.event.Event.{Event}
 use Rattle.journal.specs.declared.event.Kind.{Kind}
 use Rattle.journal.specs.declared.event.Kind.TheVariants as event
@@ -8,6 +8,7 @@ use Rattle.journal.specs.Sizes.{Sizes}
 use Rattle.lrc_script.specs.declared.script.Instruction.{Instruction}
 use Rattle.lrc_script.specs.declared.script.Instruction.TheVariants.{Load, Store, Add, Acquire, Release, Barrier, Set, Await}
 use Rattle.lrc_script.specs.Plan.{Plan}
+use Rattle.lrc.specs.Machine.{Machine, Calls}
 
 -- the sizes that a script asks for
 abbrev pub sizes_of : Plan → Sizes
@@ -52,3 +53,19 @@ calls_of j p = filter (λ k. not (is_fetch k)) (map (λ (e : Event). e.kind) (pa
 -- each processor's calls follow its section
 abbrev pub Follows : Plan → List Event → Type 0
 Follows s j = (p : ℕ) (section : List Instruction) → slice_get s.sections p ≡ Some section → FollowsSection section (cond (p == 0) s.shown []) (calls_of j p)
+
+-- the calls of an instruction were made
+abbrev pub DoesInstruction : Machine → Machine → Instruction → Type 0
+DoesInstruction old new i = (kinds : List Kind) × Calls old new kinds × AreEventsOf i kinds
+
+-- the calls of these instructions were made, in order
+abbrev pub DoesAll : Machine → Machine → List Instruction → Type 0
+DoesAll old new is = (kinds : List Kind) × Calls old new kinds × AreEventsOfAll is kinds
+
+-- an instruction of one processor alone names an address below this number, and no lock or flag
+abbrev pub IsWithin : ℕ → Instruction → Type 0
+IsWithin n (Load a) = a < n
+IsWithin n (Store a v) = a < n
+IsWithin n (Add a v) = a < n
+IsWithin n Barrier = Unit {0}
+IsWithin n _ = ⊥

@@ -6,10 +6,9 @@ ghost use Rattle.journal.specs.InRange.{AddressInRange};
 ghost use Rattle.lrc.specs.History.{IsHistory};
 ghost use Rattle.lrc.specs.Machine.{by_first, history};
 
+use journal::{Event, Journal, Kind};
 use std::alloc::{AllocError, Global};
 use std::marker::Model;
-
-use journal::{Event, Journal, Kind};
 use thiserror::Error;
 
 /// Events that an open block holds at most.
@@ -165,8 +164,14 @@ impl OneProcessor {
         self.journal.reserve(more)?;
         append_all(&mut self.journal, &self.block);
         self.block.clear();
-        self.journal.append(Event { processor: 0, kind: Kind::Arrive });
-        self.journal.append(Event { processor: 0, kind: Kind::Depart });
+        self.journal.append(Event {
+            processor: 0,
+            kind: Kind::Arrive,
+        });
+        self.journal.append(Event {
+            processor: 0,
+            kind: Kind::Depart,
+        });
         Ok(())
     }
 

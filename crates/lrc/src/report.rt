@@ -1,9 +1,10 @@
 //! What a run of a script answers.
 
-use journal::{Journal, Traffic};
-use thiserror::Error;
-
+use crate::gate::Stopped;
 use crate::one_processor::Refused;
+use journal::{Journal, Traffic};
+use std::alloc::AllocError;
+use thiserror::Error;
 
 /// The answer of a run: the shown addresses in order with their last words, whether the journal has a
 /// race, its traffic, and the journal itself.
@@ -21,9 +22,30 @@ pub enum Cause {
     /// The gate answered Stopped.
     #[error("stopped at the gate")]
     Gate,
+    /// The script's cluster isn't served yet.
+    #[error("cluster not served yet")]
+    Unserved,
     /// A call was refused.
     #[error("{0}")]
     Refused(Refused),
+}
+
+impl From<Stopped> for Cause {
+    fn from(_stopped: Stopped) -> Cause {
+        Cause::Gate
+    }
+}
+
+impl From<Refused> for Cause {
+    fn from(refused: Refused) -> Cause {
+        Cause::Refused(refused)
+    }
+}
+
+impl From<AllocError> for Cause {
+    fn from(error: AllocError) -> Cause {
+        Cause::Refused(Refused::from(error))
+    }
 }
 
 /// A run that ended without a report: the processor that went no further, and why.

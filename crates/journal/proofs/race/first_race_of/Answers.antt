@@ -1,0 +1,101 @@
+use Rattle.std.proofs.Common.{◌≡◌, ℕ, inl, inr, take, List, slice_index, slice_index_or, subst, sym, arith}
+use Rattle.std.proofs.lemmas.Option.{slice_get-get_or, slice_get_within}
+use Rattle.std.proofs.lemmas.List.{length-take-le}
+use Rattle.std.proofs.lemmas.Bool.{cases_lt}
+use Rattle.journal.specs.declared.event.Event.{Event}
+use Rattle.journal.specs.declared.event.Kind.TheVariants.{Load}
+use Rattle.journal.specs.Pasts.{InPast}
+use Rattle.journal.specs.Times.{IsTimeOf}
+use Rattle.journal.specs.Races.{Race}
+use Rattle.journal.specs.InRange.{AddressInRange}
+use Rattle.journal.specs.Entries.{entry}
+use Rattle.journal.specs.Accesses.{AreAccesses}
+use Rattle.journal.proofs.Times.{time_equal}
+use Rattle.journal.proofs.ClockSteps.{time_small, front_next}
+use Rattle.journal.proofs.RaceSteps.{accesses_next}
+use Rattle.journal.proofs.race.first_race_of.Goals as goal
+
+-- the event at this place
+abbrev here : List Event → ℕ → Event
+here events place = slice_index_or events place (record { processor = 0; kind = Load 0 0 })
+
+pub race_at-requires-clause-stores : goal.race_at-requires-clause-stores
+race_at-requires-clause-stores c =
+    let at = slice_get-get_or c.args.events.now c.loop-place.place (record { processor = 0; kind = Load 0 0 }) (omega arith) in
+    subst (λ n. AddressInRange n (here c.args.events.now c.loop-place.place).kind) (sym c.loop-place.invariant.1.stores_long) (c.requires.addresses c.loop-place.place (here c.args.events.now c.loop-place.place) at)
+
+pub race_at-requires-clause-loads : goal.race_at-requires-clause-loads
+race_at-requires-clause-loads c =
+    let at = slice_get-get_or c.args.events.now c.loop-place.place (record { processor = 0; kind = Load 0 0 }) (omega arith) in
+    subst (λ n. AddressInRange n (here c.args.events.now c.loop-place.place).kind) (sym c.loop-place.invariant.1.loads_long) (c.requires.addresses c.loop-place.place (here c.args.events.now c.loop-place.place) at)
+
+pub race_at-requires-clause-time : goal.race_at-requires-clause-time
+race_at-requires-clause-time c =
+    let e = here c.args.events.now c.loop-place.place in
+    let at = slice_get-get_or c.args.events.now c.loop-place.place (record { processor = 0; kind = Load 0 0 }) (omega arith) in
+    let lt = c.requires.processors c.loop-place.place e at in
+    time_equal (take c.loop-place.place c.args.events.now) (InPast (take c.loop-place.place c.args.events.now) e.processor) (entry c.loop-place.clocks.processors.items e.processor) (slice_index c.of.result.now) (λ q. sym (c.of.ensures q)) (c.loop-place.invariant.0.times e.processor lt)
+
+pub returns-in-Some : goal.returns-in-Some
+returns-in-Some c = record {
+  race = c.in-Some.ensures.0;
+  least_second = λ m n r. elim (cases_lt n c.loop-place.place) [ inl lt ↦ absurd (c.loop-place.invariant.2 m n lt r) | inr le ↦ le ];
+  least_first = λ m r. c.in-Some.ensures.1 m r;
+}
+
+pub note-requires-clause-processor : goal.note-requires-clause-processor
+note-requires-clause-processor c =
+    let at = slice_get-get_or c.args.events.now c.loop-place.place (record { processor = 0; kind = Load 0 0 }) (omega arith) in
+    c.requires.processors c.loop-place.place (here c.args.events.now c.loop-place.place) at
+
+pub note-requires-clause-interval : goal.note-requires-clause-interval
+note-requires-clause-interval c =
+    let e = here c.args.events.now c.loop-place.place in
+    let at = slice_get-get_or c.args.events.now c.loop-place.place (record { processor = 0; kind = Load 0 0 }) (omega arith) in
+    let lt = c.requires.processors c.loop-place.place e at in
+    let small = time_small (take c.loop-place.place c.args.events.now) (InPast (take c.loop-place.place c.args.events.now) e.processor) (entry c.loop-place.clocks.processors.items e.processor) e.processor (c.loop-place.invariant.0.times e.processor lt) in
+    let long = length-take-le c.loop-place.place c.args.events.now (omega arith) in
+    let is = c.of.ensures e.processor in
+    let few = c.requires.few in
+    omega arith
+
+pub race_at-requires-clause-room : goal.race_at-requires-clause-room
+race_at-requires-clause-room c =
+    let e = here c.args.events.now c.loop-place.place in
+    let at = slice_get-get_or c.args.events.now c.loop-place.place (record { processor = 0; kind = Load 0 0 }) (omega arith) in
+    let lt = c.requires.processors c.loop-place.place e at in
+    let small = time_small (take c.loop-place.place c.args.events.now) (InPast (take c.loop-place.place c.args.events.now) e.processor) (entry c.loop-place.clocks.processors.items e.processor) e.processor (c.loop-place.invariant.0.times e.processor lt) in
+    let long = length-take-le c.loop-place.place c.args.events.now (omega arith) in
+    let is = c.of.ensures e.processor in
+    let few = c.requires.few in
+    omega arith
+
+pub note-requires-clause-stores : goal.note-requires-clause-stores
+note-requires-clause-stores c =
+    let at = slice_get-get_or c.args.events.now c.loop-place.place (record { processor = 0; kind = Load 0 0 }) (omega arith) in
+    subst (λ n. AddressInRange n (here c.args.events.now c.loop-place.place).kind) (sym c.loop-place.invariant.1.stores_long) (c.requires.addresses c.loop-place.place (here c.args.events.now c.loop-place.place) at)
+
+pub note-requires-clause-loads : goal.note-requires-clause-loads
+note-requires-clause-loads c =
+    let at = slice_get-get_or c.args.events.now c.loop-place.place (record { processor = 0; kind = Load 0 0 }) (omega arith) in
+    subst (λ n. AddressInRange n (here c.args.events.now c.loop-place.place).kind) (sym c.loop-place.invariant.1.loads_long) (c.requires.addresses c.loop-place.place (here c.args.events.now c.loop-place.place) at)
+
+pub loop-place-preserved : goal.loop-place-preserved
+loop-place-preserved c =
+    let e = here c.args.events.now c.loop-place.place in
+    let at = slice_get-get_or c.args.events.now c.loop-place.place (record { processor = 0; kind = Load 0 0 }) (omega arith) in
+    let lt = c.requires.processors c.loop-place.place e at in
+    let front = take c.loop-place.place c.args.events.now in
+    let time : IsTimeOf front e.processor (slice_index c.of.result.now) = time_equal front (InPast front e.processor) (entry c.loop-place.clocks.processors.items e.processor) (slice_index c.of.result.now) (λ q. sym (c.of.ensures q)) (c.loop-place.invariant.0.times e.processor lt) in
+    let accesses = accesses_next front e (slice_index c.of.result.now) c.args.addresses c.loop-place.accesses c.note.new.self time c.loop-place.invariant.1 c.note.ensures.stores_long c.note.ensures.loads_long c.note.ensures.stores c.note.ensures.loads in
+    let here_none : (i : ℕ) → Race c.args.events.now i c.loop-place.place → ⊥ = c.in_default.ensures in (
+      c.in_ok-note.ensures,
+      subst (λ xs. AreAccesses xs c.args.addresses c.note.new.self) (sym (front_next c.args.events.now c.loop-place.place e at)) accesses,
+      λ m n h r. elim (cases_lt n c.loop-place.place) [
+        | inl below ↦ c.loop-place.invariant.2 m n below r
+        | inr le ↦ (let is : n ≡ c.loop-place.place = omega arith in here_none m (subst (λ x. Race c.args.events.now m x) is r))
+      ],
+    )
+
+pub returns : goal.returns
+returns c = λ i k r. (let within = slice_get_within c.args.events.now k r.second r.second_at in let over = c.loop-place-test.false in c.loop-place.invariant.2 i k (omega arith) r)

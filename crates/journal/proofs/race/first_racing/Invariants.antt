@@ -1,0 +1,7 @@
+use Rattle.std.proofs.Common.{◌≡◌, ℕ, ◌<◌, length, take, slice_index}
+use Rattle.journal.specs.Events.{count_of, is_closing}
+use Rattle.journal.specs.Races.{Race}
+use Rattle.journal.proofs.race.first_racing.Given as goal
+
+abbrev pub invariant-loop-i : goal.invariant-loop-i
+invariant-loop-i l = (length l.closings ≡ 16) × ((q : ℕ) → q < 16 → slice_index l.closings q ≡ count_of is_closing (take l.i l.events) q) × ((m : ℕ) → m < l.i → ¬ Race l.events m l.place)
