@@ -9,13 +9,15 @@ use std::marker::Model;
 use std::mem;
 use vtime::VTime;
 
-/// Where a processor is: it has never arrived or has departed, it has arrived for the open episode,
-/// or its episode is complete and it may depart.
+/// Where a processor is.
 #[derive(Clone, Copy, Debug, Default, PartialEq, Eq)]
 pub enum Stage {
+    /// It has never arrived, or has departed since.
     #[default]
     Away,
+    /// It has arrived for the open episode.
     Here,
+    /// The episode that it arrived for is complete, and it may depart.
     Free,
 }
 

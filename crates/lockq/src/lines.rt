@@ -102,6 +102,7 @@ impl Model for Locks {
 
 impl Locks {
     /// `locks` locks (up to 32) that nobody has asked for, among `processors` processors (1 to 16).
+    /// Answers `AllocError` where memory for them is refused.
     pub fn new(alloc: Global, locks: usize, processors: usize) -> Result<Self, AllocError>
         requires locks { locks ≤ 32 }
         requires some { 1 ≤ processors }

@@ -7,10 +7,12 @@ use crate::records::Record;
 use std::alloc::{AllocError, Global};
 use std::marker::Model;
 
-/// Whether a processor may load from and store to its copy of a page.
+/// Whether a processor may use its copy of a page.
 #[derive(Clone, Copy, Debug, PartialEq, Eq)]
 pub enum Access {
+    /// Loads and stores may use the copy.
     Valid,
+    /// The copy lacks records of other processors, which a fetch is to apply.
     Invalid,
 }
 
@@ -46,7 +48,8 @@ impl Page {
     ghost use Rattle.page.specs.Contents.{IsClean};
     ghost use Rattle.page.specs.Carries.{FitsIn, IsHarvest, CarriesStores};
 
-    /// A page of `words` words, valid and zero.
+    /// A page of `words` words (1 to 64), valid and zero. Answers `AllocError` where memory for them
+    /// is refused.
     pub fn zero(alloc: Global, words: usize) -> Result<Self, AllocError>
         requires some { 0 < words }
         requires few { words ≤ 64 }
@@ -89,6 +92,7 @@ impl Page {
         &self.words
     }
 
+    /// Whether the processor may use the copy.
     pub fn access(&self) -> Access
         ensures { result ≡ self.now.access }
     {
@@ -140,7 +144,8 @@ impl Page {
     }
 
     /// The record of the dirty words, as words of page `page`: `None` where no word is dirty.
-    /// Costs in the order of what is dirty, and takes memory only where some word is.
+    /// Costs in the order of what is dirty. Takes memory only where some word is dirty, and answers
+    /// `AllocError` where that is refused.
     pub fn harvest(&self, page: usize) -> Result<Option<Record>, AllocError>
         ensures clean { IsClean self.now → result ≡ Ok None }
         ensures none { IfOk result (λ r. IfNone r (IsClean self.now)) }
