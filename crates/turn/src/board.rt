@@ -13,6 +13,7 @@ pub trait Change<S, V> {
     ghost then: { Me S V → Me S V → Type 0 };
 }
 
+/// A step of the table that makes this change.
 pub struct Changing<M> {
     change: PhantomData<M>,
 }
@@ -42,6 +43,7 @@ pub trait Board {
         ensures next { IfOk result (λ words. slice_index words.items 0 ≡ 0) }
         ensures shows { IfOk result (λ words. shows seats words.items 0) };
 
+    /// The word at which the chair with a number looks.
     fn at(seats: usize, number: u64) -> usize
         requires { 1 ≤ seats }
         ensures { result ≡ at seats number };
@@ -57,10 +59,12 @@ pub trait Board {
         requires some { 1 ≤ seats }
         requires width { shared.now.table_id.words ≡ width seats }
         requires small { number + 1 < 2 ^ 64 }
-        requires rule { Allows (P.holds shared.now.key) shared.now.table_id.slots seat.old.id seat.old.me (at seats (number + 1)) (passed number) (λ _ after. M.then seat.old.me after) }
+        requires rule { Allows (P.holds shared.now.key) shared.now.table_id.slots seat.old.id seat.old.me
+            (at seats (number + 1)) (passed number) (λ _ after. M.then seat.old.me after) }
         ensures own { seat.new.table_id ≡ seat.old.table_id }
         ensures then { M.then seat.old.me seat.new.me };
 
+    // What the locks rest on.
     ghost lawful: { (n : ℕ) → 0 < n → IsBoard (width n) (shows n) (at n) passed };
 }
 

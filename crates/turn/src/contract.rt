@@ -44,7 +44,9 @@ pub trait Turn<B, K: Keeper<B>>: Sized + Sync {
         requires some { 1 ≤ seats }
         requires room { seats * ENTRIES < 2 ^ 64 }
         requires fact { K.fact book (replicate seats K.first) }
-        ensures { IfOk result (λ t. (size t.0 ≡ seats) × (length t.1.items ≡ seats) × AreFresh (id t.0) K.first t.1.items) };
+        ensures { IfOk result (λ t.
+            (size t.0 ≡ seats) × (length t.1.items ≡ seats)
+            × AreFresh (id t.0) K.first t.1.items) };
 
     /// Waits for the chair's turn, and answers the book. It takes no memory.
     ///
@@ -52,15 +54,20 @@ pub trait Turn<B, K: Keeper<B>>: Sized + Sync {
     fn enter<R: Wait>(&self, rt: &R, chair: &mut Chair<B, K>) -> Result<(Held, B), Spent>
         requires own { lock chair.old ≡ id self.now }
         requires outside { IsOutside chair.old }
-        ensures entered { IfOk result (λ r. (entries chair.old < ENTRIES) × (entries chair.new ≡ entries chair.old + 1) × IsSameChair chair.old chair.new × (view chair.new ≡ view chair.old) × IsInside chair.new r.0 r.1) }
+        ensures entered { IfOk result (λ r.
+            (entries chair.old < ENTRIES) × (entries chair.new ≡ entries chair.old + 1)
+            × IsSameChair chair.old chair.new × (view chair.new ≡ view chair.old)
+            × IsInside chair.new r.0 r.1) }
         ensures fact { IfOk result (λ r. Stands K.fact r.1 (place chair.old) (view chair.old)) }
         ensures spent { IfErr result (λ _. (entries chair.old ≡ ENTRIES) × (chair.new ≡ chair.old)) };
 
     /// Hands the book in and lets the next one enter. It waits for nothing and takes no memory.
     fn leave<M: Outcome<B, K::View>>(&self, chair: &mut Chair<B, K>, held: Held, book: B)
         requires own { lock chair.old ≡ id self.now }
-        requires inside { (found : B) × IsInside chair.old held found × MayHandIn K.fact M.then found book (place chair.old) (view chair.old) }
-        ensures left { IsSameChair chair.old chair.new × (entries chair.new ≡ entries chair.old) × IsOutside chair.new }
+        requires inside { (found : B) × IsInside chair.old held found
+            × MayHandIn K.fact M.then found book (place chair.old) (view chair.old) }
+        ensures left { IsSameChair chair.old chair.new × (entries chair.new ≡ entries chair.old)
+            × IsOutside chair.new }
         ensures then { M.then book (view chair.old) (view chair.new) };
 
     /// Takes the lock apart, with all its chairs in the order of their places. It waits for nothing and takes no memory.

@@ -120,7 +120,9 @@ impl<B, K: Keeper<B>, W: Board, const ENTRIES: u64> Lock<B, K, W, ENTRIES> {
         requires outside { Sits Outside seat.old.me }
         requires left { seat.old.me.0.lead.entries < ENTRIES }
         ensures own { seat.new.table_id ≡ seat.old.table_id }
-        ensures waits { seat.new.me ≡ seated seat.old.me.0.place (Waiting result) (seat.old.me.0.lead.entries + 1) seat.old.me.0.lead.view }
+        ensures waits { seat.new.me
+            ≡ seated seat.old.me.0.place (Waiting result) (seat.old.me.0.lead.entries + 1)
+            seat.old.me.0.lead.view }
         ensures small { result + 1 < 2 ^ 64 }
     {
         self.table.shared.fetch_add::<Draw>(seat, NEXT, 1)
@@ -187,9 +189,12 @@ impl<B, K: Keeper<B>, W: Board, const ENTRIES: u64> Lock<B, K, W, ENTRIES> {
     fn hand_in<M: Outcome<B, K::View>>(&self, seat: &mut Place<B, K::View>, number: u64, book: B)
         requires own { seat.old.table_id ≡ self.now.table.shared.table_id }
         requires small { number + 1 < 2 ^ 64 }
-        requires inside { (found : B) × Sits (Inside number found) seat.old.me × MayHandIn K.fact M.then found book seat.old.me.0.place seat.old.me.0.lead.view }
+        requires inside { (found : B) × Sits (Inside number found) seat.old.me
+            × MayHandIn K.fact M.then found book seat.old.me.0.place seat.old.me.0.lead.view }
         ensures own { seat.new.table_id ≡ seat.old.table_id }
-        ensures outside { seat.new.me ≡ seated seat.old.me.0.place Outside seat.old.me.0.lead.entries seat.new.me.0.lead.view }
+        ensures outside { seat.new.me
+            ≡ seated seat.old.me.0.place Outside seat.old.me.0.lead.entries
+            seat.new.me.0.lead.view }
         ensures then { M.then book seat.old.me.0.lead.view seat.new.me.0.lead.view }
     {
         let taken = self.table.shared.exchange(seat, 0, Some(book));
@@ -214,10 +219,12 @@ impl<B, K: Keeper<B>, W: Board, const ENTRIES: u64> Lock<B, K, W, ENTRIES> {
 
     // Takes the chairs in, the last one first, so that one seat has all places.
     fn gather(&self, mut chairs: Vec<Chair<B, K>>) -> Place<B, K::View>
-        requires { AreAll (lock_id self.now.table.shared.table_id ENTRIES) self.now.layout.seats chairs.items }
+        requires { AreAll (lock_id self.now.table.shared.table_id ENTRIES) self.now.layout.seats
+            chairs.items }
         ensures own { result.table_id ≡ self.now.table.shared.table_id }
         ensures free { result.me.1 ≡ [] }
-        ensures whole { (result.me.0.live ≡ true) × (result.me.0.place ≡ 0) × (chairs_of result.me.0 ≡ map sitting_of chairs.items) }
+        ensures whole { (result.me.0.live ≡ true) × (result.me.0.place ≡ 0)
+            × (chairs_of result.me.0 ≡ map sitting_of chairs.items) }
     {
         let Some(last) = chairs.pop() else {
             unreachable!()

@@ -19,7 +19,9 @@ pub fn add_one<T: Turn<u64, Tally>, R: Wait>(
     requires own { lock chair.old ≡ T.id turn.now }
     requires outside { IsOutside chair.old }
     requires room { view chair.old < 2 ^ 32 }
-    ensures added { OnOk result ((view chair.new ≡ view chair.old + 1) × (entries chair.new ≡ entries chair.old + 1) × IsSameChair chair.old chair.new × IsOutside chair.new) }
+    ensures added { OnOk result ((view chair.new ≡ view chair.old + 1)
+        × (entries chair.new ≡ entries chair.old + 1)
+        × IsSameChair chair.old chair.new × IsOutside chair.new) }
     ensures left { OnOk result (entries chair.new ≤ T.ENTRIES) }
     ensures spent { OnErr result ((entries chair.old ≡ T.ENTRIES) × (chair.new ≡ chair.old)) }
 {
@@ -39,7 +41,8 @@ pub fn add_many<T: Turn<u64, Tally>, R: Wait>(
     requires outside { IsOutside chair.old }
     requires room { view chair.old + times ≤ 2 ^ 32 }
     ensures same { IsSameChair chair.old chair.new × IsOutside chair.new }
-    ensures added { OnOk result ((view chair.new ≡ view chair.old + times) × (entries chair.new ≡ entries chair.old + times)) }
+    ensures added { OnOk result ((view chair.new ≡ view chair.old + times)
+        × (entries chair.new ≡ entries chair.old + times)) }
     ensures left { OnOk result (entries chair.old ≤ T.ENTRIES → entries chair.new ≤ T.ENTRIES) }
     ensures spent { OnErr result (T.ENTRIES < entries chair.old + times) }
 {
@@ -109,7 +112,8 @@ pub fn count_in_two<T: Turn<u64, Tally>, R: Threads + Wait + Sync>(
 ) -> Result<Option<u64>, AllocError>
     requires room { times ≤ 2 ^ 32 }
     requires entries { 2 * T.ENTRIES < 2 ^ 64 }
-    ensures { IfOk result (λ count. MatchOption count (T.ENTRIES < times) (λ n. (n ≡ 2 * times) × (times ≤ T.ENTRIES))) }
+    ensures { IfOk result (λ count. MatchOption count (T.ENTRIES < times)
+        (λ n. (n ≡ 2 * times) × (times ≤ T.ENTRIES))) }
 {
     let chairs = Vec::with_capacity(alloc, 2)?;
     let (turn, first, second) = open_two::<T>(alloc)?;
@@ -160,7 +164,8 @@ pub fn count_in_many<T: Turn<u64, Tally> + Drop, R: Threads + Wait + Sync>(
     requires threads { (1 ≤ threads) × (threads ≤ 2 ^ 16) }
     requires room { times ≤ 2 ^ 32 }
     requires entries { threads * T.ENTRIES < 2 ^ 64 }
-    ensures { IfOk result (λ count. MatchOption count (T.ENTRIES < times) (λ n. (n ≡ threads * times) × (times ≤ T.ENTRIES))) }
+    ensures { IfOk result (λ count. MatchOption count (T.ENTRIES < times)
+        (λ n. (n ≡ threads * times) × (times ≤ T.ENTRIES))) }
 {
     let (turn, chairs) = T::new(alloc, 0, threads)?;
     let shared = &turn;

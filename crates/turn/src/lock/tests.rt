@@ -156,3 +156,21 @@ fn a_book_is_dropped_with_its_lock(rt: HostRuntime) {
     drops_its_book::<TicketLock<Arc<u8>, Anything, 3>, _>(&rt, rt.alloc());
     drops_its_book::<ArrayLock<Arc<u8>, Anything, 3>, _>(&rt, rt.alloc());
 }
+
+fn crosses<T: Send + Drop>(_it: &T) {}
+
+fn is_shared<T: Sync>(_it: &T) {}
+
+#[test]
+fn locks_and_chairs_cross_threads(rt: HostRuntime) -> Result<(), Fail> {
+    let (tickets, chairs) = TicketLock::<u64, Anything, 3>::new(rt.alloc(), 7, 2)?;
+    let (row, others) = ArrayLock::<u64, Anything, 3>::new(rt.alloc(), 7, 2)?;
+    crosses(&tickets);
+    crosses(&row);
+    is_shared(&tickets);
+    is_shared(&row);
+    crosses(&chairs);
+    crosses(&others);
+    assert!(rt; tickets.close(chairs) == row.close(others));
+    Ok(())
+}
