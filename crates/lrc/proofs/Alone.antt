@@ -1,8 +1,8 @@
 -- A journal of one processor alone is explained where it replays, and has no race.
-use Rattle.std.proofs.Common.{inl, inr, ◌≡◌, ◌<◌, ◌≤◌, ◌*◌, ◌+◌, ◌∙◌, ℕ, List, length, take, refl, sym, ap, subst}
-use Rattle.std.specs.Prelude.{Option, Some, None, slice_get, replicate}
-use Rattle.std.proofs.lemmas.Option.{same_Some, slice_get_within, slice_get-get_or}
-use Rattle.lists.specs.Writes.{LastWrite, Unwritten}
+use Rattle.std.proofs.Common.{inl, inr, ◌≡◌, ◌<◌, ◌∙◌, ℕ, List, take, refl, sym, ap, subst}
+use Rattle.std.specs.Prelude.{Some, slice_get, replicate}
+use Rattle.std.proofs.lemmas.Option.{same_Some}
+use Rattle.lists.specs.Writes.{LastWrite}
 use Rattle.lists.proofs.LastWrites.{word_written}
 use Rattle.lists.proofs.Sets.{slice_get-replicate_found}
 use Rattle.lists.proofs.Places.{slice_get-take, slice_get-from_take, slice_get-take_within}
@@ -10,14 +10,14 @@ use Rattle.journal.specs.declared.event.Event.{Event}
 use Rattle.journal.specs.declared.event.Kind.{Kind}
 use Rattle.journal.specs.declared.event.Kind.TheVariants.{Load, Store, Fetch, Ask, Acquire, Release, Arrive, Depart, Set, Watch, Await}
 use Rattle.journal.specs.Events.{At}
-use Rattle.journal.specs.Order.{HappensBefore, Edge}
+use Rattle.journal.specs.Order.{HappensBefore}
 use Rattle.journal.specs.Order.HappensBefore.{edge}
 use Rattle.journal.specs.Order.Link.{same}
 use Rattle.journal.specs.WellFormed.{Does}
-use Rattle.journal.specs.Loads.{IsAnswer, LatestStore, Untouched, Explained}
-use Rattle.journal.specs.Races.{Race, RaceFree}
-use Rattle.journal.specs.Flat.{flat_write, memory_after, Replays}
-use Rattle.journal.proofs.Order.{goes_forward, ends_within}
+use Rattle.journal.specs.Loads.{LatestStore, Explained}
+use Rattle.journal.specs.Races.{RaceFree}
+use Rattle.journal.specs.Flat.{flat_write, Replays}
+use Rattle.journal.proofs.Order.{goes_forward}
 
 -- each event is by processor p
 abbrev pub IsAlone : ℕ → List Event → Type 0

@@ -1,5 +1,5 @@
 -- What each call on a memory of one processor keeps.
-use Rattle.std.proofs.Common.{get_or, inl, inr, ◌≡◌, ◌+◌, ◌*◌, ◌<◌, ◌≤◌, ◌∙◌, ℕ, List, [], ◌∷◌, ◌++◌, length, take, Bool, true, false, refl, sym, ap, subst, arith, append_assoc, length-append, append-nil}
+use Rattle.std.proofs.Common.{get_or, inl, inr, ◌≡◌, ◌+◌, ◌<◌, ◌∙◌, ℕ, List, [], ◌∷◌, ◌++◌, length, take, false, refl, sym, ap, subst, arith, append_assoc, length-append, append-nil}
 use Rattle.std.specs.Prelude.{Some, All, slice_get, slice_set, replicate}
 use Rattle.std.proofs.lemmas.List.{take-append-le, length-replicate}
 use Rattle.std.proofs.lemmas.Option.{slice_get-get_or}
@@ -9,11 +9,11 @@ use Rattle.lists.proofs.Places.{push_cases}
 use Rattle.lists.proofs.LastWrites.{written-append, length-written}
 use Rattle.journal.specs.declared.event.Event.{Event}
 use Rattle.journal.specs.declared.event.Kind.{Kind}
-use Rattle.journal.specs.declared.event.Kind.TheVariants.{Load, Store, Fetch, Ask, Acquire, Release, Arrive, Depart, Set, Watch, Await}
+use Rattle.journal.specs.declared.event.Kind.TheVariants.{Load, Store, Ask, Arrive, Depart, Watch}
 use Rattle.journal.specs.InRange.{AddressInRange}
 use Rattle.journal.specs.Sizes.{Sizes}
-use Rattle.journal.specs.Events.{At, count_of, is_arrive, is_depart}
-use Rattle.journal.specs.WellFormed.{Does, LastIs, Answers, Allowed, AllArrived, KindInRange, MayFollow, WellFormed}
+use Rattle.journal.specs.Events.{count_of, is_arrive, is_depart}
+use Rattle.journal.specs.WellFormed.{LastIs, Answers, Allowed, AllArrived, KindInRange, MayFollow, WellFormed}
 use Rattle.journal.specs.Flat.{memory_after, flat_write, AnswersWord, Replays}
 use Rattle.journal.proofs.Places.{at_within, at_behind, at_last, count_of-append}
 use Rattle.lrc.specs.Machine.{by_first, sizes_of_one}

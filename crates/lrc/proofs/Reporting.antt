@@ -1,7 +1,6 @@
 -- What the calls of a run make of its journal.
-use Rattle.std.proofs.Common.{◌≡◌, ◌<◌, ◌*◌, ◌∙◌, ℕ, List, [], ◌∷◌, ◌++◌, length, map, Bool, true, false, refl, sym, ap, subst, arith, append_assoc, get_or}
-use Rattle.std.specs.Prelude.{Some, slice_get, slice_index_or, filter, not, All, cond, ◌==◌}
-use Rattle.std.proofs.lemmas.List.{map-append}
+use Rattle.std.proofs.Common.{◌≡◌, ◌<◌, ◌*◌, ◌∙◌, ℕ, List, [], ◌∷◌, ◌++◌, length, map, false, refl, sym, ap, subst, arith, append_assoc, get_or}
+use Rattle.std.specs.Prelude.{Some, slice_get, filter, not, cond, ◌==◌}
 use Rattle.std.proofs.lemmas.List.Elements.{filter-append}
 use Rattle.std.proofs.lemmas.Option.{slice_get_within, same_Some, slice_get_read}
 use Rattle.journal.specs.declared.event.Event.{Event}

@@ -5,8 +5,8 @@ use Rattle.std.proofs.lemmas.List.{take_rest}
 use Rattle.std.specs.List.{flat_map}
 use Rattle.std.proofs.lemmas.Grind.{flat_map-append}
 use Rattle.lists.proofs.Places.{take-suc_at}
-use Rattle.std.specs.Io.KnownBytes.{Appends, Keeps}
-use Rattle.std.proofs.KnownBytes.{Appends-nil, Appends-trans, Appends-kept}
+use Rattle.std.specs.Io.KnownBytes.{Appends}
+use Rattle.std.proofs.KnownBytes.{Appends-nil, Appends-trans}
 use Rattle.lrc.specs.Writing.{AppendsFront}
 
 -- what was appended so far, of a text of which this is left

@@ -1,5 +1,5 @@
 -- How the stand-in holds its words, its open block and its journal.
-use Rattle.std.specs.Prelude.{ℕ, ◌≡◌, ◌≤◌, ◌++◌, vec_len, vec_capacity}
+use Rattle.std.specs.Prelude.{◌≡◌, ◌≤◌, ◌++◌, vec_len, vec_capacity}
 use Rattle.lrc.specs.declared.one_processor.OneProcessor.TheInside.{Inside}
 use Rattle.lrc.specs.Machine.{Machine}
 use Rattle.lrc.specs.History.{AreWords}

@@ -1,7 +1,6 @@
 -- What a report says of a script's run.
-use Rattle.std.specs.Prelude.{ℕ, ◌≡◌, Bool, false, List, ◌++◌, map}
+use Rattle.std.specs.Prelude.{ℕ, ◌≡◌, false, List, ◌++◌, map}
 use Rattle.journal.specs.declared.event.Kind.{Kind}
-use Rattle.journal.specs.declared.traffic.Traffic.{Traffic}
 use Rattle.journal.specs.WellFormed.{WellFormed}
 use Rattle.journal.specs.Loads.{Explained}
 use Rattle.journal.specs.Races.{RaceFree}

@@ -1,8 +1,6 @@
-use Rattle.std.proofs.Common.{◌++◌}
-use Rattle.std.specs.List.{flat_map}
 use Rattle.std.proofs.lemmas.Result.{err_from_is_err_and, MatchResult-weaker}
 use Rattle.std.proofs.KnownBytes.{Appends-trans}
-use Rattle.lrc.specs.ReportText.{word_line, verdict_line, traffic_line}
+use Rattle.lrc.specs.ReportText.{verdict_line, traffic_line}
 use Rattle.lrc.proofs.Written.{front_then, front_longer}
 use Rattle.lrc.proofs.render.render.Goals as goal
 

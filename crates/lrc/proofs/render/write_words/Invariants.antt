@@ -1,7 +1,7 @@
 use Rattle.std.proofs.Common.{take}
 use Rattle.std.specs.List.{flat_map}
 use Rattle.std.specs.Io.KnownBytes.{Appends}
-use Rattle.lrc.specs.ReportText.{piece_text, word_line}
+use Rattle.lrc.specs.ReportText.{word_line}
 use Rattle.lrc.proofs.render.write_words.Given as goal
 
 abbrev pub invariant-loop-address : goal.invariant-loop-address

@@ -1,4 +1,4 @@
-use Rattle.std.proofs.Common.{◌≡◌, take}
+use Rattle.std.proofs.Common.{take}
 use Rattle.lrc.specs.Follows.{DoesAll}
 use Rattle.lrc.proofs.run.do_section.Given as goal
 

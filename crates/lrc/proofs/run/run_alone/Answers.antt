@@ -1,4 +1,4 @@
-use Rattle.std.proofs.Common.{◌≡◌, ◌∙◌, ap, sym, get_or, refl, map}
+use Rattle.std.proofs.Common.{◌∙◌, ap, sym, refl}
 use Rattle.std.proofs.Math.ListN.{get_or-map}
 use Rattle.lrc_script.specs.Plan.{plan_of}
 use Rattle.lrc.specs.Machine.{history}

@@ -1,7 +1,7 @@
 use Rattle.std.proofs.Common.{◌≡◌, ◌∙◌, ap, ap₂, codes, rules, true}
-use Rattle.clap.specs.Words.{App, Rule, Text, app_of, new_rule, rule_of, with_rule, with_subcommand}
+use Rattle.clap.specs.Words.{App, app_of, new_rule, rule_of, with_rule, with_subcommand}
 use Rattle.clap.specs.Simple.{app_of_fields, on_top}
-use Rattle.lrc.specs.Words.{run_app, lrc_app}
+use Rattle.lrc.specs.Words.{run_app}
 use Rattle.lrc.proofs.words.command.Goals as goal
 
 pub returns : goal.returns

@@ -1,7 +1,7 @@
-use Rattle.std.proofs.Common.{◌≡◌, ◌∙◌, sym, ap, codes, Some, None, Option, List, refl}
+use Rattle.std.proofs.Common.{◌≡◌, ◌∙◌, sym, ap, codes, Some, None, Option, List}
 use Rattle.std.specs.Prelude.{option_map}
 use Rattle.std.proofs.lemmas.Option.{same_Some}
-use Rattle.clap.specs.Walk.{Row, Text, first_of, rows_of}
+use Rattle.clap.specs.Walk.{Row, Text, first_of}
 use Rattle.clap.specs.Matches.{found_of}
 use Rattle.clap.specs.Words.{subcommand_rows_of}
 use Rattle.clap.proofs.WalkLemmas.{first_value-rows}
