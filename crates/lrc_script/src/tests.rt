@@ -1,5 +1,6 @@
 //! Scripts are written with `/` for the line feed.
 
+use crate::draw::{free, guarded};
 use crate::fault::ScriptFault;
 use crate::fault::ScriptFault::{
     AlreadyHeld, BadFlag, BadLine, BadLock, BadNumber, BadSize, NotHeld, OutOfRange, TooLong,
@@ -308,4 +309,20 @@ fn a_refused_growth_has_its_line(rt: HostRuntime) {
             assert!(rt; matches!(line, 3 | 6 | 7 | 10), "line {line}");
         }
     }
+}
+
+#[test]
+fn drawn_scripts_are_read_again(rt: HostRuntime) -> Result<(), Fail> {
+    let mut instructions = 0_usize;
+    for k in 0..1000 {
+        for script in [guarded(rt.alloc(), k)?, free(rt.alloc(), k)?] {
+            let text = script.to_string(rt.alloc())?;
+            for section in &script.sections {
+                instructions = instructions.saturating_add(section.len());
+            }
+            assert_eq!(rt; parse(rt.alloc(), text.as_bytes()).ok(), Some(script), "at {k}");
+        }
+    }
+    assert!(rt; instructions > 20_000, "{instructions} instructions");
+    Ok(())
 }
