@@ -1,8 +1,7 @@
 -- Drawn scripts are lawful.
-use Rattle.std.proofs.Common.{◌≡◌, ◌≢◌, ℕ, zero, suc, ◌+◌, ◌-◌, ◌*◌, ◌^◌, ◌%◌, ◌<◌, ◌≤◌, Bool, true, false, cond, eqb, ltb, List, [], ◌∷◌, ◌++◌, length, refl, sym, ap, subst, ◌∙◌, append_assoc, arith, inl, inr, ◌⊎◌}
-use Rattle.std.specs.Prelude.{All, fold, count_by}
+use Rattle.std.proofs.Common.{◌≡◌, ℕ, zero, suc, ◌+◌, ◌*◌, ◌^◌, ◌%◌, ◌<◌, ◌≤◌, Bool, true, false, cond, eqb, ltb, List, [], ◌∷◌, ◌++◌, length, refl, sym, ap, subst, ◌∙◌, append_assoc, arith, inl, inr, ◌⊎◌}
+use Rattle.std.specs.Prelude.{All, fold}
 use Rattle.std.specs.List.{AllByRecursion, range_with_len}
-use Rattle.std.proofs.lemmas.Bool.{ltb-true, ltb-false}
 use Rattle.std.proofs.lemmas.Bool.Decides.{nat_tests}
 use Rattle.std.proofs.lemmas.List.{append-nil, length-append}
 use Rattle.std.proofs.lemmas.List.Elements.{All-from_recursion, All-weaker}
@@ -45,7 +44,7 @@ split_append (x ∷ xs) ys (f ∷ front) i back e =
     elim (split_append xs ys front i back tail) [
       | inl p ↦ inl (p.0, ap (λ (y : Instruction). y ∷ xs) head ∙ ap (λ (zs : List Instruction). f ∷ zs) p.1)
       | inr p ↦ inr (p.0, ap (λ (y : Instruction). y ∷ front) (sym head) ∙ ap (λ (zs : List Instruction). x ∷ zs) p.1, p.2)
-      ]
+    ]
 
 abbrev counted : ℕ → Instruction → ℕ
 counted n i = n + cond (is_barrier i) 1 0
@@ -64,7 +63,7 @@ safe-append s m n a b xs ys p q = record {
   may = λ before none front i back e. elim (split_append xs ys front i back e) [
     | inl t ↦ p.may before none front i t.0 t.1
     | inr t ↦ subst (λ (zs : List Instruction). MayStandAfter zs i) (append_assoc before xs t.0 ∙ ap (λ (zs : List Instruction). before ++ zs) (sym t.1)) (q.may (before ++ xs) (p.frees before none) t.0 i back t.2)
-    ];
+  ];
   frees = λ before none. subst HoldsNone (append_assoc before xs ys) (q.frees (before ++ xs) (p.frees before none));
   barriers_are = omega (arith, barriers-append xs ys, p.barriers_are, q.barriers_are);
 }

@@ -18,25 +18,25 @@ below m g = ((pcg32 g).0 % m, (pcg32 g).1)
 -- the sizes, and how many barriers a section has
 abbrev pub shape : Lcg → Shape × Lcg
 shape g =
-  let p = below 4 g in let n = below 3 p.1 in let w = below 4 n.1 in let l = below 3 w.1 in let b = below 3 l.1 in
-  (record { processors = 1 + p.0; pages = 1 + n.0; words = 1 + w.0; locks = 1 + l.0; barriers = b.0 }, b.1)
+    let p = below 4 g in let n = below 3 p.1 in let w = below 4 n.1 in let l = below 3 w.1 in let b = below 3 l.1 in
+    (record { processors = 1 + p.0; pages = 1 + n.0; words = 1 + w.0; locks = 1 + l.0; barriers = b.0 }, b.1)
 
 -- an addition under the lock of its address
 abbrev pub group : Shape → Lcg → List Instruction × Lcg
 group s g =
-  let a = below (s.pages * s.words) g in let v = below 8 a.1 in
-  (Acquire (a.0 % s.locks) ∷ Add a.0 v.0 ∷ Release (a.0 % s.locks) ∷ [], v.1)
+    let a = below (s.pages * s.words) g in let v = below 8 a.1 in
+    (Acquire (a.0 % s.locks) ∷ Add a.0 v.0 ∷ Release (a.0 % s.locks) ∷ [], v.1)
 
 -- a load, a store or an addition
 abbrev pub access : ℕ → ℕ → Lcg → Instruction × Lcg
 access kind a g =
-  if nat_lt kind 2 then (Load a, g) else (let v = below 8 g in (if nat_lt kind 4 then Store a v.0 else Add a v.0, v.1))
+    if nat_lt kind 2 then (Load a, g) else (let v = below 8 g in (if nat_lt kind 4 then Store a v.0 else Add a v.0, v.1))
 
 -- an item of a drawn kind: the last of six is a group
 abbrev pub item : Shape → Lcg → List Instruction × Lcg
 item s g =
-  let kind = below 6 g in
-  if kind.0 == 5 then group s kind.1 else (let a = below (s.pages * s.words) kind.1 in let i = access kind.0 a.0 a.1 in (i.0 ∷ [], i.1))
+    let kind = below 6 g in
+    if kind.0 == 5 then group s kind.1 else (let a = below (s.pages * s.words) kind.1 in let i = access kind.0 a.0 a.1 in (i.0 ∷ [], i.1))
 
 abbrev pub piece : Style → Shape → Lcg → List Instruction × Lcg
 piece Guarded s g = group s g
@@ -71,16 +71,16 @@ drawn_sections (suc n) style s g = let one = section style s g in let rest = dra
 -- the script that the draws give, which shows all addresses
 unfoldable pub drawn : Style → Lcg → Plan
 drawn style g =
-  let s = shape g in
-  record {
-    processors = s.0.processors;
-    pages = s.0.pages;
-    words = s.0.words;
-    locks = s.0.locks;
-    flags = 0;
-    sections = (drawn_sections s.0.processors style s.0 s.1).0;
-    shown = range_with_len 0 (s.0.pages * s.0.words);
-  }
+    let s = shape g in
+    record {
+      processors = s.0.processors;
+      pages = s.0.pages;
+      words = s.0.words;
+      locks = s.0.locks;
+      flags = 0;
+      sections = (drawn_sections s.0.processors style s.0 s.1).0;
+      shown = range_with_len 0 (s.0.pages * s.0.words);
+    }
 
 -- the generator made from a number
 unfoldable pub seeded : ℕ → Lcg

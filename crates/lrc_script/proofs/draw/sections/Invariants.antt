@@ -1,4 +1,4 @@
-use Rattle.std.proofs.Common.{◌++◌, ◌-◌, map}
+use Rattle.std.proofs.Common.{◌-◌, map}
 use Rattle.lrc_script.specs.Draw.{drawn_sections}
 use Rattle.lrc_script.proofs.Drawing.{IsAhead}
 use Rattle.lrc_script.proofs.draw.sections.Given as goal
