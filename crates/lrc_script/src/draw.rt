@@ -200,8 +200,8 @@ fn script(alloc: Global, style: Style, seed: u64) -> Result<Script, AllocError>
     })
 }
 
-/// A script without races, drawn from the number: each section adds to words, each under one lock, and all
-/// addresses are shown.
+/// A script of additions, each under the lock of its address, drawn from the number by O'Neill's generator
+/// PCG XSH RR 64/32. All addresses are shown.
 ///
 /// # Errors
 ///
@@ -213,8 +213,8 @@ pub fn guarded(alloc: Global, seed: u64) -> Result<Script, AllocError>
     script(alloc, Style::Guarded, seed)
 }
 
-/// A script drawn from the number, of loads, stores and additions, some of them under a lock. All addresses
-/// are shown.
+/// A script of loads, stores and additions, some of them under a lock, drawn from the number by O'Neill's
+/// generator PCG XSH RR 64/32. All addresses are shown.
 ///
 /// # Errors
 ///
