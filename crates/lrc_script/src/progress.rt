@@ -13,6 +13,12 @@ use crate::script::{Instruction, Script};
 use crate::section::Section;
 use std::alloc::{AllocError, Global};
 
+/// The most instructions of a section.
+const MOST_INSTRUCTIONS: usize = 10_000;
+
+/// The most addresses of the `show` line.
+const MOST_SHOWN: usize = 64;
+
 /// The lines of a script that were read.
 #[derive(Drop)]
 pub enum Progress {
@@ -91,7 +97,7 @@ fn refusal(script: &Script, section: &Section, instruction: Instruction) -> Opti
     match instruction {
         Instruction::Acquire(lock) if section.holds(lock) => Some(ScriptFault::AlreadyHeld),
         Instruction::Release(lock) if !section.holds(lock) => Some(ScriptFault::NotHeld),
-        _ if section.instructions.len() >= 10_000 => Some(ScriptFault::TooLong),
+        _ if section.instructions.len() >= MOST_INSTRUCTIONS => Some(ScriptFault::TooLong),
         _ => None,
     }
 }
@@ -171,7 +177,7 @@ fn show(
     if any_past(numbers, script.pages * script.words) {
         return Err(ScriptFault::OutOfRange);
     }
-    if numbers.len() > 64 {
+    if numbers.len() > MOST_SHOWN {
         return Err(ScriptFault::TooLong);
     }
     script.sections.push(section.instructions)?;
