@@ -20,3 +20,8 @@ pub mod Waits
 pub mod Entries
 pub mod Clocks
 pub mod Accesses
+pub mod Groups
+pub mod Missing
+pub mod Pages
+pub mod Dirty
+pub mod Counted

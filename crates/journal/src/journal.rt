@@ -1,7 +1,8 @@
 //! The journal: a list of events with room for more.
 
-ghost use Rattle.std.specs.Prelude.{◌≡◌, ◌-◌, ◌^◌, ◌<◌, ◌≤◌, ◌++◌, ◌∷◌, [], ◌↔◌, IfOk, OnOk, OnErr, IfSome, IsSome, IsTrue, MatchOption, length, replicate, max, option_copied, slice_get};
+ghost use Rattle.std.specs.Prelude.{◌≡◌, ◌-◌, ◌^◌, ◌<◌, ◌≤◌, ◌++◌, ◌∷◌, [], ◌↔◌, IfOk, OnOk, OnErr, IfSome, IsSome, IsTrue, MatchOption, length, replicate, max, option_copied, slice_get, take};
 ghost use Rattle.journal.specs.InRange.{AddressInRange, AddressesInRange};
+ghost use Rattle.journal.specs.Loads.{Explained};
 ghost use Rattle.journal.specs.Flat.{Replays, memory_after};
 ghost use Rattle.journal.specs.Races.{RaceFree, IsFirstRace};
 ghost use Rattle.journal.specs.Traffic.{messages, records, words};
@@ -132,6 +133,7 @@ impl Journal {
     pub fn replay(&self) -> Result<Option<Vec<u32>>, AllocError>
         ensures replays { IfOk result (λ o. IsSome o ↔ Replays (replicate self.now.addresses 0) self.now.events) }
         ensures memory { IfOk result (λ o. IfSome o (λ v. v.items ≡ memory_after (replicate self.now.addresses 0) self.now.events)) }
+        ensures flat { IfOk result (λ o. Explained self.now.events → RaceFree self.now.events → IsSome o) }
     {
         let events = &self.events;
         replay_of(*events.allocator(), self.addresses, events)
@@ -143,7 +145,8 @@ impl Journal {
     /// Two accesses of one address race where one of them is a store, two processors make them, and
     /// neither happens before the other (Adve and Hill 1990).
     pub fn first_race(&self) -> Result<Option<(usize, usize)>, AllocError>
-        ensures { IfOk result (λ o. MatchOption o (RaceFree self.now.events) (λ r. IsFirstRace self.now.events r.0 r.1)) }
+        ensures first { IfOk result (λ o. MatchOption o (RaceFree self.now.events) (λ r. IsFirstRace self.now.events r.0 r.1)) }
+        ensures flat { IfOk result (λ o. IfSome o (λ r. Explained self.now.events → Replays (replicate self.now.addresses 0) (take r.1 self.now.events))) }
     {
         let events = &self.events;
         first_race_of(*events.allocator(), self.processors, self.addresses, events)

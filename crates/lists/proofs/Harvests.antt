@@ -125,3 +125,8 @@ harvest_is_record {A} f words xs within = record { each = λ o v. (there o v, ba
 -- the harvest of dirty words does to a page what the writes do
 pub harvest_applies : {A : Type 0} (f : A → Option (ℕ × ℕ)) (words page : List ℕ) (xs : List A) → ((x : A) (o v : ℕ) → f x ≡ Some (o, v) → o < length words) → record_applied page (harvest 0 (written f words xs) (marked f (replicate (length words) false) xs)) ≡ written f page xs
 harvest_applies f words page xs within = record_same f page xs (harvest 0 (written f words xs) (marked f (replicate (length words) false) xs)) (harvest_is_record f words xs within)
+
+-- items that write nothing mark nothing
+pub marked_nothing : {A : Type 0} (f : A → Option (ℕ × ℕ)) (marks : List Bool) (xs : List A) → ((k : ℕ) (x : A) → slice_get xs k ≡ Some x → f x ≡ None) → marked f marks xs ≡ marks
+marked_nothing f marks [] h = refl
+marked_nothing f marks (x ∷ xs) h = ap (λ (a : Option (ℕ × ℕ)). marked f (mark marks a) xs) (h 0 x refl) ∙ marked_nothing f marks xs (λ k. h (suc k))

@@ -1,5 +1,6 @@
 -- Lists joined end to end: what they have, their order, and that nothing stands in them twice.
-use Rattle.std.proofs.Common.{ℕ, zero, suc, ◌+◌, ◌≡◌, ◌<◌, ◌⊎◌, ◌↔◌, inl, inr, List, [], ◌∷◌, ◌++◌, Some, slice_get, length, map, option_map, subst, arith, refl, ap, ◌∙◌}
+use Rattle.std.proofs.Common.{ℕ, zero, suc, ◌+◌, ◌≡◌, ◌≢◌, ◌<◌, ◌⊎◌, ◌↔◌, inl, inr, List, [], ◌∷◌, ◌++◌, Some, slice_get, length, map, flat_map, option_map, sym, subst, arith, refl, ap, ◌∙◌}
+use Rattle.std.proofs.lemmas.Bool.{cases_eq}
 use Rattle.std.proofs.lemmas.Option.{slice_get-map, slice_get_within, same_Some, none-some}
 use Rattle.std.specs.List.{concat}
 use Rattle.lists.specs.Places.{Has, InOrder}
@@ -93,3 +94,37 @@ in_order-map {A} {B} R f (x ∷ xs) h = in_order-cons R (f x) (map f xs) first (
   where
     first : (b : B) → Has (map f xs) b → R (f x) b
     first b m = let r = (has-map f xs b).0 m in let P : B → Type 0 = R (f x) in subst P r.2 (h 0 (suc r.1.0) x r.0 (omega arith) refl r.1.1)
+
+-- a list of one item is in order
+pub in_order_single : {A : Type 0} (R : A → A → Type 0) (x : A) → InOrder R (x ∷ [])
+in_order_single R x = in_order-cons R x [] (λ b h. absurd (has-nil b h)) (in_order-nil R)
+
+-- a number stands in a list or not
+pub has_or_not : (xs : List ℕ) (x : ℕ) → Has xs x ⊎ (Has xs x → ⊥)
+has_or_not [] x = inr (λ h. has-nil x h)
+has_or_not (y ∷ xs) x = go (cases_eq y x) (has_or_not xs x)
+  where
+    go : (y ≡ x) ⊎ (y ≢ x) → Has xs x ⊎ (Has xs x → ⊥) → Has (y ∷ xs) x ⊎ (Has (y ∷ xs) x → ⊥)
+    go (inl e) later = inl (0, ap Some e)
+    go (inr d) (inl h) = inl (suc h.0, h.1)
+    go (inr d) (inr n) = inr (λ h. elim ((has-cons y xs x).0 h) [ inl e ↦ d e | inr m ↦ n m ])
+
+-- what the lists of all items have
+pub has-flat_map : {A B : Type 0} (f : A → List B) (xs : List A) (y : B) → Has (flat_map f xs) y ↔ ((x : A) × Has xs x × Has (f x) y)
+has-flat_map f [] y = (λ h. absurd (has-nil y h), λ h. absurd (has-nil h.0 h.1))
+has-flat_map {A} f (x ∷ xs) y = (λ h. there (has-flat_map f xs y).0 ((has-append (f x) (flat_map f xs) y).0 h), λ h. (has-append (f x) (flat_map f xs) y).1 (back (has-flat_map f xs y).1 h.0 h.2 ((has-cons x xs h.0).0 h.1)))
+  where
+    there : (Has (flat_map f xs) y → (z : A) × Has xs z × Has (f z) y) → Has (f x) y ⊎ Has (flat_map f xs) y → (z : A) × Has (x ∷ xs) z × Has (f z) y
+    there ih (inl h) = (x, (0, refl), h)
+    there ih (inr h) = let r = ih h in (r.0, (suc r.1.0, r.1.1), r.2)
+
+    back : (((z : A) × Has xs z × Has (f z) y) → Has (flat_map f xs) y) → (z : A) → Has (f z) y → (x ≡ z) ⊎ Has xs z → Has (f x) y ⊎ Has (flat_map f xs) y
+    back ih z h (inl e) = let P : A → Type 0 = λ a. Has (f a) y in inl (subst P (sym e) h)
+    back ih z h (inr m) = inr (ih (z, m, h))
+
+-- they are in order where each is, and each item of one stands before each of a later one
+pub in_order-flat_map : {A B : Type 0} (R : B → B → Type 0) (f : A → List B) (xs : List A) → ((x : A) → Has xs x → InOrder R (f x)) → InOrder (λ (x y : A). (a b : B) → Has (f x) a → Has (f y) b → R a b) xs → InOrder R (flat_map f xs)
+in_order-flat_map R f [] each across = in_order-nil R
+in_order-flat_map {A} {B} R f (x ∷ xs) each across =
+    in_order-append R (f x) (flat_map f xs) (each x (0, refl)) (in_order-flat_map R f xs (λ z h. each z (suc h.0, h.1)) (in_order_tail (λ (y z : A). (a b : B) → Has (f y) a → Has (f z) b → R a b) x xs across))
+    (λ a b here later. let r = (has-flat_map f xs b).0 later in across 0 (suc r.1.0) x r.0 (omega arith) refl r.1.1 a b here r.2)

@@ -141,3 +141,25 @@ last_found f xs o v h = elim (word_written f (replicate (suc o) (suc v)) xs o v 
 -- lists that do the same to all words have the same last writes
 pub last_same : {A B : Type 0} (f : A → Option (ℕ × ℕ)) (g : B → Option (ℕ × ℕ)) (xs : List A) (ys : List B) (o v : ℕ) → ((words : List ℕ) → written f words xs ≡ written g words ys) → LastWrite f xs o v → LastWrite g ys o v
 last_same f g xs ys o v same l = last_found g ys o v (rw (← same (replicate (suc o) (suc v))) (last_word f (replicate (suc o) (suc v)) xs o v (rw length-replicate (omega arith)) l))
+
+-- items that write nothing leave the words
+pub written_nothing : {A : Type 0} (f : A → Option (ℕ × ℕ)) (words : List ℕ) (xs : List A) → ((k : ℕ) (x : A) → slice_get xs k ≡ Some x → f x ≡ None) → written f words xs ≡ words
+written_nothing f words [] h = refl
+written_nothing f words (x ∷ xs) h = ap (λ (a : Option (ℕ × ℕ)). written f (wrote words a) xs) (h 0 x refl) ∙ written_nothing f words xs (λ k. h (suc k))
+
+-- where an item writes, there is a last write
+pub last_exists : {A : Type 0} (f : A → Option (ℕ × ℕ)) (xs : List A) (k o u : ℕ) (x : A) → slice_get xs k ≡ Some x → f x ≡ Some (o, u) → (v : ℕ) × LastWrite f xs o v
+last_exists f xs k o u x at writes = go (word_written f words xs o word found)
+  where
+    words : List ℕ
+    words = replicate (suc o) 0
+
+    word : ℕ
+    word = get_or (written f words xs) o 0
+
+    found : slice_get (written f words xs) o ≡ Some word
+    found = slice_get-get_or (written f words xs) o 0 (rw (length-written, length-replicate) (omega arith))
+
+    go : LastWrite f xs o word ⊎ ((slice_get words o ≡ Some word) × Unwritten f xs o) → (v : ℕ) × LastWrite f xs o v
+    go (inl l) = (word, l)
+    go (inr n) = absurd (n.1 k x u at writes)

@@ -5,3 +5,4 @@ pub mod Records
 pub mod Harvests
 pub mod Joined
 pub mod Once
+pub mod Picked

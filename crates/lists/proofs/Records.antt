@@ -1,11 +1,11 @@
 -- A record does to a page what all the writes that it comes from do.
-use Rattle.std.proofs.Common.{ℕ, ◌≡◌, ◌<◌, ◌↔◌, List, Option, Some, arith, refl, sym, ap, ◌∙◌}
+use Rattle.std.proofs.Common.{ℕ, ◌≡◌, ◌<◌, ◌↔◌, List, [], ◌∷◌, length, Option, Some, arith, refl, sym, ap, ◌∙◌}
 use Rattle.std.proofs.lemmas.Option.{same_Some}
 use Rattle.std.specs.List.{concat}
 use Rattle.lists.specs.Places.{Has}
 use Rattle.lists.specs.Writes.{written, LastWrite}
 use Rattle.lists.specs.Records.{record_applied, records_applied, IsRecordOf, AreRecordsOf, none, more}
-use Rattle.lists.proofs.LastWrites.{same_written, written-append, last_same}
+use Rattle.lists.proofs.LastWrites.{length-written, same_written, written-append, last_same}
 
 -- each word of a record is its own last write
 pub last_of_record : {A : Type 0} (f : A → Option (ℕ × ℕ)) (xs : List A) (words : List (ℕ × ℕ)) (o v : ℕ) → IsRecordOf f xs words → LastWrite (λ (x : ℕ × ℕ). Some x) words o v ↔ LastWrite f xs o v
@@ -44,3 +44,8 @@ record_moved f g xs ys words same r = record {
   each = λ o v. (λ h. last_same f g xs ys o v same ((r.each o v).0 h), λ l. (r.each o v).1 (last_same g f ys xs o v (λ page. sym (same page)) l));
   rising = r.rising;
 }
+
+-- records keep the number of words
+pub length-records_applied : (page : List ℕ) (rs : List (List (ℕ × ℕ))) → length (records_applied page rs) ≡ length page
+length-records_applied page [] = refl
+length-records_applied page (r ∷ rs) = length-records_applied (record_applied page r) rs ∙ length-written (λ (x : ℕ × ℕ). Some x) page r

@@ -1,4 +1,4 @@
-use Rattle.std.specs.Prelude.{◌≡◌, ℕ, ◌*◌, ◌^◌, ◌<◌, ◌≤◌, ◌==◌, Bool, true, false, if◌then◌else◌, List, [], ◌∷◌, ◌++◌, length, fold, All, count_by, slice_index_or}
+use Rattle.std.specs.Prelude.{◌≡◌, ℕ, ◌*◌, ◌^◌, ◌<◌, ◌≤◌, ◌==◌, Bool, true, false, if◌then◌else◌, List, [], ◌∷◌, ◌++◌, length, fold, All, count_by, slice_index_or, Option, Some, None}
 use Rattle.lrc_script.specs.declared.script.Instruction.{Instruction}
 use Rattle.lrc_script.specs.declared.script.Instruction.TheVariants.{Load, Store, Add, Acquire, Release, Barrier, Set, Await}
 use Rattle.lrc_script.specs.Plan.{Plan}
@@ -9,19 +9,31 @@ addresses s = s.pages * s.words
 
 -- the sizes that a script may have
 pub record AreSizes (s : Plan) : Type 0 where
-  pub processors : s.processors ≡ 1
-  pub pages : s.pages ≡ 1
+  pub some_processors : 1 ≤ s.processors
+  pub most_processors : s.processors ≤ 16
+  pub some_pages : 1 ≤ s.pages
+  pub most_pages : s.pages ≤ 64
   pub some_words : 1 ≤ s.words
   pub most_words : s.words ≤ 64
-  pub locks : s.locks ≡ 0
-  pub flags : s.flags ≡ 0
+  pub locks : s.locks ≤ 32
+  pub flags : s.flags ≤ 32
 
--- the instructions that a script may have
-abbrev pub IsServed : Instruction → Type 0
-IsServed (Load a) = Unit {0}
-IsServed (Store a v) = Unit {0}
-IsServed (Add a v) = Unit {0}
-IsServed _ = ⊥
+-- the address, the lock and the flag that an instruction names
+abbrev pub address_of : Instruction → Option ℕ
+address_of (Load a) = Some a
+address_of (Store a v) = Some a
+address_of (Add a v) = Some a
+address_of _ = None
+
+abbrev pub lock_of : Instruction → Option ℕ
+lock_of (Acquire l) = Some l
+lock_of (Release l) = Some l
+lock_of _ = None
+
+abbrev pub flag_of : Instruction → Option ℕ
+flag_of (Set f) = Some f
+flag_of (Await f) = Some f
+flag_of _ = None
 
 -- an address, a lock and a flag are the cluster's, and a value is a word
 abbrev pub IsInRange : Plan → Instruction → Type 0
@@ -53,7 +65,6 @@ MayStandAfter before _ = Unit {0}
 -- the instructions that one processor may have
 pub record IsSection (s : Plan) (is : List Instruction) : Type 0 where
   pub most : length is ≤ 10000
-  pub served : All IsServed is
   pub in_range : All (IsInRange s) is
   pub holding : (before : List Instruction) (i : Instruction) (after : List Instruction) → is ≡ before ++ i ∷ after → MayStandAfter before i
 

@@ -1,3 +1,6 @@
 pub mod Plan
 pub mod Lawful
 pub mod Text
+pub mod Front
+pub mod Faults
+pub mod Reading

@@ -1,5 +1,9 @@
 //! What the reader of scripts finds wrong.
 
+ghost use Rattle.std.specs.Prelude.{◌≡◌};
+ghost use Rattle.lrc_script.specs.declared.fault.ScriptFault.TheVariants.{NoMemory};
+
+use std::alloc::{AllocError, AllocFailed};
 use thiserror::Error;
 
 /// Why bytes aren't the text of a script that can be run. On one line the tests come in the order
@@ -42,4 +46,20 @@ pub enum ScriptFault {
     /// A growth was refused while the line was read.
     #[error("out of memory")]
     NoMemory,
+}
+
+impl<T: Drop> From<AllocFailed<T>> for ScriptFault {
+    ghost from_gives = { λ _ e. e ≡ NoMemory };
+
+    fn from(_e: AllocFailed<T>) -> ScriptFault {
+        ScriptFault::NoMemory
+    }
+}
+
+impl From<AllocError> for ScriptFault {
+    ghost from_gives = { λ _ e. e ≡ NoMemory };
+
+    fn from(_e: AllocError) -> ScriptFault {
+        ScriptFault::NoMemory
+    }
 }

@@ -1,5 +1,12 @@
 //! Scripts of a cluster: what they say, their exact text, and the reader of that text.
 #![tactic(auto)]
 
+mod display;
+mod evenness;
 pub mod fault;
+mod line;
+mod progress;
 pub mod script;
+mod section;
+#[cfg(test)]
+mod tests;

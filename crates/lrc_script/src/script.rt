@@ -1,5 +1,18 @@
 //! A script: the sizes of a cluster, what each processor does, and the addresses to show.
 
+ghost use Rattle.std.specs.Prelude.{◌≡◌, ◌≢◌, IfOk, IfErr};
+ghost use Rattle.lrc_script.specs.declared.fault.ScriptFault.TheVariants.{NoMemory};
+ghost use Rattle.lrc_script.specs.Plan.{Plan, plan_of};
+ghost use Rattle.lrc_script.specs.Lawful.{IsLawful};
+ghost use Rattle.lrc_script.specs.Text.{text};
+ghost use Rattle.lrc_script.specs.Faults.{IsFault};
+
+use crate::evenness::uneven_line;
+use crate::fault::ScriptFault;
+use crate::line::split_line;
+use crate::progress::Progress;
+use std::alloc::Global;
+
 /// What a processor does at one line of its section. Places are numbered from 0.
 #[derive(Clone, Copy, Debug, PartialEq, Eq)]
 pub enum Instruction {
@@ -21,6 +34,43 @@ pub enum Instruction {
     Await(usize),
 }
 
+impl Instruction {
+    ghost use Rattle.std.specs.Prelude.{◌≡◌};
+    ghost use Rattle.lrc_script.specs.Lawful.{address_of, lock_of, flag_of};
+
+    /// The address that the instruction reads or writes.
+    pub fn address(self) -> Option<usize>
+        ensures { result ≡ address_of self }
+    {
+        match self {
+            Instruction::Load(address)
+            | Instruction::Store(address, _)
+            | Instruction::Add(address, _) => Some(address),
+            _ => None,
+        }
+    }
+
+    /// The lock that the instruction acquires or releases.
+    pub fn lock(self) -> Option<usize>
+        ensures { result ≡ lock_of self }
+    {
+        match self {
+            Instruction::Acquire(lock) | Instruction::Release(lock) => Some(lock),
+            _ => None,
+        }
+    }
+
+    /// The flag that the instruction sets or awaits.
+    pub fn flag(self) -> Option<usize>
+        ensures { result ≡ flag_of self }
+    {
+        match self {
+            Instruction::Set(flag) | Instruction::Await(flag) => Some(flag),
+            _ => None,
+        }
+    }
+}
+
 /// A script for a cluster of `processors` processors that share `pages` pages of `words` words,
 /// `locks` locks and `flags` flags. Section k has the instructions of processor k in order. At the end
 /// processor 0 loads the addresses of `shown` in order.
@@ -33,4 +83,42 @@ pub struct Script {
     pub flags: usize,
     pub sections: Vec<Vec<Instruction>>,
     pub shown: Vec<usize>,
+}
+
+/// The script that has these bytes as its text, or the first line with a fault, counted from 1. On one line
+/// the faults are tested in the order of `ScriptFault`. Reading takes time in the order of the bytes.
+///
+/// # Errors
+///
+/// Each but `NoMemory` comes only where no lawful script has these bytes as its text, and says what is wrong
+/// with its line. `NoMemory` comes where a growth was refused while that line was read.
+pub fn parse(alloc: Global, bytes: &[u8]) -> Result<Script, (usize, ScriptFault)>
+    // What is read is a lawful script, and the bytes are its text.
+    ensures found { IfOk result (λ s. IsLawful (plan_of s) × (bytes.now ≡ text (plan_of s))) }
+    // It is the one script with this text.
+    ensures again { IfOk result (λ t. (s : Plan) → IsLawful s → bytes.now ≡ text s → plan_of t ≡ s) }
+    // Nothing lawful is refused, unless memory runs out.
+    ensures only { IfErr result (λ e. e.1 ≢ NoMemory → (s : Plan) → IsLawful s → bytes.now ≢ text s) }
+    // The lines before the fault begin a script's text, that line doesn't, and the fault says why. Uneven
+    // names the first section that differs from section 0.
+    ensures fault { IfErr result (λ e. IsFault bytes.now e.0 e.1) }
+{
+    let mut progress = Progress::Start;
+    let mut rest = bytes;
+    let mut number = 1;
+    while let Some((line, after)) = split_line(rest) {
+        match progress.after(alloc, line) {
+            Ok(next) => progress = next,
+            Err(fault) => return Err((number, fault)),
+        }
+        rest = after;
+        number += 1;
+    }
+    let Some(script) = progress.whole(rest) else {
+        return Err((number, ScriptFault::Truncated));
+    };
+    match uneven_line(&script) {
+        Some(line) => Err((line, ScriptFault::Uneven)),
+        None => Ok(script),
+    }
 }

@@ -1,0 +1,170 @@
+//! Episodes of the barrier.
+ghost use Rattle.std.specs.Prelude.{ℕ, ◌≡◌, ◌≤◌, ◌<◌, ◌+◌, ◌↔◌, IsTrue, Some, List, [], length, replicate, slice_get, count_by};
+ghost use Rattle.std.specs.List.{list_all};
+ghost use Rattle.barrier.specs.Episodes.{unmet, is_here, arrived, departed, HasGathered, Gathers};
+
+use smallvec::SmallVec;
+use std::alloc::Global;
+use std::marker::Model;
+use std::mem;
+use vtime::VTime;
+
+/// Where a processor is: it has never arrived or has departed, it has arrived for the open episode,
+/// or its episode is complete and it may depart.
+#[derive(Clone, Copy, Debug, Default, PartialEq, Eq)]
+pub enum Stage {
+    #[default]
+    Away,
+    Here,
+    Free,
+}
+
+/// The barrier of all processors of a cluster.
+///
+/// An episode is complete when every processor has arrived. Then each may depart with the join of
+/// the arrivals' timestamps (Keleher, Cox and Zwaenepoel 1992, section 3), and may arrive for the
+/// next episode while others are still to depart. No call takes memory.
+#[derive(Debug, Drop)]
+pub struct Barrier {
+    stages: SmallVec<Stage, 16>,
+    gathered: VTime,
+    last: VTime,
+}
+
+impl Model for Barrier {
+    ghost use Rattle.std.specs.Prelude.{◌≡◌, ◌≤◌, length};
+    ghost use Rattle.barrier.specs.Episodes.{Episodes};
+
+    ghost Value = { Episodes };
+
+    ghost view = { λ b. record { stages = b.stages.items; gathered = b.gathered; last = b.last } };
+
+    ghost invariant = { λ b.
+        let processors = length b.stages.items in
+        (1 ≤ processors) × (processors ≤ 16)
+        × (length b.gathered ≡ processors) × (length b.last ≡ processors) };
+}
+
+impl Barrier {
+    /// The barrier of `processors` processors (1 to 16), none of which has arrived.
+    pub fn new(alloc: Global, processors: usize) -> Self
+        requires some { 1 ≤ processors }
+        requires most { processors ≤ 16 }
+        ensures value { result ≡ unmet processors }
+        ensures gathers { HasGathered result [] }
+    {
+        Barrier {
+            stages: SmallVec::from_elem(alloc, Stage::Away, processors).unwrap(),
+            gathered: VTime::zero(alloc, processors),
+            last: VTime::zero(alloc, processors),
+        }
+    }
+
+    /// Lets a processor arrive with its timestamp, and answers whether the episode is complete now:
+    /// exactly where all others had arrived before.
+    pub fn arrive(&mut self, processor: usize, time: &VTime) -> bool
+        requires away { slice_get self.old.stages processor ≡ Some Stage.Away }
+        requires long { length time.now ≡ length self.old.stages }
+        ensures barrier { self.new ≡ arrived self.old processor time.now }
+        ensures complete { IsTrue result ↔ (count_by is_here self.old.stages + 1 ≡ length self.old.stages) }
+        ensures same_length { length self.new.stages ≡ length self.old.stages }
+
+        // Whichever arrivals led here, the time of a complete episode is the join of them all.
+        ensures gathers { (times : List (List ℕ)) →
+            HasGathered self.old times →
+            Gathers result self.new time.now times }
+    {
+        self.stages[processor] = Stage::Here;
+        self.gathered.join(time);
+        let full = all_here(self.stages.as_slice());
+        if full {
+            let fresh = VTime::zero(*self.stages.allocator(), self.stages.len());
+            self.last = mem::replace(&mut self.gathered, fresh);
+            self.stages.as_mut_slice().fill(Stage::Free);
+        }
+        full
+    }
+
+    /// Where a processor is.
+    pub fn stage(&self, processor: usize) -> Stage
+        requires { processor < length self.now.stages }
+        ensures { slice_get self.now.stages processor ≡ Some result }
+    {
+        self.stages[processor]
+    }
+
+    /// Whether a processor has arrived and not departed since, and its episode is complete.
+    pub fn ready(&self, processor: usize) -> bool
+        requires { processor < length self.now.stages }
+        ensures { IsTrue result ↔ (slice_get self.now.stages processor ≡ Some Stage.Free) }
+    {
+        self.stage(processor) == Stage::Free
+    }
+
+    /// The join of the last complete episode's arrivals: zero before the first.
+    pub fn time(&self) -> &VTime
+        ensures value { result.now ≡ self.now.last }
+        ensures long { length result.now ≡ length self.now.stages }
+    {
+        &self.last
+    }
+
+    /// Lets a processor that is ready depart.
+    pub fn depart(&mut self, processor: usize)
+        requires { slice_get self.old.stages processor ≡ Some Stage.Free }
+        ensures barrier { self.new ≡ departed self.old processor }
+        ensures gathers { (times : List (List ℕ)) → HasGathered self.old times → HasGathered self.new times }
+    {
+        self.stages[processor] = Stage::Away;
+    }
+}
+
+fn all_here(stages: &[Stage]) -> bool
+    ensures { result ≡ list_all is_here stages.now }
+{
+    stages.iter().all(|stage| *stage == Stage::Here)
+}
+
+#[cfg(test)]
+mod tests {
+    use super::*;
+
+    /// Sixteen processors meet three times. Each departs only just before it arrives again, while
+    /// those after it are still to depart.
+    #[test]
+    fn meets_three_times(rt: HostRuntime) {
+        let mut barrier = Barrier::new(rt.alloc(), 16);
+        for round in 0..3 {
+            for processor in 0..16 {
+                assert_eq!(rt; barrier.ready(processor), round > 0);
+                if barrier.ready(processor) {
+                    barrier.depart(processor);
+                }
+                assert!(rt; !barrier.ready(processor));
+                assert_eq!(rt; barrier.stage(processor), Stage::Away);
+                let mut time = barrier.time().copy();
+                assert!(rt; time.entry(processor) < 9);
+                time.tick(processor);
+                assert_eq!(rt; barrier.arrive(processor, &time), processor == 15);
+            }
+            for processor in 0..16 {
+                assert_eq!(rt; barrier.time().entry(processor), round + 1);
+                assert!(rt; barrier.ready(processor));
+            }
+        }
+    }
+
+    #[test]
+    fn one_processor_meets_itself(rt: HostRuntime) {
+        let mut barrier = Barrier::new(rt.alloc(), 1);
+        let mut time = VTime::zero(rt.alloc(), 1);
+        assert!(rt; *barrier.time() == time);
+        time.tick(0);
+        assert!(rt; barrier.arrive(0, &time));
+        assert!(rt; barrier.ready(0));
+        assert!(rt; *barrier.time() == time);
+        barrier.depart(0);
+        assert!(rt; !barrier.ready(0));
+        assert!(rt; barrier.arrive(0, &time));
+    }
+}

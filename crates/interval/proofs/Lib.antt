@@ -1,0 +1,13 @@
+pub mod Members
+pub mod Rising
+pub mod Chosen
+pub mod Merged
+pub mod Steps
+pub mod Pushed
+pub mod Empty
+pub mod Trimmed
+pub mod Earliest
+pub mod Between
+pub mod Looked
+pub mod News
+pub mod Sending

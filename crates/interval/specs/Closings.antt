@@ -1,0 +1,67 @@
+-- The closed intervals that are kept, as one list in closing order.
+use Rattle.std.specs.Prelude.{ℕ, ◌+◌, ◌==◌, ◌&&◌, nat_lt, nat_le, not, min, max, Bool, Option, List, [], ◌∷◌, ◌++◌, map, filter, find, slice_index, slice_set}
+use Rattle.std.specs.List.{flat_map}
+use Rattle.std.specs.Option.{option_and_then}
+use Rattle.page.specs.Changes.{Changes}
+use Rattle.interval.specs.declared.notice.Notice.{Notice}
+use Rattle.interval.specs.declared.kept.Kept.{Kept}
+use Rattle.interval.specs.Intervals.{ClosedInterval, SentRecord}
+
+-- `kept` is in closing order. For each owner, `first` is the number of its first interval that is kept, or
+-- of its next one where none is, and `next` the number of its next one. `pushed` counts all ever closed
+pub record Closings : Type 0 where
+  pub kept : List Kept
+  pub first : List ℕ
+  pub next : List ℕ
+  pub pushed : ℕ
+
+-- one more interval, closed last
+abbrev pub pushed : Closings → ClosedInterval → Closings
+pushed c interval = record {
+  kept = c.kept ++ record { place = c.pushed; interval = interval } ∷ [];
+  first = c.first;
+  next = slice_set c.next interval.owner (interval.number + 1);
+  pushed = c.pushed + 1;
+}
+
+-- the owner's interval has a number below `to`
+abbrev pub is_trimmed : ℕ → ℕ → Kept → Bool
+is_trimmed owner to k = k.interval.owner == owner && nat_lt k.interval.number to
+
+-- the owner's intervals with numbers below `to` are dropped
+abbrev pub trimmed : Closings → ℕ → ℕ → Closings
+trimmed c owner to = record {
+  kept = filter (λ k. not (is_trimmed owner to k)) c.kept;
+  first = slice_set c.first owner (max (slice_index c.first owner) (min to (slice_index c.next owner)));
+  next = c.next;
+  pushed = c.pushed;
+}
+
+-- the timestamp `new` covers the interval and `old` doesn't
+abbrev pub is_news : List ℕ → List ℕ → Kept → Bool
+is_news old new k =
+    nat_le (slice_index old k.interval.owner) k.interval.number && nat_lt k.interval.number (slice_index new k.interval.owner)
+
+-- a record of the interval, under its notice
+abbrev pub sent_record : Kept → Changes → SentRecord
+sent_record k r = record {
+  notice = record { page = r.page; owner = k.interval.owner; number = k.interval.number };
+  place = k.place;
+  content = r;
+}
+
+-- all of the interval's records
+abbrev pub sent_interval : Kept → List SentRecord
+sent_interval k = map (sent_record k) k.interval.records
+
+-- the kept intervals that `new` covers and `old` doesn't, in closing order
+abbrev pub between : Closings → List ℕ → List ℕ → List SentRecord
+between c old new = flat_map sent_interval (filter (is_news old new) c.kept)
+
+-- the interval is that of the notice
+abbrev pub is_noticed : Notice → Kept → Bool
+is_noticed n k = k.interval.owner == n.owner && k.interval.number == n.number
+
+-- the record that the notice announces, where its interval is kept and has one
+abbrev pub record_of : Closings → Notice → Option Changes
+record_of c n = option_and_then (λ k. find (λ r. r.page == n.page) k.interval.records) (find (is_noticed n) c.kept)

@@ -1,0 +1,70 @@
+-- How the kept intervals lie: one queue for each owner.
+use Rattle.std.specs.Prelude.{ℕ, ◌≡◌, ◌+◌, ◌-◌, ◌<◌, min, max, drop, nat_lt, cond, Option, Some, None, List, [], ◌∷◌, map, length, slice_get}
+use Rattle.std.specs.List.{flat_map}
+use Rattle.lists.specs.Places.{Has, InOrder}
+use Rattle.interval.specs.declared.kept.Kept.{Kept}
+use Rattle.interval.specs.Intervals.{HasRisingPages}
+use Rattle.interval.specs.Closings.{Closings}
+
+-- the kept intervals of one owner by rising number, from `first` on
+pub record Queue : Type 0 where
+  pub first : ℕ
+  pub kept : List Kept
+
+-- the list with k put at its place
+abbrev pub put : Kept → List Kept → List Kept
+put k [] = k ∷ []
+put k (x ∷ xs) = cond (nat_lt k.place x.place) (k ∷ x ∷ xs) (cond (nat_lt x.place k.place) (x ∷ put k xs) (x ∷ xs))
+
+-- the intervals by rising closing number
+abbrev pub by_place : List Kept → List Kept
+by_place [] = []
+by_place (x ∷ xs) = put x (by_place xs)
+
+-- all queues as one list in closing order
+abbrev pub merged : List Queue → List Kept
+merged queues = by_place (flat_map (λ (q : Queue). q.kept) queues)
+
+-- what the queues hold, in the words of contracts
+abbrev pub closings : List Queue → ℕ → Closings
+closings queues count = record {
+  kept = merged queues;
+  first = map (λ (q : Queue). q.first) queues;
+  next = map (λ (q : Queue). q.first + length q.kept) queues;
+  pushed = count;
+}
+
+-- the interval at index i of the owner's queue
+pub record IsQueued (owner count : ℕ) (queue : Queue) (i : ℕ) (k : Kept) : Type 0 where
+  pub owner_is : k.interval.owner ≡ owner
+  pub number_is : k.interval.number ≡ queue.first + i
+  pub closed : k.place < count
+  pub pages : HasRisingPages k.interval.records
+
+-- the owner's queue, when so many intervals were closed in all
+pub record IsQueue (owner count : ℕ) (queue : Queue) : Type 0 where
+  pub each : (i : ℕ) (k : Kept) → slice_get queue.kept i ≡ Some k → IsQueued owner count queue i k
+  pub rising : InOrder (λ (j k : Kept). j.place < k.place) queue.kept
+
+-- one queue for each owner, and no closing number in two of them
+pub record AreQueues (queues : List Queue) (count : ℕ) : Type 0 where
+  pub each : (q : ℕ) (queue : Queue) → slice_get queues q ≡ Some queue → IsQueue q count queue
+  pub apart : (q r : ℕ) (a b : Queue) (j k : Kept) → slice_get queues q ≡ Some a → slice_get queues r ≡ Some b
+      → Has a.kept j → Has b.kept k → j.place ≡ k.place → q ≡ r
+
+-- the queue's first interval numbered within from..to
+abbrev pub first_within : Queue → ℕ → ℕ → Option Kept
+first_within queue from to = cond (nat_lt from to) (slice_get queue.kept (from - queue.first)) None
+
+-- the one that was closed first
+abbrev pub earlier : Option Kept → Option Kept → Option Kept
+earlier None o = o
+earlier (Some a) None = Some a
+earlier (Some a) (Some b) = cond (nat_lt b.place a.place) (Some b) (Some a)
+
+-- the queue without the intervals with numbers below `to`
+abbrev pub without : Queue → ℕ → Queue
+without queue to = record {
+  first = max queue.first (min to (queue.first + length queue.kept));
+  kept = drop (to - queue.first) queue.kept;
+}

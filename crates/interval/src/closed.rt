@@ -1,0 +1,146 @@
+//! The closed intervals of all owners.
+ghost use Rattle.std.specs.Prelude.{◌≡◌, ℕ, ◌-◌, ◌^◌, ◌<◌, ◌≤◌, ◌==◌, MatchOption, OnOk, OnErr, IfOk, List, replicate, [], ◌∷◌, length, find, filter, slice_get, slice_index};
+ghost use Rattle.std.specs.Option.{option_copied};
+ghost use Rattle.vtime.specs.Times.{tick};
+ghost use Rattle.interval.specs.Intervals.{HasRisingPages, IsInClosingOrder};
+ghost use Rattle.interval.specs.Closings.{pushed, trimmed, is_news, between, record_of};
+
+use crate::kept::{Interval, Kept};
+use crate::notice::{Notice, Sent};
+use crate::queue::{Queue, earlier};
+use page::Record;
+use std::alloc::{AllocError, Global};
+use std::marker::Model;
+use vtime::VTime;
+
+/// The closed intervals that some processor may still have to learn of, in closing order.
+#[derive(Debug, Drop)]
+pub struct Closed {
+    queues: Vec<Queue>,
+    pushed: u64,
+}
+
+impl Model for Closed {
+    ghost use Rattle.interval.specs.Closings.{Closings};
+
+    ghost Value = { Closings };
+
+    ghost use Rattle.interval.specs.Queues.{closings, AreQueues};
+
+    ghost view = { λ c. closings c.queues.items c.pushed };
+
+    ghost invariant = { λ c. AreQueues c.queues.items c.pushed };
+}
+
+impl Closed {
+    /// Keeps intervals of this many owners, of which none is closed.
+    pub fn new(alloc: Global, owners: usize) -> Result<Closed, AllocError>
+        ensures kept { IfOk result (λ c. c.kept ≡ []) }
+        ensures first { IfOk result (λ c. c.first ≡ replicate owners 0) }
+        ensures next { IfOk result (λ c. c.next ≡ replicate owners 0) }
+        ensures pushed { IfOk result (λ c. c.pushed ≡ 0) }
+    {
+        let mut queues = Vec::with_capacity(alloc, owners)?;
+        for _ in 0..owners {
+            queues.push(Queue::new(alloc))?;
+        }
+        Ok(Closed { queues, pushed: 0 })
+    }
+
+    /// Keeps one more interval, the last one closed so far. Without memory nothing changes.
+    pub fn push(&mut self, interval: Interval) -> Result<(), AllocError>
+        requires owner { interval.owner < length self.old.next }
+        requires number { interval.number ≡ slice_index self.old.next interval.owner }
+        requires pages { HasRisingPages interval.records }
+        requires fits { self.old.pushed < 2 ^ 64 - 1 }
+        ensures ok { OnOk result (self.new ≡ pushed self.old interval) }
+
+        // Who is not to perform the interval is sent what was sent before.
+        ensures same_news { OnOk result ((old new : List ℕ) → slice_index new interval.owner ≤ interval.number
+            → between self.new old new ≡ between self.old old new) }
+        ensures err { OnErr result (self.new ≡ self.old) }
+    {
+        let owner = interval.owner;
+        self.queues[owner].push(Kept {
+            place: self.pushed,
+            interval,
+        })?;
+        self.pushed += 1;
+        Ok(())
+    }
+
+    /// What has to be sent to one who has performed `old` and is to perform `new`: the records of the
+    /// kept intervals that `new` covers and `old` doesn't, in closing order, and within one interval by
+    /// rising page. It costs in the order of what it answers times the owners.
+    pub fn between(&self, old: &VTime, new: &VTime) -> Result<Vec<Sent>, AllocError>
+        requires old_long { length old.now ≡ length self.now.first }
+        requires new_long { length new.now ≡ length self.now.first }
+        requires none_trimmed { (q : ℕ) → slice_index self.now.first q ≤ slice_index old.now q }
+        ensures value { IfOk result (λ sent. sent.items ≡ between self.now old.now new.now) }
+        ensures in_order { IfOk result (λ sent. IsInClosingOrder sent.items) }
+    {
+        let mut at = old.copy();
+        let mut sent = Vec::new(*self.queues.allocator());
+        while let Some(kept) = self.earliest(&at, new) {
+            kept.send(&mut sent)?;
+            let owner = kept.owner();
+            prove!(at.entry(owner) < new.entry(owner));
+            at.tick(owner);
+        }
+        Ok(sent)
+    }
+
+    /// The first interval that `new` covers and `at` doesn't.
+    fn earliest(&self, at: &VTime, new: &VTime) -> Option<&Kept>
+        requires at_long { length at.now ≡ length self.now.first }
+        requires new_long { length new.now ≡ length self.now.first }
+        requires none_trimmed { (q : ℕ) → slice_index self.now.first q ≤ slice_index at.now q }
+        ensures { MatchOption result (filter (is_news at.now new.now) self.now.kept ≡ [])
+            (λ k. filter (is_news at.now new.now) self.now.kept
+            ≡ k.now ∷ filter (is_news (tick at.now k.now.interval.owner) new.now) self.now.kept) }
+    {
+        let mut earliest = None;
+        for (owner, queue) in self.queues.iter().enumerate() {
+            earliest = earlier(
+                earliest,
+                queue.first_within(at.entry(owner), new.entry(owner)),
+            );
+        }
+        earliest
+    }
+
+    /// The record that a notice announces: `None` where its interval was trimmed or never was.
+    pub fn record_of(&self, notice: &Notice) -> Option<&Record>
+        ensures { option_copied result ≡ record_of self.now notice.now }
+    {
+        let queue = self.queues.get(notice.owner)?;
+        if notice.number < queue.first() {
+            return None;
+        }
+        queue.numbered(notice.number)?.interval.record(notice.page)
+    }
+
+    /// The number of the owner's first interval that is kept, or of its next one where none is.
+    pub fn first(&self, owner: usize) -> u64
+        requires { owner < length self.now.first }
+        ensures value { slice_get self.now.first owner ≡ Some result }
+        ensures earliest { MatchOption (find (λ k. k.interval.owner == owner) self.now.kept)
+            (slice_get self.now.next owner ≡ Some result) (λ k. k.interval.number ≡ result) }
+    {
+        self.queues[owner].first()
+    }
+
+    /// Drops the owner's intervals with numbers below `to`, which everyone has performed.
+    pub fn trim(&mut self, owner: usize, to: u64)
+        requires { owner < length self.old.first }
+        ensures value { self.new ≡ trimmed self.old owner to }
+
+        // Who has performed the intervals that are dropped is sent what was sent before.
+        ensures same_news { (old new : List ℕ) → to ≤ slice_index old owner → between self.new old new ≡ between self.old old new }
+    {
+        self.queues[owner].trim(to);
+    }
+}
+
+#[cfg(test)]
+mod tests;

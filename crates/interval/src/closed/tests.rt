@@ -1,0 +1,240 @@
+ghost use Rattle.std.specs.Prelude.{◌≡◌, ◌+◌, ◌<◌, Some, IfOk, OnOk, OnErr, length, map, slice_get, slice_set};
+ghost use Rattle.std.specs.Arc.{arc_value};
+ghost use Rattle.interval.specs.Intervals.{HasRisingPages};
+
+use super::*;
+use std::process::Abort;
+use std::sync::Arc;
+use std::test::Fail;
+
+/// The record of a page in which the word at offset 0 is 1.
+fn record(alloc: Global, page: usize) -> Result<Arc<Record>, AllocError>
+    ensures { IfOk result (λ r. (arc_value r).page ≡ page) }
+{
+    let record = Record::new(page, vec![in alloc; (0, 1)]?);
+    Ok(Arc::new(alloc, record)?)
+}
+
+/// Keeps the interval, of one of two owners, that has these records.
+fn keep(
+    closed: &mut Closed,
+    owner: usize,
+    number: u64,
+    records: Vec<Arc<Record>>,
+) -> Result<(), AllocError>
+    requires two_owners { length closed.old.first ≡ 2 }
+    requires next { slice_get closed.old.next owner ≡ Some number }
+    requires pages { HasRisingPages (map arc_value records.items) }
+    requires few { closed.old.pushed < 100 }
+    ensures two_owners { length closed.new.first ≡ 2 }
+    ensures next { OnOk result (closed.new.next ≡ slice_set closed.old.next owner (number + 1)) }
+    ensures pushed { OnOk result (closed.new.pushed ≡ closed.old.pushed + 1) }
+    ensures err { OnErr result (closed.new ≡ closed.old) }
+{
+    closed.push(Interval {
+        owner,
+        number,
+        records,
+    })
+}
+
+/// Owner 0's intervals write to page 3 and to none, owner 1's to pages 0 and 2 and to page 3.
+fn four_intervals(alloc: Global) -> Result<Closed, AllocError>
+    ensures { IfOk result (λ c. length c.first ≡ 2) }
+{
+    let mut closed = Closed::new(alloc, 2)?;
+    let records = vec![in alloc; record(alloc, 3)?]?;
+    keep(&mut closed, 0, 0, records)?;
+    let records = vec![in alloc; record(alloc, 0)?, record(alloc, 2)?]?;
+    keep(&mut closed, 1, 0, records)?;
+    keep(&mut closed, 0, 1, Vec::new(alloc))?;
+    let records = vec![in alloc; record(alloc, 3)?]?;
+    keep(&mut closed, 1, 1, records)?;
+    Ok(closed)
+}
+
+/// Raises the entry, while it is below 9.
+fn raise(time: &mut VTime, q: usize, count: u64)
+    requires { q < length time.old }
+    ensures { length time.new ≡ length time.old }
+{
+    for _ in 0..count.min(9) {
+        if time.entry(q) < 9 {
+            time.tick(q);
+        }
+    }
+}
+
+/// The timestamp with these two entries, each below 10.
+fn stamp(alloc: Global, entries: [u64; 2]) -> VTime
+    ensures { length result ≡ 2 }
+{
+    let mut time = VTime::zero(alloc, 2);
+    let [first, second] = entries;
+    raise(&mut time, 0, first);
+    raise(&mut time, 1, second);
+    time
+}
+
+fn notice(page: usize, owner: usize, number: u64) -> Notice {
+    Notice {
+        page,
+        owner,
+        number,
+    }
+}
+
+/// Whether these notices lie between the timestamps, in this order and with these closing numbers, and
+/// with the records that they announce.
+fn has_between(
+    rt: &(impl Abort + AllocGlobal),
+    closed: &Closed,
+    old: [u64; 2],
+    new: [u64; 2],
+    wanted: &[(Notice, u64)],
+) -> Result<bool, AllocError>
+    requires { length closed.now.first ≡ 2 }
+{
+    let old = stamp(rt.alloc(), old);
+    let new = stamp(rt.alloc(), new);
+    assert!(rt; closed.first(0) <= old.entry(0));
+    assert!(rt; closed.first(1) <= old.entry(1));
+    let sent = closed.between(&old, &new)?;
+    if sent.len() != wanted.len() {
+        return Ok(false);
+    }
+    for (one, (notice, place)) in sent.iter().zip(wanted) {
+        let announced = closed.record_of(notice).map(|record| record.page());
+        if one.notice != *notice || one.place != *place || announced != Some(one.content.page()) {
+            return Ok(false);
+        }
+    }
+    Ok(true)
+}
+
+#[test]
+fn sends_in_closing_order(rt: HostRuntime) -> Result<(), Fail> {
+    let closed = four_intervals(rt.alloc())?;
+    let pages = [(notice(0, 1, 0), 1), (notice(2, 1, 0), 1)];
+    let both = [
+        (notice(0, 1, 0), 1),
+        (notice(2, 1, 0), 1),
+        (notice(3, 1, 1), 3),
+    ];
+    assert!(rt; has_between(&rt, &closed, [1, 0], [2, 2], &both)?);
+    assert!(rt; has_between(&rt, &closed, [0, 0], [1, 0], &[(notice(3, 0, 0), 0)])?);
+    assert!(rt; has_between(&rt, &closed, [2, 0], [1, 1], &pages)?);
+    assert!(rt; has_between(&rt, &closed, [2, 2], [2, 2], &[])?);
+    assert!(rt; closed.record_of(&notice(3, 0, 0)).is_some());
+    assert!(rt; closed.record_of(&notice(2, 0, 0)).is_none());
+    assert!(rt; closed.record_of(&notice(3, 0, 2)).is_none());
+    assert!(rt; closed.record_of(&notice(3, 2, 0)).is_none());
+    Ok(())
+}
+
+#[test]
+fn sends_what_a_trim_leaves(rt: HostRuntime) -> Result<(), Fail> {
+    let mut closed = four_intervals(rt.alloc())?;
+    assert_eq!(rt; closed.first(0), 0);
+    closed.trim(0, 1);
+    assert!(rt; closed.record_of(&notice(3, 0, 0)).is_none());
+    let pages = [(notice(0, 1, 0), 1), (notice(2, 1, 0), 1)];
+    let both = [
+        (notice(0, 1, 0), 1),
+        (notice(2, 1, 0), 1),
+        (notice(3, 1, 1), 3),
+    ];
+    assert!(rt; has_between(&rt, &closed, [1, 0], [2, 2], &both)?);
+    assert!(rt; has_between(&rt, &closed, [2, 0], [1, 1], &pages)?);
+    assert!(rt; has_between(&rt, &closed, [2, 2], [2, 2], &[])?);
+    assert_eq!(rt; closed.first(0), 1);
+    assert_eq!(rt; closed.first(1), 0);
+    closed.trim(0, 9);
+    assert_eq!(rt; closed.first(0), 2);
+    closed.trim(0, 1);
+    assert_eq!(rt; closed.first(0), 2);
+    assert!(rt; has_between(&rt, &closed, [2, 0], [2, 1], &pages)?);
+    Ok(())
+}
+
+#[test]
+fn has_sixteen_owners(rt: HostRuntime) -> Result<(), Fail> {
+    let mut closed = Closed::new(rt.alloc(), 16)?;
+    let records = vec![in rt.alloc(); record(rt.alloc(), 63)?]?;
+    closed.push(Interval {
+        owner: 15,
+        number: 0,
+        records,
+    })?;
+    let old = VTime::zero(rt.alloc(), 16);
+    let mut new = old.copy();
+    new.tick(15);
+    let sent = closed.between(&old, &new)?;
+    assert_eq!(rt; sent.len(), 1);
+    closed.trim(15, 1);
+    assert_eq!(rt; closed.first(15), 1);
+    assert_eq!(rt; closed.first(0), 0);
+    Ok(())
+}
+
+/// What may be shared among threads.
+fn shared<T: Send + Sync + Drop>(value: T) -> T {
+    value
+}
+
+#[test]
+fn is_shared_among_threads(rt: HostRuntime) -> Result<(), Fail> {
+    let closed = shared(four_intervals(rt.alloc())?);
+    assert!(rt; closed.record_of(&notice(3, 0, 0)).is_some());
+    let sent: Vec<Sent> = shared(Vec::new(rt.alloc()));
+    assert!(rt; sent.is_empty());
+    Ok(())
+}
+
+fn one_record(alloc: Global, page: usize) -> Result<Vec<Arc<Record>>, AllocError>
+    ensures { IfOk result (λ rs. HasRisingPages (map arc_value rs.items)) }
+{
+    Ok(vec![in alloc; record(alloc, page)?]?)
+}
+
+/// As `keep`, and tries a second time where memory was refused.
+fn keep_page(
+    alloc: Global,
+    closed: &mut Closed,
+    owner: usize,
+    number: u64,
+    page: usize,
+) -> Result<(), AllocError>
+    requires two_owners { length closed.old.first ≡ 2 }
+    requires next { slice_get closed.old.next owner ≡ Some number }
+    requires few { closed.old.pushed < 100 }
+    ensures two_owners { length closed.new.first ≡ 2 }
+    ensures next { OnOk result (closed.new.next ≡ slice_set closed.old.next owner (number + 1)) }
+    ensures pushed { OnOk result (closed.new.pushed ≡ closed.old.pushed + 1) }
+{
+    if let Ok(records) = one_record(alloc, page) {
+        if keep(closed, owner, number, records).is_ok() {
+            return Ok(());
+        }
+    }
+    keep(closed, owner, number, one_record(alloc, page)?)
+}
+
+// Each allocation in turn is refused to this test: the call that it was refused to is made again.
+#[test]
+fn goes_on_after_a_refusal(rt: HostRuntime) -> Result<(), Fail> {
+    let alloc = rt.alloc();
+    let mut closed = match Closed::new(alloc, 2) {
+        Ok(closed) => closed,
+        Err(_) => Closed::new(alloc, 2)?,
+    };
+    keep_page(alloc, &mut closed, 0, 0, 3)?;
+    keep_page(alloc, &mut closed, 1, 0, 2)?;
+    let both = [(notice(3, 0, 0), 0), (notice(2, 1, 0), 1)];
+    let has_both = match has_between(&rt, &closed, [0, 0], [1, 1], &both) {
+        Ok(has_both) => has_both,
+        Err(_) => has_between(&rt, &closed, [0, 0], [1, 1], &both)?,
+    };
+    assert!(rt; has_both);
+    Ok(())
+}

@@ -1,0 +1,96 @@
+//! Closed intervals.
+ghost use Rattle.std.specs.Prelude.{◌≡◌, ◌==◌, ◌++◌, IfOk, OnOk, find, map};
+ghost use Rattle.std.specs.Arc.{arc_value};
+ghost use Rattle.std.specs.Option.{option_copied};
+ghost use Rattle.interval.specs.Closings.{sent_interval, sent_record};
+
+use crate::notice::{Notice, Sent};
+use page::Record;
+use std::alloc::AllocError;
+use std::marker::Model;
+use std::sync::Arc;
+
+/// A closed interval of a processor (Keleher, Cox and Zwaenepoel 1992, section 3.1): what its stores
+/// left, one record a page. Records are shared and never written.
+#[derive(Debug, Drop)]
+pub struct Interval {
+    /// The processor whose interval it is.
+    pub owner: usize,
+    /// Its number, counted from 0 for each owner.
+    pub number: u64,
+    /// A record for each page that it wrote to.
+    pub records: Vec<Arc<Record>>,
+}
+
+impl Model for Interval {
+    ghost use Rattle.std.specs.Prelude.{map};
+    ghost use Rattle.std.specs.Arc.{arc_value};
+    ghost use Rattle.interval.specs.Intervals.{ClosedInterval};
+
+    ghost Value = { ClosedInterval };
+
+    ghost view = { λ i. record { owner = i.owner; number = i.number; records = map arc_value i.records.items } };
+}
+
+impl Interval {
+    /// What the interval left in the page, if it wrote to it.
+    pub fn record(&self, page: usize) -> Option<&Record>
+        ensures { option_copied result ≡ find (λ r. r.page == page) self.now.records }
+    {
+        for record in self.shared_records() {
+            let record: &Record = record;
+            if record.page() == page {
+                return Some(record);
+            }
+        }
+        None
+    }
+
+    fn shared_records(&self) -> &[Arc<Record>]
+        ensures { map arc_value result.now ≡ self.now.records }
+    {
+        &self.records
+    }
+}
+
+/// A closed interval with its closing number.
+#[derive(Debug, Drop)]
+pub struct Kept {
+    /// How many intervals, of all owners, were closed before it.
+    pub place: u64,
+    /// The interval.
+    pub interval: Interval,
+}
+
+impl Kept {
+    /// The processor whose interval it is.
+    pub(crate) fn owner(&self) -> usize
+        ensures { result ≡ self.now.interval.owner }
+    {
+        self.interval.owner
+    }
+
+    /// Adds each record of the interval, under its notice, to what is sent.
+    pub(crate) fn send(&self, sent: &mut Vec<Sent>) -> Result<(), AllocError>
+        ensures { OnOk result (sent.new.items ≡ sent.old.items ++ sent_interval self.now) }
+    {
+        for record in self.interval.shared_records() {
+            sent.push(self.sent(record)?)?;
+        }
+        Ok(())
+    }
+
+    fn sent(&self, shared: &Arc<Record>) -> Result<Sent, AllocError>
+        ensures { IfOk result (λ sent. sent ≡ sent_record self.now (arc_value shared.now)) }
+    {
+        Ok(Sent {
+            notice: Notice {
+                page: shared.page(),
+                owner: self.interval.owner,
+                number: self.interval.number,
+            },
+            place: self.place,
+            content: shared.clone()?,
+        })
+    }
+}

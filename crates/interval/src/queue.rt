@@ -1,0 +1,91 @@
+//! The kept intervals of one owner.
+ghost use Rattle.std.specs.Prelude.{◌≡◌, ◌-◌, ◌≤◌, [], ◌∷◌, ◌++◌, slice_get, OnOk, OnErr};
+ghost use Rattle.std.specs.Option.{option_copied};
+ghost use Rattle.interval.specs.Queues.{first_within, earlier, without};
+
+use crate::kept::Kept;
+use std::alloc::{AllocError, Global};
+use std::collections::VecDeque;
+use std::marker::Model;
+
+/// The kept intervals of one owner in the order of their numbers, the first of which is `first`.
+#[derive(Debug, Drop)]
+pub(crate) struct Queue {
+    first: u64,
+    kept: VecDeque<Kept>,
+}
+
+impl Model for Queue {
+    ghost use Rattle.interval.specs.Queues.{Queue as OwnerQueue};
+
+    ghost Value = { OwnerQueue };
+
+    ghost view = { λ q. record { first = q.first; kept = q.kept.items } };
+}
+
+impl Queue {
+    /// No interval yet.
+    pub(crate) fn new(alloc: Global) -> Queue
+        ensures first { result.first ≡ 0 }
+        ensures kept { result.kept ≡ [] }
+    {
+        Queue {
+            first: 0,
+            kept: VecDeque::new(alloc),
+        }
+    }
+
+    /// The number of the first interval, or of the next one where none is kept.
+    pub(crate) fn first(&self) -> u64
+        ensures { result ≡ self.now.first }
+    {
+        self.first
+    }
+
+    /// Adds the owner's next interval.
+    pub(crate) fn push(&mut self, kept: Kept) -> Result<(), AllocError>
+        ensures ok { OnOk result (self.new ≡ record { first = self.old.first; kept = self.old.kept ++ kept ∷ [] }) }
+        ensures err { OnErr result (self.new ≡ self.old) }
+    {
+        self.kept.push_back(kept)?;
+        Ok(())
+    }
+
+    /// The interval with this number, if it was closed.
+    pub(crate) fn numbered(&self, number: u64) -> Option<&Kept>
+        requires { self.now.first ≤ number }
+        ensures { option_copied result ≡ slice_get self.now.kept (number - self.now.first) }
+    {
+        self.kept.get((number - self.first) as usize)
+    }
+
+    /// The first interval with a number in `from..to`.
+    pub(crate) fn first_within(&self, from: u64, to: u64) -> Option<&Kept>
+        requires { self.now.first ≤ from }
+        ensures { option_copied result ≡ first_within self.now from to }
+    {
+        if from < to { self.numbered(from) } else { None }
+    }
+
+    /// Drops the intervals with numbers below `to`.
+    pub(crate) fn trim(&mut self, to: u64)
+        ensures { self.new ≡ without self.old to }
+    {
+        let count = to.saturating_sub(self.first).min(self.kept.len() as u64);
+        for _ in 0..count {
+            let _ = self.kept.pop_front();
+        }
+        self.first += count;
+    }
+}
+
+/// Of two intervals, the one that was closed first.
+pub(crate) fn earlier<'a>(one: Option<&'a Kept>, other: Option<&'a Kept>) -> Option<&'a Kept>
+    ensures { option_copied result ≡ earlier (option_copied one.entry) (option_copied other.entry) }
+{
+    match (one, other) {
+        (Some(a), Some(b)) => Some(if b.place < a.place { b } else { a }),
+        (Some(a), None) => Some(a),
+        (None, other) => other,
+    }
+}

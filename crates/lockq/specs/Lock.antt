@@ -1,0 +1,56 @@
+-- Distributed locks. An asker holds a lock from the moment when its grant is due.
+use Rattle.std.specs.Prelude.{ℕ, ◌≡◌, ◌<◌, Option, Some, None, List, [], ◌∷◌, ◌++◌, length, replicate, slice_index_or, slice_set}
+use Rattle.std.specs.Option.{option_to_list}
+use Rattle.lists.specs.Places.{Has, IsOnce}
+
+-- who holds the lock, who is queued for it, and the time that its last release left with it
+pub record Lock : Type 0 where
+  pub holder : Option ℕ
+  pub queue : List ℕ
+  pub time : List ℕ
+
+pub record Locks : Type 0 where
+  pub processors : ℕ
+  pub locks : List Lock
+
+-- a lock that was never released, nor asked for, among n processors
+abbrev pub unheld : ℕ → Lock
+unheld n = record { holder = None; queue = []; time = replicate n 0 }
+
+-- lock l
+abbrev pub lock_at : Locks → ℕ → Lock
+lock_at s l = slice_index_or s.locks l (unheld s.processors)
+
+-- the locks with another state of lock l
+abbrev pub with_lock : Locks → ℕ → Lock → Locks
+with_lock s l k = record s { locks = slice_set s.locks l k }
+
+-- the holder, and those who wait, in the order in which they asked
+abbrev pub line : Lock → List ℕ
+line k = option_to_list k.holder ++ k.queue
+
+-- p joins the line: it holds the lock where nobody does, and is last in the queue otherwise
+abbrev pub joined : Option ℕ → Lock → ℕ → Lock
+joined None k p = record k { holder = Some p }
+joined (Some q) k p = record k { queue = k.queue ++ p ∷ [] }
+
+-- the lock after p asked for it
+abbrev pub asked : Lock → ℕ → Lock
+asked k p = joined k.holder k p
+
+-- the lock goes to the first of the queue
+abbrev pub passed : List ℕ → List ℕ → Lock
+passed [] time = record { holder = None; queue = []; time = time }
+passed (q ∷ queue) time = record { holder = Some q; queue = queue; time = time }
+
+-- the lock after its holder released it at this time
+abbrev pub released : Lock → List ℕ → Lock
+released k time = passed k.queue time
+
+-- nobody stands twice in the line of n processors, and somebody is queued only where the lock is
+-- held
+pub record IsOrderly (n : ℕ) (k : Lock) : Type 0 where
+  pub once : IsOnce (line k)
+  pub within : (p : ℕ) → Has (line k) p → p < n
+  pub held : k.holder ≡ None → k.queue ≡ []
+  pub long : length k.time ≡ n

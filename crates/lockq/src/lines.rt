@@ -1,0 +1,258 @@
+//! The lines of processors at distributed locks.
+ghost use Rattle.std.specs.Prelude.{◌≡◌, ◌≤◌, ◌<◌, ◌↔◌, IsTrue, IfOk, None, Some, [], length, replicate, slice_get};
+ghost use Rattle.lists.specs.Places.{Has};
+ghost use Rattle.lockq.specs.Lock.{unheld, lock_at, with_lock, line, asked, released, IsOrderly};
+
+use std::alloc::{AllocError, Global};
+use std::collections::VecDeque;
+use std::marker::Model;
+use vtime::VTime;
+
+/// One lock. The queue has room for every processor.
+#[derive(Debug, Drop)]
+struct Lock {
+    holder: Option<usize>,
+    queue: VecDeque<usize>,
+    time: VTime,
+}
+
+impl Model for Lock {
+    ghost use Rattle.std.specs.Prelude.{◌≤◌, length};
+    ghost use Rattle.std.specs.VecDeque.{deque_capacity};
+    ghost use Rattle.lockq.specs.Lock.{Lock as State, IsOrderly};
+
+    ghost Value = { State };
+
+    ghost view = { λ k. record { holder = k.holder; queue = k.queue.items; time = k.time } };
+
+    ghost invariant = { λ k.
+        let state : State = record { holder = k.holder; queue = k.queue.items; time = k.time } in
+        IsOrderly (length k.time) state × (length k.time ≤ deque_capacity k.queue) };
+}
+
+impl Lock {
+    fn new(alloc: Global, processors: usize) -> Result<Self, AllocError>
+        requires some { 1 ≤ processors }
+        requires most { processors ≤ 16 }
+        ensures { IfOk result (λ k. k ≡ unheld processors) }
+    {
+        Ok(Lock {
+            holder: None,
+            queue: VecDeque::with_capacity(alloc, processors)?,
+            time: VTime::zero(alloc, processors),
+        })
+    }
+
+    fn ask(&mut self, processor: usize) -> bool
+        requires processor { processor < length self.old.time }
+        requires apart { ¬ Has (line self.old) processor }
+        ensures lock { self.new ≡ asked self.old processor }
+        ensures due { IsTrue result ↔ (self.old.holder ≡ None) }
+        ensures orderly { IsOrderly (length self.new.time) self.new }
+    {
+        if self.holder.is_none() {
+            self.holder = Some(processor);
+            return true;
+        }
+        self.queue.push_back_reserved(processor);
+        false
+    }
+
+    fn release(&mut self, time: VTime) -> Option<usize>
+        requires long { length time ≡ length self.old.time }
+        ensures lock { self.new ≡ released self.old time }
+        ensures granted { result ≡ self.new.holder }
+        ensures orderly { IsOrderly (length self.new.time) self.new }
+    {
+        self.time = time;
+        self.holder = self.queue.pop_front();
+        self.holder
+    }
+
+    fn holder(&self) -> Option<usize>
+        ensures value { result ≡ self.now.holder }
+        ensures orderly { IsOrderly (length self.now.time) self.now }
+    {
+        self.holder
+    }
+}
+
+/// All distributed locks of a cluster.
+///
+/// Asks for a lock are granted in the order in which they were made, and a processor holds a lock
+/// from the moment when its grant is due. With each lock stands the timestamp of its last release,
+/// which its next grant carries (Keleher, Cox and Zwaenepoel 1992, section 3). Only `new` takes
+/// memory.
+#[derive(Debug, Drop)]
+pub struct Locks {
+    processors: usize,
+    locks: Vec<Lock>,
+}
+
+impl Model for Locks {
+    ghost use Rattle.std.specs.Prelude.{◌≡◌, ℕ, Some, slice_get, length};
+    ghost use Rattle.lockq.specs.Lock.{Lock as State, Locks as States};
+
+    ghost Value = { States };
+
+    ghost view = { λ s. record { processors = s.processors; locks = s.locks.items } };
+
+    ghost invariant = { λ s. (l : ℕ) (k : State) → slice_get s.locks.items l ≡ Some k → length k.time ≡ s.processors };
+}
+
+impl Locks {
+    /// `locks` locks (up to 32) that nobody has asked for, among `processors` processors (1 to 16).
+    pub fn new(alloc: Global, locks: usize, processors: usize) -> Result<Self, AllocError>
+        requires locks { locks ≤ 32 }
+        requires some { 1 ≤ processors }
+        requires most { processors ≤ 16 }
+        ensures processors { IfOk result (λ s. s.processors ≡ processors) }
+        ensures locks { IfOk result (λ s. s.locks ≡ replicate locks (unheld processors)) }
+    {
+        let mut all = Vec::with_capacity(alloc, locks)?;
+        for _ in 0..locks {
+            all.push(Lock::new(alloc, processors)?)?;
+        }
+        Ok(Locks {
+            processors,
+            locks: all,
+        })
+    }
+
+    /// Puts a processor into the line at a lock, and answers whether its grant is due now: it is
+    /// where nobody holds the lock.
+    pub fn ask(&mut self, lock: usize, processor: usize) -> bool
+        requires lock { lock < length self.old.locks }
+        requires processor { processor < self.old.processors }
+        requires apart { ¬ Has (line (lock_at self.old lock)) processor }
+        ensures locks { self.new ≡ with_lock self.old lock (asked (lock_at self.old lock) processor) }
+        ensures due { IsTrue result ↔ ((lock_at self.old lock).holder ≡ None) }
+        ensures orderly { IsOrderly self.new.processors (lock_at self.new lock) }
+    {
+        let lock = &mut self.locks[lock];
+        lock.ask(processor)
+    }
+
+    /// Takes a lock from the processor that holds it, keeps `time` with it, and answers who holds
+    /// it next: the first of its queue, if there is one.
+    pub fn release(&mut self, lock: usize, processor: usize, time: VTime) -> Option<usize>
+        requires lock { lock < length self.old.locks }
+        requires holder { (lock_at self.old lock).holder ≡ Some processor }
+        requires long { length time ≡ self.old.processors }
+        ensures locks { self.new ≡ with_lock self.old lock (released (lock_at self.old lock) time) }
+        ensures granted { result ≡ slice_get (lock_at self.old lock).queue 0 }
+        ensures orderly { IsOrderly self.new.processors (lock_at self.new lock) }
+    {
+        let lock = &mut self.locks[lock];
+        lock.release(time)
+    }
+
+    /// Who holds a lock, or is to take its grant.
+    pub fn holder(&self, lock: usize) -> Option<usize>
+        requires { lock < length self.now.locks }
+        ensures value { result ≡ (lock_at self.now lock).holder }
+        ensures orderly { IsOrderly self.now.processors (lock_at self.now lock) }
+    {
+        let lock = &self.locks[lock];
+        lock.holder()
+    }
+
+    /// Who is granted a lock at its next release.
+    pub fn next(&self, lock: usize) -> Option<usize>
+        requires { lock < length self.now.locks }
+        ensures { result ≡ slice_get (lock_at self.now lock).queue 0 }
+    {
+        let lock = &self.locks[lock];
+        lock.queue.front().copied()
+    }
+
+    /// The time of a lock's last release: zero where it was never released.
+    pub fn time(&self, lock: usize) -> &VTime
+        requires { lock < length self.now.locks }
+        ensures value { result.now ≡ (lock_at self.now lock).time }
+        ensures long { length result.now ≡ self.now.processors }
+    {
+        let lock = &self.locks[lock];
+        &lock.time
+    }
+}
+
+#[cfg(test)]
+mod tests {
+    use super::*;
+    use std::test::Fail;
+
+    /// Whoever asks while the lock is held waits for those who asked before. Passes also where one
+    /// growth, any of them, is refused.
+    #[test]
+    fn grants_in_the_order_of_asks(rt: HostRuntime) -> Result<(), Fail> {
+        let orders = [
+            (0, 1, 2),
+            (0, 2, 1),
+            (1, 0, 2),
+            (1, 2, 0),
+            (2, 0, 1),
+            (2, 1, 0),
+        ];
+        for (holder, first, second) in orders {
+            let mut locks = match Locks::new(rt.alloc(), 1, 3) {
+                Ok(locks) => locks,
+                Err(_) => Locks::new(rt.alloc(), 1, 3)?,
+            };
+            assert_eq!(rt; locks.holder(0), None);
+            assert!(rt; locks.ask(0, holder));
+            assert!(rt; !locks.ask(0, first));
+            assert!(rt; !locks.ask(0, second));
+            assert_eq!(rt; locks.holder(0), Some(holder));
+            assert_eq!(rt; locks.next(0), Some(first));
+
+            let mut time = VTime::zero(rt.alloc(), 3);
+            time.tick(holder);
+            assert_eq!(rt; locks.release(0, holder, time), Some(first));
+            assert_eq!(rt; locks.time(0).entry(holder), 1);
+            assert_eq!(rt; locks.holder(0), Some(first));
+            assert_eq!(rt;
+                locks.release(0, first, VTime::zero(rt.alloc(), 3)),
+                Some(second)
+            );
+            assert_eq!(rt; locks.next(0), None);
+            assert_eq!(rt; locks.release(0, second, VTime::zero(rt.alloc(), 3)), None);
+            assert_eq!(rt; locks.holder(0), None);
+            assert_eq!(rt; locks.time(0).entry(holder), 0);
+        }
+        Ok(())
+    }
+
+    /// Lets processors 1 to 15 ask for a lock that processor 0 holds.
+    fn ask_all(locks: &mut Locks, lock: usize)
+        requires lock { lock < length locks.old.locks }
+        requires processors { locks.old.processors ≡ 16 }
+        requires holder { (lock_at locks.old lock).holder ≡ Some 0 }
+        requires alone { (lock_at locks.old lock).queue ≡ [] }
+        ensures processors { locks.new.processors ≡ 16 }
+        ensures locks { length locks.new.locks ≡ length locks.old.locks }
+    {
+        for processor in 1..16 {
+            locks.ask(lock, processor);
+        }
+    }
+
+    #[test]
+    fn holds_several_locks(rt: HostRuntime) -> Result<(), Fail> {
+        let mut locks = Locks::new(rt.alloc(), 32, 16)?;
+        assert!(rt; locks.ask(31, 0));
+        assert!(rt; locks.ask(4, 0));
+        assert!(rt; locks.ask(5, 9));
+        assert_eq!(rt; locks.holder(31), Some(0));
+        assert_eq!(rt; locks.holder(4), Some(0));
+        ask_all(&mut locks, 31);
+        assert_eq!(rt; locks.holder(31), Some(0));
+        for processor in 0..15 {
+            assert_eq!(rt; locks.holder(31), Some(processor));
+            assert_eq!(rt; locks.next(31), Some(processor + 1));
+            locks.release(31, processor, VTime::zero(rt.alloc(), 16));
+        }
+        assert_eq!(rt; locks.next(31), None);
+        Ok(())
+    }
+}

@@ -1,0 +1,12 @@
+use Rattle.std.proofs.Common.{ap, arith, rules}
+use Rattle.lrc.proofs.Histories.{history_none}
+use Rattle.lrc.proofs.one_processor.OneProcessor.new.Goals as goal
+
+pub invariant_of-result : goal.invariant_of-result
+invariant_of-result c =
+    record {
+      words = rw (c.in_ok-new.ensures, c.in_ok-with_capacity.ensures.items) (record { history = history_none c.args.addresses; words_are = search rules });
+      alone = ap (λ j. j.processors) c.in_ok-new.ensures;
+      short = omega (arith, c.in_ok-with_capacity.ensures.len);
+      reserved = omega (arith, c.in_ok-with_capacity.ensures.exact);
+    }

@@ -1,0 +1,25 @@
+use Rattle.std.proofs.Common.{◌++◌}
+use Rattle.std.specs.List.{flat_map}
+use Rattle.std.proofs.lemmas.Result.{err_from_is_err_and, MatchResult-weaker}
+use Rattle.std.proofs.KnownBytes.{Appends-trans}
+use Rattle.lrc.specs.ReportText.{word_line, verdict_line, traffic_line}
+use Rattle.lrc.proofs.Written.{front_then, front_longer}
+use Rattle.lrc.proofs.render.render.Goals as goal
+
+pub returns-in_err-write_words : goal.returns-in_err-write_words
+returns-in_err-write_words g c =
+    let p = err_from_is_err_and c.from_residual.result c.from_residual.ensures.1 in
+    let words = rw c.deref.ensures.value at c.in_err-write_words.ensures in
+    rw p.1 (front_longer _ _ _ (traffic_line c.args.report.now.traffic) (front_longer _ _ _ (verdict_line c.args.report.now.racy) words))
+
+pub returns-in_err-write_verdict : goal.returns-in_err-write_verdict
+returns-in_err-write_verdict g c =
+    let p = err_from_is_err_and c.from_residual-in_err-write_verdict.result c.from_residual-in_err-write_verdict.ensures.1 in
+    let words = rw c.deref.ensures.value at c.in_ok-write_words.ensures in
+    rw p.1 (front_longer _ _ _ (traffic_line c.args.report.now.traffic) (front_then _ (g.W.Write.contents c.write_words.new.out) _ _ _ words c.in_err-write_verdict.ensures))
+
+pub returns : goal.returns
+returns g c =
+    let words = rw c.deref.ensures.value at c.in_ok-write_words.ensures in
+    let both = Appends-trans _ (g.W.Write.contents c.write_words.new.out) _ _ _ words c.in_ok-write_verdict.ensures in
+    MatchResult-weaker c.write_traffic.result c.write_traffic.ensures (λ _ last. Appends-trans _ (g.W.Write.contents c.write_verdict.new.out) _ _ _ both last) (λ _ last. front_then _ (g.W.Write.contents c.write_verdict.new.out) _ _ _ both last)

@@ -1,0 +1,11 @@
+use Rattle.std.proofs.lemmas.Option.{slice_get-get_or}
+use Rattle.std.proofs.lemmas.Result.{err_from_is_err_and}
+use Rattle.lrc.specs.ReportText.{word_line}
+use Rattle.lrc.proofs.Written.{flat_map_front}
+use Rattle.lrc.proofs.render.write_words.Goals as goal
+
+pub returns-in_err-write_word : goal.returns-in_err-write_word
+returns-in_err-write_word g c =
+    let p = err_from_is_err_and c.from_residual.result c.from_residual.ensures.1 in
+    let at = slice_get-get_or c.args.shown.now c.loop-address.address-index _ c.loop-address-test.true in
+    rw p.1 (flat_map_front word_line c.args.shown.now c.loop-address.address-index _ _ (g.W.Write.contents c.loop-address.out) _ at c.loop-address.invariant c.in_err-write_word.ensures)

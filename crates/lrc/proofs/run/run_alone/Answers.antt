@@ -1,0 +1,24 @@
+use Rattle.std.proofs.Common.{◌≡◌, ◌∙◌, ap, sym, get_or, refl, map}
+use Rattle.std.proofs.Math.ListN.{get_or-map}
+use Rattle.lrc_script.specs.Plan.{plan_of}
+use Rattle.lrc.specs.Machine.{history}
+use Rattle.lrc.proofs.Calling.{calls_barrier}
+use Rattle.lrc.proofs.Reporting.{first_section, within, report_is, run_history}
+use Rattle.lrc.proofs.run.run_alone.Goals as goal
+
+pub do_section-requires : goal.do_section-requires
+do_section-requires g c =
+    let here = ap (λ v. v.items) c.index.ensures ∙ sym (get_or-map (λ v. v.items) c.args.script.now.sections.items 0 c.index.result.now) in
+    let section = first_section (plan_of c.args.script.now) c.index.result.now.items c.requires.lawful c.requires.served here in
+    rw (c.deref.ensures.value, c.in_ok-memory.ensures) (λ k d below. within (plan_of c.args.script.now) _ c.requires.served (section.1.in_range k d below))
+
+pub returns : goal.returns
+returns g c =
+    let here = ap (λ v. v.items) c.index.ensures ∙ sym (get_or-map (λ v. v.items) c.args.script.now.sections.items 0 c.index.result.now) in
+    let section = first_section (plan_of c.args.script.now) c.index.result.now.items c.requires.lawful c.requires.served here in
+    let does = c.in_ok-do_section.ensures in
+    let barrier = calls_barrier c.do_section.new.memory c.pass_barrier.new.self c.in_ok-pass_barrier.ensures.ok in
+    let started = ap history c.in_ok-memory.ensures in
+    let all = run_history c.in_ok-memory.memory c.do_section.new.memory c.pass_barrier.new.self c.show.new.memory does.0 c.in_ok-shown.shown.items started does.1 barrier c.in_ok-shown.ensures.calls in
+    let addresses = c.in_ok-shown.ensures.calls.same_addresses ∙ barrier.same_addresses ∙ does.1.same_addresses ∙ ap (λ m. m.addresses) c.in_ok-memory.ensures in
+    report_is (plan_of c.args.script.now) c.index.result.now.items does.0 _ c.requires.lawful c.requires.served section.0 (rw (← c.deref.ensures.value) does.2) (c.in_ok-journal.ensures.events ∙ all) (rw (← addresses) c.in_ok-journal.ensures.history) refl (c.in_ok-shown.ensures.addresses ∙ c.deref-2.ensures.value) (c.traffic-traffic.ensures.messages, c.traffic-traffic.ensures.records, c.traffic-traffic.ensures.words)

@@ -1,0 +1,10 @@
+-- The clusters that the stand-in serves.
+use Rattle.std.specs.Prelude.{◌≡◌}
+use Rattle.lrc_script.specs.Plan.{Plan}
+
+-- one processor and one page, no locks and no flags
+pub record IsServed (s : Plan) : Type 0 where
+  pub processors : s.processors ≡ 1
+  pub pages : s.pages ≡ 1
+  pub locks : s.locks ≡ 0
+  pub flags : s.flags ≡ 0

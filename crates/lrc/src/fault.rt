@@ -1,0 +1,88 @@
+//! Why the program ends without a report.
+
+use crate::one_processor::Refused;
+use crate::render::OutFault;
+use crate::report::{Cause, RunFault};
+use lrc_script::fault::ScriptFault;
+use std::alloc::AllocError;
+use std::io;
+use std::io::ErrorKind;
+use thiserror::Error;
+
+/// What the program says on standard error after `lrc: `.
+#[derive(Clone, Copy, Debug, PartialEq, Eq, Error)]
+pub enum ProgramFault {
+    /// The file or standard input can't be read.
+    #[error("file cannot be read")]
+    Unreadable,
+    /// The script has a fault, in this line.
+    #[error("line {0}: {1}")]
+    Script(usize, ScriptFault),
+    /// The script's cluster isn't served yet.
+    #[error("cluster not served yet")]
+    Unserved,
+    /// A processor went no further.
+    #[error("{0}")]
+    Run(RunFault),
+    /// A write failed.
+    #[error("output failed")]
+    Output,
+    /// A growth was refused.
+    #[error("out of memory")]
+    NoMemory,
+}
+
+impl ProgramFault {
+    /// The exit status: 5 for a file that can't be read, 2 for a script that is refused, else 4.
+    pub fn status(self) -> u8 {
+        match self {
+            ProgramFault::Unreadable => 5,
+            ProgramFault::Script(..) => 2,
+            ProgramFault::Unserved
+            | ProgramFault::Run(_)
+            | ProgramFault::Output
+            | ProgramFault::NoMemory => 4,
+        }
+    }
+}
+
+impl From<io::Error> for ProgramFault {
+    fn from(error: io::Error) -> ProgramFault {
+        if error.kind() == ErrorKind::OutOfMemory {
+            ProgramFault::NoMemory
+        } else {
+            ProgramFault::Unreadable
+        }
+    }
+}
+
+impl From<AllocError> for ProgramFault {
+    fn from(_error: AllocError) -> ProgramFault {
+        ProgramFault::NoMemory
+    }
+}
+
+impl From<(usize, ScriptFault)> for ProgramFault {
+    fn from((line, fault): (usize, ScriptFault)) -> ProgramFault {
+        match fault {
+            ScriptFault::NoMemory => ProgramFault::NoMemory,
+            _ => ProgramFault::Script(line, fault),
+        }
+    }
+}
+
+impl From<RunFault> for ProgramFault {
+    fn from(fault: RunFault) -> ProgramFault {
+        match fault.cause {
+            Cause::Unserved => ProgramFault::Unserved,
+            Cause::Refused(Refused::NoMemory) => ProgramFault::NoMemory,
+            _ => ProgramFault::Run(fault),
+        }
+    }
+}
+
+impl From<OutFault> for ProgramFault {
+    fn from(_fault: OutFault) -> ProgramFault {
+        ProgramFault::Output
+    }
+}

@@ -1,0 +1,79 @@
+//! `lrc`: runs scripts of a shared memory and prints the final words, a race verdict and the traffic.
+#![tactic(auto)]
+
+mod fault;
+mod gate;
+mod one_processor;
+mod options;
+mod program;
+mod render;
+mod report;
+mod run;
+#[cfg(test)]
+mod tests;
+mod words;
+
+use crate::fault::ProgramFault;
+use crate::program::program;
+use crate::words::options;
+use clap::Error;
+use clap::error::ErrorKind;
+use std::fs::File;
+use std::io::Write;
+use std::process::ExitCode;
+
+/// Says why the program doesn't start, and answers its status.
+fn refuse(rt: &HostRuntime, fault: ProgramFault) -> u8 {
+    // Where standard error takes nothing, the status still tells.
+    let _ = writeln!(rt.stderr(), "lrc: {fault}");
+    fault.status()
+}
+
+/// Prints clap's answer to the words: help to standard output, faults to standard error.
+fn answer_words(rt: &HostRuntime, error: &Error) -> u8 {
+    if error.kind() == ErrorKind::OutOfMemory {
+        return refuse(rt, ProgramFault::NoMemory);
+    }
+    let printed = error.print(rt);
+    match (error.exit_code(), printed) {
+        (0, Ok(())) => 0,
+        (0, Err(_)) => refuse(rt, ProgramFault::Output),
+        _ => 5,
+    }
+}
+
+/// Runs the script of the file, or of standard input where no file is given.
+fn run_file(rt: &HostRuntime, file: Option<&str>) -> u8 {
+    let alloc = rt.alloc();
+    match file {
+        None => program(alloc, &mut rt.stdin(), &mut rt.stdout(), &mut rt.stderr()),
+        Some(path) => match File::open(rt, path) {
+            Ok(mut source) => program(alloc, &mut source, &mut rt.stdout(), &mut rt.stderr()),
+            Err(error) => refuse(rt, ProgramFault::from(error)),
+        },
+    }
+}
+
+/// Does what the words ask for.
+fn start(rt: &HostRuntime, words: &[&str]) -> u8 {
+    match options(rt.alloc(), words) {
+        Ok(options) => run_file(rt, options.file.as_deref()),
+        Err(error) => answer_words(rt, &error),
+    }
+}
+
+/// Reads the program's words and does what they ask for.
+fn read_words(rt: &HostRuntime) -> Result<u8, ProgramFault> {
+    let alloc = rt.alloc();
+    let words: Vec<String> = std::env::args(rt)?.collect(alloc)?;
+    let words: Vec<&str> = words.iter().map(|word| word.as_str()).collect(alloc)?;
+    Ok(start(rt, &words))
+}
+
+fn main(rt: HostRuntime) -> ExitCode {
+    let status = match read_words(&rt) {
+        Ok(status) => status,
+        Err(fault) => refuse(&rt, fault),
+    };
+    ExitCode::from(status)
+}

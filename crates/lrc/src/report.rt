@@ -1,0 +1,57 @@
+//! What a run of a script answers.
+
+use crate::gate::Stopped;
+use crate::one_processor::Refused;
+use journal::{Journal, Traffic};
+use std::alloc::AllocError;
+use thiserror::Error;
+
+/// The answer of a run: the shown addresses in order with their last words, whether the journal has a
+/// race, its traffic, and the journal itself.
+#[derive(Drop)]
+pub struct Report {
+    pub shown: Vec<(usize, u32)>,
+    pub racy: bool,
+    pub traffic: Traffic,
+    pub journal: Journal,
+}
+
+/// Why a processor of a run went no further.
+#[derive(Clone, Copy, Debug, PartialEq, Eq, Error)]
+pub enum Cause {
+    /// The gate answered Stopped.
+    #[error("stopped at the gate")]
+    Gate,
+    /// The script's cluster isn't served yet.
+    #[error("cluster not served yet")]
+    Unserved,
+    /// A call was refused.
+    #[error("{0}")]
+    Refused(Refused),
+}
+
+impl From<Stopped> for Cause {
+    fn from(_stopped: Stopped) -> Cause {
+        Cause::Gate
+    }
+}
+
+impl From<Refused> for Cause {
+    fn from(refused: Refused) -> Cause {
+        Cause::Refused(refused)
+    }
+}
+
+impl From<AllocError> for Cause {
+    fn from(error: AllocError) -> Cause {
+        Cause::Refused(Refused::from(error))
+    }
+}
+
+/// A run that ended without a report: the processor that went no further, and why.
+#[derive(Clone, Copy, Debug, PartialEq, Eq, Error)]
+#[error("processor {processor}: {cause}")]
+pub struct RunFault {
+    pub processor: usize,
+    pub cause: Cause,
+}

@@ -1,0 +1,324 @@
+//! Scripts from their bytes to what is printed, and the faults on the way.
+
+use crate::gate::{Gate, Open, Stopped};
+use crate::options::Options;
+use crate::program::program;
+use crate::render::{OutFault, render};
+use crate::report::{Cause, RunFault};
+use crate::run::run;
+use crate::words::options;
+use journal::{Event, Kind};
+use lrc_script::script::parse;
+use std::alloc::Global;
+use std::cell::Cell;
+use std::io;
+use std::io::{ErrorKind, Read, Write};
+use std::process::Abort;
+use std::test::Fail;
+
+const SEVEN: &[u8] = b"cluster 1 1 1 0\np 0\nstore 0 7\nshow 0\n";
+
+/// Checks the status and both texts of the program on a script.
+fn check<R: Abort>(rt: &R, alloc: Global, script: &[u8], status: u8, out: &[u8], err: &[u8]) {
+    let mut source = script;
+    let mut printed = Vec::new(alloc);
+    let mut said = Vec::new(alloc);
+    let answer = program(alloc, &mut source, &mut printed, &mut said);
+    assert_eq!(rt; answer, status);
+    assert_eq!(rt; printed.as_slice(), out);
+    assert_eq!(rt; said.as_slice(), err);
+}
+
+#[test]
+fn reports(rt: HostRuntime) {
+    let rows: [(&[u8], &[u8]); 4] = [
+        (SEVEN, b"word 0 7\nverdict race-free\ntraffic 2 0 0\n"),
+        (
+            b"cluster 1 1 1 0\np 0\nstore 0 4294967295\nadd 0 1\nshow 0\n",
+            b"word 0 0\nverdict race-free\ntraffic 2 0 0\n",
+        ),
+        (
+            b"cluster 1 1 2 0\np 0\nload 1\nstore 1 3\nadd 1 4\nshow 1 0\n",
+            b"word 1 7\nword 0 0\nverdict race-free\ntraffic 2 0 0\n",
+        ),
+        (
+            b"cluster 1 1 64 0\np 0\nstore 63 9\nstore 63 8\nshow 63 63 0\n",
+            b"word 63 8\nword 63 8\nword 0 0\nverdict race-free\ntraffic 2 0 0\n",
+        ),
+    ];
+    for (script, out) in rows {
+        check(&rt, rt.alloc(), script, 0, out, b"");
+    }
+}
+
+/// The block is flushed on the way: each add is two events, and the block holds 256.
+#[test]
+fn many_adds(rt: HostRuntime) -> Result<(), Fail> {
+    let mut script = Vec::from_slice(rt.alloc(), b"cluster 1 1 1 0\np 0\n")?;
+    for _ in 0..600 {
+        script.extend_from_slice(b"add 0 1\n")?;
+    }
+    script.extend_from_slice(b"show 0\n")?;
+    let out = b"word 0 600\nverdict race-free\ntraffic 2 0 0\n";
+    check(&rt, rt.alloc(), &script, 0, out, b"");
+    Ok(())
+}
+
+#[test]
+fn refused_scripts(rt: HostRuntime) {
+    let rows: [(&[u8], &[u8]); 11] = [
+        (b"", b"lrc: line 1: file ends too early\n"),
+        (
+            b"cluster 1 1 1 0\np 0\nshow 0",
+            b"lrc: line 3: file ends too early\n",
+        ),
+        (
+            b"cluster 1 1 1 0\np 0\n",
+            b"lrc: line 3: file ends too early\n",
+        ),
+        (b"cluster 17 1 1 0\n", b"lrc: line 1: size out of range\n"),
+        (b"cluster 9 1 1 0\n", b"lrc: line 2: file ends too early\n"),
+        (
+            b"cluster 1 1 1 0\np 1\n",
+            b"lrc: line 2: line not understood\n",
+        ),
+        (
+            b"cluster 1 1 1 0\np 0\nstore 0 01\nshow 0\n",
+            b"lrc: line 3: bad number\n",
+        ),
+        (
+            b"cluster 1 1 4 0\np 0\nstore 4 1\nshow 0\n",
+            b"lrc: line 3: address out of range\n",
+        ),
+        (
+            b"cluster 1 1 1 0\np 0\nadd 0  1\nshow 0\n",
+            b"lrc: line 3: line not understood\n",
+        ),
+        (
+            b"cluster 1 1 1 0\np 0\nshow 0\nshow 0\n",
+            b"lrc: line 4: line not understood\n",
+        ),
+        (
+            b"cluster 1 1 1 0\np 0\nacquire 0\nshow 0\n",
+            b"lrc: line 3: no such lock\n",
+        ),
+    ];
+    for (script, said) in rows {
+        check(&rt, rt.alloc(), script, 2, b"", said);
+    }
+}
+
+/// A barrier of one processor costs an arrival and a departure.
+#[test]
+fn barrier_alone(rt: HostRuntime) {
+    let script = b"cluster 1 1 1 0\np 0\nstore 0 1\nbarrier\nadd 0 1\nshow 0\n";
+    let out = b"word 0 2\nverdict race-free\ntraffic 4 0 0\n";
+    check(&rt, rt.alloc(), script, 0, out, b"");
+}
+
+/// Clusters of more than one processor and one page, or with locks or flags, aren't served yet.
+#[test]
+fn not_served(rt: HostRuntime) {
+    let scripts: [&[u8]; 4] = [
+        b"cluster 2 1 2 0\np 0\nstore 0 5\nbarrier\np 1\nbarrier\nload 0\nshow 0\n",
+        b"cluster 1 2 1 0\np 0\nshow 0\n",
+        b"cluster 1 1 1 1\np 0\nacquire 0\nshow 0\n",
+        b"cluster 1 1 1 0 1\np 0\nset 0\nshow 0\n",
+    ];
+    for script in scripts {
+        check(
+            &rt,
+            rt.alloc(),
+            script,
+            4,
+            b"",
+            b"lrc: cluster not served yet\n",
+        );
+    }
+}
+
+#[test]
+fn too_long(rt: HostRuntime) -> Result<(), Fail> {
+    let mut script = Vec::from_slice(rt.alloc(), b"cluster 1 1 1 0\np 0\n")?;
+    for _ in 0..10_001 {
+        script.extend_from_slice(b"load 0\n")?;
+    }
+    script.extend_from_slice(b"show 0\n")?;
+    check(
+        &rt,
+        rt.alloc(),
+        &script,
+        2,
+        b"",
+        b"lrc: line 10003: too many\n",
+    );
+    Ok(())
+}
+
+/// A reader that fails.
+#[derive(Drop)]
+struct Broken;
+
+impl Read for Broken {
+    fn read(&mut self, _buffer: &mut [u8]) -> io::Result<usize> {
+        Err(io::Error::from(ErrorKind::PermissionDenied))
+    }
+}
+
+#[test]
+fn unreadable(rt: HostRuntime) {
+    let mut printed = Vec::new(rt.alloc());
+    let mut said = Vec::new(rt.alloc());
+    let status = program(rt.alloc(), &mut Broken, &mut printed, &mut said);
+    assert_eq!(rt; status, 5);
+    assert_eq!(rt; printed.is_empty(), true);
+    assert_eq!(rt; said.as_slice(), b"lrc: file cannot be read\n".as_slice());
+}
+
+/// A writer that takes so many bytes, three at a time, and then fails.
+#[derive(Drop)]
+struct Narrow {
+    left: usize,
+    taken: Vec<u8>,
+}
+
+impl Write for Narrow {
+    fn write(&mut self, bytes: &[u8]) -> io::Result<usize> {
+        let count = bytes.len().min(self.left).min(3);
+        if count == 0 {
+            return Err(io::Error::from(ErrorKind::BrokenPipe));
+        }
+        self.taken.extend_from_slice(&bytes[..count])?;
+        self.left -= count;
+        Ok(count)
+    }
+
+    fn flush(&mut self) -> io::Result<()> {
+        Ok(())
+    }
+}
+
+/// Of a text that doesn't fit, just the bytes that fit are written.
+#[test]
+fn failed_writes(rt: HostRuntime) -> Result<(), Fail> {
+    let text = b"word 0 7\nverdict race-free\ntraffic 2 0 0\n";
+    let script = parse(rt.alloc(), SEVEN).map_err(|_| "not parsed")?;
+    let report = run(rt.alloc(), &script, &Open).map_err(|_| "not run")?;
+    for left in 0..text.len() {
+        let mut out = Narrow {
+            left,
+            taken: Vec::new(rt.alloc()),
+        };
+        assert_eq!(rt; render(&report, &mut out), Err(OutFault));
+        assert_eq!(rt; out.taken.as_slice(), &text[..left]);
+    }
+    let mut out = Narrow {
+        left: text.len(),
+        taken: Vec::new(rt.alloc()),
+    };
+    assert_eq!(rt; render(&report, &mut out), Ok(()));
+    assert_eq!(rt; out.taken.as_slice(), text.as_slice());
+    Ok(())
+}
+
+#[test]
+fn failed_output(rt: HostRuntime) {
+    let mut source = SEVEN;
+    let mut out = Narrow {
+        left: 5,
+        taken: Vec::new(rt.alloc()),
+    };
+    let mut said = Vec::new(rt.alloc());
+    let status = program(rt.alloc(), &mut source, &mut out, &mut said);
+    assert_eq!(rt; status, 4);
+    assert_eq!(rt; said.as_slice(), b"lrc: output failed\n".as_slice());
+}
+
+#[test]
+fn whole_journal(rt: HostRuntime) -> Result<(), Fail> {
+    let script = parse(rt.alloc(), SEVEN).map_err(|_| "not parsed")?;
+    let report = run(rt.alloc(), &script, &Open).map_err(|_| "not run")?;
+    let kinds = [
+        Kind::Store(0, 7),
+        Kind::Arrive,
+        Kind::Depart,
+        Kind::Load(0, 7),
+    ];
+    assert_eq!(rt; report.journal.len(), kinds.len());
+    for (place, kind) in kinds.iter().enumerate() {
+        let event = Event {
+            processor: 0,
+            kind: *kind,
+        };
+        assert_eq!(rt; report.journal.at(place).copied(), Some(event));
+    }
+    assert_eq!(rt; report.racy, false);
+    Ok(())
+}
+
+/// A gate that counts the instructions and stops at one of them.
+#[derive(Drop)]
+struct StopsAt {
+    instruction: usize,
+    passed: Cell<usize>,
+}
+
+impl Gate for StopsAt {
+    fn pass(&self, processor: usize, instruction: usize) -> Result<(), Stopped> {
+        if processor != 0 || instruction == self.instruction {
+            return Err(Stopped);
+        }
+        self.passed.set(instruction);
+        Ok(())
+    }
+}
+
+/// The fault of a section of three loads behind the gate.
+fn fault_behind<G: Gate>(alloc: Global, gate: &G) -> Result<Option<RunFault>, Fail> {
+    let script = b"cluster 1 1 1 0\np 0\nload 0\nload 0\nload 0\nshow 0\n";
+    let script = parse(alloc, script).map_err(|_| "not parsed")?;
+    Ok(run(alloc, &script, gate).err())
+}
+
+#[test]
+fn stopped_at_the_gate(rt: HostRuntime) -> Result<(), Fail> {
+    let gate = StopsAt {
+        instruction: 3,
+        passed: Cell::new(0),
+    };
+    let stopped = RunFault {
+        processor: 0,
+        cause: Cause::Gate,
+    };
+    assert_eq!(rt; fault_behind(rt.alloc(), &gate)?, Some(stopped));
+    assert_eq!(rt; gate.passed.get(), 2);
+    let gate = StopsAt {
+        instruction: 4,
+        passed: Cell::new(0),
+    };
+    assert_eq!(rt; fault_behind(rt.alloc(), &gate)?, None);
+    assert_eq!(rt; gate.passed.get(), 3);
+    Ok(())
+}
+
+#[test]
+fn words(rt: HostRuntime) -> Result<(), Fail> {
+    let given = options(rt.alloc(), &["lrc", "run", "a.lrc"])?;
+    let file = String::from_str(rt.alloc(), "a.lrc")?;
+    assert_eq!(rt; given, Options { file: Some(file) });
+    assert_eq!(rt;
+        options(rt.alloc(), &["lrc", "run"])?,
+        Options { file: None }
+    );
+    let refused = options(rt.alloc(), &["lrc", "walk"]).err().ok_or("taken")?;
+    let text =
+        "error: unrecognized subcommand 'walk'\n\nUsage: lrc <COMMAND>\n\nFor more information, try '--help'.\n";
+    assert_eq!(rt; refused.to_string(rt.alloc())?.as_str(), text);
+    let help = options(rt.alloc(), &["lrc", "run", "--help"])
+        .err()
+        .ok_or("taken")?;
+    let text =
+        "Runs a script and prints the last words, the verdict on races and the traffic\n\nUsage: lrc run [FILE]\n\nArguments:\n  [FILE]  the script; standard input where it isn't given\n\nOptions:\n  -h, --help  Print help\n";
+    assert_eq!(rt; help.to_string(rt.alloc())?.as_str(), text);
+    Ok(())
+}

@@ -1,0 +1,16 @@
+pub mod Splits
+pub mod Numbers
+pub mod Steps
+pub mod Words
+pub mod Lines
+pub mod Run
+pub mod Fronts
+pub mod Verdict
+pub mod Keywords
+pub mod LineReading
+pub mod Adds
+pub mod Refused
+pub mod Complete
+pub mod Positions
+pub mod Printing
+pub mod Alike

@@ -1,0 +1,137 @@
+-- What each fault says of the bytes.
+use Rattle.std.specs.Prelude.{◌≡◌, ◌≢◌, ℕ, suc, ◌^◌, ◌<◌, ◌≤◌, ◌⊎◌, true, false, List, [], ◌∷◌, ◌++◌, length, take, slice_index_or, codes, Contains, IsSomeAnd, Any}
+use Rattle.std.specs.List.{flat_map, AllByRecursion}
+use Rattle.std.specs.Fmt.{decimal}
+use Rattle.lrc_script.specs.declared.fault.ScriptFault.{ScriptFault}
+use Rattle.lrc_script.specs.declared.fault.ScriptFault.TheVariants.{Truncated, BadLine, BadNumber, BadSize, OutOfRange, BadLock, BadFlag, AlreadyHeld, NotHeld, TooLong, Uneven, NoMemory}
+use Rattle.lrc_script.specs.declared.script.Instruction.{Instruction}
+use Rattle.lrc_script.specs.declared.script.Instruction.TheVariants.{Acquire, Release}
+use Rattle.lrc_script.specs.Plan.{Plan}
+use Rattle.lrc_script.specs.Lawful.{addresses, address_of, lock_of, flag_of, holds, barriers, AreSizes, IsLawfulButUneven}
+use Rattle.lrc_script.specs.Text.{cluster_line, section_lines, line_bytes, section_line, instruction_line, show_line, text}
+use Rattle.lrc_script.specs.Front.{Front, Nothing, Headed, Within, Whole, IsBegun, lines_before, text_before}
+
+-- a word has a byte, and no space
+pub record IsWord (w : List ℕ) : Type 0 where
+  pub some : 0 < length w
+  pub no_space : AllByRecursion (λ b. b ≢ 32) w
+
+-- the line is this word and these words, with one space before each
+pub record IsSplit (line word : List ℕ) (words : List (List ℕ)) : Type 0 where
+  pub first : IsWord word
+  pub others : AllByRecursion IsWord words
+  pub whole : line ≡ word ++ flat_map (λ w. 32 ∷ w) words
+
+-- which first words are allowed behind these lines, and with how many words after it
+abbrev pub Allows : Front → List ℕ → ℕ → Type 0
+Allows Nothing word n = (word ≡ codes "cluster") × ((n ≡ 4) ⊎ (n ≡ 5))
+Allows (Headed s) word n = (word ≡ codes "p") × (n ≡ 1)
+Allows (Within s is) word n =
+    ((word ≡ codes "p") × (n ≡ 1))
+    ⊎ ((word ≡ codes "show") × (1 ≤ n) × (suc (length s.sections) ≡ s.processors))
+    ⊎ ((i : Instruction) × (word ≡ (instruction_line i).word) × (n ≡ length (instruction_line i).numbers))
+Allows (Whole s) word n = ⊥
+
+-- the section isn't the next one, or is past the last
+abbrev pub IsOutOfTurn : Front → ℕ → Type 0
+IsOutOfTurn (Headed s) k = k ≢ 0
+IsOutOfTurn (Within s is) k = (k ≢ suc (length s.sections)) ⊎ (s.processors ≤ k)
+IsOutOfTurn _ k = ⊥
+
+-- the numbers aren't sizes that a script may have; no flags are written with four numbers
+abbrev pub AreNoSizes : List ℕ → Type 0
+AreNoSizes (p ∷ n ∷ w ∷ l ∷ []) =
+    AreSizes (record { processors = p; pages = n; words = w; locks = l; flags = 0; sections = []; shown = [] }) → ⊥
+AreNoSizes (p ∷ n ∷ w ∷ l ∷ g ∷ []) =
+    (g ≡ 0) ⊎ (AreSizes (record { processors = p; pages = n; words = w; locks = l; flags = g; sections = []; shown = [] }) → ⊥)
+AreNoSizes _ = ⊥
+
+-- the line is an instruction with this property
+abbrev pub IsInstruction : List ℕ → (Instruction → Type 0) → Type 0
+IsInstruction line P = (i : Instruction) × (line ≡ line_bytes (instruction_line i)) × P i
+
+-- the line shows addresses with this property
+abbrev pub IsShow : List ℕ → (List ℕ → Type 0) → Type 0
+IsShow line P = (shown : List ℕ) × (line ≡ line_bytes (show_line shown)) × P shown
+
+-- what a fault says of a line behind these sizes, sections and instructions
+abbrev pub SaysWithin : ScriptFault → Plan → List Instruction → List ℕ → Type 0
+SaysWithin OutOfRange s is line =
+    IsInstruction line (λ i. IsSomeAnd (address_of i) (λ a. addresses s ≤ a)) ⊎ IsShow line (Any (λ a. addresses s ≤ a))
+SaysWithin BadLock s is line = IsInstruction line (λ i. IsSomeAnd (lock_of i) (λ l. s.locks ≤ l))
+SaysWithin BadFlag s is line = IsInstruction line (λ i. IsSomeAnd (flag_of i) (λ f. s.flags ≤ f))
+SaysWithin AlreadyHeld s is line = IsInstruction line (λ i. (l : ℕ) × (i ≡ Acquire l) × (holds is l ≡ true))
+SaysWithin NotHeld s is line = IsInstruction line (λ i. (l : ℕ) × (i ≡ Release l) × (holds is l ≡ false))
+SaysWithin TooLong s is line = IsInstruction line (λ i. 10000 ≤ length is) ⊎ IsShow line (λ shown. 64 < length shown)
+SaysWithin _ s is line = ⊥
+
+-- what a fault says of a line behind these lines
+abbrev pub Says : ScriptFault → Front → List ℕ → Type 0
+Says BadLine f line =
+    ((word : List ℕ) (words : List (List ℕ)) → IsSplit line word words → Allows f word (length words) → ⊥)
+    ⊎ ((k : ℕ) × (line ≡ line_bytes (section_line k)) × IsOutOfTurn f k)
+Says BadNumber f line =
+    (word : List ℕ) × (words : List (List ℕ)) × IsSplit line word words × Allows f word (length words)
+    × (w : List ℕ) × Contains words w × ((n : ℕ) → n < 2 ^ 32 → w ≢ decimal n)
+Says BadSize Nothing line = (ns : List ℕ) × (line ≡ line_bytes (record { word = codes "cluster"; numbers = ns })) × AreNoSizes ns
+Says fault (Within s is) line = SaysWithin fault s is line
+Says _ f line = ⊥
+
+-- some script that is lawful but for evenness has a text that begins so
+abbrev pub BeginsText : List ℕ → Type 0
+BeginsText bytes = (s : Plan) × IsLawfulButUneven s × (more : List ℕ) × (text s ≡ bytes ++ more)
+
+abbrev pub HasNoLineFeed : List ℕ → Type 0
+HasNoLineFeed bytes = AllByRecursion (λ b. b ≢ 10) bytes
+
+-- line n of the bytes is the first line of rest, behind these lines
+pub record IsAt (bytes : List ℕ) (n : ℕ) (f : Front) (rest : List ℕ) : Type 0 where
+  pub begun : IsBegun f
+  pub whole : bytes ≡ text_before f ++ rest
+  pub number : n ≡ suc (length (lines_before f))
+
+-- the fault's own line stands in the bytes, and no lawful script has it there
+pub record IsLineFault (fault : ScriptFault) (f : Front) (rest : List ℕ) : Type 0 where
+  pub line : List ℕ
+  pub more : List ℕ
+  pub rest_is : rest ≡ line ++ 10 ∷ more
+  pub one_line : HasNoLineFeed line
+  pub says : Says fault f line
+  pub never : BeginsText (text_before f ++ (line ++ 10 ∷ [])) → ⊥
+
+-- the bytes end where a line has to be, or their last line has no line feed
+pub record IsTruncated (f : Front) (rest : List ℕ) : Type 0 where
+  pub no_line : HasNoLineFeed rest
+  pub not_over : (s : Plan) → f ≡ Whole s → 0 < length rest
+
+abbrev pub IsFaultBehind : ScriptFault → Front → List ℕ → Type 0
+IsFaultBehind Truncated f rest = IsTruncated f rest
+IsFaultBehind NoMemory f rest = Unit {0}
+IsFaultBehind fault f rest = IsLineFault fault f rest
+
+-- line n has the fault: the lines before it begin the text of a script, and the fault says what is wrong
+pub record IsFaultAt (bytes : List ℕ) (n : ℕ) (fault : ScriptFault) : Type 0 where
+  pub front : Front
+  pub rest : List ℕ
+  pub at : IsAt bytes n front rest
+  pub begins : BeginsText (text_before front)
+  pub behind : IsFaultBehind fault front rest
+
+-- line n is the head of the first section with another number of barriers than section 0
+pub record IsUneven (s : Plan) (n : ℕ) : Type 0 where
+  pub section : ℕ
+  pub within : section < length s.sections
+  pub differs : barriers (slice_index_or s.sections section []) ≢ barriers (slice_index_or s.sections 0 [])
+  pub first : (k : ℕ) → k < section → barriers (slice_index_or s.sections k []) ≡ barriers (slice_index_or s.sections 0 [])
+  pub line : n ≡ suc (length (cluster_line s ∷ section_lines 0 (take section s.sections)))
+
+-- the bytes are the text of a script that is lawful but for evenness, and line n says where it is uneven
+pub record IsUnevenText (bytes : List ℕ) (n : ℕ) : Type 0 where
+  pub script : Plan
+  pub lawful : IsLawfulButUneven script
+  pub text_is : bytes ≡ text script
+  pub uneven : IsUneven script n
+
+abbrev pub IsFault : List ℕ → ℕ → ScriptFault → Type 0
+IsFault bytes n Uneven = IsUnevenText bytes n
+IsFault bytes n fault = IsFaultAt bytes n fault

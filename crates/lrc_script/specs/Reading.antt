@@ -1,0 +1,207 @@
+-- What reading a line does, as a function of its bytes.
+use Rattle.std.specs.Prelude.{◌≡◌, ℕ, ◌+◌, ◌^◌, ◌==◌, nat_lt, nat_le, Bool, false, not, ◌&&◌, ◌||◌, if◌then◌else◌, List, [], ◌∷◌, ◌++◌, length, slice_index, codes, Option, Some, None, is_some, unwrap_or, Result, Ok, Err}
+use Rattle.std.specs.Borrow.{Bor}
+use Rattle.std.specs.Char.{is_ascii_digit}
+use Rattle.std.specs.List.{slice_split, list_all, list_any}
+use Rattle.std.specs.Str.{bytes_eq}
+use Rattle.std.specs.Str.Parse.{digits_value}
+use Rattle.lrc_script.specs.declared.fault.ScriptFault.{ScriptFault}
+use Rattle.lrc_script.specs.declared.fault.ScriptFault.TheVariants.{BadLine, BadNumber, BadSize, OutOfRange, BadLock, BadFlag, AlreadyHeld, NotHeld, TooLong, NoMemory}
+use Rattle.lrc_script.specs.declared.line.Keyword.{Keyword}
+use Rattle.lrc_script.specs.declared.line.Keyword.TheVariants as keyword
+use Rattle.lrc_script.specs.declared.script.Instruction.{Instruction}
+use Rattle.lrc_script.specs.declared.script.Instruction.TheVariants as instruction
+use Rattle.lrc_script.specs.declared.progress.Progress.{Progress}
+use Rattle.lrc_script.specs.declared.progress.Progress.TheVariants as progress
+use Rattle.lrc_script.specs.Plan.{Plan, plan_of}
+use Rattle.lrc_script.specs.Lawful.{addresses, address_of, lock_of, flag_of, holds}
+use Rattle.lrc_script.specs.Faults.{HasNoLineFeed}
+use Rattle.lrc_script.specs.Front.{Front, Nothing, Headed, Within, Whole}
+
+-- a function that runs out of memory may answer so; any other answer, seen by view, is what reading gives
+abbrev pub Fails : {Y : Type 0} → ScriptFault → Result Y ScriptFault → Type 0
+Fails NoMemory read = Unit {0}
+Fails f read = read ≡ Err f
+
+abbrev pub Gives : {X Y : Type 0} → (X → Y) → Result X ScriptFault → Result Y ScriptFault → Type 0
+Gives view (Ok x) read = read ≡ Ok (view x)
+Gives view (Err e) read = Fails e read
+
+-- what stands between the separators: of a line the words, which stand between its spaces
+abbrev pub parts_of : ℕ → List ℕ → List (List ℕ)
+parts_of separator bytes = slice_split (λ b. b == separator) bytes
+
+-- the parts of what stands behind a separator, if there is one
+abbrev pub parts_left : ℕ → Option (Bor (List ℕ)) → List (List ℕ)
+parts_left separator None = []
+parts_left separator (Some rest) = parts_of separator rest.now
+
+-- the bytes are a line, its line feed, and the rest
+pub record IsCut (bytes line rest : List ℕ) : Type 0 where
+  pub bytes_are : bytes ≡ line ++ 10 ∷ rest
+  pub one_line : HasNoLineFeed line
+
+abbrev pub has_bytes : List ℕ → Bool
+has_bytes w = nat_lt 0 (length w)
+
+abbrev pub keyword_of : List ℕ → Option Keyword
+keyword_of w =
+    if bytes_eq w (codes "cluster") then Some keyword.Cluster else
+    if bytes_eq w (codes "p") then Some keyword.Section else
+    if bytes_eq w (codes "load") then Some keyword.Load else
+    if bytes_eq w (codes "store") then Some keyword.Store else
+    if bytes_eq w (codes "add") then Some keyword.Add else
+    if bytes_eq w (codes "acquire") then Some keyword.Acquire else
+    if bytes_eq w (codes "release") then Some keyword.Release else
+    if bytes_eq w (codes "barrier") then Some keyword.Barrier else
+    if bytes_eq w (codes "set") then Some keyword.Set else
+    if bytes_eq w (codes "await") then Some keyword.Await else
+    if bytes_eq w (codes "show") then Some keyword.Show else None
+
+-- digits, with no zero at the front of others
+abbrev pub is_decimal : List ℕ → Bool
+is_decimal w = not (length w == 0) && not ((slice_index w 0 == 48) && nat_lt 1 (length w)) && list_all is_ascii_digit w
+
+-- the number below 2 ^ 32 that is written so
+abbrev pub number_of : List ℕ → Option ℕ
+number_of w = if is_decimal w && nat_lt (digits_value 10 w) (2 ^ 32) then Some (digits_value 10 w) else None
+
+-- the numbers that words are, behind these, or the fault of the first that is none
+abbrev pub numbers_after : List ℕ → List (List ℕ) → Result (List ℕ) ScriptFault
+numbers_after ns [] = Ok ns
+numbers_after ns (w ∷ ws) = if is_some (number_of w) then numbers_after (ns ++ unwrap_or (number_of w) 0 ∷ []) ws else Err BadNumber
+
+infixl 10 ◌>>=◌
+abbrev pub ◌>>=◌ : {A B : Type 0} → Result A ScriptFault → (A → Result B ScriptFault) → Result B ScriptFault
+(Ok x) >>= f = f x
+(Err e) >>= f = Err e
+
+-- which sizes a script may have
+abbrev pub are_sizes : Plan → Bool
+are_sizes s =
+    nat_le 1 s.processors && nat_le s.processors 16 && nat_le 1 s.pages && nat_le s.pages 64 && nat_le 1 s.words && nat_le s.words 64
+    && nat_le s.locks 32 && nat_le s.flags 32
+
+-- how many numbers the instruction of a keyword takes
+abbrev pub takes : Keyword → ℕ → Bool
+takes keyword.Load n = n == 1
+takes keyword.Store n = n == 2
+takes keyword.Add n = n == 2
+takes keyword.Acquire n = n == 1
+takes keyword.Release n = n == 1
+takes keyword.Barrier n = n == 0
+takes keyword.Set n = n == 1
+takes keyword.Await n = n == 1
+takes _ n = false
+
+-- which keywords are allowed at this point, with so many numbers
+abbrev pub is_due : Front → Keyword → ℕ → Bool
+is_due Nothing keyword.Cluster n = (n == 4) || (n == 5)
+is_due Nothing _ n = false
+is_due (Headed s) keyword.Section n = n == 1
+is_due (Headed s) _ n = false
+is_due (Within s is) keyword.Section n = n == 1
+is_due (Within s is) keyword.Show n = nat_le 1 n && (length s.sections + 1 == s.processors)
+is_due (Within s is) k n = takes k n
+is_due (Whole s) k n = false
+
+abbrev pub sized : Bool → Plan → Result Front ScriptFault
+sized are s = if are then Ok (Headed s) else Err BadSize
+
+-- the numbers of a cluster line
+abbrev pub headed : List ℕ → Result Front ScriptFault
+headed (p ∷ n ∷ w ∷ l ∷ []) =
+    let s : Plan = record { processors = p; pages = n; words = w; locks = l; flags = 0; sections = []; shown = [] } in sized (are_sizes s) s
+headed (p ∷ n ∷ w ∷ l ∷ g ∷ []) =
+    let s : Plan = record { processors = p; pages = n; words = w; locks = l; flags = g; sections = []; shown = [] } in sized (nat_lt 0 g && are_sizes s) s
+headed _ = Err BadLine
+
+-- the section is whole
+abbrev pub closed : Plan → List Instruction → Plan
+closed s is = record s { sections = s.sections ++ is ∷ [] }
+
+-- the numbers of the first section line
+abbrev pub first_section : Plan → List ℕ → Result Front ScriptFault
+first_section s (k ∷ []) = if k == 0 then Ok (Within s []) else Err BadLine
+first_section s _ = Err BadLine
+
+-- the numbers of another section line
+abbrev pub next_section : Plan → List Instruction → List ℕ → Result Front ScriptFault
+next_section s is (k ∷ []) = if (k == length s.sections + 1) && nat_lt k s.processors then Ok (Within (closed s is) []) else Err BadLine
+next_section s is _ = Err BadLine
+
+-- the numbers of the show line
+abbrev pub ended : Plan → List Instruction → List ℕ → Result Front ScriptFault
+ended s is ns =
+    if list_any (λ a. nat_le (addresses s) a) ns then Err OutOfRange else
+    if nat_lt 64 (length ns) then Err TooLong else Ok (Whole (record (closed s is) { shown = ns }))
+
+-- the instruction of a keyword with these numbers
+abbrev pub instruction_of : Keyword → List ℕ → Option Instruction
+instruction_of keyword.Load (a ∷ []) = Some (instruction.Load a)
+instruction_of keyword.Store (a ∷ v ∷ []) = Some (instruction.Store a v)
+instruction_of keyword.Add (a ∷ v ∷ []) = Some (instruction.Add a v)
+instruction_of keyword.Acquire (l ∷ []) = Some (instruction.Acquire l)
+instruction_of keyword.Release (l ∷ []) = Some (instruction.Release l)
+instruction_of keyword.Barrier [] = Some instruction.Barrier
+instruction_of keyword.Set (f ∷ []) = Some (instruction.Set f)
+instruction_of keyword.Await (f ∷ []) = Some (instruction.Await f)
+instruction_of _ _ = None
+
+abbrev pub takes_held : List Instruction → Instruction → Bool
+takes_held is (instruction.Acquire l) = holds is l
+takes_held is _ = false
+
+abbrev pub gives_unheld : List Instruction → Instruction → Bool
+gives_unheld is (instruction.Release l) = not (holds is l)
+gives_unheld is _ = false
+
+abbrev pub is_past : Option ℕ → ℕ → Bool
+is_past None count = false
+is_past (Some place) count = nat_le count place
+
+-- why an instruction can't stand after these, by the order of the tests
+abbrev pub refusal : Plan → List Instruction → Instruction → Option ScriptFault
+refusal s is i =
+    if is_past (address_of i) (addresses s) then Some OutOfRange else
+    if is_past (lock_of i) s.locks then Some BadLock else
+    if is_past (flag_of i) s.flags then Some BadFlag else
+    if takes_held is i then Some AlreadyHeld else
+    if gives_unheld is i then Some NotHeld else
+    if nat_le 10000 (length is) then Some TooLong else None
+
+abbrev pub entered : Plan → List Instruction → Instruction → Option ScriptFault → Result Front ScriptFault
+entered s is i None = Ok (Within s (is ++ i ∷ []))
+entered s is i (Some f) = Err f
+
+abbrev pub with_instruction : Plan → List Instruction → Option Instruction → Result Front ScriptFault
+with_instruction s is None = Err BadLine
+with_instruction s is (Some i) = entered s is i (refusal s is i)
+
+-- what a line of this keyword and these numbers makes of what stands before it
+unfoldable pub step : Front → Keyword → List ℕ → Result Front ScriptFault
+step Nothing k ns = headed ns
+step (Headed s) k ns = first_section s ns
+step (Within s is) keyword.Section ns = next_section s is ns
+step (Within s is) keyword.Show ns = ended s is ns
+step (Within s is) k ns = with_instruction s is (instruction_of k ns)
+step (Whole s) k ns = Err BadLine
+
+unfoldable pub after_keyword : Front → Option Keyword → List (List ℕ) → Result Front ScriptFault
+after_keyword f None ws = Err BadLine
+after_keyword f (Some k) ws = if is_due f k (length ws) then numbers_after [] ws >>= step f k else Err BadLine
+
+abbrev pub after_words : Front → List (List ℕ) → Result Front ScriptFault
+after_words f [] = Err BadLine
+after_words f (w ∷ ws) = if list_all has_bytes (w ∷ ws) then after_keyword f (keyword_of w) ws else Err BadLine
+
+-- what a line makes of what stands before it
+abbrev pub after : Front → List ℕ → Result Front ScriptFault
+after f line = after_words f (parts_of 32 line)
+
+-- what stands before the next line
+abbrev pub front_of : Progress → Front
+front_of progress.Start = Nothing
+front_of (progress.Headed s) = Headed (plan_of s)
+front_of (progress.Within s section) = Within (plan_of s) section.instructions.items
+front_of (progress.Whole s) = Whole (plan_of s)

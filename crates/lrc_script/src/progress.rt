@@ -1,0 +1,267 @@
+//! How far a script is read, and what each line adds.
+
+ghost use Rattle.std.specs.Prelude.{◌≡◌, ℕ, ◌≤◌, ◌<◌, nat_le, [], length, Some, IfOk, IfSome, IfNone};
+ghost use Rattle.std.specs.List.{list_any};
+ghost use Rattle.lrc_script.specs.Plan.{Plan, plan_of};
+ghost use Rattle.lrc_script.specs.Front.{IsBegun, Headed, Within, Whole};
+ghost use Rattle.lrc_script.specs.Lawful.{addresses};
+ghost use Rattle.lrc_script.specs.Reading.{Gives, front_of, is_due, takes, are_sizes, headed, first_section, next_section, ended, instruction_of, is_past, refusal, with_instruction, step, after};
+
+use crate::fault::ScriptFault;
+use crate::line::{Keyword, is_separated, number_count, read_numbers, split_at_byte};
+use crate::script::{Instruction, Script};
+use crate::section::Section;
+use std::alloc::{AllocError, Global};
+
+/// The lines of a script that were read.
+#[derive(Drop)]
+pub enum Progress {
+    /// No line.
+    Start,
+    /// The `cluster` line.
+    Headed(Script),
+    /// The `cluster` line, the script's sections and the beginning of one more.
+    Within(Script, Section),
+    /// All lines.
+    Whole(Script),
+}
+
+fn takes(keyword: Keyword, numbers: usize) -> bool
+    ensures { result ≡ takes keyword numbers }
+{
+    match keyword {
+        Keyword::Store | Keyword::Add => numbers == 2,
+        Keyword::Load | Keyword::Acquire | Keyword::Release | Keyword::Set | Keyword::Await =>
+            numbers == 1,
+        Keyword::Barrier => numbers == 0,
+        Keyword::Cluster | Keyword::Section | Keyword::Show => false,
+    }
+}
+
+fn are_sizes(script: &Script) -> bool
+    ensures { result ≡ are_sizes (plan_of script.now) }
+{
+    1 <= script.processors
+        && script.processors <= 16
+        && 1 <= script.pages
+        && script.pages <= 64
+        && 1 <= script.words
+        && script.words <= 64
+        && script.locks <= 32
+        && script.flags <= 32
+}
+
+fn instruction(keyword: Keyword, numbers: &[u32]) -> Option<Instruction>
+    ensures { result ≡ instruction_of keyword numbers.now }
+{
+    match (keyword, numbers) {
+        (Keyword::Load, [a]) => Some(Instruction::Load(*a as usize)),
+        (Keyword::Store, [a, v]) => Some(Instruction::Store(*a as usize, *v)),
+        (Keyword::Add, [a, v]) => Some(Instruction::Add(*a as usize, *v)),
+        (Keyword::Acquire, [l]) => Some(Instruction::Acquire(*l as usize)),
+        (Keyword::Release, [l]) => Some(Instruction::Release(*l as usize)),
+        (Keyword::Barrier, []) => Some(Instruction::Barrier),
+        (Keyword::Set, [f]) => Some(Instruction::Set(*f as usize)),
+        (Keyword::Await, [f]) => Some(Instruction::Await(*f as usize)),
+        _ => None,
+    }
+}
+
+fn is_past(place: Option<usize>, count: usize) -> bool
+    ensures { result ≡ is_past place count }
+{
+    place.is_some_and(|place| place >= count)
+}
+
+/// Why an instruction can't stand after those of the section.
+fn refusal(script: &Script, section: &Section, instruction: Instruction) -> Option<ScriptFault>
+    requires fits { addresses (plan_of script.now) ≤ 4096 }
+    requires locks { script.now.locks ≤ 32 }
+    ensures { result ≡ refusal (plan_of script.now) section.now.instructions.items instruction }
+{
+    if is_past(instruction.address(), script.pages * script.words) {
+        return Some(ScriptFault::OutOfRange);
+    }
+    if is_past(instruction.lock(), script.locks) {
+        return Some(ScriptFault::BadLock);
+    }
+    if is_past(instruction.flag(), script.flags) {
+        return Some(ScriptFault::BadFlag);
+    }
+    match instruction {
+        Instruction::Acquire(lock) if section.holds(lock) => Some(ScriptFault::AlreadyHeld),
+        Instruction::Release(lock) if !section.holds(lock) => Some(ScriptFault::NotHeld),
+        _ if section.instructions.len() >= 10_000 => Some(ScriptFault::TooLong),
+        _ => None,
+    }
+}
+
+/// The script of a `cluster` line with these numbers.
+fn head(alloc: Global, numbers: &[u32]) -> Result<Script, ScriptFault>
+    ensures { Gives (λ s. Headed (plan_of s)) result (headed numbers.now) }
+{
+    let (processors, pages, words, locks, flags) = match numbers {
+        [p, n, w, l] => (*p, *n, *w, *l, 0),
+        [_, _, _, _, 0] => return Err(ScriptFault::BadSize),
+        [p, n, w, l, g] => (*p, *n, *w, *l, *g),
+        _ => return Err(ScriptFault::BadLine),
+    };
+    let script = Script {
+        processors: processors as usize,
+        pages: pages as usize,
+        words: words as usize,
+        locks: locks as usize,
+        flags: flags as usize,
+        sections: Vec::new(alloc),
+        shown: Vec::new(alloc),
+    };
+    if !are_sizes(&script) {
+        return Err(ScriptFault::BadSize);
+    }
+    Ok(script)
+}
+
+fn first_section(alloc: Global, script: Script, numbers: &[u32]) -> Result<Progress, ScriptFault>
+    ensures { Gives front_of result (first_section (plan_of script) numbers.now) }
+{
+    match numbers {
+        [0] => Ok(Progress::Within(script, Section::new(alloc))),
+        _ => Err(ScriptFault::BadLine),
+    }
+}
+
+fn next_section(
+    alloc: Global,
+    mut script: Script,
+    section: Section,
+    numbers: &[u32],
+) -> Result<Progress, ScriptFault>
+    ensures { Gives front_of result (next_section (plan_of script) section.instructions.items numbers.now) }
+{
+    match numbers {
+        [k] if *k as usize == script.sections.len() + 1 && (*k as usize) < script.processors => {
+            script.sections.push(section.instructions)?;
+            Ok(Progress::Within(script, Section::new(alloc)))
+        }
+        _ => Err(ScriptFault::BadLine),
+    }
+}
+
+fn any_past(numbers: &[u32], count: usize) -> bool
+    ensures { result ≡ list_any (λ place. nat_le count place) numbers.now }
+{
+    numbers.iter().any(|place| *place as usize >= count)
+}
+
+fn places(alloc: Global, numbers: &[u32]) -> Result<Vec<usize>, AllocError>
+    ensures { IfOk result (λ places. places.items ≡ numbers.now) }
+{
+    numbers.iter().map(|place| *place as usize).collect(alloc)
+}
+
+fn show(
+    alloc: Global,
+    mut script: Script,
+    section: Section,
+    numbers: &[u32],
+) -> Result<Progress, ScriptFault>
+    requires { addresses (plan_of script) ≤ 4096 }
+    ensures { Gives front_of result (ended (plan_of script) section.instructions.items numbers.now) }
+{
+    if any_past(numbers, script.pages * script.words) {
+        return Err(ScriptFault::OutOfRange);
+    }
+    if numbers.len() > 64 {
+        return Err(ScriptFault::TooLong);
+    }
+    script.sections.push(section.instructions)?;
+    script.shown = places(alloc, numbers)?;
+    Ok(Progress::Whole(script))
+}
+
+fn add(
+    script: Script,
+    mut section: Section,
+    instruction: Instruction,
+) -> Result<Progress, ScriptFault>
+    requires fits { addresses (plan_of script) ≤ 4096 }
+    requires locks { script.locks ≤ 32 }
+    ensures { Gives front_of result (with_instruction (plan_of script) section.instructions.items (Some instruction)) }
+{
+    match refusal(&script, &section, instruction) {
+        Some(fault) => Err(fault),
+        None => {
+            section.push(instruction)?;
+            Ok(Progress::Within(script, section))
+        }
+    }
+}
+
+impl Progress {
+    /// Whether a line with this keyword and so many numbers is allowed at this point.
+    fn is_due(&self, keyword: Keyword, numbers: usize) -> bool
+        ensures { result ≡ is_due (front_of self.now) keyword numbers }
+    {
+        match (self, keyword) {
+            (Progress::Start, Keyword::Cluster) => numbers == 4 || numbers == 5,
+            (Progress::Headed(_) | Progress::Within(..), Keyword::Section) => numbers == 1,
+            (Progress::Within(script, _), Keyword::Show) => {
+                numbers >= 1 && script.sections.len() + 1 == script.processors
+            }
+            (Progress::Within(..), _) => takes(keyword, numbers),
+            _ => false,
+        }
+    }
+
+    /// What a line of this keyword and these numbers makes of it.
+    #[tactic(auto, unfolding(crate::specs::Reading::step))]
+    fn step(self, alloc: Global, keyword: Keyword, numbers: &[u32]) -> Result<Progress, ScriptFault>
+        requires { IsBegun (front_of self) }
+        ensures { Gives front_of result (step (front_of self) keyword numbers.now) }
+    {
+        match self {
+            Progress::Start => Ok(Progress::Headed(head(alloc, numbers)?)),
+            Progress::Headed(script) => first_section(alloc, script, numbers),
+            Progress::Within(script, section) => match keyword {
+                Keyword::Section => next_section(alloc, script, section, numbers),
+                Keyword::Show => show(alloc, script, section, numbers),
+                _ => match instruction(keyword, numbers) {
+                    Some(instruction) => add(script, section, instruction),
+                    None => Err(ScriptFault::BadLine),
+                },
+            },
+            Progress::Whole(_) => Err(ScriptFault::BadLine),
+        }
+    }
+
+    /// What a line makes of it. The line is handed in without its line feed.
+    #[tactic(auto, unfolding(crate::specs::Reading::after_keyword))]
+    pub fn after(self, alloc: Global, line: &[u8]) -> Result<Progress, ScriptFault>
+        requires { IsBegun (front_of self) }
+        ensures { Gives front_of result (after (front_of self) line.now) }
+    {
+        if !is_separated(line) {
+            return Err(ScriptFault::BadLine);
+        }
+        let (word, words) = split_at_byte(line, b' ');
+        let Some(keyword) = Keyword::of(word) else {
+            return Err(ScriptFault::BadLine);
+        };
+        if !self.is_due(keyword, number_count(words)) {
+            return Err(ScriptFault::BadLine);
+        }
+        let numbers = read_numbers(alloc, words)?;
+        self.step(alloc, keyword, numbers.as_slice())
+    }
+
+    /// The script, if all its lines were read and nothing is left.
+    pub fn whole(self, rest: &[u8]) -> Option<Script>
+        ensures found { IfSome result (λ s. (front_of self ≡ Whole (plan_of s)) × (rest.now ≡ [])) }
+        ensures none { IfNone result ((s : Plan) → front_of self ≡ Whole s → 0 < length rest.now) }
+    {
+        match self {
+            Progress::Whole(script) if rest.is_empty() => Some(script),
+            _ => None,
+        }
+    }
+}

@@ -1,0 +1,40 @@
+-- What a record carries from one copy of a page to another.
+use Rattle.std.specs.Prelude.{ℕ, ◌≡◌, ◌<◌, false, Option, Some, None, List, length, replicate}
+use Rattle.lists.specs.Places.{Has}
+use Rattle.lists.specs.Writes.{written}
+use Rattle.lists.specs.Records.{record_applied, marked, harvest}
+use Rattle.page.specs.Changes.{Changes}
+use Rattle.page.specs.Contents.{Contents}
+
+-- each offset lies in a page of n words
+abbrev pub FitsIn : ℕ → List (ℕ × ℕ) → Type 0
+FitsIn n words = (x : ℕ × ℕ) → Has words x → x.0 < n
+
+-- the record has the dirty words of the copy, in rising order, as words of page n
+pub record IsHarvest (n : ℕ) (p : Contents) (r : Changes) : Type 0 where
+  pub page_is : r.page ≡ n
+  pub words_are : r.words ≡ harvest 0 p.words p.dirty
+  pub fits : FitsIn (length p.words) r.words
+
+-- the words after these stores, in turn
+abbrev pub stored : List ℕ → List (ℕ × ℕ) → List ℕ
+stored words stores = written (λ (x : ℕ × ℕ). Some x) words stores
+
+-- the copy is what these stores, in turn, make of a clean copy with these words
+pub record IsAfter (stores : List (ℕ × ℕ)) (words : List ℕ) (p : Contents) : Type 0 where
+  pub words_are : p.words ≡ stored words stores
+  pub dirty_are : p.dirty ≡ marked (λ (x : ℕ × ℕ). Some x) (replicate (length words) false) stores
+
+-- the words after a record, if there is one
+abbrev pub carried : List ℕ → Option Changes → List ℕ
+carried words None = words
+carried words (Some r) = record_applied words r.words
+
+-- whatever stores to a clean copy led here, the record makes of any page of as many words what
+-- those stores make of it
+abbrev pub CarriesStores : Contents → Option Changes → Type 0
+CarriesStores p r =
+    (stores : List (ℕ × ℕ)) (words other : List ℕ) →
+    IsAfter stores words p →
+    length other ≡ length words →
+    carried other r ≡ stored other stores

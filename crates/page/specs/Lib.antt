@@ -1,0 +1,4 @@
+pub mod Changes
+pub mod Contents
+pub mod Marks
+pub mod Carries

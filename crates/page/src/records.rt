@@ -1,0 +1,110 @@
+//! What the stores of an interval come to in one page.
+ghost use Rattle.std.specs.Prelude.{◌≡◌, ◌↔◌, IsTrue, IsSome, IfSome};
+ghost use Rattle.page.specs.Changes.{IsRising};
+
+use std::marker::Model;
+
+/// The record of a closed interval for one page: the words that the interval's stores left there,
+/// in rising order of offset, one value a word. It stands in the place of a diff (Keleher, Cox and
+/// Zwaenepoel 1992, section 3), and is made from dirty bits, with no twin to compare with.
+#[derive(Debug, Drop)]
+pub struct Record {
+    page: usize,
+    words: Vec<(usize, u32)>,
+}
+
+impl Model for Record {
+    ghost use Rattle.page.specs.Changes.{Changes, IsRising};
+
+    ghost Value = { Changes };
+
+    ghost view = { λ r. record { page = r.page; words = r.words.items } };
+
+    ghost invariant = { λ r. IsRising r.words.items };
+}
+
+impl Record {
+    /// The record of page `page` with these words, as offsets and values.
+    pub fn new(page: usize, words: Vec<(usize, u32)>) -> Self
+        requires { IsRising words.items }
+        ensures page { result.page ≡ page }
+        ensures words { result.words ≡ words.items }
+    {
+        Record { page, words }
+    }
+
+    /// The same of words that may be in any order: `None` exactly where their offsets don't rise
+    /// strictly.
+    pub fn from_words(page: usize, words: Vec<(usize, u32)>) -> Option<Self>
+        ensures some { IsSome result ↔ IsRising words.items }
+        ensures value { IfSome result (λ r. (r.page ≡ page) × (r.words ≡ words.items)) }
+    {
+        if is_rising(&words) {
+            Some(Record::new(page, words))
+        } else {
+            None
+        }
+    }
+
+    /// The page that the words lie in.
+    pub fn page(&self) -> usize
+        ensures { result ≡ self.now.page }
+    {
+        self.page
+    }
+
+    /// The words, as offsets in the page and values.
+    pub fn words(&self) -> &[(usize, u32)]
+        ensures words { result.now ≡ self.now.words }
+        ensures rising { IsRising self.now.words }
+    {
+        &self.words
+    }
+}
+
+fn is_rising(words: &[(usize, u32)]) -> bool
+    ensures { IsTrue result ↔ IsRising words.now }
+{
+    for i in 1..words.len() {
+        if words[i].0 <= words[i - 1].0 {
+            return false;
+        }
+    }
+    true
+}
+
+#[cfg(test)]
+mod tests {
+    use super::*;
+    use std::sync::Arc;
+    use std::test::Fail;
+
+    fn shared<T: Send + Sync + Drop>(value: T) -> T {
+        value
+    }
+
+    #[test]
+    fn takes_rising_words_alone(rt: HostRuntime) -> Result<(), Fail> {
+        let words = vec![in rt.alloc(); (0, 5), (2, 7)]?;
+        let record = Record::from_words(3, words).ok_or("these rise")?;
+        assert_eq!(rt; record.page(), 3);
+        assert_eq!(rt; record.words(), [(0, 5), (2, 7)].as_slice());
+
+        let twice = vec![in rt.alloc(); (2, 5), (2, 7)]?;
+        assert!(rt; Record::from_words(3, twice).is_none());
+        let falling = vec![in rt.alloc(); (2, 5), (0, 7)]?;
+        assert!(rt; Record::from_words(3, falling).is_none());
+        let empty = Record::new(1, Vec::new(rt.alloc()));
+        assert_eq!(rt; empty.words().len(), 0);
+        Ok(())
+    }
+
+    #[test]
+    fn is_shared_among_threads(rt: HostRuntime) -> Result<(), Fail> {
+        let words = vec![in rt.alloc(); (0, 5)]?;
+        let record = Record::from_words(3, words).ok_or("one word rises")?;
+        let record = shared(Arc::new(rt.alloc(), record)?);
+        assert_eq!(rt; record.words(), [(0, 5)].as_slice());
+        Ok(())
+    }
+}

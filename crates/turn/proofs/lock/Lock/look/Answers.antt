@@ -1,0 +1,22 @@
+use Rattle.std.proofs.Common.{◌≡◌, ℕ, ◌<◌, ap, sym, ◌∙◌, arith}
+use Rattle.turn.proofs.Rounds.{looks_allowed}
+use Rattle.turn.proofs.lock.Lock.look.Goals as goal
+
+pub load-requires : goal.load-requires
+load-requires g c =
+    let lock = c.args.self.now in
+    let sized = lock.sized in
+    let wide = lock.wide in
+    let laid = lock.layout.wide in
+    let some = lock.layout.some in
+    let n = lock.table.shared.key.seats in
+    let positive : 0 < n = omega arith in
+    let number = c.args.number in
+    let laws = g.met.W.Board in
+    let here = laws.lawful lock.layout.seats (omega arith) in
+    let board = laws.lawful n positive in
+    let within = here.within number in
+    let word_is = c.requires.word in
+    let word : g.W.Board.at n number ≡ c.args.word = ap (λ (k : ℕ). g.W.Board.at k number) sized.0 ∙ sym word_is in
+    let P = looks_allowed g.row.B.Denot g.row.K-View.Denot g.K.Keeper.fact (g.W.Board.width n) (g.W.Board.shows n) (g.W.Board.at n) g.W.Board.passed board n lock.table.shared.key.entries lock.table.shared.table_id.slots c.args.seat.now.id number c.args.seat.now.me c.requires.waits in
+    (c.requires.own, omega arith, rw word at P)

@@ -1,0 +1,85 @@
+//! What a thread enters with: its chair, and what it has while it is inside.
+ghost use Rattle.std.specs.Prelude.{◌≡◌, ◌+◌, ◌^◌, ◌<◌, ◌≤◌, true, []};
+ghost use Rattle.turn.specs.declared.chair.Stage.TheVariants.{Outside};
+ghost use Rattle.turn.specs.Stages.{carried};
+
+use crate::contract::Keeper;
+use atomic_table::Seat;
+use std::collections::LinkedList;
+
+/// Where a chair stands, for proofs alone: outside, waiting with its number, or inside with its number and the book as
+/// it took it. No value of it is made.
+pub enum Stage<B> {
+    Outside,
+    Waiting(u64),
+    Inside(u64, B),
+}
+
+/// What the lock's rule says of one chair, for proofs alone: its stage, how often it has entered, and the keeper's view.
+pub struct Sitting<B, V> {
+    pub stage: Stage<B>,
+    pub entries: u64,
+    pub view: V,
+}
+
+/// The places of a seat of the table, for proofs alone: `lead` sits at `place`, and `others` at the places after it. Of
+/// a seat that is not live nothing is known.
+pub struct Hand<C> {
+    pub live: bool,
+    pub place: u64,
+    pub lead: C,
+    pub others: LinkedList<C>,
+}
+
+/// The token with which one thread enters one lock, over the book `B` under the keeper `K`.
+pub type Chair<B, K> = Seating<B, <K as Keeper<B>>::View>;
+
+/// A chair, by the type of its view. Write [`Chair`].
+#[derive(Drop)]
+pub struct Seating<B, V> {
+    pub(crate) seat: Seat<Option<B>, Hand<Sitting<B, V>>>,
+    pub(crate) entries: u64,
+    pub(crate) limit: u64,
+    ghost single: { (seat.me.0.live ≡ true) × (seat.me.0.others ≡ []) },
+    ghost counted: { (entries ≡ seat.me.0.lead.entries) × (entries ≤ limit) },
+    ghost carries: { seat.me.1 ≡ carried seat.me.0.lead.stage },
+}
+
+impl<B, V> Seating<B, V> {
+    ghost use Rattle.turn.specs.Chairs.{lock_id, IsFresh};
+    ghost use Rattle.turn.specs.Moves.{Sits};
+
+    // A chair that never entered.
+    pub(crate) fn fresh(seat: Seat<Option<B>, Hand<Sitting<B, V>>>, limit: u64) -> Seating<B, V>
+        requires outside { Sits Outside seat.me }
+        requires never { seat.me.0.lead.entries ≡ 0 }
+        ensures { IsFresh (lock_id seat.table_id limit) seat.me.0.place seat.me.0.lead.view result }
+    {
+        Seating {
+            seat,
+            entries: 0,
+            limit,
+        }
+    }
+
+    pub(crate) fn into_seat(self) -> Seat<Option<B>, Hand<Sitting<B, V>>>
+        ensures { result ≡ self.seat }
+    {
+        let Seating {
+            seat,
+            entries: _,
+            limit: _,
+        } = self;
+        seat
+    }
+}
+
+/// The right to be inside, which `enter` alone gives and `leave` takes. It must be spent.
+pub struct Held {
+    pub(crate) number: u64,
+    ghost small: { number + 1 < 2 ^ 64 },
+}
+
+/// The chair has entered as often as it may.
+#[derive(Debug, Clone, Copy, PartialEq, Eq, Drop)]
+pub struct Spent;

@@ -1,0 +1,70 @@
+//! The contract of the lock round the book.
+ghost use Rattle.std.specs.Prelude.{◌≡◌, ℕ, List, ◌+◌, ◌*◌, ◌^◌, ◌<◌, ◌≤◌, length, map, replicate, IfOk, IfErr};
+ghost use Rattle.turn.specs.Chairs.{LockId, lock, place, view, entries, IsOutside, IsInside, IsSameChair, AreFresh, AreAll, Stands, MayHandIn};
+
+use crate::chair::{Chair, Held, Spent};
+use std::alloc::{AllocError, Global};
+use std::sync::Wait;
+
+/// What the lock keeps. A view is plain data of one chair, which exists in proofs alone.
+pub trait Keeper<B> {
+    type View;
+
+    // The fact over the book and all chairs' views, in the order of their places, that holds whenever the lock is free.
+    ghost fact: { B → List Self.View → Type 0 };
+
+    // The view with which each chair starts.
+    ghost first: { Self.View };
+}
+
+/// What one call does: the relation between the book that it hands in, its chair's old view and its new one.
+pub trait Outcome<B, V> {
+    ghost then: { B → V → V → Type 0 };
+}
+
+/// A lock round one value, the book, under a keeper.
+///
+/// Nothing is promised of progress, fairness or time: `enter` may never return.
+pub trait Turn<B, K: Keeper<B>>: Sized + Sync {
+    /// How often a chair may enter.
+    const ENTRIES: u64;
+
+    ghost ENTRIES: { ℕ };
+
+    // Which lock it is. A chair fits the lock whose name it has.
+    ghost id: { Self → LockId };
+
+    // How many chairs it has.
+    ghost size: { Self → ℕ };
+
+    /// A lock with `seats` chairs, in the order of their places. Where memory runs out the book is dropped.
+    fn new(alloc: Global, book: B, seats: usize) -> Result<(Self, Vec<Chair<B, K>>), AllocError>
+    where
+        B: Drop,
+        requires some { 1 ≤ seats }
+        requires room { seats * ENTRIES < 2 ^ 64 }
+        requires fact { K.fact book (replicate seats K.first) }
+        ensures { IfOk result (λ t. (size t.0 ≡ seats) × (length t.1.items ≡ seats) × AreFresh (id t.0) K.first t.1.items) };
+
+    /// Waits for the chair's turn, and answers the book. It takes no memory.
+    ///
+    /// [`Spent`] where the chair has entered [`ENTRIES`](Turn::ENTRIES) times; then nothing has changed.
+    fn enter<R: Wait>(&self, rt: &R, chair: &mut Chair<B, K>) -> Result<(Held, B), Spent>
+        requires own { lock chair.old ≡ id self.now }
+        requires outside { IsOutside chair.old }
+        ensures entered { IfOk result (λ r. (entries chair.old < ENTRIES) × (entries chair.new ≡ entries chair.old + 1) × IsSameChair chair.old chair.new × (view chair.new ≡ view chair.old) × IsInside chair.new r.0 r.1) }
+        ensures fact { IfOk result (λ r. Stands K.fact r.1 (place chair.old) (view chair.old)) }
+        ensures spent { IfErr result (λ _. (entries chair.old ≡ ENTRIES) × (chair.new ≡ chair.old)) };
+
+    /// Hands the book in and lets the next one enter. It waits for nothing and takes no memory.
+    fn leave<M: Outcome<B, K::View>>(&self, chair: &mut Chair<B, K>, held: Held, book: B)
+        requires own { lock chair.old ≡ id self.now }
+        requires inside { (found : B) × IsInside chair.old held found × MayHandIn K.fact M.then found book (place chair.old) (view chair.old) }
+        ensures left { IsSameChair chair.old chair.new × (entries chair.new ≡ entries chair.old) × IsOutside chair.new }
+        ensures then { M.then book (view chair.old) (view chair.new) };
+
+    /// Takes the lock apart, with all its chairs in the order of their places. It waits for nothing and takes no memory.
+    fn close(self, chairs: Vec<Chair<B, K>>) -> B
+        requires { AreAll (id self) (size self) chairs.items }
+        ensures { K.fact result (map view chairs.items) };
+}

@@ -1,0 +1,11 @@
+//! A count that several threads add to under a lock, over any lock that meets the contract of `turn`: the proofs name
+//! `Turn` alone. The tests run both locks.
+#![tactic(auto)]
+
+mod counting;
+mod tally;
+#[cfg(test)]
+mod tests;
+
+pub use counting::{add_many, add_one, count_in_many, count_in_two};
+pub use tally::{AddsOne, Tally};

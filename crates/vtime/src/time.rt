@@ -1,0 +1,177 @@
+//! `VTime`, the vector timestamp of a processor, a lock, a flag or a message.
+ghost use Rattle.std.specs.Prelude.{◌≡◌, ℕ, ◌-◌, ◌^◌, ◌<◌, ◌≤◌, ◌↔◌, max, length, replicate, IsTrue, slice_get, slice_index};
+ghost use Rattle.vtime.specs.Times.{tick, join, Covers};
+
+use smallvec::SmallVec;
+use std::alloc::Global;
+use std::marker::Model;
+
+/// A vector timestamp: entry q is how many of processor q's intervals have been performed here.
+///
+/// It has 1 to 16 entries, and they lie in the value itself, so no call takes memory. The order that
+/// `covers` and `join` are about is that of Mattern (Virtual Time and Global States of Distributed
+/// Systems, 1989); its use for intervals is that of Keleher, Cox and Zwaenepoel (Lazy Release
+/// Consistency for Software Distributed Shared Memory, ISCA 1992, section 3).
+#[derive(Debug, Drop)]
+pub struct VTime {
+    entries: SmallVec<u64, 16>,
+}
+
+impl Model for VTime {
+    ghost use Rattle.std.specs.Prelude.{◌≡◌, ℕ, ◌≤◌, List, length};
+
+    ghost Value = { List ℕ };
+
+    ghost view = { λ time. time.entries.items };
+
+    ghost invariant = { λ time. (time.entries.capacity ≡ 16) × (1 ≤ length time.entries.items) × (length time.entries.items ≤ 16) };
+}
+
+impl VTime {
+    /// The timestamp of `processors` processors (1 to 16) of which no interval has been performed.
+    pub fn zero(alloc: Global, processors: usize) -> VTime
+        requires some { 1 ≤ processors }
+        requires most { processors ≤ 16 }
+        ensures { result ≡ replicate processors 0 }
+    {
+        VTime {
+            entries: SmallVec::from_elem(alloc, 0, processors).unwrap(),
+        }
+    }
+
+    /// How many intervals of processor `q` have been performed.
+    pub fn entry(&self, q: usize) -> u64
+        requires { q < length self.now }
+        ensures { slice_get self.now q ≡ Some result }
+    {
+        self.entries[q]
+    }
+
+    /// Adds one interval of processor `q`, which it has just closed.
+    pub fn tick(&mut self, q: usize)
+        requires in_range { q < length self.old }
+        requires fits { slice_index self.old q < 2 ^ 64 - 1 }
+        ensures { self.new ≡ tick self.old q }
+    {
+        self.entries[q] += 1;
+    }
+
+    /// Takes over what `other` has performed: each entry becomes the greater of the two.
+    pub fn join(&mut self, other: &VTime)
+        requires { length other.now ≡ length self.old }
+        ensures value { self.new ≡ join self.old other.now }
+        ensures greater { (q : ℕ) → slice_index self.new q ≡ max (slice_index self.old q) (slice_index other.now q) }
+        ensures same_length { length self.new ≡ length self.old }
+    {
+        join_entries(self.entries.as_mut_slice(), other.entries.as_slice());
+    }
+
+    /// The same timestamp once more.
+    pub fn copy(&self) -> VTime
+        ensures { result ≡ self.now }
+    {
+        let alloc = *self.entries.allocator();
+        VTime {
+            entries: SmallVec::from_slice(alloc, self.entries.as_slice()).unwrap(),
+        }
+    }
+
+    /// Whether the interval with this number, counted from 0, of processor `owner` has been performed.
+    pub fn covers(&self, owner: usize, number: u64) -> bool
+        requires { owner < length self.now }
+        ensures { IsTrue result ↔ Covers self.now owner number }
+    {
+        number < self.entries[owner]
+    }
+}
+
+impl PartialEq for VTime {
+    ghost use Rattle.std.specs.Prelude.{◌≡◌, ◌↔◌, IsTrue, nat_eq};
+    ghost use Rattle.std.specs.Cmp.{partial_equiv_from_equiv};
+    ghost use Rattle.std.specs.Cmp.Lexicographic.{pointwise, nat_list_eq_equiv};
+
+    ghost eq = { pointwise nat_eq };
+
+    ghost laws = { partial_equiv_from_equiv nat_list_eq_equiv };
+
+    fn eq(&self, other: &VTime) -> bool
+        ensures value { result ≡ pointwise nat_eq self.now other.now }
+        ensures same { IsTrue result ↔ (self.now ≡ other.now) }
+    {
+        self.entries == other.entries
+    }
+}
+
+impl Eq for VTime {
+    ghost use Rattle.std.specs.Cmp.Lexicographic.{nat_list_eq_equiv};
+
+    ghost laws = { nat_list_eq_equiv };
+}
+
+/// Raises each entry of `mine` to that of `theirs` where that is greater.
+fn join_entries(mine: &mut [u64], theirs: &[u64])
+    requires { length theirs.now ≡ length mine.old }
+    ensures value { mine.new ≡ join mine.old theirs.now }
+    ensures greater { (q : ℕ) → slice_index mine.new q ≡ max (slice_index mine.old q) (slice_index theirs.now q) }
+{
+    for (q, entry) in mine.iter_mut().enumerate() {
+        *entry = (*entry).max(theirs[q]);
+    }
+}
+
+#[cfg(test)]
+mod tests {
+    use super::VTime;
+    use std::alloc::Global;
+    use std::process::Abort;
+
+    /// The timestamp with these entries, each below 10.
+    fn stamp(alloc: Global, counts: &[u64]) -> VTime
+        requires some { 1 ≤ length counts.now }
+        requires most { length counts.now ≤ 16 }
+        ensures { length result ≡ length counts.now }
+    {
+        let mut time = VTime::zero(alloc, counts.len());
+        for (q, count) in counts.iter().enumerate() {
+            while time.entry(q) < (*count).min(10) {
+                time.tick(q);
+            }
+        }
+        time
+    }
+
+    fn has_entries(time: &VTime, wanted: &[u64]) -> bool
+        requires { length wanted.now ≡ length time.now }
+    {
+        for (q, count) in wanted.iter().enumerate() {
+            if time.entry(q) != *count {
+                return false;
+            }
+        }
+        true
+    }
+
+    #[test]
+    fn joins_by_place(rt: HostRuntime) {
+        let mut time = stamp(rt.alloc(), &[2, 0, 5]);
+        time.join(&stamp(rt.alloc(), &[1, 3, 5]));
+        assert!(rt; has_entries(&time, &[2, 3, 5]));
+        assert!(rt; time.covers(0, 1));
+        assert!(rt; !time.covers(0, 2));
+        assert!(rt; time == stamp(rt.alloc(), &[2, 3, 5]));
+        assert!(rt; time != stamp(rt.alloc(), &[2, 3, 4]));
+    }
+
+    #[test]
+    fn has_sixteen_entries(rt: HostRuntime) {
+        let mut time = VTime::zero(rt.alloc(), 16);
+        assert!(rt; has_entries(&time, &[0; 16]));
+        assert!(rt; !time.covers(15, 0));
+        time.tick(15);
+        assert!(rt; time.covers(15, 0));
+        let before = time.copy();
+        time.join(&VTime::zero(rt.alloc(), 16));
+        assert!(rt; time == before);
+        assert!(rt; has_entries(&before, &[0, 0, 0, 0, 0, 0, 0, 0, 0, 0, 0, 0, 0, 0, 0, 1]));
+    }
+}
