@@ -1,6 +1,6 @@
 //! The first race of a journal, by vector timestamps (Mattern 1989; Fidge 1988).
 
-ghost use Rattle.std.specs.Prelude.{◌≡◌, ◌≢◌, ◌↔◌, ℕ, ◌+◌, ◌<◌, ◌≤◌, ◌^◌, [], IsTrue, IfOk, MatchOption, Some, length, take, slice_get, slice_index, vec_len};
+ghost use Rattle.std.specs.Prelude.{◌≡◌, ◌≢◌, ◌↔◌, ◌==◌, ℕ, ◌+◌, ◌<◌, ◌≤◌, ◌^◌, [], IsTrue, IfOk, MatchOption, cond, Some, length, take, slice_get, slice_index, vec_len};
 ghost use Rattle.journal.specs.Events.{address_of, is_closing};
 ghost use Rattle.journal.specs.Times.{IsTimeOf};
 ghost use Rattle.journal.specs.Races.{Conflict, Race, IsFirstRace, RaceFree};
@@ -9,8 +9,9 @@ ghost use Rattle.journal.specs.Entries.{entry};
 ghost use Rattle.journal.specs.Accesses.{AreAccesses, IsNoted};
 
 use crate::clock::{Clock, is_within, set_at, tick, ticked};
-use crate::clocks::{Clocks, closes};
+use crate::clocks::Clocks;
 use crate::event::{Event, Kind};
+use crate::kinds::closes;
 use std::alloc::{AllocError, Global};
 
 /// Of each address and processor, one more than the interval of the processor's latest store to it and
@@ -41,6 +42,7 @@ impl Accesses {
         requires loads { AddressInRange (vec_len self.now.loads) event.kind }
         ensures stores { IsTrue result → (a q : ℕ) → address_of event.kind ≡ Some a → q ≢ event.processor → entry self.now.stores.items a q ≤ slice_index time.now q }
         ensures loads { IsTrue result → (a v q : ℕ) → event.kind ≡ Kind.Store a v → q ≢ event.processor → entry self.now.loads.items a q ≤ slice_index time.now q }
+        ensures counted { ((a q : ℕ) → address_of event.kind ≡ Some a → entry self.now.stores.items a q ≤ slice_index time.now q + cond (event.processor == q) 1 0) → ((a v q : ℕ) → event.kind ≡ Kind.Store a v → entry self.now.loads.items a q ≤ slice_index time.now q + cond (event.processor == q) 1 0) → IsTrue result }
     {
         match event.kind {
             // The processor's own accesses lie in its open interval at the latest.
