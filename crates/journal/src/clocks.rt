@@ -1,6 +1,6 @@
 //! The timestamps that a journal's events give, an event at a time.
 
-ghost use Rattle.std.specs.Prelude.{◌≡◌, ℕ, ◌+◌, ◌-◌, ◌<◌, ◌≤◌, ◌^◌, ◌==◌, ◌&&◌, [], IsTrue, IfOk, OnOk, cond, max, length, take, slice_get, slice_index, vec_len, false};
+ghost use Rattle.std.specs.Prelude.{◌≡◌, ◌↔◌, ℕ, ◌+◌, ◌-◌, ◌<◌, ◌≤◌, ◌^◌, ◌==◌, ◌&&◌, [], IsTrue, EachIndex, IfOk, OnOk, cond, max, length, take, slice_get, slice_index, vec_len, true};
 ghost use Rattle.journal.specs.Events.{is_closing, is_taking, is_arrive, is_depart};
 ghost use Rattle.journal.specs.InRange.{ProcessorsInRange};
 ghost use Rattle.journal.specs.Entries.{entry};
@@ -8,6 +8,7 @@ ghost use Rattle.journal.specs.Clocks.{brought_entry, Keeps, AreClocks};
 
 use crate::clock::{Clock, clock_at, clock_in, join, join_at, join_in, tick};
 use crate::event::{Event, Kind};
+use crate::kinds::{closes, departs, is_plain};
 use std::alloc::{AllocError, Global};
 use std::collections::VecDeque;
 
@@ -27,25 +28,11 @@ pub(crate) struct Clocks {
     gone: usize,
 }
 
-/// Whether an event of this kind closes its processor's interval.
-pub(crate) fn closes(kind: Kind) -> bool
-    ensures { result ≡ is_closing kind }
+/// Whether each of the counts is past this number.
+fn are_past(counts: &[u32], number: usize) -> bool
+    ensures { IsTrue result ↔ EachIndex counts.now (λ k. number < slice_index counts.now k) }
 {
-    match kind {
-        Kind::Ask(_) | Kind::Release(_) | Kind::Arrive | Kind::Set(_) | Kind::Watch(_) => true,
-        _ => false,
-    }
-}
-
-/// Whether an event of this kind neither closes nor takes.
-fn is_plain(kind: Kind) -> bool
-    ensures closes { IsTrue result → is_closing kind ≡ false }
-    ensures takes { IsTrue result → is_taking kind ≡ false }
-{
-    match kind {
-        Kind::Load(..) | Kind::Store(..) | Kind::Fetch { .. } => true,
-        _ => false,
-    }
+    counts.iter().all(|count| *count as usize > number)
 }
 
 impl Clocks {
@@ -165,13 +152,11 @@ impl Clocks {
         ensures arrivals { self.new.arrivals ≡ self.old.arrivals }
         ensures departures { self.new.departures ≡ self.old.departures }
         ensures present { self.new.present ≡ self.old.present }
+        ensures goes { is_depart event.kind ≡ true → ((p : ℕ) → p < self.old.present → self.old.gone < slice_index self.old.departures p) → self.new.gone ≡ self.old.gone + 1 }
         ensures left { (p : ℕ) → p < self.old.present → self.old.gone ≤ slice_index self.old.departures p → self.new.gone ≤ slice_index self.old.departures p }
         ensures episodes { (n q : ℕ) → self.new.gone ≤ n → (self.old.gone ≤ n) × (entry self.new.episodes.items (n - self.new.gone) q ≡ entry self.old.episodes.items (n - self.old.gone) q) }
     {
-        let gone = self.gone;
-        let departures = &self.departures[..self.present];
-        let departs = matches!(event.kind, Kind::Depart);
-        if departs && departures.iter().all(|d| *d as usize > gone) {
+        if departs(event.kind) && are_past(&self.departures[..self.present], self.gone) {
             let _ = self.episodes.pop_front();
             self.gone += 1;
         }

@@ -6,6 +6,7 @@ mod clock;
 mod clocks;
 mod event;
 mod journal;
+mod kinds;
 mod race;
 #[cfg(test)]
 mod race_tests;

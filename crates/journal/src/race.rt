@@ -9,8 +9,9 @@ ghost use Rattle.journal.specs.Entries.{entry};
 ghost use Rattle.journal.specs.Accesses.{AreAccesses, IsNoted};
 
 use crate::clock::{Clock, is_within, set_at, tick, ticked};
-use crate::clocks::{Clocks, closes};
+use crate::clocks::Clocks;
 use crate::event::{Event, Kind};
+use crate::kinds::closes;
 use std::alloc::{AllocError, Global};
 
 /// Of each address and processor, one more than the interval of the processor's latest store to it and

@@ -7,6 +7,7 @@ ghost use Rattle.journal.specs.Order.{LetsThrough, Edge, HappensBefore};
 ghost use Rattle.journal.specs.Races.{Conflict, Race};
 
 use crate::event::{Event, Kind};
+use crate::kinds::{arrives, departs};
 use crate::race::is_conflict;
 use std::alloc::{AllocError, Global};
 
@@ -17,26 +18,6 @@ fn lets_through(first: Kind, second: Kind) -> bool
 {
     match (first, second) {
         (Kind::Release(a), Kind::Acquire(b)) | (Kind::Set(a), Kind::Await(b)) => a == b,
-        _ => false,
-    }
-}
-
-/// Whether this is an arrival.
-fn arrives(kind: Kind) -> bool
-    ensures { result ≡ is_arrive kind }
-{
-    match kind {
-        Kind::Arrive => true,
-        _ => false,
-    }
-}
-
-/// Whether this is a departure.
-fn departs(kind: Kind) -> bool
-    ensures { result ≡ is_depart kind }
-{
-    match kind {
-        Kind::Depart => true,
         _ => false,
     }
 }
