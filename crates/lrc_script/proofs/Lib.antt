@@ -14,3 +14,5 @@ pub mod Complete
 pub mod Positions
 pub mod Printing
 pub mod Alike
+pub mod Drawing
+pub mod DrawnLawful

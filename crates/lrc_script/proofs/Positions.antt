@@ -93,8 +93,14 @@ truncated_fault bytes n f rest at clean over = (
       omega (arith, over s ends.0, ap (λ (x : List ℕ). length x) ends.1),
 )
 
-pub memory_fault : (bytes : List ℕ) (n : ℕ) (f : Front) (rest : List ℕ) → IsAt bytes n f rest → IsFault bytes n NoMemory
-memory_fault bytes n f rest at = record { front = f; rest = rest; at = at; begins = front_begins f at.begun; behind = tt }
+pub memory_fault : (bytes : List ℕ) (n : ℕ) (f : Front) (now line rest : List ℕ) → IsAt bytes n f now → IsCut now line rest → IsFault bytes n NoMemory
+memory_fault bytes n f now line rest at cut = record {
+  front = f;
+  rest = now;
+  at = at;
+  begins = front_begins f at.begun;
+  behind = record { line = line; more = rest; rest_is = cut.bytes_are; one_line = cut.one_line };
+}
 
 -- where nothing is left, the bytes are the text of a script that is lawful but for evenness
 pub whole_text : (bytes : List ℕ) (n : ℕ) (f : Front) (rest : List ℕ) (s : Plan) → IsAt bytes n f rest → (f ≡ Whole s) × (rest ≡ []) → IsLawfulButUneven s × (bytes ≡ text s)
@@ -126,7 +132,7 @@ cut_shorter now line rest cut = omega (arith, ap (λ (x : List ℕ). length x) c
 
 -- what a line that fails says, whatever the error
 pub failed_fault : (bytes : List ℕ) (n : ℕ) (f : Front) (now line rest : List ℕ) (g : ScriptFault) → IsAt bytes n f now → IsCut now line rest → Fails g (after f line) → IsFault bytes n g × (g ≢ NoMemory → IsNoText bytes)
-failed_fault bytes n f now line rest NoMemory at cut read = (memory_fault bytes n f now at, λ h. absurd (h refl))
+failed_fault bytes n f now line rest NoMemory at cut read = (memory_fault bytes n f now line rest at cut, λ h. absurd (h refl))
 failed_fault bytes n f now line rest g at cut read = let r = refused_fault bytes n f now line rest g at cut read in (fault_from bytes n g r.0, λ h. r.1)
 
 -- what is read has one script

@@ -227,7 +227,7 @@ never_truncated (Whole s) line h = h
 
 pub behind_from : (g : ScriptFault) (f : Front) (rest : List ℕ) → IsLineFault g f rest → IsFaultBehind g f rest
 behind_from fault.Truncated f rest h = absurd (never_truncated f h.line h.says)
-behind_from fault.NoMemory f rest h = tt
+behind_from fault.NoMemory f rest h = record { line = h.line; more = h.more; rest_is = h.rest_is; one_line = h.one_line }
 behind_from _ f rest h = h
 
 -- nor as if its sections differed

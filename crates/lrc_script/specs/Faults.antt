@@ -104,9 +104,16 @@ pub record IsTruncated (f : Front) (rest : List ℕ) : Type 0 where
   pub no_line : HasNoLineFeed rest
   pub not_over : (s : Plan) → f ≡ Whole s → 0 < length rest
 
+-- a line stands there
+pub record HasLine (rest : List ℕ) : Type 0 where
+  pub line : List ℕ
+  pub more : List ℕ
+  pub rest_is : rest ≡ line ++ 10 ∷ more
+  pub one_line : HasNoLineFeed line
+
 abbrev pub IsFaultBehind : ScriptFault → Front → List ℕ → Type 0
 IsFaultBehind Truncated f rest = IsTruncated f rest
-IsFaultBehind NoMemory f rest = Unit {0}
+IsFaultBehind NoMemory f rest = HasLine rest
 IsFaultBehind fault f rest = IsLineFault fault f rest
 
 -- line n has the fault: the lines before it begin the text of a script, and the fault says what is wrong

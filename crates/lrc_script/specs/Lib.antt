@@ -3,4 +3,5 @@ pub mod Lawful
 pub mod Text
 pub mod Front
 pub mod Faults
+pub mod Draw
 pub mod Reading

@@ -2,6 +2,7 @@
 #![tactic(auto)]
 
 mod display;
+pub mod draw;
 mod evenness;
 pub mod fault;
 mod line;

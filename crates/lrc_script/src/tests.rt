@@ -1,5 +1,6 @@
 //! Scripts are written with `/` for the line feed.
 
+use crate::draw::{free, guarded};
 use crate::fault::ScriptFault;
 use crate::fault::ScriptFault::{
     AlreadyHeld, BadFlag, BadLine, BadLock, BadNumber, BadSize, NotHeld, OutOfRange, TooLong,
@@ -308,4 +309,71 @@ fn a_refused_growth_has_its_line(rt: HostRuntime) {
             assert!(rt; matches!(line, 3 | 6 | 7 | 10), "line {line}");
         }
     }
+}
+
+#[test]
+fn drawn_scripts_are_read_again(rt: HostRuntime) -> Result<(), Fail> {
+    let mut instructions = 0_usize;
+    for k in 0..1000 {
+        for script in [guarded(rt.alloc(), k)?, free(rt.alloc(), k)?] {
+            let text = script.to_string(rt.alloc())?;
+            for section in &script.sections {
+                instructions = instructions.saturating_add(section.len());
+            }
+            assert_eq!(rt;
+                parse(rt.alloc(), text.as_bytes()).ok(),
+                Some(script),
+                "at {k}"
+            );
+        }
+    }
+    assert!(rt; instructions > 20_000, "{instructions} instructions");
+    Ok(())
+}
+
+/// Drawn scripts, written by another program from the published generator.
+const DRAWN: [(u64, &str, &str); 3] = [
+    (
+        2,
+        "cluster 1 3 2 1/p 0/acquire 0/add 3 3/release 0/acquire 0/add 4 0/release 0/show 0 1 2 3 4 5/",
+        "cluster 1 3 2 1/p 0/store 3 4/store 5 2/show 0 1 2 3 4 5/",
+    ),
+    (
+        6,
+        "cluster 1 1 3 3/p 0/acquire 2/add 2 1/release 2/acquire 2/add 2 3/release 2/acquire 1/add 1 1/release 1/acquire 1/add 1 2/release 1/show 0 1 2/",
+        "cluster 1 1 3 3/p 0/store 2 7/store 1 1/add 1 7/load 2/acquire 2/add 2 3/release 2/show 0 1 2/",
+    ),
+    (
+        8,
+        "cluster 1 1 2 1/p 0/acquire 0/add 1 3/release 0/acquire 0/add 0 0/release 0/acquire 0/add 1 0/release 0/show 0 1/",
+        "cluster 1 1 2 1/p 0/acquire 0/add 1 2/release 0/load 1/store 1 0/store 1 5/show 0 1/",
+    ),
+];
+
+/// A free script with barriers.
+const WITH_BARRIERS: &str =
+    "cluster 2 1 2 3/p 0/store 0 2/acquire 1/add 1 7/release 1/store 1 6/store 1 7/barrier/add 0 2/store 1 4/p 1/load 0/store 0 7/store 0 2/store 0 5/add 1 6/add 0 0/acquire 1/add 1 6/release 1/barrier/load 1/store 1 5/show 0 1/";
+
+#[test]
+fn the_draws_are_those_of_the_generator(rt: HostRuntime) -> Result<(), Fail> {
+    for (k, guarded_text, free_text) in DRAWN {
+        let bytes = bytes_of(rt.alloc(), guarded_text)?;
+        let script = guarded(rt.alloc(), k)?;
+        assert_eq!(rt;
+            script.to_string(rt.alloc())?.as_bytes(),
+            bytes.as_slice(),
+            "guarded {k}"
+        );
+        let bytes = bytes_of(rt.alloc(), free_text)?;
+        let script = free(rt.alloc(), k)?;
+        assert_eq!(rt;
+            script.to_string(rt.alloc())?.as_bytes(),
+            bytes.as_slice(),
+            "free {k}"
+        );
+    }
+    let bytes = bytes_of(rt.alloc(), WITH_BARRIERS)?;
+    let script = free(rt.alloc(), 10)?;
+    assert_eq!(rt; script.to_string(rt.alloc())?.as_bytes(), bytes.as_slice());
+    Ok(())
 }
