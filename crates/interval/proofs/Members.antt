@@ -1,7 +1,9 @@
 -- What stands in a list, by recursion over it.
-use Rattle.std.proofs.Common.{◌≡◌, ℕ, zero, suc, Bool, true, false, cond, ◌⊎◌, inl, inr, Some, List, [], ◌∷◌, ◌++◌, map, filter, slice_get, refl, sym, ap, arith, ◌∙◌}
+use Rattle.std.proofs.Common.{◌≡◌, ℕ, zero, suc, Bool, true, ◌⊎◌, inl, inr, Some, List, [], ◌∷◌, ◌++◌, map, filter, slice_get, refl, sym, ap, arith}
 use Rattle.std.specs.List.{flat_map}
 use Rattle.lists.specs.Places.{Has, InOrder}
+use Rattle.lists.proofs.Joined.{has-append, has-flat_map, has-map, in_order-append}
+use Rattle.lists.proofs.Picked.{has-filter, in_order-filter}
 
 -- k stands in the list
 abbrev pub In : {A : Type 0} → A → List A → Type 0
@@ -19,53 +21,33 @@ Has-from_in (x ∷ xs) k (inl e) = (0, ap Some (sym e))
 Has-from_in (x ∷ xs) k (inr h) = let p = Has-from_in xs k h in (suc p.0, p.1)
 
 pub In-append : {A : Type 0} → (xs ys : List A) (k : A) → In k (xs ++ ys) → In k xs ⊎ In k ys
-In-append [] ys k h = inr h
-In-append (x ∷ xs) ys k (inl e) = inl (inl e)
-In-append (x ∷ xs) ys k (inr h) = elim (In-append xs ys k h) [ inl l ↦ inl (inr l) | inr r ↦ inr r ]
+In-append xs ys k h = elim ((has-append xs ys k).0 (Has-from_in (xs ++ ys) k h)) [ inl l ↦ inl (In-from_has xs k l) | inr r ↦ inr (In-from_has ys k r) ]
 
 pub In-append_left : {A : Type 0} → (xs ys : List A) (k : A) → In k xs → In k (xs ++ ys)
-In-append_left [] ys k h = absurd h
-In-append_left (x ∷ xs) ys k (inl e) = inl e
-In-append_left (x ∷ xs) ys k (inr h) = inr (In-append_left xs ys k h)
+In-append_left xs ys k h = In-from_has (xs ++ ys) k ((has-append xs ys k).1 (inl (Has-from_in xs k h)))
 
 pub In-append_right : {A : Type 0} → (xs ys : List A) (k : A) → In k ys → In k (xs ++ ys)
-In-append_right [] ys k h = h
-In-append_right (x ∷ xs) ys k h = inr (In-append_right xs ys k h)
+In-append_right xs ys k h = In-from_has (xs ++ ys) k ((has-append xs ys k).1 (inr (Has-from_in ys k h)))
 
 -- what a filter keeps
 pub In-filter : {A : Type 0} → (p : A → Bool) (xs : List A) (k : A) → In k (filter p xs) → In k xs × (p k ≡ true)
-In-filter {A} p [] k h = absurd h
-In-filter {A} p (x ∷ xs) k h =
-    let go : (b : Bool) → p x ≡ b → In k (cond b (x ∷ filter p xs) (filter p xs)) → In k (x ∷ xs) × (p k ≡ true) = λ b. elim b as (λ (b : Bool). p x ≡ b → In k (cond b (x ∷ filter p xs) (filter p xs)) → In k (x ∷ xs) × (p k ≡ true)) [
-      | true ↦ λ e h. elim h [ inl s ↦ (inl s, ap p s ∙ e) | inr r ↦ let w = In-filter p xs k r in (inr w.0, w.1) ]
-      | false ↦ λ e h. let w = In-filter p xs k h in (inr w.0, w.1)
-    ] in go (p x) refl h
+In-filter p xs k h = let w = (has-filter p xs k).0 (Has-from_in (filter p xs) k h) in (In-from_has xs k w.0, w.1)
 
 pub In-filter_from : {A : Type 0} → (p : A → Bool) (xs : List A) (k : A) → In k xs → p k ≡ true → In k (filter p xs)
-In-filter_from {A} p [] k h passes = absurd h
-In-filter_from {A} p (x ∷ xs) k (inl s) passes =
-    let here : p x ≡ true = ap p (sym s) ∙ passes in
-    rw here (inl s)
-In-filter_from {A} p (x ∷ xs) k (inr h) passes =
-    let rest = In-filter_from p xs k h passes in
-    let go : (b : Bool) → In k (cond b (x ∷ filter p xs) (filter p xs)) = λ b. elim b as (λ (b : Bool). In k (cond b (x ∷ filter p xs) (filter p xs))) [ true ↦ inr rest | false ↦ rest ] in
-    go (p x)
+In-filter_from p xs k h passes = In-from_has (filter p xs) k ((has-filter p xs k).1 (Has-from_in xs k h, passes))
 
 -- of the lists that f gives, some has k
 pub In-flat_map : {A B : Type 0} → (f : A → List B) (xs : List A) (k : B) → In k (flat_map f xs)
     → (q : ℕ) × (x : A) × (slice_get xs q ≡ Some x) × In k (f x)
-In-flat_map f [] k h = absurd h
-In-flat_map f (x ∷ xs) k h = elim (In-append (f x) (flat_map f xs) k h) [
-  | inl l ↦ (0, x, refl, l)
-  | inr r ↦ let w = In-flat_map f xs k r in (suc w.0, w.1, w.2, w.3)
-]
+In-flat_map f xs k h =
+    let w = (has-flat_map f xs k).0 (Has-from_in (flat_map f xs) k h) in
+    (w.1.0, w.0, w.1.1, In-from_has (f w.0) k w.2)
 
 pub In-flat_map_from : {A B : Type 0} → (f : A → List B) (xs : List A) (q : ℕ) (x : A) (k : B) → slice_get xs q ≡ Some x → In k (f x) → In k (flat_map f xs)
-In-flat_map_from f [] q x k at h = absurd (cc at)
-In-flat_map_from f (y ∷ ys) zero x k at h =
-    let same : y ≡ x = cc at in
-    In-append_left (f y) (flat_map f ys) k (rw same h)
-In-flat_map_from f (y ∷ ys) (suc q) x k at h = In-append_right (f y) (flat_map f ys) k (In-flat_map_from f ys q x k at h)
+In-flat_map_from f xs q x k at h = In-from_has (flat_map f xs) k ((has-flat_map f xs k).1 (x, (q, at), Has-from_in (f x) k h))
+
+pub In-map : {A B : Type 0} → (f : A → B) (xs : List A) (y : B) → In y (map f xs) → (x : A) × (y ≡ f x) × In x xs
+In-map f xs y h = let w = (has-map f xs y).0 (Has-from_in (map f xs) y h) in (w.0, sym w.2, In-from_has xs w.0 w.1)
 
 -- R holds of each item and each later one
 abbrev pub Ordered : {A : Type 0} → (A → A → Type 0) → List A → Type 0
@@ -88,13 +70,9 @@ order-from_ordered R (x ∷ xs) r zero (suc j) a b lt p q =
 order-from_ordered R (x ∷ xs) r (suc i) (suc j) a b lt p q = order-from_ordered R xs r.1 i j a b (omega arith) p q
 
 pub Ordered-append : {A : Type 0} → (R : A → A → Type 0) (xs ys : List A) → Ordered R xs → Ordered R ys → ((a b : A) → In a xs → In b ys → R a b) → Ordered R (xs ++ ys)
-Ordered-append R [] ys front back across = back
-Ordered-append R (x ∷ xs) ys front back across = (
-  λ y h. elim (In-append xs ys y h) [ inl l ↦ front.0 y l | inr r ↦ across x y (inl refl) r ],
-  Ordered-append R xs ys front.1 back (λ a b l r. across a b (inr l) r),
-)
+Ordered-append R xs ys front back across =
+    Ordered-from_order R (xs ++ ys) (in_order-append R xs ys (order-from_ordered R xs front) (order-from_ordered R ys back)
+    (λ a b l r. across a b (In-from_has xs a l) (In-from_has ys b r)))
 
-pub In-map : {A B : Type 0} → (f : A → B) (xs : List A) (y : B) → In y (map f xs) → (x : A) × (y ≡ f x) × In x xs
-In-map f [] y h = absurd h
-In-map f (x ∷ xs) y (inl e) = (x, e, inl refl)
-In-map f (x ∷ xs) y (inr h) = let w = In-map f xs y h in (w.0, w.1, inr w.2)
+pub Ordered-filter : {A : Type 0} → (R : A → A → Type 0) (p : A → Bool) (xs : List A) → Ordered R xs → Ordered R (filter p xs)
+Ordered-filter R p xs o = Ordered-from_order R (filter p xs) (in_order-filter R p xs (order-from_ordered R xs o))

@@ -3,7 +3,7 @@ use Rattle.std.proofs.Common.{◌≡◌, ◌<◌, Bool, true, cond, nat_lt, ◌�
 use Rattle.std.proofs.lemmas.Bool.{cond_both, ltb-true, ltb-false}
 use Rattle.interval.specs.declared.kept.Kept.{Kept}
 use Rattle.interval.specs.Queues.{put, by_place}
-use Rattle.interval.proofs.Members.{In, Ordered, In-append, In-filter}
+use Rattle.interval.proofs.Members.{In, Ordered, Ordered-append, Ordered-filter}
 
 abbrev pub IsBefore : Kept → Kept → Type 0
 IsBefore j k = j.place < k.place
@@ -102,17 +102,8 @@ same_rising (x ∷ xs) (y ∷ ys) r s to from =
 -- other rising lists
 
 pub Rises-push : (xs : List Kept) (k : Kept) → Rises xs → ((j : Kept) → In j xs → j.place < k.place) → Rises (xs ++ k ∷ [])
-Rises-push [] k r below = (λ j h. absurd h, tt)
-Rises-push (x ∷ xs) k r below = (
-  λ j h. elim (In-append xs (k ∷ []) j h) [
-    | inl l ↦ r.0 j l
-    | inr e ↦ elim e [ inl s ↦ rw s (below x (inl refl)) | inr none ↦ absurd none ]
-  ],
-  Rises-push xs k r.1 (λ j h. below j (inr h)),
-)
+Rises-push xs k rises below =
+    Ordered-append IsBefore xs (k ∷ []) rises (λ j h. absurd h, tt) (λ j l here last. elim last [ inl s ↦ rw s (below j here) | inr none ↦ absurd none ])
 
 pub Rises-filter : (p : Kept → Bool) (xs : List Kept) → Rises xs → Rises (filter p xs)
-Rises-filter p [] r = tt
-Rises-filter p (x ∷ xs) r =
-    let rest = Rises-filter p xs r.1 in
-    cond_both (p x) (x ∷ filter p xs) (filter p xs) Rises (λ e. (λ j h. r.0 j (In-filter p xs j h).0, rest)) (λ e. rest)
+Rises-filter p xs rises = Ordered-filter IsBefore p xs rises
