@@ -31,18 +31,34 @@ pub enum Cause {
 }
 
 impl From<Stopped> for Cause {
+    ghost use Rattle.std.specs.Prelude.{◌≡◌};
+    ghost use Rattle.lrc.specs.declared.report.Cause.TheVariants as cause;
+
+    ghost from_gives = { λ _ r. r ≡ cause.Gate };
+
     fn from(_stopped: Stopped) -> Cause {
         Cause::Gate
     }
 }
 
 impl From<Refused> for Cause {
+    ghost use Rattle.std.specs.Prelude.{◌≡◌};
+    ghost use Rattle.lrc.specs.declared.report.Cause.TheVariants as cause;
+
+    ghost from_gives = { λ e r. r ≡ cause.Refused e };
+
     fn from(refused: Refused) -> Cause {
         Cause::Refused(refused)
     }
 }
 
 impl From<AllocError> for Cause {
+    ghost use Rattle.std.specs.Prelude.{◌≡◌};
+    ghost use Rattle.lrc.specs.declared.report.Cause.TheVariants as cause;
+    ghost use Rattle.lrc.specs.declared.one_processor.Refused.TheVariants as refused;
+
+    ghost from_gives = { λ _ r. r ≡ cause.Refused refused.NoMemory };
+
     fn from(error: AllocError) -> Cause {
         Cause::Refused(Refused::from(error))
     }

@@ -1,6 +1,6 @@
 //! Runs a script.
 
-ghost use Rattle.std.specs.Prelude.{◌≡◌, ◌<◌, ◌∷◌, [], IfOk, IsTrue, ◌↔◌, OnOk, All, map};
+ghost use Rattle.std.specs.Prelude.{◌≡◌, ◌<◌, ◌∷◌, [], IfOk, IfErr, ◌≢◌, IsTrue, ◌↔◌, OnOk, All, map};
 ghost use Rattle.journal.specs.declared.event.Kind.TheVariants as event;
 ghost use Rattle.lrc_script.specs.Lawful.{IsLawful};
 ghost use Rattle.lrc_script.specs.Plan.{plan_of};
@@ -72,7 +72,8 @@ fn do_section<G: Gate>(
     section: &[Instruction],
 ) -> Result<(), Cause>
     requires { All (IsWithin memory.old.addresses) section.now }
-    ensures { OnOk result (DoesAll memory.old memory.new section.now) }
+    ensures does { OnOk result (DoesAll memory.old memory.new section.now) }
+    ensures halts { IfErr result (λ cause. cause ≢ Cause.Unserved) }
 {
     for (index, instruction) in section.iter().enumerate() {
         gate.pass(0, index + 1)?;
@@ -110,7 +111,8 @@ fn is_served(script: &Script) -> bool
 fn run_alone<G: Gate>(alloc: Global, script: &Script, gate: &G) -> Result<Report, Cause>
     requires lawful { IsLawful (plan_of script.now) }
     requires served { IsServed (plan_of script.now) }
-    ensures { IfOk result (IsReportOf (plan_of script.now)) }
+    ensures report { IfOk result (IsReportOf (plan_of script.now)) }
+    ensures halts { IfErr result (λ cause. cause ≢ Cause.Unserved) }
 {
     let mut memory = OneProcessor::new(alloc, script.pages * script.words)?;
     do_section(&mut memory, gate, &script.sections[0])?;
@@ -137,6 +139,7 @@ pub fn run<G: Gate>(alloc: Global, script: &Script, gate: &G) -> Result<Report, 
     requires { IsLawful (plan_of script.now) }
     ensures report { IfOk result (IsReportOf (plan_of script.now)) }
     ensures unserved { ¬ IsServed (plan_of script.now) → result ≡ Err (record { processor = 0; cause = Cause.Unserved }) }
+    ensures served { IsServed (plan_of script.now) → IfErr result (λ fault. fault.cause ≢ Cause.Unserved) }
 {
     if !is_served(script) {
         return Err(RunFault {

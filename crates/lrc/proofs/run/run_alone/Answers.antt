@@ -12,11 +12,11 @@ do_section-requires g c =
     let section = first_section (plan_of c.args.script.now) c.index.result.now.items c.requires.lawful c.requires.served here in
     rw (c.deref.ensures.value, c.in_ok-memory.ensures) (λ k d below. within (plan_of c.args.script.now) _ c.requires.served (section.1.in_range k d below))
 
-pub returns : goal.returns
-returns g c =
+pub returns-clause-report : goal.returns-clause-report
+returns-clause-report g c =
     let here = ap (λ v. v.items) c.index.ensures ∙ sym (get_or-map (λ v. v.items) c.args.script.now.sections.items 0 c.index.result.now) in
     let section = first_section (plan_of c.args.script.now) c.index.result.now.items c.requires.lawful c.requires.served here in
-    let does = c.in_ok-do_section.ensures in
+    let does = c.in_ok-do_section.ensures.does in
     let barrier = calls_barrier c.do_section.new.memory c.pass_barrier.new.self c.in_ok-pass_barrier.ensures.ok in
     let started = ap history c.in_ok-memory.ensures in
     let all = run_history c.in_ok-memory.memory c.do_section.new.memory c.pass_barrier.new.self c.show.new.memory does.0 c.in_ok-shown.shown.items started does.1 barrier c.in_ok-shown.ensures.calls in
