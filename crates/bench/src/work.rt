@@ -1,0 +1,65 @@
+//! What is measured.
+
+use crate::journals::build;
+use journal::{Journal, Traffic};
+use std::alloc::{AllocError, Global};
+
+/// What is done to the journal.
+#[derive(Clone, Copy, Debug, PartialEq, Eq)]
+pub enum Work {
+    Build,
+    Append,
+    FirstRace,
+    Replay,
+    Traffic,
+    Copy,
+}
+
+impl Work {
+    /// The work of this name.
+    pub fn named(name: &str) -> Option<Work> {
+        match name {
+            "build" => Some(Work::Build),
+            "append" => Some(Work::Append),
+            "first_race" => Some(Work::FirstRace),
+            "replay" => Some(Work::Replay),
+            "traffic" => Some(Work::Traffic),
+            "copy" => Some(Work::Copy),
+            _ => None,
+        }
+    }
+}
+
+/// What the work gave.
+#[derive(Clone, Copy, Debug, PartialEq, Eq)]
+pub enum Answer {
+    Events(usize),
+    FirstRace(Option<(usize, usize)>),
+    Replays(bool),
+    Traffic(Traffic),
+}
+
+/// Does the work once.
+fn do_once(alloc: Global, work: Work, journal: &Journal) -> Result<Answer, AllocError> {
+    match work {
+        Work::Build => Ok(Answer::Events(journal.len())),
+        Work::Append => Ok(Answer::Events(build(alloc, journal.len())?.len())),
+        Work::FirstRace => Ok(Answer::FirstRace(journal.first_race()?)),
+        Work::Replay => Ok(Answer::Replays(journal.replay()?.is_some())),
+        Work::Traffic => Ok(Answer::Traffic(journal.traffic())),
+        Work::Copy => Ok(Answer::Events(journal.copy()?.len())),
+    }
+}
+
+/// Does the work so many times and once more, and gives the last answer.
+pub fn do_times(
+    alloc: Global,
+    work: Work,
+    journal: &Journal,
+    more: usize,
+) -> Result<Answer, AllocError> {
+    for _ in 0..more {
+        do_once(alloc, work, journal)?;
+    }
+    do_once(alloc, work, journal)
+}
