@@ -1,0 +1,5 @@
+//! The protocol's state behind the lock, as one value: the journal, the closed intervals, the
+//! distributed locks, the barrier, the flags, the timestamps, what each processor waits for, and the
+//! messages on their way (Keleher, Cox and Zwaenepoel, Lazy Release Consistency for Software
+//! Distributed Shared Memory, ISCA 1992).
+#![tactic(auto)]
