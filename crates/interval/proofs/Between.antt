@@ -1,15 +1,13 @@
 -- The loop that sends the news, the earliest first.
-use Rattle.std.proofs.Common.{◌≡◌, ℕ, ◌<◌, ◌≤◌, ◌+◌, true, inl, inr, List, [], ◌∷◌, ◌++◌, filter, Some, slice_get, slice_index, slice_set, length, refl, sym, ap, subst, arith, ◌∙◌}
+use Rattle.std.proofs.Common.{◌≡◌, ℕ, ◌<◌, ◌≤◌, inl, List, [], ◌∷◌, ◌++◌, filter, Some, slice_get, slice_index, length, refl, sym, ap, subst, arith, ◌∙◌}
 use Rattle.std.specs.List.{flat_map}
-use Rattle.std.proofs.lemmas.Bool.{cases_eq}
-use Rattle.std.proofs.lemmas.List.{append_assoc, append-nil, length-set}
+use Rattle.std.proofs.lemmas.List.{append-nil}
 use Rattle.std.proofs.lemmas.Option.{get_or_from_slice_get}
-use Rattle.vtime.specs.Times.{tick}
 use Rattle.interval.specs.declared.kept.Kept.{Kept}
 use Rattle.interval.specs.Intervals.{SentRecord}
 use Rattle.interval.specs.Closings.{Closings, is_news, sent_interval, between}
 use Rattle.interval.proofs.Members.{In, In-filter}
-use Rattle.interval.proofs.Earliest.{IsNews, news_is, entry_within, tick_at, tick_other}
+use Rattle.interval.proofs.Earliest.{IsNews, news_is, entry_within}
 
 -- `at` is how far the sending has come: what is left is the news since then
 pub record IsUnderWay (c : Closings) (old new at : List ℕ) (sent : List SentRecord) : Type 0 where
@@ -30,11 +28,11 @@ next_within c new at k rest next new_long long =
 
 -- the owner of the next one, in terms of what was read
 pub owner_within : (c : Closings) (new at : List ℕ) (k : Kept) (rest : List Kept) (o : ℕ) → filter (is_news at new) c.kept ≡ k ∷ rest → length new ≡ length c.first → length at ≡ length c.first
-  → o ≡ k.interval.owner → o < length at
+    → o ≡ k.interval.owner → o < length at
 owner_within c new at k rest o next new_long long is = rw is (next_within c new at k rest next new_long long)
 
 pub entry_below : (c : Closings) (new at : List ℕ) (k : Kept) (rest : List Kept) (o m n : ℕ) → filter (is_news at new) c.kept ≡ k ∷ rest
-  → o ≡ k.interval.owner → slice_get at o ≡ Some m → slice_get new o ≡ Some n → m < n
+    → o ≡ k.interval.owner → slice_get at o ≡ Some m → slice_get new o ≡ Some n → m < n
 entry_below c new at k rest o m n next is at_o new_o =
     let news = next_is_news c new at k rest next in
     let from = news.from in

@@ -1,6 +1,6 @@
 -- The intervals of a rising list that pass a test.
-use Rattle.std.proofs.Common.{◌≡◌, ◌≢◌, ◌<◌, ◌≤◌, Bool, true, false, cond, ◌⊎◌, inl, inr, Option, Some, None, List, [], ◌∷◌, filter, find, refl, sym, ap, arith, ◌∙◌}
-use Rattle.std.proofs.lemmas.Bool.{cond-true, cond-false, cases_Bool, both_ways}
+use Rattle.std.proofs.Common.{◌≡◌, ◌≢◌, ◌≤◌, Bool, true, false, cond, inl, inr, Some, None, List, [], ◌∷◌, filter, find, refl, sym, ap, arith, ◌∙◌}
+use Rattle.std.proofs.lemmas.Bool.{cond-true, cond-false, cases_Bool}
 use Rattle.interval.specs.declared.kept.Kept.{Kept}
 use Rattle.interval.proofs.Members.{In}
 use Rattle.interval.proofs.Rising.{Rises}
@@ -23,7 +23,7 @@ IsLeast p xs k = (j : Kept) → In j xs → p j ≡ true → k.place ≤ j.place
 
 -- the earliest comes first, and the others are left
 pub filter_least : (p q : Kept → Bool) (xs : List Kept) (k : Kept) → Rises xs → In k xs → p k ≡ true → IsLeast p xs k
-  → q k ≡ false → ((j : Kept) → In j xs → j.place ≢ k.place → p j ≡ q j) → filter p xs ≡ k ∷ filter q xs
+    → q k ≡ false → ((j : Kept) → In j xs → j.place ≢ k.place → p j ≡ q j) → filter p xs ≡ k ∷ filter q xs
 filter_least p q [] k rises here passes least left others = absurd here
 filter_least p q (x ∷ xs) k rises (inl same) passes least left others =
     let first : p x ≡ true = ap p (sym same) ∙ passes in

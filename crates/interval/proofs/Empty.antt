@@ -1,9 +1,9 @@
 -- Queues of which none holds an interval.
-use Rattle.std.proofs.Common.{◌≡◌, ℕ, ◌+◌, List, [], ◌∷◌, ◌++◌, map, replicate, slice_get, length, refl, sym, ap, subst, arith, ◌∙◌}
+use Rattle.std.proofs.Common.{◌≡◌, ℕ, ◌+◌, List, [], ◌∷◌, ◌++◌, map, replicate, length, refl, ap, subst, arith, ◌∙◌}
 use Rattle.std.specs.List.{flat_map}
-use Rattle.std.proofs.lemmas.List.{map-append, replicate_more, append-nil}
+use Rattle.std.proofs.lemmas.List.{map-append, replicate_more}
 use Rattle.interval.specs.declared.kept.Kept.{Kept}
-use Rattle.interval.specs.Queues.{Queue, merged, by_place, closings, IsQueue, IsQueued, AreQueues}
+use Rattle.interval.specs.Queues.{Queue, AreQueues}
 use Rattle.interval.proofs.Members.{In}
 use Rattle.interval.proofs.Merged.{Lies, lies_in}
 

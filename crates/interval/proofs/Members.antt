@@ -1,7 +1,6 @@
 -- What stands in a list, by recursion over it.
-use Rattle.std.proofs.Common.{◌≡◌, ℕ, zero, suc, ◌<◌, ◌+◌, Bool, true, false, ◌&&◌, cond, ◌⊎◌, inl, inr, Option, Some, None, List, [], ◌∷◌, ◌++◌, map, filter, slice_get, get_or, length, refl, sym, ap, subst, arith, ◌∙◌}
+use Rattle.std.proofs.Common.{◌≡◌, ℕ, zero, suc, Bool, true, false, cond, ◌⊎◌, inl, inr, Some, List, [], ◌∷◌, ◌++◌, map, filter, slice_get, refl, sym, ap, arith, ◌∙◌}
 use Rattle.std.specs.List.{flat_map}
-use Rattle.std.proofs.lemmas.Option.{same_Some}
 use Rattle.lists.specs.Places.{Has, InOrder}
 
 -- k stands in the list
@@ -54,12 +53,12 @@ In-filter_from {A} p (x ∷ xs) k (inr h) passes =
 
 -- of the lists that f gives, some has k
 pub In-flat_map : {A B : Type 0} → (f : A → List B) (xs : List A) (k : B) → In k (flat_map f xs)
-  → (q : ℕ) × (x : A) × (slice_get xs q ≡ Some x) × In k (f x)
+    → (q : ℕ) × (x : A) × (slice_get xs q ≡ Some x) × In k (f x)
 In-flat_map f [] k h = absurd h
 In-flat_map f (x ∷ xs) k h = elim (In-append (f x) (flat_map f xs) k h) [
   | inl l ↦ (0, x, refl, l)
   | inr r ↦ let w = In-flat_map f xs k r in (suc w.0, w.1, w.2, w.3)
-  ]
+]
 
 pub In-flat_map_from : {A B : Type 0} → (f : A → List B) (xs : List A) (q : ℕ) (x : A) (k : B) → slice_get xs q ≡ Some x → In k (f x) → In k (flat_map f xs)
 In-flat_map_from f [] q x k at h = absurd (cc at)
@@ -75,9 +74,10 @@ Ordered {A} R (x ∷ xs) = ((y : A) → In y xs → R x y) × Ordered R xs
 
 pub Ordered-from_order : {A : Type 0} → (R : A → A → Type 0) (xs : List A) → InOrder R xs → Ordered R xs
 Ordered-from_order R [] o = tt
-Ordered-from_order R (x ∷ xs) o =
-    (λ y h. let at = Has-from_in xs y h in o 0 (suc at.0) x y (omega arith) refl at.1,
-    Ordered-from_order R xs (λ i j a b lt p q. o (suc i) (suc j) a b (omega arith) p q))
+Ordered-from_order R (x ∷ xs) o = (
+  λ y h. let at = Has-from_in xs y h in o 0 (suc at.0) x y (omega arith) refl at.1,
+  Ordered-from_order R xs (λ i j a b lt p q. o (suc i) (suc j) a b (omega arith) p q),
+)
 
 pub order-from_ordered : {A : Type 0} → (R : A → A → Type 0) (xs : List A) → Ordered R xs → InOrder R xs
 order-from_ordered R [] r i j a b lt p q = absurd (cc p)
@@ -89,9 +89,10 @@ order-from_ordered R (x ∷ xs) r (suc i) (suc j) a b lt p q = order-from_ordere
 
 pub Ordered-append : {A : Type 0} → (R : A → A → Type 0) (xs ys : List A) → Ordered R xs → Ordered R ys → ((a b : A) → In a xs → In b ys → R a b) → Ordered R (xs ++ ys)
 Ordered-append R [] ys front back across = back
-Ordered-append R (x ∷ xs) ys front back across =
-    (λ y h. elim (In-append xs ys y h) [ inl l ↦ front.0 y l | inr r ↦ across x y (inl refl) r ],
-    Ordered-append R xs ys front.1 back (λ a b l r. across a b (inr l) r))
+Ordered-append R (x ∷ xs) ys front back across = (
+  λ y h. elim (In-append xs ys y h) [ inl l ↦ front.0 y l | inr r ↦ across x y (inl refl) r ],
+  Ordered-append R xs ys front.1 back (λ a b l r. across a b (inr l) r),
+)
 
 pub In-map : {A B : Type 0} → (f : A → B) (xs : List A) (y : B) → In y (map f xs) → (x : A) × (y ≡ f x) × In x xs
 In-map f [] y h = absurd h

@@ -1,10 +1,9 @@
 -- The queues of all owners as one list.
-use Rattle.std.proofs.Common.{◌≡◌, ◌≢◌, ℕ, ◌<◌, ◌≤◌, ◌+◌, ◌⊎◌, inl, inr, Some, List, slice_get, get_or, refl, sym, ap, arith, ◌∙◌}
+use Rattle.std.proofs.Common.{◌≡◌, ℕ, inl, inr, Some, List, slice_get, sym, ap, arith, ◌∙◌}
 use Rattle.std.specs.List.{flat_map}
 use Rattle.std.proofs.lemmas.Bool.{cases_order}
-use Rattle.lists.specs.Places.{Has, InOrder}
 use Rattle.interval.specs.declared.kept.Kept.{Kept}
-use Rattle.interval.specs.Queues.{Queue, merged, by_place, IsQueue, IsQueued, AreQueues}
+use Rattle.interval.specs.Queues.{Queue, merged, IsQueue, IsQueued, AreQueues}
 use Rattle.interval.proofs.Members.{In, In-from_has, Has-from_in, In-flat_map, In-flat_map_from}
 use Rattle.interval.proofs.Rising.{Rises, IsApart, In-by_place, In-by_place_from, Rises-by_place}
 
@@ -30,14 +29,14 @@ lies_in queues k l = In-flat_map_from items_of queues l.owner l.queue k l.owned 
 
 -- in a queue a closing number stands for one interval
 one_place : (owner count : ℕ) (queue : Queue) → IsQueue owner count queue → (i m : ℕ) (j k : Kept)
-  → slice_get queue.kept i ≡ Some j → slice_get queue.kept m ≡ Some k → j.place ≡ k.place → j ≡ k
+    → slice_get queue.kept i ≡ Some j → slice_get queue.kept m ≡ Some k → j.place ≡ k.place → j ≡ k
 one_place owner count queue is i m j k at_i at_m same = elim (cases_order i m) [
   | inl e ↦ let swap : slice_get queue.kept i ≡ Some k = ap (slice_get queue.kept) e ∙ at_m in cc
   | inr other ↦ elim other [
     | inl before ↦ let lt = is.rising i m j k before at_i at_m in absurd (omega arith)
     | inr after ↦ let lt = is.rising m i k j after at_m at_i in absurd (omega arith)
-    ]
   ]
+]
 
 -- in all queues
 pub one_interval : (queues : List Queue) (count : ℕ) → AreQueues queues count → (j k : Kept) → Lies queues j → Lies queues k → j.place ≡ k.place → j ≡ k
@@ -66,7 +65,7 @@ queued queues count are k l = (are.each l.owner l.queue l.owned).each l.index k 
 
 -- an owner's intervals are known by their numbers
 pub one_number : (queues : List Queue) (count : ℕ) → AreQueues queues count → (j k : Kept) → Lies queues j → Lies queues k
-  → j.interval.owner ≡ k.interval.owner → j.interval.number ≡ k.interval.number → j ≡ k
+    → j.interval.owner ≡ k.interval.owner → j.interval.number ≡ k.interval.number → j ≡ k
 one_number queues count are j k a b owners numbers =
     let ja = queued queues count are j a in
     let kb = queued queues count are k b in

@@ -1,10 +1,9 @@
 -- Lists of intervals by rising closing number.
-use Rattle.std.proofs.Common.{◌≡◌, ◌≢◌, ◌↔◌, ℕ, zero, suc, ◌<◌, ◌≤◌, ◌+◌, Bool, true, false, cond, nat_lt, ◌⊎◌, inl, inr, Option, Some, None, List, [], ◌∷◌, ◌++◌, filter, find, slice_get, refl, sym, ap, subst, arith, ◌∙◌}
-use Rattle.std.proofs.lemmas.Bool.{cond_both, cases_order, cases_Bool, ltb-true, ltb-false, lt-ltb, le-ltb, cond-true, cond-false, both_ways}
-use Rattle.lists.specs.Places.{Has, InOrder}
+use Rattle.std.proofs.Common.{◌≡◌, ◌<◌, Bool, true, cond, nat_lt, ◌⊎◌, inl, inr, List, [], ◌∷◌, ◌++◌, filter, refl, sym, ap, arith, ◌∙◌}
+use Rattle.std.proofs.lemmas.Bool.{cond_both, ltb-true, ltb-false}
 use Rattle.interval.specs.declared.kept.Kept.{Kept}
 use Rattle.interval.specs.Queues.{put, by_place}
-use Rattle.interval.proofs.Members.{In, Ordered, In-from_has, Has-from_in, In-append, In-filter}
+use Rattle.interval.proofs.Members.{In, Ordered, In-append, In-filter}
 
 abbrev pub IsBefore : Kept → Kept → Type 0
 IsBefore j k = j.place < k.place
@@ -22,7 +21,7 @@ In-put k (x ∷ xs) j h =
     let later : P (x ∷ put k xs) = λ h. elim h [
       | inl s ↦ inr (inl s)
       | inr r ↦ elim (In-put k xs j r) [ inl s ↦ inl s | inr t ↦ inr (inr t) ]
-      ] in
+    ] in
     cond_both (nat_lt k.place x.place) (k ∷ x ∷ xs) (cond (nat_lt x.place k.place) (x ∷ put k xs) (x ∷ xs)) P (λ e h. h)
     (λ e. cond_both (nat_lt x.place k.place) (x ∷ put k xs) (x ∷ xs) P (λ f. later) (λ f h. inr h)) h
 
@@ -47,11 +46,11 @@ pub Rises-put : (k : Kept) (xs : List Kept) → Rises xs → Rises (put k xs)
 Rises-put k [] r = (λ j h. absurd h, tt)
 Rises-put k (x ∷ xs) r =
     let front : nat_lt k.place x.place ≡ true → Rises (k ∷ x ∷ xs) = λ e.
-        let lt = ltb-true _ _ e in
-        (λ j h. elim h [ inl s ↦ rw s lt | inr t ↦ let after = r.0 j t in omega arith ], r) in
+    let lt = ltb-true _ _ e in
+    (λ j h. elim h [ inl s ↦ rw s lt | inr t ↦ let after = r.0 j t in omega arith ], r) in
     let later : nat_lt x.place k.place ≡ true → Rises (x ∷ put k xs) = λ f.
-        let lt = ltb-true _ _ f in
-        (λ j h. elim (In-put k xs j h) [ inl s ↦ rw s lt | inr t ↦ r.0 j t ], Rises-put k xs r.1) in
+    let lt = ltb-true _ _ f in
+    (λ j h. elim (In-put k xs j h) [ inl s ↦ rw s lt | inr t ↦ r.0 j t ], Rises-put k xs r.1) in
     cond_both (nat_lt k.place x.place) (k ∷ x ∷ xs) (cond (nat_lt x.place k.place) (x ∷ put k xs) (x ∷ xs)) Rises front
     (λ e. cond_both (nat_lt x.place k.place) (x ∷ put k xs) (x ∷ xs) Rises later (λ f. r))
 
@@ -88,28 +87,29 @@ same_rising (x ∷ xs) (y ∷ ys) r s to from =
       | inr above ↦ elim (from y (inl refl)) [
         | inl e ↦ sym e
         | inr below ↦ let a = s.0 x above in let b = r.0 y below in absurd (omega arith)
-        ]
-      ] in
+      ]
+    ] in
     let tail_to : (k : Kept) → In k xs → In k ys = λ k h. elim (to k (inr h)) [
       | inl e ↦ let after = r.0 k h in let places : k.place ≡ x.place = ap (λ (z : Kept). z.place) (e ∙ sym same) in absurd (omega arith)
       | inr t ↦ t
-      ] in
+    ] in
     let tail_from : (k : Kept) → In k ys → In k xs = λ k h. elim (from k (inr h)) [
       | inl e ↦ let after = s.0 k h in let places : k.place ≡ y.place = ap (λ (z : Kept). z.place) (e ∙ same) in absurd (omega arith)
       | inr t ↦ t
-      ] in
+    ] in
     let tails = same_rising xs ys r.1 s.1 tail_to tail_from in cc
 
 -- other rising lists
 
 pub Rises-push : (xs : List Kept) (k : Kept) → Rises xs → ((j : Kept) → In j xs → j.place < k.place) → Rises (xs ++ k ∷ [])
 Rises-push [] k r below = (λ j h. absurd h, tt)
-Rises-push (x ∷ xs) k r below =
-    (λ j h. elim (In-append xs (k ∷ []) j h) [
-      | inl l ↦ r.0 j l
-      | inr e ↦ elim e [ inl s ↦ rw s (below x (inl refl)) | inr none ↦ absurd none ]
-      ],
-    Rises-push xs k r.1 (λ j h. below j (inr h)))
+Rises-push (x ∷ xs) k r below = (
+  λ j h. elim (In-append xs (k ∷ []) j h) [
+    | inl l ↦ r.0 j l
+    | inr e ↦ elim e [ inl s ↦ rw s (below x (inl refl)) | inr none ↦ absurd none ]
+  ],
+  Rises-push xs k r.1 (λ j h. below j (inr h)),
+)
 
 pub Rises-filter : (p : Kept → Bool) (xs : List Kept) → Rises xs → Rises (filter p xs)
 Rises-filter p [] r = tt

@@ -1,15 +1,15 @@
 -- The queues after a trim.
-use Rattle.std.proofs.Common.{◌≡◌, ◌≢◌, ℕ, zero, suc, ◌<◌, ◌≤◌, ◌+◌, ◌-◌, min, max, Bool, true, false, not, nat_lt, nat_eq, ◌==◌, ◌&&◌, ◌⊎◌, inl, inr, Option, Some, None, List, [], ◌∷◌, ◌++◌, map, filter, drop, slice_get, slice_index, set, get_or, length, refl, sym, ap, arith, ◌∙◌}
-use Rattle.std.proofs.lemmas.Bool.{cases_eq, cases_lt, and_left, and_right, and_from, eq-eqb, ne_eqb, lt-ltb, le-ltb, not_from_true, not_from_false, not-true, cases_Bool, ltb-true, eqb-true, and_parts, both_ways}
-use Rattle.std.proofs.lemmas.List.{map-set, set-get_or, length-drop, length-map}
-use Rattle.std.proofs.lemmas.Option.{slice_get_within, get_or_from_slice_get, slice_get_read}
-use Rattle.lists.specs.Places.{Has, InOrder}
+use Rattle.std.proofs.Common.{◌≡◌, ◌≢◌, ℕ, zero, suc, ◌<◌, ◌≤◌, ◌+◌, ◌-◌, min, max, Bool, true, not, ◌⊎◌, inl, inr, Some, List, [], ◌∷◌, map, filter, drop, slice_get, slice_index, set, length, refl, sym, ap, arith, ◌∙◌}
+use Rattle.std.proofs.lemmas.Bool.{cases_eq, cases_lt, and_left, and_right, and_from, eq-eqb, ne_eqb, lt-ltb, le-ltb, not_from_false, not-true, both_ways}
+use Rattle.std.proofs.lemmas.List.{map-set, set-get_or, length-drop}
+use Rattle.std.proofs.lemmas.Option.{slice_get_within, get_or_from_slice_get}
+use Rattle.lists.specs.Places.{Has}
 use Rattle.interval.specs.declared.kept.Kept.{Kept}
 use Rattle.interval.specs.Closings.{Closings, is_trimmed, trimmed}
-use Rattle.interval.specs.Queues.{Queue, merged, closings, without, IsQueue, IsQueued, AreQueues}
-use Rattle.interval.proofs.Members.{In, In-filter, In-filter_from}
-use Rattle.interval.proofs.Rising.{Rises, Rises-filter, same_rising}
-use Rattle.interval.proofs.Merged.{Lies, merged_lies, lies_merged, Rises-merged, queued}
+use Rattle.interval.specs.Queues.{Queue, merged, closings, without, IsQueue, AreQueues}
+use Rattle.interval.proofs.Members.{In-filter, In-filter_from}
+use Rattle.interval.proofs.Rising.{Rises-filter, same_rising}
+use Rattle.interval.proofs.Merged.{Lies, merged_lies, lies_merged, Rises-merged}
 use Rattle.interval.proofs.Pushed.{slice_get-set_same, slice_get-set_other, entry_of}
 
 slice_get-drop : {A : Type 0} → (n : ℕ) (xs : List A) (i : ℕ) → slice_get (drop n xs) i ≡ slice_get xs (n + i)
@@ -22,7 +22,6 @@ abbrev with_trim : List Queue → ℕ → Queue → ℕ → List Queue
 with_trim queues owner queue to = set queues owner (without queue to)
 
 module _ (queues : List Queue) (count owner : ℕ) (queue : Queue) (to : ℕ) (are : AreQueues queues count) (owned : slice_get queues owner ≡ Some queue) where
-
   abbrev gone : ℕ
   gone = to - queue.first
 
@@ -39,44 +38,44 @@ module _ (queues : List Queue) (count owner : ℕ) (queue : Queue) (to : ℕ) (a
   is_queue : IsQueue owner count (without queue to)
   is_queue = record {
     each = λ i k at.
-      let before = stayed i k at in
-      let old = was.each (gone + i) k before in
-      let within = slice_get_within queue.kept (gone + i) k before in
-      let number = old.number_is in
-      record { owner_is = old.owner_is; number_is = omega arith; closed = old.closed; pages = old.pages };
+        let before = stayed i k at in
+        let old = was.each (gone + i) k before in
+        let within = slice_get_within queue.kept (gone + i) k before in
+        let number = old.number_is in
+        record { owner_is = old.owner_is; number_is = omega arith; closed = old.closed; pages = old.pages };
     rising = λ x y a b lt at_x at_y. was.rising (gone + x) (gone + y) a b (omega arith) (stayed x a at_x) (stayed y b at_y);
   }
 
   queue_cases : (q : ℕ) (a : Queue) → slice_get (with_trim queues owner queue to) q ≡ Some a
-    → ((q ≡ owner) × (without queue to ≡ a)) ⊎ ((q ≢ owner) × (slice_get queues q ≡ Some a))
+      → ((q ≡ owner) × (without queue to ≡ a)) ⊎ ((q ≢ owner) × (slice_get queues q ≡ Some a))
   queue_cases q a at = elim (cases_eq q owner) [
     | inl e ↦
         let here = slice_get-set_same queues owner (without queue to) inside in
         let there : slice_get (with_trim queues owner queue to) owner ≡ Some a = ap (slice_get (with_trim queues owner queue to)) (sym e) ∙ at in
         inl (e, cc (here, there))
     | inr other ↦ inr (other, sym (slice_get-set_other queues owner q (without queue to) other) ∙ at)
-    ]
+  ]
 
   -- an interval of the new queues, in the old ones
   was_has : (q : ℕ) (a : Queue) (j : Kept) → slice_get (with_trim queues owner queue to) q ≡ Some a → Has a.kept j
-    → (b : Queue) × (slice_get queues q ≡ Some b) × Has b.kept j
+      → (b : Queue) × (slice_get queues q ≡ Some b) × Has b.kept j
   was_has q a j at (i, has) = elim (queue_cases q a at) [
     | inl here ↦
         let at_i : slice_get (drop gone queue.kept) i ≡ Some j = ap (λ (q : Queue). slice_get q.kept i) here.1 ∙ has in
         (queue, ap (slice_get queues) here.0 ∙ owned, (gone + i, stayed i j at_i))
     | inr there ↦ (a, there.1, (i, has))
-    ]
+  ]
 
   pub are_trimmed : AreQueues (with_trim queues owner queue to) count
   are_trimmed = record {
     each = λ q a at. elim (queue_cases q a at) [
       | inl here ↦ rw (here.0, ← here.1) is_queue
       | inr there ↦ are.each q a there.1
-      ];
+    ];
     apart = λ q r a b i j at_q at_r has_i has_j same.
-      let old_i = was_has q a i at_q has_i in
-      let old_j = was_has r b j at_r has_j in
-      are.apart q r old_i.0 old_j.0 i j old_i.1 old_j.1 old_i.2 old_j.2 same;
+        let old_i = was_has q a i at_q has_i in
+        let old_j = was_has r b j at_r has_j in
+        are.apart q r old_i.0 old_j.0 i j old_i.1 old_j.1 old_i.2 old_j.2 same;
   }
 
   other_stays : (k : Kept) → k.interval.owner ≢ owner → not (is_trimmed owner to k) ≡ true
@@ -95,14 +94,14 @@ module _ (queues : List Queue) (count owner : ℕ) (queue : Queue) (to : ℕ) (a
     | inr there ↦
         let is = (are.each l.owner l.queue there.1).each l.index k l.at in
         (record { owner = l.owner; queue = l.queue; index = l.index; owned = there.1; at = l.at }, other_stays k (λ e. there.0 (sym is.owner_is ∙ e)))
-    ]
+  ]
 
   -- of the owner's intervals, those from `to` on remain
   not_before : (k : Kept) → not (is_trimmed owner to k) ≡ true → k.interval.owner ≡ owner → to ≤ k.interval.number
   not_before k stays is = elim (cases_lt k.interval.number to) [
     | inl lt ↦ absurd (both_ways _ (not-true _ stays) (and_from _ _ (eq-eqb _ _ is) (lt-ltb _ _ lt)))
     | inr ge ↦ ge
-    ]
+  ]
 
   remains_from : (k : Kept) → Lies queues k → not (is_trimmed owner to k) ≡ true → Lies (with_trim queues owner queue to) k
   remains_from k l stays = elim (cases_eq l.owner owner) [
@@ -121,7 +120,7 @@ module _ (queues : List Queue) (count owner : ℕ) (queue : Queue) (to : ℕ) (a
           at = slice_get-drop gone queue.kept (l.index - gone) ∙ ap (slice_get queue.kept) index ∙ at;
         }
     | inr other ↦ record { owner = l.owner; queue = l.queue; index = l.index; owned = slice_get-set_other queues owner l.owner (without queue to) other ∙ l.owned; at = l.at }
-    ]
+  ]
 
   pub merged_trimmed : merged (with_trim queues owner queue to) ≡ filter (λ k. not (is_trimmed owner to k)) (merged queues)
   merged_trimmed =
@@ -131,7 +130,7 @@ module _ (queues : List Queue) (count owner : ℕ) (queue : Queue) (to : ℕ) (a
       (λ k h. let r = In-filter stays (merged queues) k h in lies_merged (with_trim queues owner queue to) count are_trimmed k (remains_from k (merged_lies queues k r.0) r.1))
 
   pub first_trimmed : map (λ (q : Queue). q.first) (with_trim queues owner queue to)
-    ≡ set (map (λ (q : Queue). q.first) queues) owner (max (slice_index (map (λ (q : Queue). q.first) queues) owner) (min to (slice_index (map (λ (q : Queue). q.first + length q.kept) queues) owner)))
+      ≡ set (map (λ (q : Queue). q.first) queues) owner (max (slice_index (map (λ (q : Queue). q.first) queues) owner) (min to (slice_index (map (λ (q : Queue). q.first + length q.kept) queues) owner)))
   first_trimmed =
       let first = entry_of (λ (q : Queue). q.first) queues owner queue owned in
       let next = entry_of (λ (q : Queue). q.first + length q.kept) queues owner queue owned in
@@ -149,8 +148,8 @@ module _ (queues : List Queue) (count owner : ℕ) (queue : Queue) (to : ℕ) (a
 
 -- `trim` does what it says
 pub closings_trimmed : (queues : List Queue) (count : ℕ) (value : Closings) (owner : ℕ) (queue : Queue) (to : ℕ)
-  → closings queues count ≡ value → AreQueues queues count → slice_get queues owner ≡ Some queue
-  → closings (set queues owner (without queue to)) count ≡ trimmed value owner to
+    → closings queues count ≡ value → AreQueues queues count → slice_get queues owner ≡ Some queue
+    → closings (set queues owner (without queue to)) count ≡ trimmed value owner to
 closings_trimmed queues count value owner queue to is are owned =
     let kepts = merged_trimmed queues count owner queue to are owned in
     let firsts = first_trimmed queues count owner queue to are owned in

@@ -50,7 +50,7 @@ pub record IsQueue (owner count : ℕ) (queue : Queue) : Type 0 where
 pub record AreQueues (queues : List Queue) (count : ℕ) : Type 0 where
   pub each : (q : ℕ) (queue : Queue) → slice_get queues q ≡ Some queue → IsQueue q count queue
   pub apart : (q r : ℕ) (a b : Queue) (j k : Kept) → slice_get queues q ≡ Some a → slice_get queues r ≡ Some b
-    → Has a.kept j → Has b.kept k → j.place ≡ k.place → q ≡ r
+      → Has a.kept j → Has b.kept k → j.place ≡ k.place → q ≡ r
 
 -- the queue's first interval numbered within from..to
 abbrev pub first_within : Queue → ℕ → ℕ → Option Kept

@@ -93,7 +93,7 @@ impl Closed {
         requires none_trimmed { (q : ℕ) → slice_index self.now.first q ≤ slice_index at.now q }
         ensures { MatchOption result (filter (is_news at.now new.now) self.now.kept ≡ [])
             (λ k. filter (is_news at.now new.now) self.now.kept
-                ≡ k.now ∷ filter (is_news (tick at.now k.now.interval.owner) new.now) self.now.kept) }
+            ≡ k.now ∷ filter (is_news (tick at.now k.now.interval.owner) new.now) self.now.kept) }
     {
         let mut earliest = None;
         for (owner, queue) in self.queues.iter().enumerate() {

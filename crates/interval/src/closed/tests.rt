@@ -1,4 +1,4 @@
-ghost use Rattle.std.specs.Prelude.{◌≡◌, ◌+◌, ◌<◌, Some, IfOk, OnOk, length, map, slice_get, slice_set};
+ghost use Rattle.std.specs.Prelude.{◌≡◌, ◌+◌, ◌<◌, Some, IfOk, OnOk, OnErr, length, map, slice_get, slice_set};
 ghost use Rattle.std.specs.Arc.{arc_value};
 ghost use Rattle.interval.specs.Intervals.{HasRisingPages};
 
@@ -8,11 +8,10 @@ use std::sync::Arc;
 use std::test::Fail;
 
 /// The record of a page in which the word at offset 0 is 1.
-fn record(alloc: Global, page: usize) -> Result<Arc<Record>, Fail>
+fn record(alloc: Global, page: usize) -> Result<Arc<Record>, AllocError>
     ensures { IfOk result (λ r. (arc_value r).page ≡ page) }
 {
-    let words = vec![in alloc; (0, 1)]?;
-    let record = Record::from_words(page, words).ok_or("one word rises")?;
+    let record = Record::new(page, vec![in alloc; (0, 1)]?);
     Ok(Arc::new(alloc, record)?)
 }
 
@@ -30,6 +29,7 @@ fn keep(
     ensures two_owners { length closed.new.first ≡ 2 }
     ensures next { OnOk result (closed.new.next ≡ slice_set closed.old.next owner (number + 1)) }
     ensures pushed { OnOk result (closed.new.pushed ≡ closed.old.pushed + 1) }
+    ensures err { OnErr result (closed.new ≡ closed.old) }
 {
     closed.push(Interval {
         owner,
@@ -39,7 +39,7 @@ fn keep(
 }
 
 /// Owner 0's intervals write to page 3 and to none, owner 1's to pages 0 and 2 and to page 3.
-fn four_intervals(alloc: Global) -> Result<Closed, Fail>
+fn four_intervals(alloc: Global) -> Result<Closed, AllocError>
     ensures { IfOk result (λ c. length c.first ≡ 2) }
 {
     let mut closed = Closed::new(alloc, 2)?;
@@ -112,7 +112,11 @@ fn has_between(
 fn sends_in_closing_order(rt: HostRuntime) -> Result<(), Fail> {
     let closed = four_intervals(rt.alloc())?;
     let pages = [(notice(0, 1, 0), 1), (notice(2, 1, 0), 1)];
-    let both = [(notice(0, 1, 0), 1), (notice(2, 1, 0), 1), (notice(3, 1, 1), 3)];
+    let both = [
+        (notice(0, 1, 0), 1),
+        (notice(2, 1, 0), 1),
+        (notice(3, 1, 1), 3),
+    ];
     assert!(rt; has_between(&rt, &closed, [1, 0], [2, 2], &both)?);
     assert!(rt; has_between(&rt, &closed, [0, 0], [1, 0], &[(notice(3, 0, 0), 0)])?);
     assert!(rt; has_between(&rt, &closed, [2, 0], [1, 1], &pages)?);
@@ -131,7 +135,11 @@ fn sends_what_a_trim_leaves(rt: HostRuntime) -> Result<(), Fail> {
     closed.trim(0, 1);
     assert!(rt; closed.record_of(&notice(3, 0, 0)).is_none());
     let pages = [(notice(0, 1, 0), 1), (notice(2, 1, 0), 1)];
-    let both = [(notice(0, 1, 0), 1), (notice(2, 1, 0), 1), (notice(3, 1, 1), 3)];
+    let both = [
+        (notice(0, 1, 0), 1),
+        (notice(2, 1, 0), 1),
+        (notice(3, 1, 1), 3),
+    ];
     assert!(rt; has_between(&rt, &closed, [1, 0], [2, 2], &both)?);
     assert!(rt; has_between(&rt, &closed, [2, 0], [1, 1], &pages)?);
     assert!(rt; has_between(&rt, &closed, [2, 2], [2, 2], &[])?);
@@ -176,5 +184,53 @@ fn is_shared_among_threads(rt: HostRuntime) -> Result<(), Fail> {
     assert!(rt; closed.record_of(&notice(3, 0, 0)).is_some());
     let sent: Vec<Sent> = shared(Vec::new(rt.alloc()));
     assert!(rt; sent.is_empty());
+    Ok(())
+}
+
+fn one_record(alloc: Global, page: usize) -> Result<Vec<Arc<Record>>, AllocError>
+    ensures { IfOk result (λ rs. HasRisingPages (map arc_value rs.items)) }
+{
+    Ok(vec![in alloc; record(alloc, page)?]?)
+}
+
+/// As `keep`, and tries a second time where memory was refused.
+fn keep_page(
+    alloc: Global,
+    closed: &mut Closed,
+    owner: usize,
+    number: u64,
+    page: usize,
+) -> Result<(), AllocError>
+    requires two_owners { length closed.old.first ≡ 2 }
+    requires next { slice_get closed.old.next owner ≡ Some number }
+    requires few { closed.old.pushed < 100 }
+    ensures two_owners { length closed.new.first ≡ 2 }
+    ensures next { OnOk result (closed.new.next ≡ slice_set closed.old.next owner (number + 1)) }
+    ensures pushed { OnOk result (closed.new.pushed ≡ closed.old.pushed + 1) }
+{
+    if let Ok(records) = one_record(alloc, page) {
+        if keep(closed, owner, number, records).is_ok() {
+            return Ok(());
+        }
+    }
+    keep(closed, owner, number, one_record(alloc, page)?)
+}
+
+// Each allocation in turn is refused to this test: the call that it was refused to is made again.
+#[test]
+fn goes_on_after_a_refusal(rt: HostRuntime) -> Result<(), Fail> {
+    let alloc = rt.alloc();
+    let mut closed = match Closed::new(alloc, 2) {
+        Ok(closed) => closed,
+        Err(_) => Closed::new(alloc, 2)?,
+    };
+    keep_page(alloc, &mut closed, 0, 0, 3)?;
+    keep_page(alloc, &mut closed, 1, 0, 2)?;
+    let both = [(notice(3, 0, 0), 0), (notice(2, 1, 0), 1)];
+    let has_both = match has_between(&rt, &closed, [0, 0], [1, 1], &both) {
+        Ok(has_both) => has_both,
+        Err(_) => has_between(&rt, &closed, [0, 0], [1, 1], &both)?,
+    };
+    assert!(rt; has_both);
     Ok(())
 }

@@ -1,7 +1,5 @@
-use Rattle.std.proofs.Common.{◌≡◌, ℕ, ◌<◌, ◌≤◌, List, ◌∷◌, filter, slice_get, slice_index, length, ap, sym, ◌∙◌, arith}
+use Rattle.std.proofs.Common.{arith}
 use Rattle.std.proofs.lemmas.Option.{get_or_from_slice_get}
-use Rattle.vtime.specs.Times.{tick}
-use Rattle.interval.specs.Closings.{is_news}
 use Rattle.interval.proofs.Between.{owner_within, entry_below, all_sent}
 use Rattle.interval.proofs.Sending.{between_in_order}
 use Rattle.interval.proofs.closed.Closed.between.Goals as goal

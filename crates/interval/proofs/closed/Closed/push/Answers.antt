@@ -1,7 +1,5 @@
-use Rattle.std.proofs.Common.{◌≡◌, ap, sym, ◌∙◌, set}
+use Rattle.std.proofs.Common.{ap}
 use Rattle.interval.specs.Intervals.{ClosedInterval}
-use Rattle.interval.specs.Closings.{pushed}
-use Rattle.interval.specs.Queues.{AreQueues, Queue, closings}
 use Rattle.interval.proofs.Pushed.{Comes, comes_next, are_pushed, closings_pushed}
 use Rattle.interval.proofs.closed.Closed.push.Goals as goal
 
@@ -18,5 +16,5 @@ invariant_of-self-2 c =
 pub returns-clause-ok : goal.returns-clause-ok
 returns-clause-ok c =
     let done = closings_pushed c.self.inside.queues.items c.self.inside.pushed c.args.self.now c.args.interval c.interval.inside.owner c.index_mut.result.now
-        c.self.view_is (ap (λ (i : ClosedInterval). i.owner) c.interval.view_is) c.self.invariant (comes c) in
+    c.self.view_is (ap (λ (i : ClosedInterval). i.owner) c.interval.view_is) c.self.invariant (comes c) in
     rw c.in_ok-push.ensures.ok done

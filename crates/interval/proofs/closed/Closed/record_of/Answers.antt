@@ -1,7 +1,6 @@
-use Rattle.std.proofs.Common.{◌≡◌, ℕ, ◌<◌, ◌≤◌, Some, None, List, slice_get, length, refl, ap, sym, ◌∙◌, arith}
+use Rattle.std.proofs.Common.{◌≡◌, ◌<◌, ◌≤◌, Some, None, List, slice_get, length, refl, ap, sym, ◌∙◌, arith}
 use Rattle.std.specs.Option.{option_copied}
 use Rattle.std.proofs.lemmas.Option.{slice_get_read}
-use Rattle.interval.specs.Closings.{record_of}
 use Rattle.interval.specs.Queues.{Queue}
 use Rattle.interval.proofs.Looked.{none_of, none_below, noticed_at, record_found}
 use Rattle.interval.proofs.closed.Closed.record_of.Goals as goal

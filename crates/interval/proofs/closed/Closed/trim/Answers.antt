@@ -1,8 +1,4 @@
-use Rattle.std.proofs.Common.{◌≡◌, ℕ, ◌<◌, Some, List, map, slice_get, length, refl, ap, arith}
-use Rattle.std.proofs.lemmas.List.{length-map}
-use Rattle.std.proofs.lemmas.Option.{slice_get_read}
-use Rattle.interval.specs.Closings.{Closings}
-use Rattle.interval.specs.Queues.{AreQueues, Queue}
+use Rattle.std.proofs.Common.{◌≡◌, Some, slice_get}
 use Rattle.interval.proofs.Trimmed.{are_trimmed, closings_trimmed}
 use Rattle.interval.proofs.Earliest.{owned_queue}
 use Rattle.interval.proofs.closed.Closed.trim.Goals as goal

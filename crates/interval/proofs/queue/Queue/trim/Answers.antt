@@ -1,1 +1,0 @@
-use Rattle.interval.proofs.queue.Queue.trim.Goals as goal
