@@ -5,3 +5,5 @@ pub mod Lined
 pub mod Posted
 pub mod Flagged
 pub mod Gathered
+pub mod Trimmed
+pub mod Told
