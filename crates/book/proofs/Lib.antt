@@ -7,3 +7,4 @@ pub mod Flagged
 pub mod Gathered
 pub mod Trimmed
 pub mod Told
+pub mod Laws

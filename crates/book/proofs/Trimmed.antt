@@ -155,5 +155,5 @@ pub between_pushed : (c : Closings) (i : ClosedInterval) (old new : List ℕ) �
 between_pushed c i old new le =
     let none : is_news old new (record { place = c.pushed; interval = i }) ≡ false = and_right _ _ (le-ltb i.number (slice_index new i.owner) le) in
     let sum = filter-append (is_news old new) c.kept (record { place = c.pushed; interval = i } ∷ []) in
-    let same : filter (is_news old new) c.kept ++ filter (is_news old new) (record { place = c.pushed; interval = i } ∷ []) ≡ filter (is_news old new) c.kept = rw none append-nil in
+    let same : filter (is_news old new) c.kept ++ filter (is_news old new) (record { place = c.pushed; interval = i } ∷ []) ≡ filter (is_news old new) c.kept = rw none (append-nil (filter (is_news old new) c.kept)) in
     ap (λ (ks : List Kept). flat_map sent_interval ks) (sum ∙ same)

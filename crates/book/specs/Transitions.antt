@@ -1,20 +1,34 @@
 -- The transitions of the book, as functions of its value.
-use Rattle.std.specs.Prelude.{ℕ, zero, suc, ◌+◌, ◌-◌, ◌*◌, max, min, Bool, true, false, Option, Some, None, List, [], ◌∷◌, ◌++◌, length, map, slice_index, slice_index_or, slice_set}
+use Rattle.std.specs.Prelude.{ℕ, zero, suc, ◌+◌, ◌-◌, ◌*◌, max, min, Bool, true, false, Option, Some, None, List, [], ◌∷◌, ◌++◌, length, map, slice_index, slice_index_or, slice_set, replicate}
 use Rattle.journal.specs.declared.event.Event.{Event}
 use Rattle.journal.specs.declared.event.Kind.{Kind}
 use Rattle.journal.specs.declared.event.Kind.TheVariants.{Ask, Release, Arrive, Depart, Set, Watch, Await}
 use Rattle.journal.specs.Log.{Log}
+use Rattle.journal.specs.Sizes.{Sizes, addresses}
 use Rattle.journal.specs.Waits.{awaited}
 use Rattle.page.specs.Changes.{Changes}
 use Rattle.vtime.specs.Times.{tick, join}
 use Rattle.interval.specs.Intervals.{ClosedInterval}
 use Rattle.interval.specs.Closings.{Closings, pushed, trimmed, between}
-use Rattle.lockq.specs.Lock.{Locks, lock_at, with_lock, asked, released}
-use Rattle.barrier.specs.Episodes.{Episodes, is_full, joined, arrived, departed}
+use Rattle.lockq.specs.Lock.{Locks, unheld, lock_at, with_lock, asked, released}
+use Rattle.barrier.specs.Episodes.{Episodes, unmet, is_full, joined, arrived, departed}
 use Rattle.transit.specs.Letters.{Letter}
 use Rattle.transit.specs.Letters.Kind.{grant, departure}
 use Rattle.book.specs.Events.{event}
 use Rattle.book.specs.State.{State, time_of}
+
+-- an empty book
+abbrev pub new_book : Sizes → State
+new_book s = record {
+  journal = record { processors = s.processors; addresses = addresses s; events = []; room = 256 * s.processors };
+  closed = record { kept = []; first = replicate s.processors 0; next = replicate s.processors 0; pushed = 0 };
+  times = replicate s.processors (replicate s.processors 0);
+  locks = record { processors = s.processors; locks = replicate s.locks (unheld s.processors) };
+  barrier = unmet s.processors;
+  flags = replicate s.flags None;
+  awaits = replicate s.processors None;
+  transit = replicate s.processors None;
+}
 
 -- room for 256 more events of each processor stays reserved
 abbrev pub reserve_of : Log → ℕ
