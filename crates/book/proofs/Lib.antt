@@ -7,4 +7,5 @@ pub mod Flagged
 pub mod Gathered
 pub mod Trimmed
 pub mod Told
-pub mod Laws
+pub mod Locking
+pub mod Flagging

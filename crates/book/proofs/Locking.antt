@@ -1,4 +1,4 @@
--- One law for each transition: what the book is told by the history before, it is told by the history with the event after.
+-- Asks and releases: what the book is told by the history before, it is told by the history with the event after.
 use Rattle.std.proofs.Common.{◌≡◌, ◌≢◌, ℕ, ◌+◌, ◌<◌, ◌≤◌, ◌⊎◌, inl, inr, ◌↔◌, List, [], ◌∷◌, ◌++◌, length, map, replicate, Bool, true, false, Option, Some, None, IsTrue, slice_get, slice_set, slice_index, slice_index_or, subst, sym, refl, ap, ◌∙◌, arith}
 use Rattle.std.proofs.lemmas.Bool.{cases_eq, cases_Bool, true≢false}
 use Rattle.std.proofs.lemmas.Option.{same_Some, none-some, slice_get_within, get_or_from_slice_get, slice_get-map}
@@ -15,7 +15,8 @@ use Rattle.journal.specs.Pasts.{InPast, UpToSome}
 use Rattle.journal.specs.Brings.{Brings, SomeDoes}
 use Rattle.lists.proofs.Sets.{slice_get-set_found, slice_get-set_other}
 use Rattle.journal.proofs.Kept.{kind_kept}
-use Rattle.journal.proofs.Steps.{last_unique}
+use Rattle.journal.proofs.Steps.{holds_cases}
+use Rattle.journal.proofs.Locks.{holder_alone}
 use Rattle.journal.proofs.Ready.{WaitsFor, waits_for, taking_follows}
 use Rattle.page.specs.Changes.{Changes}
 use Rattle.vtime.specs.Times.{tick, join}
@@ -47,7 +48,7 @@ use Rattle.book.proofs.Told.{is_idle, is_processor, own_stamp, follows, still_fo
 -- locks
 
 -- a lock that the event does not name stays
-lock_kept : (n : ℕ) (h : List Event) (p : ℕ) (k : Kind) (l : ℕ) (x : Lock) → k ≢ Ask l → k ≢ Acquire l → k ≢ Release l → NoAsk h p l → IsLock n h l x → IsLock n (did h p k) l x
+pub lock_kept : (n : ℕ) (h : List Event) (p : ℕ) (k : Kind) (l : ℕ) (x : Lock) → k ≢ Ask l → k ≢ Acquire l → k ≢ Release l → NoAsk h p l → IsLock n h l x → IsLock n (did h p k) l x
 lock_kept n h p k l x ask acquire release none is = record {
   line_is = line_kept h p k l (line x) ask acquire release none is.line_is;
   held = is.held;
@@ -67,7 +68,7 @@ lock_asked n h p l (Some q) xs t none free is = record {
   time = record { long = is.time.long; is = kind_kept h (event p (Ask l) ∷ []) (Release l) (slice_index t) (other_kind p (Ask l) (Release l) (λ e. absurd cc)) is.time.is };
 }
 
-lock_taken : (n : ℕ) (h : List Event) (p l i : ℕ) (x : Lock) → LastIs h p i (Ask l) → MayBeGranted h i l → IsLock n h l x → IsLock n (did h p (Acquire l)) l x
+pub lock_taken : (n : ℕ) (h : List Event) (p l i : ℕ) (x : Lock) → LastIs h p i (Ask l) → MayBeGranted h i l → IsLock n h l x → IsLock n (did h p (Acquire l)) l x
 lock_taken n h p l i x last may is = record {
   line_is = line_taken h p l i (line x) last may is.line_is;
   held = is.held;
@@ -123,7 +124,7 @@ due_is None m n e = same_Some m n e
 due_is (Some q) m n e = absurd (none-some n e)
 
 -- a message that is made now has the notices that its receiver lacks
-granted_notices : (c : State) (r : ℕ) (u t : List ℕ) (m : Letter) → slice_get c.times r ≡ Some t → granted c r u ≡ m → m.notices ≡ between c.closed t m.time
+pub granted_notices : (c : State) (r : ℕ) (u t : List ℕ) (m : Letter) → slice_get c.times r ≡ Some t → granted c r u ≡ m → m.notices ≡ between c.closed t m.time
 granted_notices c r u t m at is = subst (λ x. x.notices ≡ between c.closed t x.time) is (ap (λ own. between c.closed own u) (get_or_from_slice_get c.times r t [] at))
 
 -- p asks for a lock
@@ -170,3 +171,90 @@ told_ask s h b p l records told range idle free = record {
         granted_notices (closing b p (Ask l) records) p (lock_at b.locks l).time t m (subst Q is time) (due_is (lock_at b.locks l).holder (granted (closing b p (Ask l) records) p (lock_at b.locks l).time) m found))
       | inr isnt ↦ old_notices s h b p records r m t told lt isnt (sym (slice_get-set_other b.transit p r (due (lock_at b.locks l).holder (granted (closing b p (Ask l) records) p (lock_at b.locks l).time)) isnt) ∙ at) time
     ]
+
+-- the others' mail when p releases the lock: news for the first of the queue alone
+released_mail : (s : Sizes) (h : List Event) (p l r : ℕ) (xs : List ℕ) (o : Option Letter) → MayFollow s h (event p (Release l)) → r ≢ p → IsLine (did h p (Release l)) l xs → ¬ (slice_get xs 0 ≡ Some r) → IsMail s h r o → IsMail s (did h p (Release l)) r o
+released_mail s h p l r xs o may isnt line behind mail = mail_unless s h p (Release l) r o may isnt never mail
+  where
+    never : (a : Kind) → IsPosted a → News (Release l) a → ¬ Allowed s (did h p (Release l)) r a
+    never (Acquire m) posted news (i, last, granted) =
+        let same : m ≡ l = cc in
+        behind (first_allowed (did h p (Release l)) r l i xs (subst (λ x. LastIs (did h p (Release l)) r i (Ask x)) same last) (subst (λ x. MayBeGranted (did h p (Release l)) i x) same granted) line)
+    never Depart posted news allowed = absurd cc
+    never _ posted news allowed = absurd posted
+
+-- nobody holds a lock that was just released
+released_free : (s : Sizes) (h : List Event) (p l : ℕ) → WellFormed s h → Holds h p l → (q : ℕ) → ¬ Holds (did h p (Release l)) q l
+released_free s h p l well held q after = elim (holds_cases h (event p (Release l)) q l after) [
+  | inl old ↦ old.1 (ap (λ (r : ℕ). event r (Release l)) (holder_alone s h well p q l held old.0))
+  | inr new ↦ absurd (cc (ap (λ e. e.kind) new))
+]
+
+-- everyone's mail after a release
+mail_released : (s : Sizes) (h : List Event) (c : State) (p l : ℕ) (xs u : List ℕ) → WellFormed s h → MayFollow s h (event p (Release l)) → IsIdle h p → Holds h p l → IsLine (did h p (Release l)) l xs
+  → IsStamp s.processors (did h p (Release l)) (UpToSome (did h p (Release l)) (SomeDoes (did h p (Release l)) (Release l))) u → AreAll s.processors (IsMail s h) c.transit → AreAll s.processors (IsMail s (did h p (Release l))) (passed_on c xs u)
+mail_released s h c p l [] u well may idle held line time all = each_own s.processors (IsMail s h) (IsMail s (did h p (Release l))) c.transit p all
+    (λ r o isnt at is. released_mail s h p l r [] o may isnt line (none-some r) is)
+    (λ o at is. own_idle s h p (Release l) o idle (λ m e. absurd cc) (λ e. absurd cc) is)
+mail_released s h c p l (q ∷ xs) u well may idle held line time all = each_set s.processors (IsMail s h) (IsMail s (did h p (Release l))) c.transit q (Some (granted c q u)) all others
+    (record { kind = Acquire l; lets = tt; allowed = allowed_first (did h p (Release l)) q l (q ∷ xs) (released_free s h p l well held) refl line; time = time })
+  where
+    others : (r : ℕ) (o : Option Letter) → r ≢ q → slice_get c.transit r ≡ Some o → IsMail s h r o → IsMail s (did h p (Release l)) r o
+    others r o isnt at is = elim (cases_eq r p) [
+      | inl own ↦ (let P : ℕ → Type 0 = λ x. IsMail s h x o → IsMail s (did h p (Release l)) x o in subst P (sym own) (own_idle s h p (Release l) o idle (λ m e. absurd cc) (λ e. absurd cc)) is)
+      | inr apart ↦ released_mail s h p l r (q ∷ xs) o may apart line (λ e. isnt (sym (same_Some q r e))) is
+    ]
+
+-- the notices of messages that were there, and of the one that is posted
+passed_notices : (c : State) (xs u : List ℕ) (r : ℕ) (m : Letter) (t : List ℕ) → slice_get (passed_on c xs u) r ≡ Some (Some m) → slice_get c.times r ≡ Some t → (slice_get c.transit r ≡ Some (Some m) → m.notices ≡ between c.closed t m.time) → m.notices ≡ between c.closed t m.time
+passed_notices c [] u r m t at time old = old at
+passed_notices c (q ∷ xs) u r m t at time old = elim (cases_eq r q) [
+  | inl is ↦ (
+    let P : ℕ → Type 0 = λ x. slice_get (slice_set c.transit q (Some (granted c q u))) x ≡ Some (Some m) in
+    let Q : ℕ → Type 0 = λ x. slice_get c.times x ≡ Some t in
+    let found = slice_get-set_found c.transit q (Some (granted c q u)) (Some m) (subst P is at) in
+    granted_notices c q u t m (subst Q is time) (same_Some (granted c q u) m found))
+  | inr isnt ↦ old (sym (slice_get-set_other c.transit q r (Some (granted c q u)) isnt) ∙ at)
+]
+
+-- p releases a lock that it holds
+pub told_release : (s : Sizes) (h : List Event) (b : State) (p l : ℕ) (records : List Changes) → IsTold s h b → l < s.locks → slice_get b.awaits p ≡ Some None → Holds h p l → IsTold s (did h p (Release l)) (book_released b p l records)
+told_release s h b p l records told range idle held = record {
+  well_formed = well;
+  holds = ap (λ es. es ++ event p (Release l) ∷ []) told.holds;
+  closed = closed_now s h b p (Release l) records told lt refl;
+  times = times_closing s h b p (Release l) told lt refl refl;
+  locks = each_set s.locks (IsLock s.processors h) (IsLock s.processors (did h p (Release l))) b.locks.locks l (released (lock_at b.locks l) (tick (time_of b p) p)) told.locks
+      (λ m x isnt at is. lock_kept s.processors h p (Release l) m x (λ e. absurd cc) (λ e. absurd cc) (λ e. isnt (cc e)) (idle_no_ask h p m free) is)
+      (lock_passed s.processors (did h p (Release l)) l (lock_at b.locks l).queue (tick (time_of b p) p) line_now time);
+  barrier = barrier_kept s h p (Release l) b.barrier refl refl told.barrier;
+  flags = each_kept s.flags (IsFlag s.processors h) (IsFlag s.processors (did h p (Release l))) b.flags told.flags (λ f o at is. flag_kept s.processors h p (Release l) f o (λ e. absurd cc) is);
+  awaits = awaits_set s h b p (Release l) told;
+  transit = mail_released s h (closing b p (Release l) records) p l (lock_at b.locks l).queue (tick (time_of b p) p) told.well_formed may free held line_now time told.transit;
+  notices = λ r m t at now. passed_notices (closing b p (Release l) records) (lock_at b.locks l).queue (tick (time_of b p) p) r m t at now (λ there. old_notices s h b p records r m t told lt (apart r m there) there now);
+  within = within_closing s h b p told lt;
+}
+  where
+    lt : p < s.processors
+    lt = is_processor s h b p None told idle
+
+    free : IsIdle h p
+    free = is_idle s h b p told idle
+
+    may : MayFollow s h (event p (Release l))
+    may = follows s h b p (Release l) told idle range held
+
+    well : WellFormed s (did h p (Release l))
+    well = still_formed s h b p (Release l) told may
+
+    lock : IsLock s.processors h l (lock_at b.locks l)
+    lock = is_at s.locks (IsLock s.processors h) b.locks.locks l (unheld b.locks.processors) told.locks range
+
+    line_now : IsLine (did h p (Release l)) l (lock_at b.locks l).queue
+    line_now = line_passed s.processors h p l (lock_at b.locks l).holder (lock_at b.locks l).queue (lock_at b.locks l).time (idle_no_ask h p l free) held lock
+
+    time : IsStamp s.processors (did h p (Release l)) (UpToSome (did h p (Release l)) (SomeDoes (did h p (Release l)) (Release l))) (tick (time_of b p) p)
+    time = stamp_released s h p l (tick (time_of b p) p) well (stamp_closing s.processors h p (Release l) (time_of b p) lt refl refl (own_stamp s h b p told lt))
+
+    apart : (r : ℕ) (m : Letter) → slice_get b.transit r ≡ Some (Some m) → r ≢ p
+    apart r m at is = let P : ℕ → Type 0 = λ x. slice_get b.transit x ≡ Some (Some m) in none-some m (idle_mail s h p (Some m) free (told.transit.each p (Some m) (subst P is at)))
