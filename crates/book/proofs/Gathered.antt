@@ -151,7 +151,7 @@ arrival_gathered s h p n t u is x y = subst (λ m. IsStamp s.processors h (UpToS
 
 -- when not all are here, the episode stays open
 pub barrier_waits : (s : Sizes) (h : List Event) (p : ℕ) (b : Episodes) (u : List ℕ) → WellFormed s h → IsIdle h p → p < s.processors → IsBarrier s h b → IsStamp s.processors (did h p Arrive) (InPast (did h p Arrive) p) u
-  → is_full (joined b p u) ≡ false → (x : IsBarrier s (did h p Arrive) (joined b p u)) × ((q : ℕ) → q < s.processors → x.complete ≤ count_of is_arrive h q)
+  → is_full (joined b p u) ≡ false → (x : IsBarrier s (did h p Arrive) (joined b p u)) × ((q : ℕ) → q < s.processors → x.complete ≤ count_of is_arrive h q) × (count_of is_arrive h p ≡ x.complete)
 barrier_waits s h p b u well idle lt x time open_still = (
   record {
     complete = x.complete;
@@ -160,6 +160,7 @@ barrier_waits s h p b u well idle lt x time open_still = (
     gathered = arrival_gathered s h p x.complete b.gathered u all.0 x.gathered time;
   },
   λ q less. stage_arrived h x.complete q (slice_index_or b.stages q Away) (is_at s.processors (IsAtStage h x.complete) b.stages q Away x.stages less),
+  all.0,
 )
   where
     all : (count_of is_arrive h p ≡ x.complete) × AreAll s.processors (IsAtStage (did h p Arrive) x.complete) (slice_set b.stages p Here)

@@ -9,3 +9,4 @@ pub mod Trimmed
 pub mod Told
 pub mod Locking
 pub mod Flagging
+pub mod Meeting
