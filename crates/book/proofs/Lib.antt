@@ -10,3 +10,5 @@ pub mod Told
 pub mod Locking
 pub mod Flagging
 pub mod Meeting
+pub mod Taking
+pub mod Starting

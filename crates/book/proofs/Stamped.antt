@@ -12,7 +12,7 @@ use Rattle.journal.specs.Pasts.{InPast, UpToSome}
 use Rattle.journal.specs.Times.{IsTimeIn, IsTimeOf}
 use Rattle.journal.specs.Brings.{Brings, SomeDoes}
 use Rattle.journal.proofs.Times.{time_equal, time_same, time_none, count_of-one}
-use Rattle.journal.proofs.Pushes.{others_keep, own_closing, own_taking, own_entry}
+use Rattle.journal.proofs.Pushes.{others_keep, own_quiet, own_closing, own_taking}
 use Rattle.journal.proofs.Locks.{release_time}
 use Rattle.vtime.specs.Times.{tick, join}
 use Rattle.vtime.proofs.Joins.{length-join, get_or-join}
@@ -41,7 +41,7 @@ pub stamp_same : (n : ℕ) (h : List Event) (some others : ℕ → Type 0) (t : 
 stamp_same n h some others t same x = record { long = x.long; is = time_same h some others (slice_index t) same x.is }
 
 -- zeros where nothing is counted
-index-zeros : (n q : ℕ) → 0 ≡ slice_index (replicate n 0) q
+pub index-zeros : (n q : ℕ) → 0 ≡ slice_index (replicate n 0) q
 index-zeros zero q = refl
 index-zeros (suc n) zero = refl
 index-zeros (suc n) (suc q) = index-zeros n q
@@ -70,3 +70,7 @@ stamp_taking n h p k t u quiet x y = stamp_join n (did h p k) (InPast (did h p k
 -- after a release the releaser's time is the lock's
 pub stamp_released : (s : Sizes) (h : List Event) (p l : ℕ) (t : List ℕ) → WellFormed s (did h p (Release l)) → IsStamp s.processors (did h p (Release l)) (InPast (did h p (Release l)) p) t → IsStamp s.processors (did h p (Release l)) (UpToSome (did h p (Release l)) (SomeDoes (did h p (Release l)) (Release l))) t
 stamp_released s h p l t well x = record { long = x.long; is = release_time s h (event p (Release l)) l (slice_index t) refl well x.is }
+
+-- an event that neither takes nor closes leaves its processor's timestamp
+pub stamp_quiet : (n : ℕ) (h : List Event) (p : ℕ) (k : Kind) (t : List ℕ) → is_taking k ≡ false → is_closing k ≡ false → IsStamp n h (InPast h p) t → IsStamp n (did h p k) (InPast (did h p k) p) t
+stamp_quiet n h p k t takes closes x = record { long = x.long; is = own_quiet h (event p k) (slice_index t) takes closes x.is }
