@@ -5,7 +5,7 @@ use Rattle.journal.specs.declared.event.Event.{Event}
 use Rattle.journal.specs.declared.event.Kind.{Kind}
 use Rattle.journal.specs.declared.event.Kind.TheVariants.{Ask, Acquire, Release, Arrive, Depart, Set, Watch, Await}
 use Rattle.journal.specs.Sizes.{Sizes}
-use Rattle.journal.specs.Events.{is_arrive, is_depart, is_closing, is_taking}
+use Rattle.journal.specs.Events.{count_of, is_arrive, is_depart, is_closing, is_taking}
 use Rattle.journal.specs.WellFormed.{LastIs, Allowed, MayFollow, Ready}
 use Rattle.journal.specs.Waits.{awaited, IsIdle}
 use Rattle.journal.proofs.Steps.{last_unique}
@@ -19,6 +19,7 @@ use Rattle.book.specs.Stamps.{AreAll, IsAwaited}
 use Rattle.book.specs.Lines.{IsLock}
 use Rattle.book.specs.Mail.{IsPosted, IsMail}
 use Rattle.book.specs.Flags.{IsFlag}
+use Rattle.book.specs.ClosedIntervals.{AreContents}
 use Rattle.book.specs.State.{State, time_of}
 use Rattle.book.specs.Transitions.{closing, set_at, book_set, book_watched, book_signalled}
 use Rattle.book.specs.Told.{IsTold}
@@ -44,11 +45,11 @@ record IsPlainClosing (k : Kind) : Type 0 where
   arrive : k ≢ Arrive
 
 told_closing : (s : Sizes) (h : List Event) (b : State) (p : ℕ) (k : Kind) (records : List Changes) (flags : List (Option (List ℕ))) → IsTold s h b → slice_get b.awaits p ≡ Some None → MayFollow s h (event p k) → IsPlainClosing k
-  → AreAll s.flags (IsFlag s.processors (did h p k)) flags → IsTold s (did h p k) (record (closing b p k records) { flags = flags })
-told_closing s h b p k records flags told idle may plain all = record {
+  → AreAll s.flags (IsFlag s.processors (did h p k)) flags → AreContents s h p (count_of is_closing h p) records → IsTold s (did h p k) (record (closing b p k records) { flags = flags })
+told_closing s h b p k records flags told idle may plain all stored = record {
   well_formed = still_formed s h b p k told may;
   holds = ap (λ es. es ++ event p k ∷ []) told.holds;
-  closed = closed_now s h b p k records told lt plain.closes;
+  closed = closed_now s h b p k records told lt plain.closes stored;
   times = times_closing s h b p k told lt plain.takes plain.closes;
   locks = each_kept s.locks (IsLock s.processors h) (IsLock s.processors (did h p k)) b.locks.locks told.locks (λ l x at is. lock_kept s.processors h p k l x (plain.ask l) (plain.acquire l) (plain.release l) (idle_no_ask h p l free) is);
   barrier = barrier_kept s h p k b.barrier plain.arrives plain.departs told.barrier;
@@ -69,19 +70,21 @@ told_closing s h b p k records flags told idle may plain all = record {
     apart r m at is = let P : ℕ → Type 0 = λ x. slice_get b.transit x ≡ Some (Some m) in none-some m (idle_mail s h p (Some m) free (told.transit.each p (Some m) (subst P is at)))
 
 -- p sets a flag
-pub told_set : (s : Sizes) (h : List Event) (b : State) (p f : ℕ) (records : List Changes) → IsTold s h b → f < s.flags → slice_get b.awaits p ≡ Some None → IsTold s (did h p (Set f)) (book_set b p f records)
-told_set s h b p f records told range idle = told_closing s h b p (Set f) records (slice_set b.flags f (Some (set_at (slice_index_or b.flags f None) (tick (time_of b p) p)))) told idle (follows s h b p (Set f) told idle range tt)
+pub told_set : (s : Sizes) (h : List Event) (b : State) (p f : ℕ) (records : List Changes) → IsTold s h b → f < s.flags → slice_get b.awaits p ≡ Some None → AreContents s h p (count_of is_closing h p) records → IsTold s (did h p (Set f)) (book_set b p f records)
+told_set s h b p f records told range idle stored = told_closing s h b p (Set f) records (slice_set b.flags f (Some (set_at (slice_index_or b.flags f None) (tick (time_of b p) p)))) told idle (follows s h b p (Set f) told idle range tt)
     (record { takes = refl; closes = refl; arrives = refl; departs = refl; ask = λ l e. absurd cc; acquire = λ l e. absurd cc; release = λ l e. absurd cc; arrive = λ e. absurd cc })
     (each_set s.flags (IsFlag s.processors h) (IsFlag s.processors (did h p (Set f))) b.flags f (Some (set_at (slice_index_or b.flags f None) (tick (time_of b p) p))) told.flags
       (λ g o isnt at is. flag_kept s.processors h p (Set f) g o (λ e. isnt (cc e)) is)
       (flag_set s.processors h p f (slice_index_or b.flags f None) (tick (time_of b p) p) (is_at s.flags (IsFlag s.processors h) b.flags f None told.flags range)
         (let lt = is_processor s h b p None told idle in stamp_closing s.processors h p (Set f) (time_of b p) lt refl refl (own_stamp s h b p told lt))))
+    stored
 
 -- p watches a flag
-pub told_watch : (s : Sizes) (h : List Event) (b : State) (p f : ℕ) (records : List Changes) → IsTold s h b → f < s.flags → slice_get b.awaits p ≡ Some None → IsTold s (did h p (Watch f)) (book_watched b p f records)
-told_watch s h b p f records told range idle = told_closing s h b p (Watch f) records b.flags told idle (follows s h b p (Watch f) told idle range tt)
+pub told_watch : (s : Sizes) (h : List Event) (b : State) (p f : ℕ) (records : List Changes) → IsTold s h b → f < s.flags → slice_get b.awaits p ≡ Some None → AreContents s h p (count_of is_closing h p) records → IsTold s (did h p (Watch f)) (book_watched b p f records)
+told_watch s h b p f records told range idle stored = told_closing s h b p (Watch f) records b.flags told idle (follows s h b p (Watch f) told idle range tt)
     (record { takes = refl; closes = refl; arrives = refl; departs = refl; ask = λ l e. absurd cc; acquire = λ l e. absurd cc; release = λ l e. absurd cc; arrive = λ e. absurd cc })
     (each_kept s.flags (IsFlag s.processors h) (IsFlag s.processors (did h p (Watch f))) b.flags told.flags (λ g o at is. flag_kept s.processors h p (Watch f) g o (λ e. absurd cc) is))
+    stored
 
 -- who waits for a flag has watched it
 watched : (a : Kind) (f : ℕ) → awaited a ≡ Some (Await f) → a ≡ Watch f

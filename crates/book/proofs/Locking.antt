@@ -32,6 +32,7 @@ use Rattle.book.specs.Lines.{IsLine, IsLock}
 use Rattle.book.specs.Mail.{IsPosted, Carries, IsMail}
 use Rattle.book.specs.Flags.{IsFlag}
 use Rattle.book.specs.Meetings.{IsBarrier}
+use Rattle.book.specs.ClosedIntervals.{AreContents}
 use Rattle.book.specs.State.{State, time_of}
 use Rattle.book.specs.Transitions.{open_interval, closing, granted, due, passed_on, departing, met, set_at, left, book_asked, book_released, book_arrived, book_set, book_watched, book_took, book_signalled}
 use Rattle.book.specs.Told.{IsTold}
@@ -128,11 +129,11 @@ pub granted_notices : (c : State) (r : ℕ) (u t : List ℕ) (m : Letter) → sl
 granted_notices c r u t m at is = subst (λ x. x.notices ≡ between c.closed t x.time) is (ap (λ own. between c.closed own u) (get_or_from_slice_get c.times r t [] at))
 
 -- p asks for a lock
-pub told_ask : (s : Sizes) (h : List Event) (b : State) (p l : ℕ) (records : List Changes) → IsTold s h b → l < s.locks → slice_get b.awaits p ≡ Some None → ¬ Holds h p l → IsTold s (did h p (Ask l)) (book_asked b p l records)
-told_ask s h b p l records told range idle free = record {
+pub told_ask : (s : Sizes) (h : List Event) (b : State) (p l : ℕ) (records : List Changes) → IsTold s h b → l < s.locks → slice_get b.awaits p ≡ Some None → ¬ Holds h p l → AreContents s h p (count_of is_closing h p) records → IsTold s (did h p (Ask l)) (book_asked b p l records)
+told_ask s h b p l records told range idle free stored = record {
   well_formed = still_formed s h b p (Ask l) told may;
   holds = ap (λ es. es ++ event p (Ask l) ∷ []) told.holds;
-  closed = closed_now s h b p (Ask l) records told lt refl;
+  closed = closed_now s h b p (Ask l) records told lt refl stored;
   times = times_closing s h b p (Ask l) told lt refl refl;
   locks = each_set s.locks (IsLock s.processors h) (IsLock s.processors (did h p (Ask l))) b.locks.locks l (asked (lock_at b.locks l) p) told.locks
       (λ m x isnt at is. lock_kept s.processors h p (Ask l) m x (λ e. isnt (cc e)) (λ e. absurd cc) (λ e. absurd cc) (idle_no_ask h p m (is_idle s h b p told idle)) is)
@@ -218,11 +219,11 @@ passed_notices c (q ∷ xs) u r m t at time old = elim (cases_eq r q) [
 ]
 
 -- p releases a lock that it holds
-pub told_release : (s : Sizes) (h : List Event) (b : State) (p l : ℕ) (records : List Changes) → IsTold s h b → l < s.locks → slice_get b.awaits p ≡ Some None → Holds h p l → IsTold s (did h p (Release l)) (book_released b p l records)
-told_release s h b p l records told range idle held = record {
+pub told_release : (s : Sizes) (h : List Event) (b : State) (p l : ℕ) (records : List Changes) → IsTold s h b → l < s.locks → slice_get b.awaits p ≡ Some None → Holds h p l → AreContents s h p (count_of is_closing h p) records → IsTold s (did h p (Release l)) (book_released b p l records)
+told_release s h b p l records told range idle held stored = record {
   well_formed = well;
   holds = ap (λ es. es ++ event p (Release l) ∷ []) told.holds;
-  closed = closed_now s h b p (Release l) records told lt refl;
+  closed = closed_now s h b p (Release l) records told lt refl stored;
   times = times_closing s h b p (Release l) told lt refl refl;
   locks = each_set s.locks (IsLock s.processors h) (IsLock s.processors (did h p (Release l))) b.locks.locks l (released (lock_at b.locks l) (tick (time_of b p) p)) told.locks
       (λ m x isnt at is. lock_kept s.processors h p (Release l) m x (λ e. absurd cc) (λ e. absurd cc) (λ e. isnt (cc e)) (idle_no_ask h p m free) is)

@@ -8,7 +8,7 @@ use Rattle.journal.specs.declared.event.Event.{Event}
 use Rattle.journal.specs.declared.event.Kind.{Kind}
 use Rattle.journal.specs.declared.event.Kind.TheVariants.{Ask, Acquire, Release, Arrive, Depart}
 use Rattle.journal.specs.Sizes.{Sizes}
-use Rattle.journal.specs.Events.{count_of, is_arrive, is_depart}
+use Rattle.journal.specs.Events.{count_of, is_arrive, is_depart, is_closing}
 use Rattle.journal.specs.WellFormed.{LastIs, Allowed, MayFollow, WellFormed}
 use Rattle.journal.specs.Waits.{awaited, IsIdle}
 use Rattle.journal.specs.Pasts.{InPast}
@@ -25,6 +25,7 @@ use Rattle.book.specs.Lines.{IsLock}
 use Rattle.book.specs.Mail.{IsPosted, Carries, IsMail}
 use Rattle.book.specs.Flags.{IsFlag}
 use Rattle.book.specs.Meetings.{IsBarrier}
+use Rattle.book.specs.ClosedIntervals.{AreContents}
 use Rattle.book.specs.State.{State, time_of}
 use Rattle.book.specs.Transitions.{closing, departing, met, book_arrived}
 use Rattle.book.specs.Told.{IsTold}
@@ -125,11 +126,11 @@ met_notices true c u r m t at time old =
     subst (λ x. x.notices ≡ between c.closed t x.time) (same_Some (departing c u t) m is) refl
 
 -- p arrives at the barrier
-pub told_arrive : (s : Sizes) (h : List Event) (b : State) (p : ℕ) (records : List Changes) → IsTold s h b → slice_get b.awaits p ≡ Some None → IsTold s (did h p Arrive) (book_arrived b p records)
-told_arrive s h b p records told idle = record {
+pub told_arrive : (s : Sizes) (h : List Event) (b : State) (p : ℕ) (records : List Changes) → IsTold s h b → slice_get b.awaits p ≡ Some None → AreContents s h p (count_of is_closing h p) records → IsTold s (did h p Arrive) (book_arrived b p records)
+told_arrive s h b p records told idle stored = record {
   well_formed = well;
   holds = ap (λ es. es ++ event p Arrive ∷ []) told.holds;
-  closed = closed_now s h b p Arrive records told lt refl;
+  closed = closed_now s h b p Arrive records told lt refl stored;
   times = times;
   locks = each_kept s.locks (IsLock s.processors h) (IsLock s.processors (did h p Arrive)) b.locks.locks told.locks (λ l x at is. lock_kept s.processors h p Arrive l x (λ e. absurd cc) (λ e. absurd cc) (λ e. absurd cc) (idle_no_ask h p l free) is);
   barrier = arrived_barrier s h b p (tick (time_of b p) p) (is_full (joined b.barrier p (tick (time_of b p) p))) told idle well lt time refl;

@@ -1,5 +1,5 @@
 -- The empty book, blocks, and trims.
-use Rattle.std.proofs.Common.{◌≡◌, ◌≢◌, ℕ, ◌+◌, ◌<◌, ◌≤◌, inl, inr, List, [], ◌∷◌, ◌++◌, length, replicate, true, false, Option, Some, None, slice_get, slice_set, slice_index, subst, sym, refl, ap, ◌∙◌, append_assoc, append-nil, arith}
+use Rattle.std.proofs.Common.{◌≡◌, ◌≢◌, ℕ, zero, suc, ◌+◌, ◌<◌, ◌≤◌, inl, inr, List, [], ◌∷◌, ◌++◌, length, replicate, true, false, Option, Some, None, slice_get, slice_set, slice_index, subst, sym, refl, ap, ◌∙◌, append_assoc, append-nil, arith}
 use Rattle.std.proofs.lemmas.Bool.{cases_eq, true≢false}
 use Rattle.std.proofs.lemmas.Option.{same_Some, none-some}
 use Rattle.std.proofs.lemmas.List.{length-replicate}
@@ -21,6 +21,7 @@ use Rattle.journal.proofs.Pushes.{brings_no_time}
 use Rattle.journal.proofs.Steps.{well_formed_empty}
 use Rattle.journal.proofs.Ready.{IsPlainAt}
 use Rattle.interval.specs.declared.kept.Kept.{Kept}
+use Rattle.interval.specs.Closings.{Closings, trimmed}
 use Rattle.transit.specs.Letters.{Letter}
 use Rattle.lockq.specs.Lock.{unheld}
 use Rattle.barrier.specs.declared.episodes.Stage.TheVariants.{Away}
@@ -31,7 +32,7 @@ use Rattle.book.specs.Lines.{IsLock}
 use Rattle.book.specs.Mail.{IsPosted, IsMail}
 use Rattle.book.specs.Flags.{IsFlag}
 use Rattle.book.specs.State.{State, HoldsHistory}
-use Rattle.book.specs.Transitions.{new_book, handed_in}
+use Rattle.book.specs.Transitions.{new_book, handed_in, least, trimmed_by}
 use Rattle.book.specs.Told.{IsTold}
 use Rattle.book.proofs.Each.{each_set, each_kept, each_own, each_replicate}
 use Rattle.book.proofs.Doings.{awaited_on, awaited_now}
@@ -40,7 +41,7 @@ use Rattle.book.proofs.Lined.{idle_no_ask}
 use Rattle.book.proofs.Posted.{mail_kept, own_idle}
 use Rattle.book.proofs.Flagged.{flag_kept}
 use Rattle.book.proofs.Gathered.{barrier_kept}
-use Rattle.book.proofs.Trimmed.{closed_quiet}
+use Rattle.book.proofs.Trimmed.{closed_quiet, closed_trimmed, between_trimmed, within_trimmed, least_le}
 use Rattle.book.proofs.Told.{is_idle, follows, still_formed}
 use Rattle.book.proofs.Locking.{lock_kept}
 
@@ -60,6 +61,7 @@ told_new s some = record {
     first_long = length-replicate {A = ℕ} s.processors 0;
     each = λ k has. absurd (has-nil k has);
     all = λ q i closes from. absurd (nothing i (event q closes.kind) closes.does);
+    contents = λ k has. absurd (has-nil k has);
     rising = in_order-nil (λ (j k : Kept). j.place < k.place);
   };
   times = each_replicate s.processors (λ p t. IsStamp s.processors [] (InPast [] p) t) (replicate s.processors 0) (λ p. stamp_none s.processors [] (InPast [] p) (λ i x. nothing x.own x.event x.at));
@@ -167,3 +169,24 @@ told_block s h block b p told idle all = told_journal s (h ++ block) (with (h ++
 
     step : (es : List Event) (e : Event) → (((k : ℕ) (f : Event) → At es k f → IsPlainAt s p f) → IsTold s (h ++ es) (with (h ++ es))) → ((k : ℕ) (f : Event) → At (es ++ e ∷ []) k f → IsPlainAt s p f) → IsTold s (h ++ (es ++ e ∷ [])) (with (h ++ (es ++ e ∷ [])))
     step es e ih plain = rw append_assoc at (pushed (h ++ es) e (plain (length es) e (at_last es e)) (ih (λ k f at. plain k f (at_longer es (e ∷ []) k f at))))
+
+-- one owner's intervals that everyone's timestamp covers are trimmed
+trimmed_once : (s : Sizes) (h : List Event) (b : State) (c : Closings) (owner to : ℕ) → ((p : ℕ) (t : List ℕ) → slice_get b.times p ≡ Some t → to ≤ slice_index t owner) → owner < s.processors → IsTold s h (record b { closed = c }) → IsTold s h (record b { closed = trimmed c owner to })
+trimmed_once s h b c owner to covered lt told = record {
+  well_formed = told.well_formed;
+  holds = told.holds;
+  closed = closed_trimmed s h c owner to lt told.closed;
+  times = told.times;
+  locks = told.locks;
+  barrier = told.barrier;
+  flags = told.flags;
+  awaits = told.awaits;
+  transit = told.transit;
+  notices = λ p m t at now. told.notices p m t at now ∙ sym (between_trimmed c owner to t m.time (covered p t now));
+  within = within_trimmed c owner to b.times covered (subst (λ n. owner < n) (sym told.closed.first_long) lt) told.within;
+}
+
+-- the intervals that everyone's timestamp covers are trimmed
+pub told_trimmed : (s : Sizes) (h : List Event) (b : State) (n : ℕ) → n ≤ s.processors → IsTold s h b → IsTold s h (record b { closed = trimmed_by b.closed b.times n })
+told_trimmed s h b zero le told = told
+told_trimmed s h b (suc n) le told = trimmed_once s h b (trimmed_by b.closed b.times n) n (least b.times n) (λ p t at. least_le b.times n p t at) (omega arith) (told_trimmed s h b n (omega arith) told)

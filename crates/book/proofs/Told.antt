@@ -24,7 +24,7 @@ use Rattle.transit.specs.Letters.{Letter}
 use Rattle.book.specs.Events.{event, did}
 use Rattle.book.specs.Stamps.{AreAll, IsStamp, IsAwaited}
 use Rattle.book.specs.Mail.{Carries, IsMail}
-use Rattle.book.specs.ClosedIntervals.{AreClosed, IsWithin}
+use Rattle.book.specs.ClosedIntervals.{AreContents, AreClosed, IsWithin}
 use Rattle.book.specs.State.{State, time_of}
 use Rattle.book.specs.Transitions.{open_interval, closing, taken}
 use Rattle.book.specs.Told.{IsTold}
@@ -71,8 +71,8 @@ pub own_number : (s : Sizes) (h : List Event) (b : State) (p : ℕ) → IsTold s
 own_number s h b p told lt = own_entry h p (slice_index (time_of b p)) (own_stamp s h b p told lt).is
 
 -- the closed intervals after a closing event
-pub closed_now : (s : Sizes) (h : List Event) (b : State) (p : ℕ) (k : Kind) (records : List Changes) → IsTold s h b → p < s.processors → is_closing k ≡ true → AreClosed s (did h p k) (pushed b.closed (open_interval b p records))
-closed_now s h b p k records told lt closes = closed_closing s h p k b.closed (slice_index (time_of b p) p) records closes lt (own_number s h b p told lt) told.closed
+pub closed_now : (s : Sizes) (h : List Event) (b : State) (p : ℕ) (k : Kind) (records : List Changes) → IsTold s h b → p < s.processors → is_closing k ≡ true → AreContents s h p (count_of is_closing h p) records → AreClosed s (did h p k) (pushed b.closed (open_interval b p records))
+closed_now s h b p k records told lt closes stored = closed_closing s h p k b.closed (slice_index (time_of b p) p) records closes lt (own_number s h b p told lt) (subst (λ n. AreContents s h p n records) (sym (own_number s h b p told lt)) stored) told.closed
 
 -- a timestamp that grows covers what it covered
 within_set : (first : List ℕ) (times : List (List ℕ)) (p : ℕ) (u : List ℕ) → p < length times → ((q : ℕ) → slice_index (slice_index_or times p []) q ≤ slice_index u q) → IsWithin first times → IsWithin first (slice_set times p u)

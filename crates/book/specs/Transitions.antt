@@ -17,7 +17,7 @@ use Rattle.transit.specs.Letters.Kind.{grant, departure}
 use Rattle.book.specs.Events.{event}
 use Rattle.book.specs.State.{State, time_of}
 
--- an empty book
+-- an empty book, with room for 256 last events of each processor
 abbrev pub new_book : Sizes → State
 new_book s = record {
   journal = record { processors = s.processors; addresses = addresses s; events = []; room = 256 * s.processors };
@@ -30,13 +30,9 @@ new_book s = record {
   transit = replicate s.processors None;
 }
 
--- room for 256 more events of each processor stays reserved
-abbrev pub reserve_of : Log → ℕ
-reserve_of log = 256 * log.processors
-
 -- the journal goes on with these events
 abbrev pub appended : Log → List Event → Log
-appended log es = record log { events = log.events ++ es; room = max log.room (length es + reserve_of log) - length es }
+appended log es = record log { events = log.events ++ es }
 
 -- a block is handed in
 abbrev pub handed_in : State → List Event → State
