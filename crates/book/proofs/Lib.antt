@@ -12,3 +12,4 @@ pub mod Flagging
 pub mod Meeting
 pub mod Taking
 pub mod Starting
+pub mod Whole

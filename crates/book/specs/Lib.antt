@@ -8,3 +8,4 @@ pub mod ClosedIntervals
 pub mod State
 pub mod Transitions
 pub mod Told
+pub mod Laws

@@ -3,3 +3,10 @@
 //! messages on their way (Keleher, Cox and Zwaenepoel, Lazy Release Consistency for Software
 //! Distributed Shared Memory, ISCA 1992).
 #![tactic(auto)]
+
+mod laws;
+
+pub use laws::{
+    arrive_law, ask_law, flag_law, hand_in_law, mail_law, new_law, release_law, set_law,
+    take_law, take_signal_law, watch_law,
+};
