@@ -48,6 +48,7 @@ told_closing : (s : Sizes) (h : List Event) (b : State) (p : ℕ) (k : Kind) (re
   → AreAll s.flags (IsFlag s.processors (did h p k)) flags → AreContents s h p (count_of is_closing h p) records → IsTold s (did h p k) (record (closing b p k records) { flags = flags })
 told_closing s h b p k records flags told idle may plain all stored = record {
   well_formed = still_formed s h b p k told may;
+  sizes = record { processors = told.sizes.processors; addresses = told.sizes.addresses; lockers = told.sizes.lockers };
   holds = ap (λ es. es ++ event p k ∷ []) told.holds;
   closed = closed_now s h b p k records told lt plain.closes stored;
   times = times_closing s h b p k told lt plain.takes plain.closes;
@@ -110,6 +111,7 @@ watching_mail s h p i f (Some m) last mail = absurd (go mail.kind (lets_posted m
 pub told_signal : (s : Sizes) (h : List Event) (b : State) (p f : ℕ) (t : List ℕ) → IsTold s h b → slice_get b.awaits p ≡ Some (Some (Await f)) → slice_get b.flags f ≡ Some (Some t) → IsTold s (did h p (Await f)) (book_signalled b p f t)
 told_signal s h b p f t told waits set = record {
   well_formed = still_formed s h b p (Await f) told may;
+  sizes = record { processors = told.sizes.processors; addresses = told.sizes.addresses; lockers = told.sizes.lockers };
   holds = ap (λ es. es ++ event p (Await f) ∷ []) told.holds;
   closed = closed_quiet s h p (Await f) b.closed refl told.closed;
   times = times_taking s h b p (Await f) t told lt refl flag.1;

@@ -13,3 +13,4 @@ pub mod Meeting
 pub mod Taking
 pub mod Starting
 pub mod Whole
+pub mod Calling

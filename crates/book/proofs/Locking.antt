@@ -132,6 +132,7 @@ granted_notices c r u t m at is = subst (λ x. x.notices ≡ between c.closed t 
 pub told_ask : (s : Sizes) (h : List Event) (b : State) (p l : ℕ) (records : List Changes) → IsTold s h b → l < s.locks → slice_get b.awaits p ≡ Some None → ¬ Holds h p l → AreContents s h p (count_of is_closing h p) records → IsTold s (did h p (Ask l)) (book_asked b p l records)
 told_ask s h b p l records told range idle free stored = record {
   well_formed = still_formed s h b p (Ask l) told may;
+  sizes = record { processors = told.sizes.processors; addresses = told.sizes.addresses; lockers = told.sizes.lockers };
   holds = ap (λ es. es ++ event p (Ask l) ∷ []) told.holds;
   closed = closed_now s h b p (Ask l) records told lt refl stored;
   times = times_closing s h b p (Ask l) told lt refl refl;
@@ -222,6 +223,7 @@ passed_notices c (q ∷ xs) u r m t at time old = elim (cases_eq r q) [
 pub told_release : (s : Sizes) (h : List Event) (b : State) (p l : ℕ) (records : List Changes) → IsTold s h b → l < s.locks → slice_get b.awaits p ≡ Some None → Holds h p l → AreContents s h p (count_of is_closing h p) records → IsTold s (did h p (Release l)) (book_released b p l records)
 told_release s h b p l records told range idle held stored = record {
   well_formed = well;
+  sizes = record { processors = told.sizes.processors; addresses = told.sizes.addresses; lockers = told.sizes.lockers };
   holds = ap (λ es. es ++ event p (Release l) ∷ []) told.holds;
   closed = closed_now s h b p (Release l) records told lt refl stored;
   times = times_closing s h b p (Release l) told lt refl refl;

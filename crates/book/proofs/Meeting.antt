@@ -129,6 +129,7 @@ met_notices true c u r m t at time old =
 pub told_arrive : (s : Sizes) (h : List Event) (b : State) (p : ℕ) (records : List Changes) → IsTold s h b → slice_get b.awaits p ≡ Some None → AreContents s h p (count_of is_closing h p) records → IsTold s (did h p Arrive) (book_arrived b p records)
 told_arrive s h b p records told idle stored = record {
   well_formed = well;
+  sizes = record { processors = told.sizes.processors; addresses = told.sizes.addresses; lockers = told.sizes.lockers };
   holds = ap (λ es. es ++ event p Arrive ∷ []) told.holds;
   closed = closed_now s h b p Arrive records told lt refl stored;
   times = times;

@@ -53,6 +53,7 @@ nothing i e at = none-some e at
 pub told_new : (s : Sizes) → 0 < s.processors → IsTold s [] (new_book s)
 told_new s some = record {
   well_formed = well_formed_empty s;
+  sizes = record { processors = refl; addresses = refl; lockers = refl };
   holds = refl;
   closed = record {
     count = refl;
@@ -112,9 +113,10 @@ plain_kind (Fetch n w r d) t c = record { awaits = refl; arrives = refl; departs
 plain_kind _ t c = absurd cc
 
 -- a book with another journal that holds the history
-pub told_journal : (s : Sizes) (h : List Event) (b : State) (log : Log) → HoldsHistory log h → IsTold s h b → IsTold s h (record b { journal = log })
-told_journal s h b log holds told = record {
+pub told_journal : (s : Sizes) (h : List Event) (b : State) (log : Log) → (log.processors ≡ b.journal.processors) × (log.addresses ≡ b.journal.addresses) → HoldsHistory log h → IsTold s h b → IsTold s h (record b { journal = log })
+told_journal s h b log same holds told = record {
   well_formed = told.well_formed;
+  sizes = record { processors = same.0 ∙ told.sizes.processors; addresses = same.1 ∙ told.sizes.addresses; lockers = told.sizes.lockers };
   holds = holds;
   closed = told.closed;
   times = told.times;
@@ -128,9 +130,10 @@ told_journal s h b log holds told = record {
 }
 
 -- one load, store or fetch
-told_quiet : (s : Sizes) (h : List Event) (b : State) (p : ℕ) (k : Kind) (log : Log) → IsTold s h b → slice_get b.awaits p ≡ Some None → is_taking k ≡ false → is_closing k ≡ false → KindInRange s k → HoldsHistory log (did h p k) → IsTold s (did h p k) (record b { journal = log })
-told_quiet s h b p k log told idle takes closes range holds = record {
+told_quiet : (s : Sizes) (h : List Event) (b : State) (p : ℕ) (k : Kind) (log : Log) → (log.processors ≡ b.journal.processors) × (log.addresses ≡ b.journal.addresses) → IsTold s h b → slice_get b.awaits p ≡ Some None → is_taking k ≡ false → is_closing k ≡ false → KindInRange s k → HoldsHistory log (did h p k) → IsTold s (did h p k) (record b { journal = log })
+told_quiet s h b p k log same told idle takes closes range holds = record {
   well_formed = still_formed s h b p k told may;
+  sizes = record { processors = same.0 ∙ told.sizes.processors; addresses = same.1 ∙ told.sizes.addresses; lockers = told.sizes.lockers };
   holds = holds;
   closed = closed_quiet s h p k b.closed closes told.closed;
   times = each_own s.processors (λ q t. IsStamp s.processors h (InPast h q) t) (λ q t. IsStamp s.processors (did h p k) (InPast (did h p k) q) t) b.times p told.times (λ q t isnt at is. stamp_others s.processors h p k q t isnt is) (λ t at is. stamp_quiet s.processors h p k t takes closes is);
@@ -154,18 +157,18 @@ told_quiet s h b p k log told idle takes closes range holds = record {
 
 -- p hands in a block of loads, stores and fetches
 pub told_block : (s : Sizes) (h block : List Event) (b : State) (p : ℕ) → IsTold s h b → slice_get b.awaits p ≡ Some None → ((k : ℕ) (e : Event) → At block k e → IsPlainAt s p e) → IsTold s (h ++ block) (handed_in b block)
-told_block s h block b p told idle all = told_journal s (h ++ block) (with (h ++ block)) (handed_in b block).journal (ap (λ es. es ++ block) told.holds) (push_induction (λ es. ((k : ℕ) (e : Event) → At es k e → IsPlainAt s p e) → IsTold s (h ++ es) (with (h ++ es))) start step block all)
+told_block s h block b p told idle all = told_journal s (h ++ block) (with (h ++ block)) (handed_in b block).journal (refl, refl) (ap (λ es. es ++ block) told.holds) (push_induction (λ es. ((k : ℕ) (e : Event) → At es k e → IsPlainAt s p e) → IsTold s (h ++ es) (with (h ++ es))) start step block all)
   where
     with : List Event → State
     with es = record b { journal = record b.journal { events = es } }
 
     start : ((k : ℕ) (e : Event) → At [] k e → IsPlainAt s p e) → IsTold s (h ++ []) (with (h ++ []))
-    start plain = rw append-nil (told_journal s h b (record b.journal { events = h }) refl told)
+    start plain = rw append-nil (told_journal s h b (record b.journal { events = h }) (refl, refl) refl told)
 
     pushed : (es : List Event) (e : Event) → IsPlainAt s p e → IsTold s es (with es) → IsTold s (es ++ e ∷ []) (with (es ++ e ∷ []))
     pushed es e x now =
         let same : event p e.kind ≡ e = ap (λ q. event q e.kind) (sym x.mine) in
-        subst (λ f. IsTold s (es ++ f ∷ []) (with (es ++ f ∷ []))) same (told_quiet s es (with es) p e.kind (record b.journal { events = did es p e.kind }) now idle x.takes x.closes x.in_range refl)
+        subst (λ f. IsTold s (es ++ f ∷ []) (with (es ++ f ∷ []))) same (told_quiet s es (with es) p e.kind (record b.journal { events = did es p e.kind }) (refl, refl) now idle x.takes x.closes x.in_range refl)
 
     step : (es : List Event) (e : Event) → (((k : ℕ) (f : Event) → At es k f → IsPlainAt s p f) → IsTold s (h ++ es) (with (h ++ es))) → ((k : ℕ) (f : Event) → At (es ++ e ∷ []) k f → IsPlainAt s p f) → IsTold s (h ++ (es ++ e ∷ [])) (with (h ++ (es ++ e ∷ [])))
     step es e ih plain = rw append_assoc at (pushed (h ++ es) e (plain (length es) e (at_last es e)) (ih (λ k f at. plain k f (at_longer es (e ∷ []) k f at))))
@@ -174,6 +177,7 @@ told_block s h block b p told idle all = told_journal s (h ++ block) (with (h ++
 trimmed_once : (s : Sizes) (h : List Event) (b : State) (c : Closings) (owner to : ℕ) → ((p : ℕ) (t : List ℕ) → slice_get b.times p ≡ Some t → to ≤ slice_index t owner) → owner < s.processors → IsTold s h (record b { closed = c }) → IsTold s h (record b { closed = trimmed c owner to })
 trimmed_once s h b c owner to covered lt told = record {
   well_formed = told.well_formed;
+  sizes = record { processors = told.sizes.processors; addresses = told.sizes.addresses; lockers = told.sizes.lockers };
   holds = told.holds;
   closed = closed_trimmed s h c owner to lt told.closed;
   times = told.times;

@@ -83,6 +83,7 @@ takes_posted _ posted = absurd posted
 pub told_take : (s : Sizes) (h : List Event) (b : State) (p : ℕ) (k : Kind) (m : Letter) → IsTold s h b → slice_get b.awaits p ≡ Some (Some k) → slice_get b.transit p ≡ Some (Some m) → IsTold s (did h p k) (book_took b p k m)
 told_take s h b p k m told waits mail = record {
   well_formed = still_formed s h b p k told may;
+  sizes = record { processors = told.sizes.processors; addresses = told.sizes.addresses; lockers = told.sizes.lockers };
   holds = ap (λ es. es ++ event p k ∷ []) told.holds;
   closed = closed_quiet s h p k b.closed kind.closes told.closed;
   times = times_taking s h b p k m.time told lt kind.closes lets.2;

@@ -9,3 +9,5 @@ pub mod State
 pub mod Transitions
 pub mod Told
 pub mod Laws
+pub mod Holding
+pub mod Calls
