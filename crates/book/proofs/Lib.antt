@@ -14,3 +14,4 @@ pub mod Taking
 pub mod Starting
 pub mod Whole
 pub mod Calling
+pub mod Asking
