@@ -15,3 +15,4 @@ pub mod Starting
 pub mod Whole
 pub mod Calling
 pub mod Asking
+pub mod Watching

@@ -1,5 +1,5 @@
 -- The closed intervals under one more event, and under trimming.
-use Rattle.std.proofs.Common.{◌≡◌, ◌≢◌, ℕ, zero, suc, ◌+◌, ◌<◌, ◌≤◌, min, max, ◌⊎◌, inl, inr, List, [], ◌∷◌, ◌++◌, length, take, filter, Bool, cond, not, true, false, Option, Some, None, IsTrue, slice_get, slice_set, slice_index, slice_index_or, count_by, subst, sym, refl, ap, ◌∙◌, arith, append-nil}
+use Rattle.std.proofs.Common.{◌≡◌, ◌≢◌, ℕ, zero, suc, ◌+◌, ◌<◌, ◌≤◌, min, max, ◌⊎◌, inl, inr, List, [], ◌∷◌, ◌++◌, length, take, filter, Bool, cond, not, true, false, Option, Some, None, IsTrue, slice_get, slice_set, slice_index, slice_index_or, count_by, fold, subst, sym, refl, ap, ◌∙◌, arith, append-nil}
 use Rattle.std.specs.List.{flat_map}
 use Rattle.std.proofs.lemmas.Bool.{cases_eq, cases_lt, cases_Bool, ne_eqb, not_from_false, eq-eqb, eqb-true, and_from, and_parts, and_left, and_right, not_from_true, not-true, false_from_ne_true, ltb-true, lt-ltb, le-ltb, leb-true, le-leb, lt-leb, true≢false}
 use Rattle.std.proofs.lemmas.Option.{none-some, same_Some, slice_get_within, get_or_from_slice_get}
@@ -26,7 +26,7 @@ use Rattle.interval.specs.Intervals.{ClosedInterval, SentRecord}
 use Rattle.interval.specs.Closings.{Closings, pushed, trimmed, is_trimmed, is_news, between, sent_interval}
 use Rattle.book.specs.Events.{event, did}
 use Rattle.book.specs.ClosedIntervals.{closings_of, IsKept, AreContents, AreClosed, IsWithin}
-use Rattle.book.specs.Transitions.{least, trimmed_by}
+use Rattle.book.specs.Transitions.{lesser, least, trimmed_by}
 use Rattle.book.proofs.Doings.{count_did, count_others, count_kept}
 
 -- one more event, which closes an interval or doesn't
@@ -284,10 +284,20 @@ within_trimmed c owner to times covered lt within p q t at = elim (cases_eq q ow
     omega arith)
 ]
 
+lesser_le : (times : List (List ℕ)) (q n : ℕ) → fold (lesser q) n times ≤ n
+lesser_le [] q n = omega arith
+lesser_le (t ∷ ts) q n = let rest = lesser_le ts q (lesser q n t) in omega arith
+
+lesser_each : (times : List (List ℕ)) (q n p : ℕ) (t : List ℕ) → slice_get times p ≡ Some t → fold (lesser q) n times ≤ slice_index t q
+lesser_each [] q n p t at = absurd (none-some t at)
+lesser_each (u ∷ ts) q n zero t at = let rest = lesser_le ts q (lesser q n u) in subst (λ v. fold (lesser q) (lesser q n u) ts ≤ slice_index v q) (same_Some u t at) (omega arith)
+lesser_each (u ∷ ts) q n (suc p) t at = lesser_each ts q (lesser q n u) p t at
+
 -- the least entry is one that each covers
 pub least_le : (times : List (List ℕ)) (q p : ℕ) (t : List ℕ) → slice_get times p ≡ Some t → least times q ≤ slice_index t q
-least_le [] q p t at = absurd (none-some t at)
-least_le (u ∷ []) q zero t at = let is = same_Some u t at in subst (λ v. slice_index u q ≤ slice_index v q) is (omega arith)
-least_le (u ∷ []) q (suc p) t at = absurd (none-some t at)
-least_le (u ∷ v ∷ ts) q zero t at = let is = same_Some u t at in subst (λ w. min (slice_index u q) (least (v ∷ ts) q) ≤ slice_index w q) is (omega arith)
-least_le (u ∷ v ∷ ts) q (suc p) t at = let rest = least_le (v ∷ ts) q p t at in omega arith
+least_le times q p t at = lesser_each times q (slice_index (slice_index_or times 0 []) q) p t at
+
+-- trims keep the number of owners
+pub length-trimmed_by : (c : Closings) (times : List (List ℕ)) (n : ℕ) → length (trimmed_by c times n).first ≡ length c.first
+length-trimmed_by c times zero = refl
+length-trimmed_by c times (suc n) = let old = trimmed_by c times n in length-set old.first n (max (slice_index old.first n) (min (least times n) (slice_index old.next n))) ∙ length-trimmed_by c times n

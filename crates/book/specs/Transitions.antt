@@ -1,5 +1,5 @@
 -- The transitions of the book, as functions of its value.
-use Rattle.std.specs.Prelude.{ℕ, zero, suc, ◌+◌, ◌-◌, ◌*◌, max, min, Bool, true, false, Option, Some, None, List, [], ◌∷◌, ◌++◌, length, map, slice_index, slice_index_or, slice_set, replicate}
+use Rattle.std.specs.Prelude.{ℕ, zero, suc, ◌+◌, ◌-◌, ◌*◌, max, min, Bool, true, false, Option, Some, None, List, [], ◌∷◌, ◌++◌, length, map, slice_index, slice_index_or, slice_set, replicate, fold}
 use Rattle.journal.specs.declared.event.Event.{Event}
 use Rattle.journal.specs.declared.event.Kind.{Kind}
 use Rattle.journal.specs.declared.event.Kind.TheVariants.{Ask, Release, Arrive, Depart, Set, Watch, Await}
@@ -129,11 +129,13 @@ book_took b p k m = record (taken b p k m.time) { transit = slice_set b.transit 
 abbrev pub book_signalled : State → ℕ → ℕ → List ℕ → State
 book_signalled b p f t = taken b p (Await f) t
 
+-- the lesser of a number and an entry for q
+abbrev pub lesser : ℕ → ℕ → List ℕ → ℕ
+lesser q n t = min n (slice_index t q)
+
 -- the least entry for q
 abbrev pub least : List (List ℕ) → ℕ → ℕ
-least [] q = 0
-least (t ∷ []) q = slice_index t q
-least (t ∷ u ∷ ts) q = min (slice_index t q) (least (u ∷ ts) q)
+least times q = fold (lesser q) (slice_index (slice_index_or times 0 []) q) times
 
 -- the first n owners' intervals are trimmed that all of these times cover
 abbrev pub trimmed_by : Closings → List (List ℕ) → ℕ → Closings

@@ -4,7 +4,7 @@ ghost use Rattle.std.specs.Arc.{arc_value};
 ghost use Rattle.journal.specs.Events.{is_closing};
 ghost use Rattle.journal.specs.Waits.{awaited};
 ghost use Rattle.interval.specs.Intervals.{HasRisingPages};
-ghost use Rattle.book.specs.Calls.{MayCall, MayAsk};
+ghost use Rattle.book.specs.Calls.{MayCall, MayAsk, MayTake, IsAbsent, Takes};
 ghost use Rattle.book.specs.Transitions.{new_book, handed_in, closing, due, set_at, book_watched, book_set, book_asked};
 ghost use Rattle.book.specs.State.{time_of};
 ghost use Rattle.std.specs.Option.{option_map};
@@ -16,6 +16,7 @@ ghost use Rattle.transit.specs.Letters.Kind.{grant};
 
 use crate::refused::Refused;
 use crate::room::{append_all, make_room};
+use crate::trims::trim;
 use barrier::Barrier;
 use interval::{Closed, Interval};
 use journal::{Event, Journal, Kind};
@@ -181,6 +182,31 @@ impl Book {
         let time = locks.time(l).copy();
         let notices = closed.between(&own, &time)?;
         Ok(Some(Message::Grant { time, notices }))
+    }
+
+    /// Takes the signal of a flag that `p` watches, made from the flag's time as it stands now.
+    fn take_signal(&mut self, p: usize, f: usize) -> Result<Message, Refused>
+        requires call { MayTake self.old p (Kind.Await f) }
+        ensures ok { IfOk result (λ m. Takes self.old p (Kind.Await f) (letter m) self.new) }
+        ensures err { OnErr result (self.new ≡ self.old) }
+        ensures absent { result ≡ Err Refused.NotYet ↔ IsAbsent self.old p (Kind.Await f) }
+        ensures only { IfErr result (λ e. (e ≡ Refused.NotYet) ⊎ (e ≡ Refused.JournalFull) ⊎ (e ≡ Refused.NoMemory)) }
+    {
+        let Some(time) = &self.flags[f] else {
+            return Err(Refused::NotYet);
+        };
+        let time = time.copy();
+        make_room(&mut self.journal, self.owing, 1)?;
+        let closed = &self.closed;
+        let notices = closed.between(&self.times[p], &time)?;
+        self.journal.append(Event {
+            processor: p,
+            kind: Kind::Await(f),
+        });
+        self.times[p].join(&time);
+        self.awaits[p] = None;
+        trim(&mut self.closed, &self.times);
+        Ok(Message::Signal { time, notices })
     }
 
     /// Hands in the last block of `p` at the end, past the limit. It takes no memory.

@@ -8,6 +8,7 @@ mod book;
 mod laws;
 mod refused;
 mod room;
+mod trims;
 
 pub use book::Book;
 pub use laws::{
