@@ -16,3 +16,4 @@ pub mod Whole
 pub mod Calling
 pub mod Asking
 pub mod Watching
+pub mod Receiving

@@ -1,12 +1,14 @@
 //! The book: everything that the processors share.
-ghost use Rattle.std.specs.Prelude.{◌≡◌, ℕ, ◌+◌, ◌-◌, ◌*◌, None, replicate, ◌^◌, ◌<◌, ◌≤◌, ◌++◌, ◌↔◌, ◌⊎◌, true, map, OnOk, OnErr, IfErr, IfOk, IfSome, slice_index, Err, length, slice_get, Some};
+ghost use Rattle.std.specs.Prelude.{◌≡◌, ℕ, ◌+◌, ◌-◌, ◌*◌, None, replicate, ◌^◌, ◌<◌, ◌≤◌, ◌++◌, ◌↔◌, ◌⊎◌, true, map, OnOk, OnErr, IfErr, IfOk, IfSome, slice_index, slice_index_or, Err, length, slice_get, Some};
 ghost use Rattle.std.specs.Arc.{arc_value};
+ghost use Rattle.journal.specs.declared.event.Kind.{Kind as AKind};
 ghost use Rattle.journal.specs.Events.{is_closing};
 ghost use Rattle.journal.specs.Waits.{awaited};
 ghost use Rattle.interval.specs.Intervals.{HasRisingPages};
-ghost use Rattle.book.specs.Calls.{MayCall, MayAsk, MayTake, IsAbsent, Takes};
-ghost use Rattle.book.specs.Transitions.{new_book, handed_in, closing, due, set_at, book_watched, book_set, book_asked};
+ghost use Rattle.book.specs.Calls.{MayCall, MayAsk, MayTake, MayTakeSome, IsAbsent, Takes, TakesMail};
+ghost use Rattle.book.specs.Transitions.{new_book, handed_in, closing, due, left, set_at, book_watched, book_set, book_asked};
 ghost use Rattle.book.specs.State.{time_of};
+ghost use Rattle.book.specs.Mail.{IsPosted};
 ghost use Rattle.std.specs.Option.{option_map};
 ghost use Rattle.vtime.specs.Times.{tick};
 ghost use Rattle.interval.specs.Closings.{between};
@@ -17,7 +19,7 @@ ghost use Rattle.transit.specs.Letters.Kind.{grant};
 use crate::refused::Refused;
 use crate::room::{append_all, make_room};
 use crate::trims::trim;
-use barrier::Barrier;
+use barrier::{Barrier, Stage};
 use interval::{Closed, Interval};
 use journal::{Event, Journal, Kind};
 use lockq::Locks;
@@ -184,6 +186,25 @@ impl Book {
         Ok(Some(Message::Grant { time, notices }))
     }
 
+    /// Takes what `p` waits for: its grant, its departure, or the signal of its flag, with what it is to
+    /// perform. NotYet exactly where that isn't there. Intervals that everyone has performed are dropped
+    /// then; a refused call drops none.
+    pub fn take(&mut self, p: usize) -> Result<Message, Refused>
+        requires call { MayTakeSome self.old p }
+        ensures ok { (k : AKind) → slice_get self.old.awaits p ≡ Some (Some k) → IfOk result (λ m. Takes self.old p k (letter m) self.new) }
+        ensures err { OnErr result (self.new ≡ self.old) }
+        ensures absent { (k : AKind) → slice_get self.old.awaits p ≡ Some (Some k) → result ≡ Err Refused.NotYet ↔ IsAbsent self.old p k }
+        ensures only { IfErr result (λ e. (e ≡ Refused.NotYet) ⊎ (e ≡ Refused.JournalFull) ⊎ (e ≡ Refused.NoMemory)) }
+    {
+        let Some(kind) = self.awaits[p] else {
+            unreachable!("the processor waits")
+        };
+        match kind {
+            Kind::Await(flag) => self.take_signal(p, flag),
+            _ => self.take_message(p, kind),
+        }
+    }
+
     /// Takes the signal of a flag that `p` watches, made from the flag's time as it stands now.
     fn take_signal(&mut self, p: usize, f: usize) -> Result<Message, Refused>
         requires call { MayTake self.old p (Kind.Await f) }
@@ -207,6 +228,31 @@ impl Book {
         self.awaits[p] = None;
         trim(&mut self.closed, &self.times);
         Ok(Message::Signal { time, notices })
+    }
+
+    /// Takes the grant or the departure of `p`, as it was posted.
+    fn take_message(&mut self, p: usize, kind: Kind) -> Result<Message, Refused>
+        requires call { MayTake self.old p kind }
+        requires posted { IsPosted kind }
+        ensures ok { IfOk result (λ m. TakesMail self.old p kind (letter m) self.new) }
+        ensures err { OnErr result (self.new ≡ self.old) }
+        ensures absent { result ≡ Err Refused.NotYet ↔ (slice_index_or self.old.transit p None ≡ None) }
+        ensures only { IfErr result (λ e. (e ≡ Refused.NotYet) ⊎ (e ≡ Refused.JournalFull) ⊎ (e ≡ Refused.NoMemory)) }
+    {
+        let transit = &self.transit;
+        if !transit.ready(p) {
+            return Err(Refused::NotYet);
+        }
+        make_room(&mut self.journal, self.owing, 1)?;
+        let Some(message) = self.transit.take(p) else {
+            unreachable!("the message is ready")
+        };
+        self.journal.append(Event { processor: p, kind });
+        self.times[p].join(message.time());
+        self.awaits[p] = None;
+        leave(&mut self.barrier, kind, p);
+        trim(&mut self.closed, &self.times);
+        Ok(message)
     }
 
     /// Hands in the last block of `p` at the end, past the limit. It takes no memory.
@@ -297,4 +343,15 @@ fn unset(alloc: Global, flags: usize) -> Result<Vec<Option<VTime>>, AllocError>
         all.push(None)?;
     }
     Ok(all)
+}
+
+/// The barrier's part of a take.
+fn leave(barrier: &mut Barrier, kind: Kind, p: usize)
+    requires { kind ≡ Kind.Depart → slice_get barrier.old.stages p ≡ Some Stage.Free }
+    ensures { barrier.new ≡ left kind barrier.old p }
+{
+    match kind {
+        Kind::Depart => barrier.depart(p),
+        _ => {}
+    }
 }
