@@ -104,6 +104,24 @@ impl Book {
         Ok(())
     }
 
+    /// Hands in a block as `hand_in` does, and answers a copy of the whole journal after it.
+    pub fn audit(&mut self, p: usize, block: &[Event]) -> Result<Journal, Refused>
+        requires call { MayCall self.old p block.now }
+        requires short { length block.now ≤ 256 }
+        ensures ok { OnOk result (self.new ≡ handed_in self.old block.now) }
+        ensures copy { IfOk result (λ j. j.events ≡ self.new.journal.events) }
+        ensures err { OnErr result (self.new ≡ self.old) }
+        ensures full { result ≡ Err Refused.JournalFull ↔ (2 ^ 20 < length self.old.journal.events + length block.now) }
+        ensures only { IfErr result (λ e. (e ≡ Refused.JournalFull) ⊎ (e ≡ Refused.NoMemory)) }
+    {
+        make_room(&mut self.journal, self.owing, block.len())?;
+        let mut copy = self.journal.copy()?;
+        copy.reserve(block.len())?;
+        append_all(&mut self.journal, block);
+        append_all(&mut copy, block);
+        Ok(copy)
+    }
+
     /// Watches a flag: closes the interval, whose records these are, and from then on `p` waits for the
     /// flag. Otherwise as `hand_in`, with one event more.
     pub fn watch(&mut self, p: usize, f: usize, block: &[Event], records: Vec<Arc<Record>>) -> Result<(), Refused>
