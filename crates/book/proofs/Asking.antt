@@ -1,21 +1,18 @@
 -- What a set and an ask rest on, and what they make, read off the book.
-use Rattle.std.proofs.Common.{◌≡◌, ℕ, zero, suc, ◌+◌, ◌<◌, ◌≤◌, List, [], ◌∷◌, ◌++◌, length, Option, Some, None, IfSome, slice_get, slice_set, slice_index, slice_index_or, subst, sym, refl, ap, ◌∙◌, arith}
-use Rattle.std.proofs.lemmas.Option.{slice_get-get_or, get_or_from_slice_get, same_Some, none-some, slice_get_within}
+use Rattle.std.proofs.Common.{◌≡◌, ℕ, zero, suc, ◌+◌, ◌<◌, ◌≤◌, List, [], ◌∷◌, length, Option, Some, None, IfSome, slice_get, slice_set, slice_index, slice_index_or, subst, sym, refl, ap, ◌∙◌, arith}
+use Rattle.std.proofs.lemmas.Option.{slice_get-get_or, same_Some}
 use Rattle.std.proofs.lemmas.List.{length-set, get_or-set_same}
 use Rattle.journal.specs.declared.event.Event.{Event}
 use Rattle.journal.specs.declared.event.Kind.{Kind}
 use Rattle.journal.specs.declared.event.Kind.TheVariants.{Ask, Set}
 use Rattle.lists.specs.Places.{Has}
-use Rattle.lists.proofs.Sets.{slice_get-set_same}
-use Rattle.journal.specs.Sizes.{Sizes}
 use Rattle.page.specs.Changes.{Changes}
 use Rattle.vtime.specs.Times.{tick}
 use Rattle.interval.specs.Intervals.{SentRecord}
-use Rattle.interval.specs.Closings.{Closings, pushed, between}
-use Rattle.lockq.specs.Lock.{Lock, Locks, unheld, lock_at, with_lock, line, asked}
+use Rattle.interval.specs.Closings.{pushed, between}
+use Rattle.lockq.specs.Lock.{Locks, unheld, lock_at, with_lock, line, asked}
 use Rattle.transit.specs.Letters.{Letter}
 use Rattle.transit.specs.Letters.Kind.{grant}
-use Rattle.book.specs.Stamps.{IsStamp}
 use Rattle.book.specs.Lines.{IsLock}
 use Rattle.book.specs.Flags.{IsFlag}
 use Rattle.book.specs.State.{State, time_of}
@@ -26,7 +23,7 @@ use Rattle.book.proofs.Posted.{idle_mail}
 use Rattle.book.proofs.Lined.{idle_no_ask, not_in_line}
 use Rattle.book.proofs.Trimmed.{between_pushed}
 use Rattle.book.proofs.Told.{is_idle, is_processor, own_stamp, own_number}
-use Rattle.book.proofs.Calling.{IsStanding, standing, same_default}
+use Rattle.book.proofs.Calling.{standing, same_default}
 
 -- p's timestamp after its closing event
 own_ticked : (b : State) (p : ℕ) → p < length b.times → slice_index_or (slice_set b.times p (tick (time_of b p) p)) p [] ≡ tick (time_of b p) p
@@ -43,7 +40,7 @@ flag_long n h f None t is long = tt
 flag_long n h f (Some u) t is long = is.1.long ∙ sym long
 
 pub set_read : (old b : State) (p f : ℕ) (k : Kind) (block : List Event) (records : List Changes) (o : Option (List ℕ)) (t : List ℕ) → MayCall old p block → f < length old.flags → b ≡ closing (handed_in old block) p k records
-  → o ≡ slice_index_or b.flags f o → t ≡ slice_index_or b.times p t → IsSetRead old p f o t
+    → o ≡ slice_index_or b.flags f o → t ≡ slice_index_or b.times p t → IsSetRead old p f o t
 set_read old b p f k block records o t (s, h, told, may) range is flag time =
     let st = standing old p block (s, h, told, may) in
     let now : o ≡ slice_index_or old.flags f None = flag ∙ ap (λ (x : State). slice_index_or x.flags f o) is ∙ same_default old.flags f o None range in
@@ -58,7 +55,7 @@ set_read old b p f k block records o t (s, h, told, may) range is flag time =
     }
 
 pub set_is : (old b : State) (p f : ℕ) (block : List Event) (records : List Changes) (o : Option (List ℕ)) (t r : List ℕ) → b ≡ closing (handed_in old block) p (Set f) records → IsSetRead old p f o t → r ≡ set_at o t
-  → record b { flags = slice_set b.flags f (Some r) } ≡ book_set (handed_in old block) p f records
+    → record b { flags = slice_set b.flags f (Some r) } ≡ book_set (handed_in old block) p f records
 set_is old b p f block records o t r is read made =
     let value : r ≡ set_at (slice_index_or old.flags f None) (tick (time_of old p) p) = made ∙ ap (λ (x : Option (List ℕ)). set_at x t) read.flag ∙ ap (λ (x : List ℕ). set_at (slice_index_or old.flags f None) x) read.time in
     ap (λ (x : State). record x { flags = slice_set x.flags f (Some r) }) is ∙ ap (λ (x : List ℕ). record (closing (handed_in old block) p (Set f) records) { flags = slice_set old.flags f (Some x) }) value
@@ -103,7 +100,7 @@ asking b p l block (s, h, told, may, range, free) =
 
 -- the grant that is made before the interval is pushed is the one that would be made after
 grant_same : (b : State) (p l : ℕ) (block : List Event) (records : List Changes) → p < length b.times → IsAsking b p l
-  → record { kind = grant; time = (lock_at b.locks l).time; notices = between b.closed (tick (time_of b p) p) (lock_at b.locks l).time } ≡ granted (closing (handed_in b block) p (Ask l) records) p (lock_at b.locks l).time
+    → record { kind = grant; time = (lock_at b.locks l).time; notices = between b.closed (tick (time_of b p) p) (lock_at b.locks l).time } ≡ granted (closing (handed_in b block) p (Ask l) records) p (lock_at b.locks l).time
 grant_same b p l block records lt is =
     let time = own_ticked b p lt in
     let news = between_pushed b.closed (open_interval b p records) (tick (time_of b p) p) (lock_at b.locks l).time is.older in
@@ -116,8 +113,8 @@ set_back {A} (x ∷ xs) zero v at = ap (λ (y : A). y ∷ xs) (sym (same_Some x 
 set_back {A} (x ∷ xs) (suc i) v at = ap (λ (ys : List A). x ∷ ys) (set_back xs i v at)
 
 asked_is : (old b : State) (p l : ℕ) (block : List Event) (records : List Changes) (locks : Locks) (transit : List (Option Letter)) → b ≡ closing (handed_in old block) p (Ask l) records → locks ≡ with_lock b.locks l (asked (lock_at b.locks l) p)
-  → transit ≡ slice_set old.transit p (due (lock_at old.locks l).holder (granted (closing (handed_in old block) p (Ask l) records) p (lock_at old.locks l).time))
-  → record b { locks = locks; transit = transit } ≡ book_asked (handed_in old block) p l records
+    → transit ≡ slice_set old.transit p (due (lock_at old.locks l).holder (granted (closing (handed_in old block) p (Ask l) records) p (lock_at old.locks l).time))
+    → record b { locks = locks; transit = transit } ≡ book_asked (handed_in old block) p l records
 asked_is old b p l block records locks transit is line mail =
     ap (λ (x : State). record x { locks = locks; transit = transit }) is
     ∙ ap (λ (x : Locks). record (closing (handed_in old block) p (Ask l) records) { locks = x; transit = transit }) (line ∙ ap (λ (x : State). with_lock x.locks l (asked (lock_at x.locks l) p)) is)
@@ -125,9 +122,9 @@ asked_is old b p l block records locks transit is line mail =
 
 -- an ask whose grant is posted
 pub asked_granted : (old b : State) (p l : ℕ) (block : List Event) (records : List Changes) (locks : Locks) (transit : List (Option Letter)) (m : Letter) → MayAsk old p l block → b ≡ closing (handed_in old block) p (Ask l) records
-  → locks ≡ with_lock b.locks l (asked (lock_at b.locks l) p) → transit ≡ slice_set b.transit p (Some m)
-  → Some m ≡ due (lock_at old.locks l).holder (record { kind = grant; time = (lock_at old.locks l).time; notices = between old.closed (tick (time_of old p) p) (lock_at old.locks l).time })
-  → record b { locks = locks; transit = transit } ≡ book_asked (handed_in old block) p l records
+    → locks ≡ with_lock b.locks l (asked (lock_at b.locks l) p) → transit ≡ slice_set b.transit p (Some m)
+    → Some m ≡ due (lock_at old.locks l).holder (record { kind = grant; time = (lock_at old.locks l).time; notices = between old.closed (tick (time_of old p) p) (lock_at old.locks l).time })
+    → record b { locks = locks; transit = transit } ≡ book_asked (handed_in old block) p l records
 asked_granted old b p l block records locks transit m may is line post made =
     let asks = asking old p l block may in
     let st = standing old p block (may.0, may.1, may.2, may.3) in
@@ -136,12 +133,12 @@ asked_granted old b p l block records locks transit m may is line post made =
 
 -- an ask that has to wait
 pub asked_waits : (old b : State) (p l : ℕ) (block : List Event) (records : List Changes) (locks : Locks) → MayAsk old p l block → b ≡ closing (handed_in old block) p (Ask l) records
-  → locks ≡ with_lock b.locks l (asked (lock_at b.locks l) p)
-  → None ≡ due (lock_at old.locks l).holder (record { kind = grant; time = (lock_at old.locks l).time; notices = between old.closed (tick (time_of old p) p) (lock_at old.locks l).time })
-  → record b { locks = locks } ≡ book_asked (handed_in old block) p l records
+    → locks ≡ with_lock b.locks l (asked (lock_at b.locks l) p)
+    → None ≡ due (lock_at old.locks l).holder (record { kind = grant; time = (lock_at old.locks l).time; notices = between old.closed (tick (time_of old p) p) (lock_at old.locks l).time })
+    → record b { locks = locks } ≡ book_asked (handed_in old block) p l records
 asked_waits old b p l block records locks may is line made =
     let asks = asking old p l block may in
     let st = standing old p block (may.0, may.1, may.2, may.3) in
     let mail : b.transit ≡ slice_set old.transit p (due (lock_at old.locks l).holder (granted (closing (handed_in old block) p (Ask l) records) p (lock_at old.locks l).time)) =
-        ap (λ (x : State). x.transit) is ∙ sym (set_back old.transit p None asks.none) ∙ ap (λ (x : Option Letter). slice_set old.transit p x) (made ∙ ap (λ (x : Letter). due (lock_at old.locks l).holder x) (grant_same old p l block records st.times asks)) in
+    ap (λ (x : State). x.transit) is ∙ sym (set_back old.transit p None asks.none) ∙ ap (λ (x : Option Letter). slice_set old.transit p x) (made ∙ ap (λ (x : Letter). due (lock_at old.locks l).holder x) (grant_same old p l block records st.times asks)) in
     asked_is old b p l block records locks b.transit is line mail

@@ -1,5 +1,5 @@
 -- What the calls of an idle processor rest on, read off the book.
-use Rattle.std.proofs.Common.{◌≡◌, ℕ, ◌-◌, ◌<◌, ◌≤◌, List, [], ◌∷◌, ◌++◌, slice_set, length, Option, Some, None, slice_get, slice_index, slice_index_or, count_by, ◌==◌, ◌&&◌, true, subst, sym, refl, ap, ◌∙◌, arith}
+use Rattle.std.proofs.Common.{◌≡◌, ℕ, ◌-◌, ◌<◌, ◌≤◌, List, [], ◌∷◌, ◌++◌, slice_set, length, Option, Some, None, slice_get, slice_index, slice_index_or, ◌==◌, ◌&&◌, true, subst, sym, ap, ◌∙◌, arith}
 use Rattle.std.proofs.lemmas.Option.{slice_get-get_or, get_or_from_slice_get}
 use Rattle.std.proofs.lemmas.List.Sums.{count_by-le-length}
 use Rattle.journal.specs.declared.event.Event.{Event}
@@ -17,8 +17,6 @@ use Rattle.interval.specs.Closings.{Closings, pushed}
 use Rattle.book.specs.Events.{event}
 use Rattle.book.specs.Transitions.{handed_in, open_interval, closing}
 use Rattle.book.specs.State.{State, time_of}
-use Rattle.book.specs.Told.{IsTold}
-use Rattle.book.specs.Laws.{MayHandIn}
 use Rattle.book.specs.Calls.{MayCall}
 use Rattle.book.proofs.Told.{is_processor, own_stamp, own_number}
 
@@ -92,14 +90,14 @@ same_default xs i d e lt = get_or_from_slice_get xs i (slice_index_or xs i e) d 
 
 -- the journal after a block and an event
 pub logs_are : (a b c d : Log) (owing : ℕ) (block : List Event) (e : Event) → b ≡ record a { room = b.room } → c ≡ record b { events = b.events ++ block; room = b.room - length block } → d ≡ record c { events = c.events ++ e ∷ []; room = c.room - 1 }
-  → record d { room = owing } ≡ record a { events = (a.events ++ block) ++ e ∷ []; room = owing }
+    → record d { room = owing } ≡ record a { events = (a.events ++ block) ++ e ∷ []; room = owing }
 logs_are a b c d owing block e first second third =
     ap (λ (l : Log). record l { room = owing }) third ∙ ap (λ (l : Log). record l { events = l.events ++ e ∷ []; room = owing }) second ∙ ap (λ (l : Log). record l { events = (l.events ++ block) ++ e ∷ []; room = owing }) first
 
 -- the book after a block and an event that closes an interval, part by part
 pub closing_is : (b : State) (p : ℕ) (k : Kind) (block : List Event) (records : List Changes) (log : Log) (c : Closings) (t : List ℕ) (w : Option Kind)
-  → log ≡ record b.journal { events = (b.journal.events ++ block) ++ event p k ∷ [] } → c ≡ pushed b.closed (open_interval b p records) → t ≡ tick (time_of b p) p → w ≡ awaited k
-  → record b { journal = log; closed = c; times = slice_set b.times p t; awaits = slice_set b.awaits p w } ≡ closing (handed_in b block) p k records
+    → log ≡ record b.journal { events = (b.journal.events ++ block) ++ event p k ∷ [] } → c ≡ pushed b.closed (open_interval b p records) → t ≡ tick (time_of b p) p → w ≡ awaited k
+    → record b { journal = log; closed = c; times = slice_set b.times p t; awaits = slice_set b.awaits p w } ≡ closing (handed_in b block) p k records
 closing_is b p k block records log c t w one two three four =
     ap (λ (l : Log). record b { journal = l; closed = c; times = slice_set b.times p t; awaits = slice_set b.awaits p w }) one
     ∙ ap (λ (x : Closings). record b { journal = record b.journal { events = (b.journal.events ++ block) ++ event p k ∷ [] }; closed = x; times = slice_set b.times p t; awaits = slice_set b.awaits p w }) two

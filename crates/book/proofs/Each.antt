@@ -1,8 +1,8 @@
 -- Lists of which one item changes, or none.
-use Rattle.std.proofs.Common.{◌≡◌, ◌≢◌, ℕ, ◌<◌, inl, inr, List, length, replicate, Some, slice_get, slice_set, slice_index_or, subst, sym, refl, ap, ◌∙◌}
+use Rattle.std.proofs.Common.{◌≡◌, ◌≢◌, ℕ, ◌<◌, inl, inr, List, replicate, Some, slice_get, slice_set, slice_index_or, subst, sym, ◌∙◌}
 use Rattle.std.proofs.lemmas.Bool.{cases_eq}
 use Rattle.std.proofs.lemmas.List.{length-set, length-replicate}
-use Rattle.std.proofs.lemmas.Option.{slice_get_within, slice_get-get_or}
+use Rattle.std.proofs.lemmas.Option.{slice_get-get_or}
 use Rattle.lists.proofs.Sets.{slice_get-set_found, slice_get-set_other, slice_get-replicate_found}
 use Rattle.book.specs.Stamps.{AreAll}
 

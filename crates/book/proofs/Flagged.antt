@@ -1,5 +1,5 @@
 -- Flags under one more event.
-use Rattle.std.proofs.Common.{◌≡◌, ◌≢◌, ℕ, max, ◌⊎◌, inl, inr, List, [], ◌∷◌, ◌++◌, length, Option, Some, None, slice_index, subst, sym, refl, ap, ◌∙◌, arith}
+use Rattle.std.proofs.Common.{◌≢◌, ℕ, max, List, [], ◌∷◌, length, Option, Some, None, slice_index}
 use Rattle.std.proofs.Math.Nat.{zero-max}
 use Rattle.journal.specs.declared.event.Event.{Event}
 use Rattle.journal.specs.declared.event.Kind.{Kind}
@@ -29,7 +29,7 @@ pub flag_set : (n : ℕ) (h : List Event) (p f : ℕ) (o : Option (List ℕ)) (t
 flag_set n h p f None t none x = (
   (length h, (p, at_last h (event p (Set f)))),
   stamp_equal n (did h p (Set f)) (UpToSome (did h p (Set f)) (SomeDoes (did h p (Set f)) (Set f))) t (λ q. max 0 (slice_index t q)) x.long (λ q. zero-max (slice_index t q))
-    (kind_joins h (event p (Set f)) (λ _. 0) (slice_index t) (time_none h (UpToSome h (SomeDoes h (Set f))) (λ i some. none some.0 some.1)) x.is),
+      (kind_joins h (event p (Set f)) (λ _. 0) (slice_index t) (time_none h (UpToSome h (SomeDoes h (Set f))) (λ i some. none some.0 some.1)) x.is),
 )
 flag_set n h p f (Some u) t old x = (
   (length h, (p, at_last h (event p (Set f)))),

@@ -1,5 +1,5 @@
 -- Sets, watches and awaits: what the book is told by the history before, it is told by the history with the event after.
-use Rattle.std.proofs.Common.{◌≡◌, ◌≢◌, ℕ, ◌<◌, ◌⊎◌, inl, inr, ◌↔◌, List, [], ◌∷◌, ◌++◌, Bool, true, false, Option, Some, None, slice_get, slice_set, slice_index_or, subst, sym, refl, ap, ◌∙◌}
+use Rattle.std.proofs.Common.{◌≡◌, ◌≢◌, ℕ, ◌<◌, ◌↔◌, List, [], ◌∷◌, ◌++◌, true, false, Option, Some, None, slice_get, slice_set, slice_index_or, subst, sym, refl, ap, ◌∙◌}
 use Rattle.std.proofs.lemmas.Option.{same_Some, none-some}
 use Rattle.journal.specs.declared.event.Event.{Event}
 use Rattle.journal.specs.declared.event.Kind.{Kind}
@@ -9,7 +9,7 @@ use Rattle.journal.specs.Events.{count_of, is_arrive, is_depart, is_closing, is_
 use Rattle.journal.specs.WellFormed.{LastIs, Allowed, MayFollow, Ready}
 use Rattle.journal.specs.Waits.{awaited, IsIdle}
 use Rattle.journal.proofs.Steps.{last_unique}
-use Rattle.journal.proofs.Ready.{WaitsFor, waits_for, taking_follows}
+use Rattle.journal.proofs.Ready.{waits_for, taking_follows}
 use Rattle.page.specs.Changes.{Changes}
 use Rattle.lists.proofs.Sets.{slice_get-set_other}
 use Rattle.vtime.specs.Times.{tick, join}
@@ -45,7 +45,7 @@ record IsPlainClosing (k : Kind) : Type 0 where
   arrive : k ≢ Arrive
 
 told_closing : (s : Sizes) (h : List Event) (b : State) (p : ℕ) (k : Kind) (records : List Changes) (flags : List (Option (List ℕ))) → IsTold s h b → slice_get b.awaits p ≡ Some None → MayFollow s h (event p k) → IsPlainClosing k
-  → AreAll s.flags (IsFlag s.processors (did h p k)) flags → AreContents s h p (count_of is_closing h p) records → IsTold s (did h p k) (record (closing b p k records) { flags = flags })
+    → AreAll s.flags (IsFlag s.processors (did h p k)) flags → AreContents s h p (count_of is_closing h p) records → IsTold s (did h p k) (record (closing b p k records) { flags = flags })
 told_closing s h b p k records flags told idle may plain all stored = record {
   well_formed = still_formed s h b p k told may;
   sizes = record { processors = told.sizes.processors; addresses = told.sizes.addresses; lockers = told.sizes.lockers };
@@ -75,9 +75,9 @@ pub told_set : (s : Sizes) (h : List Event) (b : State) (p f : ℕ) (records : L
 told_set s h b p f records told range idle stored = told_closing s h b p (Set f) records (slice_set b.flags f (Some (set_at (slice_index_or b.flags f None) (tick (time_of b p) p)))) told idle (follows s h b p (Set f) told idle range tt)
     (record { takes = refl; closes = refl; arrives = refl; departs = refl; ask = λ l e. absurd cc; acquire = λ l e. absurd cc; release = λ l e. absurd cc; arrive = λ e. absurd cc })
     (each_set s.flags (IsFlag s.processors h) (IsFlag s.processors (did h p (Set f))) b.flags f (Some (set_at (slice_index_or b.flags f None) (tick (time_of b p) p))) told.flags
-      (λ g o isnt at is. flag_kept s.processors h p (Set f) g o (λ e. isnt (cc e)) is)
-      (flag_set s.processors h p f (slice_index_or b.flags f None) (tick (time_of b p) p) (is_at s.flags (IsFlag s.processors h) b.flags f None told.flags range)
-        (let lt = is_processor s h b p None told idle in stamp_closing s.processors h p (Set f) (time_of b p) lt refl refl (own_stamp s h b p told lt))))
+    (λ g o isnt at is. flag_kept s.processors h p (Set f) g o (λ e. isnt (cc e)) is)
+    (flag_set s.processors h p f (slice_index_or b.flags f None) (tick (time_of b p) p) (is_at s.flags (IsFlag s.processors h) b.flags f None told.flags range)
+    (let lt = is_processor s h b p None told idle in stamp_closing s.processors h p (Set f) (time_of b p) lt refl refl (own_stamp s h b p told lt))))
     stored
 
 -- p watches a flag

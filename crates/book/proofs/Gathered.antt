@@ -1,7 +1,7 @@
 -- The barrier under one more event.
-use Rattle.std.proofs.Common.{◌≡◌, ◌≢◌, ℕ, zero, suc, ◌+◌, ◌<◌, ◌≤◌, max, ◌⊎◌, inl, inr, List, [], ◌∷◌, ◌++◌, length, replicate, Bool, cond, true, false, Option, Some, None, slice_get, slice_set, slice_index, slice_index_or, subst, sym, refl, ap, ◌∙◌, arith}
+use Rattle.std.proofs.Common.{◌≡◌, ◌≢◌, ℕ, zero, suc, ◌+◌, ◌<◌, ◌≤◌, ◌⊎◌, inl, inr, List, [], ◌∷◌, length, replicate, true, false, Some, slice_get, slice_set, slice_index, slice_index_or, subst, sym, refl, ap, ◌∙◌, arith}
 use Rattle.std.specs.List.{list_all}
-use Rattle.std.proofs.lemmas.Bool.{cases_eq, true≢false}
+use Rattle.std.proofs.lemmas.Bool.{true≢false}
 use Rattle.std.proofs.lemmas.Option.{none-some, slice_get_within, same_Some}
 use Rattle.std.proofs.lemmas.List.{length-replicate}
 use Rattle.journal.specs.declared.event.Event.{Event}
@@ -9,25 +9,24 @@ use Rattle.journal.specs.declared.event.Kind.{Kind}
 use Rattle.journal.specs.declared.event.Kind.TheVariants.{Arrive, Depart}
 use Rattle.journal.specs.Sizes.{Sizes}
 use Rattle.journal.specs.Events.{At, count_of, is_arrive, is_depart}
-use Rattle.journal.specs.WellFormed.{LastIs, AllArrived, Allowed, MayFollow, WellFormed}
+use Rattle.journal.specs.WellFormed.{LastIs, Allowed, WellFormed}
 use Rattle.journal.specs.Waits.{IsIdle}
 use Rattle.journal.specs.Pasts.{InPast, UpToSome}
-use Rattle.journal.specs.Times.{IsTimeIn}
-use Rattle.journal.specs.Brings.{Brings, ArrivesAt, SomeArrives}
+use Rattle.journal.specs.Brings.{Brings, SomeArrives}
 use Rattle.lists.proofs.Sets.{slice_get-replicate_found}
 use Rattle.journal.proofs.Places.{count_of-within}
-use Rattle.journal.proofs.Kept.{arrivals_kept, arrivals_others, arrival_joins}
+use Rattle.journal.proofs.Kept.{arrivals_kept, arrival_joins}
 use Rattle.journal.proofs.Steps.{last_or_none, last_unique}
 use Rattle.journal.proofs.Balance.{balanced}
 use Rattle.vtime.specs.Times.{join}
-use Rattle.barrier.specs.Episodes.{Episodes, is_here, is_full, joined, completed, arrived, departed}
+use Rattle.barrier.specs.Episodes.{Episodes, is_here, is_full, joined, completed, departed}
 use Rattle.barrier.specs.declared.episodes.Stage.{Stage}
 use Rattle.barrier.specs.declared.episodes.Stage.TheVariants.{Away, Here, Free}
 use Rattle.book.specs.Events.{event, did}
 use Rattle.book.specs.Stamps.{AreAll, IsStamp}
 use Rattle.book.specs.Meetings.{IsAtStage, IsBarrier}
 use Rattle.book.proofs.Each.{each_set, each_kept, item_at, is_at}
-use Rattle.book.proofs.Doings.{away, count_did, count_others, count_kept}
+use Rattle.book.proofs.Doings.{count_did, count_others, count_kept}
 use Rattle.book.proofs.Stamped.{stamp_none, stamp_join}
 use Rattle.book.proofs.Posted.{other_kind}
 
@@ -145,13 +144,13 @@ arrived_stages s h p b well idle lt x = (here.0, each_set s.processors (IsAtStag
 
 -- the open episode gathers the arrival
 pub arrival_gathered : (s : Sizes) (h : List Event) (p n : ℕ) (t u : List ℕ) → count_of is_arrive h p ≡ n → IsStamp s.processors h (UpToSome h (SomeArrives h n)) t → IsStamp s.processors (did h p Arrive) (InPast (did h p Arrive) p) u
-  → IsStamp s.processors (did h p Arrive) (UpToSome (did h p Arrive) (SomeArrives (did h p Arrive) n)) (join t u)
+    → IsStamp s.processors (did h p Arrive) (UpToSome (did h p Arrive) (SomeArrives (did h p Arrive) n)) (join t u)
 arrival_gathered s h p n t u is x y = subst (λ m. IsStamp s.processors h (UpToSome h (SomeArrives h m)) t → IsStamp s.processors (did h p Arrive) (UpToSome (did h p Arrive) (SomeArrives (did h p Arrive) m)) (join t u)) is
     (λ z. stamp_join s.processors (did h p Arrive) (UpToSome (did h p Arrive) (SomeArrives (did h p Arrive) (count_of is_arrive h p))) t u z.long y.long (arrival_joins h (event p Arrive) (slice_index t) (slice_index u) refl z.is y.is)) x
 
 -- when not all are here, the episode stays open
 pub barrier_waits : (s : Sizes) (h : List Event) (p : ℕ) (b : Episodes) (u : List ℕ) → WellFormed s h → IsIdle h p → p < s.processors → IsBarrier s h b → IsStamp s.processors (did h p Arrive) (InPast (did h p Arrive) p) u
-  → is_full (joined b p u) ≡ false → (x : IsBarrier s (did h p Arrive) (joined b p u)) × ((q : ℕ) → q < s.processors → x.complete ≤ count_of is_arrive h q) × (count_of is_arrive h p ≡ x.complete)
+    → is_full (joined b p u) ≡ false → (x : IsBarrier s (did h p Arrive) (joined b p u)) × ((q : ℕ) → q < s.processors → x.complete ≤ count_of is_arrive h q) × (count_of is_arrive h p ≡ x.complete)
 barrier_waits s h p b u well idle lt x time open_still = (
   record {
     complete = x.complete;
@@ -175,7 +174,7 @@ within_sizes s h q i k well at = (well i (event q k) at).processor
 
 -- when all are here, all are free, and nobody has arrived at the next episode
 pub barrier_completes : (s : Sizes) (h : List Event) (p : ℕ) (b : Episodes) (u : List ℕ) → WellFormed s h → WellFormed s (did h p Arrive) → IsIdle h p → p < s.processors → IsBarrier s h b → IsStamp s.processors (did h p Arrive) (InPast (did h p Arrive) p) u
-  → is_full (joined b p u) ≡ true → IsBarrier s (did h p Arrive) (completed true (joined b p u))
+    → is_full (joined b p u) ≡ true → IsBarrier s (did h p Arrive) (completed true (joined b p u))
 barrier_completes s h p b u well next idle lt x time full = record {
   complete = x.complete + 1;
   stages = subst (λ n. AreAll n (IsAtStage (did h p Arrive) (x.complete + 1)) (replicate (length (slice_set b.stages p Here)) Free)) all.1.long
@@ -211,7 +210,7 @@ barrier_completes s h p b u well next idle lt x time full = record {
 
 -- then each is allowed to depart, with the join of all arrivals
 pub completes_all : (s : Sizes) (h : List Event) (p : ℕ) (b : Episodes) (u : List ℕ) → WellFormed s h → WellFormed s (did h p Arrive) → IsIdle h p → p < s.processors → IsBarrier s h b → IsStamp s.processors (did h p Arrive) (InPast (did h p Arrive) p) u
-  → is_full (joined b p u) ≡ true → (q : ℕ) → q < s.processors → Allowed s (did h p Arrive) q Depart × IsStamp s.processors (did h p Arrive) (Brings (did h p Arrive) q Depart) (join b.gathered u)
+    → is_full (joined b p u) ≡ true → (q : ℕ) → q < s.processors → Allowed s (did h p Arrive) q Depart × IsStamp s.processors (did h p Arrive) (Brings (did h p Arrive) q Depart) (join b.gathered u)
 completes_all s h p b u well next idle lt x time full q less = ((waits.0, waits.1, λ r below. (let one = (arrived_all r below).0 in let d = (arrived_all q less).1 in omega arith)), brings)
   where
     all : (count_of is_arrive h p ≡ x.complete) × AreAll s.processors (IsAtStage (did h p Arrive) x.complete) (slice_set b.stages p Here)

@@ -1,5 +1,5 @@
 -- The line at a lock under one more event.
-use Rattle.std.proofs.Common.{◌≡◌, ◌≢◌, ℕ, zero, suc, ◌<◌, ◌≤◌, ◌⊎◌, inl, inr, List, [], ◌∷◌, ◌++◌, length, Option, Some, None, slice_get, subst, sym, refl, ap, ◌∙◌, arith, append_assoc}
+use Rattle.std.proofs.Common.{◌≡◌, ◌≢◌, ℕ, zero, suc, ◌<◌, ◌⊎◌, inl, inr, List, [], ◌∷◌, ◌++◌, length, Some, slice_get, subst, sym, refl, ap, ◌∙◌, arith}
 use Rattle.std.proofs.lemmas.Bool.{cases_eq}
 use Rattle.std.proofs.lemmas.List.{length_push}
 use Rattle.std.proofs.lemmas.Option.{same_Some, none-some, slice_get_within}
@@ -14,7 +14,7 @@ use Rattle.journal.proofs.Places.{at_within}
 use Rattle.journal.proofs.Steps.{last_unique, holds_cases, holds_now}
 use Rattle.book.specs.Events.{event, did}
 use Rattle.book.specs.Lines.{IsLine}
-use Rattle.book.proofs.Doings.{last_cases, last_on, last_own, last_none, holds_on, holds_back}
+use Rattle.book.proofs.Doings.{last_cases, last_on, last_own, holds_on, holds_back}
 
 -- p's last event is no ask of the lock
 abbrev pub NoAsk : List Event → ℕ → ℕ → Type 0
@@ -78,10 +78,10 @@ line_asked h p l xs none free x = record { each = each; first = first; asks = as
       | inl a ↦ elim (push_cases xs p n r to) [
         | inl b ↦ x.order m n q r i j lt a.1 b.1 (old q i (apart m q a.1) one) (old r j (apart n r b.1) two)
         | inr b ↦ (
-          let within = at_within h i (record { processor = q; kind = Ask l }) (old q i (apart m q a.1) one).does in
-          let P : ℕ → Type 0 = λ z. LastIs (did h p (Ask l)) z j (Ask l) in
-          let last = (last_unique (did h p (Ask l)) p j (length h) (Ask l) (Ask l) (subst P (sym b.1) two) (last_own h p (Ask l))).0 in
-          omega arith)
+            let within = at_within h i (record { processor = q; kind = Ask l }) (old q i (apart m q a.1) one).does in
+            let P : ℕ → Type 0 = λ z. LastIs (did h p (Ask l)) z j (Ask l) in
+            let last = (last_unique (did h p (Ask l)) p j (length h) (Ask l) (Ask l) (subst P (sym b.1) two) (last_own h p (Ask l))).0 in
+            omega arith)
       ]
       | inr a ↦ (let within = slice_get_within (xs ++ p ∷ []) n r to in let e = length_push xs p in absurd (omega (arith, a.0)))
     ]
@@ -171,8 +171,8 @@ line_taken h p l i xs last may x = record {
     asks : (m q : ℕ) → slice_get xs m ≡ Some q → ((a : ℕ) × LastIs (did h p (Acquire l)) q a (Ask l)) ⊎ ((m ≡ 0) × Holds (did h p (Acquire l)) q l)
     asks m q at = elim (cases_eq q p) [
       | inl is ↦ (
-        let P : ℕ → Type 0 = λ r. slice_get xs m ≡ Some r in
-        let Q : ℕ → Type 0 = λ r. Holds (did h p (Acquire l)) r l in
-        inr (head m (subst P is at), subst Q (sym is) (holds_now h p l)))
+          let P : ℕ → Type 0 = λ r. slice_get xs m ≡ Some r in
+          let Q : ℕ → Type 0 = λ r. Holds (did h p (Acquire l)) r l in
+          inr (head m (subst P is at), subst Q (sym is) (holds_now h p l)))
       | inr isnt ↦ elim (x.asks m q at) [ inl a ↦ inl (a.0, last_on h p (Acquire l) q a.0 (Ask l) isnt a.1) | inr b ↦ absurd (may.free q b.1) ]
     ]

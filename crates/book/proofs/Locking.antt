@@ -1,50 +1,44 @@
 -- Asks and releases: what the book is told by the history before, it is told by the history with the event after.
-use Rattle.std.proofs.Common.{◌≡◌, ◌≢◌, ℕ, ◌+◌, ◌<◌, ◌≤◌, ◌⊎◌, inl, inr, ◌↔◌, List, [], ◌∷◌, ◌++◌, length, map, replicate, Bool, true, false, Option, Some, None, IsTrue, slice_get, slice_set, slice_index, slice_index_or, subst, sym, refl, ap, ◌∙◌, arith}
-use Rattle.std.proofs.lemmas.Bool.{cases_eq, cases_Bool, true≢false}
-use Rattle.std.proofs.lemmas.Option.{same_Some, none-some, slice_get_within, get_or_from_slice_get, slice_get-map}
-use Rattle.std.proofs.lemmas.List.{length-map}
-use Rattle.std.specs.Option.{option_map}
+use Rattle.std.proofs.Common.{◌≡◌, ◌≢◌, ℕ, ◌<◌, inl, inr, List, [], ◌∷◌, ◌++◌, Option, Some, None, slice_get, slice_set, slice_index, subst, sym, refl, ap, ◌∙◌}
+use Rattle.std.proofs.lemmas.Bool.{cases_eq}
+use Rattle.std.proofs.lemmas.Option.{same_Some, none-some, get_or_from_slice_get}
 use Rattle.journal.specs.declared.event.Event.{Event}
 use Rattle.journal.specs.declared.event.Kind.{Kind}
-use Rattle.journal.specs.declared.event.Kind.TheVariants.{Ask, Acquire, Release, Arrive, Depart, Set, Watch, Await}
+use Rattle.journal.specs.declared.event.Kind.TheVariants.{Ask, Acquire, Release, Arrive, Depart}
 use Rattle.journal.specs.Sizes.{Sizes}
-use Rattle.journal.specs.Events.{count_of, is_arrive, is_depart, is_closing, is_taking}
-use Rattle.journal.specs.WellFormed.{KindInRange, LastIs, Holds, MayBeGranted, Allowed, MayFollow, WellFormed, Ready}
-use Rattle.journal.specs.Waits.{awaited, IsIdle}
-use Rattle.journal.specs.Pasts.{InPast, UpToSome}
-use Rattle.journal.specs.Brings.{Brings, SomeDoes}
+use Rattle.journal.specs.Events.{count_of, is_closing}
+use Rattle.journal.specs.WellFormed.{LastIs, Holds, MayBeGranted, Allowed, MayFollow, WellFormed}
+use Rattle.journal.specs.Waits.{IsIdle}
+use Rattle.journal.specs.Pasts.{UpToSome}
+use Rattle.journal.specs.Brings.{SomeDoes}
 use Rattle.lists.proofs.Sets.{slice_get-set_found, slice_get-set_other}
 use Rattle.journal.proofs.Kept.{kind_kept}
 use Rattle.journal.proofs.Steps.{holds_cases}
 use Rattle.journal.proofs.Locks.{holder_alone}
-use Rattle.journal.proofs.Ready.{WaitsFor, waits_for, taking_follows}
 use Rattle.page.specs.Changes.{Changes}
-use Rattle.vtime.specs.Times.{tick, join}
+use Rattle.vtime.specs.Times.{tick}
 use Rattle.interval.specs.Intervals.{SentRecord}
-use Rattle.interval.specs.Closings.{Closings, pushed, between}
+use Rattle.interval.specs.Closings.{between}
 use Rattle.lockq.specs.Lock.{Lock, unheld, lock_at, line, asked, released}
-use Rattle.barrier.specs.Episodes.{Episodes, is_full, joined, completed, departed}
 use Rattle.transit.specs.Letters.{Letter}
-use Rattle.transit.specs.Letters.Kind.{grant, departure}
+use Rattle.transit.specs.Letters.Kind.{grant}
 use Rattle.book.specs.Events.{event, did}
-use Rattle.book.specs.Stamps.{AreAll, IsStamp, IsAwaited}
+use Rattle.book.specs.Stamps.{AreAll, IsStamp}
 use Rattle.book.specs.Lines.{IsLine, IsLock}
-use Rattle.book.specs.Mail.{IsPosted, Carries, IsMail}
+use Rattle.book.specs.Mail.{IsPosted, IsMail}
 use Rattle.book.specs.Flags.{IsFlag}
-use Rattle.book.specs.Meetings.{IsBarrier}
 use Rattle.book.specs.ClosedIntervals.{AreContents}
 use Rattle.book.specs.State.{State, time_of}
-use Rattle.book.specs.Transitions.{open_interval, closing, granted, due, passed_on, departing, met, set_at, left, book_asked, book_released, book_arrived, book_set, book_watched, book_took, book_signalled}
+use Rattle.book.specs.Transitions.{closing, granted, due, passed_on, book_asked, book_released}
 use Rattle.book.specs.Told.{IsTold}
-use Rattle.book.proofs.Each.{each_set, each_kept, each_own, item_at, is_at}
+use Rattle.book.proofs.Each.{each_set, each_kept, each_own, is_at}
 use Rattle.book.proofs.Doings.{last_cases, last_none, holds_back}
 use Rattle.book.proofs.Stamped.{stamp_closing, stamp_released}
 use Rattle.book.proofs.Lined.{NoAsk, idle_no_ask, not_in_line, line_kept, line_asked, line_released, line_taken, first_allowed, allowed_first}
-use Rattle.book.proofs.Posted.{News, other_kind, lets_posted, mail_unless, mail_kept, idle_mail, idle_allowed, own_none, own_idle}
-use Rattle.book.proofs.Flagged.{flag_kept, flag_set}
-use Rattle.book.proofs.Gathered.{barrier_kept, barrier_departed, barrier_waits, barrier_completes, completes_all}
-use Rattle.book.proofs.Trimmed.{closed_quiet}
-use Rattle.book.proofs.Told.{is_idle, is_processor, own_stamp, follows, still_formed, awaits_set, times_closing, times_taking, closed_now, within_closing, within_taking, old_notices}
+use Rattle.book.proofs.Posted.{News, other_kind, mail_unless, mail_kept, idle_mail, own_idle}
+use Rattle.book.proofs.Flagged.{flag_kept}
+use Rattle.book.proofs.Gathered.{barrier_kept}
+use Rattle.book.proofs.Told.{is_idle, is_processor, own_stamp, follows, still_formed, awaits_set, times_closing, closed_now, within_closing, old_notices}
 
 -- locks
 
@@ -96,7 +90,7 @@ line_passed n h p l o xs t none held is =
 
 -- the mail of one who asks: a grant where nobody stands before it
 asked_mail : (s : Sizes) (h : List Event) (p l : ℕ) (o : Option ℕ) (xs t : List ℕ) (notices : List SentRecord) → NoAsk h p l → ¬ Holds h p l → IsLock s.processors h l (record { holder = o; queue = xs; time = t })
-  → IsMail s (did h p (Ask l)) p (due o (record { kind = grant; time = t; notices = notices }))
+    → IsMail s (did h p (Ask l)) p (due o (record { kind = grant; time = t; notices = notices }))
 asked_mail s h p l None (y ∷ xs) t notices none free is = absurd (cc (is.held refl))
 asked_mail s h p l None [] t notices none free is =
     let now = lock_asked s.processors h p l None [] t none free is in
@@ -167,10 +161,10 @@ told_ask s h b p l records told range idle free stored = record {
     notices : (r : ℕ) (m : Letter) (t : List ℕ) → slice_get (slice_set b.transit p (due (lock_at b.locks l).holder (granted (closing b p (Ask l) records) p (lock_at b.locks l).time))) r ≡ Some (Some m) → slice_get (closing b p (Ask l) records).times r ≡ Some t → m.notices ≡ between (closing b p (Ask l) records).closed t m.time
     notices r m t at time = elim (cases_eq r p) [
       | inl is ↦ (
-        let P : ℕ → Type 0 = λ x. slice_get (slice_set b.transit p (due (lock_at b.locks l).holder (granted (closing b p (Ask l) records) p (lock_at b.locks l).time))) x ≡ Some (Some m) in
-        let Q : ℕ → Type 0 = λ x. slice_get (closing b p (Ask l) records).times x ≡ Some t in
-        let found = slice_get-set_found b.transit p (due (lock_at b.locks l).holder (granted (closing b p (Ask l) records) p (lock_at b.locks l).time)) (Some m) (subst P is at) in
-        granted_notices (closing b p (Ask l) records) p (lock_at b.locks l).time t m (subst Q is time) (due_is (lock_at b.locks l).holder (granted (closing b p (Ask l) records) p (lock_at b.locks l).time) m found))
+          let P : ℕ → Type 0 = λ x. slice_get (slice_set b.transit p (due (lock_at b.locks l).holder (granted (closing b p (Ask l) records) p (lock_at b.locks l).time))) x ≡ Some (Some m) in
+          let Q : ℕ → Type 0 = λ x. slice_get (closing b p (Ask l) records).times x ≡ Some t in
+          let found = slice_get-set_found b.transit p (due (lock_at b.locks l).holder (granted (closing b p (Ask l) records) p (lock_at b.locks l).time)) (Some m) (subst P is at) in
+          granted_notices (closing b p (Ask l) records) p (lock_at b.locks l).time t m (subst Q is time) (due_is (lock_at b.locks l).holder (granted (closing b p (Ask l) records) p (lock_at b.locks l).time) m found))
       | inr isnt ↦ old_notices s h b p records r m t told lt isnt (sym (slice_get-set_other b.transit p r (due (lock_at b.locks l).holder (granted (closing b p (Ask l) records) p (lock_at b.locks l).time)) isnt) ∙ at) time
     ]
 
@@ -194,7 +188,7 @@ released_free s h p l well held q after = elim (holds_cases h (event p (Release 
 
 -- everyone's mail after a release
 mail_released : (s : Sizes) (h : List Event) (c : State) (p l : ℕ) (xs u : List ℕ) → WellFormed s h → MayFollow s h (event p (Release l)) → IsIdle h p → Holds h p l → IsLine (did h p (Release l)) l xs
-  → IsStamp s.processors (did h p (Release l)) (UpToSome (did h p (Release l)) (SomeDoes (did h p (Release l)) (Release l))) u → AreAll s.processors (IsMail s h) c.transit → AreAll s.processors (IsMail s (did h p (Release l))) (passed_on c xs u)
+    → IsStamp s.processors (did h p (Release l)) (UpToSome (did h p (Release l)) (SomeDoes (did h p (Release l)) (Release l))) u → AreAll s.processors (IsMail s h) c.transit → AreAll s.processors (IsMail s (did h p (Release l))) (passed_on c xs u)
 mail_released s h c p l [] u well may idle held line time all = each_own s.processors (IsMail s h) (IsMail s (did h p (Release l))) c.transit p all
     (λ r o isnt at is. released_mail s h p l r [] o may isnt line (none-some r) is)
     (λ o at is. own_idle s h p (Release l) o idle (λ m e. absurd cc) (λ e. absurd cc) is)
@@ -212,10 +206,10 @@ passed_notices : (c : State) (xs u : List ℕ) (r : ℕ) (m : Letter) (t : List 
 passed_notices c [] u r m t at time old = old at
 passed_notices c (q ∷ xs) u r m t at time old = elim (cases_eq r q) [
   | inl is ↦ (
-    let P : ℕ → Type 0 = λ x. slice_get (slice_set c.transit q (Some (granted c q u))) x ≡ Some (Some m) in
-    let Q : ℕ → Type 0 = λ x. slice_get c.times x ≡ Some t in
-    let found = slice_get-set_found c.transit q (Some (granted c q u)) (Some m) (subst P is at) in
-    granted_notices c q u t m (subst Q is time) (same_Some (granted c q u) m found))
+      let P : ℕ → Type 0 = λ x. slice_get (slice_set c.transit q (Some (granted c q u))) x ≡ Some (Some m) in
+      let Q : ℕ → Type 0 = λ x. slice_get c.times x ≡ Some t in
+      let found = slice_get-set_found c.transit q (Some (granted c q u)) (Some m) (subst P is at) in
+      granted_notices c q u t m (subst Q is time) (same_Some (granted c q u) m found))
   | inr isnt ↦ old (sym (slice_get-set_other c.transit q r (Some (granted c q u)) isnt) ∙ at)
 ]
 

@@ -1,24 +1,21 @@
 -- Arrivals: what the book is told by the history before, it is told by the history with the event after.
-use Rattle.std.proofs.Common.{◌≡◌, ◌≢◌, ℕ, ◌+◌, ◌<◌, ◌≤◌, inl, inr, List, [], ◌∷◌, ◌++◌, length, map, Bool, true, false, Option, Some, None, slice_get, slice_set, slice_index_or, subst, sym, refl, ap, ◌∙◌, arith}
-use Rattle.std.proofs.lemmas.Bool.{cases_eq}
-use Rattle.std.proofs.lemmas.Option.{same_Some, none-some, slice_get_within, slice_get-get_or, slice_get-map, get_or_from_slice_get}
+use Rattle.std.proofs.Common.{◌≡◌, ◌≢◌, ℕ, ◌<◌, ◌≤◌, inl, inr, List, [], ◌∷◌, ◌++◌, length, map, Bool, true, false, Option, Some, None, slice_get, slice_set, slice_index_or, subst, sym, refl, ap, ◌∙◌, arith}
+use Rattle.std.proofs.lemmas.Option.{same_Some, none-some, slice_get_within, slice_get-get_or, slice_get-map}
 use Rattle.std.proofs.lemmas.List.{length-map}
 use Rattle.std.specs.Option.{option_map}
 use Rattle.journal.specs.declared.event.Event.{Event}
 use Rattle.journal.specs.declared.event.Kind.{Kind}
-use Rattle.journal.specs.declared.event.Kind.TheVariants.{Ask, Acquire, Release, Arrive, Depart}
+use Rattle.journal.specs.declared.event.Kind.TheVariants.{Ask, Acquire, Arrive, Depart}
 use Rattle.journal.specs.Sizes.{Sizes}
 use Rattle.journal.specs.Events.{count_of, is_arrive, is_depart, is_closing}
-use Rattle.journal.specs.WellFormed.{LastIs, Allowed, MayFollow, WellFormed}
-use Rattle.journal.specs.Waits.{awaited, IsIdle}
+use Rattle.journal.specs.WellFormed.{Allowed, MayFollow, WellFormed}
+use Rattle.journal.specs.Waits.{IsIdle}
 use Rattle.journal.specs.Pasts.{InPast}
-use Rattle.journal.specs.Brings.{Brings}
 use Rattle.page.specs.Changes.{Changes}
 use Rattle.vtime.specs.Times.{tick, join}
 use Rattle.interval.specs.Closings.{between}
-use Rattle.barrier.specs.Episodes.{Episodes, is_full, joined, completed, arrived}
+use Rattle.barrier.specs.Episodes.{is_full, joined, completed}
 use Rattle.transit.specs.Letters.{Letter}
-use Rattle.transit.specs.Letters.Kind.{departure}
 use Rattle.book.specs.Events.{event, did}
 use Rattle.book.specs.Stamps.{AreAll, IsStamp}
 use Rattle.book.specs.Lines.{IsLock}
@@ -29,7 +26,7 @@ use Rattle.book.specs.ClosedIntervals.{AreContents}
 use Rattle.book.specs.State.{State, time_of}
 use Rattle.book.specs.Transitions.{closing, departing, met, book_arrived}
 use Rattle.book.specs.Told.{IsTold}
-use Rattle.book.proofs.Each.{each_kept, each_own, is_at}
+use Rattle.book.proofs.Each.{each_kept, each_own}
 use Rattle.book.proofs.Doings.{last_cases, last_none, count_others, count_kept}
 use Rattle.book.proofs.Stamped.{stamp_closing}
 use Rattle.book.proofs.Lined.{idle_no_ask}
@@ -49,7 +46,7 @@ departs_before s h p r n isnt most lacks allowed =
 
 -- so the others' mail stays while the episode is open
 waits_mail : (s : Sizes) (h : List Event) (p r n : ℕ) (o : Option Letter) → MayFollow s h (event p Arrive) → r ≢ p → ((q : ℕ) → q < s.processors → n ≤ count_of is_arrive h q) → (q : ℕ) × (q < s.processors) × (count_of is_arrive (did h p Arrive) q ≡ n)
-  → IsMail s h r o → IsMail s (did h p Arrive) r o
+    → IsMail s h r o → IsMail s (did h p Arrive) r o
 waits_mail s h p r n None may isnt most lacks mail = mail_unless s h p Arrive r None may isnt never mail
   where
     never : (a : Kind) → IsPosted a → News Arrive a → ¬ Allowed s (did h p Arrive) r a
@@ -81,11 +78,11 @@ arrived_none s h p n same lacks _ posted allowed = absurd posted
 
 -- everyone's mail after an arrival
 arrived_mail : (s : Sizes) (h : List Event) (b c : State) (p : ℕ) (u : List ℕ) (full : Bool) → IsTold s h b → c.transit ≡ b.transit → length c.times ≡ s.processors → slice_get b.awaits p ≡ Some None → MayFollow s h (event p Arrive) → WellFormed s (did h p Arrive) → p < s.processors
-  → IsStamp s.processors (did h p Arrive) (InPast (did h p Arrive) p) u → is_full (joined b.barrier p u) ≡ full → AreAll s.processors (IsMail s (did h p Arrive)) (met full c (join b.barrier.gathered u))
+    → IsStamp s.processors (did h p Arrive) (InPast (did h p Arrive) p) u → is_full (joined b.barrier p u) ≡ full → AreAll s.processors (IsMail s (did h p Arrive)) (met full c (join b.barrier.gathered u))
 arrived_mail s h b c p u false told same long idle may next lt time full = subst (λ ms. AreAll s.processors (IsMail s (did h p Arrive)) ms) (sym same)
     (each_own s.processors (IsMail s h) (IsMail s (did h p Arrive)) b.transit p told.transit
-      (λ r o isnt at is. waits_mail s h p r waits.0.complete o may isnt waits.1 waits.0.lacks is)
-      (λ o at is. subst (λ x. IsMail s (did h p Arrive) p x) (idle_mail s h p o free is) (arrived_none s h p waits.0.complete counts waits.0.lacks)))
+    (λ r o isnt at is. waits_mail s h p r waits.0.complete o may isnt waits.1 waits.0.lacks is)
+    (λ o at is. subst (λ x. IsMail s (did h p Arrive) p x) (idle_mail s h p o free is) (arrived_none s h p waits.0.complete counts waits.0.lacks)))
   where
     free : IsIdle h p
     free = is_idle s h b p told idle
@@ -113,7 +110,7 @@ arrived_mail s h b c p u true told same long idle may next lt time full = record
 
 -- the barrier after an arrival
 arrived_barrier : (s : Sizes) (h : List Event) (b : State) (p : ℕ) (u : List ℕ) (full : Bool) → IsTold s h b → slice_get b.awaits p ≡ Some None → WellFormed s (did h p Arrive) → p < s.processors
-  → IsStamp s.processors (did h p Arrive) (InPast (did h p Arrive) p) u → is_full (joined b.barrier p u) ≡ full → IsBarrier s (did h p Arrive) (completed full (joined b.barrier p u))
+    → IsStamp s.processors (did h p Arrive) (InPast (did h p Arrive) p) u → is_full (joined b.barrier p u) ≡ full → IsBarrier s (did h p Arrive) (completed full (joined b.barrier p u))
 arrived_barrier s h b p u false told idle next lt time full = (barrier_waits s h p b.barrier u told.well_formed (is_idle s h b p told idle) lt told.barrier time full).0
 arrived_barrier s h b p u true told idle next lt time full = barrier_completes s h p b.barrier u told.well_formed next (is_idle s h b p told idle) lt told.barrier time full
 

@@ -1,5 +1,5 @@
 -- Messages on their way under one more event.
-use Rattle.std.proofs.Common.{◌≡◌, ◌≢◌, ℕ, ◌+◌, ◌<◌, ◌≤◌, ◌⊎◌, inl, inr, List, [], ◌∷◌, ◌++◌, length, Bool, false, Option, Some, None, slice_get, slice_index, subst, sym, refl, ap, ◌∙◌, arith}
+use Rattle.std.proofs.Common.{◌≡◌, ◌≢◌, ℕ, ◌<◌, ◌⊎◌, inl, inr, List, [], ◌∷◌, false, Option, Some, None, slice_index, subst, sym, refl, ap, ◌∙◌, arith}
 use Rattle.std.proofs.lemmas.Bool.{cases_eq, cases_order}
 use Rattle.std.proofs.lemmas.Option.{none-some}
 use Rattle.journal.specs.declared.event.Event.{Event}
@@ -7,7 +7,7 @@ use Rattle.journal.specs.declared.event.Kind.{Kind}
 use Rattle.journal.specs.declared.event.Kind.TheVariants.{Ask, Acquire, Release, Arrive, Depart}
 use Rattle.journal.specs.Sizes.{Sizes}
 use Rattle.journal.specs.Events.{At, count_of, is_arrive, is_depart}
-use Rattle.journal.specs.WellFormed.{LastIs, Holds, MayBeGranted, AllArrived, Allowed, MayFollow}
+use Rattle.journal.specs.WellFormed.{LastIs, Holds, MayBeGranted, Allowed, MayFollow}
 use Rattle.journal.specs.Waits.{IsIdle}
 use Rattle.journal.specs.Pasts.{UpToSome}
 use Rattle.journal.specs.Times.{IsTimeIn}
@@ -21,7 +21,7 @@ use Rattle.transit.specs.Letters.{Letter}
 use Rattle.transit.specs.Letters.Kind.{grant, departure, signal}
 use Rattle.book.specs.Events.{event, did}
 use Rattle.book.specs.Stamps.{IsStamp}
-use Rattle.book.specs.Mail.{LetsDo, IsPosted, Carries, IsMail}
+use Rattle.book.specs.Mail.{LetsDo, IsPosted, IsMail}
 use Rattle.book.proofs.Doings.{last_cases, last_on, last_none, holds_on, count_others, count_more, count_kept}
 
 pub lets_posted : (m : Letters.Kind) (k : Kind) → LetsDo m k → IsPosted k
@@ -96,9 +96,9 @@ allowed_back s h p k r (Acquire l) may isnt posted none (i, last, granted) = (i,
     first : (m q : ℕ) → m < i → ¬ LastIs h q m (Ask l)
     first m q lt ask = elim (cases_eq q p) [
       | inl is ↦ (
-        let P : ℕ → Type 0 = λ x. LastIs h x m (Ask l) in
-        let acquires : k ≡ Acquire l = may.answers m (Ask l) (subst P is ask) in
-        granted.free p (subst (λ b. Holds (did h p b) p l) (sym acquires) (holds_now h p l)))
+          let P : ℕ → Type 0 = λ x. LastIs h x m (Ask l) in
+          let acquires : k ≡ Acquire l = may.answers m (Ask l) (subst P is ask) in
+          granted.free p (subst (λ b. Holds (did h p b) p l) (sym acquires) (holds_now h p l)))
       | inr apart ↦ granted.first m q lt (last_on h p k q m (Ask l) apart ask)
     ]
 allowed_back s h p k r Depart may isnt posted none (i, last, all) = (i, old, λ q lt. (let one = all q lt in let same = count_others is_depart h p k r isnt in let too = count_kept is_arrive h p k q (arrives_not k none) in omega arith))

@@ -1,14 +1,11 @@
 -- What the take of a grant or a departure rests on, read off the book.
-use Rattle.std.proofs.Common.{◌≡◌, ℕ, ◌-◌, ◌+◌, ◌<◌, ◌≤◌, ◌≢◌, ◌⊎◌, inl, inr, Result, Ok, Err, IfOk, List, [], ◌∷◌, ◌++◌, length, Option, Some, None, slice_get, slice_set, slice_index, slice_index_or, subst, sym, refl, ap, ◌∙◌, arith}
-use Rattle.std.proofs.lemmas.Option.{slice_get-get_or, get_or_from_slice_get, same_Some}
+use Rattle.std.proofs.Common.{◌≡◌, ℕ, ◌<◌, ◌≢◌, ◌⊎◌, inl, inr, Result, Ok, Err, IfOk, List, [], ◌∷◌, ◌++◌, length, Option, Some, None, slice_get, slice_set, slice_index_or, subst, sym, refl, ap, ◌∙◌, arith}
+use Rattle.std.proofs.lemmas.Option.{get_or_from_slice_get, same_Some}
 use Rattle.std.proofs.lemmas.List.{length-set}
-use Rattle.journal.specs.declared.event.Event.{Event}
 use Rattle.journal.specs.declared.event.Kind.{Kind}
 use Rattle.journal.specs.declared.event.Kind.TheVariants.{Ask, Acquire, Arrive, Depart, Watch, Await, Load, Store}
-use Rattle.journal.specs.Sizes.{Sizes}
 use Rattle.journal.specs.Log.{Log}
 use Rattle.journal.specs.InRange.{AddressInRange}
-use Rattle.journal.specs.Events.{count_of, is_arrive, is_depart}
 use Rattle.journal.specs.WellFormed.{Allowed}
 use Rattle.journal.specs.Waits.{awaited}
 use Rattle.journal.proofs.Balance.{balanced}
@@ -20,7 +17,7 @@ use Rattle.barrier.specs.declared.episodes.Stage.TheVariants.{Away, Free}
 use Rattle.transit.specs.Letters.{Letter}
 use Rattle.book.specs.Events.{event}
 use Rattle.book.specs.Mail.{IsPosted, Carries, IsMail}
-use Rattle.book.specs.Meetings.{IsAtStage, IsBarrier}
+use Rattle.book.specs.Meetings.{IsAtStage}
 use Rattle.book.specs.State.{State, time_of}
 use Rattle.book.specs.Transitions.{trimmed_by, left, book_took}
 use Rattle.book.specs.Laws.{trimmed_book}
@@ -80,8 +77,8 @@ posted_address n _ posted = tt
 
 -- the book after the take of a message, part by part
 pub took_is : (b : State) (p : ℕ) (k : Kind) (m : Letter) (u : List ℕ) (log : Log) (c : Closings) (transit : List (Option Letter)) (barrier : Episodes) → log ≡ record b.journal { events = b.journal.events ++ event p k ∷ [] } → u ≡ join (time_of b p) m.time
-  → c ≡ trimmed_by b.closed (slice_set b.times p u) (length (slice_set b.times p u)) → transit ≡ slice_set b.transit p None → barrier ≡ left k b.barrier p → awaited k ≡ None
-  → record b { journal = log; closed = c; times = slice_set b.times p u; awaits = slice_set b.awaits p None; transit = transit; barrier = barrier } ≡ trimmed_book (length b.times) (book_took b p k m)
+    → c ≡ trimmed_by b.closed (slice_set b.times p u) (length (slice_set b.times p u)) → transit ≡ slice_set b.transit p None → barrier ≡ left k b.barrier p → awaited k ≡ None
+    → record b { journal = log; closed = c; times = slice_set b.times p u; awaits = slice_set b.awaits p None; transit = transit; barrier = barrier } ≡ trimmed_book (length b.times) (book_took b p k m)
 took_is b p k m u log c transit barrier one two three four five six =
     ap (λ (l : Log). record b { journal = l; closed = c; times = slice_set b.times p u; awaits = slice_set b.awaits p None; transit = transit; barrier = barrier }) one
     ∙ ap (λ (x : Closings). record b { journal = record b.journal { events = b.journal.events ++ event p k ∷ [] }; closed = x; times = slice_set b.times p u; awaits = slice_set b.awaits p None; transit = transit; barrier = barrier }) (three ∙ ap (λ n. trimmed_by b.closed (slice_set b.times p u) n) (length-set b.times p u))

@@ -1,6 +1,6 @@
 -- Timestamps under one more event.
-use Rattle.std.proofs.Common.{◌≡◌, ◌≢◌, ◌↔◌, ℕ, zero, suc, ◌+◌, ◌<◌, max, inl, inr, List, [], ◌∷◌, ◌++◌, length, replicate, Bool, cond, false, true, slice_index, subst, sym, refl, ap, ◌∙◌, arith}
-use Rattle.std.proofs.lemmas.Bool.{cases_eq, eq-eqb}
+use Rattle.std.proofs.Common.{◌≡◌, ◌≢◌, ◌↔◌, ℕ, zero, suc, ◌+◌, ◌<◌, max, inl, inr, List, [], ◌∷◌, length, replicate, Bool, cond, false, true, slice_index, subst, sym, refl, ap, ◌∙◌, arith}
+use Rattle.std.proofs.lemmas.Bool.{cases_eq}
 use Rattle.std.proofs.lemmas.List.{length-set, length-replicate, get_or-set_same, get_or-set_other}
 use Rattle.journal.specs.declared.event.Event.{Event}
 use Rattle.journal.specs.declared.event.Kind.{Kind}
@@ -9,9 +9,9 @@ use Rattle.journal.specs.Sizes.{Sizes}
 use Rattle.journal.specs.Events.{is_closing, is_taking, count_of}
 use Rattle.journal.specs.WellFormed.{WellFormed}
 use Rattle.journal.specs.Pasts.{InPast, UpToSome}
-use Rattle.journal.specs.Times.{IsTimeIn, IsTimeOf}
+use Rattle.journal.specs.Times.{IsTimeIn}
 use Rattle.journal.specs.Brings.{Brings, SomeDoes}
-use Rattle.journal.proofs.Times.{time_equal, time_same, time_none, count_of-one}
+use Rattle.journal.proofs.Times.{time_equal, time_same, time_none}
 use Rattle.journal.proofs.Pushes.{others_keep, own_quiet, own_closing, own_taking}
 use Rattle.journal.proofs.Locks.{release_time}
 use Rattle.vtime.specs.Times.{tick, join}

@@ -1,6 +1,5 @@
 -- The empty book, blocks, and trims.
-use Rattle.std.proofs.Common.{◌≡◌, ◌≢◌, ℕ, zero, suc, ◌+◌, ◌<◌, ◌≤◌, inl, inr, List, [], ◌∷◌, ◌++◌, length, replicate, true, false, Option, Some, None, slice_get, slice_set, slice_index, subst, sym, refl, ap, ◌∙◌, append_assoc, append-nil, arith}
-use Rattle.std.proofs.lemmas.Bool.{cases_eq, true≢false}
+use Rattle.std.proofs.Common.{◌≡◌, ◌≢◌, ℕ, zero, suc, ◌<◌, ◌≤◌, List, [], ◌∷◌, ◌++◌, length, replicate, false, Some, None, slice_get, slice_index, subst, sym, refl, ap, ◌∙◌, append_assoc, append-nil, arith}
 use Rattle.std.proofs.lemmas.Option.{same_Some, none-some}
 use Rattle.std.proofs.lemmas.List.{length-replicate}
 use Rattle.lists.proofs.Places.{push_induction}
@@ -17,24 +16,22 @@ use Rattle.journal.specs.Waits.{awaited, IsIdle}
 use Rattle.journal.specs.Pasts.{InPast, UpToSome}
 use Rattle.journal.specs.Brings.{SomeDoes, SomeArrives}
 use Rattle.journal.proofs.Places.{at_longer, at_last}
-use Rattle.journal.proofs.Pushes.{brings_no_time}
 use Rattle.journal.proofs.Steps.{well_formed_empty}
 use Rattle.journal.proofs.Ready.{IsPlainAt}
 use Rattle.interval.specs.declared.kept.Kept.{Kept}
 use Rattle.interval.specs.Closings.{Closings, trimmed}
-use Rattle.transit.specs.Letters.{Letter}
 use Rattle.lockq.specs.Lock.{unheld}
 use Rattle.barrier.specs.declared.episodes.Stage.TheVariants.{Away}
 use Rattle.book.specs.Meetings.{IsAtStage}
 use Rattle.book.specs.Events.{event, did}
-use Rattle.book.specs.Stamps.{AreAll, IsStamp, IsAwaited}
+use Rattle.book.specs.Stamps.{IsStamp, IsAwaited}
 use Rattle.book.specs.Lines.{IsLock}
 use Rattle.book.specs.Mail.{IsPosted, IsMail}
 use Rattle.book.specs.Flags.{IsFlag}
 use Rattle.book.specs.State.{State, HoldsHistory}
 use Rattle.book.specs.Transitions.{new_book, handed_in, least, trimmed_by}
 use Rattle.book.specs.Told.{IsTold}
-use Rattle.book.proofs.Each.{each_set, each_kept, each_own, each_replicate}
+use Rattle.book.proofs.Each.{each_kept, each_own, each_replicate}
 use Rattle.book.proofs.Doings.{awaited_on, awaited_now}
 use Rattle.book.proofs.Stamped.{index-zeros, stamp_none, stamp_others, stamp_quiet}
 use Rattle.book.proofs.Lined.{idle_no_ask}

@@ -9,16 +9,14 @@ use Rattle.journal.specs.declared.event.Kind.TheVariants.{Ask, Acquire, Release,
 use Rattle.journal.specs.Sizes.{Sizes}
 use Rattle.journal.specs.Events.{is_closing, is_taking}
 use Rattle.journal.specs.WellFormed.{LastIs, MayBeGranted, Allowed, MayFollow, Ready}
-use Rattle.journal.specs.Waits.{awaited}
 use Rattle.journal.specs.Brings.{Brings}
 use Rattle.journal.proofs.Steps.{last_unique}
 use Rattle.journal.proofs.Ready.{waits_for, taking_follows}
 use Rattle.vtime.specs.Times.{join}
 use Rattle.interval.specs.Closings.{between}
-use Rattle.barrier.specs.Episodes.{Episodes}
 use Rattle.transit.specs.Letters.{Letter}
 use Rattle.book.specs.Events.{event, did}
-use Rattle.book.specs.Stamps.{AreAll, IsStamp, IsAwaited}
+use Rattle.book.specs.Stamps.{IsStamp, IsAwaited}
 use Rattle.book.specs.Lines.{IsLock}
 use Rattle.book.specs.Mail.{IsPosted, Carries, IsMail}
 use Rattle.book.specs.Flags.{IsFlag}
@@ -27,7 +25,7 @@ use Rattle.lockq.specs.Lock.{Lock}
 use Rattle.book.specs.State.{State, time_of}
 use Rattle.book.specs.Transitions.{left, book_took}
 use Rattle.book.specs.Told.{IsTold}
-use Rattle.book.proofs.Each.{each_set, each_kept, each_own}
+use Rattle.book.proofs.Each.{each_set, each_kept}
 use Rattle.book.proofs.Posted.{lets_posted, mail_kept, own_none}
 use Rattle.book.proofs.Flagged.{flag_kept}
 use Rattle.book.proofs.Gathered.{barrier_kept, barrier_departed}

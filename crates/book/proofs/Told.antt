@@ -1,11 +1,10 @@
 -- The book stays what the history says: each part under one event.
-use Rattle.std.proofs.Common.{◌≡◌, ◌≢◌, ℕ, ◌+◌, ◌<◌, ◌≤◌, inl, inr, List, [], ◌∷◌, ◌++◌, length, Bool, true, false, Option, Some, None, slice_get, slice_set, slice_index, slice_index_or, subst, sym, refl, ap, ◌∙◌, arith}
+use Rattle.std.proofs.Common.{◌≡◌, ◌≢◌, ℕ, ◌+◌, ◌<◌, ◌≤◌, inl, inr, List, [], length, true, false, Option, Some, None, slice_get, slice_set, slice_index, slice_index_or, subst, sym, ◌∙◌, arith}
 use Rattle.std.proofs.lemmas.Bool.{cases_eq, cases_lt}
-use Rattle.std.proofs.lemmas.Option.{same_Some, slice_get_within, slice_get-get_or}
+use Rattle.std.proofs.lemmas.Option.{slice_get_within, slice_get-get_or}
 use Rattle.std.proofs.lemmas.List.{get_or-set_same, get_or-set_other, get_or_past}
 use Rattle.journal.specs.declared.event.Event.{Event}
 use Rattle.journal.specs.declared.event.Kind.{Kind}
-use Rattle.journal.specs.declared.event.Kind.TheVariants.{Ask, Acquire, Release, Arrive, Depart}
 use Rattle.journal.specs.Sizes.{Sizes}
 use Rattle.journal.specs.Events.{count_of, is_closing, is_taking}
 use Rattle.journal.specs.WellFormed.{KindInRange, Allowed, MayFollow, WellFormed}
@@ -15,23 +14,23 @@ use Rattle.journal.specs.Brings.{Brings}
 use Rattle.lists.proofs.Sets.{slice_get-set_found, slice_get-set_other}
 use Rattle.journal.proofs.Steps.{each_push}
 use Rattle.journal.proofs.Pushes.{own_entry}
-use Rattle.journal.proofs.Ready.{idle_follows, taking_follows}
+use Rattle.journal.proofs.Ready.{idle_follows}
 use Rattle.page.specs.Changes.{Changes}
 use Rattle.vtime.specs.Times.{tick, join}
 use Rattle.vtime.proofs.Joins.{get_or-join}
-use Rattle.interval.specs.Closings.{Closings, pushed, between}
+use Rattle.interval.specs.Closings.{pushed, between}
 use Rattle.transit.specs.Letters.{Letter}
 use Rattle.book.specs.Events.{event, did}
 use Rattle.book.specs.Stamps.{AreAll, IsStamp, IsAwaited}
-use Rattle.book.specs.Mail.{Carries, IsMail}
+use Rattle.book.specs.Mail.{Carries}
 use Rattle.book.specs.ClosedIntervals.{AreContents, AreClosed, IsWithin}
 use Rattle.book.specs.State.{State, time_of}
-use Rattle.book.specs.Transitions.{open_interval, closing, taken}
+use Rattle.book.specs.Transitions.{open_interval}
 use Rattle.book.specs.Told.{IsTold}
-use Rattle.book.proofs.Each.{each_set, item_at, is_at}
+use Rattle.book.proofs.Each.{each_set, is_at}
 use Rattle.book.proofs.Doings.{awaits_idle, awaited_on, awaited_now}
 use Rattle.book.proofs.Stamped.{stamp_others, stamp_closing, stamp_taking}
-use Rattle.book.proofs.Trimmed.{closed_closing, closed_quiet, between_pushed}
+use Rattle.book.proofs.Trimmed.{closed_closing, between_pushed}
 
 -- who awaits nothing is idle
 pub is_idle : (s : Sizes) (h : List Event) (b : State) (p : ℕ) → IsTold s h b → slice_get b.awaits p ≡ Some None → IsIdle h p
@@ -78,11 +77,11 @@ closed_now s h b p k records told lt closes stored = closed_closing s h p k b.cl
 within_set : (first : List ℕ) (times : List (List ℕ)) (p : ℕ) (u : List ℕ) → p < length times → ((q : ℕ) → slice_index (slice_index_or times p []) q ≤ slice_index u q) → IsWithin first times → IsWithin first (slice_set times p u)
 within_set first times p u lt grows within r q t at = elim (cases_eq r p) [
   | inl is ↦ (
-    let P : ℕ → Type 0 = λ x. slice_get (slice_set times p u) x ≡ Some t in
-    let same = slice_get-set_found times p u t (subst P is at) in
-    let old = within p q (slice_index_or times p []) (slice_get-get_or times p [] lt) in
-    let more = grows q in
-    subst (λ v. slice_index first q ≤ slice_index v q) same (omega arith))
+      let P : ℕ → Type 0 = λ x. slice_get (slice_set times p u) x ≡ Some t in
+      let same = slice_get-set_found times p u t (subst P is at) in
+      let old = within p q (slice_index_or times p []) (slice_get-get_or times p [] lt) in
+      let more = grows q in
+      subst (λ v. slice_index first q ≤ slice_index v q) same (omega arith))
   | inr isnt ↦ within r q t (sym (slice_get-set_other times p r u isnt) ∙ at)
 ]
 
@@ -109,7 +108,7 @@ within_taking s h b p u told lt = within_set b.closed.first b.times p (join (tim
 
 -- the notices of a message posted before a closing event
 pub old_notices : (s : Sizes) (h : List Event) (b : State) (p : ℕ) (records : List Changes) (r : ℕ) (m : Letter) (t : List ℕ) → IsTold s h b → p < s.processors → r ≢ p
-  → slice_get b.transit r ≡ Some (Some m) → slice_get (slice_set b.times p (tick (time_of b p) p)) r ≡ Some t → m.notices ≡ between (pushed b.closed (open_interval b p records)) t m.time
+    → slice_get b.transit r ≡ Some (Some m) → slice_get (slice_set b.times p (tick (time_of b p) p)) r ≡ Some t → m.notices ≡ between (pushed b.closed (open_interval b p records)) t m.time
 old_notices s h b p records r m t told lt isnt at time =
     let mail : Carries s h r m = told.transit.each r (Some m) at in
     let most = mail.time.is.within p in

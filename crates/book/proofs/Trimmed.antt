@@ -1,8 +1,8 @@
 -- The closed intervals under one more event, and under trimming.
-use Rattle.std.proofs.Common.{◌≡◌, ◌≢◌, ℕ, zero, suc, ◌+◌, ◌<◌, ◌≤◌, min, max, ◌⊎◌, inl, inr, List, [], ◌∷◌, ◌++◌, length, take, filter, Bool, cond, not, true, false, Option, Some, None, IsTrue, slice_get, slice_set, slice_index, slice_index_or, count_by, fold, subst, sym, refl, ap, ◌∙◌, arith, append-nil}
+use Rattle.std.proofs.Common.{◌≡◌, ℕ, zero, suc, ◌+◌, ◌<◌, ◌≤◌, min, max, ◌⊎◌, inl, inr, List, [], ◌∷◌, ◌++◌, length, take, filter, Bool, cond, not, true, false, Some, IsTrue, slice_get, slice_set, slice_index, slice_index_or, fold, subst, sym, refl, ap, ◌∙◌, arith, append-nil}
 use Rattle.std.specs.List.{flat_map}
-use Rattle.std.proofs.lemmas.Bool.{cases_eq, cases_lt, cases_Bool, ne_eqb, not_from_false, eq-eqb, eqb-true, and_from, and_parts, and_left, and_right, not_from_true, not-true, false_from_ne_true, ltb-true, lt-ltb, le-ltb, leb-true, le-leb, lt-leb, true≢false}
-use Rattle.std.proofs.lemmas.Option.{none-some, same_Some, slice_get_within, get_or_from_slice_get}
+use Rattle.std.proofs.lemmas.Bool.{cases_eq, cases_lt, cases_Bool, ne_eqb, not_from_false, eqb-true, and_parts, and_left, and_right, false_from_ne_true, ltb-true, le-ltb, leb-true, true≢false}
+use Rattle.std.proofs.lemmas.Option.{none-some, same_Some, slice_get_within}
 use Rattle.std.proofs.lemmas.List.{length-set, get_or-set_same, get_or-set_other, take-append-le}
 use Rattle.std.proofs.lemmas.List.Elements.{filter-append}
 use Rattle.std.proofs.Math.Seq.{take-append_seam}
@@ -13,7 +13,6 @@ use Rattle.journal.specs.Sizes.{Sizes}
 use Rattle.journal.specs.Events.{count_of, interval_at, is_closing}
 use Rattle.journal.specs.Times.{ClosesAt}
 use Rattle.lists.proofs.Places.{push_cases, slice_get-append_left, slice_get-last, count_by-append, count_by-within}
-use Rattle.lists.proofs.Joined.{has-append, has-cons}
 use Rattle.lists.proofs.Picked.{has-filter, in_order-filter}
 use Rattle.journal.proofs.Places.{at_within, at_last, count_of-front, count_of-within}
 use Rattle.journal.specs.declared.event.Kind.TheVariants.{Store}
@@ -22,7 +21,7 @@ use Rattle.journal.proofs.Contents.{stores_in_shorter, content_closing, content_
 use Rattle.journal.proofs.Times.{closes_longer, closes_shorter, interval_behind}
 use Rattle.page.specs.Changes.{Changes}
 use Rattle.interval.specs.declared.kept.Kept.{Kept}
-use Rattle.interval.specs.Intervals.{ClosedInterval, SentRecord}
+use Rattle.interval.specs.Intervals.{ClosedInterval}
 use Rattle.interval.specs.Closings.{Closings, pushed, trimmed, is_trimmed, is_news, between, sent_interval}
 use Rattle.book.specs.Events.{event, did}
 use Rattle.book.specs.ClosedIntervals.{closings_of, IsKept, AreContents, AreClosed, IsWithin}
@@ -100,16 +99,16 @@ closed_quiet s h p k c quiet x = record {
     all : (q i : ℕ) → ClosesAt (did h p k) q i → slice_index c.first q ≤ interval_at (did h p k) q i → (j : Kept) × Has c.kept j × (j.interval.owner ≡ q) × (j.interval.number ≡ interval_at (did h p k) q i)
     all q i closes from = elim (closes_cases h p k q i closes) [
       | inl old ↦ (
-        let lt = old.0 in
-        let same = count_of-front is_closing h (event p k ∷ []) i q (omega arith) in
-        let j = x.all q i old.1 (omega arith) in
-        (j.0, j.1, j.2, j.3 ∙ sym same))
+          let lt = old.0 in
+          let same = count_of-front is_closing h (event p k ∷ []) i q (omega arith) in
+          let j = x.all q i old.1 (omega arith) in
+          (j.0, j.1, j.2, j.3 ∙ sym same))
       | inr new ↦ absurd (true≢false (sym new.2 ∙ quiet))
     ]
 
 -- a closing event closes its processor's interval
 pub closed_closing : (s : Sizes) (h : List Event) (p : ℕ) (k : Kind) (c : Closings) (n : ℕ) (records : List Changes) → is_closing k ≡ true → p < s.processors → n ≡ count_of is_closing h p → AreContents s h p n records → AreClosed s h c
-  → AreClosed s (did h p k) (pushed c (record { owner = p; number = n; records = records }))
+    → AreClosed s (did h p k) (pushed c (record { owner = p; number = n; records = records }))
 closed_closing s h p k c n records closes lt number stored x = record {
   count = let sum = closings_did h p k in let one = ap (λ (b : Bool). cond {A = ℕ} b 1 0) closes in let was = x.count in omega arith;
   next_long = length-set c.next p (n + 1) ∙ x.next_long;
@@ -127,12 +126,12 @@ closed_closing s h p k c n records closes lt number stored x = record {
     next : (q : ℕ) → q < s.processors → slice_index (slice_set c.next p (n + 1)) q ≡ count_of is_closing (did h p k) q
     next q less = elim (cases_eq q p) [
       | inl is ↦ (
-        let P : ℕ → Type 0 = λ r. slice_index (slice_set c.next p (n + 1)) r ≡ count_of is_closing (did h p k) r in
-        let long = x.next_long in
-        let here = get_or-set_same c.next p (n + 1) 0 (omega arith) in
-        let sum = count_did is_closing h p k in
-        let one = ap (λ (b : Bool). cond {A = ℕ} b 1 0) closes in
-        subst P (sym is) (omega arith))
+          let P : ℕ → Type 0 = λ r. slice_index (slice_set c.next p (n + 1)) r ≡ count_of is_closing (did h p k) r in
+          let long = x.next_long in
+          let here = get_or-set_same c.next p (n + 1) 0 (omega arith) in
+          let sum = count_did is_closing h p k in
+          let one = ap (λ (b : Bool). cond {A = ℕ} b 1 0) closes in
+          subst P (sym is) (omega arith))
       | inr isnt ↦ get_or-set_other c.next p q (n + 1) 0 isnt ∙ x.next q less ∙ sym (count_others is_closing h p k q isnt)
     ]
 
@@ -156,13 +155,13 @@ closed_closing s h p k c n records closes lt number stored x = record {
     all : (q i : ℕ) → ClosesAt (did h p k) q i → slice_index c.first q ≤ interval_at (did h p k) q i → (j : Kept) × Has (c.kept ++ new ∷ []) j × (j.interval.owner ≡ q) × (j.interval.number ≡ interval_at (did h p k) q i)
     all q i at from = elim (closes_cases h p k q i at) [
       | inl old ↦ (
-        let less = old.0 in
-        let same = count_of-front is_closing h (event p k ∷ []) i q (omega arith) in
-        let j = x.all q i old.1 (omega arith) in
-        (j.0, (j.1.0, slice_get-append_left c.kept (new ∷ []) j.1.0 (slice_get_within c.kept j.1.0 j.0 j.1.1) ∙ j.1.1), j.2, j.3 ∙ sym same))
+          let less = old.0 in
+          let same = count_of-front is_closing h (event p k ∷ []) i q (omega arith) in
+          let j = x.all q i old.1 (omega arith) in
+          (j.0, (j.1.0, slice_get-append_left c.kept (new ∷ []) j.1.0 (slice_get_within c.kept j.1.0 j.0 j.1.1) ∙ j.1.1), j.2, j.3 ∙ sym same))
       | inr last ↦ (
-        let P : ℕ → ℕ → Type 0 = λ r m. n ≡ interval_at (did h p k) r m in
-        (new, (length c.kept, slice_get-last c.kept new), last.1, subst (λ m. P q m) (sym last.0) (subst (λ r. P r (length h)) last.1 (sym front))))
+          let P : ℕ → ℕ → Type 0 = λ r m. n ≡ interval_at (did h p k) r m in
+          (new, (length c.kept, slice_get-last c.kept new), last.1, subst (λ m. P q m) (sym last.0) (subst (λ r. P r (length h)) last.1 (sym front))))
     ]
 
     contents : (j : Kept) → Has (c.kept ++ new ∷ []) j → AreContents s (did h p k) j.interval.owner j.interval.number j.interval.records
@@ -205,9 +204,9 @@ filter_passed pick passes [] all = refl
 filter_passed pick passes (k ∷ ks) all = elim (cases_Bool (passes k)) [
   | inl does ↦ (let rest = filter_passed pick passes ks all in rw (does, rest) refl)
   | inr doesnt ↦ (
-    let rest = filter_passed pick passes ks all in
-    let out : pick k ≡ false = false_from_ne_true (pick k) (λ e. true≢false (sym (all k e) ∙ doesnt)) in
-    rw (doesnt, out) rest)
+      let rest = filter_passed pick passes ks all in
+      let out : pick k ≡ false = false_from_ne_true (pick k) (λ e. true≢false (sym (all k e) ∙ doesnt)) in
+      rw (doesnt, out) rest)
 ]
 
 trimmed_parts : (owner to : ℕ) (k : Kept) → is_trimmed owner to k ≡ true → (k.interval.owner ≡ owner) × (k.interval.number < to)
@@ -220,12 +219,12 @@ between_trimmed c owner to old new le = ap (λ (ks : List Kept). flat_map sent_i
     passes : (k : Kept) → is_news old new k ≡ true → not (is_trimmed owner to k) ≡ true
     passes k news = elim (cases_Bool (is_trimmed owner to k)) [
       | inl is ↦ (
-        let parts = trimmed_parts owner to k is in
-        let from = leb-true _ _ (and_parts _ _ news).0 in
-        let P : ℕ → Type 0 = λ o. slice_index old o ≤ k.interval.number in
-        let here = subst P parts.0 from in
-        let below = parts.1 in
-        absurd (omega arith))
+          let parts = trimmed_parts owner to k is in
+          let from = leb-true _ _ (and_parts _ _ news).0 in
+          let P : ℕ → Type 0 = λ o. slice_index old o ≤ k.interval.number in
+          let here = subst P parts.0 from in
+          let below = parts.1 in
+          absurd (omega arith))
       | inr isnt ↦ not_from_false (is_trimmed owner to k) isnt
     ]
 
@@ -249,39 +248,39 @@ closed_trimmed s h c owner to lt x = record {
     stays k has not_trimmed = (has-filter (λ k. not (is_trimmed owner to k)) c.kept k).1 (has, not_trimmed)
 
     all : (q i : ℕ) → ClosesAt h q i → slice_index (slice_set c.first owner (max (slice_index c.first owner) (min to (slice_index c.next owner)))) q ≤ interval_at h q i
-      → (k : Kept) × Has (filter (λ k. not (is_trimmed owner to k)) c.kept) k × (k.interval.owner ≡ q) × (k.interval.number ≡ interval_at h q i)
+        → (k : Kept) × Has (filter (λ k. not (is_trimmed owner to k)) c.kept) k × (k.interval.owner ≡ q) × (k.interval.number ≡ interval_at h q i)
     all q i closes from = elim (cases_eq q owner) [
       | inl is ↦ (
-        let P : ℕ → Type 0 = λ r. slice_index (slice_set c.first owner (max (slice_index c.first owner) (min to (slice_index c.next owner)))) r ≤ interval_at h q i in
-        let long = x.first_long in
-        let here = get_or-set_same c.first owner (max (slice_index c.first owner) (min to (slice_index c.next owner))) 0 (omega arith) in
-        let from_here = subst P is from in
-        let Q : ℕ → Type 0 = λ r. slice_index c.first r ≤ interval_at h q i in
-        let k = x.all q i closes (subst Q (sym is) (omega arith)) in
-        let within = count_of-within is_closing h i q closes.kind closes.does closes.closes in
-        let next = x.next q (subst (λ r. r < s.processors) (sym is) lt) in
-        let R : ℕ → Type 0 = λ r. slice_index c.next r ≡ count_of is_closing h q in
-        let next_here = subst R is next in
-        let number = k.3 in
-        (k.0, stays k.0 k.1 (not_from_false (is_trimmed owner to k.0) (and_right _ _ (le-ltb k.0.interval.number to (omega arith)))), k.2, k.3))
+          let P : ℕ → Type 0 = λ r. slice_index (slice_set c.first owner (max (slice_index c.first owner) (min to (slice_index c.next owner)))) r ≤ interval_at h q i in
+          let long = x.first_long in
+          let here = get_or-set_same c.first owner (max (slice_index c.first owner) (min to (slice_index c.next owner))) 0 (omega arith) in
+          let from_here = subst P is from in
+          let Q : ℕ → Type 0 = λ r. slice_index c.first r ≤ interval_at h q i in
+          let k = x.all q i closes (subst Q (sym is) (omega arith)) in
+          let within = count_of-within is_closing h i q closes.kind closes.does closes.closes in
+          let next = x.next q (subst (λ r. r < s.processors) (sym is) lt) in
+          let R : ℕ → Type 0 = λ r. slice_index c.next r ≡ count_of is_closing h q in
+          let next_here = subst R is next in
+          let number = k.3 in
+          (k.0, stays k.0 k.1 (not_from_false (is_trimmed owner to k.0) (and_right _ _ (le-ltb k.0.interval.number to (omega arith)))), k.2, k.3))
       | inr isnt ↦ (
-        let same = get_or-set_other c.first owner q (max (slice_index c.first owner) (min to (slice_index c.next owner))) 0 isnt in
-        let k = x.all q i closes (omega arith) in
-        (k.0, stays k.0 k.1 (not_from_false (is_trimmed owner to k.0) (and_left _ _ (ne_eqb k.0.interval.owner owner (λ e. isnt (sym k.2 ∙ e))))), k.2, k.3))
+          let same = get_or-set_other c.first owner q (max (slice_index c.first owner) (min to (slice_index c.next owner))) 0 isnt in
+          let k = x.all q i closes (omega arith) in
+          (k.0, stays k.0 k.1 (not_from_false (is_trimmed owner to k.0) (and_left _ _ (ne_eqb k.0.interval.owner owner (λ e. isnt (sym k.2 ∙ e))))), k.2, k.3))
     ]
 
 pub within_trimmed : (c : Closings) (owner to : ℕ) (times : List (List ℕ)) → ((p : ℕ) (t : List ℕ) → slice_get times p ≡ Some t → to ≤ slice_index t owner) → owner < length c.first → IsWithin c.first times → IsWithin (trimmed c owner to).first times
 within_trimmed c owner to times covered lt within p q t at = elim (cases_eq q owner) [
   | inl is ↦ (
-    let P : ℕ → Type 0 = λ r. slice_index (slice_set c.first owner (max (slice_index c.first owner) (min to (slice_index c.next owner)))) r ≤ slice_index t r in
-    let here = get_or-set_same c.first owner (max (slice_index c.first owner) (min to (slice_index c.next owner))) 0 lt in
-    let one = covered p t at in
-    let was = within p owner t at in
-    subst P (sym is) (omega arith))
+      let P : ℕ → Type 0 = λ r. slice_index (slice_set c.first owner (max (slice_index c.first owner) (min to (slice_index c.next owner)))) r ≤ slice_index t r in
+      let here = get_or-set_same c.first owner (max (slice_index c.first owner) (min to (slice_index c.next owner))) 0 lt in
+      let one = covered p t at in
+      let was = within p owner t at in
+      subst P (sym is) (omega arith))
   | inr isnt ↦ (
-    let same = get_or-set_other c.first owner q (max (slice_index c.first owner) (min to (slice_index c.next owner))) 0 isnt in
-    let was = within p q t at in
-    omega arith)
+      let same = get_or-set_other c.first owner q (max (slice_index c.first owner) (min to (slice_index c.next owner))) 0 isnt in
+      let was = within p q t at in
+      omega arith)
 ]
 
 lesser_le : (times : List (List ℕ)) (q n : ℕ) → fold (lesser q) n times ≤ n

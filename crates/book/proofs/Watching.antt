@@ -1,11 +1,10 @@
 -- What the take of a signal rests on, read off the book.
-use Rattle.std.proofs.Common.{◌≡◌, ℕ, ◌-◌, ◌<◌, ◌≤◌, List, [], ◌∷◌, ◌++◌, length, inl, inr, Option, Some, None, slice_get, slice_set, slice_index, slice_index_or, subst, sym, refl, ap, ◌∙◌, arith}
+use Rattle.std.proofs.Common.{◌≡◌, ℕ, ◌-◌, ◌<◌, ◌≤◌, List, [], ◌∷◌, ◌++◌, length, inl, inr, Some, None, slice_get, slice_set, slice_index, slice_index_or, subst, sym, ap, ◌∙◌, arith}
 use Rattle.std.proofs.lemmas.Option.{slice_get-get_or}
 use Rattle.std.proofs.lemmas.Bool.{cases_eq}
 use Rattle.lists.proofs.Sets.{slice_get-set_found, slice_get-set_other}
 use Rattle.journal.specs.declared.event.Event.{Event}
 use Rattle.journal.specs.declared.event.Kind.TheVariants.{Watch, Await}
-use Rattle.journal.specs.Sizes.{Sizes}
 use Rattle.book.specs.Events.{event}
 use Rattle.book.specs.Flags.{IsFlag}
 use Rattle.book.specs.State.{State, time_of}
@@ -67,7 +66,7 @@ log_is a b c owing e first second = ap (λ (l : Log). record l { room = owing })
 
 -- the book after the take of a signal, part by part
 pub signalled_is : (b : State) (p f : ℕ) (t u : List ℕ) (log : Log) (c : Closings) → log ≡ record b.journal { events = b.journal.events ++ event p (Await f) ∷ [] } → u ≡ join (time_of b p) t → c ≡ trimmed_by b.closed (slice_set b.times p u) (length (slice_set b.times p u))
-  → record b { journal = log; closed = c; times = slice_set b.times p u; awaits = slice_set b.awaits p None } ≡ trimmed_book (length b.times) (book_signalled b p f t)
+    → record b { journal = log; closed = c; times = slice_set b.times p u; awaits = slice_set b.awaits p None } ≡ trimmed_book (length b.times) (book_signalled b p f t)
 signalled_is b p f t u log c one two three =
     ap (λ (l : Log). record b { journal = l; closed = c; times = slice_set b.times p u; awaits = slice_set b.awaits p None }) one
     ∙ ap (λ (x : Closings). record b { journal = record b.journal { events = b.journal.events ++ event p (Await f) ∷ [] }; closed = x; times = slice_set b.times p u; awaits = slice_set b.awaits p None }) (three ∙ ap (λ n. trimmed_by b.closed (slice_set b.times p u) n) (length-set b.times p u))

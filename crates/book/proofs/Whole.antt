@@ -1,20 +1,18 @@
 -- The laws of whole transitions: the block, then the event.
-use Rattle.std.proofs.Common.{◌≡◌, ◌≢◌, ℕ, ◌<◌, ◌↔◌, inl, inr, List, [], ◌∷◌, ◌++◌, Some, None, slice_get, subst, sym, refl, ap, ◌∙◌, append_assoc, append-nil, arith, length}
+use Rattle.std.proofs.Common.{◌≢◌, ℕ, ◌↔◌, List, [], ◌∷◌, ◌++◌, sym, ap, ◌∙◌, append_assoc, append-nil, arith, length}
 use Rattle.std.proofs.lemmas.Bool.{true≢false}
 use Rattle.lists.proofs.Places.{push_induction}
 use Rattle.journal.specs.declared.event.Event.{Event}
-use Rattle.journal.specs.declared.event.Kind.{Kind}
 use Rattle.journal.specs.declared.event.Kind.TheVariants.{Acquire, Release, Await}
 use Rattle.journal.specs.Sizes.{Sizes}
 use Rattle.journal.specs.Events.{At, is_closing, is_taking}
 use Rattle.journal.specs.WellFormed.{Holds}
 use Rattle.journal.proofs.Places.{at_longer, at_last}
-use Rattle.journal.proofs.Ready.{IsPlainAt}
-use Rattle.book.specs.Events.{event, did}
+use Rattle.book.specs.Events.{did}
 use Rattle.book.specs.State.{State}
 use Rattle.book.specs.Transitions.{handed_in, book_took, book_signalled}
 use Rattle.book.specs.Told.{IsTold}
-use Rattle.book.specs.Laws.{IsInner, MayHandIn, NewLaw, HandInLaw, AskLaw, ReleaseLaw, ArriveLaw, SetLaw, WatchLaw, TakeLaw, SignalLaw, MailLaw, FlagLaw, trimmed_book}
+use Rattle.book.specs.Laws.{IsInner, MayHandIn, NewLaw, HandInLaw, AskLaw, ReleaseLaw, ArriveLaw, SetLaw, WatchLaw, TakeLaw, SignalLaw, MailLaw, FlagLaw}
 use Rattle.book.proofs.Doings.{holds_on, holds_back}
 use Rattle.book.proofs.Starting.{told_new, told_block, told_trimmed}
 use Rattle.book.proofs.Locking.{told_ask, told_release}

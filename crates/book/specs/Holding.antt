@@ -1,5 +1,5 @@
 -- How the book holds its value.
-use Rattle.std.specs.Prelude.{ℕ, ◌≡◌, ◌+◌, ◌^◌, ◌≤◌, length, vec_len}
+use Rattle.std.specs.Prelude.{◌+◌, ◌^◌, ◌≤◌, length}
 use Rattle.book.specs.declared.book.Book.TheInside.{Inside}
 use Rattle.book.specs.State.{State}
 

@@ -42,27 +42,27 @@ HandInLaw = (s : Sizes) (h block : List Event) (b : State) (p : ℕ) → IsTold 
 -- an ask of a lock that p doesn't hold
 abbrev pub AskLaw : Type 0
 AskLaw = (s : Sizes) (h block : List Event) (b : State) (p l : ℕ) (records : List Changes) → IsTold s h b → MayHandIn s b p block → AreOpenRecords s (h ++ block) p records → l < s.locks → ¬ Holds h p l
-  → IsTold s (did (h ++ block) p (Ask l)) (book_asked (handed_in b block) p l records)
+    → IsTold s (did (h ++ block) p (Ask l)) (book_asked (handed_in b block) p l records)
 
 -- a release of a lock that p holds
 abbrev pub ReleaseLaw : Type 0
 ReleaseLaw = (s : Sizes) (h block : List Event) (b : State) (p l : ℕ) (records : List Changes) → IsTold s h b → MayHandIn s b p block → AreOpenRecords s (h ++ block) p records → l < s.locks → Holds h p l
-  → IsTold s (did (h ++ block) p (Release l)) (book_released (handed_in b block) p l records)
+    → IsTold s (did (h ++ block) p (Release l)) (book_released (handed_in b block) p l records)
 
 -- an arrival
 abbrev pub ArriveLaw : Type 0
 ArriveLaw = (s : Sizes) (h block : List Event) (b : State) (p : ℕ) (records : List Changes) → IsTold s h b → MayHandIn s b p block → AreOpenRecords s (h ++ block) p records
-  → IsTold s (did (h ++ block) p Arrive) (book_arrived (handed_in b block) p records)
+    → IsTold s (did (h ++ block) p Arrive) (book_arrived (handed_in b block) p records)
 
 -- a set of a flag
 abbrev pub SetLaw : Type 0
 SetLaw = (s : Sizes) (h block : List Event) (b : State) (p f : ℕ) (records : List Changes) → IsTold s h b → MayHandIn s b p block → AreOpenRecords s (h ++ block) p records → f < s.flags
-  → IsTold s (did (h ++ block) p (Set f)) (book_set (handed_in b block) p f records)
+    → IsTold s (did (h ++ block) p (Set f)) (book_set (handed_in b block) p f records)
 
 -- a watch of a flag
 abbrev pub WatchLaw : Type 0
 WatchLaw = (s : Sizes) (h block : List Event) (b : State) (p f : ℕ) (records : List Changes) → IsTold s h b → MayHandIn s b p block → AreOpenRecords s (h ++ block) p records → f < s.flags
-  → IsTold s (did (h ++ block) p (Watch f)) (book_watched (handed_in b block) p f records)
+    → IsTold s (did (h ++ block) p (Watch f)) (book_watched (handed_in b block) p f records)
 
 -- the book with the intervals trimmed that everyone's timestamp covers
 abbrev pub trimmed_book : ℕ → State → State
@@ -71,19 +71,19 @@ trimmed_book n b = record b { closed = trimmed_by b.closed b.times n }
 -- a take of a grant or a departure
 abbrev pub TakeLaw : Type 0
 TakeLaw = (s : Sizes) (h : List Event) (b : State) (p : ℕ) (k : Kind) (m : Letter) → IsTold s h b → slice_get b.awaits p ≡ Some (Some k) → slice_get b.transit p ≡ Some (Some m)
-  → IsTold s (did h p k) (trimmed_book s.processors (book_took b p k m))
+    → IsTold s (did h p k) (trimmed_book s.processors (book_took b p k m))
 
 -- a take of a flag's signal
 abbrev pub SignalLaw : Type 0
 SignalLaw = (s : Sizes) (h : List Event) (b : State) (p f : ℕ) (t : List ℕ) → IsTold s h b → slice_get b.awaits p ≡ Some (Some (Await f)) → slice_get b.flags f ≡ Some (Some t)
-  → IsTold s (did h p (Await f)) (trimmed_book s.processors (book_signalled b p f t))
+    → IsTold s (did h p (Await f)) (trimmed_book s.processors (book_signalled b p f t))
 
 -- who waits for a lock or at the barrier may go on exactly where its message is there
 abbrev pub MailLaw : Type 0
 MailLaw = (s : Sizes) (h : List Event) (b : State) (p : ℕ) (k : Kind) (m : Option Letter) → IsTold s h b → slice_get b.awaits p ≡ Some (Some k) → IsPosted k → slice_get b.transit p ≡ Some m
-  → (m ≢ None) ↔ Ready s h p
+    → (m ≢ None) ↔ Ready s h p
 
 -- who waits for a flag may go on exactly where it is set
 abbrev pub FlagLaw : Type 0
 FlagLaw = (s : Sizes) (h : List Event) (b : State) (p f : ℕ) (t : Option (List ℕ)) → IsTold s h b → slice_get b.awaits p ≡ Some (Some (Await f)) → slice_get b.flags f ≡ Some t
-  → (t ≢ None) ↔ Ready s h p
+    → (t ≢ None) ↔ Ready s h p

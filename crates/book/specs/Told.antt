@@ -1,5 +1,5 @@
 -- Everything in the book is what the history says.
-use Rattle.std.specs.Prelude.{ℕ, ◌≡◌, ◌≤◌, ◌*◌, Some, List, slice_get}
+use Rattle.std.specs.Prelude.{ℕ, ◌≡◌, Some, List, slice_get}
 use Rattle.journal.specs.declared.event.Event.{Event}
 use Rattle.journal.specs.Sizes.{Sizes, addresses}
 use Rattle.journal.specs.WellFormed.{WellFormed}

@@ -60,7 +60,14 @@ impl Model for Book {
 impl Book {
     /// The empty book of a cluster of these sizes: 1 to 16 processors, up to 32 locks, flags, pages and
     /// words a page within the cluster's sizes. The only error is want of memory.
-    pub fn new(alloc: Global, processors: usize, pages: usize, words: usize, locks: usize, flags: usize) -> Result<Book, AllocError>
+    pub fn new(
+        alloc: Global,
+        processors: usize,
+        pages: usize,
+        words: usize,
+        locks: usize,
+        flags: usize,
+    ) -> Result<Book, AllocError>
         requires some { 1 ≤ processors }
         requires most { processors ≤ 16 }
         requires locks { locks ≤ 32 }
@@ -124,7 +131,13 @@ impl Book {
 
     /// Watches a flag: closes the interval, whose records these are, and from then on `p` waits for the
     /// flag. Otherwise as `hand_in`, with one event more.
-    pub fn watch(&mut self, p: usize, f: usize, block: &[Event], records: Vec<Arc<Record>>) -> Result<(), Refused>
+    pub fn watch(
+        &mut self,
+        p: usize,
+        f: usize,
+        block: &[Event],
+        records: Vec<Arc<Record>>,
+    ) -> Result<(), Refused>
         requires call { MayCall self.old p block.now }
         requires short { length block.now ≤ 256 }
         requires rising { HasRisingPages (map arc_value records.items) }
@@ -138,7 +151,13 @@ impl Book {
 
     /// Sets a flag: closes the interval, and joins the timestamp of `p` after that into the flag's.
     /// Otherwise as `watch`.
-    pub fn set(&mut self, p: usize, f: usize, block: &[Event], records: Vec<Arc<Record>>) -> Result<(), Refused>
+    pub fn set(
+        &mut self,
+        p: usize,
+        f: usize,
+        block: &[Event],
+        records: Vec<Arc<Record>>,
+    ) -> Result<(), Refused>
         requires call { MayCall self.old p block.now }
         requires flag { f < length self.old.flags }
         requires short { length block.now ≤ 256 }
@@ -157,7 +176,13 @@ impl Book {
     /// Asks for a lock that `p` doesn't hold: closes the interval, and puts `p` into the lock's line. Where
     /// nobody holds the lock, the grant is posted, with what the lock's last release knew and `p` doesn't.
     /// Otherwise as `watch`.
-    pub fn ask(&mut self, p: usize, l: usize, block: &[Event], records: Vec<Arc<Record>>) -> Result<(), Refused>
+    pub fn ask(
+        &mut self,
+        p: usize,
+        l: usize,
+        block: &[Event],
+        records: Vec<Arc<Record>>,
+    ) -> Result<(), Refused>
         requires call { MayAsk self.old p l block.now }
         requires short { length block.now ≤ 256 }
         requires rising { HasRisingPages (map arc_value records.items) }
@@ -187,9 +212,9 @@ impl Book {
         requires time_long { length (lock_at self.now.locks l).time ≡ length self.now.closed.first }
         requires kept { (q : ℕ) → slice_index self.now.closed.first q ≤ slice_index (time_of self.now p) q }
         ensures { IfOk result (λ m. option_map letter m ≡ due (lock_at self.now.locks l).holder (record {
-            kind = grant;
-            time = (lock_at self.now.locks l).time;
-            notices = between self.now.closed (tick (time_of self.now p) p) (lock_at self.now.locks l).time;
+          kind = grant;
+          time = (lock_at self.now.locks l).time;
+          notices = between self.now.closed (tick (time_of self.now p) p) (lock_at self.now.locks l).time;
         })) }
     {
         let locks = &self.locks;
@@ -277,10 +302,12 @@ impl Book {
     pub fn last(&mut self, p: usize, block: &[Event])
         requires call { MayCall self.old p block.now }
         requires room { length block.now ≤ self.old.journal.room }
-        ensures { self.new ≡ record self.old { journal = record self.old.journal {
+        ensures { self.new ≡ record self.old {
+          journal = record self.old.journal {
             events = self.old.journal.events ++ block.now;
             room = self.old.journal.room - length block.now;
-        } } }
+          };
+        } }
     {
         append_all(&mut self.journal, block);
         self.owing -= block.len();
@@ -288,7 +315,13 @@ impl Book {
 
     /// Hands the block in, closes the interval of `p` and appends the event that closes it. All growths
     /// come first.
-    fn close(&mut self, p: usize, kind: Kind, block: &[Event], records: Vec<Arc<Record>>) -> Result<(), Refused>
+    fn close(
+        &mut self,
+        p: usize,
+        kind: Kind,
+        block: &[Event],
+        records: Vec<Arc<Record>>,
+    ) -> Result<(), Refused>
         requires call { MayCall self.old p block.now }
         requires short { length block.now ≤ 256 }
         requires rising { HasRisingPages (map arc_value records.items) }
@@ -300,7 +333,11 @@ impl Book {
     {
         make_room(&mut self.journal, self.owing, block.len() + 1)?;
         let number = self.times[p].entry(p);
-        self.closed.push(Interval { owner: p, number, records })?;
+        self.closed.push(Interval {
+            owner: p,
+            number,
+            records,
+        })?;
         append_all(&mut self.journal, block);
         self.journal.append(Event { processor: p, kind });
         self.times[p].tick(p);

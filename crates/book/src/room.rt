@@ -9,7 +9,11 @@ use journal::{Event, Journal};
 const LIMIT: usize = 1 << 20;
 
 /// Makes room for `additional` more events and those that are owing.
-pub(crate) fn make_room(journal: &mut Journal, owing: usize, additional: usize) -> Result<(), Refused>
+pub(crate) fn make_room(
+    journal: &mut Journal,
+    owing: usize,
+    additional: usize,
+) -> Result<(), Refused>
     requires owing { owing ≤ 2 ^ 12 }
     requires additional { additional ≤ 2 ^ 9 }
     ensures ok { OnOk result ((owing + additional ≤ journal.new.room) × (length journal.old.events + additional ≤ 2 ^ 20)) }

@@ -1,4 +1,4 @@
-use Rattle.std.proofs.Common.{◌≡◌, ◌<◌, ◌≤◌, ℕ, length, map, Option, Some, None, slice_get, slice_index, ap, ◌∙◌, sym, subst, arith}
+use Rattle.std.proofs.Common.{map, Option, slice_get, ap, ◌∙◌, sym, subst, arith}
 use Rattle.std.specs.Arc.{arc_value}
 use Rattle.std.specs.Option.{option_map}
 use Rattle.journal.specs.declared.event.Kind.TheVariants.{Ask}

@@ -1,9 +1,8 @@
-use Rattle.std.proofs.Common.{◌≡◌, ◌<◌, ◌≤◌, ◌^◌, ℕ, length, map, Some, slice_get, slice_index, slice_index_or, [], ap, ◌∙◌, sym, subst, arith}
-use Rattle.std.proofs.lemmas.Option.{get_or_from_slice_get}
+use Rattle.std.proofs.Common.{◌≡◌, length, map, slice_index, ap, ◌∙◌, arith}
 use Rattle.std.specs.Arc.{arc_value}
 use Rattle.journal.specs.Log.{Log}
 use Rattle.vtime.specs.Times.{tick}
-use Rattle.interval.specs.Closings.{Closings, pushed}
+use Rattle.interval.specs.Closings.{pushed}
 use Rattle.book.specs.Events.{event}
 use Rattle.book.specs.State.{State, time_of}
 use Rattle.book.specs.Transitions.{handed_in, closing}
@@ -58,7 +57,7 @@ returns-clause-ok c =
     let records = map arc_value c.args.records.items in
     let log = logs_are c.self.inside.journal c.make_room.new.journal c.append_all.new.journal c.append.new.self c.self.inside.owing c.args.block.now (event c.args.p c.args.kind) c.in_ok-make_room.ensures.same c.append_all.ensures c.append.ensures in
     let closed : c.push.new.self ≡ pushed c.self.inside.closed (record { owner = c.args.p; number = slice_index (time_of (state_of c.self.inside) c.args.p) c.args.p; records = records })
-        = c.in_ok-push.ensures.ok ∙ ap (λ n. pushed c.self.inside.closed (record { owner = c.args.p; number = n; records = records })) (own_entry_read c.index.result.now (time_of (state_of c.self.inside) c.args.p) c.args.p c.entry-number.result (own_read c.self.inside.times.items c.args.p c.index.result.now (stands (state_of c.self.inside) c.args.self.now c.args.p c.args.block.now c.self.view_is c.requires.call).times c.index.ensures) c.entry-number.ensures) in
+    = c.in_ok-push.ensures.ok ∙ ap (λ n. pushed c.self.inside.closed (record { owner = c.args.p; number = n; records = records })) (own_entry_read c.index.result.now (time_of (state_of c.self.inside) c.args.p) c.args.p c.entry-number.result (own_read c.self.inside.times.items c.args.p c.index.result.now (stands (state_of c.self.inside) c.args.self.now c.args.p c.args.block.now c.self.view_is c.requires.call).times c.index.ensures) c.entry-number.ensures) in
     let time = c.tick.ensures ∙ ap (λ ts. tick ts c.args.p) (own_read c.self.inside.times.items c.args.p c.index_mut.result.now (stands (state_of c.self.inside) c.args.self.now c.args.p c.args.block.now c.self.view_is c.requires.call).times c.index_mut.ensures.value) in
     let whole = closing_is (state_of c.self.inside) c.args.p c.args.kind c.args.block.now records (record c.append.new.self { room = c.self.inside.owing }) c.push.new.self c.tick.new.self c.awaited.result log closed time c.awaited.ensures in
     whole ∙ ap (λ (b : State). closing (handed_in b c.args.block.now) c.args.p c.args.kind records) c.self.view_is

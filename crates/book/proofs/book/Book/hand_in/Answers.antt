@@ -1,4 +1,4 @@
-use Rattle.std.proofs.Common.{◌≡◌, ap, ◌∙◌}
+use Rattle.std.proofs.Common.{ap, ◌∙◌}
 use Rattle.journal.specs.Log.{Log}
 use Rattle.book.specs.State.{State}
 use Rattle.book.proofs.Calling.{block_processors, block_addresses}

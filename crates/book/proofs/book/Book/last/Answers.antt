@@ -1,4 +1,4 @@
-use Rattle.std.proofs.Common.{◌≡◌, ap}
+use Rattle.std.proofs.Common.{ap}
 use Rattle.book.specs.State.{State}
 use Rattle.book.proofs.Calling.{block_processors, block_addresses}
 use Rattle.book.proofs.book.Book.last.Goals as goal

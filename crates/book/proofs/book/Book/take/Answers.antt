@@ -1,12 +1,10 @@
-use Rattle.std.proofs.Common.{◌≡◌, ◌<◌, ℕ, ◌↔◌, Some, None, Err, IfOk, slice_get, slice_index_or, refl, ap, ◌∙◌, sym, subst, arith}
-use Rattle.std.proofs.lemmas.Option.{none-some, same_Some}
-use Rattle.journal.specs.declared.event.Kind.{Kind}
-use Rattle.journal.specs.declared.event.Kind.TheVariants.{Await}
+use Rattle.std.proofs.Common.{◌≡◌, ◌↔◌, Some, Err, IfOk, slice_index_or, ap, ◌∙◌, sym, subst, arith}
+use Rattle.std.proofs.lemmas.Option.{same_Some}
 use Rattle.transit.specs.Letters.{letter}
 use Rattle.book.specs.declared.refused.Refused.TheVariants.{NotYet}
 use Rattle.book.specs.State.{State}
-use Rattle.book.specs.Calls.{MayTake, IsAbsent, Takes, TakesMail}
-use Rattle.book.proofs.Receiving.{IsReceiving, receiving, read_is, waits_posted, takes_mail, absent_mail, if_ok_map}
+use Rattle.book.specs.Calls.{MayTake, IsAbsent, Takes}
+use Rattle.book.proofs.Receiving.{IsReceiving, receiving, read_is, waits_posted}
 use Rattle.book.proofs.book.Book.take.Goals as goal
 
 pub index-requires : goal.index-requires
@@ -40,4 +38,3 @@ returns-in-Await-clause-absent c = λ k waits.
     let first = same_Some k c.requires.call.0 (same_Some (Some k) (Some c.requires.call.0) (sym waits ∙ c.requires.call.1.3)) in
     let whole = sym (first ∙ same ∙ c.in-Await.is) in
     subst (λ a. (c.take_signal.result ≡ Err NotYet) ↔ IsAbsent c.args.self.now c.args.p a) whole c.take_signal.ensures.absent
-

@@ -1,20 +1,12 @@
-use Rattle.std.proofs.Common.{◌≡◌, ◌<◌, ◌≤◌, ℕ, List, [], length, inl, inr, Option, Some, None, slice_get, slice_set, slice_index, slice_index_or, ap, ◌∙◌, sym, subst, arith}
-use Rattle.std.proofs.lemmas.Option.{none-some}
+use Rattle.std.proofs.Common.{◌≡◌, ℕ, List, length, Option, Some, slice_get, slice_set, ap, ◌∙◌, sym, subst, arith}
 use Rattle.std.proofs.lemmas.List.{length-set}
 use Rattle.std.specs.Option.{option_map}
 use Rattle.journal.specs.Log.{Log}
-use Rattle.vtime.specs.Times.{join}
-use Rattle.transit.specs.Letters.{Letter, letter}
+use Rattle.transit.specs.Letters.{letter}
 use Rattle.transit.specs.declared.message.Message.{Message}
-use Rattle.book.specs.Events.{event}
-use Rattle.book.specs.State.{State, time_of}
-use Rattle.book.specs.Holding.{state_of}
-use Rattle.book.specs.Laws.{trimmed_book}
-use Rattle.book.specs.Transitions.{trimmed_by, book_took}
-use Rattle.book.specs.declared.refused.Refused.TheVariants.{NotYet, NoMemory, JournalFull}
 use Rattle.book.proofs.Calling.{own_read}
-use Rattle.book.proofs.Watching.{all_long_set, log_is}
-use Rattle.book.proofs.Receiving.{IsReceiving, receiving, posted_address, posted_ends, took_is}
+use Rattle.book.proofs.Watching.{all_long_set}
+use Rattle.book.proofs.Receiving.{IsReceiving, receiving, posted_address}
 use Rattle.book.proofs.book.Book.take_message.Goals as goal
 
 pub append-requires-clause-processor : goal.append-requires-clause-processor

@@ -1,4 +1,4 @@
-use Rattle.std.proofs.Common.{◌≡◌, ◌<◌, ◌≤◌, ℕ, List, [], length, inl, inr, Some, None, slice_get, slice_set, slice_index, slice_index_or, ap, ◌∙◌, sym, subst, arith}
+use Rattle.std.proofs.Common.{◌≡◌, ◌≤◌, ℕ, List, length, inl, inr, Some, None, slice_get, slice_set, slice_index, slice_index_or, ap, ◌∙◌, sym, subst, arith}
 use Rattle.journal.specs.Log.{Log}
 use Rattle.book.specs.State.{State, time_of}
 use Rattle.book.specs.Holding.{state_of}
@@ -8,12 +8,11 @@ use Rattle.journal.specs.declared.event.Kind.TheVariants.{Await}
 use Rattle.vtime.specs.Times.{join}
 use Rattle.interval.specs.Intervals.{SentRecord}
 use Rattle.interval.specs.Closings.{between}
-use Rattle.transit.specs.Letters.{Letter}
 use Rattle.transit.specs.Letters.Kind.{signal}
 use Rattle.book.specs.Events.{event}
 use Rattle.book.specs.Laws.{trimmed_book}
 use Rattle.book.specs.Transitions.{trimmed_by, book_signalled}
-use Rattle.book.specs.declared.refused.Refused.TheVariants.{NotYet, NoMemory, JournalFull}
+use Rattle.book.specs.declared.refused.Refused.TheVariants.{NotYet, NoMemory}
 use Rattle.book.proofs.Calling.{own_read, same_default}
 use Rattle.book.proofs.Watching.{IsWatching, watching, all_long_set, log_is, signalled_is}
 use Rattle.book.proofs.book.Book.take_signal.Goals as goal
@@ -70,15 +69,17 @@ trim-requires-clause-long c =
 
 pub returns-in_err-make_room-clause-absent : goal.returns-in_err-make_room-clause-absent
 returns-in_err-make_room-clause-absent c =
-    let w = subst (λ b. IsWatching b c.args.p c.args.f) (sym c.self.view_is) (watching c.args.self.now c.args.p c.args.f c.requires.call) in
-    ((λ e. (let x : NotYet ≡ c.in_err-make_room.field-0.0 = rw e at c.from_residual.ensures.1 in elim c.in_err-make_room.ensures.only [ inl full ↦ absurd (cc (full)) | inr none ↦ absurd (cc (none)) ])),
-     (λ e. absurd (none-some c.in-Some.time (sym e ∙ (ap (λ (b : State). slice_index_or b.flags c.args.f None) (sym c.self.view_is) ∙ (sym (same_default c.self.inside.flags.items c.args.f c.index.result.now None w.flag) ∙ sym c.index.ensures ∙ c.in-Some.is))))))
+    let w = subst (λ b. IsWatching b c.args.p c.args.f) (sym c.self.view_is) (watching c.args.self.now c.args.p c.args.f c.requires.call) in (
+      (λ e. (let x : NotYet ≡ c.in_err-make_room.field-0.0 = rw e at c.from_residual.ensures.1 in elim c.in_err-make_room.ensures.only [ inl full ↦ absurd (cc (full)) | inr none ↦ absurd (cc (none)) ])),
+      (λ e. absurd (none-some c.in-Some.time (sym e ∙ (ap (λ (b : State). slice_index_or b.flags c.args.f None) (sym c.self.view_is) ∙ (sym (same_default c.self.inside.flags.items c.args.f c.index.result.now None w.flag) ∙ sym c.index.ensures ∙ c.in-Some.is))))),
+    )
 
 pub returns-in_err-notices-clause-absent : goal.returns-in_err-notices-clause-absent
 returns-in_err-notices-clause-absent c =
-    let w = subst (λ b. IsWatching b c.args.p c.args.f) (sym c.self.view_is) (watching c.args.self.now c.args.p c.args.f c.requires.call) in
-    ((λ e. (let x : NotYet ≡ NoMemory = rw e at c.from_residual-in_err-notices.ensures.1 in absurd (cc (x)))),
-     (λ e. absurd (none-some c.in-Some.time (sym e ∙ (ap (λ (b : State). slice_index_or b.flags c.args.f None) (sym c.self.view_is) ∙ (sym (same_default c.self.inside.flags.items c.args.f c.index.result.now None w.flag) ∙ sym c.index.ensures ∙ c.in-Some.is))))))
+    let w = subst (λ b. IsWatching b c.args.p c.args.f) (sym c.self.view_is) (watching c.args.self.now c.args.p c.args.f c.requires.call) in (
+      (λ e. (let x : NotYet ≡ NoMemory = rw e at c.from_residual-in_err-notices.ensures.1 in absurd (cc (x)))),
+      (λ e. absurd (none-some c.in-Some.time (sym e ∙ (ap (λ (b : State). slice_index_or b.flags c.args.f None) (sym c.self.view_is) ∙ (sym (same_default c.self.inside.flags.items c.args.f c.index.result.now None w.flag) ∙ sym c.index.ensures ∙ c.in-Some.is))))),
+    )
 
 pub returns-clause-absent : goal.returns-clause-absent
 returns-clause-absent c =
@@ -95,7 +96,8 @@ returns-clause-ok c =
     let time = c.join.ensures.value ∙ ap (λ (t : List ℕ). join t c.copy-time.result) again in
     let trims : c.trim.new.closed ≡ trimmed_by c.self.inside.closed c.deref.result.now (length c.deref.result.now) = c.trim.ensures in
     let closed = trims ∙ ap (λ (ts : List (List ℕ)). trimmed_by c.self.inside.closed ts (length ts)) d in
-    let whole = signalled_is (state_of c.self.inside) c.args.p c.args.f c.copy-time.result c.join.new.self (record c.append.new.self { room = c.self.inside.owing }) c.trim.new.closed log time closed in
-    ( (ap (λ (b : State). slice_index_or b.flags c.args.f None) (sym c.self.view_is) ∙ (sym (same_default c.self.inside.flags.items c.args.f c.index.result.now None w.flag) ∙ sym c.index.ensures ∙ c.in-Some.is)) ∙ ap (λ (t : List ℕ). Some t) (sym c.copy-time.ensures),
+    let whole = signalled_is (state_of c.self.inside) c.args.p c.args.f c.copy-time.result c.join.new.self (record c.append.new.self { room = c.self.inside.owing }) c.trim.new.closed log time closed in (
+      (ap (λ (b : State). slice_index_or b.flags c.args.f None) (sym c.self.view_is) ∙ (sym (same_default c.self.inside.flags.items c.args.f c.index.result.now None w.flag) ∙ sym c.index.ensures ∙ c.in-Some.is)) ∙ ap (λ (t : List ℕ). Some t) (sym c.copy-time.ensures),
       ap (λ (ns : List SentRecord). record { kind = signal; time = c.copy-time.result; notices = ns }) (c.in_ok-notices.ensures.value ∙ ap (λ (t : List ℕ). between c.self.inside.closed t c.copy-time.result) read ∙ ap (λ (b : State). between b.closed (time_of b c.args.p) c.copy-time.result) c.self.view_is),
-      whole ∙ ap (λ (b : State). trimmed_book (length b.times) (book_signalled b c.args.p c.args.f c.copy-time.result)) c.self.view_is )
+      whole ∙ ap (λ (b : State). trimmed_book (length b.times) (book_signalled b c.args.p c.args.f c.copy-time.result)) c.self.view_is,
+    )
