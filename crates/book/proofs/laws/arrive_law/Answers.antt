@@ -1,0 +1,5 @@
+use Rattle.book.proofs.Whole.{arrive_law}
+use Rattle.book.proofs.laws.arrive_law.Goals as goal
+
+pub returns : goal.returns
+returns c = arrive_law

@@ -1,0 +1,5 @@
+use Rattle.book.proofs.Whole.{flag_law}
+use Rattle.book.proofs.laws.flag_law.Goals as goal
+
+pub returns : goal.returns
+returns c = flag_law

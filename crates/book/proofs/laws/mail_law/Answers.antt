@@ -1,0 +1,5 @@
+use Rattle.book.proofs.Whole.{mail_law}
+use Rattle.book.proofs.laws.mail_law.Goals as goal
+
+pub returns : goal.returns
+returns c = mail_law

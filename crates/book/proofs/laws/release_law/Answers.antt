@@ -1,0 +1,5 @@
+use Rattle.book.proofs.Whole.{release_law}
+use Rattle.book.proofs.laws.release_law.Goals as goal
+
+pub returns : goal.returns
+returns c = release_law

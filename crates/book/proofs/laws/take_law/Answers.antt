@@ -1,0 +1,5 @@
+use Rattle.book.proofs.Whole.{take_law}
+use Rattle.book.proofs.laws.take_law.Goals as goal
+
+pub returns : goal.returns
+returns c = take_law

@@ -1,0 +1,44 @@
+-- What a call of an idle processor may rest on.
+use Rattle.std.specs.Prelude.{ℕ, ◌≡◌, ◌<◌, List, Some, None, length, slice_get, slice_index_or}
+use Rattle.journal.specs.declared.event.Event.{Event}
+use Rattle.journal.specs.declared.event.Kind.{Kind}
+use Rattle.journal.specs.declared.event.Kind.TheVariants.{Await}
+use Rattle.journal.specs.Sizes.{Sizes}
+use Rattle.interval.specs.Closings.{between}
+use Rattle.transit.specs.Letters.{Letter}
+use Rattle.transit.specs.Letters.Kind.{signal}
+use Rattle.book.specs.Transitions.{book_took, book_signalled}
+use Rattle.journal.specs.WellFormed.{Holds}
+use Rattle.book.specs.State.{State, time_of}
+use Rattle.book.specs.Told.{IsTold}
+use Rattle.book.specs.Laws.{MayHandIn, trimmed_book}
+
+-- by some history that tells the book, p may hand in this block
+abbrev pub MayCall : State → ℕ → List Event → Type 0
+MayCall b p block = (s : Sizes) × (h : List Event) × IsTold s h b × MayHandIn s b p block
+
+-- by some history that tells the book, p may hand in this block and ask for lock l
+abbrev pub MayAsk : State → ℕ → ℕ → List Event → Type 0
+MayAsk b p l block = (s : Sizes) × (h : List Event) × IsTold s h b × MayHandIn s b p block × (l < s.locks) × ¬ Holds h p l
+
+-- by some history that tells the book, p waits for this
+abbrev pub MayTake : State → ℕ → Kind → Type 0
+MayTake b p k = (s : Sizes) × (h : List Event) × IsTold s h b × (slice_get b.awaits p ≡ Some (Some k))
+
+-- and p waits for something
+abbrev pub MayTakeSome : State → ℕ → Type 0
+MayTakeSome b p = (k : Kind) × MayTake b p k
+
+-- what p waits for is not here
+abbrev pub IsAbsent : State → ℕ → Kind → Type 0
+IsAbsent b p (Await f) = slice_index_or b.flags f None ≡ None
+IsAbsent b p _ = slice_index_or b.transit p None ≡ None
+
+-- p takes its grant or its departure
+abbrev pub TakesMail : State → ℕ → Kind → Letter → State → Type 0
+TakesMail old p k m new = (slice_index_or old.transit p None ≡ Some m) × (new ≡ trimmed_book (length old.times) (book_took old p k m))
+
+-- p takes this message: its grant or its departure, or the signal of a flag with the flag's time
+abbrev pub Takes : State → ℕ → Kind → Letter → State → Type 0
+Takes old p (Await f) m new = (slice_index_or old.flags f None ≡ Some m.time) × (m ≡ record { kind = signal; time = m.time; notices = between old.closed (time_of old p) m.time }) × (new ≡ trimmed_book (length old.times) (book_signalled old p f m.time))
+Takes old p k m new = TakesMail old p k m new

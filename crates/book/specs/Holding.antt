@@ -1,0 +1,23 @@
+-- How the book holds its value.
+use Rattle.std.specs.Prelude.{◌+◌, ◌^◌, ◌≤◌, length}
+use Rattle.book.specs.declared.book.Book.TheInside.{Inside}
+use Rattle.book.specs.State.{State}
+
+-- the journal's room, as contracts see it, is that for what is owing to `finish`
+abbrev pub state_of : Inside → State
+state_of b = record {
+  journal = record b.journal { room = b.owing };
+  closed = b.closed;
+  times = b.times.items;
+  locks = b.locks;
+  barrier = b.barrier;
+  flags = b.flags.items;
+  awaits = b.awaits.items;
+  transit = b.transit;
+}
+
+-- what is owing has room
+pub record IsHeld (b : Inside) : Type 0 where
+  pub room : b.owing ≤ b.journal.room
+  pub owing : b.owing ≤ 2 ^ 12
+  pub few : length b.journal.events + b.owing ≤ 2 ^ 20 + 2 ^ 12

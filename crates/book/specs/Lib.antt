@@ -1,0 +1,13 @@
+pub mod Events
+pub mod Stamps
+pub mod Lines
+pub mod Mail
+pub mod Meetings
+pub mod Flags
+pub mod ClosedIntervals
+pub mod State
+pub mod Transitions
+pub mod Told
+pub mod Laws
+pub mod Holding
+pub mod Calls

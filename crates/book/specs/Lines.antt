@@ -1,0 +1,23 @@
+-- What a distributed lock is by the history: the line of its holder and its askers, and the time of its releases.
+use Rattle.std.specs.Prelude.{ℕ, ◌≡◌, ◌<◌, ◌⊎◌, Some, None, List, [], slice_get}
+use Rattle.journal.specs.declared.event.Event.{Event}
+use Rattle.journal.specs.declared.event.Kind.TheVariants.{Ask, Release}
+use Rattle.lists.specs.Places.{Has}
+use Rattle.journal.specs.WellFormed.{LastIs, Holds}
+use Rattle.journal.specs.Pasts.{UpToSome}
+use Rattle.journal.specs.Brings.{SomeDoes}
+use Rattle.lockq.specs.Lock.{Lock, line}
+use Rattle.book.specs.Stamps.{IsStamp}
+
+-- the open asks of lock l stand in the line in their order, and its holder, if there is one, first
+pub record IsLine (h : List Event) (l : ℕ) (xs : List ℕ) : Type 0 where
+  pub each : (q i : ℕ) → LastIs h q i (Ask l) → Has xs q
+  pub first : (q : ℕ) → Holds h q l → slice_get xs 0 ≡ Some q
+  pub asks : (x q : ℕ) → slice_get xs x ≡ Some q → ((i : ℕ) × LastIs h q i (Ask l)) ⊎ ((x ≡ 0) × Holds h q l)
+  pub order : (x y q r i k : ℕ) → x < y → slice_get xs x ≡ Some q → slice_get xs y ≡ Some r → LastIs h q i (Ask l) → LastIs h r k (Ask l) → i < k
+
+-- the lock has this line, and keeps the time of its releases
+pub record IsLock (n : ℕ) (h : List Event) (l : ℕ) (k : Lock) : Type 0 where
+  pub line_is : IsLine h l (line k)
+  pub held : k.holder ≡ None → k.queue ≡ []
+  pub time : IsStamp n h (UpToSome h (SomeDoes h (Release l))) k.time

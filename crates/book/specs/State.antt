@@ -1,0 +1,29 @@
+-- The book as contracts see it.
+use Rattle.std.specs.Prelude.{ℕ, ◌≡◌, Option, List, [], slice_index_or}
+use Rattle.journal.specs.declared.event.Event.{Event}
+use Rattle.journal.specs.declared.event.Kind.{Kind}
+use Rattle.journal.specs.Log.{Log}
+use Rattle.interval.specs.Closings.{Closings}
+use Rattle.lockq.specs.Lock.{Locks}
+use Rattle.barrier.specs.Episodes.{Episodes}
+use Rattle.transit.specs.Letters.{Letter}
+
+-- the journal, the closed intervals, each processor's timestamp, the locks, the barrier, the time of
+-- each flag that is set, what each processor waits for, and its message
+pub record State : Type 0 where
+  pub journal : Log
+  pub closed : Closings
+  pub times : List (List ℕ)
+  pub locks : Locks
+  pub barrier : Episodes
+  pub flags : List (Option (List ℕ))
+  pub awaits : List (Option Kind)
+  pub transit : List (Option Letter)
+
+-- the timestamp of processor p
+abbrev pub time_of : State → ℕ → List ℕ
+time_of b p = slice_index_or b.times p []
+
+-- the journal holds this history: today all of it
+abbrev pub HoldsHistory : Log → List Event → Type 0
+HoldsHistory log h = log.events ≡ h

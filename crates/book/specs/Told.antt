@@ -1,0 +1,36 @@
+-- Everything in the book is what the history says.
+use Rattle.std.specs.Prelude.{ℕ, ◌≡◌, Some, List, slice_get}
+use Rattle.journal.specs.declared.event.Event.{Event}
+use Rattle.journal.specs.Sizes.{Sizes, addresses}
+use Rattle.journal.specs.WellFormed.{WellFormed}
+use Rattle.journal.specs.Pasts.{InPast}
+use Rattle.interval.specs.Closings.{between}
+use Rattle.transit.specs.Letters.{Letter}
+use Rattle.book.specs.Stamps.{AreAll, IsStamp, IsAwaited}
+use Rattle.book.specs.Lines.{IsLock}
+use Rattle.book.specs.Mail.{IsMail}
+use Rattle.book.specs.Meetings.{IsBarrier}
+use Rattle.book.specs.Flags.{IsFlag}
+use Rattle.book.specs.ClosedIntervals.{AreClosed, IsWithin}
+use Rattle.book.specs.State.{State, HoldsHistory}
+
+-- the book is one of a cluster of these sizes
+pub record HasSizes (s : Sizes) (b : State) : Type 0 where
+  pub processors : b.journal.processors ≡ s.processors
+  pub addresses : b.journal.addresses ≡ addresses s
+  pub lockers : b.locks.processors ≡ s.processors
+
+-- the book is told by the history
+pub record IsTold (s : Sizes) (h : List Event) (b : State) : Type 0 where
+  pub well_formed : WellFormed s h
+  pub sizes : HasSizes s b
+  pub holds : HoldsHistory b.journal h
+  pub closed : AreClosed s h b.closed
+  pub times : AreAll s.processors (λ p t. IsStamp s.processors h (InPast h p) t) b.times
+  pub locks : AreAll s.locks (IsLock s.processors h) b.locks.locks
+  pub barrier : IsBarrier s h b.barrier
+  pub flags : AreAll s.flags (IsFlag s.processors h) b.flags
+  pub awaits : AreAll s.processors (IsAwaited h) b.awaits
+  pub transit : AreAll s.processors (IsMail s h) b.transit
+  pub notices : (p : ℕ) (m : Letter) (t : List ℕ) → slice_get b.transit p ≡ Some (Some m) → slice_get b.times p ≡ Some t → m.notices ≡ between b.closed t m.time
+  pub within : IsWithin b.closed.first b.times

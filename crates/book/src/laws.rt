@@ -1,0 +1,58 @@
+//! The laws of the transitions, as contracts of functions that do nothing: the check proves each by
+//! its name.
+ghost use Rattle.book.specs.Laws.{NewLaw, HandInLaw, AskLaw, ReleaseLaw, ArriveLaw, SetLaw, WatchLaw, TakeLaw, SignalLaw, MailLaw, FlagLaw};
+
+/// An empty book is told by the empty history.
+pub fn new_law()
+    ensures { NewLaw }
+{}
+
+/// A book that is told by a history is told, after a block, by the history with the block.
+pub fn hand_in_law()
+    ensures { HandInLaw }
+{}
+
+/// The same of an ask: the block, and the ask after it.
+pub fn ask_law()
+    ensures { AskLaw }
+{}
+
+/// The same of a release.
+pub fn release_law()
+    ensures { ReleaseLaw }
+{}
+
+/// The same of an arrival.
+pub fn arrive_law()
+    ensures { ArriveLaw }
+{}
+
+/// The same of a set of a flag.
+pub fn set_law()
+    ensures { SetLaw }
+{}
+
+/// The same of a watch of a flag.
+pub fn watch_law()
+    ensures { WatchLaw }
+{}
+
+/// The same of the take of a grant or a departure, with the trim after it.
+pub fn take_law()
+    ensures { TakeLaw }
+{}
+
+/// The same of the take of a flag's signal.
+pub fn take_signal_law()
+    ensures { SignalLaw }
+{}
+
+/// A grant or a departure is there exactly where its receiver may go on.
+pub fn mail_law()
+    ensures { MailLaw }
+{}
+
+/// A flag is set exactly where one who waits for it may go on.
+pub fn flag_law()
+    ensures { FlagLaw }
+{}

@@ -1,0 +1,18 @@
+//! The protocol's state behind the lock, as one value: the journal, the closed intervals, the
+//! distributed locks, the barrier, the flags, the timestamps, what each processor waits for, and the
+//! messages on their way (Keleher, Cox and Zwaenepoel, Lazy Release Consistency for Software
+//! Distributed Shared Memory, ISCA 1992).
+#![tactic(auto)]
+
+mod book;
+mod laws;
+mod refused;
+mod room;
+mod trims;
+
+pub use book::Book;
+pub use laws::{
+    arrive_law, ask_law, flag_law, hand_in_law, mail_law, new_law, release_law, set_law, take_law,
+    take_signal_law, watch_law,
+};
+pub use refused::Refused;

@@ -1,0 +1,43 @@
+//! Room in the journal.
+ghost use Rattle.std.specs.Prelude.{◌≡◌, ◌⊎◌, ◌+◌, ◌-◌, ◌^◌, ◌<◌, ◌≤◌, ◌++◌, ◌↔◌, All, IfErr, OnOk, length, Err};
+ghost use Rattle.journal.specs.InRange.{AddressInRange};
+
+use crate::refused::Refused;
+use journal::{Event, Journal};
+
+/// Events that the journal holds at most, but for what `finish` hands in.
+const LIMIT: usize = 1 << 20;
+
+/// Makes room for `additional` more events and those that are owing.
+pub(crate) fn make_room(
+    journal: &mut Journal,
+    owing: usize,
+    additional: usize,
+) -> Result<(), Refused>
+    requires owing { owing ≤ 2 ^ 12 }
+    requires additional { additional ≤ 2 ^ 9 }
+    ensures ok { OnOk result ((owing + additional ≤ journal.new.room) × (length journal.old.events + additional ≤ 2 ^ 20)) }
+    ensures same { journal.new ≡ record journal.old { room = journal.new.room } }
+    ensures grows { journal.old.room ≤ journal.new.room }
+    ensures full { result ≡ Err Refused.JournalFull ↔ (2 ^ 20 < length journal.old.events + additional) }
+    ensures only { IfErr result (λ e. (e ≡ Refused.JournalFull) ⊎ (e ≡ Refused.NoMemory)) }
+{
+    if journal.len() + additional > LIMIT {
+        return Err(Refused::JournalFull);
+    }
+    journal.reserve(owing + additional)?;
+    Ok(())
+}
+
+/// Puts the events at the journal's end.
+pub(crate) fn append_all(journal: &mut Journal, events: &[Event])
+    requires room { length events.now ≤ journal.old.room }
+    requires limit { length journal.old.events + length events.now ≤ 2 ^ 21 }
+    requires processor { All (λ e. e.processor < journal.old.processors) events.now }
+    requires address { All (λ e. AddressInRange journal.old.addresses e.kind) events.now }
+    ensures { journal.new ≡ record journal.old { events = journal.old.events ++ events.now; room = journal.old.room - length events.now } }
+{
+    for event in events {
+        journal.append(*event);
+    }
+}
