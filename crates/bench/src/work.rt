@@ -1,5 +1,8 @@
 //! What is measured.
 
+ghost use Rattle.std.specs.Prelude.{◌≡◌, IfOk, IfSome};
+ghost use Rattle.bench.specs.Answers.{IsAnswerOf, name_of};
+
 use crate::journals::build;
 use journal::{Journal, Traffic};
 use std::alloc::{AllocError, Global};
@@ -17,7 +20,9 @@ pub enum Work {
 
 impl Work {
     /// The work of this name.
-    pub fn named(name: &str) -> Option<Work> {
+    pub fn named(name: &str) -> Option<Work>
+        ensures { IfSome result (λ w. name.now ≡ name_of w) }
+    {
         match name {
             "build" => Some(Work::Build),
             "append" => Some(Work::Append),
@@ -40,7 +45,9 @@ pub enum Answer {
 }
 
 /// Does the work once.
-fn do_once(alloc: Global, work: Work, journal: &Journal) -> Result<Answer, AllocError> {
+fn do_once(alloc: Global, work: Work, journal: &Journal) -> Result<Answer, AllocError>
+    ensures { IfOk result (IsAnswerOf work journal.now) }
+{
     match work {
         Work::Build => Ok(Answer::Events(journal.len())),
         Work::Append => Ok(Answer::Events(build(alloc, journal.len())?.len())),
@@ -57,7 +64,9 @@ pub fn do_times(
     work: Work,
     journal: &Journal,
     more: usize,
-) -> Result<Answer, AllocError> {
+) -> Result<Answer, AllocError>
+    ensures { IfOk result (IsAnswerOf work journal.now) }
+{
     for _ in 0..more {
         do_once(alloc, work, journal)?;
     }

@@ -1,5 +1,5 @@
 //! The book: everything that the processors share.
-ghost use Rattle.std.specs.Prelude.{◌≡◌, ℕ, ◌+◌, ◌-◌, ◌*◌, None, replicate, ◌^◌, ◌<◌, ◌≤◌, ◌++◌, ◌↔◌, ◌⊎◌, true, map, OnOk, OnErr, IfErr, IfOk, IfSome, slice_index, slice_index_or, Err, length, slice_get, Some};
+ghost use Rattle.std.specs.Prelude.{◌≡◌, ◌≢◌, ℕ, ◌+◌, ◌-◌, ◌*◌, None, replicate, ◌^◌, ◌<◌, ◌≤◌, ◌++◌, ◌↔◌, ◌⊎◌, true, map, OnOk, OnErr, IfErr, IfOk, IfSome, slice_index, slice_index_or, Err, length, slice_get, Some};
 ghost use Rattle.std.specs.Arc.{arc_value};
 ghost use Rattle.journal.specs.declared.event.Kind.{Kind as AKind};
 ghost use Rattle.journal.specs.Events.{is_closing};
@@ -230,13 +230,15 @@ impl Book {
     }
 
     /// Takes what `p` waits for: its grant, its departure, or the signal of its flag, with what it is to
-    /// perform. NotYet exactly where that isn't there. Intervals that everyone has performed are dropped
-    /// then; a refused call drops none.
+    /// perform. NotYet exactly where that isn't there; else JournalFull exactly where the journal would have
+    /// more than 2^20 events. Intervals that everyone has performed are dropped then; a refused call drops
+    /// none.
     pub fn take(&mut self, p: usize) -> Result<Message, Refused>
         requires call { MayTakeSome self.old p }
         ensures ok { (k : AKind) → slice_get self.old.awaits p ≡ Some (Some k) → IfOk result (λ m. Takes self.old p k (letter m) self.new) }
         ensures err { OnErr result (self.new ≡ self.old) }
         ensures absent { (k : AKind) → slice_get self.old.awaits p ≡ Some (Some k) → result ≡ Err Refused.NotYet ↔ IsAbsent self.old p k }
+        ensures full { result ≢ Err Refused.NotYet → result ≡ Err Refused.JournalFull ↔ (2 ^ 20 < length self.old.journal.events + 1) }
         ensures only { IfErr result (λ e. (e ≡ Refused.NotYet) ⊎ (e ≡ Refused.JournalFull) ⊎ (e ≡ Refused.NoMemory)) }
     {
         let Some(kind) = self.awaits[p] else {
@@ -254,6 +256,7 @@ impl Book {
         ensures ok { IfOk result (λ m. Takes self.old p (Kind.Await f) (letter m) self.new) }
         ensures err { OnErr result (self.new ≡ self.old) }
         ensures absent { result ≡ Err Refused.NotYet ↔ IsAbsent self.old p (Kind.Await f) }
+        ensures full { result ≢ Err Refused.NotYet → result ≡ Err Refused.JournalFull ↔ (2 ^ 20 < length self.old.journal.events + 1) }
         ensures only { IfErr result (λ e. (e ≡ Refused.NotYet) ⊎ (e ≡ Refused.JournalFull) ⊎ (e ≡ Refused.NoMemory)) }
     {
         let Some(time) = &self.flags[f] else {
@@ -280,6 +283,7 @@ impl Book {
         ensures ok { IfOk result (λ m. TakesMail self.old p kind (letter m) self.new) }
         ensures err { OnErr result (self.new ≡ self.old) }
         ensures absent { result ≡ Err Refused.NotYet ↔ (slice_index_or self.old.transit p None ≡ None) }
+        ensures full { result ≢ Err Refused.NotYet → result ≡ Err Refused.JournalFull ↔ (2 ^ 20 < length self.old.journal.events + 1) }
         ensures only { IfErr result (λ e. (e ≡ Refused.NotYet) ⊎ (e ≡ Refused.JournalFull) ⊎ (e ≡ Refused.NoMemory)) }
     {
         let transit = &self.transit;

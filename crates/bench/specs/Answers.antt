@@ -1,0 +1,29 @@
+-- What each work answers.
+use Rattle.std.specs.Prelude.{ℕ, List, codes, ◌≡◌, ◌↔◌, IsTrue, MatchOption, length, replicate}
+use Rattle.journal.specs.Log.{Log}
+use Rattle.journal.specs.Flat.{Replays as replays}
+use Rattle.journal.specs.Races.{RaceFree, IsFirstRace}
+use Rattle.journal.specs.Traffic.{messages, records, words}
+use Rattle.bench.specs.declared.work.Work.{Work}
+use Rattle.bench.specs.declared.work.Work.TheVariants as work
+use Rattle.bench.specs.declared.work.Answer.{Answer}
+use Rattle.bench.specs.declared.work.Answer.TheVariants.{Events, FirstRace, Replays, Traffic}
+
+-- the answer is of this work on the journal
+abbrev pub IsAnswerOf : Work → Log → Answer → Type 0
+IsAnswerOf work.FirstRace j (FirstRace o) = MatchOption o (RaceFree j.events) (λ r. IsFirstRace j.events r.0 r.1)
+IsAnswerOf work.Replay j (Replays r) = IsTrue r ↔ replays (replicate j.addresses 0) j.events
+IsAnswerOf work.Traffic j (Traffic t) = (t.messages ≡ messages j.events) × (t.records ≡ records j.events) × (t.words ≡ words j.events)
+IsAnswerOf work.Build j (Events n) = n ≡ length j.events
+IsAnswerOf work.Append j (Events n) = n ≡ length j.events
+IsAnswerOf work.Copy j (Events n) = n ≡ length j.events
+IsAnswerOf _ j _ = ⊥
+
+-- the word that names the work
+abbrev pub name_of : Work → List ℕ
+name_of work.Build = codes "build"
+name_of work.Append = codes "append"
+name_of work.FirstRace = codes "first_race"
+name_of work.Replay = codes "replay"
+name_of work.Traffic = codes "traffic"
+name_of work.Copy = codes "copy"
