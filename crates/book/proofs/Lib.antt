@@ -17,3 +17,4 @@ pub mod Calling
 pub mod Asking
 pub mod Watching
 pub mod Receiving
+pub mod Releasing
