@@ -18,3 +18,5 @@ pub mod Asking
 pub mod Watching
 pub mod Receiving
 pub mod Releasing
+pub mod Posting
+pub mod Arriving

@@ -1,22 +1,22 @@
 //! The book: everything that the processors share.
-ghost use Rattle.std.specs.Prelude.{◌≡◌, ◌≢◌, ℕ, ◌+◌, ◌-◌, ◌*◌, None, replicate, ◌^◌, ◌<◌, ◌≤◌, ◌++◌, ◌↔◌, ◌⊎◌, true, map, OnOk, OnErr, IfErr, IfOk, IfSome, slice_index, slice_index_or, Err, length, slice_get, Some};
+ghost use Rattle.std.specs.Prelude.{◌≡◌, ◌≢◌, ℕ, ◌+◌, ◌-◌, ◌*◌, None, replicate, ◌^◌, ◌<◌, ◌≤◌, ◌++◌, ◌↔◌, ◌⊎◌, true, map, OnOk, OnErr, IfErr, IfOk, IfSome, slice_index, slice_index_or, Err, length, slice_get, slice_set, Some};
 ghost use Rattle.std.specs.Arc.{arc_value};
 ghost use Rattle.journal.specs.declared.event.Kind.{Kind as AKind};
 ghost use Rattle.journal.specs.Events.{is_closing};
 ghost use Rattle.journal.specs.Waits.{awaited};
 ghost use Rattle.interval.specs.Intervals.{HasRisingPages};
-ghost use Rattle.book.specs.Calls.{MayCall, MayAsk, MayRelease, MayTake, MayTakeSome, IsAbsent, Takes, TakesMail};
-ghost use Rattle.book.specs.Transitions.{new_book, handed_in, closing, due, left, set_at, book_watched, book_set, book_asked, book_released};
+ghost use Rattle.book.specs.Calls.{MayCall, MayAsk, MayRelease, MayBeSent, MayTake, MayTakeSome, IsAbsent, Takes, TakesMail};
+ghost use Rattle.book.specs.Transitions.{new_book, handed_in, closing, due, left, set_at, book_watched, book_set, book_asked, book_released, book_arrived, departures_after};
 ghost use Rattle.book.specs.State.{time_of};
 ghost use Rattle.book.specs.Mail.{IsPosted};
 ghost use Rattle.std.specs.Option.{option_map};
 ghost use Rattle.vtime.specs.Times.{tick};
-ghost use Rattle.interval.specs.Closings.{between};
+ghost use Rattle.interval.specs.Closings.{between, pushed};
 ghost use Rattle.lockq.specs.Lock.{lock_at};
 ghost use Rattle.transit.specs.Letters.{letter};
 ghost use Rattle.transit.specs.Letters.Kind.{grant};
 
-use crate::messages::grant_to;
+use crate::messages::{departures, grant_to, post_all};
 use crate::refused::Refused;
 use crate::room::{append_all, make_room};
 use crate::trims::trim;
@@ -238,6 +238,68 @@ impl Book {
             None => {}
         }
         Ok(())
+    }
+
+    /// Arrives at the barrier: closes the interval, and joins the timestamp of `p` after that into the
+    /// episode's. Where all others have arrived, the episode is complete, and each processor gets its
+    /// departure, with what it doesn't know. Otherwise as `watch`.
+    pub fn arrive(
+        &mut self,
+        p: usize,
+        block: &[Event],
+        records: Vec<Arc<Record>>,
+    ) -> Result<(), Refused>
+        requires call { MayCall self.old p block.now }
+        requires short { length block.now ≤ 256 }
+        requires rising { HasRisingPages (map arc_value records.items) }
+        ensures ok { OnOk result (self.new ≡ book_arrived (handed_in self.old block.now) p (map arc_value records.items)) }
+        ensures err { OnErr result (self.new ≡ self.old) }
+        ensures full { result ≡ Err Refused.JournalFull ↔ (2 ^ 20 < length self.old.journal.events + length block.now + 1) }
+        ensures only { IfErr result (λ e. (e ≡ Refused.JournalFull) ⊎ (e ≡ Refused.NoMemory)) }
+    {
+        make_room(&mut self.journal, self.owing, block.len() + 1)?;
+        let mut time = self.times[p].copy();
+        let interval = Interval {
+            owner: p,
+            number: time.entry(p),
+            records,
+        };
+        time.tick(p);
+        let departures = self.departures_with(&interval, &time)?;
+        self.close(p, Kind::Arrive, block, interval.records)?;
+        self.barrier.arrive(p, &time);
+        match departures {
+            Some(messages) => post_all(&mut self.transit, messages),
+            None => {}
+        }
+        Ok(())
+    }
+
+    /// The departures of all, where the episode is complete with the arrival of the interval's owner, at
+    /// the time `own`. It shows on a copy of the barrier.
+    fn departures_with(
+        &self,
+        interval: &Interval,
+        own: &VTime,
+    ) -> Result<Option<Vec<Message>>, AllocError>
+        requires owner { interval.now.owner < length self.now.closed.next }
+        requires processor { interval.now.owner < length self.now.times }
+        requires pages { HasRisingPages interval.now.records }
+        requires away { slice_get self.now.barrier.stages interval.now.owner ≡ Some Stage.Away }
+        requires own_long { length own.now ≡ length self.now.barrier.stages }
+        requires long { length self.now.barrier.stages ≡ length self.now.closed.first }
+        requires all { (r : ℕ) → r < length self.now.times → MayBeSent self.now.closed (slice_set self.now.times interval.now.owner own.now) r }
+        ensures { IfOk result (λ o. option_map (λ ms. map letter ms.items) o ≡ departures_after
+            (pushed self.now.closed interval.now) self.now.barrier (slice_set self.now.times interval.now.owner own.now) interval.now.owner own.now) }
+    {
+        let mut barrier = self.barrier.copy();
+        if !barrier.arrive(interval.owner, own) {
+            return Ok(None);
+        }
+        let alloc = *self.times.allocator();
+        let (closed, times) = (&self.closed, &self.times);
+        let all = departures(alloc, closed, times, interval, own, barrier.time())?;
+        Ok(Some(all))
     }
 
     /// The grant to `p`, which is about to close its interval, of a lock that nobody holds.
