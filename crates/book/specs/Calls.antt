@@ -21,6 +21,10 @@ MayCall b p block = (s : Sizes) × (h : List Event) × IsTold s h b × MayHandIn
 abbrev pub MayAsk : State → ℕ → ℕ → List Event → Type 0
 MayAsk b p l block = (s : Sizes) × (h : List Event) × IsTold s h b × MayHandIn s b p block × (l < s.locks) × ¬ Holds h p l
 
+-- by some history that tells the book, p is a processor
+abbrev pub MayLook : State → ℕ → Type 0
+MayLook b p = (s : Sizes) × (h : List Event) × IsTold s h b × (p < s.processors)
+
 -- by some history that tells the book, p waits for this
 abbrev pub MayTake : State → ℕ → Kind → Type 0
 MayTake b p k = (s : Sizes) × (h : List Event) × IsTold s h b × (slice_get b.awaits p ≡ Some (Some k))
