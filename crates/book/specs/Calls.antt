@@ -40,6 +40,10 @@ addressed x = (x.0, letter x.1)
 abbrev pub grant_for : Closings → List (List ℕ) → List ℕ → ℕ → ℕ × Letter
 grant_for c times t r = (r, grant_after c (slice_index_or times r []) t)
 
+-- by some history that tells the book, p is a processor
+abbrev pub MayLook : State → ℕ → Type 0
+MayLook b p = (s : Sizes) × (h : List Event) × IsTold s h b × (p < s.processors)
+
 -- by some history that tells the book, p waits for this
 abbrev pub MayTake : State → ℕ → Kind → Type 0
 MayTake b p k = (s : Sizes) × (h : List Event) × IsTold s h b × (slice_get b.awaits p ≡ Some (Some k))

@@ -5,6 +5,7 @@ ghost use Rattle.journal.specs.declared.event.Kind.{Kind as AKind};
 ghost use Rattle.journal.specs.Events.{is_closing};
 ghost use Rattle.journal.specs.Waits.{awaited};
 ghost use Rattle.interval.specs.Intervals.{HasRisingPages};
+ghost use Rattle.book.specs.Brought.{brought};
 ghost use Rattle.book.specs.Calls.{MayCall, MayAsk, MayRelease, MayBeSent, MayTake, MayTakeSome, IsAbsent, Takes, TakesMail};
 ghost use Rattle.book.specs.Transitions.{new_book, handed_in, closing, due, left, set_at, book_watched, book_set, book_asked, book_released, book_arrived, departures_after};
 ghost use Rattle.book.specs.State.{time_of};
@@ -15,6 +16,8 @@ ghost use Rattle.interval.specs.Closings.{between, pushed};
 ghost use Rattle.lockq.specs.Lock.{lock_at};
 ghost use Rattle.transit.specs.Letters.{letter};
 ghost use Rattle.transit.specs.Letters.Kind.{grant};
+
+mod pending;
 
 use crate::messages::{departures, grant_to, post_all};
 use crate::refused::Refused;
@@ -336,6 +339,7 @@ impl Book {
     pub fn take(&mut self, p: usize) -> Result<Message, Refused>
         requires call { MayTakeSome self.old p }
         ensures ok { (k : AKind) → slice_get self.old.awaits p ≡ Some (Some k) → IfOk result (λ m. Takes self.old p k (letter m) self.new) }
+        ensures brings { IfOk result (λ m. (letter m).notices ≡ brought self.old p) }
         ensures err { OnErr result (self.new ≡ self.old) }
         ensures absent { (k : AKind) → slice_get self.old.awaits p ≡ Some (Some k) → result ≡ Err Refused.NotYet ↔ IsAbsent self.old p k }
         ensures full { result ≢ Err Refused.NotYet → result ≡ Err Refused.JournalFull ↔ (2 ^ 20 < length self.old.journal.events + 1) }
