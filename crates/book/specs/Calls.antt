@@ -12,9 +12,13 @@ use Rattle.book.specs.Transitions.{grant_after, book_took, book_signalled}
 use Rattle.journal.specs.WellFormed.{Holds}
 use Rattle.book.specs.State.{State, time_of}
 use Rattle.book.specs.Told.{IsTold}
-use Rattle.book.specs.Laws.{MayHandIn, trimmed_book}
+use Rattle.book.specs.Laws.{MayHandIn, MayGive, trimmed_book}
 
--- by some history that tells the book, p may hand in this block
+-- by some history that tells the book, p may hand in this block, which is empty where p waits
+abbrev pub MayFlush : State → ℕ → List Event → Type 0
+MayFlush b p block = (s : Sizes) × (h : List Event) × IsTold s h b × MayGive s b p block
+
+-- by some history that tells the book, p waits for nothing and may hand in this block
 abbrev pub MayCall : State → ℕ → List Event → Type 0
 MayCall b p block = (s : Sizes) × (h : List Event) × IsTold s h b × MayHandIn s b p block
 

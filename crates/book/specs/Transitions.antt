@@ -1,5 +1,5 @@
 -- The transitions of the book, as functions of its value.
-use Rattle.std.specs.Prelude.{ℕ, zero, suc, ◌*◌, min, Bool, true, false, cond, Option, Some, None, List, [], ◌∷◌, ◌++◌, map, slice_index, slice_index_or, slice_set, replicate, fold}
+use Rattle.std.specs.Prelude.{ℕ, zero, suc, ◌-◌, ◌*◌, min, Bool, true, false, cond, Option, Some, None, List, [], ◌∷◌, ◌++◌, map, length, slice_index, slice_index_or, slice_set, replicate, fold}
 use Rattle.journal.specs.declared.event.Event.{Event}
 use Rattle.journal.specs.declared.event.Kind.{Kind}
 use Rattle.journal.specs.declared.event.Kind.TheVariants.{Ask, Release, Arrive, Depart, Set, Watch, Await}
@@ -37,6 +37,10 @@ appended log es = record log { events = log.events ++ es }
 -- a block is handed in
 abbrev pub handed_in : State → List Event → State
 handed_in b block = record b { journal = appended b.journal block }
+
+-- the last block of a processor is handed in, for which room was kept
+abbrev pub handed_last : State → List Event → State
+handed_last b block = record b { journal = record b.journal { events = b.journal.events ++ block; room = b.journal.room - length block } }
 
 -- p does this
 abbrev pub logged : State → ℕ → Kind → State

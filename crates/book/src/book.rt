@@ -6,8 +6,8 @@ ghost use Rattle.journal.specs.Events.{is_closing};
 ghost use Rattle.journal.specs.Waits.{awaited};
 ghost use Rattle.interval.specs.Intervals.{HasRisingPages};
 ghost use Rattle.book.specs.Brought.{brought};
-ghost use Rattle.book.specs.Calls.{MayCall, MayAsk, MayRelease, MayBeSent, MayTake, MayTakeSome, IsAbsent, Takes, TakesMail};
-ghost use Rattle.book.specs.Transitions.{new_book, handed_in, closing, due, left, set_at, book_watched, book_set, book_asked, book_released, book_arrived, departures_after};
+ghost use Rattle.book.specs.Calls.{MayFlush, MayCall, MayAsk, MayRelease, MayBeSent, MayTake, MayTakeSome, IsAbsent, Takes, TakesMail};
+ghost use Rattle.book.specs.Transitions.{new_book, handed_in, handed_last, closing, due, left, set_at, book_watched, book_set, book_asked, book_released, book_arrived, departures_after};
 ghost use Rattle.book.specs.State.{time_of};
 ghost use Rattle.book.specs.Mail.{IsPosted};
 ghost use Rattle.std.specs.Option.{option_map};
@@ -100,10 +100,10 @@ impl Book {
         })
     }
 
-    /// Hands in a block of loads, stores and fetches of processor `p`, which waits for nothing.
+    /// Hands in a block of loads, stores and fetches of processor `p`, which is empty where `p` waits.
     /// JournalFull exactly where the journal would have more than 2^20 events.
     pub fn hand_in(&mut self, p: usize, block: &[Event]) -> Result<(), Refused>
-        requires call { MayCall self.old p block.now }
+        requires call { MayFlush self.old p block.now }
         requires short { length block.now ≤ 256 }
         ensures ok { OnOk result (self.new ≡ handed_in self.old block.now) }
         ensures err { OnErr result (self.new ≡ self.old) }
@@ -117,7 +117,7 @@ impl Book {
 
     /// Hands in a block as `hand_in` does, and answers a copy of the whole journal after it.
     pub fn audit(&mut self, p: usize, block: &[Event]) -> Result<Journal, Refused>
-        requires call { MayCall self.old p block.now }
+        requires call { MayFlush self.old p block.now }
         requires short { length block.now ≤ 256 }
         ensures ok { OnOk result (self.new ≡ handed_in self.old block.now) }
         ensures copy { IfOk result (λ j. j.events ≡ self.new.journal.events) }
@@ -408,14 +408,9 @@ impl Book {
 
     /// Hands in the last block of `p` at the end, past the limit. It takes no memory.
     pub fn last(&mut self, p: usize, block: &[Event])
-        requires call { MayCall self.old p block.now }
+        requires call { MayFlush self.old p block.now }
         requires room { length block.now ≤ self.old.journal.room }
-        ensures { self.new ≡ record self.old {
-          journal = record self.old.journal {
-            events = self.old.journal.events ++ block.now;
-            room = self.old.journal.room - length block.now;
-          };
-        } }
+        ensures { self.new ≡ handed_last self.old block.now }
     {
         append_all(&mut self.journal, block);
         self.owing -= block.len();
