@@ -7,7 +7,7 @@ ghost use Rattle.journal.specs.Waits.{awaited};
 ghost use Rattle.interval.specs.Intervals.{HasRisingPages};
 ghost use Rattle.book.specs.Brought.{brought};
 ghost use Rattle.book.specs.Calls.{MayFlush, MayCall, MayAsk, MayRelease, MayBeSent, MayTake, MayTakeSome, IsAbsent, Takes, TakesMail};
-ghost use Rattle.book.specs.Transitions.{new_book, handed_in, handed_last, closing, due, left, set_at, book_watched, book_set, book_asked, book_released, book_arrived, departures_after};
+ghost use Rattle.book.specs.Transitions.{new_book, handed_in, handed_last, closing, due, granted, left, set_at, book_watched, book_set, book_asked, book_released, book_arrived, departures_after};
 ghost use Rattle.book.specs.State.{time_of};
 ghost use Rattle.book.specs.Mail.{IsPosted};
 ghost use Rattle.std.specs.Option.{option_map};
@@ -305,30 +305,24 @@ impl Book {
         Ok(Some(all))
     }
 
-    /// The grant to `p`, which is about to close its interval, of a lock that nobody holds.
+    /// The grant to `p` of a lock that nobody holds. That `p` is about to close its interval changes
+    /// nothing in it: the lock's time doesn't cover that interval.
     fn grant_if_free(&self, p: usize, l: usize) -> Result<Option<Message>, AllocError>
         requires lock { l < length self.now.locks.locks }
         requires processor { p < length self.now.times }
-        requires own { p < length (time_of self.now p) }
-        requires few { slice_index (time_of self.now p) p < 2 ^ 64 - 1 }
         requires own_long { length (time_of self.now p) ≡ length self.now.closed.first }
         requires time_long { length (lock_at self.now.locks l).time ≡ length self.now.closed.first }
         requires kept { (q : ℕ) → slice_index self.now.closed.first q ≤ slice_index (time_of self.now p) q }
-        ensures { IfOk result (λ m. option_map letter m ≡ due (lock_at self.now.locks l).holder (record {
-          kind = grant;
-          time = (lock_at self.now.locks l).time;
-          notices = between self.now.closed (tick (time_of self.now p) p) (lock_at self.now.locks l).time;
-        })) }
+        ensures { IfOk result (λ m. option_map letter m
+            ≡ due (lock_at self.now.locks l).holder (granted self.now p (lock_at self.now.locks l).time)) }
     {
         let locks = &self.locks;
         if locks.holder(l).is_some() {
             return Ok(None);
         }
-        let closed = &self.closed;
-        let mut own = self.times[p].copy();
-        own.tick(p);
+        let (closed, own) = (&self.closed, &self.times[p]);
         let time = locks.time(l).copy();
-        let notices = closed.between(&own, &time)?;
+        let notices = closed.between(own, &time)?;
         Ok(Some(Message::Grant { time, notices }))
     }
 
