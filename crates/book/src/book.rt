@@ -120,7 +120,7 @@ impl Book {
         requires call { MayFlush self.old p block.now }
         requires short { length block.now ≤ 256 }
         ensures ok { OnOk result (self.new ≡ handed_in self.old block.now) }
-        ensures copy { IfOk result (λ j. j.events ≡ self.new.journal.events) }
+        ensures copy { IfOk result (λ j. j ≡ record self.new.journal { room = j.room }) }
         ensures err { OnErr result (self.new ≡ self.old) }
         ensures full { result ≡ Err Refused.JournalFull ↔ (2 ^ 20 < length self.old.journal.events + length block.now) }
         ensures only { IfErr result (λ e. (e ≡ Refused.JournalFull) ⊎ (e ≡ Refused.NoMemory)) }
@@ -451,9 +451,9 @@ impl Book {
         closed.first(q)
     }
 
-    /// The journal alone.
+    /// The journal alone, with whatever room it has.
     pub fn into_journal(self) -> Journal
-        ensures { result.events ≡ self.journal.events }
+        ensures { result ≡ record self.journal { room = result.room } }
     {
         self.journal
     }
