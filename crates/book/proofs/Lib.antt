@@ -17,3 +17,5 @@ pub mod Calling
 pub mod Asking
 pub mod Watching
 pub mod Receiving
+pub mod Harness
+pub mod Followed

@@ -11,3 +11,4 @@ pub mod Told
 pub mod Laws
 pub mod Holding
 pub mod Calls
+pub mod Harness
