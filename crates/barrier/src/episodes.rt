@@ -1,7 +1,7 @@
 //! Episodes of the barrier.
 ghost use Rattle.std.specs.Prelude.{ℕ, ◌≡◌, ◌≤◌, ◌<◌, ◌+◌, ◌↔◌, IsTrue, Some, List, [], length, replicate, slice_get, count_by};
 ghost use Rattle.std.specs.List.{list_all};
-ghost use Rattle.barrier.specs.Episodes.{unmet, is_here, arrived, departed, HasGathered, Gathers};
+ghost use Rattle.barrier.specs.Episodes.{unmet, is_here, is_full, joined, arrived, departed, HasGathered, Gathers};
 
 use smallvec::SmallVec;
 use std::alloc::Global;
@@ -62,6 +62,18 @@ impl Barrier {
         }
     }
 
+    /// The same barrier once more. It takes no memory.
+    pub fn copy(&self) -> Barrier
+        ensures { result ≡ self.now }
+    {
+        let alloc = *self.stages.allocator();
+        Barrier {
+            stages: SmallVec::from_slice(alloc, self.stages.as_slice()).unwrap(),
+            gathered: self.gathered.copy(),
+            last: self.last.copy(),
+        }
+    }
+
     /// Lets a processor arrive with its timestamp, and answers whether the episode is complete now:
     /// exactly where all others had arrived before.
     pub fn arrive(&mut self, processor: usize, time: &VTime) -> bool
@@ -69,6 +81,7 @@ impl Barrier {
         requires long { length time.now ≡ length self.old.stages }
         ensures barrier { self.new ≡ arrived self.old processor time.now }
         ensures complete { IsTrue result ↔ (count_by is_here self.old.stages + 1 ≡ length self.old.stages) }
+        ensures full { result ≡ is_full (joined self.old processor time.now) }
         ensures same_length { length self.new.stages ≡ length self.old.stages }
 
         // Whichever arrivals led here, the time of a complete episode is the join of them all.
@@ -162,8 +175,11 @@ mod tests {
         let mut time = VTime::zero(rt.alloc(), 1);
         assert!(rt; *barrier.time() == time);
         time.tick(0);
+        let before = barrier.copy();
         assert!(rt; barrier.arrive(0, &time));
         assert!(rt; barrier.ready(0));
+        assert!(rt; barrier.copy().ready(0));
+        assert!(rt; !before.ready(0));
         assert!(rt; *barrier.time() == time);
         barrier.depart(0);
         assert!(rt; !barrier.ready(0));

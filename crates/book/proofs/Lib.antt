@@ -19,3 +19,4 @@ pub mod Watching
 pub mod Receiving
 pub mod Harness
 pub mod Followed
+pub mod Releasing

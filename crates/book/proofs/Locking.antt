@@ -71,7 +71,7 @@ lock_taken n h p l i x last may is = record {
 }
 
 -- the line of a lock is that of its holder and its queue
-holder_first : (n : ℕ) (h : List Event) (p l : ℕ) (o : Option ℕ) (xs t : List ℕ) → Holds h p l → IsLock n h l (record { holder = o; queue = xs; time = t }) → o ≡ Some p
+pub holder_first : (n : ℕ) (h : List Event) (p l : ℕ) (o : Option ℕ) (xs t : List ℕ) → Holds h p l → IsLock n h l (record { holder = o; queue = xs; time = t }) → o ≡ Some p
 holder_first n h p l None (y ∷ xs) t held is = absurd (cc (is.held refl))
 holder_first n h p l None [] t held is = absurd (none-some p (is.line_is.first p held))
 holder_first n h p l (Some q) xs t held is = is.line_is.first p held

@@ -131,9 +131,13 @@ idle_allowed s h p (Acquire l) idle posted allowed = absurd (cc (idle allowed.0 
 idle_allowed s h p Depart idle posted allowed = absurd (cc (idle allowed.0 Arrive allowed.1))
 idle_allowed s h p _ idle posted allowed = absurd posted
 
+-- nor has anyone who may take none
+pub no_mail : (s : Sizes) (h : List Event) (p : ℕ) (o : Option Letter) → ((a : Kind) → IsPosted a → ¬ Allowed s h p a) → IsMail s h p o → None ≡ o
+no_mail s h p None never mail = refl
+no_mail s h p (Some m) never mail = absurd (never mail.kind (lets_posted m.kind mail.kind mail.lets) mail.allowed)
+
 pub idle_mail : (s : Sizes) (h : List Event) (p : ℕ) (o : Option Letter) → IsIdle h p → IsMail s h p o → None ≡ o
-idle_mail s h p None idle mail = refl
-idle_mail s h p (Some m) idle mail = absurd (idle_allowed s h p mail.kind idle (lets_posted m.kind mail.kind mail.lets) mail.allowed)
+idle_mail s h p o idle mail = no_mail s h p o (λ a posted. idle_allowed s h p a idle posted) mail
 
 -- who neither asked nor arrived last has none
 pub own_none : (s : Sizes) (h : List Event) (p : ℕ) (k : Kind) → ((l : ℕ) → k ≢ Ask l) → k ≢ Arrive → IsMail s (did h p k) p None

@@ -53,9 +53,13 @@ closing b p k records = record (logged b p k) {
   times = slice_set b.times p (tick (time_of b p) p);
 }
 
+-- a grant, at this time, to a processor with that timestamp
+abbrev pub grant_after : Closings → List ℕ → List ℕ → Letter
+grant_after c own t = record { kind = grant; time = t; notices = between c own t }
+
 -- a grant to p of a lock that was released at this time
 abbrev pub granted : State → ℕ → List ℕ → Letter
-granted b p t = record { kind = grant; time = t; notices = between b.closed (time_of b p) t }
+granted b p t = grant_after b.closed (time_of b p) t
 
 -- the grant is due where nobody holds the lock
 abbrev pub due : Option ℕ → Letter → Option Letter

@@ -5,8 +5,8 @@ ghost use Rattle.journal.specs.declared.event.Kind.{Kind as AKind};
 ghost use Rattle.journal.specs.Events.{is_closing};
 ghost use Rattle.journal.specs.Waits.{awaited};
 ghost use Rattle.interval.specs.Intervals.{HasRisingPages};
-ghost use Rattle.book.specs.Calls.{MayCall, MayAsk, MayTake, MayTakeSome, IsAbsent, Takes, TakesMail};
-ghost use Rattle.book.specs.Transitions.{new_book, handed_in, closing, due, left, set_at, book_watched, book_set, book_asked};
+ghost use Rattle.book.specs.Calls.{MayCall, MayAsk, MayRelease, MayTake, MayTakeSome, IsAbsent, Takes, TakesMail};
+ghost use Rattle.book.specs.Transitions.{new_book, handed_in, closing, due, left, set_at, book_watched, book_set, book_asked, book_released};
 ghost use Rattle.book.specs.State.{time_of};
 ghost use Rattle.book.specs.Mail.{IsPosted};
 ghost use Rattle.std.specs.Option.{option_map};
@@ -16,6 +16,7 @@ ghost use Rattle.lockq.specs.Lock.{lock_at};
 ghost use Rattle.transit.specs.Letters.{letter};
 ghost use Rattle.transit.specs.Letters.Kind.{grant};
 
+use crate::messages::grant_to;
 use crate::refused::Refused;
 use crate::room::{append_all, make_room};
 use crate::trims::trim;
@@ -197,6 +198,43 @@ impl Book {
         self.locks.ask(l, p);
         match grant {
             Some(message) => self.transit.post(p, message),
+            None => {}
+        }
+        Ok(())
+    }
+
+    /// Releases a lock that `p` holds: closes the interval, and leaves the timestamp of `p` after that with
+    /// the lock. The first of the lock's queue gets its grant, with what it doesn't know. Otherwise as
+    /// `watch`.
+    pub fn release(
+        &mut self,
+        p: usize,
+        l: usize,
+        block: &[Event],
+        records: Vec<Arc<Record>>,
+    ) -> Result<(), Refused>
+        requires call { MayRelease self.old p l block.now }
+        requires short { length block.now ≤ 256 }
+        requires rising { HasRisingPages (map arc_value records.items) }
+        ensures ok { OnOk result (self.new ≡ book_released (handed_in self.old block.now) p l (map arc_value records.items)) }
+        ensures err { OnErr result (self.new ≡ self.old) }
+        ensures full { result ≡ Err Refused.JournalFull ↔ (2 ^ 20 < length self.old.journal.events + length block.now + 1) }
+        ensures only { IfErr result (λ e. (e ≡ Refused.JournalFull) ⊎ (e ≡ Refused.NoMemory)) }
+    {
+        make_room(&mut self.journal, self.owing, block.len() + 1)?;
+        let mut time = self.times[p].copy();
+        let interval = Interval {
+            owner: p,
+            number: time.entry(p),
+            records,
+        };
+        time.tick(p);
+        let locks = &self.locks;
+        let grant = grant_to(locks.next(l), &self.closed, &self.times, &interval, &time)?;
+        self.close(p, Kind::Release(l), block, interval.records)?;
+        self.locks.release(l, p, time);
+        match grant {
+            Some((next, message)) => self.transit.post(next, message),
             None => {}
         }
         Ok(())

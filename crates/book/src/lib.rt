@@ -6,6 +6,7 @@
 
 mod book;
 mod laws;
+mod messages;
 mod refused;
 mod room;
 mod trims;
