@@ -22,7 +22,7 @@ use Rattle.book.specs.State.{State}
 use Rattle.book.specs.Transitions.{new_book, handed_in, book_asked, book_released, book_arrived, book_set, book_watched, book_took, book_signalled}
 use Rattle.book.specs.Told.{IsTold}
 use Rattle.book.specs.Laws.{IsInner, MayHandIn, trimmed_book}
-use Rattle.book.specs.Calls.{MayCall, MayAsk, MayTakeSome, Takes, TakesMail}
+use Rattle.book.specs.Calls.{MayCall, MayAsk, MayRelease, MayTakeSome, Takes, TakesMail}
 use Rattle.book.specs.Harness.{NothingOpen, IsFollowed, IsPart}
 use Rattle.book.proofs.Each.{is_at}
 use Rattle.book.proofs.Lined.{idle_no_ask}
@@ -31,12 +31,12 @@ use Rattle.book.proofs.Whole.{new_law, hand_in_law, ask_law, release_law, arrive
 use Rattle.book.proofs.Harness.{part_inner, part_records, nothing_closing, nothing_quiet, others_block}
 
 -- a refused call leaves the book
-pub after : (s : Sizes) (old new made : State) (r : Result (Unit {0}) Refused) → IsFollowed s old → IsFollowed s made → OnOk r (new ≡ made) → OnErr r (new ≡ old) → IsFollowed s new
+pub after : {T : Type 0} (s : Sizes) (old new made : State) (r : Result T Refused) → IsFollowed s old → IsFollowed s made → OnOk r (new ≡ made) → OnErr r (new ≡ old) → IsFollowed s new
 after s old new made (Ok u) before now ok err = subst (λ b. IsFollowed s b) (sym ok) now
 after s old new made (Err e) before now ok err = subst (λ b. IsFollowed s b) (sym err) before
 
-pub followed_new : (s : Sizes) → 0 < s.processors → IsFollowed s (new_book s)
-followed_new s some = record { history = []; told = new_law s some; nothing = λ p n i x. has-nil (event p _) (i, x.2) }
+pub followed_new : (s : Sizes) (b : State) → 0 < s.processors → b ≡ new_book s → IsFollowed s b
+followed_new s b some is = subst (λ x. IsFollowed s x) (sym is) (record { history = []; told = new_law s some; nothing = λ p n i x. has-nil (event p _) (i, x.2) })
 
 may_hand_in : (s : Sizes) (b : State) (p : ℕ) (block : List Event) (records : List Changes) → slice_get b.awaits p ≡ Some None → IsPart s.pages s.words p block records → MayHandIn s b p block
 may_hand_in s b p block records idle part = record { idle = idle; inner = part_inner s p block records part }
@@ -80,6 +80,9 @@ followed_ask s b p l block records x idle part range isnt =
 
 holds_now : (s : Sizes) (b : State) (p l : ℕ) → (x : IsFollowed s b) → slice_get b.awaits p ≡ Some None → l < s.locks → (lock_at b.locks l).holder ≡ Some p → Holds x.history p l
 holds_now s b p l x idle range is = is_holder s.processors x.history l p (lock_at b.locks l) (lock_is s b l x range) is (is_idle s x.history b p x.told idle)
+
+pub may_release : (s : Sizes) (b : State) (p l : ℕ) (block : List Event) (records : List Changes) → IsFollowed s b → slice_get b.awaits p ≡ Some None → IsPart s.pages s.words p block records → l < s.locks → (lock_at b.locks l).holder ≡ Some p → MayRelease b p l block
+may_release s b p l block records x idle part range is = (s, x.history, x.told, may_hand_in s b p block records idle part, range, holds_now s b p l x idle range is)
 
 pub followed_release : (s : Sizes) (b : State) (p l : ℕ) (block : List Event) (records : List Changes) → IsFollowed s b → slice_get b.awaits p ≡ Some None → IsPart s.pages s.words p block records → l < s.locks → (lock_at b.locks l).holder ≡ Some p
     → IsFollowed s (book_released (handed_in b block) p l records)
@@ -127,8 +130,8 @@ followed_loads s b p n block x idle some is = subst (λ es. IsFollowed s (handed
 })
 
 -- the journal's room says nothing of the history
-pub followed_room : (s : Sizes) (b : State) (n : ℕ) → IsFollowed s b → IsFollowed s (record b { journal = record b.journal { room = n } })
-followed_room s b n x = record {
+pub followed_room : (s : Sizes) (b new : State) (n : ℕ) → IsFollowed s b → new ≡ record b { journal = record b.journal { room = n } } → IsFollowed s new
+followed_room s b new n x is = subst (λ c. IsFollowed s c) (sym is) (record {
   history = x.history;
   told = record {
     well_formed = x.told.well_formed;
@@ -145,7 +148,7 @@ followed_room s b n x = record {
     within = x.told.within;
   };
   nothing = x.nothing;
-}
+})
 
 pub may_take : (s : Sizes) (b : State) (p : ℕ) (k : Kind) → IsFollowed s b → slice_get b.awaits p ≡ Some (Some k) → MayTakeSome b p
 may_take s b p k x waits = (k, (s, x.history, x.told, waits))

@@ -62,9 +62,9 @@ nothing_closing s h p k closes others q n i x = elim (cases_eq q p) [
         let one = ap (λ (b : Bool). cond {A = ℕ} b 1 0) closes in
         let number = y.4 in
         let before : i ≤ length h → ⊥ = λ le. (
-          let front = count_of-front is_closing h (event p k ∷ []) i p le in
-          let most = count_of-take-le is_closing h i p in
-          omega arith) in
+        let front = count_of-front is_closing h (event p k ∷ []) i p le in
+        let most = count_of-take-le is_closing h i p in
+        omega arith) in
         elim (push_cases h (event p k) i e y.2) [ inl old ↦ before (let lt = old.0 in omega arith) | inr new ↦ before (let at = new.0 in omega arith) ]
 
 -- an event that neither stores nor closes

@@ -1,7 +1,7 @@
 -- What the tests carry from call to call.
-use Rattle.std.specs.Prelude.{ℕ, ◌≡◌, ◌<◌, ◌*◌, ◌/◌, ◌%◌, ◌⊎◌, List, [], ◌∷◌}
+use Rattle.std.specs.Prelude.{ℕ, ◌≡◌, ◌<◌, ◌*◌, ◌/◌, ◌%◌, ◌⊎◌, List, [], ◌∷◌, replicate}
 use Rattle.journal.specs.declared.event.Event.{Event}
-use Rattle.journal.specs.declared.event.Kind.TheVariants.{Store}
+use Rattle.journal.specs.declared.event.Kind.TheVariants.{Load, Store}
 use Rattle.journal.specs.Sizes.{Sizes}
 use Rattle.journal.specs.Events.{count_of, is_closing}
 use Rattle.journal.specs.Groups.{StoresIn}
@@ -31,3 +31,7 @@ pub record IsStored (pages words p : ℕ) (block : List Event) (records : List C
 -- a block of p with one store or none, and what an interval with just that comes to
 abbrev pub IsPart : ℕ → ℕ → ℕ → List Event → List Changes → Type 0
 IsPart pages words p block records = ((block ≡ []) × (records ≡ [])) ⊎ IsStored pages words p block records
+
+-- loads of address 0
+abbrev pub IsLoads : ℕ → List Event → Type 0
+IsLoads p block = (n : ℕ) × (block ≡ replicate n (event p (Load 0 0)))
