@@ -7,6 +7,9 @@ ghost use Rattle.book.specs.Events.{event};
 ghost use Rattle.book.specs.Harness.{IsPart, IsLoads};
 
 use super::*;
+use interval::{Notice, Sent};
+use std::fmt::Write;
+use std::process::Abort;
 use std::test::Fail;
 
 /// A book that some history tells, and no interval of which that is open has a store.
@@ -45,8 +48,31 @@ type Store = Option<(usize, u32)>;
 
 const NONE: Store = None;
 
+/// A notice of page 0, its place, and the one word of its record: offset and value.
+type Word = (Notice, u64, (usize, u32));
+
 impl Told {
+    /// The harness over a new book, also where one growth is refused.
     fn new(
+        alloc: Global,
+        processors: usize,
+        pages: usize,
+        words: usize,
+        locks: usize,
+        flags: usize,
+    ) -> Result<Told, AllocError>
+        requires some { 1 ≤ processors }
+        requires most { processors ≤ 16 }
+        requires locks { locks ≤ 32 }
+        requires addresses { pages * words < 2 ^ 64 }
+    {
+        match Told::once(alloc, processors, pages, words, locks, flags) {
+            Ok(told) => Ok(told),
+            Err(_) => Told::once(alloc, processors, pages, words, locks, flags),
+        }
+    }
+
+    fn once(
         alloc: Global,
         processors: usize,
         pages: usize,
@@ -72,36 +98,43 @@ impl Told {
     }
 
     /// Hands in so many loads.
-    fn hand_in(&mut self, p: usize, block: &[Event]) -> Result<(), Refused>
-        requires loads { IsLoads p block.now }
-        requires short { length block.now ≤ 256 }
+    fn hand_in(&mut self, p: usize, count: usize) -> Result<(), Refused> {
+        let block = loads(self.alloc, p, count)?;
+        self.hand_in_block(p, &block)
+    }
+
+    fn hand_in_block(&mut self, p: usize, block: &[Event]) -> Result<(), Refused>
+        requires { IsLoads p block.now }
     {
         if !may_load(&self.book, self.pages, self.words, p) {
             return Err(Refused::Waiting);
+        }
+        if block.len() > 256 {
+            return Err(Refused::BlockFull);
         }
         self.book.hand_in(p, block)
     }
 
-    fn audit(&mut self, p: usize, block: &[Event]) -> Result<Journal, Refused>
-        requires loads { IsLoads p block.now }
-        requires short { length block.now ≤ 256 }
-    {
+    fn audit(&mut self, p: usize, count: usize) -> Result<Journal, Refused> {
         if !may_load(&self.book, self.pages, self.words, p) {
             return Err(Refused::Waiting);
         }
-        self.book.audit(p, block)
-    }
-
-    fn last(&mut self, p: usize, block: &[Event]) -> Result<(), Refused>
-        requires loads { IsLoads p block.now }
-    {
-        if !may_load(&self.book, self.pages, self.words, p) {
-            return Err(Refused::Waiting);
-        }
-        if block.len() > owing(&self.book) {
+        if count > 256 {
             return Err(Refused::BlockFull);
         }
-        self.book.last(p, block);
+        let block = loads(self.alloc, p, count)?;
+        self.book.audit(p, &block)
+    }
+
+    fn last(&mut self, p: usize, count: usize) -> Result<(), Refused> {
+        if !may_load(&self.book, self.pages, self.words, p) {
+            return Err(Refused::Waiting);
+        }
+        if count > owing(&self.book) {
+            return Err(Refused::BlockFull);
+        }
+        let block = loads(self.alloc, p, count)?;
+        self.book.last(p, &block);
         Ok(())
     }
 
@@ -172,6 +205,160 @@ impl Told {
 
     fn into_journal(self) -> Journal {
         self.book.into_journal()
+    }
+
+    fn has_time(&self, p: usize, entries: &[u64]) -> bool
+        requires some { 1 ≤ length entries.now }
+        requires most { length entries.now ≤ 16 }
+    {
+        has_time(self.alloc, &self.book, p, entries)
+    }
+
+    /// Hands the store in, and does what closes the interval.
+    fn does(&mut self, rt: &impl Abort, p: usize, kind: Kind, store: Store) -> Result<(), Refused> {
+        match kind {
+            Kind::Ask(l) => self.again(rt, |told| told.ask(p, l, store)),
+            Kind::Release(l) => self.again(rt, |told| told.release(p, l, store)),
+            Kind::Set(f) => self.again(rt, |told| told.set(p, f, store)),
+            Kind::Watch(f) => self.again(rt, |told| told.watch(p, f, store)),
+            _ => Err(Refused::OutOfRange),
+        }
+    }
+
+    /// Takes a message, of this name, with this timestamp and these records.
+    fn gets(
+        &mut self,
+        rt: &impl Abort,
+        p: usize,
+        name: &str,
+        entries: &[u64],
+        words: &[Word],
+    ) -> Result<(), Refused>
+        requires some { 1 ≤ length entries.now }
+        requires most { length entries.now ≤ 16 }
+    {
+        let message = self.again(rt, |told| told.take(p))?;
+        assert_eq!(rt; name_of(&message), name);
+        assert_eq!(rt; *message.time(), stamp(self.alloc, entries));
+        assert!(rt; has_words(message.notices(), words), "{message:?}");
+        Ok(())
+    }
+
+    /// Makes the call, and once more where a growth was refused. After a refusal all is as before.
+    fn again<T: Drop, F: Fn(&mut Told) -> Result<T, Refused>>(
+        &mut self,
+        rt: &impl Abort,
+        call: F,
+    ) -> Result<T, Refused>
+        requires { F.IsAlwaysCallable call }
+    {
+        let before = printed(self.alloc, &self.book)?;
+        match call(self) {
+            Ok(value) => Ok(value),
+            Err(refused) => {
+                assert_eq!(rt; printed(self.alloc, &self.book)?, before);
+                if refused == Refused::NoMemory {
+                    call(self)
+                } else {
+                    Err(refused)
+                }
+            }
+        }
+    }
+}
+
+fn name_of(message: &Message) -> &'static str {
+    match message {
+        Message::Grant { .. } => "grant",
+        Message::Departure { .. } => "departure",
+        Message::Signal { .. } => "signal",
+    }
+}
+
+fn word(owner: usize, number: u64, place: u64, offset: usize, value: u32) -> Word {
+    let page = 0;
+    let notice = Notice {
+        page,
+        owner,
+        number,
+    };
+    (notice, place, (offset, value))
+}
+
+/// Whether just these words were sent.
+fn has_words(sent: &[Sent], words: &[Word]) -> bool {
+    if sent.len() != words.len() {
+        return false;
+    }
+    for (sent, (notice, place, word)) in sent.iter().zip(words) {
+        let content = &sent.content;
+        if sent.notice != *notice
+            || sent.place != *place
+            || content.page() != notice.page
+            || content.words() != [*word].as_slice()
+        {
+            return false;
+        }
+    }
+    true
+}
+
+fn did(processor: usize, kind: Kind) -> Event {
+    Event { processor, kind }
+}
+
+/// All that the calls read and write, of the journal its length and its last events.
+fn printed(alloc: Global, book: &Book) -> Result<String, AllocError> {
+    match print(alloc, book) {
+        Ok(text) => Ok(text),
+        Err(_) => print(alloc, book),
+    }
+}
+
+fn print(alloc: Global, book: &Book) -> Result<String, AllocError> {
+    let events = book.journal.events();
+    let last = &events[events.len().saturating_sub(64)..];
+    let mut text = String::with_capacity(alloc, 4096)?;
+    write!(text, "{} {last:?} ", events.len())?;
+    write!(text, "{:?} {:?} ", book.closed, book.times)?;
+    write!(text, "{:?} {:?} ", book.locks, book.barrier)?;
+    write!(text, "{:?} {:?} ", book.flags, book.awaits)?;
+    write!(text, "{:?}", book.transit)?;
+    Ok(text)
+}
+
+/// Whether this is the timestamp of `p`.
+fn has_time(alloc: Global, book: &Book, p: usize, entries: &[u64]) -> bool
+    requires some { 1 ≤ length entries.now }
+    requires most { length entries.now ≤ 16 }
+{
+    match book.times.get(p) {
+        Some(time) => *time == stamp(alloc, entries),
+        None => false,
+    }
+}
+
+/// The timestamp with these entries, each below 10.
+fn stamp(alloc: Global, entries: &[u64]) -> VTime
+    requires some { 1 ≤ length entries.now }
+    requires most { length entries.now ≤ 16 }
+{
+    let mut time = VTime::zero(alloc, entries.len());
+    for (q, entry) in entries.iter().enumerate() {
+        raise(&mut time, q, *entry);
+    }
+    time
+}
+
+/// Raises the entry, while it is below 9.
+fn raise(time: &mut VTime, q: usize, count: u64)
+    requires { q < length time.old }
+    ensures { length time.new ≡ length time.old }
+{
+    for _ in 0..count.min(9) {
+        if time.entry(q) < 9 {
+            time.tick(q);
+        }
     }
 }
 
@@ -274,4 +461,32 @@ fn stored(
         ]?,
         records: vec![in alloc; Arc::new(alloc, record)?]?,
     })
+}
+
+#[test]
+fn a_grant_brings_what_was_stored(rt: HostRuntime) -> Result<(), Fail> {
+    let mut told = Told::new(rt.alloc(), 2, 1, 1, 1, 0)?;
+    told.does(&rt, 0, Kind::Ask(0), NONE)?;
+    told.gets(&rt, 0, "grant", &[0, 0], &[])?;
+    told.does(&rt, 1, Kind::Ask(0), NONE)?;
+    assert_eq!(rt;
+        told.again(&rt, |told| told.take(1)).err(),
+        Some(Refused::NotYet)
+    );
+    told.does(&rt, 0, Kind::Release(0), Some((0, 3)))?;
+    assert_eq!(rt; (told.first(0), told.first(1)), (0, 0));
+    told.gets(&rt, 1, "grant", &[2, 0], &[word(0, 1, 2, 0, 3)])?;
+    assert_eq!(rt; (told.first(0), told.first(1)), (2, 0));
+    assert!(rt; told.has_time(0, &[2, 0]) && told.has_time(1, &[2, 1]));
+    let journal = told.into_journal();
+    let wanted = [
+        did(0, Kind::Ask(0)),
+        did(0, Kind::Acquire(0)),
+        did(1, Kind::Ask(0)),
+        did(0, Kind::Store(0, 3)),
+        did(0, Kind::Release(0)),
+        did(1, Kind::Acquire(0)),
+    ];
+    assert_eq!(rt; journal.events(), wanted.as_slice());
+    Ok(())
 }

@@ -1,6 +1,6 @@
 use Rattle.std.proofs.Common.{◌<◌, arith}
 use Rattle.book.proofs.Followed.{followed_new}
-use Rattle.book.proofs.book.tests.Told.new.Goals as goal
+use Rattle.book.proofs.book.tests.Told.once.Goals as goal
 
 pub invariant_of-result : goal.invariant_of-result
 invariant_of-result c =
