@@ -1,7 +1,7 @@
 -- What a set and an ask rest on, and what they make, read off the book.
 use Rattle.std.proofs.Common.{◌≡◌, ℕ, zero, suc, ◌+◌, ◌<◌, ◌≤◌, List, [], ◌∷◌, length, Option, Some, None, IfSome, slice_get, slice_set, slice_index, slice_index_or, subst, sym, refl, ap, ◌∙◌, arith}
 use Rattle.std.proofs.lemmas.Option.{slice_get-get_or, same_Some}
-use Rattle.std.proofs.lemmas.List.{length-set, get_or-set_same}
+use Rattle.std.proofs.lemmas.List.{length-set, get_or-set_same, get_or-set_other}
 use Rattle.journal.specs.declared.event.Event.{Event}
 use Rattle.journal.specs.declared.event.Kind.{Kind}
 use Rattle.journal.specs.declared.event.Kind.TheVariants.{Ask, Set}
@@ -21,8 +21,8 @@ use Rattle.book.specs.Calls.{MayCall, MayAsk}
 use Rattle.book.proofs.Each.{is_at}
 use Rattle.book.proofs.Posted.{idle_mail}
 use Rattle.book.proofs.Lined.{idle_no_ask, not_in_line}
-use Rattle.book.proofs.Trimmed.{between_pushed}
-use Rattle.book.proofs.Told.{is_idle, is_processor, own_stamp, own_number}
+use Rattle.book.proofs.Trimmed.{between_pushed, between_same}
+use Rattle.book.proofs.Told.{is_idle, is_processor, own_stamp, own_number, tick_grows}
 use Rattle.book.proofs.Calling.{standing, same_default}
 
 -- p's timestamp after its closing event
@@ -100,11 +100,15 @@ asking b p l block (s, h, told, may, range, free) =
 
 -- the grant that is made before the interval is pushed is the one that would be made after
 grant_same : (b : State) (p l : ℕ) (block : List Event) (records : List Changes) → p < length b.times → IsAsking b p l
-    → record { kind = grant; time = (lock_at b.locks l).time; notices = between b.closed (tick (time_of b p) p) (lock_at b.locks l).time } ≡ granted (closing (handed_in b block) p (Ask l) records) p (lock_at b.locks l).time
+    → granted b p (lock_at b.locks l).time ≡ granted (closing (handed_in b block) p (Ask l) records) p (lock_at b.locks l).time
 grant_same b p l block records lt is =
-    let time = own_ticked b p lt in
-    let news = between_pushed b.closed (open_interval b p records) (tick (time_of b p) p) (lock_at b.locks l).time is.older in
-    ap (λ (ns : List SentRecord). record { kind = grant; time = (lock_at b.locks l).time; notices = ns }) (sym news ∙ ap (λ (own : List ℕ). between (pushed b.closed (open_interval b p records)) own (lock_at b.locks l).time) (sym time))
+    let own = time_of b p in
+    let t = (lock_at b.locks l).time in
+    let older = is.older in
+    let more = tick_grows own p p in
+    let ticked : between b.closed own t ≡ between b.closed (tick own p) t = between_same b.closed own (tick own p) t p (λ q apart. sym (get_or-set_other own p q (slice_index own p + 1) 0 apart)) older (omega arith) in
+    let news = between_pushed b.closed (open_interval b p records) (tick own p) t older in
+    ap (λ (ns : List SentRecord). record { kind = grant; time = t; notices = ns }) (ticked ∙ sym news ∙ ap (λ (now : List ℕ). between (pushed b.closed (open_interval b p records)) now t) (sym (own_ticked b p lt)))
 
 -- what is there already is written without a change
 set_back : {A : Type 0} (xs : List A) (i : ℕ) (v : A) → slice_get xs i ≡ Some v → slice_set xs i v ≡ xs
@@ -123,7 +127,7 @@ asked_is old b p l block records locks transit is line mail =
 -- an ask whose grant is posted
 pub asked_granted : (old b : State) (p l : ℕ) (block : List Event) (records : List Changes) (locks : Locks) (transit : List (Option Letter)) (m : Letter) → MayAsk old p l block → b ≡ closing (handed_in old block) p (Ask l) records
     → locks ≡ with_lock b.locks l (asked (lock_at b.locks l) p) → transit ≡ slice_set b.transit p (Some m)
-    → Some m ≡ due (lock_at old.locks l).holder (record { kind = grant; time = (lock_at old.locks l).time; notices = between old.closed (tick (time_of old p) p) (lock_at old.locks l).time })
+    → Some m ≡ due (lock_at old.locks l).holder (granted old p (lock_at old.locks l).time)
     → record b { locks = locks; transit = transit } ≡ book_asked (handed_in old block) p l records
 asked_granted old b p l block records locks transit m may is line post made =
     let asks = asking old p l block may in
@@ -134,7 +138,7 @@ asked_granted old b p l block records locks transit m may is line post made =
 -- an ask that has to wait
 pub asked_waits : (old b : State) (p l : ℕ) (block : List Event) (records : List Changes) (locks : Locks) → MayAsk old p l block → b ≡ closing (handed_in old block) p (Ask l) records
     → locks ≡ with_lock b.locks l (asked (lock_at b.locks l) p)
-    → None ≡ due (lock_at old.locks l).holder (record { kind = grant; time = (lock_at old.locks l).time; notices = between old.closed (tick (time_of old p) p) (lock_at old.locks l).time })
+    → None ≡ due (lock_at old.locks l).holder (granted old p (lock_at old.locks l).time)
     → record b { locks = locks } ≡ book_asked (handed_in old block) p l records
 asked_waits old b p l block records locks may is line made =
     let asks = asking old p l block may in

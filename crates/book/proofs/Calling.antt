@@ -1,5 +1,5 @@
 -- What the calls of an idle processor rest on, read off the book.
-use Rattle.std.proofs.Common.{◌≡◌, ℕ, ◌-◌, ◌<◌, ◌≤◌, List, [], ◌∷◌, ◌++◌, slice_set, length, Option, Some, None, slice_get, slice_index, slice_index_or, ◌==◌, ◌&&◌, true, subst, sym, ap, ◌∙◌, arith}
+use Rattle.std.proofs.Common.{◌≡◌, ℕ, ◌-◌, ◌<◌, ◌≤◌, List, [], ◌∷◌, ◌++◌, slice_set, length, Option, Some, None, slice_get, slice_index, slice_index_or, ◌==◌, ◌&&◌, true, subst, sym, refl, ap, ◌∙◌, arith}
 use Rattle.std.proofs.lemmas.Option.{slice_get-get_or, get_or_from_slice_get}
 use Rattle.std.proofs.lemmas.List.Sums.{count_by-le-length}
 use Rattle.journal.specs.declared.event.Event.{Event}
@@ -17,7 +17,7 @@ use Rattle.interval.specs.Closings.{Closings, pushed}
 use Rattle.book.specs.Events.{event}
 use Rattle.book.specs.Transitions.{handed_in, open_interval, closing}
 use Rattle.book.specs.State.{State, time_of}
-use Rattle.book.specs.Calls.{MayCall}
+use Rattle.book.specs.Calls.{MayFlush, MayCall}
 use Rattle.book.proofs.Told.{is_processor, own_stamp, own_number}
 
 -- numbers of the book that a call of p needs
@@ -64,16 +64,20 @@ address_within s (Load a v) range = range
 address_within s (Store a v) range = range
 address_within s _ range = tt
 
+-- who may call may flush
+pub flushes : (b : State) (p : ℕ) (block : List Event) → MayCall b p block → MayFlush b p block
+flushes b p block (s, h, told, may) = (s, h, told, record { waits = (None, may.idle, λ some. absurd (some refl)); inner = may.inner })
+
 -- the block's events may be appended
-pub block_processors : (b : State) (p n : ℕ) (block : List Event) → MayCall b p block → n ≡ b.journal.processors → (k : ℕ) (d : Event) → k < length block → (slice_index_or block k d).processor < n
+pub block_processors : (b : State) (p n : ℕ) (block : List Event) → MayFlush b p block → n ≡ b.journal.processors → (k : ℕ) (d : Event) → k < length block → (slice_index_or block k d).processor < n
 block_processors b p n block (s, h, told, may) same k d lt =
     let x = may.inner k (slice_index_or block k d) (slice_get-get_or block k d lt) in
     let mine = x.mine in
-    let within = is_processor s h b p None told may.idle in
+    let within = is_processor s h b p may.waits.0 told may.waits.1 in
     let processors = told.sizes.processors in
     omega arith
 
-pub block_addresses : (b : State) (p n : ℕ) (block : List Event) → MayCall b p block → n ≡ b.journal.addresses → (k : ℕ) (d : Event) → k < length block → AddressInRange n (slice_index_or block k d).kind
+pub block_addresses : (b : State) (p n : ℕ) (block : List Event) → MayFlush b p block → n ≡ b.journal.addresses → (k : ℕ) (d : Event) → k < length block → AddressInRange n (slice_index_or block k d).kind
 block_addresses b p n block (s, h, told, may) same k d lt =
     let x = may.inner k (slice_index_or block k d) (slice_get-get_or block k d lt) in
     subst (λ m. AddressInRange m (slice_index_or block k d).kind) (sym (same ∙ told.sizes.addresses)) (address_within s (slice_index_or block k d).kind x.in_range)

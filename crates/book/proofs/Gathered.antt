@@ -111,7 +111,7 @@ barrier_departed s h p b well allowed lt x = record {
     own_depart : count_of is_depart (did h p Depart) p ≡ x.complete
     own_depart = let one : count_of is_depart (did h p Depart) p ≡ count_of is_depart h p + 1 = count_did is_depart h p Depart in let a = more in let c = most in let d = least in omega arith
 
-all_true : (xs : List Stage) → list_all is_here xs ≡ true → (k : ℕ) (x : Stage) → slice_get xs k ≡ Some x → Here ≡ x
+pub all_true : (xs : List Stage) → list_all is_here xs ≡ true → (k : ℕ) (x : Stage) → slice_get xs k ≡ Some x → Here ≡ x
 all_true [] all k x at = absurd (none-some x at)
 all_true (Here ∷ xs) all zero x at = same_Some Here x at
 all_true (Here ∷ xs) all (suc k) x at = all_true xs all k x at

@@ -20,3 +20,5 @@ pub mod Receiving
 pub mod Harness
 pub mod Followed
 pub mod Releasing
+pub mod Posting
+pub mod Arriving

@@ -1,13 +1,13 @@
 -- What a release rests on, and what it makes, read off the book.
-use Rattle.std.proofs.Common.{◌≡◌, ◌≢◌, ℕ, ◌<◌, ◌≤◌, inl, inr, List, [], ◌∷◌, ◌++◌, length, Option, Some, None, IfSome, slice_get, slice_set, slice_index, slice_index_or, subst, sym, refl, ap, ◌∙◌, arith}
-use Rattle.std.proofs.lemmas.Option.{slice_get-get_or, slice_get_within, same_Some, none-some}
-use Rattle.std.proofs.lemmas.List.{length-set, get_or-set_other}
+use Rattle.std.proofs.Common.{◌≡◌, ◌≢◌, ℕ, ◌<◌, inl, inr, List, [], ◌∷◌, length, Option, Some, None, IfSome, slice_get, slice_set, slice_index, slice_index_or, subst, sym, refl, ap, ◌∙◌, arith}
+use Rattle.std.proofs.lemmas.Option.{slice_get-get_or, same_Some, none-some}
+use Rattle.std.proofs.lemmas.List.{get_or-set_other}
 use Rattle.std.specs.Option.{option_map}
 use Rattle.journal.specs.declared.event.Event.{Event}
 use Rattle.journal.specs.declared.event.Kind.{Kind}
 use Rattle.journal.specs.declared.event.Kind.TheVariants.{Ask, Acquire, Release, Arrive, Depart}
 use Rattle.journal.specs.Sizes.{Sizes}
-use Rattle.journal.specs.WellFormed.{LastIs, Holds, Allowed, WellFormed}
+use Rattle.journal.specs.WellFormed.{LastIs, Holds, Allowed}
 use Rattle.journal.proofs.Steps.{last_unique}
 use Rattle.page.specs.Changes.{Changes}
 use Rattle.vtime.specs.Times.{tick}
@@ -25,7 +25,6 @@ use Rattle.book.proofs.Posted.{no_mail}
 use Rattle.book.proofs.Lined.{idle_no_ask}
 use Rattle.book.proofs.Locking.{holder_first}
 use Rattle.book.proofs.Told.{is_idle, is_processor, own_stamp}
-use Rattle.book.proofs.Calling.{standing}
 
 -- everyone with a timestamp may be sent what it lacks
 pub may_be_sent : (s : Sizes) (h : List Event) (b : State) (r : ℕ) → IsTold s h b → r < s.processors → MayBeSent b.closed b.times r
@@ -144,7 +143,7 @@ grant_made : (old b : State) (p l : ℕ) (block : List Event) (records : List Ch
     → (o ≡ option_map (grant_for b.closed old.times t) (slice_get (lock_at b.locks l).queue 0)) × ((q : ℕ) → slice_get (lock_at b.locks l).queue 0 ≡ Some q → slice_index_or old.times q [] ≡ time_of b q)
 grant_made old b p l block records t o may is made =
     subst (λ (x : State). (o ≡ option_map (grant_for x.closed old.times t) (slice_get (lock_at x.locks l).queue 0)) × ((q : ℕ) → slice_get (lock_at x.locks l).queue 0 ≡ Some q → slice_index_or old.times q [] ≡ time_of x q)) (sym is)
-        (made, λ q at. others_time old p q (tick (time_of old p) p) ((releasing old p l block may).next q at).apart)
+    (made, λ q at. others_time old p q (tick (time_of old p) p) ((releasing old p l block may).next q at).apart)
 
 -- a release whose grant is posted
 pub released_granted : (old b : State) (p l : ℕ) (block : List Event) (records : List Changes) (locks : Locks) (transit : List (Option Letter)) (t : List ℕ) (r : ℕ) (m : Letter) → MayRelease old p l block → b ≡ closing (handed_in old block) p (Release l) records → t ≡ tick (time_of old p) p

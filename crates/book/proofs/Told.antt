@@ -85,7 +85,8 @@ within_set first times p u lt grows within r q t at = elim (cases_eq r p) [
   | inr isnt ↦ within r q t (sym (slice_get-set_other times p r u isnt) ∙ at)
 ]
 
-tick_grows : (t : List ℕ) (p q : ℕ) → slice_index t q ≤ slice_index (tick t p) q
+-- a tick takes nothing back
+pub tick_grows : (t : List ℕ) (p q : ℕ) → slice_index t q ≤ slice_index (tick t p) q
 tick_grows t p q = elim (cases_eq q p) [
   | inl is ↦ (let P : ℕ → Type 0 = λ x. slice_index t x ≤ slice_index (tick t p) x in subst P (sym is) here)
   | inr isnt ↦ (let e = get_or-set_other t p q (slice_index t p + 1) 0 isnt in omega arith)

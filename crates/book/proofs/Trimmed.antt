@@ -1,5 +1,5 @@
 -- The closed intervals under one more event, and under trimming.
-use Rattle.std.proofs.Common.{◌≡◌, ℕ, zero, suc, ◌+◌, ◌<◌, ◌≤◌, min, max, ◌⊎◌, inl, inr, List, [], ◌∷◌, ◌++◌, length, take, filter, Bool, cond, not, true, false, Some, IsTrue, slice_get, slice_set, slice_index, slice_index_or, fold, subst, sym, refl, ap, ◌∙◌, arith, append-nil}
+use Rattle.std.proofs.Common.{◌≡◌, ◌≢◌, ◌&&◌, nat_le, nat_lt, ℕ, zero, suc, ◌+◌, ◌<◌, ◌≤◌, min, max, ◌⊎◌, inl, inr, List, [], ◌∷◌, ◌++◌, length, take, filter, Bool, cond, not, true, false, Some, IsTrue, slice_get, slice_set, slice_index, slice_index_or, fold, subst, sym, refl, ap, ◌∙◌, arith, append-nil}
 use Rattle.std.specs.List.{flat_map}
 use Rattle.std.proofs.lemmas.Bool.{cases_eq, cases_lt, cases_Bool, ne_eqb, not_from_false, eqb-true, and_parts, and_left, and_right, false_from_ne_true, ltb-true, le-ltb, leb-true, true≢false}
 use Rattle.std.proofs.lemmas.Option.{none-some, same_Some, slice_get_within}
@@ -23,6 +23,7 @@ use Rattle.page.specs.Changes.{Changes}
 use Rattle.interval.specs.declared.kept.Kept.{Kept}
 use Rattle.interval.specs.Intervals.{ClosedInterval}
 use Rattle.interval.specs.Closings.{Closings, pushed, trimmed, is_trimmed, is_news, between, sent_interval}
+use Rattle.interval.proofs.Chosen.{filter_same}
 use Rattle.book.specs.Events.{event, did}
 use Rattle.book.specs.ClosedIntervals.{closings_of, IsKept, AreContents, AreClosed, IsWithin}
 use Rattle.book.specs.Transitions.{lesser, least, trimmed_by}
@@ -197,6 +198,26 @@ between_pushed c i old new le =
     let sum = filter-append (is_news old new) c.kept (record { place = c.pushed; interval = i } ∷ []) in
     let same : filter (is_news old new) c.kept ++ filter (is_news old new) (record { place = c.pushed; interval = i } ∷ []) ≡ filter (is_news old new) c.kept = rw none (append-nil (filter (is_news old new) c.kept)) in
     ap (λ (ks : List Kept). flat_map sent_interval ks) (sum ∙ same)
+
+-- where nothing is news, nothing is news
+news_false : (old new : List ℕ) (k : Kept) → slice_index new k.interval.owner ≤ slice_index old k.interval.owner → is_news old new k ≡ false
+news_false old new k le = false_from_ne_true (is_news old new k) (λ e. (
+    let parts = and_parts _ _ e in
+    let from : slice_index old k.interval.owner ≤ k.interval.number = leb-true _ _ parts.0 in
+    let below : k.interval.number < slice_index new k.interval.owner = ltb-true _ _ parts.1 in
+    absurd (omega arith)))
+
+-- two that differ in intervals alone that aren't covered are sent the same
+pub between_same : (c : Closings) (one other new : List ℕ) (p : ℕ) → ((q : ℕ) → q ≢ p → slice_index one q ≡ slice_index other q) → slice_index new p ≤ slice_index one p → slice_index new p ≤ slice_index other p → between c one new ≡ between c other new
+between_same c one other new p same here there = ap (λ (ks : List Kept). flat_map sent_interval ks) (filter_same (is_news one new) (is_news other new) c.kept (λ k has. each k))
+  where
+    each : (k : Kept) → is_news one new k ≡ is_news other new k
+    each k = elim (cases_eq k.interval.owner p) [
+      | inl is ↦ (
+          let P : List ℕ → ℕ → Type 0 = λ t q. slice_index new q ≤ slice_index t q in
+          news_false one new k (subst (P one) (sym is) here) ∙ sym (news_false other new k (subst (P other) (sym is) there)))
+      | inr apart ↦ ap (λ (n : ℕ). nat_le n k.interval.number && nat_lt k.interval.number (slice_index new k.interval.owner)) (same k.interval.owner apart)
+    ]
 
 -- what is picked among what passes is what is picked, where what is picked passes
 filter_passed : (pick passes : Kept → Bool) (ks : List Kept) → ((k : Kept) → pick k ≡ true → passes k ≡ true) → filter pick (filter passes ks) ≡ filter pick ks

@@ -1,6 +1,8 @@
 -- The laws of whole transitions: the block, then the event.
-use Rattle.std.proofs.Common.{◌≢◌, ℕ, ◌↔◌, List, [], ◌∷◌, ◌++◌, sym, ap, ◌∙◌, append_assoc, append-nil, arith, length}
+use Rattle.std.proofs.Common.{◌≡◌, ◌≢◌, ℕ, ◌↔◌, Option, Some, None, slice_get, subst, List, [], ◌∷◌, ◌++◌, sym, refl, ap, ◌∙◌, append_assoc, append-nil, arith, length}
 use Rattle.std.proofs.lemmas.Bool.{true≢false}
+use Rattle.std.proofs.lemmas.Option.{none-some}
+use Rattle.journal.specs.declared.event.Kind.{Kind}
 use Rattle.lists.proofs.Places.{push_induction}
 use Rattle.journal.specs.declared.event.Event.{Event}
 use Rattle.journal.specs.declared.event.Kind.TheVariants.{Acquire, Release, Await}
@@ -10,11 +12,11 @@ use Rattle.journal.specs.WellFormed.{Holds}
 use Rattle.journal.proofs.Places.{at_longer, at_last}
 use Rattle.book.specs.Events.{did}
 use Rattle.book.specs.State.{State}
-use Rattle.book.specs.Transitions.{handed_in, book_took, book_signalled}
+use Rattle.book.specs.Transitions.{handed_in, handed_last, book_took, book_signalled}
 use Rattle.book.specs.Told.{IsTold}
-use Rattle.book.specs.Laws.{IsInner, MayHandIn, NewLaw, HandInLaw, AskLaw, ReleaseLaw, ArriveLaw, SetLaw, WatchLaw, TakeLaw, SignalLaw, MailLaw, FlagLaw}
+use Rattle.book.specs.Laws.{IsInner, MayHandIn, NewLaw, HandInLaw, LastLaw, AskLaw, ReleaseLaw, ArriveLaw, SetLaw, WatchLaw, TakeLaw, SignalLaw, MailLaw, FlagLaw}
 use Rattle.book.proofs.Doings.{holds_on, holds_back}
-use Rattle.book.proofs.Starting.{told_new, told_block, told_trimmed}
+use Rattle.book.proofs.Starting.{told_new, told_journal, told_block, told_trimmed}
 use Rattle.book.proofs.Locking.{told_ask, told_release}
 use Rattle.book.proofs.Meeting.{told_arrive}
 use Rattle.book.proofs.Flagging.{told_set, told_watch, told_signal, signal_ready}
@@ -39,8 +41,20 @@ block_told s h block b p told may = told_block s h block b p told may.idle (λ k
 pub new_law : NewLaw
 new_law s some = told_new s some
 
+nothing_told : (s : Sizes) (h : List Event) (b : State) → IsTold s h b → IsTold s (h ++ []) (handed_in b [])
+nothing_told s h b told = subst (λ es. IsTold s es (handed_in b [])) (sym (append-nil h)) (subst (λ (es : List Event). IsTold s h (record b { journal = record b.journal { events = es } })) (sym (append-nil b.journal.events)) told)
+
+given_told : (s : Sizes) (h block : List Event) (b : State) (p : ℕ) (w : Option Kind) → IsTold s h b → slice_get b.awaits p ≡ Some w → (w ≢ None → block ≡ []) → ((k : ℕ) (e : Event) → At block k e → IsInner s p e) → IsTold s (h ++ block) (handed_in b block)
+given_told s h block b p None told at none inner = block_told s h block b p told (record { idle = at; inner = inner })
+given_told s h block b p (Some k) told at none inner = subst (λ es. IsTold s (h ++ es) (handed_in b es)) (sym (none (λ e. none-some k (sym e)))) (nothing_told s h b told)
+
 pub hand_in_law : HandInLaw
-hand_in_law s h block b p told may = block_told s h block b p told may
+hand_in_law s h block b p told may = given_told s h block b p may.waits.0 told may.waits.1 may.waits.2 may.inner
+
+pub last_law : LastLaw
+last_law s h block b p told may =
+    let given = hand_in_law s h block b p told may in
+    told_journal s (h ++ block) (handed_in b block) (handed_last b block).journal (refl, refl) given.holds given
 
 pub ask_law : AskLaw
 ask_law s h block b p l records told may are range free = told_ask s (h ++ block) (handed_in b block) p l records (block_told s h block b p told may) range may.idle (λ held. free ((holds_block s h block p l may.inner).0 held)) are

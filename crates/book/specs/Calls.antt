@@ -12,9 +12,13 @@ use Rattle.book.specs.Transitions.{grant_after, book_took, book_signalled}
 use Rattle.journal.specs.WellFormed.{Holds}
 use Rattle.book.specs.State.{State, time_of}
 use Rattle.book.specs.Told.{IsTold}
-use Rattle.book.specs.Laws.{MayHandIn, trimmed_book}
+use Rattle.book.specs.Laws.{MayHandIn, MayGive, trimmed_book}
 
--- by some history that tells the book, p may hand in this block
+-- by some history that tells the book, p may hand in this block, which is empty where p waits
+abbrev pub MayFlush : State → ℕ → List Event → Type 0
+MayFlush b p block = (s : Sizes) × (h : List Event) × IsTold s h b × MayGive s b p block
+
+-- by some history that tells the book, p waits for nothing and may hand in this block
 abbrev pub MayCall : State → ℕ → List Event → Type 0
 MayCall b p block = (s : Sizes) × (h : List Event) × IsTold s h b × MayHandIn s b p block
 
@@ -39,6 +43,10 @@ addressed x = (x.0, letter x.1)
 -- who holds a lock next that is released at this time, and its grant
 abbrev pub grant_for : Closings → List (List ℕ) → List ℕ → ℕ → ℕ × Letter
 grant_for c times t r = (r, grant_after c (slice_index_or times r []) t)
+
+-- by some history that tells the book, p is a processor
+abbrev pub MayLook : State → ℕ → Type 0
+MayLook b p = (s : Sizes) × (h : List Event) × IsTold s h b × (p < s.processors)
 
 -- by some history that tells the book, p waits for this
 abbrev pub MayTake : State → ℕ → Kind → Type 0

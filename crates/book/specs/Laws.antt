@@ -12,7 +12,7 @@ use Rattle.book.specs.Events.{did}
 use Rattle.book.specs.Mail.{IsPosted}
 use Rattle.book.specs.ClosedIntervals.{AreContents}
 use Rattle.book.specs.State.{State}
-use Rattle.book.specs.Transitions.{new_book, handed_in, book_asked, book_released, book_arrived, book_set, book_watched, book_took, book_signalled, trimmed_by}
+use Rattle.book.specs.Transitions.{new_book, handed_in, handed_last, book_asked, book_released, book_arrived, book_set, book_watched, book_took, book_signalled, trimmed_by}
 use Rattle.book.specs.Told.{IsTold}
 
 -- the event is a load, a store or a fetch of p within the sizes
@@ -27,6 +27,11 @@ pub record MayHandIn (s : Sizes) (b : State) (p : ℕ) (block : List Event) : Ty
   pub idle : slice_get b.awaits p ≡ Some None
   pub inner : (k : ℕ) (e : Event) → At block k e → IsInner s p e
 
+-- p is a processor, and hands in a block of loads, stores and fetches, or none where it waits
+pub record MayGive (s : Sizes) (b : State) (p : ℕ) (block : List Event) : Type 0 where
+  pub waits : (w : Option Kind) × (slice_get b.awaits p ≡ Some w) × (w ≢ None → block ≡ [])
+  pub inner : (k : ℕ) (e : Event) → At block k e → IsInner s p e
+
 -- the records are those of p's open interval
 abbrev pub AreOpenRecords : Sizes → List Event → ℕ → List Changes → Type 0
 AreOpenRecords s h p records = AreContents s h p (count_of is_closing h p) records
@@ -35,9 +40,13 @@ AreOpenRecords s h p records = AreContents s h p (count_of is_closing h p) recor
 abbrev pub NewLaw : Type 0
 NewLaw = (s : Sizes) → 0 < s.processors → IsTold s [] (new_book s)
 
--- a block that is handed in
+-- a block that is handed in, also by one who waits if it is empty
 abbrev pub HandInLaw : Type 0
-HandInLaw = (s : Sizes) (h block : List Event) (b : State) (p : ℕ) → IsTold s h b → MayHandIn s b p block → IsTold s (h ++ block) (handed_in b block)
+HandInLaw = (s : Sizes) (h block : List Event) (b : State) (p : ℕ) → IsTold s h b → MayGive s b p block → IsTold s (h ++ block) (handed_in b block)
+
+-- a last block
+abbrev pub LastLaw : Type 0
+LastLaw = (s : Sizes) (h block : List Event) (b : State) (p : ℕ) → IsTold s h b → MayGive s b p block → IsTold s (h ++ block) (handed_last b block)
 
 -- an ask of a lock that p doesn't hold
 abbrev pub AskLaw : Type 0

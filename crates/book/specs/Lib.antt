@@ -12,3 +12,4 @@ pub mod Laws
 pub mod Holding
 pub mod Calls
 pub mod Harness
+pub mod Brought

@@ -1,5 +1,5 @@
 -- The transitions of the book, as functions of its value.
-use Rattle.std.specs.Prelude.{ℕ, zero, suc, ◌*◌, min, Bool, true, false, Option, Some, None, List, [], ◌∷◌, ◌++◌, map, slice_index, slice_index_or, slice_set, replicate, fold}
+use Rattle.std.specs.Prelude.{ℕ, zero, suc, ◌-◌, ◌*◌, min, Bool, true, false, cond, Option, Some, None, List, [], ◌∷◌, ◌++◌, map, length, slice_index, slice_index_or, slice_set, replicate, fold}
 use Rattle.journal.specs.declared.event.Event.{Event}
 use Rattle.journal.specs.declared.event.Kind.{Kind}
 use Rattle.journal.specs.declared.event.Kind.TheVariants.{Ask, Release, Arrive, Depart, Set, Watch, Await}
@@ -37,6 +37,10 @@ appended log es = record log { events = log.events ++ es }
 -- a block is handed in
 abbrev pub handed_in : State → List Event → State
 handed_in b block = record b { journal = appended b.journal block }
+
+-- the last block of a processor is handed in, for which room was kept
+abbrev pub handed_last : State → List Event → State
+handed_last b block = record b { journal = record b.journal { events = b.journal.events ++ block; room = b.journal.room - length block } }
 
 -- p does this
 abbrev pub logged : State → ℕ → Kind → State
@@ -86,8 +90,15 @@ book_released b p l records = record (closing b p (Release l) records) {
 }
 
 -- a departure, at this time, to a processor with that timestamp
+abbrev pub departure_to : Closings → List ℕ → List ℕ → Letter
+departure_to c t own = record { kind = departure; time = t; notices = between c own t }
+
 abbrev pub departing : State → List ℕ → List ℕ → Letter
-departing b t own = record { kind = departure; time = t; notices = between b.closed own t }
+departing b t own = departure_to b.closed t own
+
+-- the departures of those with these timestamps that p's arrival at this time brings
+abbrev pub departures_after : Closings → Episodes → List (List ℕ) → ℕ → List ℕ → Option (List Letter)
+departures_after c b times p t = cond (is_full (joined b p t)) (Some (map (departure_to c (join b.gathered t)) times)) None
 
 -- a complete episode lets all depart
 abbrev pub met : Bool → State → List ℕ → List (Option Letter)

@@ -1,22 +1,25 @@
 //! The book: everything that the processors share.
-ghost use Rattle.std.specs.Prelude.{◌≡◌, ◌≢◌, ℕ, ◌+◌, ◌-◌, ◌*◌, None, replicate, ◌^◌, ◌<◌, ◌≤◌, ◌++◌, ◌↔◌, ◌⊎◌, true, map, OnOk, OnErr, IfErr, IfOk, IfSome, slice_index, slice_index_or, Err, length, slice_get, Some};
+ghost use Rattle.std.specs.Prelude.{◌≡◌, ◌≢◌, ℕ, ◌+◌, ◌-◌, ◌*◌, None, replicate, ◌^◌, ◌<◌, ◌≤◌, ◌++◌, ◌↔◌, ◌⊎◌, true, map, OnOk, OnErr, IfErr, IfOk, IfSome, slice_index, slice_index_or, Err, length, slice_get, slice_set, Some};
 ghost use Rattle.std.specs.Arc.{arc_value};
 ghost use Rattle.journal.specs.declared.event.Kind.{Kind as AKind};
 ghost use Rattle.journal.specs.Events.{is_closing};
 ghost use Rattle.journal.specs.Waits.{awaited};
 ghost use Rattle.interval.specs.Intervals.{HasRisingPages};
-ghost use Rattle.book.specs.Calls.{MayCall, MayAsk, MayRelease, MayTake, MayTakeSome, IsAbsent, Takes, TakesMail};
-ghost use Rattle.book.specs.Transitions.{new_book, handed_in, closing, due, left, set_at, book_watched, book_set, book_asked, book_released};
+ghost use Rattle.book.specs.Brought.{brought};
+ghost use Rattle.book.specs.Calls.{MayFlush, MayCall, MayAsk, MayRelease, MayBeSent, MayTake, MayTakeSome, IsAbsent, Takes, TakesMail};
+ghost use Rattle.book.specs.Transitions.{new_book, handed_in, handed_last, closing, due, granted, left, set_at, book_watched, book_set, book_asked, book_released, book_arrived, departures_after};
 ghost use Rattle.book.specs.State.{time_of};
 ghost use Rattle.book.specs.Mail.{IsPosted};
 ghost use Rattle.std.specs.Option.{option_map};
 ghost use Rattle.vtime.specs.Times.{tick};
-ghost use Rattle.interval.specs.Closings.{between};
+ghost use Rattle.interval.specs.Closings.{between, pushed};
 ghost use Rattle.lockq.specs.Lock.{lock_at};
 ghost use Rattle.transit.specs.Letters.{letter};
 ghost use Rattle.transit.specs.Letters.Kind.{grant};
 
-use crate::messages::grant_to;
+mod pending;
+
+use crate::messages::{departures, grant_to, post_all};
 use crate::refused::Refused;
 use crate::room::{append_all, make_room};
 use crate::trims::trim;
@@ -97,10 +100,10 @@ impl Book {
         })
     }
 
-    /// Hands in a block of loads, stores and fetches of processor `p`, which waits for nothing.
+    /// Hands in a block of loads, stores and fetches of processor `p`, which is empty where `p` waits.
     /// JournalFull exactly where the journal would have more than 2^20 events.
     pub fn hand_in(&mut self, p: usize, block: &[Event]) -> Result<(), Refused>
-        requires call { MayCall self.old p block.now }
+        requires call { MayFlush self.old p block.now }
         requires short { length block.now ≤ 256 }
         ensures ok { OnOk result (self.new ≡ handed_in self.old block.now) }
         ensures err { OnErr result (self.new ≡ self.old) }
@@ -114,10 +117,10 @@ impl Book {
 
     /// Hands in a block as `hand_in` does, and answers a copy of the whole journal after it.
     pub fn audit(&mut self, p: usize, block: &[Event]) -> Result<Journal, Refused>
-        requires call { MayCall self.old p block.now }
+        requires call { MayFlush self.old p block.now }
         requires short { length block.now ≤ 256 }
         ensures ok { OnOk result (self.new ≡ handed_in self.old block.now) }
-        ensures copy { IfOk result (λ j. j.events ≡ self.new.journal.events) }
+        ensures copy { IfOk result (λ j. j ≡ record self.new.journal { room = j.room }) }
         ensures err { OnErr result (self.new ≡ self.old) }
         ensures full { result ≡ Err Refused.JournalFull ↔ (2 ^ 20 < length self.old.journal.events + length block.now) }
         ensures only { IfErr result (λ e. (e ≡ Refused.JournalFull) ⊎ (e ≡ Refused.NoMemory)) }
@@ -240,30 +243,86 @@ impl Book {
         Ok(())
     }
 
-    /// The grant to `p`, which is about to close its interval, of a lock that nobody holds.
+    /// Arrives at the barrier: closes the interval, and joins the timestamp of `p` after that into the
+    /// episode's. Where all others have arrived, the episode is complete, and each processor gets its
+    /// departure, with what it doesn't know. Otherwise as `watch`.
+    pub fn arrive(
+        &mut self,
+        p: usize,
+        block: &[Event],
+        records: Vec<Arc<Record>>,
+    ) -> Result<(), Refused>
+        requires call { MayCall self.old p block.now }
+        requires short { length block.now ≤ 256 }
+        requires rising { HasRisingPages (map arc_value records.items) }
+        ensures ok { OnOk result (self.new ≡ book_arrived (handed_in self.old block.now) p (map arc_value records.items)) }
+        ensures err { OnErr result (self.new ≡ self.old) }
+        ensures full { result ≡ Err Refused.JournalFull ↔ (2 ^ 20 < length self.old.journal.events + length block.now + 1) }
+        ensures only { IfErr result (λ e. (e ≡ Refused.JournalFull) ⊎ (e ≡ Refused.NoMemory)) }
+    {
+        make_room(&mut self.journal, self.owing, block.len() + 1)?;
+        let mut time = self.times[p].copy();
+        let interval = Interval {
+            owner: p,
+            number: time.entry(p),
+            records,
+        };
+        time.tick(p);
+        let departures = self.departures_with(&interval, &time)?;
+        self.close(p, Kind::Arrive, block, interval.records)?;
+        self.barrier.arrive(p, &time);
+        match departures {
+            Some(messages) => post_all(&mut self.transit, messages),
+            None => {}
+        }
+        Ok(())
+    }
+
+    /// The departures of all, where the episode is complete with the arrival of the interval's owner, at
+    /// the time `own`. It shows on a copy of the barrier.
+    fn departures_with(
+        &self,
+        interval: &Interval,
+        own: &VTime,
+    ) -> Result<Option<Vec<Message>>, AllocError>
+        requires owner { interval.now.owner < length self.now.closed.next }
+        requires processor { interval.now.owner < length self.now.times }
+        requires pages { HasRisingPages interval.now.records }
+        requires away { slice_get self.now.barrier.stages interval.now.owner ≡ Some Stage.Away }
+        requires own_long { length own.now ≡ length self.now.barrier.stages }
+        requires long { length self.now.barrier.stages ≡ length self.now.closed.first }
+        requires all { (r : ℕ) → r < length self.now.times → MayBeSent self.now.closed (slice_set self.now.times interval.now.owner own.now) r }
+        ensures { IfOk result (λ o. option_map (λ ms. map letter ms.items) o ≡ departures_after
+            (pushed self.now.closed interval.now) self.now.barrier (slice_set self.now.times interval.now.owner own.now) interval.now.owner own.now) }
+    {
+        let mut barrier = self.barrier.copy();
+        if !barrier.arrive(interval.owner, own) {
+            return Ok(None);
+        }
+        let alloc = *self.times.allocator();
+        let (closed, times) = (&self.closed, &self.times);
+        let all = departures(alloc, closed, times, interval, own, barrier.time())?;
+        Ok(Some(all))
+    }
+
+    /// The grant to `p` of a lock that nobody holds. That `p` is about to close its interval changes
+    /// nothing in it: the lock's time doesn't cover that interval.
     fn grant_if_free(&self, p: usize, l: usize) -> Result<Option<Message>, AllocError>
         requires lock { l < length self.now.locks.locks }
         requires processor { p < length self.now.times }
-        requires own { p < length (time_of self.now p) }
-        requires few { slice_index (time_of self.now p) p < 2 ^ 64 - 1 }
         requires own_long { length (time_of self.now p) ≡ length self.now.closed.first }
         requires time_long { length (lock_at self.now.locks l).time ≡ length self.now.closed.first }
         requires kept { (q : ℕ) → slice_index self.now.closed.first q ≤ slice_index (time_of self.now p) q }
-        ensures { IfOk result (λ m. option_map letter m ≡ due (lock_at self.now.locks l).holder (record {
-          kind = grant;
-          time = (lock_at self.now.locks l).time;
-          notices = between self.now.closed (tick (time_of self.now p) p) (lock_at self.now.locks l).time;
-        })) }
+        ensures { IfOk result (λ m. option_map letter m
+            ≡ due (lock_at self.now.locks l).holder (granted self.now p (lock_at self.now.locks l).time)) }
     {
         let locks = &self.locks;
         if locks.holder(l).is_some() {
             return Ok(None);
         }
-        let closed = &self.closed;
-        let mut own = self.times[p].copy();
-        own.tick(p);
+        let (closed, own) = (&self.closed, &self.times[p]);
         let time = locks.time(l).copy();
-        let notices = closed.between(&own, &time)?;
+        let notices = closed.between(own, &time)?;
         Ok(Some(Message::Grant { time, notices }))
     }
 
@@ -274,6 +333,7 @@ impl Book {
     pub fn take(&mut self, p: usize) -> Result<Message, Refused>
         requires call { MayTakeSome self.old p }
         ensures ok { (k : AKind) → slice_get self.old.awaits p ≡ Some (Some k) → IfOk result (λ m. Takes self.old p k (letter m) self.new) }
+        ensures brings { IfOk result (λ m. (letter m).notices ≡ brought self.old p) }
         ensures err { OnErr result (self.new ≡ self.old) }
         ensures absent { (k : AKind) → slice_get self.old.awaits p ≡ Some (Some k) → result ≡ Err Refused.NotYet ↔ IsAbsent self.old p k }
         ensures full { result ≢ Err Refused.NotYet → result ≡ Err Refused.JournalFull ↔ (2 ^ 20 < length self.old.journal.events + 1) }
@@ -342,14 +402,9 @@ impl Book {
 
     /// Hands in the last block of `p` at the end, past the limit. It takes no memory.
     pub fn last(&mut self, p: usize, block: &[Event])
-        requires call { MayCall self.old p block.now }
+        requires call { MayFlush self.old p block.now }
         requires room { length block.now ≤ self.old.journal.room }
-        ensures { self.new ≡ record self.old {
-          journal = record self.old.journal {
-            events = self.old.journal.events ++ block.now;
-            room = self.old.journal.room - length block.now;
-          };
-        } }
+        ensures { self.new ≡ handed_last self.old block.now }
     {
         append_all(&mut self.journal, block);
         self.owing -= block.len();
@@ -396,9 +451,9 @@ impl Book {
         closed.first(q)
     }
 
-    /// The journal alone.
+    /// The journal alone, with whatever room it has.
     pub fn into_journal(self) -> Journal
-        ensures { result.events ≡ self.journal.events }
+        ensures { result ≡ record self.journal { room = result.room } }
     {
         self.journal
     }

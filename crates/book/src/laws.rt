@@ -1,6 +1,6 @@
 //! The laws of the transitions, as contracts of functions that do nothing: the check proves each by
 //! its name.
-ghost use Rattle.book.specs.Laws.{NewLaw, HandInLaw, AskLaw, ReleaseLaw, ArriveLaw, SetLaw, WatchLaw, TakeLaw, SignalLaw, MailLaw, FlagLaw};
+ghost use Rattle.book.specs.Laws.{NewLaw, HandInLaw, LastLaw, AskLaw, ReleaseLaw, ArriveLaw, SetLaw, WatchLaw, TakeLaw, SignalLaw, MailLaw, FlagLaw};
 
 /// An empty book is told by the empty history.
 pub fn new_law()
@@ -10,6 +10,11 @@ pub fn new_law()
 /// A book that is told by a history is told, after a block, by the history with the block.
 pub fn hand_in_law()
     ensures { HandInLaw }
+{}
+
+/// The same of a last block, for which room was kept.
+pub fn last_law()
+    ensures { LastLaw }
 {}
 
 /// The same of an ask: the block, and the ask after it.

@@ -11,3 +11,4 @@ pub mod Between
 pub mod Looked
 pub mod News
 pub mod Sending
+pub mod Counted

@@ -58,6 +58,10 @@ sent_interval k = map (sent_record k) k.interval.records
 abbrev pub between : Closings → List ℕ → List ℕ → List SentRecord
 between c old new = flat_map sent_interval (filter (is_news old new) c.kept)
 
+-- it announces a record of the page
+abbrev pub is_of_page : ℕ → SentRecord → Bool
+is_of_page page s = s.notice.page == page
+
 -- the interval is that of the notice
 abbrev pub is_noticed : Notice → Kept → Bool
 is_noticed n k = k.interval.owner == n.owner && k.interval.number == n.number

@@ -1,9 +1,9 @@
 //! The closed intervals of all owners.
-ghost use Rattle.std.specs.Prelude.{◌≡◌, ℕ, ◌-◌, ◌^◌, ◌<◌, ◌≤◌, ◌==◌, MatchOption, OnOk, OnErr, IfOk, List, replicate, [], ◌∷◌, length, find, filter, slice_get, slice_index};
+ghost use Rattle.std.specs.Prelude.{◌≡◌, ℕ, ◌-◌, ◌^◌, ◌<◌, ◌≤◌, ◌==◌, MatchOption, OnOk, OnErr, IfOk, List, replicate, [], ◌∷◌, length, find, filter, count_by, slice_get, slice_index};
 ghost use Rattle.std.specs.Option.{option_copied};
 ghost use Rattle.vtime.specs.Times.{tick};
 ghost use Rattle.interval.specs.Intervals.{HasRisingPages, IsInClosingOrder};
-ghost use Rattle.interval.specs.Closings.{pushed, trimmed, is_news, between, record_of};
+ghost use Rattle.interval.specs.Closings.{pushed, trimmed, is_news, between, is_of_page, record_of};
 
 use crate::kept::{Interval, Kept};
 use crate::notice::{Notice, Sent};
@@ -81,13 +81,28 @@ impl Closed {
     {
         let mut at = old.copy();
         let mut sent = Vec::new(*self.queues.allocator());
-        while let Some(kept) = self.earliest(&at, new) {
+        while let Some(kept) = self.next_news(&mut at, new) {
             kept.send(&mut sent)?;
-            let owner = kept.owner();
-            prove!(at.entry(owner) < new.entry(owner));
-            at.tick(owner);
         }
         Ok(sent)
+    }
+
+    /// How many notices of the page `between` answers. It takes no memory.
+    pub fn news_of(&self, page: usize, old: &VTime, new: &VTime) -> usize
+        requires old_long { length old.now ≡ length self.now.first }
+        requires new_long { length new.now ≡ length self.now.first }
+        requires none_trimmed { (q : ℕ) → slice_index self.now.first q ≤ slice_index old.now q }
+        ensures { result ≡ count_by (is_of_page page) (between self.now old.now new.now) }
+    {
+        let mut at = old.copy();
+        let mut count = 0;
+        while let Some(kept) = self.next_news(&mut at, new) {
+            if kept.interval.record(page).is_some() {
+                prove!((count as u64) < self.pushed);
+                count += 1;
+            }
+        }
+        count
     }
 
     /// What `between` will answer once the interval is pushed: with it a caller can take all the memory
@@ -112,6 +127,23 @@ impl Closed {
             interval.send(self.pushed, &mut sent)?;
         }
         Ok(sent)
+    }
+
+    /// The first interval that `new` covers and `at` doesn't. From now on `at` covers it too.
+    fn next_news(&self, at: &mut VTime, new: &VTime) -> Option<&Kept>
+        requires at_long { length at.old ≡ length self.now.first }
+        requires new_long { length new.now ≡ length self.now.first }
+        requires none_trimmed { (q : ℕ) → slice_index self.now.first q ≤ slice_index at.old q }
+        ensures next { MatchOption result ((filter (is_news at.old new.now) self.now.kept ≡ []) × (at.new ≡ at.old))
+            (λ k. filter (is_news at.old new.now) self.now.kept ≡ k.now ∷ filter (is_news at.new new.now) self.now.kept) }
+        ensures at_long { length at.new ≡ length self.now.first }
+        ensures none_trimmed { (q : ℕ) → slice_index self.now.first q ≤ slice_index at.new q }
+    {
+        let kept = self.earliest(at, new)?;
+        let owner = kept.owner();
+        prove!(at.entry(owner) < new.entry(owner));
+        at.tick(owner);
+        Some(kept)
     }
 
     /// The first interval that `new` covers and `at` doesn't.

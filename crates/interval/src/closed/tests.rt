@@ -132,6 +132,35 @@ fn sends_in_closing_order(rt: HostRuntime) -> Result<(), Fail> {
     Ok(())
 }
 
+/// How many notices of the page lie between the timestamps.
+fn count_between(
+    rt: &(impl Abort + AllocGlobal),
+    closed: &Closed,
+    page: usize,
+    old: [u64; 2],
+    new: [u64; 2],
+) -> usize
+    requires { length closed.now.first ≡ 2 }
+{
+    let old = stamp(rt.alloc(), old);
+    let new = stamp(rt.alloc(), new);
+    assert!(rt; closed.first(0) <= old.entry(0));
+    assert!(rt; closed.first(1) <= old.entry(1));
+    closed.news_of(page, &old, &new)
+}
+
+#[test]
+fn counts_the_news_of_a_page(rt: HostRuntime) -> Result<(), Fail> {
+    let closed = four_intervals(rt.alloc())?;
+    assert_eq!(rt; count_between(&rt, &closed, 3, [0, 0], [2, 2]), 2);
+    assert_eq!(rt; count_between(&rt, &closed, 3, [1, 0], [2, 2]), 1);
+    assert_eq!(rt; count_between(&rt, &closed, 3, [0, 0], [2, 1]), 1);
+    assert_eq!(rt; count_between(&rt, &closed, 2, [0, 0], [2, 2]), 1);
+    assert_eq!(rt; count_between(&rt, &closed, 1, [0, 0], [2, 2]), 0);
+    assert_eq!(rt; count_between(&rt, &closed, 3, [2, 2], [2, 2]), 0);
+    Ok(())
+}
+
 #[test]
 fn sends_what_a_trim_leaves(rt: HostRuntime) -> Result<(), Fail> {
     let mut closed = four_intervals(rt.alloc())?;

@@ -6,26 +6,12 @@ use Rattle.journal.specs.Log.{Log}
 use Rattle.lists.specs.Places.{Has}
 use Rattle.lockq.specs.Lock.{lock_at, line}
 use Rattle.transit.specs.Letters.{letter}
-use Rattle.transit.specs.Letters.Kind.{grant}
 use Rattle.transit.specs.declared.message.Message.{Message}
-use Rattle.vtime.specs.Times.{tick}
-use Rattle.interval.specs.Closings.{between}
-use Rattle.book.specs.State.{State, time_of}
-use Rattle.book.specs.Transitions.{handed_in, closing, due}
+use Rattle.book.specs.State.{State}
+use Rattle.book.specs.Transitions.{handed_in, closing, due, granted}
 use Rattle.book.specs.Holding.{state_of}
-use Rattle.book.proofs.Calling.{IsStanding, standing}
 use Rattle.book.proofs.Asking.{IsAsking, asking, asked_granted, asked_waits}
 use Rattle.book.proofs.book.Book.ask.Goals as goal
-
-pub grant_if_free-requires-clause-own : goal.grant_if_free-requires-clause-own
-grant_if_free-requires-clause-own c = (subst (λ b. IsStanding b c.args.p) (sym c.self.view_is) (standing c.args.self.now c.args.p c.args.block.now (c.requires.call.0, c.requires.call.1, c.requires.call.2, c.requires.call.3))).own
-
-pub grant_if_free-requires-clause-few : goal.grant_if_free-requires-clause-few
-grant_if_free-requires-clause-few c =
-    let st : IsStanding (state_of c.self.inside) c.args.p = subst (λ b. IsStanding b c.args.p) (sym c.self.view_is) (standing c.args.self.now c.args.p c.args.block.now (c.requires.call.0, c.requires.call.1, c.requires.call.2, c.requires.call.3)) in
-    let few = st.few in
-    let all = c.self.invariant.few in
-    omega arith
 
 pub grant_if_free-requires-clause-own_long : goal.grant_if_free-requires-clause-own_long
 grant_if_free-requires-clause-own_long c = (subst (λ b. IsAsking b c.args.p c.args.l) (sym c.self.view_is) (asking c.args.self.now c.args.p c.args.l c.args.block.now c.requires.call)).own_long
@@ -60,12 +46,12 @@ pub returns-in-Some-clause-ok : goal.returns-in-Some-clause-ok
 returns-in-Some-clause-ok c =
     let same = ap (λ (l : Log). record (state_of c.self.inside) { journal = record l { room = c.self.inside.owing } }) c.in_ok-make_room.ensures.same ∙ c.self.view_is in
     let is = c.self-2.view_is ∙ c.in_ok-close.ensures.ok ∙ ap (λ (b : State). closing (handed_in b c.args.block.now) c.args.p (Ask c.args.l) (map arc_value c.args.records.items)) same in
-    let made = sym (ap (λ (m : Option Message). option_map letter m) c.in-Some.is) ∙ c.in_ok-grant.ensures ∙ ap (λ (b : State). due (lock_at b.locks c.args.l).holder (record { kind = grant; time = (lock_at b.locks c.args.l).time; notices = between b.closed (tick (time_of b c.args.p) c.args.p) (lock_at b.locks c.args.l).time })) c.self.view_is in
+    let made = sym (ap (λ (m : Option Message). option_map letter m) c.in-Some.is) ∙ c.in_ok-grant.ensures ∙ ap (λ (b : State). due (lock_at b.locks c.args.l).holder (granted b c.args.p (lock_at b.locks c.args.l).time)) c.self.view_is in
     asked_granted c.args.self.now (state_of c.self-2.inside) c.args.p c.args.l c.args.block.now (map arc_value c.args.records.items) c.ask.new.self c.post.new.self (letter c.in-Some.message) c.requires.call is c.ask.ensures.locks c.post.ensures made
 
 pub returns-in-None-clause-ok : goal.returns-in-None-clause-ok
 returns-in-None-clause-ok c =
     let same = ap (λ (l : Log). record (state_of c.self.inside) { journal = record l { room = c.self.inside.owing } }) c.in_ok-make_room.ensures.same ∙ c.self.view_is in
     let is = c.self-2.view_is ∙ c.in_ok-close.ensures.ok ∙ ap (λ (b : State). closing (handed_in b c.args.block.now) c.args.p (Ask c.args.l) (map arc_value c.args.records.items)) same in
-    let made = sym (ap (λ (m : Option Message). option_map letter m) c.in-None.is) ∙ c.in_ok-grant.ensures ∙ ap (λ (b : State). due (lock_at b.locks c.args.l).holder (record { kind = grant; time = (lock_at b.locks c.args.l).time; notices = between b.closed (tick (time_of b c.args.p) c.args.p) (lock_at b.locks c.args.l).time })) c.self.view_is in
+    let made = sym (ap (λ (m : Option Message). option_map letter m) c.in-None.is) ∙ c.in_ok-grant.ensures ∙ ap (λ (b : State). due (lock_at b.locks c.args.l).holder (granted b c.args.p (lock_at b.locks c.args.l).time)) c.self.view_is in
     asked_waits c.args.self.now (state_of c.self-2.inside) c.args.p c.args.l c.args.block.now (map arc_value c.args.records.items) c.ask.new.self c.requires.call is c.ask.ensures.locks made

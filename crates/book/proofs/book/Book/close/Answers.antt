@@ -7,7 +7,7 @@ use Rattle.book.specs.Events.{event}
 use Rattle.book.specs.State.{State, time_of}
 use Rattle.book.specs.Transitions.{handed_in, closing}
 use Rattle.book.specs.Holding.{state_of}
-use Rattle.book.proofs.Calling.{stands, own_read, own_entry_read, block_processors, block_addresses, closing_address, logs_are, closing_is}
+use Rattle.book.proofs.Calling.{stands, own_read, own_entry_read, flushes, block_processors, block_addresses, closing_address, logs_are, closing_is}
 use Rattle.book.proofs.book.Book.close.Goals as goal
 
 pub entry-number-requires : goal.entry-number-requires
@@ -24,11 +24,11 @@ push-requires-clause-fits c = let few = (stands (state_of c.self.inside) c.args.
 
 pub append_all-requires-clause-processor : goal.append_all-requires-clause-processor
 append_all-requires-clause-processor c =
-    block_processors c.args.self.now c.args.p c.make_room.new.journal.processors c.args.block.now c.requires.call (ap (λ (l : Log). l.processors) c.in_ok-make_room.ensures.same ∙ ap (λ (b : State). b.journal.processors) c.self.view_is)
+    block_processors c.args.self.now c.args.p c.make_room.new.journal.processors c.args.block.now (flushes c.args.self.now c.args.p c.args.block.now c.requires.call) (ap (λ (l : Log). l.processors) c.in_ok-make_room.ensures.same ∙ ap (λ (b : State). b.journal.processors) c.self.view_is)
 
 pub append_all-requires-clause-address : goal.append_all-requires-clause-address
 append_all-requires-clause-address c =
-    block_addresses c.args.self.now c.args.p c.make_room.new.journal.addresses c.args.block.now c.requires.call (ap (λ (l : Log). l.addresses) c.in_ok-make_room.ensures.same ∙ ap (λ (b : State). b.journal.addresses) c.self.view_is)
+    block_addresses c.args.self.now c.args.p c.make_room.new.journal.addresses c.args.block.now (flushes c.args.self.now c.args.p c.args.block.now c.requires.call) (ap (λ (l : Log). l.addresses) c.in_ok-make_room.ensures.same ∙ ap (λ (b : State). b.journal.addresses) c.self.view_is)
 
 pub append-requires-clause-processor : goal.append-requires-clause-processor
 append-requires-clause-processor c =

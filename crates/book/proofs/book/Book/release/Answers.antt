@@ -1,4 +1,4 @@
-use Rattle.std.proofs.Common.{◌≡◌, ℕ, ◌+◌, map, length, List, Option, Some, IfSome, slice_get, slice_index, ap, ◌∙◌, sym, subst, arith}
+use Rattle.std.proofs.Common.{ℕ, ◌+◌, map, length, List, Option, IfSome, slice_get, slice_index, ap, ◌∙◌, sym, subst, arith}
 use Rattle.std.proofs.lemmas.List.{length-set}
 use Rattle.std.specs.Arc.{arc_value}
 use Rattle.std.specs.Option.{option_map}
@@ -11,9 +11,9 @@ use Rattle.vtime.specs.Times.{tick}
 use Rattle.interval.specs.Closings.{pushed}
 use Rattle.book.specs.State.{State, time_of}
 use Rattle.book.specs.Transitions.{handed_in, open_interval, closing}
-use Rattle.book.specs.Calls.{MayBeSent, addressed, grant_for}
+use Rattle.book.specs.Calls.{MayBeSent, addressed}
 use Rattle.book.specs.Holding.{state_of}
-use Rattle.book.proofs.Calling.{IsStanding, stands, own_read, own_entry_read}
+use Rattle.book.proofs.Calling.{stands, own_read, own_entry_read}
 use Rattle.book.proofs.Releasing.{releases, releasing, release_call, next_sent, grant_read, grant_to_whom, released_granted}
 use Rattle.book.proofs.book.Book.release.Goals as goal
 

@@ -1,0 +1,117 @@
+use Rattle.std.proofs.Common.{◌≡◌, ℕ, ◌+◌, ◌<◌, map, length, replicate, Vec, Global, List, Option, None, slice_get, slice_set, slice_index, ap, ◌∙◌, sym, subst, arith}
+use Rattle.std.proofs.lemmas.List.{length-set, length-map}
+use Rattle.std.specs.Arc.{arc_value}
+use Rattle.std.specs.Option.{option_map}
+use Rattle.journal.specs.declared.event.Kind.TheVariants.{Arrive}
+use Rattle.journal.specs.Log.{Log}
+use Rattle.transit.specs.Letters.{letter}
+use Rattle.transit.specs.declared.message.Message.{Message}
+use Rattle.vtime.specs.Times.{tick}
+use Rattle.book.specs.State.{State, time_of}
+use Rattle.book.specs.Transitions.{handed_in, open_interval, closing}
+use Rattle.interval.specs.Closings.{pushed}
+use Rattle.book.specs.Calls.{MayBeSent}
+use Rattle.book.specs.Holding.{state_of}
+use Rattle.book.proofs.Calling.{stands, own_read, own_entry_read}
+use Rattle.book.proofs.Arriving.{arrives, arriving, departures_made, none_waits, arrived_met, arrived_alone}
+use Rattle.book.proofs.book.Book.arrive.Goals.{in-Some, in-None}
+use Rattle.book.proofs.book.Book.arrive.Goals as goal
+
+pub entry-requires : goal.entry-requires
+entry-requires c =
+    let st = stands (state_of c.self.inside) c.args.self.now c.args.p c.args.block.now c.self.view_is c.requires.call in
+    let own = c.copy-time.ensures ∙ own_read c.self.inside.times.items c.args.p c.index.result.now st.times c.index.ensures in
+    let long = ap (λ (t : List ℕ). length t) own in
+    let lt = st.own in
+    omega arith
+
+pub tick-requires-clause-in_range : goal.tick-requires-clause-in_range
+tick-requires-clause-in_range c =
+    let st = stands (state_of c.self.inside) c.args.self.now c.args.p c.args.block.now c.self.view_is c.requires.call in
+    let own = c.copy-time.ensures ∙ own_read c.self.inside.times.items c.args.p c.index.result.now st.times c.index.ensures in
+    let long = ap (λ (t : List ℕ). length t) own in
+    let lt = st.own in
+    omega arith
+
+pub tick-requires-clause-fits : goal.tick-requires-clause-fits
+tick-requires-clause-fits c =
+    let st = stands (state_of c.self.inside) c.args.self.now c.args.p c.args.block.now c.self.view_is c.requires.call in
+    let own = c.copy-time.ensures ∙ own_read c.self.inside.times.items c.args.p c.index.result.now st.times c.index.ensures in
+    let entry = ap (λ (t : List ℕ). slice_index t c.args.p) own in
+    let few = st.few in
+    let all = c.self.invariant.few in
+    omega arith
+
+pub departures_with-requires-clause-owner : goal.departures_with-requires-clause-owner
+departures_with-requires-clause-owner c =
+    (stands (state_of c.self.inside) c.args.self.now c.args.p c.args.block.now c.self.view_is c.requires.call).next
+
+pub departures_with-requires-clause-processor : goal.departures_with-requires-clause-processor
+departures_with-requires-clause-processor c =
+    (stands (state_of c.self.inside) c.args.self.now c.args.p c.args.block.now c.self.view_is c.requires.call).times
+
+pub departures_with-requires-clause-away : goal.departures_with-requires-clause-away
+departures_with-requires-clause-away c =
+    (arrives (state_of c.self.inside) c.args.self.now c.args.p c.args.block.now c.self.view_is c.requires.call).away
+
+pub departures_with-requires-clause-own_long : goal.departures_with-requires-clause-own_long
+departures_with-requires-clause-own_long c =
+    let st = stands (state_of c.self.inside) c.args.self.now c.args.p c.args.block.now c.self.view_is c.requires.call in
+    let own = c.copy-time.ensures ∙ own_read c.self.inside.times.items c.args.p c.index.result.now st.times c.index.ensures in
+    let arr = arrives (state_of c.self.inside) c.args.self.now c.args.p c.args.block.now c.self.view_is c.requires.call in
+    let ticked : c.tick.new.self ≡ tick (time_of (state_of c.self.inside) c.args.p) c.args.p = c.tick.ensures ∙ ap (λ (t : List ℕ). tick t c.args.p) own in
+    ap (λ (t : List ℕ). length t) ticked ∙ length-set (time_of (state_of c.self.inside) c.args.p) c.args.p (slice_index (time_of (state_of c.self.inside) c.args.p) c.args.p + 1) ∙ arr.own_long ∙ sym arr.stages
+
+pub departures_with-requires-clause-all : goal.departures_with-requires-clause-all
+departures_with-requires-clause-all c =
+    let st = stands (state_of c.self.inside) c.args.self.now c.args.p c.args.block.now c.self.view_is c.requires.call in
+    let own = c.copy-time.ensures ∙ own_read c.self.inside.times.items c.args.p c.index.result.now st.times c.index.ensures in
+    let arr = arrives (state_of c.self.inside) c.args.self.now c.args.p c.args.block.now c.self.view_is c.requires.call in
+    let ticked : c.tick.new.self ≡ tick (time_of (state_of c.self.inside) c.args.p) c.args.p = c.tick.ensures ∙ ap (λ (t : List ℕ). tick t c.args.p) own in
+    subst (λ (t : List ℕ). (r : ℕ) → r < length c.self.inside.times.items → MayBeSent c.self.inside.closed (slice_set c.self.inside.times.items c.args.p t) r) (sym ticked) arr.sent
+
+pub arrive-requires-clause-away : goal.arrive-requires-clause-away
+arrive-requires-clause-away c =
+    let same = ap (λ (l : Log). record (state_of c.self.inside) { journal = record l { room = c.self.inside.owing } }) c.in_ok-make_room.ensures.same ∙ c.self.view_is in
+    let is = c.self-2.view_is ∙ c.in_ok-close.ensures.ok ∙ ap (λ (b : State). closing (handed_in b c.args.block.now) c.args.p Arrive (map arc_value c.args.records.items)) same in
+    ap (λ (b : State). slice_get b.barrier.stages c.args.p) is ∙ (arriving c.args.self.now c.args.p c.args.block.now c.requires.call).away
+
+pub arrive-requires-clause-long : goal.arrive-requires-clause-long
+arrive-requires-clause-long c =
+    let st = stands (state_of c.self.inside) c.args.self.now c.args.p c.args.block.now c.self.view_is c.requires.call in
+    let own = c.copy-time.ensures ∙ own_read c.self.inside.times.items c.args.p c.index.result.now st.times c.index.ensures in
+    let arr = arrives (state_of c.self.inside) c.args.self.now c.args.p c.args.block.now c.self.view_is c.requires.call in
+    let ticked : c.tick.new.self ≡ tick (time_of (state_of c.self.inside) c.args.p) c.args.p = c.tick.ensures ∙ ap (λ (t : List ℕ). tick t c.args.p) own in
+    let same = ap (λ (l : Log). record (state_of c.self.inside) { journal = record l { room = c.self.inside.owing } }) c.in_ok-make_room.ensures.same ∙ c.self.view_is in
+    let is = c.self-2.view_is ∙ c.in_ok-close.ensures.ok ∙ ap (λ (b : State). closing (handed_in b c.args.block.now) c.args.p Arrive (map arc_value c.args.records.items)) same in
+    ap (λ (t : List ℕ). length t) ticked ∙ length-set (time_of (state_of c.self.inside) c.args.p) c.args.p (slice_index (time_of (state_of c.self.inside) c.args.p) c.args.p + 1) ∙ arr.own_long ∙ sym arr.stages ∙ ap (λ (b : State). length b.barrier.stages) c.self.view_is ∙ sym (ap (λ (b : State). length b.barrier.stages) is)
+
+pub post_all-requires : goal.post_all-requires
+post_all-requires c =
+    let st = stands (state_of c.self.inside) c.args.self.now c.args.p c.args.block.now c.self.view_is c.requires.call in
+    let own = c.copy-time.ensures ∙ own_read c.self.inside.times.items c.args.p c.index.result.now st.times c.index.ensures in
+    let ticked : c.tick.new.self ≡ tick (time_of (state_of c.self.inside) c.args.p) c.args.p = c.tick.ensures ∙ ap (λ (t : List ℕ). tick t c.args.p) own in
+    let same = ap (λ (l : Log). record (state_of c.self.inside) { journal = record l { room = c.self.inside.owing } }) c.in_ok-make_room.ensures.same ∙ c.self.view_is in
+    let is = c.self-2.view_is ∙ c.in_ok-close.ensures.ok ∙ ap (λ (b : State). closing (handed_in b c.args.block.now) c.args.p Arrive (map arc_value c.args.records.items)) same in
+    let time = ticked ∙ ap (λ (b : State). tick (time_of b c.args.p) c.args.p) c.self.view_is in
+    let made = departures_made c.args.self.now (state_of c.self.inside) c.args.p c.entry.result (map arc_value c.args.records.items) c.tick.new.self (option_map (λ (ms : Vec Message Global). map letter ms.items) c.in_ok-departures.departures) c.self.view_is (own_entry_read c.copy-time.result (time_of (state_of c.self.inside) c.args.p) c.args.p c.entry.result own c.entry.ensures) c.in_ok-departures.ensures in
+    let some = sym (ap (λ (o : Option (Vec Message Global)). option_map (λ (ms : Vec Message Global). map letter ms.items) o) c.in-Some.is) ∙ made in
+    ap (λ (b : State). b.transit) is ∙ none_waits c.args.self.now c.args.p (pushed c.args.self.now.closed (open_interval c.args.self.now c.args.p (map arc_value c.args.records.items))) c.tick.new.self (map letter c.in-Some.messages.items) (arriving c.args.self.now c.args.p c.args.block.now c.requires.call) time some ∙ ap (λ (n : ℕ). replicate n None) (length-map c.in-Some.messages.items letter)
+
+pub returns-clause-ok : goal.returns-clause-ok
+returns-clause-ok c =
+    let st = stands (state_of c.self.inside) c.args.self.now c.args.p c.args.block.now c.self.view_is c.requires.call in
+    let own = c.copy-time.ensures ∙ own_read c.self.inside.times.items c.args.p c.index.result.now st.times c.index.ensures in
+    let ticked : c.tick.new.self ≡ tick (time_of (state_of c.self.inside) c.args.p) c.args.p = c.tick.ensures ∙ ap (λ (t : List ℕ). tick t c.args.p) own in
+    let same = ap (λ (l : Log). record (state_of c.self.inside) { journal = record l { room = c.self.inside.owing } }) c.in_ok-make_room.ensures.same ∙ c.self.view_is in
+    let is = c.self-2.view_is ∙ c.in_ok-close.ensures.ok ∙ ap (λ (b : State). closing (handed_in b c.args.block.now) c.args.p Arrive (map arc_value c.args.records.items)) same in
+    let time = ticked ∙ ap (λ (b : State). tick (time_of b c.args.p) c.args.p) c.self.view_is in
+    let made = departures_made c.args.self.now (state_of c.self.inside) c.args.p c.entry.result (map arc_value c.args.records.items) c.tick.new.self (option_map (λ (ms : Vec Message Global). map letter ms.items) c.in_ok-departures.departures) c.self.view_is (own_entry_read c.copy-time.result (time_of (state_of c.self.inside) c.args.p) c.args.p c.entry.result own c.entry.ensures) c.in_ok-departures.ensures in
+    elim c.match-departures-2.branch [
+      | in-Some w ↦ (
+          let some = sym (ap (λ (o : Option (Vec Message Global)). option_map (λ (ms : Vec Message Global). map letter ms.items) o) w.in-Some.is) ∙ made in
+          w.self-is ∙ arrived_met c.args.self.now (state_of c.self-2.inside) c.args.p c.args.block.now (map arc_value c.args.records.items) c.arrive.new.self w.post_all.new.transit c.tick.new.self (map letter w.in-Some.messages.items) is time c.arrive.ensures.barrier w.post_all.ensures some)
+      | in-None w ↦ (
+          let none = sym (ap (λ (o : Option (Vec Message Global)). option_map (λ (ms : Vec Message Global). map letter ms.items) o) w.in-None.is) ∙ made in
+          w.self-is ∙ arrived_alone c.args.self.now (state_of c.self-2.inside) c.args.p c.args.block.now (map arc_value c.args.records.items) c.arrive.new.self c.tick.new.self is time c.arrive.ensures.barrier none)
+    ]

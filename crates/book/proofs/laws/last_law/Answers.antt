@@ -1,0 +1,5 @@
+use Rattle.book.proofs.Whole.{last_law}
+use Rattle.book.proofs.laws.last_law.Goals as goal
+
+pub returns : goal.returns
+returns c = last_law

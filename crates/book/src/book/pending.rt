@@ -1,0 +1,61 @@
+//! How much a take would bring.
+ghost use Rattle.std.specs.Prelude.{◌≡◌, ◌<◌, None, count_by, length, slice_index_or};
+ghost use Rattle.interval.specs.Closings.{is_of_page};
+ghost use Rattle.book.specs.Brought.{brought, sent_with, signalled};
+ghost use Rattle.book.specs.Calls.{MayLook, MayTake};
+ghost use Rattle.book.specs.State.{time_of};
+
+use super::Book;
+use interval::Sent;
+use journal::Kind;
+
+impl Book {
+    /// How many notices of the page a take by `p` would bring now: none where `p` waits for nothing, or
+    /// where what it waits for isn't there. It takes no memory.
+    pub fn due(&self, p: usize, page: usize) -> usize
+        requires call { MayLook self.now p }
+        ensures { result ≡ count_by (is_of_page page) (brought self.now p) }
+    {
+        let Some(kind) = self.awaits[p] else {
+            return 0;
+        };
+        match kind {
+            Kind::Await(flag) => self.due_by_flag(p, flag, page),
+            _ => self.due_by_message(p, page),
+        }
+    }
+
+    /// The same where `p` waits for the flag.
+    fn due_by_flag(&self, p: usize, f: usize, page: usize) -> usize
+        requires call { MayTake self.now p (Kind.Await f) }
+        ensures { result ≡ count_by (is_of_page page) (signalled self.now.closed (time_of self.now p) (slice_index_or self.now.flags f None)) }
+    {
+        let closed = &self.closed;
+        match &self.flags[f] {
+            Some(time) => closed.news_of(page, &self.times[p], time),
+            None => 0,
+        }
+    }
+
+    /// The same where `p` waits for a grant or a departure.
+    fn due_by_message(&self, p: usize, page: usize) -> usize
+        requires processor { p < length self.now.transit }
+        ensures { result ≡ count_by (is_of_page page) (sent_with (slice_index_or self.now.transit p None)) }
+    {
+        let transit = &self.transit;
+        let Some(message) = transit.peek(p) else {
+            return 0;
+        };
+        count_of_page(message.notices(), page)
+    }
+}
+
+/// How many of the notices are of the page.
+fn count_of_page(notices: &[Sent], page: usize) -> usize
+    ensures { result ≡ count_by (is_of_page page) notices.now }
+{
+    notices
+        .iter()
+        .filter(|sent| sent.notice.page == page)
+        .count()
+}
