@@ -21,8 +21,8 @@ use Rattle.book.specs.Lines.{IsLock}
 use Rattle.book.specs.State.{State}
 use Rattle.book.specs.Transitions.{new_book, handed_in, book_asked, book_released, book_arrived, book_set, book_watched, book_took, book_signalled}
 use Rattle.book.specs.Told.{IsTold}
-use Rattle.book.specs.Laws.{IsInner, MayHandIn, trimmed_book}
-use Rattle.book.specs.Calls.{MayCall, MayAsk, MayRelease, MayTakeSome, Takes, TakesMail}
+use Rattle.book.specs.Laws.{IsInner, MayHandIn, MayGive, trimmed_book}
+use Rattle.book.specs.Calls.{MayFlush, MayCall, MayAsk, MayRelease, MayTakeSome, Takes, TakesMail}
 use Rattle.book.specs.Harness.{NothingOpen, IsFollowed, IsPart}
 use Rattle.book.proofs.Each.{is_at}
 use Rattle.book.proofs.Lined.{idle_no_ask}
@@ -109,8 +109,8 @@ followed_watch s b p f block records x idle part range =
 abbrev loads : ℕ → ℕ → List Event
 loads p n = replicate n (event p (Load 0 0))
 
-may_load : (s : Sizes) (b : State) (p n : ℕ) → slice_get b.awaits p ≡ Some None → 0 < addresses s → MayHandIn s b p (loads p n)
-may_load s b p n idle some = record { idle = idle; inner = inner }
+may_load : (s : Sizes) (b : State) (p n : ℕ) → slice_get b.awaits p ≡ Some None → 0 < addresses s → MayGive s b p (loads p n)
+may_load s b p n idle some = record { waits = (None, idle, λ isnt. absurd (isnt refl)); inner = inner }
   where
     inner : (k : ℕ) (e : Event) → At (loads p n) k e → IsInner s p e
     inner k e at = subst (λ f. IsInner s p f) (slice_get-replicate_found n (event p (Load 0 0)) e k at) (record { mine = refl; takes = refl; closes = refl; in_range = some })
@@ -119,8 +119,8 @@ nothing_loaded : (s : Sizes) (p n : ℕ) (h : List Event) → NothingOpen s h �
 nothing_loaded s p zero h nothing = rw append-nil nothing
 nothing_loaded s p (suc n) h nothing = rw append_assoc at (nothing_loaded s p n (did h p (Load 0 0)) (nothing_quiet s h p (Load 0 0) refl refl nothing))
 
-pub may_hand_in_loads : (s : Sizes) (b : State) (p n : ℕ) (block : List Event) → IsFollowed s b → slice_get b.awaits p ≡ Some None → 0 < addresses s → block ≡ replicate n (event p (Load 0 0)) → MayCall b p block
-may_hand_in_loads s b p n block x idle some is = subst (λ es. MayCall b p es) (sym is) (s, x.history, x.told, may_load s b p n idle some)
+pub may_hand_in_loads : (s : Sizes) (b : State) (p n : ℕ) (block : List Event) → IsFollowed s b → slice_get b.awaits p ≡ Some None → 0 < addresses s → block ≡ replicate n (event p (Load 0 0)) → MayFlush b p block
+may_hand_in_loads s b p n block x idle some is = subst (λ es. MayFlush b p es) (sym is) (s, x.history, x.told, may_load s b p n idle some)
 
 pub followed_loads : (s : Sizes) (b : State) (p n : ℕ) (block : List Event) → IsFollowed s b → slice_get b.awaits p ≡ Some None → 0 < addresses s → block ≡ replicate n (event p (Load 0 0)) → IsFollowed s (handed_in b block)
 followed_loads s b p n block x idle some is = subst (λ es. IsFollowed s (handed_in b es)) (sym is) (record {

@@ -7,6 +7,7 @@ ghost use Rattle.book.specs.Events.{event};
 ghost use Rattle.book.specs.Harness.{IsPart, IsLoads};
 
 use super::*;
+use Call::{Arrive, Ask, Audit, HandIn, Last, Release, Set, Take, Watch};
 use interval::{Notice, Sent};
 use std::fmt::Write;
 use std::process::Abort;
@@ -47,6 +48,28 @@ struct Part {
 type Store = Option<(usize, u32)>;
 
 const NONE: Store = None;
+
+/// A call of the book.
+#[derive(Clone, Copy)]
+enum Call {
+    HandIn(usize),
+    Audit(usize),
+    Last(usize),
+    Ask(usize),
+    Release(usize),
+    Arrive,
+    Set(usize),
+    Watch(usize),
+    Take,
+}
+
+/// What a call answers.
+#[derive(Drop)]
+enum Answer {
+    Done,
+    Copy(Journal),
+    Came(Message),
+}
 
 /// A notice of page 0, its place, and the one word of its record: offset and value.
 type Word = (Notice, u64, (usize, u32));
@@ -188,6 +211,14 @@ impl Told {
         self.book.watch(p, f, &block, records)
     }
 
+    fn arrive(&mut self, p: usize, store: Store) -> Result<(), Refused> {
+        if !is_idle(&self.book, p) {
+            return Err(Refused::Waiting);
+        }
+        let Part { block, records } = part_of(self.alloc, self.pages, self.words, p, store)?;
+        self.book.arrive(p, &block, records)
+    }
+
     fn take(&mut self, p: usize) -> Result<Message, Refused> {
         let Some(_) = awaited_by(&self.book, p) else {
             return Err(Refused::NothingAwaited);
@@ -203,26 +234,81 @@ impl Told {
         }
     }
 
+    fn len(&self) -> usize {
+        length_of(&self.book)
+    }
+
     fn into_journal(self) -> Journal {
         self.book.into_journal()
     }
 
-    fn has_time(&self, p: usize, entries: &[u64]) -> bool
+    fn expect_time(&self, rt: &impl Abort, p: usize, entries: &[u64])
         requires some { 1 ≤ length entries.now }
         requires most { length entries.now ≤ 16 }
     {
-        has_time(self.alloc, &self.book, p, entries)
+        let wanted = stamp(self.alloc, entries);
+        assert!(rt; has_time(&self.book, p, &wanted), "not {wanted:?}");
     }
 
-    /// Hands the store in, and does what closes the interval.
-    fn does(&mut self, rt: &impl Abort, p: usize, kind: Kind, store: Store) -> Result<(), Refused> {
-        match kind {
-            Kind::Ask(l) => self.again(rt, |told| told.ask(p, l, store)),
-            Kind::Release(l) => self.again(rt, |told| told.release(p, l, store)),
-            Kind::Set(f) => self.again(rt, |told| told.set(p, f, store)),
-            Kind::Watch(f) => self.again(rt, |told| told.watch(p, f, store)),
-            _ => Err(Refused::OutOfRange),
+    /// Hands in so many full blocks of loads.
+    fn fills(&mut self, p: usize, blocks: usize) -> Result<(), Refused> {
+        let alloc = self.alloc;
+        let block = match loads(alloc, p, 256) {
+            Ok(block) => block,
+            Err(_) => loads(alloc, p, 256)?,
+        };
+        for _ in 0..blocks {
+            if self.hand_in_block(p, &block) == Err(Refused::NoMemory) {
+                self.hand_in_block(p, &block)?;
+            }
         }
+        Ok(())
+    }
+
+    fn call(&mut self, p: usize, call: Call, store: Store) -> Result<Answer, Refused> {
+        match call {
+            HandIn(count) => self.hand_in(p, count)?,
+            Last(count) => self.last(p, count)?,
+            Audit(count) => return Ok(Answer::Copy(self.audit(p, count)?)),
+            Ask(l) => self.ask(p, l, store)?,
+            Release(l) => self.release(p, l, store)?,
+            Arrive => self.arrive(p, store)?,
+            Set(f) => self.set(p, f, store)?,
+            Watch(f) => self.watch(p, f, store)?,
+            Take => return Ok(Answer::Came(self.take(p)?)),
+        }
+        Ok(Answer::Done)
+    }
+
+    /// Makes the call, and once more where a growth was refused. After a refusal all is as before.
+    fn makes(
+        &mut self,
+        rt: &impl Abort,
+        p: usize,
+        call: Call,
+        store: Store,
+    ) -> Result<Answer, Refused> {
+        let before = printed(self.alloc, &self.book)?;
+        match self.call(p, call, store) {
+            Ok(answer) => Ok(answer),
+            Err(refused) => {
+                assert_eq!(rt; printed(self.alloc, &self.book)?, before);
+                if refused == Refused::NoMemory {
+                    self.call(p, call, store)
+                } else {
+                    Err(refused)
+                }
+            }
+        }
+    }
+
+    fn does(&mut self, rt: &impl Abort, p: usize, call: Call, store: Store) -> Result<(), Refused> {
+        self.makes(rt, p, call, store)?;
+        Ok(())
+    }
+
+    fn refuses(&mut self, rt: &impl Abort, p: usize, call: Call, why: Refused) {
+        assert!(rt; self.does(rt, p, call, NONE) == Err(why), "not {why:?}");
     }
 
     /// Takes a message, of this name, with this timestamp and these records.
@@ -237,33 +323,21 @@ impl Told {
         requires some { 1 ≤ length entries.now }
         requires most { length entries.now ≤ 16 }
     {
-        let message = self.again(rt, |told| told.take(p))?;
+        let Answer::Came(message) = self.makes(rt, p, Take, NONE)? else {
+            return Err(Refused::NotYet);
+        };
         assert_eq!(rt; name_of(&message), name);
         assert_eq!(rt; *message.time(), stamp(self.alloc, entries));
         assert!(rt; has_words(message.notices(), words), "{message:?}");
         Ok(())
     }
 
-    /// Makes the call, and once more where a growth was refused. After a refusal all is as before.
-    fn again<T: Drop, F: Fn(&mut Told) -> Result<T, Refused>>(
-        &mut self,
-        rt: &impl Abort,
-        call: F,
-    ) -> Result<T, Refused>
-        requires { F.IsAlwaysCallable call }
-    {
-        let before = printed(self.alloc, &self.book)?;
-        match call(self) {
-            Ok(value) => Ok(value),
-            Err(refused) => {
-                assert_eq!(rt; printed(self.alloc, &self.book)?, before);
-                if refused == Refused::NoMemory {
-                    call(self)
-                } else {
-                    Err(refused)
-                }
-            }
-        }
+    /// The copy of the journal that `audit` answers.
+    fn copies(&mut self, rt: &impl Abort, p: usize, count: usize) -> Result<Journal, Refused> {
+        let Answer::Copy(journal) = self.makes(rt, p, Audit(count), NONE)? else {
+            return Err(Refused::NotYet);
+        };
+        Ok(journal)
     }
 }
 
@@ -307,6 +381,17 @@ fn did(processor: usize, kind: Kind) -> Event {
     Event { processor, kind }
 }
 
+fn has_events(journal: &Journal, wanted: &[Event]) -> bool {
+    journal.events() == wanted
+}
+
+fn has_event(journal: &Journal, place: usize, wanted: Event) -> bool {
+    match journal.at(place) {
+        Some(found) => *found == wanted,
+        None => false,
+    }
+}
+
 /// All that the calls read and write, of the journal its length and its last events.
 fn printed(alloc: Global, book: &Book) -> Result<String, AllocError> {
     match print(alloc, book) {
@@ -328,12 +413,9 @@ fn print(alloc: Global, book: &Book) -> Result<String, AllocError> {
 }
 
 /// Whether this is the timestamp of `p`.
-fn has_time(alloc: Global, book: &Book, p: usize, entries: &[u64]) -> bool
-    requires some { 1 ≤ length entries.now }
-    requires most { length entries.now ≤ 16 }
-{
+fn has_time(book: &Book, p: usize, wanted: &VTime) -> bool {
     match book.times.get(p) {
-        Some(time) => *time == stamp(alloc, entries),
+        Some(time) => *time == *wanted,
         None => false,
     }
 }
@@ -385,6 +467,10 @@ fn owing(book: &Book) -> usize
     ensures { result ≡ book.now.journal.room }
 {
     book.owing
+}
+
+fn length_of(book: &Book) -> usize {
+    book.journal.len()
 }
 
 /// What `p` waits for.
@@ -466,19 +552,16 @@ fn stored(
 #[test]
 fn a_grant_brings_what_was_stored(rt: HostRuntime) -> Result<(), Fail> {
     let mut told = Told::new(rt.alloc(), 2, 1, 1, 1, 0)?;
-    told.does(&rt, 0, Kind::Ask(0), NONE)?;
+    told.does(&rt, 0, Ask(0), NONE)?;
     told.gets(&rt, 0, "grant", &[0, 0], &[])?;
-    told.does(&rt, 1, Kind::Ask(0), NONE)?;
-    assert_eq!(rt;
-        told.again(&rt, |told| told.take(1)).err(),
-        Some(Refused::NotYet)
-    );
-    told.does(&rt, 0, Kind::Release(0), Some((0, 3)))?;
-    assert_eq!(rt; (told.first(0), told.first(1)), (0, 0));
+    told.does(&rt, 1, Ask(0), NONE)?;
+    told.refuses(&rt, 1, Take, Refused::NotYet);
+    told.does(&rt, 0, Release(0), Some((0, 3)))?;
+    assert!(rt; told.first(0) == 0 && told.first(1) == 0);
     told.gets(&rt, 1, "grant", &[2, 0], &[word(0, 1, 2, 0, 3)])?;
-    assert_eq!(rt; (told.first(0), told.first(1)), (2, 0));
-    assert!(rt; told.has_time(0, &[2, 0]) && told.has_time(1, &[2, 1]));
-    let journal = told.into_journal();
+    assert!(rt; told.first(0) == 2 && told.first(1) == 0);
+    told.expect_time(&rt, 0, &[2, 0]);
+    told.expect_time(&rt, 1, &[2, 1]);
     let wanted = [
         did(0, Kind::Ask(0)),
         did(0, Kind::Acquire(0)),
@@ -487,6 +570,145 @@ fn a_grant_brings_what_was_stored(rt: HostRuntime) -> Result<(), Fail> {
         did(0, Kind::Release(0)),
         did(1, Kind::Acquire(0)),
     ];
-    assert_eq!(rt; journal.events(), wanted.as_slice());
+    assert!(rt; has_events(&told.into_journal(), &wanted));
+    Ok(())
+}
+
+#[test]
+fn locks_are_granted_in_the_order_of_asks(rt: HostRuntime) -> Result<(), Fail> {
+    let mut told = Told::new(rt.alloc(), 3, 1, 1, 1, 0)?;
+    told.does(&rt, 0, Ask(0), NONE)?;
+    told.gets(&rt, 0, "grant", &[0, 0, 0], &[])?;
+    told.does(&rt, 1, Ask(0), NONE)?;
+    told.does(&rt, 2, Ask(0), NONE)?;
+    told.does(&rt, 0, Release(0), Some((0, 7)))?;
+    told.refuses(&rt, 2, Take, Refused::NotYet);
+    let first = word(0, 1, 3, 0, 7);
+    told.gets(&rt, 1, "grant", &[2, 0, 0], &[first])?;
+    told.refuses(&rt, 2, Take, Refused::NotYet);
+    told.does(&rt, 1, Release(0), Some((0, 8)))?;
+    told.gets(&rt, 2, "grant", &[2, 2, 0], &[first, word(1, 1, 4, 0, 8)])?;
+    told.expect_time(&rt, 0, &[2, 0, 0]);
+    told.expect_time(&rt, 1, &[2, 2, 0]);
+    told.expect_time(&rt, 2, &[2, 2, 1]);
+    Ok(())
+}
+
+#[test]
+fn a_signal_is_made_at_the_take(rt: HostRuntime) -> Result<(), Fail> {
+    let mut told = Told::new(rt.alloc(), 3, 1, 2, 0, 1)?;
+    told.does(&rt, 0, Set(0), Some((0, 1)))?;
+    told.does(&rt, 2, Watch(0), NONE)?;
+    told.does(&rt, 1, Set(0), Some((1, 2)))?;
+    let words = [word(0, 0, 0, 0, 1), word(1, 0, 2, 1, 2)];
+    told.gets(&rt, 2, "signal", &[1, 1, 0], &words)?;
+    told.expect_time(&rt, 0, &[1, 0, 0]);
+    told.expect_time(&rt, 1, &[0, 1, 0]);
+    told.expect_time(&rt, 2, &[1, 1, 1]);
+    Ok(())
+}
+
+#[test]
+fn a_watcher_waits_until_its_flag_is_set(rt: HostRuntime) -> Result<(), Fail> {
+    let mut told = Told::new(rt.alloc(), 2, 1, 2, 0, 2)?;
+    told.does(&rt, 0, Watch(1), Some((1, 9)))?;
+    told.refuses(&rt, 0, Take, Refused::NotYet);
+    told.does(&rt, 1, Set(0), Some((0, 4)))?;
+    told.refuses(&rt, 0, Take, Refused::NotYet);
+    told.does(&rt, 1, Set(1), NONE)?;
+    told.does(&rt, 1, Set(1), Some((0, 5)))?;
+    let words = [word(1, 0, 1, 0, 4), word(1, 2, 3, 0, 5)];
+    told.gets(&rt, 0, "signal", &[0, 3], &words)?;
+    told.expect_time(&rt, 0, &[1, 3]);
+    told.does(&rt, 0, Watch(1), NONE)?;
+    told.gets(&rt, 0, "signal", &[0, 3], &[])?;
+    told.expect_time(&rt, 0, &[2, 3]);
+    told.expect_time(&rt, 1, &[0, 3]);
+    Ok(())
+}
+
+#[test]
+fn who_arrives_departs_with_the_others(rt: HostRuntime) -> Result<(), Fail> {
+    let mut told = Told::new(rt.alloc(), 2, 1, 2, 0, 0)?;
+    told.does(&rt, 0, Arrive, Some((0, 5)))?;
+    told.refuses(&rt, 0, Take, Refused::NotYet);
+    told.does(&rt, 1, Arrive, NONE)?;
+    told.gets(&rt, 1, "departure", &[1, 1], &[word(0, 0, 0, 0, 5)])?;
+    told.gets(&rt, 0, "departure", &[1, 1], &[])?;
+    told.expect_time(&rt, 0, &[1, 1]);
+    told.expect_time(&rt, 1, &[1, 1]);
+    let wanted = [
+        did(0, Kind::Store(0, 5)),
+        did(0, Kind::Arrive),
+        did(1, Kind::Arrive),
+        did(1, Kind::Depart),
+        did(0, Kind::Depart),
+    ];
+    assert!(rt; has_events(&told.into_journal(), &wanted));
+    Ok(())
+}
+
+#[test]
+fn an_audit_copies_the_journal(rt: HostRuntime) -> Result<(), Fail> {
+    let mut told = Told::new(rt.alloc(), 2, 1, 1, 1, 0)?;
+    told.does(&rt, 0, Ask(0), NONE)?;
+    told.gets(&rt, 0, "grant", &[0, 0], &[])?;
+    told.does(&rt, 1, HandIn(1), NONE)?;
+    let wanted = [
+        did(0, Kind::Ask(0)),
+        did(0, Kind::Acquire(0)),
+        did(1, Kind::Load(0, 0)),
+        did(0, Kind::Load(0, 0)),
+        did(0, Kind::Load(0, 0)),
+        did(1, Kind::Load(0, 0)),
+    ];
+    assert!(rt; has_events(&told.copies(&rt, 0, 2)?, &wanted[..5]));
+    told.does(&rt, 1, Last(1), NONE)?;
+    assert!(rt; has_events(&told.copies(&rt, 0, 0)?, &wanted));
+    assert!(rt; has_events(&told.into_journal(), &wanted));
+    Ok(())
+}
+
+/// The journal has all but one of its 2^20 events, processor 1 holds lock 1, and processor 2 waits for
+/// a flag that is never set.
+fn almost_full(rt: &(impl Abort + AllocGlobal)) -> Result<Told, Refused> {
+    let mut told = Told::new(rt.alloc(), 3, 1, 1, 2, 1)?;
+    told.does(rt, 1, Ask(1), NONE)?;
+    told.gets(rt, 1, "grant", &[0, 0, 0], &[])?;
+    told.does(rt, 2, Watch(0), NONE)?;
+    told.fills(0, 4095)?;
+    told.does(rt, 0, HandIn(252), NONE)?;
+    assert!(rt; told.len() == (1 << 20) - 1);
+    Ok(told)
+}
+
+#[test]
+fn a_journal_has_at_most_2_to_the_20_events(rt: HostRuntime) -> Result<(), Fail> {
+    let mut told = almost_full(&rt)?;
+    assert!(rt; told.does(&rt, 0, Ask(0), Some((0, 1))) == Err(Refused::JournalFull));
+    told.refuses(&rt, 0, HandIn(2), Refused::JournalFull);
+    told.does(&rt, 0, Ask(0), NONE)?;
+    told.refuses(&rt, 0, Take, Refused::JournalFull);
+    told.refuses(&rt, 2, Take, Refused::NotYet);
+    for call in [
+        Ask(0),
+        Release(1),
+        Arrive,
+        Set(0),
+        Watch(0),
+        HandIn(1),
+        Audit(1),
+    ] {
+        told.refuses(&rt, 1, call, Refused::JournalFull);
+    }
+    told.does(&rt, 1, HandIn(0), NONE)?;
+    let copy = told.copies(&rt, 1, 0)?;
+    assert!(rt; copy.len() == 1 << 20);
+    told.does(&rt, 1, Last(256), NONE)?;
+    let journal = told.into_journal();
+    assert!(rt; journal.len() == (1 << 20) + 256);
+    assert!(rt; has_event(&journal, 0, did(1, Kind::Ask(1))));
+    assert!(rt; has_event(&journal, (1 << 20) - 1, did(0, Kind::Ask(0))));
+    assert!(rt; has_event(&journal, 1 << 20, did(1, Kind::Load(0, 0))));
     Ok(())
 }
