@@ -326,9 +326,9 @@ impl Told {
         let Answer::Came(message) = self.makes(rt, p, Take, NONE)? else {
             return Err(Refused::NotYet);
         };
-        assert_eq!(rt; name_of(&message), name);
-        assert_eq!(rt; *message.time(), stamp(self.alloc, entries));
-        assert!(rt; has_words(message.notices(), words), "{message:?}");
+        assert!(rt; name_of(&message) == name);
+        assert!(rt; *message.time() == stamp(self.alloc, entries));
+        assert!(rt; has_words(message.notices(), words));
         Ok(())
     }
 
