@@ -17,6 +17,8 @@ pub mod Calling
 pub mod Asking
 pub mod Watching
 pub mod Receiving
+pub mod Harness
+pub mod Followed
 pub mod Releasing
 pub mod Posting
 pub mod Arriving

@@ -11,4 +11,5 @@ pub mod Told
 pub mod Laws
 pub mod Holding
 pub mod Calls
+pub mod Harness
 pub mod Brought

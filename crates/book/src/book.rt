@@ -507,3 +507,6 @@ fn leave(barrier: &mut Barrier, kind: Kind, p: usize)
         _ => {}
     }
 }
+
+#[cfg(test)]
+mod tests;

@@ -1,0 +1,18 @@
+use Rattle.std.proofs.Common.{◌≡◌, ◌≢◌, ◌<◌, refl, Some, map, subst, sym, arith}
+use Rattle.std.specs.Arc.{arc_value}
+use Rattle.lockq.specs.Lock.{lock_at}
+use Rattle.book.specs.Harness.{IsPart}
+use Rattle.book.proofs.Followed.{after, may_call, followed_watch}
+use Rattle.book.proofs.book.tests.Told.watch.Goals as goal
+
+pub watch-requires-clause-call : goal.watch-requires-clause-call
+watch-requires-clause-call c =
+    let less = c.if-f-self.false in
+    let part = subst (λ es. IsPart c.self.inside.pages c.self.inside.words c.args.p es (map arc_value c.in_ok-block.field-0.records.items)) (sym c.deref.ensures.value) c.in_ok-block.ensures in
+    may_call _ c.self.inside.book c.args.p c.deref.result.now (map arc_value c.in_ok-block.field-0.records.items) c.self.invariant (c.if-not-is_idle.ensures refl) part
+
+pub invariant_of-self : goal.invariant_of-self
+invariant_of-self c =
+    let less = c.if-f-self.false in
+    let part = subst (λ es. IsPart c.self.inside.pages c.self.inside.words c.args.p es (map arc_value c.in_ok-block.field-0.records.items)) (sym c.deref.ensures.value) c.in_ok-block.ensures in
+    after _ c.self.inside.book c.watch.new.self _ c.watch.result c.self.invariant (followed_watch _ c.self.inside.book c.args.p c.args.f c.deref.result.now (map arc_value c.in_ok-block.field-0.records.items) c.self.invariant (c.if-not-is_idle.ensures refl) part (omega arith)) c.watch.ensures.ok c.watch.ensures.err
