@@ -1,5 +1,5 @@
 -- A book that is followed is followed after each call.
-use Rattle.std.proofs.Common.{◌≡◌, ◌≢◌, ℕ, zero, suc, ◌<◌, Result, Ok, Err, IfOk, OnOk, OnErr, inl, inr, List, [], ◌∷◌, ◌++◌, length, replicate, true, false, Option, Some, None, slice_get, slice_index_or, subst, sym, refl, ap, ◌∙◌, append-nil, append_assoc}
+use Rattle.std.proofs.Common.{◌≡◌, ◌≢◌, ℕ, zero, suc, ◌<◌, Result, Ok, Err, IfOk, OnOk, OnErr, inl, inr, List, [], ◌∷◌, ◌++◌, replicate, true, false, Option, Some, None, slice_get, slice_index_or, subst, sym, refl, ap, ◌∙◌, append-nil, append_assoc}
 use Rattle.std.specs.Option.{option_to_list}
 use Rattle.std.proofs.lemmas.Option.{same_Some, none-some}
 use Rattle.lists.proofs.Joined.{has-nil}
@@ -12,7 +12,7 @@ use Rattle.journal.specs.Events.{At, is_closing, is_store}
 use Rattle.journal.specs.WellFormed.{Holds}
 use Rattle.journal.specs.Waits.{awaited, IsIdle}
 use Rattle.page.specs.Changes.{Changes}
-use Rattle.lockq.specs.Lock.{Lock, unheld, lock_at, line}
+use Rattle.lockq.specs.Lock.{Lock, unheld, lock_at}
 use Rattle.transit.specs.declared.message.Message.{Message}
 use Rattle.transit.specs.Letters.{Letter, letter}
 use Rattle.book.specs.declared.refused.Refused.{Refused}

@@ -1,8 +1,7 @@
 -- What the tests carry from call to call stays so.
-use Rattle.std.proofs.Common.{◌≡◌, ◌≢◌, ℕ, ◌+◌, ◌<◌, ◌≤◌, ◌/◌, ◌%◌, ◌⊎◌, ◌↔◌, inl, inr, List, [], ◌∷◌, ◌++◌, length, Bool, cond, true, false, Some, Option, slice_get, take, subst, sym, refl, ap, ◌∙◌, arith, append-nil, append_assoc}
+use Rattle.std.proofs.Common.{◌≡◌, ◌≢◌, ℕ, ◌<◌, ◌≤◌, ◌/◌, ◌%◌, inl, inr, List, [], ◌∷◌, ◌++◌, length, Bool, cond, true, false, Some, Option, slice_get, subst, sym, refl, ap, ◌∙◌, arith, append-nil, append_assoc}
 use Rattle.std.proofs.lemmas.Bool.{cases_eq, true≢false}
-use Rattle.std.proofs.lemmas.Option.{same_Some}
-use Rattle.lists.specs.Places.{Has, InOrder}
+use Rattle.lists.specs.Places.{Has}
 use Rattle.lists.specs.Writes.{LastWrite}
 use Rattle.lists.specs.Records.{IsRecordOf}
 use Rattle.lists.proofs.Places.{push_cases, push_induction}
@@ -10,19 +9,18 @@ use Rattle.lists.proofs.Joined.{has-nil, has-cons, in_order_single}
 use Rattle.lists.proofs.LastWrites.{last_first}
 use Rattle.journal.specs.declared.event.Event.{Event}
 use Rattle.journal.specs.declared.event.Kind.{Kind}
-use Rattle.journal.specs.declared.event.Kind.TheVariants.{Load, Store}
+use Rattle.journal.specs.declared.event.Kind.TheVariants.{Store}
 use Rattle.journal.specs.Sizes.{Sizes}
-use Rattle.journal.specs.Events.{At, count_of, is_closing, is_store, interval_at}
+use Rattle.journal.specs.Events.{At, count_of, is_closing, is_store}
 use Rattle.journal.specs.Groups.{StoresIn, IsContent}
 use Rattle.journal.specs.Copies.{page_write}
-use Rattle.journal.proofs.Places.{at_longer, at_last, at_within, count_of-front, count_of-take-le}
+use Rattle.journal.proofs.Places.{at_longer, at_last, count_of-front, count_of-take-le}
 use Rattle.std.proofs.Math.Seq.{take-append_seam}
 use Rattle.journal.proofs.Contents.{stores_in_shorter}
 use Rattle.page.specs.Changes.{Changes}
 use Rattle.book.specs.Events.{event, did}
-use Rattle.book.specs.ClosedIntervals.{AreContents}
 use Rattle.book.specs.Laws.{IsInner, AreOpenRecords}
-use Rattle.book.specs.Harness.{NothingOpen, IsFollowed, IsStored, IsPart}
+use Rattle.book.specs.Harness.{NothingOpen, IsPart}
 use Rattle.book.proofs.Doings.{count_did, count_others, count_kept}
 
 -- nobody but p has a store in its open interval

@@ -226,12 +226,10 @@ impl Told {
         self.book.take(p)
     }
 
-    fn first(&self, q: usize) -> u64 {
-        if q < self.processors {
-            self.book.first(q)
-        } else {
-            0
-        }
+    /// Whether these are the first intervals that are kept of processors 0 and 1.
+    fn has_firsts(&self, wanted: [u64; 2]) -> bool {
+        let [first, second] = wanted;
+        self.processors >= 2 && self.book.first(0) == first && self.book.first(1) == second
     }
 
     fn len(&self) -> usize {
@@ -549,17 +547,28 @@ fn stored(
     })
 }
 
+/// Processor 0 holds the lock, and the others have asked for it in rising order.
+fn in_line(rt: &(impl Abort + AllocGlobal), processors: usize) -> Result<Told, Refused>
+    requires some { 1 ≤ processors }
+    requires most { processors ≤ 3 }
+{
+    let mut told = Told::new(rt.alloc(), processors, 1, 1, 1, 0)?;
+    told.does(rt, 0, Ask(0), NONE)?;
+    told.gets(rt, 0, "grant", &[0; 3][..processors], &[])?;
+    for p in 1..processors {
+        told.does(rt, p, Ask(0), NONE)?;
+    }
+    Ok(told)
+}
+
 #[test]
 fn a_grant_brings_what_was_stored(rt: HostRuntime) -> Result<(), Fail> {
-    let mut told = Told::new(rt.alloc(), 2, 1, 1, 1, 0)?;
-    told.does(&rt, 0, Ask(0), NONE)?;
-    told.gets(&rt, 0, "grant", &[0, 0], &[])?;
-    told.does(&rt, 1, Ask(0), NONE)?;
+    let mut told = in_line(&rt, 2)?;
     told.refuses(&rt, 1, Take, Refused::NotYet);
     told.does(&rt, 0, Release(0), Some((0, 3)))?;
-    assert!(rt; told.first(0) == 0 && told.first(1) == 0);
+    assert!(rt; told.has_firsts([0, 0]));
     told.gets(&rt, 1, "grant", &[2, 0], &[word(0, 1, 2, 0, 3)])?;
-    assert!(rt; told.first(0) == 2 && told.first(1) == 0);
+    assert!(rt; told.has_firsts([2, 0]));
     told.expect_time(&rt, 0, &[2, 0]);
     told.expect_time(&rt, 1, &[2, 1]);
     let wanted = [
@@ -576,11 +585,7 @@ fn a_grant_brings_what_was_stored(rt: HostRuntime) -> Result<(), Fail> {
 
 #[test]
 fn locks_are_granted_in_the_order_of_asks(rt: HostRuntime) -> Result<(), Fail> {
-    let mut told = Told::new(rt.alloc(), 3, 1, 1, 1, 0)?;
-    told.does(&rt, 0, Ask(0), NONE)?;
-    told.gets(&rt, 0, "grant", &[0, 0, 0], &[])?;
-    told.does(&rt, 1, Ask(0), NONE)?;
-    told.does(&rt, 2, Ask(0), NONE)?;
+    let mut told = in_line(&rt, 3)?;
     told.does(&rt, 0, Release(0), Some((0, 7)))?;
     told.refuses(&rt, 2, Take, Refused::NotYet);
     let first = word(0, 1, 3, 0, 7);

@@ -1,6 +1,5 @@
-use Rattle.std.proofs.Common.{◌≡◌, inr, map, arith}
+use Rattle.std.proofs.Common.{inr, arith}
 use Rattle.std.proofs.Math.Nat.{div-lt_iff_lt-mul}
-use Rattle.std.specs.Arc.{arc_value}
 use Rattle.book.proofs.book.tests.part_of.Goals as goal
 
 pub returns : goal.returns

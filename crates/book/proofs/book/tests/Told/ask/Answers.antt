@@ -1,7 +1,6 @@
-use Rattle.std.proofs.Common.{◌≡◌, ◌≢◌, ◌<◌, refl, Some, map, subst, sym, arith}
+use Rattle.std.proofs.Common.{refl, map, subst, sym, arith}
 use Rattle.std.proofs.lemmas.Bool.{true≢false}
 use Rattle.std.specs.Arc.{arc_value}
-use Rattle.lockq.specs.Lock.{lock_at}
 use Rattle.book.specs.Harness.{IsPart}
 use Rattle.book.proofs.Followed.{after, may_ask, followed_ask}
 use Rattle.book.proofs.book.tests.Told.ask.Goals as goal

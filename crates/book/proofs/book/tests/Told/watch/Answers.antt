@@ -1,6 +1,5 @@
-use Rattle.std.proofs.Common.{◌≡◌, ◌≢◌, ◌<◌, refl, Some, map, subst, sym, arith}
+use Rattle.std.proofs.Common.{refl, map, subst, sym, arith}
 use Rattle.std.specs.Arc.{arc_value}
-use Rattle.lockq.specs.Lock.{lock_at}
 use Rattle.book.specs.Harness.{IsPart}
 use Rattle.book.proofs.Followed.{after, may_call, followed_watch}
 use Rattle.book.proofs.book.tests.Told.watch.Goals as goal
