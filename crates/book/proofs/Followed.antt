@@ -1,7 +1,7 @@
 -- A book that is followed is followed after each call.
-use Rattle.std.proofs.Common.{◌≡◌, ◌≢◌, ℕ, zero, suc, ◌<◌, Result, Ok, Err, IfOk, OnOk, OnErr, inl, inr, List, [], ◌∷◌, ◌++◌, replicate, true, false, Option, Some, None, slice_get, slice_index_or, subst, sym, refl, ap, ◌∙◌, append-nil, append_assoc}
+use Rattle.std.proofs.Common.{◌≡◌, ◌≢◌, ℕ, zero, suc, ◌<◌, Result, Ok, Err, IfOk, OnOk, OnErr, inl, inr, List, [], ◌∷◌, ◌++◌, replicate, true, false, Option, Some, None, slice_get, slice_index_or, subst, sym, refl, ap, ◌∙◌, append-nil, append_assoc, arith}
 use Rattle.std.specs.Option.{option_to_list}
-use Rattle.std.proofs.lemmas.Option.{same_Some, none-some}
+use Rattle.std.proofs.lemmas.Option.{same_Some, none-some, slice_get-get_or}
 use Rattle.lists.proofs.Joined.{has-nil}
 use Rattle.lists.proofs.Sets.{slice_get-replicate_found}
 use Rattle.journal.specs.declared.event.Event.{Event}
@@ -22,7 +22,7 @@ use Rattle.book.specs.State.{State}
 use Rattle.book.specs.Transitions.{new_book, handed_in, book_asked, book_released, book_arrived, book_set, book_watched, book_took, book_signalled}
 use Rattle.book.specs.Told.{IsTold}
 use Rattle.book.specs.Laws.{IsInner, MayHandIn, MayGive, trimmed_book}
-use Rattle.book.specs.Calls.{MayFlush, MayCall, MayAsk, MayRelease, MayTakeSome, Takes, TakesMail}
+use Rattle.book.specs.Calls.{MayFlush, MayLook, MayCall, MayAsk, MayRelease, MayTakeSome, Takes, TakesMail}
 use Rattle.book.specs.Harness.{NothingOpen, IsFollowed, IsPart}
 use Rattle.book.proofs.Each.{is_at}
 use Rattle.book.proofs.Lined.{idle_no_ask}
@@ -128,6 +128,25 @@ followed_loads s b p n block x idle some is = subst (λ es. IsFollowed s (handed
   told = hand_in_law s x.history (loads p n) b p x.told (may_load s b p n idle some);
   nothing = nothing_loaded s p n x.history x.nothing;
 })
+
+-- nothing is handed in, also by one who waits
+nothing_given : (s : Sizes) (b : State) (p : ℕ) → IsFollowed s b → p < s.processors → MayGive s b p []
+nothing_given s b p x less =
+    let long = x.told.awaits.long in
+    record { waits = (slice_index_or b.awaits p None, slice_get-get_or b.awaits p None (omega arith), λ some. refl); inner = λ k e at. absurd (has-nil e (k, at)) }
+
+pub may_flush : (s : Sizes) (b : State) (p : ℕ) → IsFollowed s b → p < s.processors → MayFlush b p []
+may_flush s b p x less = (s, x.history, x.told, nothing_given s b p x less)
+
+pub followed_flush : (s : Sizes) (b : State) (p : ℕ) → IsFollowed s b → p < s.processors → IsFollowed s (handed_in b [])
+followed_flush s b p x less = record {
+  history = x.history ++ [];
+  told = hand_in_law s x.history [] b p x.told (nothing_given s b p x less);
+  nothing = subst (λ h. NothingOpen s h) (sym (append-nil x.history)) x.nothing;
+}
+
+pub may_look : (s : Sizes) (b : State) (p : ℕ) → IsFollowed s b → p < s.processors → MayLook b p
+may_look s b p x less = (s, x.history, x.told, less)
 
 -- the journal's room says nothing of the history
 pub followed_room : (s : Sizes) (b new : State) (n : ℕ) → IsFollowed s b → new ≡ record b { journal = record b.journal { room = n } } → IsFollowed s new

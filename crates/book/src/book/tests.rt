@@ -7,7 +7,7 @@ ghost use Rattle.book.specs.Events.{event};
 ghost use Rattle.book.specs.Harness.{IsPart, IsLoads};
 
 use super::*;
-use Call::{Arrive, Ask, Audit, HandIn, Last, Release, Set, Take, Watch};
+use Call::{Arrive, Ask, Audit, Flush, HandIn, Last, Release, Set, Take, Watch};
 use interval::{Notice, Sent};
 use std::fmt::Write;
 use std::process::Abort;
@@ -53,6 +53,7 @@ const NONE: Store = None;
 #[derive(Clone, Copy)]
 enum Call {
     HandIn(usize),
+    Flush,
     Audit(usize),
     Last(usize),
     Ask(usize),
@@ -136,6 +137,14 @@ impl Told {
             return Err(Refused::BlockFull);
         }
         self.book.hand_in(p, block)
+    }
+
+    /// Hands in nothing, also where `p` waits.
+    fn flush(&mut self, p: usize) -> Result<(), Refused> {
+        if p >= self.processors {
+            return Err(Refused::OutOfRange);
+        }
+        self.book.hand_in(p, &[])
     }
 
     fn audit(&mut self, p: usize, count: usize) -> Result<Journal, Refused> {
@@ -232,6 +241,15 @@ impl Told {
         self.processors >= 2 && self.book.first(0) == first && self.book.first(1) == second
     }
 
+    /// How many notices of the page a take by `p` would bring now.
+    fn due(&self, p: usize, page: usize) -> usize {
+        if p < self.processors {
+            self.book.due(p, page)
+        } else {
+            0
+        }
+    }
+
     fn len(&self) -> usize {
         length_of(&self.book)
     }
@@ -266,6 +284,7 @@ impl Told {
     fn call(&mut self, p: usize, call: Call, store: Store) -> Result<Answer, Refused> {
         match call {
             HandIn(count) => self.hand_in(p, count)?,
+            Flush => self.flush(p)?,
             Last(count) => self.last(p, count)?,
             Audit(count) => return Ok(Answer::Copy(self.audit(p, count)?)),
             Ask(l) => self.ask(p, l, store)?,
@@ -580,6 +599,20 @@ fn a_grant_brings_what_was_stored(rt: HostRuntime) -> Result<(), Fail> {
         did(1, Kind::Acquire(0)),
     ];
     assert!(rt; has_events(&told.into_journal(), &wanted));
+    Ok(())
+}
+
+#[test]
+fn due_counts_what_a_take_brings(rt: HostRuntime) -> Result<(), Fail> {
+    let mut told = in_line(&rt, 2)?;
+    told.does(&rt, 1, Flush, NONE)?;
+    assert!(rt; told.due(1, 0) == 0);
+    told.does(&rt, 0, Release(0), Some((0, 3)))?;
+    assert!(rt; told.due(1, 0) == 1);
+    assert!(rt; told.due(1, 1) == 0);
+    assert!(rt; told.due(0, 0) == 0);
+    told.gets(&rt, 1, "grant", &[2, 0], &[word(0, 1, 2, 0, 3)])?;
+    assert!(rt; told.due(1, 0) == 0);
     Ok(())
 }
 
