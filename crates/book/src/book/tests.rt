@@ -8,6 +8,7 @@ ghost use Rattle.book.specs.Harness.{IsPart, IsLoads};
 
 use super::*;
 use Call::{Arrive, Ask, Audit, Flush, HandIn, Last, Release, Set, Take, Watch};
+use Step::{Does, Gets, Has, IsDue, Keeps, Refuses};
 use interval::{Notice, Sent};
 use std::fmt::Write;
 use std::process::Abort;
@@ -74,6 +75,23 @@ enum Answer {
 
 /// A notice of page 0, its place, and the one word of its record: offset and value.
 type Word = (Notice, u64, (usize, u32));
+
+/// A step of a test. Each begins with the processor, but for the last.
+#[derive(Clone, Copy)]
+enum Step<'a> {
+    /// The call succeeds, with the store in its block.
+    Does(usize, Call, Store),
+    /// The call is refused.
+    Refuses(usize, Call, Refused),
+    /// A take answers a message of this name, with this timestamp and these records.
+    Gets(usize, &'static str, &'a [u64], &'a [Word]),
+    /// The processor has this timestamp.
+    Has(usize, &'a [u64]),
+    /// A take would bring of this page so many notices.
+    IsDue(usize, usize, usize),
+    /// These are the first intervals that are kept of processors 0 and 1.
+    Keeps([u64; 2]),
+}
 
 impl Told {
     /// The harness over a new book, also where one growth is refused.
@@ -258,14 +276,6 @@ impl Told {
         self.book.into_journal()
     }
 
-    fn expect_time(&self, rt: &impl Abort, p: usize, entries: &[u64])
-        requires some { 1 ≤ length entries.now }
-        requires most { length entries.now ≤ 16 }
-    {
-        let wanted = stamp(self.alloc, entries);
-        assert!(rt; has_time(&self.book, p, &wanted), "not {wanted:?}");
-    }
-
     /// Hands in so many full blocks of loads.
     fn fills(&mut self, p: usize, blocks: usize) -> Result<(), Refused> {
         let alloc = self.alloc;
@@ -319,13 +329,29 @@ impl Told {
         }
     }
 
-    fn does(&mut self, rt: &impl Abort, p: usize, call: Call, store: Store) -> Result<(), Refused> {
-        self.makes(rt, p, call, store)?;
+    /// Goes through the steps.
+    fn goes(&mut self, rt: &impl Abort, steps: &[Step]) -> Result<(), Refused> {
+        for step in steps {
+            self.step(rt, *step)?;
+        }
         Ok(())
     }
 
-    fn refuses(&mut self, rt: &impl Abort, p: usize, call: Call, why: Refused) {
-        assert!(rt; self.does(rt, p, call, NONE) == Err(why), "not {why:?}");
+    fn step(&mut self, rt: &impl Abort, step: Step) -> Result<(), Refused> {
+        match step {
+            Does(p, call, store) => self.does(rt, p, call, store)?,
+            Refuses(p, call, why) => assert!(rt; self.does(rt, p, call, NONE) == Err(why)),
+            Gets(p, name, entries, words) => self.gets(rt, p, name, entries, words)?,
+            Has(p, entries) => assert!(rt; has_time(self.alloc, &self.book, p, entries)),
+            IsDue(p, page, count) => assert!(rt; self.due(p, page) == count),
+            Keeps(firsts) => assert!(rt; self.has_firsts(firsts)),
+        }
+        Ok(())
+    }
+
+    fn does(&mut self, rt: &impl Abort, p: usize, call: Call, store: Store) -> Result<(), Refused> {
+        self.makes(rt, p, call, store)?;
+        Ok(())
     }
 
     /// Takes a message, of this name, with this timestamp and these records.
@@ -336,15 +362,12 @@ impl Told {
         name: &str,
         entries: &[u64],
         words: &[Word],
-    ) -> Result<(), Refused>
-        requires some { 1 ≤ length entries.now }
-        requires most { length entries.now ≤ 16 }
-    {
+    ) -> Result<(), Refused> {
         let Answer::Came(message) = self.makes(rt, p, Take, NONE)? else {
             return Err(Refused::NotYet);
         };
         assert!(rt; name_of(&message) == name);
-        assert!(rt; *message.time() == stamp(self.alloc, entries));
+        assert!(rt; is_stamp(self.alloc, message.time(), entries));
         assert!(rt; has_words(message.notices(), words));
         Ok(())
     }
@@ -430,11 +453,16 @@ fn print(alloc: Global, book: &Book) -> Result<String, AllocError> {
 }
 
 /// Whether this is the timestamp of `p`.
-fn has_time(book: &Book, p: usize, wanted: &VTime) -> bool {
+fn has_time(alloc: Global, book: &Book, p: usize, entries: &[u64]) -> bool {
     match book.times.get(p) {
-        Some(time) => *time == *wanted,
+        Some(time) => is_stamp(alloc, time, entries),
         None => false,
     }
+}
+
+/// Whether the timestamp has these entries.
+fn is_stamp(alloc: Global, time: &VTime, entries: &[u64]) -> bool {
+    !entries.is_empty() && entries.len() <= 16 && *time == stamp(alloc, entries)
 }
 
 /// The timestamp with these entries, each below 10.
@@ -566,30 +594,24 @@ fn stored(
     })
 }
 
-/// Processor 0 holds the lock, and the others have asked for it in rising order.
-fn in_line(rt: &(impl Abort + AllocGlobal), processors: usize) -> Result<Told, Refused>
-    requires some { 1 ≤ processors }
-    requires most { processors ≤ 3 }
-{
-    let mut told = Told::new(rt.alloc(), processors, 1, 1, 1, 0)?;
-    told.does(rt, 0, Ask(0), NONE)?;
-    told.gets(rt, 0, "grant", &[0; 3][..processors], &[])?;
-    for p in 1..processors {
-        told.does(rt, p, Ask(0), NONE)?;
-    }
-    Ok(told)
-}
-
 #[test]
 fn a_grant_brings_what_was_stored(rt: HostRuntime) -> Result<(), Fail> {
-    let mut told = in_line(&rt, 2)?;
-    told.refuses(&rt, 1, Take, Refused::NotYet);
-    told.does(&rt, 0, Release(0), Some((0, 3)))?;
-    assert!(rt; told.has_firsts([0, 0]));
-    told.gets(&rt, 1, "grant", &[2, 0], &[word(0, 1, 2, 0, 3)])?;
-    assert!(rt; told.has_firsts([2, 0]));
-    told.expect_time(&rt, 0, &[2, 0]);
-    told.expect_time(&rt, 1, &[2, 1]);
+    let mut told = Told::new(rt.alloc(), 2, 1, 1, 1, 0)?;
+    told.goes(
+        &rt,
+        &[
+            Does(0, Ask(0), NONE),
+            Gets(0, "grant", &[0, 0], &[]),
+            Does(1, Ask(0), NONE),
+            Refuses(1, Take, Refused::NotYet),
+            Does(0, Release(0), Some((0, 3))),
+            Keeps([0, 0]),
+            Gets(1, "grant", &[2, 0], &[word(0, 1, 2, 0, 3)]),
+            Keeps([2, 0]),
+            Has(0, &[2, 0]),
+            Has(1, &[2, 1]),
+        ],
+    )?;
     let wanted = [
         did(0, Kind::Ask(0)),
         did(0, Kind::Acquire(0)),
@@ -604,77 +626,113 @@ fn a_grant_brings_what_was_stored(rt: HostRuntime) -> Result<(), Fail> {
 
 #[test]
 fn due_counts_what_a_take_brings(rt: HostRuntime) -> Result<(), Fail> {
-    let mut told = in_line(&rt, 2)?;
-    told.does(&rt, 1, Flush, NONE)?;
-    assert!(rt; told.due(1, 0) == 0);
-    told.does(&rt, 0, Release(0), Some((0, 3)))?;
-    assert!(rt; told.due(1, 0) == 1);
-    assert!(rt; told.due(1, 1) == 0);
-    assert!(rt; told.due(0, 0) == 0);
-    told.gets(&rt, 1, "grant", &[2, 0], &[word(0, 1, 2, 0, 3)])?;
-    assert!(rt; told.due(1, 0) == 0);
+    let mut told = Told::new(rt.alloc(), 3, 1, 1, 1, 1)?;
+    told.goes(
+        &rt,
+        &[
+            Does(0, Ask(0), NONE),
+            Gets(0, "grant", &[0, 0, 0], &[]),
+            Does(1, Ask(0), NONE),
+            Does(2, Watch(0), NONE),
+            Does(1, Flush, NONE),
+            IsDue(1, 0, 0),
+            IsDue(2, 0, 0),
+            Does(0, Release(0), Some((0, 3))),
+            IsDue(1, 0, 1),
+            IsDue(1, 1, 0),
+            IsDue(0, 0, 0),
+            Does(0, Set(0), Some((0, 4))),
+            IsDue(2, 0, 2),
+            Gets(1, "grant", &[2, 0, 0], &[word(0, 1, 3, 0, 3)]),
+            IsDue(1, 0, 0),
+        ],
+    )?;
     Ok(())
 }
 
 #[test]
 fn locks_are_granted_in_the_order_of_asks(rt: HostRuntime) -> Result<(), Fail> {
-    let mut told = in_line(&rt, 3)?;
-    told.does(&rt, 0, Release(0), Some((0, 7)))?;
-    told.refuses(&rt, 2, Take, Refused::NotYet);
-    let first = word(0, 1, 3, 0, 7);
-    told.gets(&rt, 1, "grant", &[2, 0, 0], &[first])?;
-    told.refuses(&rt, 2, Take, Refused::NotYet);
-    told.does(&rt, 1, Release(0), Some((0, 8)))?;
-    told.gets(&rt, 2, "grant", &[2, 2, 0], &[first, word(1, 1, 4, 0, 8)])?;
-    told.expect_time(&rt, 0, &[2, 0, 0]);
-    told.expect_time(&rt, 1, &[2, 2, 0]);
-    told.expect_time(&rt, 2, &[2, 2, 1]);
+    let mut told = Told::new(rt.alloc(), 3, 1, 1, 1, 0)?;
+    let words = [word(0, 1, 3, 0, 7), word(1, 1, 4, 0, 8)];
+    told.goes(
+        &rt,
+        &[
+            Does(0, Ask(0), NONE),
+            Gets(0, "grant", &[0, 0, 0], &[]),
+            Does(1, Ask(0), NONE),
+            Does(2, Ask(0), NONE),
+            Does(0, Release(0), Some((0, 7))),
+            Refuses(2, Take, Refused::NotYet),
+            Gets(1, "grant", &[2, 0, 0], &words[..1]),
+            Refuses(2, Take, Refused::NotYet),
+            Does(1, Release(0), Some((0, 8))),
+            Gets(2, "grant", &[2, 2, 0], &words),
+            Has(0, &[2, 0, 0]),
+            Has(1, &[2, 2, 0]),
+            Has(2, &[2, 2, 1]),
+        ],
+    )?;
     Ok(())
 }
 
 #[test]
 fn a_signal_is_made_at_the_take(rt: HostRuntime) -> Result<(), Fail> {
     let mut told = Told::new(rt.alloc(), 3, 1, 2, 0, 1)?;
-    told.does(&rt, 0, Set(0), Some((0, 1)))?;
-    told.does(&rt, 2, Watch(0), NONE)?;
-    told.does(&rt, 1, Set(0), Some((1, 2)))?;
     let words = [word(0, 0, 0, 0, 1), word(1, 0, 2, 1, 2)];
-    told.gets(&rt, 2, "signal", &[1, 1, 0], &words)?;
-    told.expect_time(&rt, 0, &[1, 0, 0]);
-    told.expect_time(&rt, 1, &[0, 1, 0]);
-    told.expect_time(&rt, 2, &[1, 1, 1]);
+    told.goes(
+        &rt,
+        &[
+            Does(0, Set(0), Some((0, 1))),
+            Does(2, Watch(0), NONE),
+            Does(1, Set(0), Some((1, 2))),
+            Gets(2, "signal", &[1, 1, 0], &words),
+            Has(0, &[1, 0, 0]),
+            Has(1, &[0, 1, 0]),
+            Has(2, &[1, 1, 1]),
+        ],
+    )?;
     Ok(())
 }
 
 #[test]
 fn a_watcher_waits_until_its_flag_is_set(rt: HostRuntime) -> Result<(), Fail> {
     let mut told = Told::new(rt.alloc(), 2, 1, 2, 0, 2)?;
-    told.does(&rt, 0, Watch(1), Some((1, 9)))?;
-    told.refuses(&rt, 0, Take, Refused::NotYet);
-    told.does(&rt, 1, Set(0), Some((0, 4)))?;
-    told.refuses(&rt, 0, Take, Refused::NotYet);
-    told.does(&rt, 1, Set(1), NONE)?;
-    told.does(&rt, 1, Set(1), Some((0, 5)))?;
     let words = [word(1, 0, 1, 0, 4), word(1, 2, 3, 0, 5)];
-    told.gets(&rt, 0, "signal", &[0, 3], &words)?;
-    told.expect_time(&rt, 0, &[1, 3]);
-    told.does(&rt, 0, Watch(1), NONE)?;
-    told.gets(&rt, 0, "signal", &[0, 3], &[])?;
-    told.expect_time(&rt, 0, &[2, 3]);
-    told.expect_time(&rt, 1, &[0, 3]);
+    told.goes(
+        &rt,
+        &[
+            Does(0, Watch(1), Some((1, 9))),
+            Refuses(0, Take, Refused::NotYet),
+            Does(1, Set(0), Some((0, 4))),
+            Refuses(0, Take, Refused::NotYet),
+            Does(1, Set(1), NONE),
+            Does(1, Set(1), Some((0, 5))),
+            Gets(0, "signal", &[0, 3], &words),
+            Has(0, &[1, 3]),
+            Does(0, Watch(1), NONE),
+            Gets(0, "signal", &[0, 3], &[]),
+            Has(0, &[2, 3]),
+            Has(1, &[0, 3]),
+        ],
+    )?;
     Ok(())
 }
 
 #[test]
 fn who_arrives_departs_with_the_others(rt: HostRuntime) -> Result<(), Fail> {
     let mut told = Told::new(rt.alloc(), 2, 1, 2, 0, 0)?;
-    told.does(&rt, 0, Arrive, Some((0, 5)))?;
-    told.refuses(&rt, 0, Take, Refused::NotYet);
-    told.does(&rt, 1, Arrive, NONE)?;
-    told.gets(&rt, 1, "departure", &[1, 1], &[word(0, 0, 0, 0, 5)])?;
-    told.gets(&rt, 0, "departure", &[1, 1], &[])?;
-    told.expect_time(&rt, 0, &[1, 1]);
-    told.expect_time(&rt, 1, &[1, 1]);
+    told.goes(
+        &rt,
+        &[
+            Does(0, Arrive, Some((0, 5))),
+            Refuses(0, Take, Refused::NotYet),
+            Does(1, Arrive, NONE),
+            Gets(1, "departure", &[1, 1], &[word(0, 0, 0, 0, 5)]),
+            Gets(0, "departure", &[1, 1], &[]),
+            Has(0, &[1, 1]),
+            Has(1, &[1, 1]),
+        ],
+    )?;
     let wanted = [
         did(0, Kind::Store(0, 5)),
         did(0, Kind::Arrive),
@@ -689,9 +747,14 @@ fn who_arrives_departs_with_the_others(rt: HostRuntime) -> Result<(), Fail> {
 #[test]
 fn an_audit_copies_the_journal(rt: HostRuntime) -> Result<(), Fail> {
     let mut told = Told::new(rt.alloc(), 2, 1, 1, 1, 0)?;
-    told.does(&rt, 0, Ask(0), NONE)?;
-    told.gets(&rt, 0, "grant", &[0, 0], &[])?;
-    told.does(&rt, 1, HandIn(1), NONE)?;
+    told.goes(
+        &rt,
+        &[
+            Does(0, Ask(0), NONE),
+            Gets(0, "grant", &[0, 0], &[]),
+            Does(1, HandIn(1), NONE),
+        ],
+    )?;
     let wanted = [
         did(0, Kind::Ask(0)),
         did(0, Kind::Acquire(0)),
@@ -711,9 +774,14 @@ fn an_audit_copies_the_journal(rt: HostRuntime) -> Result<(), Fail> {
 /// a flag that is never set.
 fn almost_full(rt: &(impl Abort + AllocGlobal)) -> Result<Told, Refused> {
     let mut told = Told::new(rt.alloc(), 3, 1, 1, 2, 1)?;
-    told.does(rt, 1, Ask(1), NONE)?;
-    told.gets(rt, 1, "grant", &[0, 0, 0], &[])?;
-    told.does(rt, 2, Watch(0), NONE)?;
+    told.goes(
+        rt,
+        &[
+            Does(1, Ask(1), NONE),
+            Gets(1, "grant", &[0, 0, 0], &[]),
+            Does(2, Watch(0), NONE),
+        ],
+    )?;
     told.fills(0, 4095)?;
     told.does(rt, 0, HandIn(252), NONE)?;
     assert!(rt; told.len() == (1 << 20) - 1);
@@ -724,22 +792,23 @@ fn almost_full(rt: &(impl Abort + AllocGlobal)) -> Result<Told, Refused> {
 fn a_journal_has_at_most_2_to_the_20_events(rt: HostRuntime) -> Result<(), Fail> {
     let mut told = almost_full(&rt)?;
     assert!(rt; told.does(&rt, 0, Ask(0), Some((0, 1))) == Err(Refused::JournalFull));
-    told.refuses(&rt, 0, HandIn(2), Refused::JournalFull);
-    told.does(&rt, 0, Ask(0), NONE)?;
-    told.refuses(&rt, 0, Take, Refused::JournalFull);
-    told.refuses(&rt, 2, Take, Refused::NotYet);
-    for call in [
-        Ask(0),
-        Release(1),
-        Arrive,
-        Set(0),
-        Watch(0),
-        HandIn(1),
-        Audit(1),
-    ] {
-        told.refuses(&rt, 1, call, Refused::JournalFull);
-    }
-    told.does(&rt, 1, HandIn(0), NONE)?;
+    told.goes(
+        &rt,
+        &[
+            Refuses(0, HandIn(2), Refused::JournalFull),
+            Does(0, Ask(0), NONE),
+            Refuses(0, Take, Refused::JournalFull),
+            Refuses(2, Take, Refused::NotYet),
+            Refuses(1, Ask(0), Refused::JournalFull),
+            Refuses(1, Release(1), Refused::JournalFull),
+            Refuses(1, Arrive, Refused::JournalFull),
+            Refuses(1, Set(0), Refused::JournalFull),
+            Refuses(1, Watch(0), Refused::JournalFull),
+            Refuses(1, HandIn(1), Refused::JournalFull),
+            Refuses(1, Audit(1), Refused::JournalFull),
+            Does(1, HandIn(0), NONE),
+        ],
+    )?;
     let copy = told.copies(&rt, 1, 0)?;
     assert!(rt; copy.len() == 1 << 20);
     told.does(&rt, 1, Last(256), NONE)?;
