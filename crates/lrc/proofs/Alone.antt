@@ -17,7 +17,7 @@ use Rattle.journal.specs.WellFormed.{Does}
 use Rattle.journal.specs.Loads.{LatestStore, Explained}
 use Rattle.journal.specs.Races.{RaceFree}
 use Rattle.journal.specs.Flat.{flat_write, Replays}
-use Rattle.journal.proofs.Order.{goes_forward}
+use Rattle.journal.proofs.Order.HappensBefore.{goes_forward}
 
 -- each event is by processor p
 abbrev pub IsAlone : ℕ → List Event → Type 0

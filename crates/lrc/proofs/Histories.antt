@@ -15,7 +15,7 @@ use Rattle.journal.specs.Sizes.{Sizes}
 use Rattle.journal.specs.Events.{count_of, is_arrive, is_depart}
 use Rattle.journal.specs.WellFormed.{LastIs, Answers, Allowed, AllArrived, KindInRange, MayFollow, WellFormed}
 use Rattle.journal.specs.Flat.{memory_after, flat_write, AnswersWord, Replays}
-use Rattle.journal.proofs.Places.{at_within, at_behind, at_last, count_of-append}
+use Rattle.journal.proofs.Order.Places.{at_within, at_behind, at_last, count_of-append}
 use Rattle.lrc.specs.Machine.{by_first, sizes_of_one}
 use Rattle.lrc.specs.History.{is_waiting, IsHistory, AreWords}
 

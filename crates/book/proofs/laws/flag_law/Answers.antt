@@ -1,4 +1,4 @@
-use Rattle.book.proofs.Whole.{flag_law}
+use Rattle.book.proofs.Keeps.Whole.{flag_law}
 use Rattle.book.proofs.laws.flag_law.Goals as goal
 
 pub returns : goal.returns

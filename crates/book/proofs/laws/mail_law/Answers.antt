@@ -1,4 +1,4 @@
-use Rattle.book.proofs.Whole.{mail_law}
+use Rattle.book.proofs.Keeps.Whole.{mail_law}
 use Rattle.book.proofs.laws.mail_law.Goals as goal
 
 pub returns : goal.returns

@@ -1,4 +1,4 @@
-use Rattle.book.proofs.Whole.{take_signal_law}
+use Rattle.book.proofs.Keeps.Whole.{take_signal_law}
 use Rattle.book.proofs.laws.take_signal_law.Goals as goal
 
 pub returns : goal.returns

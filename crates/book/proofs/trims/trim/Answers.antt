@@ -1,6 +1,6 @@
 use Rattle.std.proofs.Common.{length, ap, ◌∙◌, arith}
 use Rattle.interval.specs.Closings.{Closings}
-use Rattle.book.proofs.Trimmed.{length-trimmed_by}
+use Rattle.book.proofs.Parts.ClosedIntervals.{length-trimmed_by}
 use Rattle.book.proofs.trims.trim.Goals as goal
 
 pub trim-requires : goal.trim-requires

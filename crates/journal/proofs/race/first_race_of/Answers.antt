@@ -10,9 +10,9 @@ use Rattle.journal.specs.Races.{Race}
 use Rattle.journal.specs.InRange.{AddressInRange}
 use Rattle.journal.specs.Entries.{entry}
 use Rattle.journal.specs.Accesses.{AreAccesses}
-use Rattle.journal.proofs.Times.{time_equal}
-use Rattle.journal.proofs.ClockSteps.{time_small, front_next}
-use Rattle.journal.proofs.RaceSteps.{accesses_next}
+use Rattle.journal.proofs.Times.Times.{time_equal}
+use Rattle.journal.proofs.Passes.ClockSteps.{time_small, front_next}
+use Rattle.journal.proofs.Passes.RaceSteps.{accesses_next}
 use Rattle.journal.proofs.race.first_race_of.Goals as goal
 
 -- the event at this place

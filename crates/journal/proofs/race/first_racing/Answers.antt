@@ -6,7 +6,7 @@ use Rattle.journal.specs.declared.event.Event.{Event}
 use Rattle.journal.specs.declared.event.Kind.TheVariants.{Load}
 use Rattle.journal.specs.Events.{count_of, is_closing}
 use Rattle.journal.specs.Races.{Race}
-use Rattle.journal.proofs.RaceSteps.{race_by_time, race_events, count_next, cond-and_true, cond-and_false}
+use Rattle.journal.proofs.Passes.RaceSteps.{race_by_time, race_events, count_next, cond-and_true, cond-and_false}
 use Rattle.journal.proofs.race.first_racing.Goals as goal
 use Rattle.journal.proofs.race.first_racing.Goals.{else-is_conflict-via-then-is_conflict+else-time-earlier, else-is_conflict-via-else-is_conflict, then-closes, else-closes}
 

@@ -1,6 +1,6 @@
 use Rattle.std.proofs.lemmas.Option.{slice_get-get_or, slice_get_within}
 use Rattle.std.proofs.Common.{arith, refl}
-use Rattle.journal.proofs.Replaying.{replays-suc}
+use Rattle.journal.proofs.Passes.Replaying.{replays-suc}
 use Rattle.journal.proofs.replay.do_events.Goals as goal
 
 pub loop-event-preserved : goal.loop-event-preserved

@@ -1,4 +1,4 @@
-use Rattle.journal.proofs.Replaying.{ReplaysSoFar}
+use Rattle.journal.proofs.Passes.Replaying.{ReplaysSoFar}
 use Rattle.journal.proofs.replay.do_events.Given as goal
 
 abbrev pub invariant-loop-event : goal.invariant-loop-event

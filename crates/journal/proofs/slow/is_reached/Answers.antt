@@ -4,7 +4,7 @@ use Rattle.std.proofs.lemmas.Bool.{eq-eqb}
 use borrow.Author.Count.{below_more}
 use Rattle.journal.specs.Order.{Edge, HappensBefore}
 use Rattle.journal.specs.Pasts.{UpTo}
-use Rattle.journal.proofs.Pasts.{edge_on, last_step}
+use Rattle.journal.proofs.Order.Pasts.{edge_on, last_step}
 use Rattle.journal.proofs.slow.is_reached.Goals as goal
 use Rattle.journal.proofs.slow.is_reached.Goals.{then-m-first, else-m-first, else-after-m-via-then-after-m+else-is_edge, else-after-m-via-else-after-m}
 

@@ -1,6 +1,6 @@
 use Rattle.std.proofs.Common.{◌<◌, true, arith}
 use Rattle.std.proofs.lemmas.Option.{slice_get_within}
-use Rattle.journal.proofs.Order.{ends_within}
+use Rattle.journal.proofs.Order.HappensBefore.{ends_within}
 use Rattle.journal.proofs.slow.places_after.Goals as goal
 
 pub returns-clause-marks : goal.returns-clause-marks

@@ -13,8 +13,8 @@ use Rattle.book.specs.Events.{event}
 use Rattle.book.specs.Laws.{trimmed_book}
 use Rattle.book.specs.Transitions.{trimmed_by, book_signalled}
 use Rattle.book.specs.declared.refused.Refused.TheVariants.{NotYet, NoMemory}
-use Rattle.book.proofs.Calling.{own_read, same_default}
-use Rattle.book.proofs.Watching.{IsWatching, watching, all_long_set, log_is, signalled_is}
+use Rattle.book.proofs.Reads.Calls.{own_read, same_default}
+use Rattle.book.proofs.Reads.Signals.{IsWatching, watching, all_long_set, log_is, signalled_is}
 use Rattle.book.proofs.book.Book.take_signal.Goals as goal
 
 pub index-requires : goal.index-requires

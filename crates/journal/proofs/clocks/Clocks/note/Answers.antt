@@ -6,8 +6,8 @@ use Rattle.journal.specs.declared.event.Kind.TheVariants.{Load}
 use Rattle.journal.specs.Events.{is_arrive, is_depart}
 use Rattle.journal.specs.Entries.{entry}
 use Rattle.journal.specs.Clocks.{AreClocks}
-use Rattle.journal.proofs.Entries.{entry-set_same, entry-set_other}
-use Rattle.journal.proofs.ClockSteps.{clocks_plain, clocks_next, AreNext, front_next, own_room, keeps_same, clocks_let_go}
+use Rattle.journal.proofs.Passes.Entries.{entry-set_same, entry-set_other}
+use Rattle.journal.proofs.Passes.ClockSteps.{clocks_plain, clocks_next, AreNext, front_next, own_room, keeps_same, clocks_let_go}
 use Rattle.journal.proofs.clocks.Clocks.note.Goals as goal
 
 -- the event at this place

@@ -6,7 +6,7 @@ use Rattle.journal.specs.InRange.{AddressesInRange}
 use Rattle.journal.specs.Flat.{Replays}
 use Rattle.journal.specs.Loads.{Explained}
 use Rattle.journal.specs.Races.{RaceFree, IsFirstRace}
-use Rattle.journal.proofs.FlatMemory.{flat_before_race}
+use Rattle.journal.proofs.Flat.FlatMemory.{flat_before_race}
 use Rattle.journal.proofs.journal.Journal.first_race.Goals as goal
 
 pub returns-clause-first : goal.returns-clause-first

@@ -5,7 +5,7 @@ use Rattle.journal.specs.InRange.{AddressesInRange}
 use Rattle.journal.specs.Flat.{Replays}
 use Rattle.journal.specs.Loads.{Explained}
 use Rattle.journal.specs.Races.{RaceFree}
-use Rattle.journal.proofs.FlatMemory.{flat_memory}
+use Rattle.journal.proofs.Flat.FlatMemory.{flat_memory}
 use Rattle.journal.proofs.journal.Journal.replay.Goals as goal
 
 pub returns-clause-replays : goal.returns-clause-replays

@@ -1,7 +1,7 @@
 use Rattle.std.proofs.Common.{refl, map, subst, sym}
 use Rattle.std.specs.Arc.{arc_value}
 use Rattle.book.specs.Harness.{IsPart}
-use Rattle.book.proofs.Followed.{after, may_call, followed_arrive}
+use Rattle.book.proofs.Testing.Followed.{after, may_call, followed_arrive}
 use Rattle.book.proofs.book.tests.Told.arrive.Goals as goal
 
 pub arrive-requires-clause-call : goal.arrive-requires-clause-call

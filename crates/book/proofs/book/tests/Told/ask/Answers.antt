@@ -2,7 +2,7 @@ use Rattle.std.proofs.Common.{refl, map, subst, sym, arith}
 use Rattle.std.proofs.lemmas.Bool.{true≢false}
 use Rattle.std.specs.Arc.{arc_value}
 use Rattle.book.specs.Harness.{IsPart}
-use Rattle.book.proofs.Followed.{after, may_ask, followed_ask}
+use Rattle.book.proofs.Testing.Followed.{after, may_ask, followed_ask}
 use Rattle.book.proofs.book.tests.Told.ask.Goals as goal
 
 pub ask-requires-clause-call : goal.ask-requires-clause-call

@@ -1,5 +1,5 @@
 use Rattle.std.proofs.Common.{refl, ◌∙◌}
-use Rattle.book.proofs.Followed.{after, may_hand_in_loads, followed_loads}
+use Rattle.book.proofs.Testing.Followed.{after, may_hand_in_loads, followed_loads}
 use Rattle.book.proofs.book.tests.Told.audit.Goals as goal
 
 pub audit-requires-clause-call : goal.audit-requires-clause-call

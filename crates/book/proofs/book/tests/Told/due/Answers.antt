@@ -1,4 +1,4 @@
-use Rattle.book.proofs.Followed.{may_look}
+use Rattle.book.proofs.Testing.Followed.{may_look}
 use Rattle.book.proofs.book.tests.Told.due.Goals as goal
 
 pub due-requires : goal.due-requires

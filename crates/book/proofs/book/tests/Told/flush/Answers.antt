@@ -1,5 +1,5 @@
 use Rattle.std.proofs.Common.{arith}
-use Rattle.book.proofs.Followed.{after, may_flush, followed_flush}
+use Rattle.book.proofs.Testing.Followed.{after, may_flush, followed_flush}
 use Rattle.book.proofs.book.tests.Told.flush.Goals as goal
 
 pub hand_in-requires-clause-call : goal.hand_in-requires-clause-call

@@ -1,5 +1,5 @@
 use Rattle.std.proofs.Common.{refl}
-use Rattle.book.proofs.Followed.{after, may_hand_in_loads, followed_loads}
+use Rattle.book.proofs.Testing.Followed.{after, may_hand_in_loads, followed_loads}
 use Rattle.book.proofs.book.tests.Told.hand_in_block.Goals as goal
 
 pub hand_in-requires-clause-call : goal.hand_in-requires-clause-call

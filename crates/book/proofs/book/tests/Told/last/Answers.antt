@@ -1,6 +1,6 @@
 use Rattle.std.proofs.Common.{refl, ◌∙◌, ◌-◌, length}
 use Rattle.book.specs.Transitions.{handed_in}
-use Rattle.book.proofs.Followed.{may_hand_in_loads, followed_loads, followed_room}
+use Rattle.book.proofs.Testing.Followed.{may_hand_in_loads, followed_loads, followed_room}
 use Rattle.book.proofs.book.tests.Told.last.Goals as goal
 
 pub last-requires-clause-call : goal.last-requires-clause-call

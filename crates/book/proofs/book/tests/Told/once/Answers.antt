@@ -1,5 +1,5 @@
 use Rattle.std.proofs.Common.{◌<◌, arith}
-use Rattle.book.proofs.Followed.{followed_new}
+use Rattle.book.proofs.Testing.Followed.{followed_new}
 use Rattle.book.proofs.book.tests.Told.once.Goals as goal
 
 pub invariant_of-result : goal.invariant_of-result

@@ -1,7 +1,7 @@
 use Rattle.std.proofs.Common.{refl, map, subst, sym, arith}
 use Rattle.std.specs.Arc.{arc_value}
 use Rattle.book.specs.Harness.{IsPart}
-use Rattle.book.proofs.Followed.{after, may_release, followed_release}
+use Rattle.book.proofs.Testing.Followed.{after, may_release, followed_release}
 use Rattle.book.proofs.book.tests.Told.release.Goals as goal
 
 pub release-requires-clause-call : goal.release-requires-clause-call

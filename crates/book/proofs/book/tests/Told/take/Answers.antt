@@ -1,4 +1,4 @@
-use Rattle.book.proofs.Followed.{may_take, followed_take}
+use Rattle.book.proofs.Testing.Followed.{may_take, followed_take}
 use Rattle.book.proofs.book.tests.Told.take.Goals as goal
 
 pub take-requires : goal.take-requires

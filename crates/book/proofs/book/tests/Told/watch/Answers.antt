@@ -1,7 +1,7 @@
 use Rattle.std.proofs.Common.{refl, map, subst, sym, arith}
 use Rattle.std.specs.Arc.{arc_value}
 use Rattle.book.specs.Harness.{IsPart}
-use Rattle.book.proofs.Followed.{after, may_call, followed_watch}
+use Rattle.book.proofs.Testing.Followed.{after, may_call, followed_watch}
 use Rattle.book.proofs.book.tests.Told.watch.Goals as goal
 
 pub watch-requires-clause-call : goal.watch-requires-clause-call

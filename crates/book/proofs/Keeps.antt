@@ -1,0 +1,7 @@
+-- What the history tells of the book stays so: the transitions.
+pub mod Locks
+pub mod Flags
+pub mod Arrivals
+pub mod Takes
+pub mod Starting
+pub mod Whole

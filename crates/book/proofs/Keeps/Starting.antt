@@ -1,0 +1,193 @@
+-- The empty book, blocks, and trims.
+use Rattle.std.proofs.Common.{◌≡◌, ◌≢◌, ℕ, zero, suc, ◌<◌, ◌≤◌, List, [], ◌∷◌, ◌++◌, length, replicate, false, Some, None, slice_get, slice_index, subst, sym, refl, ap, ◌∙◌, append_assoc, append-nil, arith}
+use Rattle.std.proofs.lemmas.Option.{same_Some, none-some}
+use Rattle.std.proofs.lemmas.List.{length-replicate}
+use Rattle.lists.proofs.Places.{push_induction}
+use Rattle.lists.proofs.Joined.{has-nil, in_order-nil}
+use Rattle.lists.proofs.Sets.{slice_get-replicate_found}
+use Rattle.journal.specs.declared.event.Event.{Event}
+use Rattle.journal.specs.declared.event.Kind.{Kind}
+use Rattle.journal.specs.declared.event.Kind.TheVariants.{Load, Store, Fetch, Ask, Acquire, Release, Arrive, Depart, Set}
+use Rattle.journal.specs.Sizes.{Sizes}
+use Rattle.journal.specs.Events.{At, is_arrive, is_depart, is_closing, is_taking}
+use Rattle.journal.specs.Log.{Log}
+use Rattle.journal.specs.WellFormed.{KindInRange, Allowed, MayFollow}
+use Rattle.journal.specs.Waits.{awaited, IsIdle}
+use Rattle.journal.specs.Pasts.{InPast, UpToSome}
+use Rattle.journal.specs.Brings.{SomeDoes, SomeArrives}
+use Rattle.journal.proofs.Order.Places.{at_longer, at_last}
+use Rattle.journal.proofs.Journals.WellFormed.{well_formed_empty}
+use Rattle.journal.proofs.Journals.Ready.{IsPlainAt}
+use Rattle.interval.specs.declared.kept.Kept.{Kept}
+use Rattle.interval.specs.Closings.{Closings, trimmed}
+use Rattle.lockq.specs.Lock.{unheld}
+use Rattle.barrier.specs.declared.episodes.Stage.TheVariants.{Away}
+use Rattle.book.specs.Meetings.{IsAtStage}
+use Rattle.book.specs.Events.{event, did}
+use Rattle.book.specs.Stamps.{IsStamp, IsAwaited}
+use Rattle.book.specs.Lines.{IsLock}
+use Rattle.book.specs.Mail.{IsPosted, IsMail}
+use Rattle.book.specs.Flags.{IsFlag}
+use Rattle.book.specs.State.{State, HoldsHistory}
+use Rattle.book.specs.Transitions.{new_book, handed_in, least, trimmed_by}
+use Rattle.book.specs.Told.{IsTold}
+use Rattle.book.proofs.Parts.Each.{each_kept, each_own, each_replicate}
+use Rattle.book.proofs.Parts.Doings.{awaited_on, awaited_now}
+use Rattle.book.proofs.Parts.Stamps.{index-zeros, stamp_none, stamp_others, stamp_quiet}
+use Rattle.book.proofs.Parts.Lines.{idle_no_ask}
+use Rattle.book.proofs.Parts.Mail.{mail_kept, own_idle}
+use Rattle.book.proofs.Parts.Flags.{flag_kept}
+use Rattle.book.proofs.Parts.Meetings.{barrier_kept}
+use Rattle.book.proofs.Parts.ClosedIntervals.{closed_quiet, closed_trimmed, between_trimmed, within_trimmed, least_le}
+use Rattle.book.proofs.Parts.Told.{is_idle, follows, still_formed}
+use Rattle.book.proofs.Keeps.Locks.{lock_kept}
+
+-- nothing has happened in an empty history
+nothing : (i : ℕ) (e : Event) → ¬ At [] i e
+nothing i e at = none-some e at
+
+-- the empty book is told by the empty history
+pub told_new : (s : Sizes) → 0 < s.processors → IsTold s [] (new_book s)
+told_new s some = record {
+  well_formed = well_formed_empty s;
+  sizes = record { processors = refl; addresses = refl; lockers = refl };
+  holds = refl;
+  closed = record {
+    count = refl;
+    next_long = length-replicate {A = ℕ} s.processors 0;
+    next = λ q lt. sym (index-zeros s.processors q);
+    first_long = length-replicate {A = ℕ} s.processors 0;
+    each = λ k has. absurd (has-nil k has);
+    all = λ q i closes from. absurd (nothing i (event q closes.kind) closes.does);
+    contents = λ k has. absurd (has-nil k has);
+    rising = in_order-nil (λ (j k : Kept). j.place < k.place);
+  };
+  times = each_replicate s.processors (λ p t. IsStamp s.processors [] (InPast [] p) t) (replicate s.processors 0) (λ p. stamp_none s.processors [] (InPast [] p) (λ i x. nothing x.own x.event x.at));
+  locks = each_replicate s.locks (IsLock s.processors []) (unheld s.processors) (λ l. record {
+    line_is = record {
+      each = λ q i last. absurd (nothing i (event q (Ask l)) last.does);
+      first = λ q held. absurd (nothing held.place (event q (Acquire l)) held.acquires);
+      asks = λ x q at. absurd (none-some q at);
+      order = λ x y q r i k lt at to one two. absurd (none-some q at);
+    };
+    held = λ e. refl;
+    time = stamp_none s.processors [] (UpToSome [] (SomeDoes [] (Release l))) (λ i x. nothing x.0 (event x.1.0 (Release l)) x.1.1);
+  });
+  barrier = record {
+    complete = 0;
+    stages = each_replicate s.processors (IsAtStage [] 0) Away (λ p. (refl, refl));
+    lacks = (0, some, refl);
+    gathered = stamp_none s.processors [] (UpToSome [] (SomeArrives [] 0)) (λ i x. nothing x.0 (event x.1.0 Arrive) x.1.1.does);
+  };
+  flags = each_replicate s.flags (IsFlag s.processors []) None (λ f i does. nothing i (event does.0 (Set f)) does.1);
+  awaits = each_replicate s.processors (IsAwaited []) None (λ p. record { last = λ i a last. absurd (nothing i (event p a) last.does); some = λ k e. absurd (none-some k e) });
+  transit = each_replicate s.processors (IsMail s []) None none;
+  notices = λ p m t at now. absurd (none-some m (slice_get-replicate_found s.processors None (Some m) p at));
+  within = λ p q t at. subst (λ u. slice_index (replicate s.processors 0) q ≤ slice_index u q) (slice_get-replicate_found s.processors (replicate s.processors 0) t p at) (omega arith);
+}
+  where
+    none : (p : ℕ) (a : Kind) → IsPosted a → ¬ Allowed s [] p a
+    none p (Acquire l) posted allowed = nothing allowed.0 (event p (Ask l)) allowed.1.does
+    none p Depart posted allowed = nothing allowed.0 (event p Arrive) allowed.1.does
+    none p _ posted allowed = absurd posted
+
+-- a load, a store or a fetch neither waits nor names a lock, a flag or the barrier
+record IsPlain (k : Kind) : Type 0 where
+  awaits : awaited k ≡ None
+  arrives : is_arrive k ≡ false
+  departs : is_depart k ≡ false
+  ask : (l : ℕ) → k ≢ Ask l
+  acquire : (l : ℕ) → k ≢ Acquire l
+  release : (l : ℕ) → k ≢ Release l
+  set : (f : ℕ) → k ≢ Set f
+  arrive : k ≢ Arrive
+  allowed : (s : Sizes) (h : List Event) (p : ℕ) → Allowed s h p k
+
+plain_kind : (k : Kind) → is_taking k ≡ false → is_closing k ≡ false → IsPlain k
+plain_kind (Load a v) t c = record { awaits = refl; arrives = refl; departs = refl; ask = λ l e. absurd cc; acquire = λ l e. absurd cc; release = λ l e. absurd cc; set = λ f e. absurd cc; arrive = λ e. absurd cc; allowed = λ s h p. tt }
+plain_kind (Store a v) t c = record { awaits = refl; arrives = refl; departs = refl; ask = λ l e. absurd cc; acquire = λ l e. absurd cc; release = λ l e. absurd cc; set = λ f e. absurd cc; arrive = λ e. absurd cc; allowed = λ s h p. tt }
+plain_kind (Fetch n w r d) t c = record { awaits = refl; arrives = refl; departs = refl; ask = λ l e. absurd cc; acquire = λ l e. absurd cc; release = λ l e. absurd cc; set = λ f e. absurd cc; arrive = λ e. absurd cc; allowed = λ s h p. tt }
+plain_kind _ t c = absurd cc
+
+-- a book with another journal that holds the history
+pub told_journal : (s : Sizes) (h : List Event) (b : State) (log : Log) → (log.processors ≡ b.journal.processors) × (log.addresses ≡ b.journal.addresses) → HoldsHistory log h → IsTold s h b → IsTold s h (record b { journal = log })
+told_journal s h b log same holds told = record {
+  well_formed = told.well_formed;
+  sizes = record { processors = same.0 ∙ told.sizes.processors; addresses = same.1 ∙ told.sizes.addresses; lockers = told.sizes.lockers };
+  holds = holds;
+  closed = told.closed;
+  times = told.times;
+  locks = told.locks;
+  barrier = told.barrier;
+  flags = told.flags;
+  awaits = told.awaits;
+  transit = told.transit;
+  notices = told.notices;
+  within = told.within;
+}
+
+-- one load, store or fetch
+told_quiet : (s : Sizes) (h : List Event) (b : State) (p : ℕ) (k : Kind) (log : Log) → (log.processors ≡ b.journal.processors) × (log.addresses ≡ b.journal.addresses) → IsTold s h b → slice_get b.awaits p ≡ Some None → is_taking k ≡ false → is_closing k ≡ false → KindInRange s k → HoldsHistory log (did h p k) → IsTold s (did h p k) (record b { journal = log })
+told_quiet s h b p k log same told idle takes closes range holds = record {
+  well_formed = still_formed s h b p k told may;
+  sizes = record { processors = same.0 ∙ told.sizes.processors; addresses = same.1 ∙ told.sizes.addresses; lockers = told.sizes.lockers };
+  holds = holds;
+  closed = closed_quiet s h p k b.closed closes told.closed;
+  times = each_own s.processors (λ q t. IsStamp s.processors h (InPast h q) t) (λ q t. IsStamp s.processors (did h p k) (InPast (did h p k) q) t) b.times p told.times (λ q t isnt at is. stamp_others s.processors h p k q t isnt is) (λ t at is. stamp_quiet s.processors h p k t takes closes is);
+  locks = each_kept s.locks (IsLock s.processors h) (IsLock s.processors (did h p k)) b.locks.locks told.locks (λ l x at is. lock_kept s.processors h p k l x (plain.ask l) (plain.acquire l) (plain.release l) (idle_no_ask h p l free) is);
+  barrier = barrier_kept s h p k b.barrier plain.arrives plain.departs told.barrier;
+  flags = each_kept s.flags (IsFlag s.processors h) (IsFlag s.processors (did h p k)) b.flags told.flags (λ f o at is. flag_kept s.processors h p k f o (plain.set f) is);
+  awaits = each_own s.processors (IsAwaited h) (IsAwaited (did h p k)) b.awaits p told.awaits (λ q w isnt at is. awaited_on h p k q w isnt is) (λ w at is. subst (λ x. IsAwaited (did h p k) p x) (plain.awaits ∙ same_Some None w (sym idle ∙ at)) (awaited_now h p k));
+  transit = each_own s.processors (IsMail s h) (IsMail s (did h p k)) b.transit p told.transit (λ r o isnt at is. mail_kept s h p k r o may isnt plain.release plain.arrive is) (λ o at is. own_idle s h p k o free plain.ask plain.arrive is);
+  notices = told.notices;
+  within = told.within;
+}
+  where
+    plain : IsPlain k
+    plain = plain_kind k takes closes
+
+    free : IsIdle h p
+    free = is_idle s h b p told idle
+
+    may : MayFollow s h (event p k)
+    may = follows s h b p k told idle range (plain.allowed s h p)
+
+-- p hands in a block of loads, stores and fetches
+pub told_block : (s : Sizes) (h block : List Event) (b : State) (p : ℕ) → IsTold s h b → slice_get b.awaits p ≡ Some None → ((k : ℕ) (e : Event) → At block k e → IsPlainAt s p e) → IsTold s (h ++ block) (handed_in b block)
+told_block s h block b p told idle all = told_journal s (h ++ block) (with (h ++ block)) (handed_in b block).journal (refl, refl) (ap (λ es. es ++ block) told.holds) (push_induction (λ es. ((k : ℕ) (e : Event) → At es k e → IsPlainAt s p e) → IsTold s (h ++ es) (with (h ++ es))) start step block all)
+  where
+    with : List Event → State
+    with es = record b { journal = record b.journal { events = es } }
+
+    start : ((k : ℕ) (e : Event) → At [] k e → IsPlainAt s p e) → IsTold s (h ++ []) (with (h ++ []))
+    start plain = rw append-nil (told_journal s h b (record b.journal { events = h }) (refl, refl) refl told)
+
+    pushed : (es : List Event) (e : Event) → IsPlainAt s p e → IsTold s es (with es) → IsTold s (es ++ e ∷ []) (with (es ++ e ∷ []))
+    pushed es e x now =
+        let same : event p e.kind ≡ e = ap (λ q. event q e.kind) (sym x.mine) in
+        subst (λ f. IsTold s (es ++ f ∷ []) (with (es ++ f ∷ []))) same (told_quiet s es (with es) p e.kind (record b.journal { events = did es p e.kind }) (refl, refl) now idle x.takes x.closes x.in_range refl)
+
+    step : (es : List Event) (e : Event) → (((k : ℕ) (f : Event) → At es k f → IsPlainAt s p f) → IsTold s (h ++ es) (with (h ++ es))) → ((k : ℕ) (f : Event) → At (es ++ e ∷ []) k f → IsPlainAt s p f) → IsTold s (h ++ (es ++ e ∷ [])) (with (h ++ (es ++ e ∷ [])))
+    step es e ih plain = rw append_assoc at (pushed (h ++ es) e (plain (length es) e (at_last es e)) (ih (λ k f at. plain k f (at_longer es (e ∷ []) k f at))))
+
+-- one owner's intervals that everyone's timestamp covers are trimmed
+trimmed_once : (s : Sizes) (h : List Event) (b : State) (c : Closings) (owner to : ℕ) → ((p : ℕ) (t : List ℕ) → slice_get b.times p ≡ Some t → to ≤ slice_index t owner) → owner < s.processors → IsTold s h (record b { closed = c }) → IsTold s h (record b { closed = trimmed c owner to })
+trimmed_once s h b c owner to covered lt told = record {
+  well_formed = told.well_formed;
+  sizes = record { processors = told.sizes.processors; addresses = told.sizes.addresses; lockers = told.sizes.lockers };
+  holds = told.holds;
+  closed = closed_trimmed s h c owner to lt told.closed;
+  times = told.times;
+  locks = told.locks;
+  barrier = told.barrier;
+  flags = told.flags;
+  awaits = told.awaits;
+  transit = told.transit;
+  notices = λ p m t at now. told.notices p m t at now ∙ sym (between_trimmed c owner to t m.time (covered p t now));
+  within = within_trimmed c owner to b.times covered (subst (λ n. owner < n) (sym told.closed.first_long) lt) told.within;
+}
+
+-- the intervals that everyone's timestamp covers are trimmed
+pub told_trimmed : (s : Sizes) (h : List Event) (b : State) (n : ℕ) → n ≤ s.processors → IsTold s h b → IsTold s h (record b { closed = trimmed_by b.closed b.times n })
+told_trimmed s h b zero le told = told
+told_trimmed s h b (suc n) le told = trimmed_once s h b (trimmed_by b.closed b.times n) n (least b.times n) (λ p t at. least_le b.times n p t at) (omega arith) (told_trimmed s h b n (omega arith) told)

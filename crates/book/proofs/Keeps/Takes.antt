@@ -1,0 +1,125 @@
+-- Takes of grants and departures: what the book is told by the history before, it is told by the history with the event after.
+use Rattle.std.proofs.Common.{◌≡◌, ◌≢◌, ℕ, ◌<◌, inl, inr, ◌↔◌, List, [], ◌∷◌, ◌++◌, false, Option, Some, None, IsTrue, slice_get, slice_set, subst, sym, refl, ap, ◌∙◌}
+use Rattle.std.proofs.lemmas.Bool.{cases_eq}
+use Rattle.std.proofs.lemmas.Option.{same_Some, none-some}
+use Rattle.lists.proofs.Sets.{slice_get-set_found, slice_get-set_other}
+use Rattle.journal.specs.declared.event.Event.{Event}
+use Rattle.journal.specs.declared.event.Kind.{Kind}
+use Rattle.journal.specs.declared.event.Kind.TheVariants.{Ask, Acquire, Release, Arrive, Depart, Set}
+use Rattle.journal.specs.Sizes.{Sizes}
+use Rattle.journal.specs.Events.{is_closing, is_taking}
+use Rattle.journal.specs.WellFormed.{LastIs, MayBeGranted, Allowed, MayFollow, Ready}
+use Rattle.journal.specs.Brings.{Brings}
+use Rattle.journal.proofs.Journals.WellFormed.{last_unique}
+use Rattle.journal.proofs.Journals.Ready.{waits_for, taking_follows}
+use Rattle.vtime.specs.Times.{join}
+use Rattle.interval.specs.Closings.{between}
+use Rattle.transit.specs.Letters.{Letter}
+use Rattle.book.specs.Events.{event, did}
+use Rattle.book.specs.Stamps.{IsStamp, IsAwaited}
+use Rattle.book.specs.Lines.{IsLock}
+use Rattle.book.specs.Mail.{IsPosted, Carries, IsMail}
+use Rattle.book.specs.Flags.{IsFlag}
+use Rattle.book.specs.Meetings.{IsBarrier}
+use Rattle.lockq.specs.Lock.{Lock}
+use Rattle.book.specs.State.{State, time_of}
+use Rattle.book.specs.Transitions.{left, book_took}
+use Rattle.book.specs.Told.{IsTold}
+use Rattle.book.proofs.Parts.Each.{each_set, each_kept}
+use Rattle.book.proofs.Parts.Mail.{lets_posted, mail_kept, own_none}
+use Rattle.book.proofs.Parts.Flags.{flag_kept}
+use Rattle.book.proofs.Parts.Meetings.{barrier_kept, barrier_departed}
+use Rattle.book.proofs.Parts.ClosedIntervals.{closed_quiet}
+use Rattle.book.proofs.Parts.Told.{is_processor, still_formed, awaits_set, times_taking, within_taking}
+use Rattle.book.proofs.Keeps.Locks.{lock_kept, lock_taken}
+
+posted_taking : (k : Kind) → IsPosted k → IsTrue (is_taking k)
+posted_taking (Acquire l) posted = refl
+posted_taking Depart posted = refl
+posted_taking _ posted = absurd posted
+
+-- what p may take is what it waits for
+awaits_it : (s : Sizes) (h : List Event) (p : ℕ) (k a : Kind) → IsAwaited h p (Some k) → IsTrue (is_taking a) → Allowed s h p a → a ≡ k
+awaits_it s h p k a w taking allowed = let x = waits_for s h p a taking allowed in sym (same_Some k a (w.last x.place x.call x.last ∙ x.awaits))
+
+-- p's message lets it do what it waits for
+pub message_lets : (s : Sizes) (h : List Event) (p : ℕ) (k : Kind) (m : Letter) → IsAwaited h p (Some k) → Carries s h p m → IsPosted k × Allowed s h p k × IsStamp s.processors h (Brings h p k) m.time
+message_lets s h p k m w x =
+    let posted = lets_posted m.kind x.kind x.lets in
+    let is = awaits_it s h p k x.kind w (posted_taking x.kind posted) x.allowed in
+    (subst (λ a. IsPosted a) is posted, subst (λ a. Allowed s h p a) is x.allowed, subst (λ a. IsStamp s.processors h (Brings h p a) m.time) is x.time)
+
+-- each lock, after a take
+took_lock : (s : Sizes) (h : List Event) (p : ℕ) (k : Kind) (l : ℕ) (x : Lock) → IsPosted k → Allowed s h p k → IsLock s.processors h l x → IsLock s.processors (did h p k) l x
+took_lock s h p (Acquire m) l x posted (i, last, granted) is = elim (cases_eq m l) [
+  | inl same ↦ (let P : ℕ → Type 0 = λ n. IsLock s.processors (did h p (Acquire n)) l x in subst P (sym same) (lock_taken s.processors h p l i x (subst (λ n. LastIs h p i (Ask n)) same last) (subst (λ n. MayBeGranted h i n) same granted) is))
+  | inr apart ↦ lock_kept s.processors h p (Acquire m) l x (λ e. absurd cc) (λ e. apart (cc e)) (λ e. absurd cc) (λ n ask. apart (cc ((last_unique h p i n (Ask m) (Ask l) last ask).1))) is
+]
+took_lock s h p Depart l x posted (i, last, all) is = lock_kept s.processors h p Depart l x (λ e. absurd cc) (λ e. absurd cc) (λ e. absurd cc) (λ n ask. absurd (cc ((last_unique h p i n Arrive (Ask l) last ask).1))) is
+took_lock s h p _ l x posted allowed is = absurd posted
+
+took_barrier : (s : Sizes) (h : List Event) (b : State) (p : ℕ) (k : Kind) → IsTold s h b → p < s.processors → IsPosted k → Allowed s h p k → IsBarrier s (did h p k) (left k b.barrier p)
+took_barrier s h b p (Acquire l) told lt posted allowed = barrier_kept s h p (Acquire l) b.barrier refl refl told.barrier
+took_barrier s h b p Depart told lt posted allowed = barrier_departed s h p b.barrier told.well_formed allowed lt told.barrier
+took_barrier s h b p _ told lt posted allowed = absurd posted
+
+-- of an event that is let by a message
+record IsTaking (k : Kind) : Type 0 where
+  takes : IsTrue (is_taking k)
+  closes : is_closing k ≡ false
+  ask : (l : ℕ) → k ≢ Ask l
+  arrive : k ≢ Arrive
+  release : (l : ℕ) → k ≢ Release l
+  set : (f : ℕ) → k ≢ Set f
+
+takes_posted : (k : Kind) → IsPosted k → IsTaking k
+takes_posted (Acquire l) posted = record { takes = refl; closes = refl; ask = λ m e. absurd cc; arrive = λ e. absurd cc; release = λ m e. absurd cc; set = λ f e. absurd cc }
+takes_posted Depart posted = record { takes = refl; closes = refl; ask = λ m e. absurd cc; arrive = λ e. absurd cc; release = λ m e. absurd cc; set = λ f e. absurd cc }
+takes_posted _ posted = absurd posted
+
+-- p takes its message
+pub told_take : (s : Sizes) (h : List Event) (b : State) (p : ℕ) (k : Kind) (m : Letter) → IsTold s h b → slice_get b.awaits p ≡ Some (Some k) → slice_get b.transit p ≡ Some (Some m) → IsTold s (did h p k) (book_took b p k m)
+told_take s h b p k m told waits mail = record {
+  well_formed = still_formed s h b p k told may;
+  sizes = record { processors = told.sizes.processors; addresses = told.sizes.addresses; lockers = told.sizes.lockers };
+  holds = ap (λ es. es ++ event p k ∷ []) told.holds;
+  closed = closed_quiet s h p k b.closed kind.closes told.closed;
+  times = times_taking s h b p k m.time told lt kind.closes lets.2;
+  locks = each_kept s.locks (IsLock s.processors h) (IsLock s.processors (did h p k)) b.locks.locks told.locks (λ l x at is. took_lock s h p k l x lets.0 lets.1 is);
+  barrier = took_barrier s h b p k told lt lets.0 lets.1;
+  flags = each_kept s.flags (IsFlag s.processors h) (IsFlag s.processors (did h p k)) b.flags told.flags (λ f o at is. flag_kept s.processors h p k f o (kind.set f) is);
+  awaits = awaits_set s h b p k told;
+  transit = each_set s.processors (IsMail s h) (IsMail s (did h p k)) b.transit p None told.transit (λ r o isnt at is. mail_kept s h p k r o may isnt kind.release kind.arrive is) (own_none s h p k kind.ask kind.arrive);
+  notices = notices;
+  within = within_taking s h b p m.time told lt;
+}
+  where
+    lt : p < s.processors
+    lt = is_processor s h b p (Some k) told waits
+
+    lets : IsPosted k × Allowed s h p k × IsStamp s.processors h (Brings h p k) m.time
+    lets = message_lets s h p k m (told.awaits.each p (Some k) waits) (told.transit.each p (Some m) mail)
+
+    kind : IsTaking k
+    kind = takes_posted k lets.0
+
+    may : MayFollow s h (event p k)
+    may = taking_follows s h p k told.well_formed kind.takes lets.1
+
+    notices : (r : ℕ) (n : Letter) (t : List ℕ) → slice_get (slice_set b.transit p None) r ≡ Some (Some n) → slice_get (slice_set b.times p (join (time_of b p) m.time)) r ≡ Some t → n.notices ≡ between b.closed t n.time
+    notices r n t at now = elim (cases_eq r p) [
+      | inl is ↦ (let P : ℕ → Type 0 = λ x. slice_get (slice_set b.transit p None) x ≡ Some (Some n) in absurd (none-some n (slice_get-set_found b.transit p None (Some n) (subst P is at))))
+      | inr isnt ↦ told.notices r n t (sym (slice_get-set_other b.transit p r None isnt) ∙ at) (sym (slice_get-set_other b.times p r (join (time_of b p) m.time) isnt) ∙ now)
+    ]
+
+-- who waits for a grant or a departure may go on exactly where its message is there
+pub mail_ready : (s : Sizes) (h : List Event) (b : State) (p : ℕ) (k : Kind) (o : Option Letter) → IsTold s h b → slice_get b.awaits p ≡ Some (Some k) → IsPosted k → slice_get b.transit p ≡ Some o → (o ≢ None) ↔ Ready s h p
+mail_ready s h b p k o told waits posted at = (there o (told.transit.each p o at), λ ready. back o (told.transit.each p o at) ready)
+  where
+    there : (x : Option Letter) → IsMail s h p x → (x ≢ None) → Ready s h p
+    there None mail isnt = absurd (isnt refl)
+    there (Some m) mail isnt = (mail.kind, posted_taking mail.kind (lets_posted m.kind mail.kind mail.lets), mail.allowed)
+
+    back : (x : Option Letter) → IsMail s h p x → Ready s h p → x ≢ None
+    back (Some m) mail ready e = absurd (cc (e))
+    back None mail (a, taking, allowed) e = mail k posted (subst (λ c. Allowed s h p c) (awaits_it s h p k a (told.awaits.each p (Some k) waits) taking allowed) allowed)

@@ -1,0 +1,84 @@
+-- The laws of whole transitions: the block, then the event.
+use Rattle.std.proofs.Common.{◌≡◌, ◌≢◌, ℕ, ◌↔◌, Option, Some, None, slice_get, subst, List, [], ◌∷◌, ◌++◌, sym, refl, ap, ◌∙◌, append_assoc, append-nil, arith, length}
+use Rattle.std.proofs.lemmas.Bool.{true≢false}
+use Rattle.std.proofs.lemmas.Option.{none-some}
+use Rattle.journal.specs.declared.event.Kind.{Kind}
+use Rattle.lists.proofs.Places.{push_induction}
+use Rattle.journal.specs.declared.event.Event.{Event}
+use Rattle.journal.specs.declared.event.Kind.TheVariants.{Acquire, Release, Await}
+use Rattle.journal.specs.Sizes.{Sizes}
+use Rattle.journal.specs.Events.{At, is_closing, is_taking}
+use Rattle.journal.specs.WellFormed.{Holds}
+use Rattle.journal.proofs.Order.Places.{at_longer, at_last}
+use Rattle.book.specs.Events.{did}
+use Rattle.book.specs.State.{State}
+use Rattle.book.specs.Transitions.{handed_in, handed_last, book_took, book_signalled}
+use Rattle.book.specs.Told.{IsTold}
+use Rattle.book.specs.Laws.{IsInner, MayHandIn, NewLaw, HandInLaw, LastLaw, AskLaw, ReleaseLaw, ArriveLaw, SetLaw, WatchLaw, TakeLaw, SignalLaw, MailLaw, FlagLaw}
+use Rattle.book.proofs.Parts.Doings.{holds_on, holds_back}
+use Rattle.book.proofs.Keeps.Starting.{told_new, told_journal, told_block, told_trimmed}
+use Rattle.book.proofs.Keeps.Locks.{told_ask, told_release}
+use Rattle.book.proofs.Keeps.Arrivals.{told_arrive}
+use Rattle.book.proofs.Keeps.Flags.{told_set, told_watch, told_signal, signal_ready}
+use Rattle.book.proofs.Keeps.Takes.{told_take, mail_ready}
+
+-- a block of loads, stores and fetches leaves who holds a lock
+pub holds_block : (s : Sizes) (h block : List Event) (p l : ℕ) → ((k : ℕ) (e : Event) → At block k e → IsInner s p e) → Holds (h ++ block) p l ↔ Holds h p l
+holds_block s h block p l = push_induction (λ es. ((k : ℕ) (e : Event) → At es k e → IsInner s p e) → Holds (h ++ es) p l ↔ Holds h p l) (λ inner. rw append-nil ((λ x. x), (λ x. x))) step block
+  where
+    step : (es : List Event) (e : Event) → (((k : ℕ) (f : Event) → At es k f → IsInner s p f) → Holds (h ++ es) p l ↔ Holds h p l) → ((k : ℕ) (f : Event) → At (es ++ e ∷ []) k f → IsInner s p f) → Holds (h ++ (es ++ e ∷ [])) p l ↔ Holds h p l
+    step es e ih inner =
+        let old = ih (λ k f at. inner k f (at_longer es (e ∷ []) k f at)) in
+        let x = inner (length es) e (at_last es e) in
+        let release : e.kind ≢ Release l = λ is. true≢false (sym (ap (λ k. is_closing k) is) ∙ x.closes) in
+        let acquire : e.kind ≢ Acquire l = λ is. true≢false (sym (ap (λ k. is_taking k) is) ∙ x.takes) in
+        let pushed : Holds ((h ++ es) ++ e ∷ []) p l ↔ Holds h p l = ((λ y. old.0 (holds_back (h ++ es) e.processor e.kind p l acquire y)), (λ y. holds_on (h ++ es) e.processor e.kind p l release (old.1 y))) in
+        rw append_assoc at pushed
+
+block_told : (s : Sizes) (h block : List Event) (b : State) (p : ℕ) → IsTold s h b → MayHandIn s b p block → IsTold s (h ++ block) (handed_in b block)
+block_told s h block b p told may = told_block s h block b p told may.idle (λ k e at. (let x = may.inner k e at in record { mine = x.mine; takes = x.takes; closes = x.closes; in_range = x.in_range }))
+
+pub new_law : NewLaw
+new_law s some = told_new s some
+
+nothing_told : (s : Sizes) (h : List Event) (b : State) → IsTold s h b → IsTold s (h ++ []) (handed_in b [])
+nothing_told s h b told = subst (λ es. IsTold s es (handed_in b [])) (sym (append-nil h)) (subst (λ (es : List Event). IsTold s h (record b { journal = record b.journal { events = es } })) (sym (append-nil b.journal.events)) told)
+
+given_told : (s : Sizes) (h block : List Event) (b : State) (p : ℕ) (w : Option Kind) → IsTold s h b → slice_get b.awaits p ≡ Some w → (w ≢ None → block ≡ []) → ((k : ℕ) (e : Event) → At block k e → IsInner s p e) → IsTold s (h ++ block) (handed_in b block)
+given_told s h block b p None told at none inner = block_told s h block b p told (record { idle = at; inner = inner })
+given_told s h block b p (Some k) told at none inner = subst (λ es. IsTold s (h ++ es) (handed_in b es)) (sym (none (λ e. none-some k (sym e)))) (nothing_told s h b told)
+
+pub hand_in_law : HandInLaw
+hand_in_law s h block b p told may = given_told s h block b p may.waits.0 told may.waits.1 may.waits.2 may.inner
+
+pub last_law : LastLaw
+last_law s h block b p told may =
+    let given = hand_in_law s h block b p told may in
+    told_journal s (h ++ block) (handed_in b block) (handed_last b block).journal (refl, refl) given.holds given
+
+pub ask_law : AskLaw
+ask_law s h block b p l records told may are range free = told_ask s (h ++ block) (handed_in b block) p l records (block_told s h block b p told may) range may.idle (λ held. free ((holds_block s h block p l may.inner).0 held)) are
+
+pub release_law : ReleaseLaw
+release_law s h block b p l records told may are range held = told_release s (h ++ block) (handed_in b block) p l records (block_told s h block b p told may) range may.idle ((holds_block s h block p l may.inner).1 held) are
+
+pub arrive_law : ArriveLaw
+arrive_law s h block b p records told may are = told_arrive s (h ++ block) (handed_in b block) p records (block_told s h block b p told may) may.idle are
+
+pub set_law : SetLaw
+set_law s h block b p f records told may are range = told_set s (h ++ block) (handed_in b block) p f records (block_told s h block b p told may) range may.idle are
+
+pub watch_law : WatchLaw
+watch_law s h block b p f records told may are range = told_watch s (h ++ block) (handed_in b block) p f records (block_told s h block b p told may) range may.idle are
+
+pub take_law : TakeLaw
+take_law s h b p k m told waits mail = told_trimmed s (did h p k) (book_took b p k m) s.processors (omega arith) (told_take s h b p k m told waits mail)
+
+pub take_signal_law : SignalLaw
+take_signal_law s h b p f t told waits set = told_trimmed s (did h p (Await f)) (book_signalled b p f t) s.processors (omega arith) (told_signal s h b p f t told waits set)
+
+pub mail_law : MailLaw
+mail_law s h b p k m told waits posted at = mail_ready s h b p k m told waits posted at
+
+pub flag_law : FlagLaw
+flag_law s h b p f t told waits at = signal_ready s h b p f t told waits at

@@ -1,0 +1,206 @@
+-- What an arrival rests on, and what it makes, read off the book.
+use Rattle.std.proofs.Common.{◌≡◌, ◌≢◌, ℕ, ◌+◌, ◌<◌, inl, inr, List, [], ◌∷◌, length, map, Bool, true, false, cond, Option, Some, None, replicate, slice_get, slice_set, slice_index, slice_index_or, subst, sym, refl, ap, ◌∙◌, arith}
+use Rattle.std.proofs.lemmas.Bool.{cases_eq}
+use Rattle.std.proofs.lemmas.Option.{slice_get-get_or, same_Some, none-some}
+use Rattle.std.proofs.lemmas.List.{length-set, length-map}
+use Rattle.lists.proofs.Sets.{slice_get-set_found, slice_get-set_other}
+use Rattle.journal.specs.declared.event.Event.{Event}
+use Rattle.journal.specs.declared.event.Kind.{Kind}
+use Rattle.journal.specs.declared.event.Kind.TheVariants.{Ask, Acquire, Arrive, Depart}
+use Rattle.journal.specs.Sizes.{Sizes}
+use Rattle.journal.specs.Events.{count_of, is_arrive, is_depart}
+use Rattle.journal.specs.WellFormed.{LastIs, Allowed}
+use Rattle.journal.specs.Waits.{IsIdle}
+use Rattle.journal.proofs.Journals.WellFormed.{last_unique}
+use Rattle.page.specs.Changes.{Changes}
+use Rattle.vtime.specs.Times.{tick, join}
+use Rattle.interval.specs.Closings.{Closings, pushed}
+use Rattle.barrier.specs.Episodes.{Episodes, is_full, joined, arrived}
+use Rattle.barrier.specs.declared.episodes.Stage.TheVariants.{Away, Here}
+use Rattle.transit.specs.Letters.{Letter}
+use Rattle.book.specs.Events.{did}
+use Rattle.book.specs.Stamps.{AreAll}
+use Rattle.book.specs.Mail.{IsPosted}
+use Rattle.book.specs.Meetings.{IsAtStage}
+use Rattle.book.specs.State.{State, time_of}
+use Rattle.book.specs.Transitions.{handed_in, open_interval, closing, departure_to, departures_after, met, book_arrived}
+use Rattle.book.specs.Calls.{MayCall, MayBeSent}
+use Rattle.book.specs.Told.{IsTold}
+use Rattle.book.proofs.Parts.Each.{item_at, is_at}
+use Rattle.book.proofs.Parts.Doings.{count_others}
+use Rattle.book.proofs.Parts.Mail.{idle_allowed, no_mail}
+use Rattle.book.proofs.Reads.Posting.{all_same}
+use Rattle.book.proofs.Parts.Meetings.{stage_away, idle_counts, waits_there, all_true, arrived_stages}
+use Rattle.book.proofs.Parts.Told.{is_idle, is_processor, own_stamp, within_closing}
+
+-- when the last one arrives the others wait, and nobody may go on
+nobody_goes : (s : Sizes) (h : List Event) (b : State) (p q : ℕ) (t : List ℕ) → IsTold s h b → slice_get b.awaits p ≡ Some None → is_full (joined b.barrier p t) ≡ true → q < s.processors → (a : Kind) → IsPosted a → ¬ Allowed s h q a
+nobody_goes s h b p q t told idle full less a posted allowed = elim (cases_eq q p) [
+  | inl is ↦ (let P : ℕ → Type 0 = λ x. Allowed s h x a in idle_allowed s h p a free posted (subst P is allowed))
+  | inr apart ↦ others apart a posted allowed
+]
+  where
+    free : IsIdle h p
+    free = is_idle s h b p told idle
+
+    lt : p < s.processors
+    lt = is_processor s h b p None told idle
+
+    all : (count_of is_arrive h p ≡ told.barrier.complete) × AreAll s.processors (IsAtStage (did h p Arrive) told.barrier.complete) (slice_set b.barrier.stages p Here)
+    all = arrived_stages s h p b.barrier told.well_formed free lt told.barrier
+
+    here : IsAtStage (did h p Arrive) told.barrier.complete q Here
+    here =
+        let item = item_at s.processors (IsAtStage (did h p Arrive) told.barrier.complete) (slice_set b.barrier.stages p Here) q Away all.1 less in
+        subst (λ st. IsAtStage (did h p Arrive) told.barrier.complete q st) (sym (all_true (slice_set b.barrier.stages p Here) full q (slice_index_or (slice_set b.barrier.stages p Here) q Away) item)) (all.1.each q (slice_index_or (slice_set b.barrier.stages p Here) q Away) item)
+
+    waits : q ≢ p → (i : ℕ) × LastIs h q i Arrive
+    waits apart =
+        let a = count_others is_arrive h p Arrive q apart in
+        let d = count_others is_depart h p Arrive q apart in
+        let x = here.0 in
+        let y = here.1 in
+        waits_there s h q told.well_formed (omega arith)
+
+    others : q ≢ p → (k : Kind) → IsPosted k → ¬ Allowed s h q k
+    others apart (Acquire l) is_posted may = let w = waits apart in absurd (cc ((last_unique h q may.0 w.0 (Ask l) Arrive may.1 w.1).1))
+    others apart Depart is_posted may =
+        let one = may.2 p lt in
+        let d = count_others is_depart h p Arrive q apart in
+        let x = all.0 in
+        let y = here.1 in
+        absurd (omega arith)
+    others apart _ is_posted may = absurd is_posted
+
+-- what an arrival rests on
+pub record IsArriving (b : State) (p : ℕ) : Type 0 where
+  pub away : slice_get b.barrier.stages p ≡ Some Away
+  pub stages : length b.barrier.stages ≡ length b.closed.first
+  pub own_long : length (time_of b p) ≡ length b.closed.first
+  pub sent : (r : ℕ) → r < length b.times → MayBeSent b.closed (slice_set b.times p (tick (time_of b p) p)) r
+  pub none : is_full (joined b.barrier p (tick (time_of b p) p)) ≡ true → b.transit ≡ replicate (length b.times) None
+
+pub arriving : (b : State) (p : ℕ) (block : List Event) → MayCall b p block → IsArriving b p
+arriving b p block (s, h, told, may) =
+    let own = (own_stamp s h b p told lt).long in
+    let first = told.closed.first_long in
+    let stages = told.barrier.stages.long in
+    record {
+      away = item_at s.processors (IsAtStage h told.barrier.complete) b.barrier.stages p Away told.barrier.stages lt ∙ ap (λ st. Some st) (sym away);
+      stages = omega arith;
+      own_long = omega arith;
+      sent = sent;
+      none = none;
+    }
+  where
+    lt : p < s.processors
+    lt = is_processor s h b p None told may.idle
+
+    away : Away ≡ slice_index_or b.barrier.stages p Away
+    away = stage_away h told.barrier.complete p (slice_index_or b.barrier.stages p Away) (idle_counts s h p told.well_formed (is_idle s h b p told may.idle)) (is_at s.processors (IsAtStage h told.barrier.complete) b.barrier.stages p Away told.barrier.stages lt)
+
+    after : List (List ℕ)
+    after = slice_set b.times p (tick (time_of b p) p)
+
+    long : (r : ℕ) (t : List ℕ) → r < length after → slice_get after r ≡ Some t → length t ≡ length b.closed.first
+    long r t less at = elim (cases_eq r p) [
+      | inl is ↦ mine is
+      | inr apart ↦ (
+          let old = told.times.each r t (sym (slice_get-set_other b.times p r (tick (time_of b p) p) apart) ∙ at) in
+          old.long ∙ sym told.closed.first_long)
+    ]
+      where
+        mine : r ≡ p → length t ≡ length b.closed.first
+        mine is =
+            let P : ℕ → Type 0 = λ x. slice_get after x ≡ Some t in
+            let found = slice_get-set_found b.times p (tick (time_of b p) p) t (subst P is at) in
+            let own = (own_stamp s h b p told lt).long in
+            ap (λ (x : List ℕ). length x) (sym found) ∙ length-set (time_of b p) p (slice_index (time_of b p) p + 1) ∙ own ∙ sym told.closed.first_long
+
+    sent : (r : ℕ) → r < length b.times → MayBeSent b.closed after r
+    sent r less =
+        let same = length-set b.times p (tick (time_of b p) p) in
+        let read = slice_get-get_or after r [] (omega arith) in
+        record {
+          within = omega arith;
+          long = long r (slice_index_or after r []) (omega arith) read;
+          kept = λ q. within_closing s h b p told lt r q (slice_index_or after r []) read;
+        }
+
+    none : is_full (joined b.barrier p (tick (time_of b p) p)) ≡ true → b.transit ≡ replicate (length b.times) None
+    none full =
+        let times = told.times.long in
+        let transit = told.transit.long in
+        all_same b.transit None (λ q less. nothing full q (omega arith)) ∙ ap (λ n. replicate n None) (transit ∙ sym times)
+      where
+        nothing : is_full (joined b.barrier p (tick (time_of b p) p)) ≡ true → (q : ℕ) → q < s.processors → slice_get b.transit q ≡ Some None
+        nothing all_here q less =
+            let transit = told.transit.long in
+            let read = slice_get-get_or b.transit q None (omega arith) in
+            read ∙ ap (λ (x : Option Letter). Some x) (sym (no_mail s h q (slice_index_or b.transit q None) (nobody_goes s h b p q (tick (time_of b p) p) told may.idle all_here less) (told.transit.each q (slice_index_or b.transit q None) read)))
+
+pub arrives : (b now : State) (p : ℕ) (block : List Event) → b ≡ now → MayCall now p block → IsArriving b p
+arrives b now p block same may = subst (λ x. IsArriving x p) (sym same) (arriving now p block may)
+
+-- two functions over a list, one after the other
+map_twice : {A B C : Type 0} (f : A → B) (g : B → C) (xs : List A) → map g (map f xs) ≡ map (λ x. g (f x)) xs
+map_twice f g [] = refl
+map_twice f g (x ∷ xs) = ap (λ ys. g (f x) ∷ ys) (map_twice f g xs)
+
+arrived_is : (old b : State) (p : ℕ) (block : List Event) (records : List Changes) (barrier : Episodes) (transit : List (Option Letter)) (t : List ℕ) → b ≡ closing (handed_in old block) p Arrive records → t ≡ tick (time_of old p) p
+    → barrier ≡ arrived b.barrier p t → transit ≡ met (is_full (joined b.barrier p t)) b (join b.barrier.gathered t)
+    → record b { barrier = barrier; transit = transit } ≡ book_arrived (handed_in old block) p records
+arrived_is old b p block records barrier transit t is time here mail =
+    let c : State = closing (handed_in old block) p Arrive records in
+    ap (λ (x : Episodes). record b { barrier = x; transit = transit }) here
+    ∙ ap (λ (x : List (Option Letter)). record b { barrier = arrived b.barrier p t; transit = x }) mail
+    ∙ ap (λ (x : State). record x { barrier = arrived x.barrier p t; transit = met (is_full (joined x.barrier p t)) x (join x.barrier.gathered t) }) is
+    ∙ ap (λ (u : List ℕ). record c { barrier = arrived old.barrier p u; transit = met (is_full (joined old.barrier p u)) c (join old.barrier.gathered u) }) time
+
+-- the departures of all, or none
+met_some : (full : Bool) (c : State) (u : List ℕ) (ms : List Letter) → Some ms ≡ cond full (Some (map (departure_to c.closed u) c.times)) None → map (λ (m : Letter). Some m) ms ≡ met full c u
+met_some true c u ms made = ap (λ (xs : List Letter). map (λ (m : Letter). Some m) xs) (same_Some ms (map (departure_to c.closed u) c.times) made) ∙ map_twice (departure_to c.closed u) (λ (m : Letter). Some m) c.times
+met_some false c u ms made = absurd (none-some ms (sym made))
+
+met_none : (full : Bool) (c : State) (u : List ℕ) → None ≡ cond full (Some (map (departure_to c.closed u) c.times)) None → c.transit ≡ met full c u
+met_none true c u made = absurd (none-some (map (departure_to c.closed u) c.times) made)
+met_none false c u made = refl
+
+-- what stands of the departures when the interval is closed
+departures_read : (old b : State) (p : ℕ) (block : List Event) (records : List Changes) (t : List ℕ) (o : Option (List Letter)) → b ≡ closing (handed_in old block) p Arrive records → t ≡ tick (time_of old p) p
+    → o ≡ departures_after (pushed old.closed (open_interval old p records)) old.barrier (slice_set old.times p t) p t → o ≡ departures_after b.closed b.barrier b.times p t
+departures_read old b p block records t o is time made =
+    made ∙ ap (λ (u : List ℕ). departures_after (pushed old.closed (open_interval old p records)) old.barrier (slice_set old.times p u) p t) time
+    ∙ sym (ap (λ (x : State). departures_after x.closed x.barrier x.times p t) is)
+
+-- an arrival that completes the episode
+pub arrived_met : (old b : State) (p : ℕ) (block : List Event) (records : List Changes) (barrier : Episodes) (transit : List (Option Letter)) (t : List ℕ) (ms : List Letter) → b ≡ closing (handed_in old block) p Arrive records → t ≡ tick (time_of old p) p
+    → barrier ≡ arrived b.barrier p t → transit ≡ map (λ (m : Letter). Some m) ms → Some ms ≡ departures_after (pushed old.closed (open_interval old p records)) old.barrier (slice_set old.times p t) p t
+    → record b { barrier = barrier; transit = transit } ≡ book_arrived (handed_in old block) p records
+arrived_met old b p block records barrier transit t ms is time here post made =
+    arrived_is old b p block records barrier transit t is time here (post ∙ met_some (is_full (joined b.barrier p t)) b (join b.barrier.gathered t) ms (departures_read old b p block records t (Some ms) is time made))
+
+-- an arrival that leaves it open
+pub arrived_alone : (old b : State) (p : ℕ) (block : List Event) (records : List Changes) (barrier : Episodes) (t : List ℕ) → b ≡ closing (handed_in old block) p Arrive records → t ≡ tick (time_of old p) p
+    → barrier ≡ arrived b.barrier p t → None ≡ departures_after (pushed old.closed (open_interval old p records)) old.barrier (slice_set old.times p t) p t
+    → record b { barrier = barrier } ≡ book_arrived (handed_in old block) p records
+arrived_alone old b p block records barrier t is time here made =
+    arrived_is old b p block records barrier b.transit t is time here (met_none (is_full (joined b.barrier p t)) b (join b.barrier.gathered t) (departures_read old b p block records t None is time made))
+
+-- all have no message when all departures are made
+pub none_waits : (old : State) (p : ℕ) (c : Closings) (t : List ℕ) (ms : List Letter) → IsArriving old p → t ≡ tick (time_of old p) p → Some ms ≡ departures_after c old.barrier (slice_set old.times p t) p t → old.transit ≡ replicate (length ms) None
+none_waits old p c t ms is time made = go (is_full (joined old.barrier p t)) refl made
+  where
+    go : (full : Bool) → is_full (joined old.barrier p t) ≡ full → Some ms ≡ cond full (Some (map (departure_to c (join old.barrier.gathered t)) (slice_set old.times p t))) None → old.transit ≡ replicate (length ms) None
+    go false all one = absurd (none-some ms (sym one))
+    go true all one =
+        let same = ap (λ (xs : List Letter). length xs) (same_Some ms (map (departure_to c (join old.barrier.gathered t)) (slice_set old.times p t)) one) ∙ length-map (slice_set old.times p t) (departure_to c (join old.barrier.gathered t)) ∙ length-set old.times p t in
+        is.none (ap (λ (u : List ℕ). is_full (joined old.barrier p u)) (sym time) ∙ all) ∙ ap (λ (n : ℕ). replicate n None) (sym same)
+
+-- the departures as they were made, read off the book before the call
+pub departures_made : (old b : State) (p n : ℕ) (records : List Changes) (t : List ℕ) (o : Option (List Letter)) → b ≡ old → n ≡ slice_index (time_of b p) p
+    → o ≡ departures_after (pushed b.closed (record { owner = p; number = n; records = records })) b.barrier (slice_set b.times p t) p t → o ≡ departures_after (pushed old.closed (open_interval old p records)) old.barrier (slice_set old.times p t) p t
+departures_made old b p n records t o same number made =
+    made
+    ∙ ap (λ (x : ℕ). departures_after (pushed b.closed (record { owner = p; number = x; records = records })) b.barrier (slice_set b.times p t) p t) number
+    ∙ ap (λ (x : State). departures_after (pushed x.closed (open_interval x p records)) x.barrier (slice_set x.times p t) p t) same

@@ -1,0 +1,119 @@
+-- What the calls of an idle processor rest on, read off the book.
+use Rattle.std.proofs.Common.{◌≡◌, ℕ, ◌-◌, ◌<◌, ◌≤◌, List, [], ◌∷◌, ◌++◌, slice_set, length, Option, Some, None, slice_get, slice_index, slice_index_or, ◌==◌, ◌&&◌, true, subst, sym, refl, ap, ◌∙◌, arith}
+use Rattle.std.proofs.lemmas.Option.{slice_get-get_or, get_or_from_slice_get}
+use Rattle.std.proofs.lemmas.List.Sums.{count_by-le-length}
+use Rattle.journal.specs.declared.event.Event.{Event}
+use Rattle.journal.specs.declared.event.Kind.{Kind}
+use Rattle.journal.specs.declared.event.Kind.TheVariants.{Load, Store}
+use Rattle.journal.specs.Sizes.{Sizes, addresses}
+use Rattle.journal.specs.Events.{count_of, is_closing}
+use Rattle.journal.specs.InRange.{AddressInRange}
+use Rattle.journal.specs.WellFormed.{KindInRange}
+use Rattle.journal.specs.Log.{Log}
+use Rattle.journal.specs.Waits.{awaited}
+use Rattle.page.specs.Changes.{Changes}
+use Rattle.vtime.specs.Times.{tick}
+use Rattle.interval.specs.Closings.{Closings, pushed}
+use Rattle.book.specs.Events.{event}
+use Rattle.book.specs.Transitions.{handed_in, open_interval, closing}
+use Rattle.book.specs.State.{State, time_of}
+use Rattle.book.specs.Calls.{MayFlush, MayCall}
+use Rattle.book.proofs.Parts.Told.{is_processor, own_stamp, own_number}
+
+-- numbers of the book that a call of p needs
+pub record IsStanding (b : State) (p : ℕ) : Type 0 where
+  pub journal : p < b.journal.processors
+  pub times : p < length b.times
+  pub awaits : p < length b.awaits
+  pub next : p < length b.closed.next
+  pub own : p < length (time_of b p)
+  pub number : slice_index (time_of b p) p ≡ slice_index b.closed.next p
+  pub few : slice_index (time_of b p) p ≤ length b.journal.events
+  pub pushed : b.closed.pushed ≤ length b.journal.events
+
+pub standing : (b : State) (p : ℕ) (block : List Event) → MayCall b p block → IsStanding b p
+standing b p block (s, h, told, may) =
+    let lt = is_processor s h b p None told may.idle in
+    let processors = told.sizes.processors in
+    let times = told.times.long in
+    let awaits = told.awaits.long in
+    let next = told.closed.next_long in
+    let stamp = (own_stamp s h b p told lt).long in
+    let number = own_number s h b p told lt in
+    let next_is = told.closed.next p lt in
+    let long = ap (λ (es : List Event). length es) told.holds in
+    let counted = own_at_most h p in
+    let closings = count_by-le-length (λ (e : Event). is_closing e.kind) h in
+    let count = told.closed.count in
+    record {
+      journal = omega arith;
+      times = omega arith;
+      awaits = omega arith;
+      next = omega arith;
+      own = omega arith;
+      number = number ∙ sym next_is;
+      few = omega arith;
+      pushed = omega arith;
+    }
+  where
+    own_at_most : (es : List Event) (q : ℕ) → count_of is_closing es q ≤ length es
+    own_at_most es q = count_by-le-length (λ (e : Event). (e.processor == q) && is_closing e.kind) es
+
+address_within : (s : Sizes) (k : Kind) → KindInRange s k → AddressInRange (addresses s) k
+address_within s (Load a v) range = range
+address_within s (Store a v) range = range
+address_within s _ range = tt
+
+-- who may call may flush
+pub flushes : (b : State) (p : ℕ) (block : List Event) → MayCall b p block → MayFlush b p block
+flushes b p block (s, h, told, may) = (s, h, told, record { waits = (None, may.idle, λ some. absurd (some refl)); inner = may.inner })
+
+-- the block's events may be appended
+pub block_processors : (b : State) (p n : ℕ) (block : List Event) → MayFlush b p block → n ≡ b.journal.processors → (k : ℕ) (d : Event) → k < length block → (slice_index_or block k d).processor < n
+block_processors b p n block (s, h, told, may) same k d lt =
+    let x = may.inner k (slice_index_or block k d) (slice_get-get_or block k d lt) in
+    let mine = x.mine in
+    let within = is_processor s h b p may.waits.0 told may.waits.1 in
+    let processors = told.sizes.processors in
+    omega arith
+
+pub block_addresses : (b : State) (p n : ℕ) (block : List Event) → MayFlush b p block → n ≡ b.journal.addresses → (k : ℕ) (d : Event) → k < length block → AddressInRange n (slice_index_or block k d).kind
+block_addresses b p n block (s, h, told, may) same k d lt =
+    let x = may.inner k (slice_index_or block k d) (slice_get-get_or block k d lt) in
+    subst (λ m. AddressInRange m (slice_index_or block k d).kind) (sym (same ∙ told.sizes.addresses)) (address_within s (slice_index_or block k d).kind x.in_range)
+
+-- an event that closes an interval has no address
+pub closing_address : (n : ℕ) (k : Kind) → is_closing k ≡ true → AddressInRange n k
+closing_address n (Load a v) closes = absurd cc
+closing_address n (Store a v) closes = absurd cc
+closing_address n _ closes = tt
+
+-- an item within a list, read with another default
+pub same_default : {A : Type 0} (xs : List A) (i : ℕ) (d e : A) → i < length xs → slice_index_or xs i d ≡ slice_index_or xs i e
+same_default xs i d e lt = get_or_from_slice_get xs i (slice_index_or xs i e) d (slice_get-get_or xs i e lt)
+
+-- the journal after a block and an event
+pub logs_are : (a b c d : Log) (owing : ℕ) (block : List Event) (e : Event) → b ≡ record a { room = b.room } → c ≡ record b { events = b.events ++ block; room = b.room - length block } → d ≡ record c { events = c.events ++ e ∷ []; room = c.room - 1 }
+    → record d { room = owing } ≡ record a { events = (a.events ++ block) ++ e ∷ []; room = owing }
+logs_are a b c d owing block e first second third =
+    ap (λ (l : Log). record l { room = owing }) third ∙ ap (λ (l : Log). record l { events = l.events ++ e ∷ []; room = owing }) second ∙ ap (λ (l : Log). record l { events = (l.events ++ block) ++ e ∷ []; room = owing }) first
+
+-- the book after a block and an event that closes an interval, part by part
+pub closing_is : (b : State) (p : ℕ) (k : Kind) (block : List Event) (records : List Changes) (log : Log) (c : Closings) (t : List ℕ) (w : Option Kind)
+    → log ≡ record b.journal { events = (b.journal.events ++ block) ++ event p k ∷ [] } → c ≡ pushed b.closed (open_interval b p records) → t ≡ tick (time_of b p) p → w ≡ awaited k
+    → record b { journal = log; closed = c; times = slice_set b.times p t; awaits = slice_set b.awaits p w } ≡ closing (handed_in b block) p k records
+closing_is b p k block records log c t w one two three four =
+    ap (λ (l : Log). record b { journal = l; closed = c; times = slice_set b.times p t; awaits = slice_set b.awaits p w }) one
+    ∙ ap (λ (x : Closings). record b { journal = record b.journal { events = (b.journal.events ++ block) ++ event p k ∷ [] }; closed = x; times = slice_set b.times p t; awaits = slice_set b.awaits p w }) two
+    ∙ ap (λ (x : List ℕ). record b { journal = record b.journal { events = (b.journal.events ++ block) ++ event p k ∷ [] }; closed = pushed b.closed (open_interval b p records); times = slice_set b.times p x; awaits = slice_set b.awaits p w }) three
+    ∙ ap (λ (x : Option Kind). record b { journal = record b.journal { events = (b.journal.events ++ block) ++ event p k ∷ [] }; closed = pushed b.closed (open_interval b p records); times = slice_set b.times p (tick (time_of b p) p); awaits = slice_set b.awaits p x }) four
+
+pub stands : (b now : State) (p : ℕ) (block : List Event) → b ≡ now → MayCall now p block → IsStanding b p
+stands b now p block same may = subst (λ x. IsStanding x p) (sym same) (standing now p block may)
+
+-- what was read at p's place
+pub own_read : (times : List (List ℕ)) (p : ℕ) (t : List ℕ) → p < length times → t ≡ slice_index_or times p t → t ≡ slice_index_or times p []
+own_read times p t lt is = is ∙ same_default times p t [] lt
+
+pub own_entry_read : (t own : List ℕ) (p n : ℕ) → t ≡ own → slice_get t p ≡ Some n → n ≡ slice_index own p
+own_entry_read t own p n is at = sym (get_or_from_slice_get t p n 0 at) ∙ ap (λ (ts : List ℕ). slice_index ts p) is

@@ -1,0 +1,182 @@
+-- What a release rests on, and what it makes, read off the book.
+use Rattle.std.proofs.Common.{◌≡◌, ◌≢◌, ℕ, ◌<◌, inl, inr, List, [], ◌∷◌, length, Option, Some, None, IfSome, slice_get, slice_set, slice_index, slice_index_or, subst, sym, refl, ap, ◌∙◌, arith}
+use Rattle.std.proofs.lemmas.Option.{slice_get-get_or, same_Some, none-some}
+use Rattle.std.proofs.lemmas.List.{get_or-set_other}
+use Rattle.std.specs.Option.{option_map}
+use Rattle.journal.specs.declared.event.Event.{Event}
+use Rattle.journal.specs.declared.event.Kind.{Kind}
+use Rattle.journal.specs.declared.event.Kind.TheVariants.{Ask, Acquire, Release, Arrive, Depart}
+use Rattle.journal.specs.Sizes.{Sizes}
+use Rattle.journal.specs.WellFormed.{LastIs, Holds, Allowed}
+use Rattle.journal.proofs.Journals.WellFormed.{last_unique}
+use Rattle.page.specs.Changes.{Changes}
+use Rattle.vtime.specs.Times.{tick}
+use Rattle.interval.specs.Closings.{Closings, pushed}
+use Rattle.lockq.specs.Lock.{Locks, unheld, lock_at, with_lock, line, released}
+use Rattle.transit.specs.Letters.{Letter}
+use Rattle.book.specs.Lines.{IsLock}
+use Rattle.book.specs.Mail.{IsPosted, IsMail}
+use Rattle.book.specs.State.{State, time_of}
+use Rattle.book.specs.Transitions.{grant_after, handed_in, open_interval, closing, passed_on, book_released}
+use Rattle.book.specs.Calls.{MayCall, MayRelease, MayBeSent, grant_for}
+use Rattle.book.specs.Told.{IsTold}
+use Rattle.book.proofs.Parts.Each.{is_at}
+use Rattle.book.proofs.Parts.Mail.{no_mail}
+use Rattle.book.proofs.Parts.Lines.{idle_no_ask}
+use Rattle.book.proofs.Keeps.Locks.{holder_first}
+use Rattle.book.proofs.Parts.Told.{is_idle, is_processor, own_stamp}
+
+-- everyone with a timestamp may be sent what it lacks
+pub may_be_sent : (s : Sizes) (h : List Event) (b : State) (r : ℕ) → IsTold s h b → r < s.processors → MayBeSent b.closed b.times r
+may_be_sent s h b r told lt =
+    let times_long = told.times.long in
+    let own_long = (own_stamp s h b r told lt).long in
+    let first_long = told.closed.first_long in
+    record {
+      within = omega arith;
+      long = omega arith;
+      kept = λ q. told.within r q (time_of b r) (slice_get-get_or b.times r [] (omega arith));
+    }
+
+-- who asks for a lock that somebody holds has no message
+held_mail : (s : Sizes) (h : List Event) (p r i l : ℕ) (o : Option Letter) → Holds h p l → LastIs h r i (Ask l) → IsMail s h r o → None ≡ o
+held_mail s h p r i l o held asks mail = no_mail s h r o never mail
+  where
+    never : (a : Kind) → IsPosted a → ¬ Allowed s h r a
+    never (Acquire m) posted (k, last, may) =
+        let is : Ask m ≡ Ask l = (last_unique h r k i (Ask m) (Ask l) last asks).1 in
+        may.free p (subst (λ x. Holds h p x) (sym (lock_is m is)) held)
+      where
+        lock_is : (m : ℕ) → Ask m ≡ Ask l → m ≡ l
+        lock_is m e = cc
+    never Depart posted allowed = absurd (cc ((last_unique h r allowed.0 i Arrive (Ask l) allowed.1 asks).1))
+    never _ posted allowed = absurd posted
+
+-- who gets the lock next
+pub record IsNext (b : State) (p r : ℕ) : Type 0 where
+  pub apart : r ≢ p
+  pub sent : MayBeSent b.closed b.times r
+  pub none : slice_get b.transit r ≡ Some None
+
+-- what a release rests on
+pub record IsReleasing (b : State) (p l : ℕ) : Type 0 where
+  pub lock : l < length b.locks.locks
+  pub holder : (lock_at b.locks l).holder ≡ Some p
+  pub own_long : length (time_of b p) ≡ length b.closed.first
+  pub lock_long : length (time_of b p) ≡ b.locks.processors
+  pub next : (r : ℕ) → slice_get (lock_at b.locks l).queue 0 ≡ Some r → IsNext b p r
+
+pub releasing : (b : State) (p l : ℕ) (block : List Event) → MayRelease b p l block → IsReleasing b p l
+releasing b p l block (s, h, told, may, range, held) =
+    let lt = is_processor s h b p None told may.idle in
+    let own_long = (own_stamp s h b p told lt).long in
+    let first_long = told.closed.first_long in
+    let locks_long = told.locks.long in
+    let lockers = told.sizes.lockers in
+    record {
+      lock = omega arith;
+      holder = first;
+      own_long = omega arith;
+      lock_long = omega arith;
+      next = next;
+    }
+  where
+    lock : IsLock s.processors h l (lock_at b.locks l)
+    lock = is_at s.locks (IsLock s.processors h) b.locks.locks l (unheld b.locks.processors) told.locks range
+
+    first : (lock_at b.locks l).holder ≡ Some p
+    first = holder_first s.processors h p l (lock_at b.locks l).holder (lock_at b.locks l).queue (lock_at b.locks l).time held lock
+
+    asks : (r : ℕ) → slice_get (lock_at b.locks l).queue 0 ≡ Some r → (i : ℕ) × LastIs h r i (Ask l)
+    asks r at = elim (lock.line_is.asks 1 r (subst (λ (o : Option ℕ). slice_get (line (record { holder = o; queue = (lock_at b.locks l).queue; time = (lock_at b.locks l).time })) 1 ≡ Some r) (sym first) at)) [
+      | inl ask ↦ ask
+      | inr zeroth ↦ absurd (cc (zeroth.0))
+    ]
+
+    next : (r : ℕ) → slice_get (lock_at b.locks l).queue 0 ≡ Some r → IsNext b p r
+    next r at =
+        let ask = asks r at in
+        let lt = (told.well_formed ask.0 (record { processor = r; kind = Ask l }) ask.1.does).processor in
+        let transit_long = told.transit.long in
+        let read = slice_get-get_or b.transit r None (omega arith) in
+        record {
+          apart = λ e. idle_no_ask h p l (is_idle s h b p told may.idle) ask.0 (subst (λ (x : ℕ). LastIs h x ask.0 (Ask l)) e ask.1);
+          sent = may_be_sent s h b r told lt;
+          none = read ∙ ap (λ (x : Option Letter). Some x) (sym (held_mail s h p r ask.0 l (slice_index_or b.transit r None) held ask.1 (told.transit.each r (slice_index_or b.transit r None) read)));
+        }
+
+pub releases : (b now : State) (p l : ℕ) (block : List Event) → b ≡ now → MayRelease now p l block → IsReleasing b p l
+releases b now p l block same may = subst (λ x. IsReleasing x p l) (sym same) (releasing now p l block may)
+
+-- the next one's grant is posted
+pub passed_some : (c : State) (queue t : List ℕ) (times : List (List ℕ)) (r : ℕ) (m : Letter) → ((q : ℕ) → slice_get queue 0 ≡ Some q → slice_index_or times q [] ≡ time_of c q)
+    → Some (r, m) ≡ option_map (grant_for c.closed times t) (slice_get queue 0) → slice_set c.transit r (Some m) ≡ passed_on c queue t
+passed_some c [] t times r m same made = absurd (none-some (r, m) (sym made))
+passed_some c (q ∷ queue) t times r m same made =
+    let is = same_Some (r, m) (grant_for c.closed times t q) made in
+    ap (λ (x : ℕ × Letter). slice_set c.transit x.0 (Some x.1)) is ∙ ap (λ (own : List ℕ). slice_set c.transit q (Some (grant_after c.closed own t))) (same q refl)
+
+pub passed_none : (c : State) (queue t : List ℕ) (times : List (List ℕ)) → None ≡ option_map (grant_for c.closed times t) (slice_get queue 0) → c.transit ≡ passed_on c queue t
+passed_none c [] t times made = refl
+passed_none c (q ∷ queue) t times made = absurd (none-some (grant_for c.closed times t q) made)
+
+pub release_call : (b : State) (p l : ℕ) (block : List Event) → MayRelease b p l block → MayCall b p block
+release_call b p l block may = (may.0, may.1, may.2, may.3)
+
+-- after p's closing event the others' timestamps are as before
+others_time : (b : State) (p r : ℕ) (u : List ℕ) → r ≢ p → slice_index_or b.times r [] ≡ slice_index_or (slice_set b.times p u) r []
+others_time b p r u apart = sym (get_or-set_other b.times p r u [] apart)
+
+released_is : (old b : State) (p l : ℕ) (block : List Event) (records : List Changes) (locks : Locks) (transit : List (Option Letter)) (t : List ℕ) → b ≡ closing (handed_in old block) p (Release l) records → t ≡ tick (time_of old p) p
+    → locks ≡ with_lock b.locks l (released (lock_at b.locks l) t) → transit ≡ passed_on b (lock_at b.locks l).queue t
+    → record b { locks = locks; transit = transit } ≡ book_released (handed_in old block) p l records
+released_is old b p l block records locks transit t is time line mail =
+    let c : State = closing (handed_in old block) p (Release l) records in
+    ap (λ (x : Locks). record b { locks = x; transit = transit }) line
+    ∙ ap (λ (x : List (Option Letter)). record b { locks = with_lock b.locks l (released (lock_at b.locks l) t); transit = x }) mail
+    ∙ ap (λ (x : State). record x { locks = with_lock x.locks l (released (lock_at x.locks l) t); transit = passed_on x (lock_at x.locks l).queue t }) is
+    ∙ ap (λ (u : List ℕ). record c { locks = with_lock old.locks l (released (lock_at old.locks l) u); transit = passed_on c (lock_at old.locks l).queue u }) time
+
+-- what stands of the grant when the interval is closed
+grant_made : (old b : State) (p l : ℕ) (block : List Event) (records : List Changes) (t : List ℕ) (o : Option (ℕ × Letter)) → MayRelease old p l block → b ≡ closing (handed_in old block) p (Release l) records
+    → o ≡ option_map (grant_for (pushed old.closed (open_interval old p records)) old.times t) (slice_get (lock_at old.locks l).queue 0)
+    → (o ≡ option_map (grant_for b.closed old.times t) (slice_get (lock_at b.locks l).queue 0)) × ((q : ℕ) → slice_get (lock_at b.locks l).queue 0 ≡ Some q → slice_index_or old.times q [] ≡ time_of b q)
+grant_made old b p l block records t o may is made =
+    subst (λ (x : State). (o ≡ option_map (grant_for x.closed old.times t) (slice_get (lock_at x.locks l).queue 0)) × ((q : ℕ) → slice_get (lock_at x.locks l).queue 0 ≡ Some q → slice_index_or old.times q [] ≡ time_of x q)) (sym is)
+    (made, λ q at. others_time old p q (tick (time_of old p) p) ((releasing old p l block may).next q at).apart)
+
+-- a release whose grant is posted
+pub released_granted : (old b : State) (p l : ℕ) (block : List Event) (records : List Changes) (locks : Locks) (transit : List (Option Letter)) (t : List ℕ) (r : ℕ) (m : Letter) → MayRelease old p l block → b ≡ closing (handed_in old block) p (Release l) records → t ≡ tick (time_of old p) p
+    → locks ≡ with_lock b.locks l (released (lock_at b.locks l) t) → transit ≡ slice_set b.transit r (Some m)
+    → Some (r, m) ≡ option_map (grant_for (pushed old.closed (open_interval old p records)) old.times t) (slice_get (lock_at old.locks l).queue 0)
+    → record b { locks = locks; transit = transit } ≡ book_released (handed_in old block) p l records
+released_granted old b p l block records locks transit t r m may is time line post made =
+    let grant = grant_made old b p l block records t (Some (r, m)) may is made in
+    released_is old b p l block records locks transit t is time line (post ∙ passed_some b (lock_at b.locks l).queue t old.times r m grant.1 grant.0)
+
+-- a release of a lock that nobody asked for
+pub released_unasked : (old b : State) (p l : ℕ) (block : List Event) (records : List Changes) (locks : Locks) (t : List ℕ) → MayRelease old p l block → b ≡ closing (handed_in old block) p (Release l) records → t ≡ tick (time_of old p) p
+    → locks ≡ with_lock b.locks l (released (lock_at b.locks l) t) → None ≡ option_map (grant_for (pushed old.closed (open_interval old p records)) old.times t) (slice_get (lock_at old.locks l).queue 0)
+    → record b { locks = locks } ≡ book_released (handed_in old block) p l records
+released_unasked old b p l block records locks t may is time line made =
+    let grant = grant_made old b p l block records t None may is made in
+    released_is old b p l block records locks b.transit t is time line (passed_none b (lock_at b.locks l).queue t old.times grant.0)
+
+pub next_sent : (b : State) (p l : ℕ) (o : Option ℕ) → IsReleasing b p l → o ≡ slice_get (lock_at b.locks l).queue 0 → IfSome o (λ r. MayBeSent b.closed b.times r)
+next_sent b p l None rel is = tt
+next_sent b p l (Some r) rel is = (rel.next r (sym is)).sent
+
+-- a grant is for the first of the queue
+pub grant_to_whom : (c : Closings) (times : List (List ℕ)) (t queue : List ℕ) (r : ℕ) (m : Letter) → Some (r, m) ≡ option_map (grant_for c times t) (slice_get queue 0) → slice_get queue 0 ≡ Some r
+grant_to_whom c times t [] r m made = absurd (none-some (r, m) (sym made))
+grant_to_whom c times t (q ∷ queue) r m made = ap (λ (x : ℕ × Letter). Some x.0) (sym (same_Some (r, m) (grant_for c times t q) made))
+
+-- the grant as it was made, read off the book before the call
+pub grant_read : (old b : State) (p l n : ℕ) (records : List Changes) (times : List (List ℕ)) (t : List ℕ) (o : Option ℕ) (g : Option (ℕ × Letter)) → b ≡ old → times ≡ b.times → n ≡ slice_index (time_of b p) p → o ≡ slice_get (lock_at b.locks l).queue 0
+    → g ≡ option_map (grant_for (pushed b.closed (record { owner = p; number = n; records = records })) times t) o → g ≡ option_map (grant_for (pushed old.closed (open_interval old p records)) old.times t) (slice_get (lock_at old.locks l).queue 0)
+grant_read old b p l n records times t o g same all number next made =
+    made
+    ∙ ap (λ (x : List (List ℕ)). option_map (grant_for (pushed b.closed (record { owner = p; number = n; records = records })) x t) o) all
+    ∙ ap (λ (x : ℕ). option_map (grant_for (pushed b.closed (record { owner = p; number = x; records = records })) b.times t) o) number
+    ∙ ap (λ (x : Option ℕ). option_map (grant_for (pushed b.closed (open_interval b p records)) b.times t) x) next
+    ∙ ap (λ (x : State). option_map (grant_for (pushed x.closed (open_interval x p records)) x.times t) (slice_get (lock_at x.locks l).queue 0)) same

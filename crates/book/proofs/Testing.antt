@@ -1,0 +1,3 @@
+-- What the tests carry from call to call.
+pub mod Harness
+pub mod Followed

@@ -1,0 +1,2 @@
+-- One flat memory before the first race.
+pub mod FlatMemory

@@ -1,0 +1,43 @@
+-- Intervals by their closing numbers.
+use Rattle.std.proofs.Common.{ℕ, ◌≡◌, ◌<◌, inl, inr, List, [], ◌∷◌, ◌++◌, true, length, take, arith, sym, ap, ◌∙◌, le_of_lt}
+use Rattle.std.proofs.Math.Seq.{take-append_seam}
+use Rattle.std.proofs.lemmas.Bool.{cases_lt}
+use Rattle.std.proofs.lemmas.List.{take-append-le}
+use Rattle.journal.specs.declared.event.Event.{Event}
+use Rattle.journal.specs.Events.{is_closing, count_of}
+use Rattle.journal.specs.Missing.{closed_count, IsPlaced}
+use Rattle.lists.proofs.Places.{count_by-mono}
+use Rattle.journal.proofs.Order.Places.{at_within, at_longer, at_last, count_of-front}
+use Rattle.journal.proofs.Times.IntervalNumbers.{same_closer}
+
+-- a lower closing number is closed earlier
+pub placed_before : (j : List Event) (q k a r m b : ℕ) (x : IsPlaced j q k a) (y : IsPlaced j r m b) → a < b → x.at < y.at
+placed_before j q k a r m b x y less = elim (cases_lt x.at y.at) [
+  | inl h ↦ h
+  | inr le ↦ (let up = count_by-mono (λ (e : Event). is_closing e.kind) j y.at x.at le in let here = x.before in let there = y.before in absurd (omega arith))
+]
+
+-- an interval has one closing number
+pub placed_once : (j : List Event) (q k a b : ℕ) → IsPlaced j q k a → IsPlaced j q k b → a ≡ b
+placed_once j q k a b x y = sym x.before ∙ ap (λ (m : ℕ). closed_count (take m j)) (same_closer j q x.at y.at x.closes y.closes (x.number ∙ sym y.number)) ∙ y.before
+
+-- it keeps it as the journal goes on
+pub placed_longer : (j es : List Event) (q k a : ℕ) → IsPlaced j q k a → IsPlaced (j ++ es) q k a
+placed_longer j es q k a x =
+    let e : Event = record { processor = q; kind = x.closes.kind } in
+    let within = le_of_lt (at_within j x.at e x.closes.does) in
+    record {
+      at = x.at;
+      closes = record { kind = x.closes.kind; does = at_longer j es x.at e x.closes.does; closes = x.closes.closes };
+      number = count_of-front is_closing j es x.at q within ∙ x.number;
+      before = ap closed_count (take-append-le x.at j es within) ∙ x.before;
+    }
+
+-- a closing event closes its processor's open interval, after all that were closed before
+pub placed_now : (j : List Event) (e : Event) → is_closing e.kind ≡ true → IsPlaced (j ++ e ∷ []) e.processor (count_of is_closing j e.processor) (closed_count j)
+placed_now j e closes = record {
+  at = length j;
+  closes = record { kind = e.kind; does = at_last j e; closes = closes };
+  number = ap (λ (xs : List Event). count_of is_closing xs e.processor) (take-append_seam j (e ∷ []));
+  before = ap closed_count (take-append_seam j (e ∷ []));
+}
