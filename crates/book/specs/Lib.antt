@@ -10,5 +10,4 @@ pub mod Told
 pub mod Laws
 pub mod Holding
 pub mod Calls
-pub mod Harness
 pub mod Brought
