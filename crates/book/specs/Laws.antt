@@ -1,17 +1,23 @@
 -- The laws of the transitions: a book that is told by a history is told, after the transition, by the history with the block and the event after it.
-use Rattle.std.specs.Prelude.{ℕ, ◌≡◌, ◌≢◌, ◌<◌, ◌↔◌, false, Option, Some, None, List, [], ◌++◌, slice_get}
+use Rattle.std.specs.Prelude.{ℕ, ◌≡◌, ◌≢◌, ◌<◌, ◌↔◌, false, Option, Some, None, List, [], ◌++◌, slice_get, slice_index}
 use Rattle.journal.specs.declared.event.Event.{Event}
 use Rattle.journal.specs.declared.event.Kind.{Kind}
 use Rattle.journal.specs.declared.event.Kind.TheVariants.{Ask, Release, Arrive, Set, Watch, Await}
 use Rattle.journal.specs.Sizes.{Sizes}
 use Rattle.journal.specs.Events.{At, count_of, is_closing, is_taking}
 use Rattle.journal.specs.WellFormed.{KindInRange, Holds, Ready}
+use Rattle.journal.specs.Brings.{Brings}
+use Rattle.journal.specs.Missing.{InClosingOrder, AreNews}
+use Rattle.vtime.specs.Times.{join}
+use Rattle.interval.specs.Closings.{between}
 use Rattle.page.specs.Changes.{Changes}
 use Rattle.transit.specs.Letters.{Letter}
 use Rattle.journal.specs.Did.{did}
 use Rattle.book.specs.Mail.{IsPosted}
 use Rattle.book.specs.ClosedIntervals.{AreContents}
-use Rattle.book.specs.State.{State}
+use Rattle.book.specs.State.{State, time_of}
+use Rattle.book.specs.Stamps.{IsStamp}
+use Rattle.book.specs.News.{missing_in}
 use Rattle.book.specs.Transitions.{new_book, handed_in, handed_last, book_asked, book_released, book_arrived, book_set, book_watched, book_took, book_signalled, trimmed_by}
 use Rattle.book.specs.Told.{IsTold}
 
@@ -96,3 +102,12 @@ MailLaw = (s : Sizes) (h : List Event) (b : State) (p : ℕ) (k : Kind) (m : Opt
 abbrev pub FlagLaw : Type 0
 FlagLaw = (s : Sizes) (h : List Event) (b : State) (p f : ℕ) (t : Option (List ℕ)) → IsTold s h b → slice_get b.awaits p ≡ Some (Some (Await f)) → slice_get b.flags f ≡ Some t
     → (t ≢ None) ↔ Ready s h p
+
+-- what a taking brings of page n is news of it
+abbrev pub NewsLaw : Type 0
+NewsLaw = (s : Sizes) (h : List Event) (b : State) (p n : ℕ) (k : Kind) (u : List ℕ) → IsTold s h b → p < s.processors → IsStamp s.processors h (Brings h p k) u
+    → AreNews s h p n (slice_index (time_of b p)) (slice_index (join (time_of b p) u)) (missing_in n (between b.closed (time_of b p) u))
+
+-- what lies between two timestamps is in closing order
+abbrev pub NewsOrderLaw : Type 0
+NewsOrderLaw = (s : Sizes) (h : List Event) (b : State) (n : ℕ) (old new : List ℕ) → IsTold s h b → InClosingOrder (missing_in n (between b.closed old new))

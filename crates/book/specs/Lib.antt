@@ -7,6 +7,7 @@ pub mod ClosedIntervals
 pub mod State
 pub mod Transitions
 pub mod Told
+pub mod News
 pub mod Laws
 pub mod Holding
 pub mod Calls

@@ -1,6 +1,6 @@
 //! The laws of the transitions, as contracts of functions that do nothing: the check proves each by
 //! its name.
-ghost use Rattle.book.specs.Laws.{NewLaw, HandInLaw, LastLaw, AskLaw, ReleaseLaw, ArriveLaw, SetLaw, WatchLaw, TakeLaw, SignalLaw, MailLaw, FlagLaw};
+ghost use Rattle.book.specs.Laws.{NewLaw, HandInLaw, LastLaw, AskLaw, ReleaseLaw, ArriveLaw, SetLaw, WatchLaw, TakeLaw, SignalLaw, MailLaw, FlagLaw, NewsLaw, NewsOrderLaw};
 
 /// An empty book is told by the empty history.
 pub fn new_law()
@@ -60,4 +60,11 @@ pub fn mail_law()
 /// A flag is set exactly where one who waits for it may go on.
 pub fn flag_law()
     ensures { FlagLaw }
+{}
+
+/// What a processor's taking brings it of a page is news of that page, by a message and by a flag's signal
+/// alike; and what lies between any two timestamps is in closing order.
+pub fn news_law()
+    ensures news { NewsLaw }
+    ensures in_order { NewsOrderLaw }
 {}

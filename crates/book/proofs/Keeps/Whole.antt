@@ -14,7 +14,8 @@ use Rattle.journal.specs.Did.{did}
 use Rattle.book.specs.State.{State}
 use Rattle.book.specs.Transitions.{handed_in, handed_last, book_took, book_signalled}
 use Rattle.book.specs.Told.{IsTold}
-use Rattle.book.specs.Laws.{IsInner, MayHandIn, NewLaw, HandInLaw, LastLaw, AskLaw, ReleaseLaw, ArriveLaw, SetLaw, WatchLaw, TakeLaw, SignalLaw, MailLaw, FlagLaw}
+use Rattle.book.specs.Laws.{IsInner, MayHandIn, NewLaw, HandInLaw, LastLaw, AskLaw, ReleaseLaw, ArriveLaw, SetLaw, WatchLaw, TakeLaw, SignalLaw, MailLaw, FlagLaw, NewsLaw, NewsOrderLaw}
+use Rattle.book.proofs.Parts.News.{news_are, sent_in_order}
 use Rattle.book.proofs.Parts.Doings.{holds_on, holds_back}
 use Rattle.book.proofs.Keeps.Starting.{told_new, told_journal, told_block, told_trimmed}
 use Rattle.book.proofs.Keeps.Locks.{told_ask, told_release}
@@ -82,3 +83,9 @@ mail_law s h b p k m told waits posted at = mail_ready s h b p k m told waits po
 
 pub flag_law : FlagLaw
 flag_law s h b p f t told waits at = signal_ready s h b p f t told waits at
+
+pub news_law : NewsLaw
+news_law s h b p n k u told lt brings = news_are s h b p n k u told lt brings
+
+pub news_order_law : NewsOrderLaw
+news_order_law s h b n old new told = sent_in_order s h b.closed n old new told.closed
