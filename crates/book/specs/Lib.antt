@@ -8,8 +8,8 @@ pub mod State
 pub mod Transitions
 pub mod Told
 pub mod News
+pub mod Brought
 pub mod Laws
 pub mod Holding
 pub mod Calls
 pub mod Harness
-pub mod Brought
