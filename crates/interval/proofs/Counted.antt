@@ -1,7 +1,6 @@
 -- How many notices of one page are among what is sent.
-use Rattle.std.proofs.Common.{◌≡◌, ℕ, ◌+◌, ◌<◌, ◌≤◌, Bool, true, false, ◌==◌, cond, inl, inr, Option, Some, None, List, [], ◌∷◌, map, filter, find, length, count_by, slice_index, refl, sym, ap, subst, arith, ◌∙◌, Bor}
+use Rattle.std.proofs.Common.{◌≡◌, ℕ, ◌+◌, ◌<◌, ◌≤◌, Bool, true, false, ◌==◌, cond, inl, inr, Option, Some, None, List, [], ◌∷◌, map, filter, find, length, count_by, refl, sym, ap, subst, arith, ◌∙◌}
 use Rattle.std.specs.List.{flat_map}
-use Rattle.std.specs.Option.{option_copied, is_some}
 use Rattle.std.proofs.lemmas.Bool.{cases_Bool, eqb-true, ne_eqb}
 use Rattle.std.proofs.lemmas.List.Sums.{sum_by-cons, length-filter, count_by-le-length}
 use Rattle.lists.proofs.Places.{count_by-append}
@@ -98,31 +97,3 @@ count_fits queues count value page old new is are =
     let most = of_intervals page news (λ k h. (queued queues count are k (merged_lies queues k (In-filter (is_news old new) (merged queues) k h).0)).pages) in
     let P : List Kept → Type 0 = λ ks. count_by (is_of_page page) (flat_map sent_interval (filter (is_news old new) ks)) ≤ count in
     subst P kepts (omega arith)
-
--- the count is under way: what is left is that of the news since `at`
-pub record IsCounting (c : Closings) (page : ℕ) (old new at : List ℕ) (count : ℕ) : Type 0 where
-  pub long : length at ≡ length c.first
-  pub kept_from : (q : ℕ) → slice_index c.first q ≤ slice_index at q
-  pub left : count + count_by (is_of_page page) (flat_map sent_interval (filter (is_news at new) c.kept)) ≡ count_by (is_of_page page) (between c old new)
-
--- one more where the next interval has a record of the page
-pub counting-more : (queues : List Queue) (n : ℕ) (c : Closings) (page : ℕ) (old new at next : List ℕ) (count : ℕ) (k : Kept) (o : Option (Bor Changes)) (some : Bool) → closings queues n ≡ c → AreQueues queues n
-    → filter (is_news at new) c.kept ≡ k ∷ filter (is_news next new) c.kept → option_copied o ≡ find (λ (r : Changes). r.page == page) k.interval.records → is_some o ≡ some
-    → IsCounting c page old new at count
-    → cond some 1 0 + count + count_by (is_of_page page) (flat_map sent_interval (filter (is_news next new) c.kept)) ≡ count_by (is_of_page page) (between c old new)
-counting-more queues n c page old new at next count k o some is are first found some_is so_far =
-    let kepts : c.kept ≡ merged queues = ap (λ (c : Closings). c.kept) (sym is) in
-    let InMerged : List Kept → Type 0 = λ ks. In k (filter (is_news at new) ks) in
-    let InKept : List Kept → Type 0 = λ ks. In k ks in
-    let among : In k (filter (is_news at new) (merged queues)) = subst InMerged kepts (subst InKept (sym first) (inl refl)) in
-    let pages = (queued queues n are k (merged_lies queues k (In-filter (is_news at new) (merged queues) k among).0)).pages in
-    let one : count_by (is_of_page page) (sent_interval k) ≡ cond some 1 0 = of_interval page k pages ∙ ap some_one (sym found) ∙ some_one_is o ∙ ap (λ (b : Bool). cond b 1 0) some_is in
-    let split : count_by (is_of_page page) (flat_map sent_interval (filter (is_news at new) c.kept))
-    ≡ count_by (is_of_page page) (sent_interval k) + count_by (is_of_page page) (flat_map sent_interval (filter (is_news next new) c.kept))
-    = ap (λ (ks : List Kept). count_by (is_of_page page) (flat_map sent_interval ks)) first ∙ count_by-append (is_of_page page) (sent_interval k) (flat_map sent_interval (filter (is_news next new) c.kept)) in
-    let left = so_far.left in
-    omega arith
-  where
-    some_one_is : (o : Option (Bor Changes)) → some_one (option_copied o) ≡ cond (is_some o) 1 0
-    some_one_is None = refl
-    some_one_is (Some r) = refl

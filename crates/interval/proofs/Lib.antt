@@ -12,3 +12,5 @@ pub mod Looked
 pub mod News
 pub mod Sending
 pub mod Counted
+pub mod Counts
+pub mod Walked
