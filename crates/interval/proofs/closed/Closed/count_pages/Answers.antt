@@ -3,8 +3,8 @@ use Rattle.std.specs.List.{flat_map}
 use Rattle.std.proofs.lemmas.List.{take_all, get_or-replicate}
 use Rattle.interval.specs.Counts.{AreCounted, HasRoom}
 use Rattle.interval.specs.Queues.{Queue}
-use Rattle.interval.proofs.Counts.{counted_more, room_more}
-use Rattle.interval.proofs.Walked.{news_pages, news_read, news_total, news_room}
+use Rattle.interval.proofs.Counts.Counted.{counted_more, room_more}
+use Rattle.interval.proofs.Counts.Walked.{news_pages, news_read, news_total, news_room}
 use Rattle.interval.proofs.closed.Closed.count_pages.Goals as goal
 
 pub count_pages-requires-clause-room : goal.count_pages-requires-clause-room

@@ -2,7 +2,7 @@
 use Rattle.std.proofs.Common.{take}
 use Rattle.std.specs.List.{flat_map}
 use Rattle.interval.specs.Counts.{AreCounted}
-use Rattle.interval.proofs.Walked.{news_pages}
+use Rattle.interval.proofs.Counts.Walked.{news_pages}
 use Rattle.interval.proofs.closed.Closed.count_pages.Given as goal
 
 abbrev pub invariant-loop-owner : goal.invariant-loop-owner

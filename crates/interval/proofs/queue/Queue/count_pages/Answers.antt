@@ -2,8 +2,8 @@ use Rattle.std.proofs.Common.{◌≡◌, ◌-◌, ◌+◌, ℕ, List, take, subs
 use Rattle.interval.specs.declared.kept.Kept.{Kept}
 use Rattle.interval.specs.Counts.{pages_of, pages_of_records, AreCounted}
 use Rattle.interval.specs.Queues.{within}
-use Rattle.interval.proofs.Counts.{counted_more, room_more}
-use Rattle.interval.proofs.Walked.{within_at}
+use Rattle.interval.proofs.Counts.Counted.{counted_more, room_more}
+use Rattle.interval.proofs.Counts.Walked.{within_at}
 use Rattle.interval.proofs.queue.Queue.count_pages.Goals as goal
 
 abbrev own : Kept → List ℕ

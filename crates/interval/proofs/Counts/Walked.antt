@@ -14,9 +14,8 @@ use Rattle.interval.specs.Intervals.{SentRecord}
 use Rattle.interval.specs.Closings.{Closings, is_news, sent_record, sent_interval, is_of_page, between}
 use Rattle.interval.specs.Counts.{pages_of_records, pages_of, HasRoom}
 use Rattle.interval.specs.Queues.{Queue, put, by_place, merged, closings, within, IsQueue, AreQueues}
-use Rattle.interval.proofs.Members.{In-from_has, Has-from_in}
-use Rattle.interval.proofs.Rising.{In-by_place}
-use Rattle.interval.proofs.Counted.{count_fits}
+use Rattle.interval.proofs.Order.ByPlace.{has-by_place}
+use Rattle.interval.proofs.Counts.Most.{count_fits}
 
 -- of intervals that are numbered from `first` on, the news are those from one number up to another
 numbered_news : (ks : List Kept) (first owner : ℕ) (old new : List ℕ) → ((i : ℕ) (k : Kept) → slice_get ks i ≡ Some k → (k.interval.owner ≡ owner) × (k.interval.number ≡ first + i))
@@ -112,7 +111,7 @@ sum_by-by_place : (w : Kept → ℕ) (xs : List Kept) → AreApart xs → sum_by
 sum_by-by_place w [] apart = refl
 sum_by-by_place w (x ∷ xs) apart =
     let rest = sum_by-by_place w xs (in_order_tail (λ (j k : Kept). j.place ≢ k.place) x xs apart) in
-    let first = sum_by-put w x (by_place xs) (λ j h. let at = Has-from_in xs j (In-by_place xs j (In-from_has (by_place xs) j h)) in apart 0 (suc at.0) x j (omega arith) refl at.1) in
+    let first = sum_by-put w x (by_place xs) (λ j h. let at = has-by_place xs j h in apart 0 (suc at.0) x j (omega arith) refl at.1) in
     let all = sum_by-cons w x xs in
     omega arith
 
