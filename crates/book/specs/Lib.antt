@@ -7,7 +7,8 @@ pub mod ClosedIntervals
 pub mod State
 pub mod Transitions
 pub mod Told
+pub mod News
+pub mod Brought
 pub mod Laws
 pub mod Holding
 pub mod Calls
-pub mod Brought

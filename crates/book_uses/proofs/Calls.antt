@@ -1,9 +1,9 @@
 -- What each call keeps.
-use Rattle.std.proofs.Common.{◌≡◌, ◌∙◌, ℕ, zero, suc, ◌<◌, ◌≤◌, ◌*◌, ◌-◌, false, length, List, [], ◌∷◌, ◌++◌, Option, Some, None, slice_get, slice_index_or, arith, subst, sym, refl, ap}
-use Rattle.std.proofs.lemmas.Option.{none-some}
+use Rattle.std.proofs.Common.{◌≡◌, ◌∙◌, ℕ, ◌<◌, ◌≤◌, ◌*◌, ◌-◌, false, length, List, [], ◌++◌, Some, None, slice_get, arith, subst, sym, refl, ap}
+use Rattle.std.proofs.lemmas.Option.{same_Some}
 use Rattle.journal.specs.declared.event.Event.{Event}
 use Rattle.journal.specs.declared.event.Kind.{Kind}
-use Rattle.journal.specs.declared.event.Kind.TheVariants.{Ask, Release, Arrive, Set, Watch, Await}
+use Rattle.journal.specs.declared.event.Kind.TheVariants.{Ask, Release, Arrive, Set, Watch}
 use Rattle.journal.specs.Sizes.{Sizes}
 use Rattle.journal.specs.Events.{At, is_closing}
 use Rattle.journal.specs.Groups.{since}
@@ -13,10 +13,10 @@ use Rattle.page.specs.Changes.{Changes}
 use Rattle.transit.specs.Letters.{Letter}
 use Rattle.book.specs.State.{State}
 use Rattle.book.specs.Told.{IsTold}
-use Rattle.book.specs.Laws.{MayHandIn, MayGive, trimmed_book}
+use Rattle.book.specs.Laws.{MayHandIn, MayGive}
 use Rattle.book.specs.Calls.{Takes}
-use Rattle.book.specs.Transitions.{new_book, handed_in, handed_last, book_asked, book_released, book_arrived, book_set, book_watched, book_took, book_signalled}
-use Rattle.book.proofs.Keeps.Whole.{new_law, hand_in_law, last_law, ask_law, release_law, arrive_law, set_law, watch_law, take_law, take_signal_law}
+use Rattle.book.specs.Transitions.{new_book, handed_in, handed_last, book_asked, book_released, book_arrived, book_set, book_watched, book_took}
+use Rattle.book.proofs.Keeps.Whole.{new_law, hand_in_law, last_law, ask_law, release_law, arrive_law, set_law, watch_law, take_law}
 use Rattle.book_uses.specs.declared.told.Told.TheInside.{Inside}
 use Rattle.book_uses.specs.Telling.{Telling, IsTelling, MayClose}
 use Rattle.book_uses.specs.Keeping.{telling_of, IsKept}
@@ -72,19 +72,11 @@ module _ (t : Telling) (new : State) (p : ℕ) (block : List Event) (records : L
   pub follows_arrive : new ≡ book_arrived (handed_in t.book block) p records → Follows t.sizes (did (t.history ++ block) p Arrive) t.book new
   follows_arrive is = follows t.sizes (did (t.history ++ block) p Arrive) t.book new (book_arrived (handed_in t.book block) p records) (arrive_law t.sizes t.history block t.book p records telling.told may.may may.are) refl is
 
-found : {A : Type 0} (xs : List (Option A)) (i : ℕ) (x : A) → slice_index_or xs i None ≡ Some x → slice_get xs i ≡ Some (Some x)
-found [] i x is = absurd (none-some x is)
-found (o ∷ xs) zero x is = ap (λ y. Some y) is
-found (o ∷ xs) (suc i) x is = found xs i x is
-
 -- a take of what p waits for
-pub follows_take : (s : Sizes) (h : List Event) (b new : State) (p : ℕ) (k : Kind) (m : Letter) → IsTold s h b → slice_get b.awaits p ≡ Some (Some k) → Takes b p k m new → Follows s (did h p k) b new
-follows_take s h b new p (Await f) m told waits takes =
-    follows s (did h p (Await f)) b new (trimmed_book s.processors (book_signalled b p f m.time)) (take_signal_law s h b p f m.time told waits (found b.flags f m.time takes.0)) refl
-    (takes.2 ∙ ap (λ n. trimmed_book n (book_signalled b p f m.time)) told.times.long)
+pub follows_take : (s : Sizes) (h : List Event) (b new : State) (p : ℕ) (k : Kind) (m : Letter) → IsTold s h b → slice_get b.awaits p ≡ Some (Some k) → Takes b p m new → Follows s (did h p k) b new
 follows_take s h b new p k m told waits takes =
-    follows s (did h p k) b new (trimmed_book s.processors (book_took b p k m)) (take_law s h b p k m told waits (found b.transit p m takes.0)) refl
-    (takes.1 ∙ ap (λ n. trimmed_book n (book_took b p k m)) told.times.long)
+    let same : takes.kind ≡ k = same_Some takes.kind k (same_Some (Some takes.kind) (Some k) (sym takes.awaits ∙ waits)) in
+    subst (λ x. Follows s (did h p x) b new) same (follows s (did h p takes.kind) b new (book_took b p takes.kind m) (take_law s h b p takes.kind m told takes.awaits takes.message) refl takes.after)
 
 -- the records of p's open interval, made of its events and the block's
 pub may_close : (t : Telling) (p : ℕ) (block events : List Event) (records : List Changes) → IsTelling t → MayHandIn t.sizes t.book p block → length block ≤ 256 → events ≡ since t.history p ++ block

@@ -135,6 +135,8 @@ pub open_contents : (s : Sizes) (h : List Event) (p : ℕ) (records : List Chang
 open_contents s h p records some well x = record {
   each = λ r has. (x.each r has).content;
   all = λ n i stores. x.all n i (within n i stores) stores;
+  some = λ r has. (x.each r has).some;
+  rising = x.rising;
 }
   where
     within : (n i : ℕ) → StoresOpen s h p n i → n < s.pages
