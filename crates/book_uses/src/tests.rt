@@ -106,9 +106,7 @@ fn go_on(told: &mut Told, rt: &(impl Abort + AllocGlobal), step: Step) -> Result
         }
         Gets(p, name, entries, records) => gets(told, rt, p, name, entries, records)?,
         IsDue(p, page, count) => assert!(rt; told.due(p, page) == Some(count)),
-        Keeps([first, second]) => {
-            assert!(rt; told.first(0) == Some(first) && told.first(1) == Some(second));
-        }
+        Keeps(firsts) => assert!(rt; keeps(told, firsts)),
     }
     Ok(())
 }
@@ -180,6 +178,11 @@ fn block_of(
         block.push(did(p, Kind::Store(*address, *word)))?;
     }
     Ok(block)
+}
+
+/// Whether these are the first intervals that are kept of processors 0 and 1.
+fn keeps(told: &Told, firsts: [u64; 2]) -> bool {
+    told.first(0) == Some(firsts[0]) && told.first(1) == Some(firsts[1])
 }
 
 /// Takes a message of this name, with this timestamp and these records.

@@ -120,7 +120,11 @@ fn a_signal_is_made_at_the_take(rt: HostRuntime) -> Result<(), Fail> {
 #[test]
 fn a_watcher_waits_until_its_flag_is_set(rt: HostRuntime) -> Result<(), Fail> {
     let mut told = opened(rt.alloc(), 2, 1, 2, 0, 2)?;
-    let records = [comes(1, 0, 1, 0, One(0, 4)), comes(1, 2, 3, 0, One(0, 5))];
+    let records = [
+        comes(1, 0, 1, 0, One(0, 4)),
+        comes(1, 2, 3, 0, One(0, 5)),
+        comes(0, 0, 0, 0, One(1, 9)),
+    ];
     go(
         &mut told,
         &rt,
@@ -131,12 +135,12 @@ fn a_watcher_waits_until_its_flag_is_set(rt: HostRuntime) -> Result<(), Fail> {
             Refuses(0, Take, Refused::NotYet),
             Does(1, Set(1), NONE),
             Does(1, Set(1), &[(0, 5)]),
-            Gets(0, "signal", &[0, 3], &records),
+            Gets(0, "signal", &[0, 3], &records[..2]),
             Does(0, Watch(1), NONE),
             Gets(0, "signal", &[0, 3], &[]),
             Does(0, Arrive, NONE),
             Does(1, Arrive, NONE),
-            Gets(1, "departure", &[3, 4], &[comes(0, 0, 0, 0, One(1, 9))]),
+            Gets(1, "departure", &[3, 4], &records[2..]),
             Gets(0, "departure", &[3, 4], &[]),
         ],
     )?;
@@ -146,6 +150,7 @@ fn a_watcher_waits_until_its_flag_is_set(rt: HostRuntime) -> Result<(), Fail> {
 #[test]
 fn who_arrives_departs_with_the_others(rt: HostRuntime) -> Result<(), Fail> {
     let mut told = opened(rt.alloc(), 2, 1, 2, 0, 0)?;
+    let records = [comes(0, 0, 0, 0, One(0, 5)), comes(1, 1, 2, 0, One(1, 6))];
     go(
         &mut told,
         &rt,
@@ -153,11 +158,11 @@ fn who_arrives_departs_with_the_others(rt: HostRuntime) -> Result<(), Fail> {
             Does(0, Arrive, &[(0, 5)]),
             Refuses(0, Take, Refused::NotYet),
             Does(1, Arrive, NONE),
-            Gets(1, "departure", &[1, 1], &[comes(0, 0, 0, 0, One(0, 5))]),
+            Gets(1, "departure", &[1, 1], &records[..1]),
             Gets(0, "departure", &[1, 1], &[]),
             Does(1, Arrive, &[(1, 6)]),
             Does(0, Arrive, NONE),
-            Gets(0, "departure", &[2, 2], &[comes(1, 1, 2, 0, One(1, 6))]),
+            Gets(0, "departure", &[2, 2], &records[1..]),
             Gets(1, "departure", &[2, 2], &[]),
         ],
     )?;
