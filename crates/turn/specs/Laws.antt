@@ -3,7 +3,6 @@ use Rattle.std.specs.Prelude.{◌≡◌, ◌↔◌, ℕ, ◌<◌, ◌≤◌, Lis
 use mathlib.Core.Option as maybe
 use mathlib.Core.Option.{some, none}
 use Rattle.atomic_table.specs.Table.{State}
-use Rattle.turn.specs.declared.chair.Stage.{Stage}
 use Rattle.turn.specs.declared.chair.Stage.TheVariants.{Inside}
 use Rattle.turn.specs.declared.chair.ChairState.{ChairState}
 use Rattle.turn.specs.declared.chair.ChairRun.{ChairRun}

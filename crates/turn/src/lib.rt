@@ -14,6 +14,6 @@ mod contract;
 mod laws;
 mod lock;
 
-pub use chair::{Chair, Held, ChairToken, Spent};
+pub use chair::{Chair, ChairToken, Held, Spent};
 pub use contract::{Keeper, Outcome, Turn};
 pub use lock::{ArrayLock, TicketLock};

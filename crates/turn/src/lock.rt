@@ -4,7 +4,7 @@ ghost use Rattle.std.specs.Bool.{OnTrue, OnFalse};
 ghost use Rattle.turn.specs.declared.chair.Stage.TheVariants.{Outside, Waiting, Inside};
 
 use crate::board::{Board, Change, Counter, Layout, Row};
-use crate::chair::{Chair, ChairRun, Held, ChairToken, ChairState, Spent};
+use crate::chair::{Chair, ChairRun, ChairState, ChairToken, Held, Spent};
 use crate::contract::{Keeper, Outcome, Turn};
 use atomic_table::{Join, Play, Seat, Split, Table, TableRule};
 use crossbeam_utils::Backoff;
@@ -99,7 +99,7 @@ const NEXT: usize = 0;
 pub struct Lock<B, K: Keeper<B>, W: Board, const ENTRIES: u64> {
     table: Table<Option<B>, ChairRun<ChairState<B, K::View>>, Sizes, Tickets<K, W>, Global>,
     pub(crate) layout: Layout<W>,
-    ghost wide: { (table.shared.table_id.words ≡ layout.words.value) × (table.shared.table_id.slots ≡ 1) },
+    ghost wide: { (table.shared.table_id.words ≡ layout.words) × (table.shared.table_id.slots ≡ 1) },
     ghost sized: { (table.shared.key.seats ≡ layout.seats) × (table.shared.key.entries ≡ ENTRIES) },
 }
 
