@@ -1,13 +1,15 @@
 //! Episodes of the barrier.
 ghost use Rattle.std.specs.Prelude.{ℕ, ◌≡◌, ◌≤◌, ◌<◌, ◌+◌, ◌↔◌, IsTrue, Some, List, [], length, replicate, slice_get, count_by};
 ghost use Rattle.std.specs.List.{list_all};
+ghost use Rattle.lists.specs.Limits.{most_processors};
+ghost use Rattle.vtime.specs.Times.{join};
 ghost use Rattle.barrier.specs.Episodes.{unmet, is_here, is_full, joined, arrived, departed, HasGathered, Gathers};
 
 use smallvec::SmallVec;
 use std::alloc::Global;
 use std::marker::Model;
 use std::mem;
-use vtime::VTime;
+use vtime::{MOST_PROCESSORS, VTime};
 
 /// Where a processor is.
 #[derive(Clone, Copy, Debug, Default, PartialEq, Eq)]
@@ -28,13 +30,14 @@ pub enum Stage {
 /// next episode while others are still to depart. No call takes memory.
 #[derive(Debug, Drop)]
 pub struct Barrier {
-    stages: SmallVec<Stage, 16>,
+    stages: SmallVec<Stage, MOST_PROCESSORS>,
     gathered: VTime,
     last: VTime,
 }
 
 impl Model for Barrier {
     ghost use Rattle.std.specs.Prelude.{◌≡◌, ◌≤◌, length};
+    ghost use Rattle.lists.specs.Limits.{most_processors};
     ghost use Rattle.barrier.specs.Episodes.{Episodes};
 
     ghost Value = { Episodes };
@@ -43,7 +46,7 @@ impl Model for Barrier {
 
     ghost invariant = { λ b.
         let processors = length b.stages.items in
-        (1 ≤ processors) × (processors ≤ 16)
+        (1 ≤ processors) × (processors ≤ most_processors)
         × (length b.gathered ≡ processors) × (length b.last ≡ processors) };
 }
 
@@ -51,7 +54,7 @@ impl Barrier {
     /// The barrier of `processors` processors (1 to 16), none of which has arrived.
     pub fn new(alloc: Global, processors: usize) -> Self
         requires some { 1 ≤ processors }
-        requires most { processors ≤ 16 }
+        requires most { processors ≤ most_processors }
         ensures value { result ≡ unmet processors }
         ensures gathers { HasGathered result [] }
     {
@@ -100,6 +103,28 @@ impl Barrier {
         full
     }
 
+    /// Whether the arrival of a processor that is away would complete the episode: `arrive` would
+    /// answer the same, at whatever time.
+    pub fn completes(&self, processor: usize) -> bool
+        requires { slice_get self.now.stages processor ≡ Some Stage.Away }
+        ensures complete { IsTrue result ↔ (count_by is_here self.now.stages + 1 ≡ length self.now.stages) }
+        ensures full { (time : List ℕ) → result ≡ is_full (joined self.now processor time) }
+    {
+        count_here(self.stages.as_slice()) + 1 == self.stages.len()
+    }
+
+    /// The time that the open episode would have if an arrival at the time `own` were its last: the join of
+    /// its arrivals so far and `own`.
+    pub fn time_with(&self, own: &VTime) -> VTime
+        requires { length own.now ≡ length self.now.stages }
+        ensures value { result ≡ join self.now.gathered own.now }
+        ensures long { length result ≡ length self.now.stages }
+    {
+        let mut time = self.gathered.copy();
+        time.join(own);
+        time
+    }
+
     /// Where a processor is.
     pub fn stage(&self, processor: usize) -> Stage
         requires { processor < length self.now.stages }
@@ -134,6 +159,12 @@ impl Barrier {
     }
 }
 
+fn count_here(stages: &[Stage]) -> usize
+    ensures { result ≡ count_by is_here stages.now }
+{
+    stages.iter().filter(|stage| **stage == Stage::Here).count()
+}
+
 fn all_here(stages: &[Stage]) -> bool
     ensures { result ≡ list_all is_here stages.now }
 {
@@ -148,9 +179,9 @@ mod tests {
     /// those after it are still to depart.
     #[test]
     fn meets_three_times(rt: HostRuntime) {
-        let mut barrier = Barrier::new(rt.alloc(), 16);
+        let mut barrier = Barrier::new(rt.alloc(), MOST_PROCESSORS);
         for round in 0..3 {
-            for processor in 0..16 {
+            for processor in 0..MOST_PROCESSORS {
                 assert_eq!(rt; barrier.ready(processor), round > 0);
                 if barrier.ready(processor) {
                     barrier.depart(processor);
@@ -160,9 +191,12 @@ mod tests {
                 let mut time = barrier.time().copy();
                 assert!(rt; time.entry(processor) < 9);
                 time.tick(processor);
+                assert_eq!(rt; barrier.completes(processor), processor == 15);
+                let with = barrier.time_with(&time);
                 assert_eq!(rt; barrier.arrive(processor, &time), processor == 15);
+                assert!(rt; processor < 15 || *barrier.time() == with);
             }
-            for processor in 0..16 {
+            for processor in 0..MOST_PROCESSORS {
                 assert_eq!(rt; barrier.time().entry(processor), round + 1);
                 assert!(rt; barrier.ready(processor));
             }

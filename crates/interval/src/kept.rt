@@ -3,6 +3,7 @@ ghost use Rattle.std.specs.Prelude.{◌≡◌, ◌==◌, ◌++◌, IfOk, OnOk, f
 ghost use Rattle.std.specs.Arc.{arc_value};
 ghost use Rattle.std.specs.Option.{option_copied};
 ghost use Rattle.interval.specs.Closings.{sent_interval, sent_record};
+ghost use Rattle.interval.specs.Counts.{pages_of_records, AreCounted, HasRoom};
 
 use crate::notice::{Notice, Sent};
 use page::Record;
@@ -46,17 +47,32 @@ impl Interval {
         None
     }
 
+    /// Counts its records, by pages: entry i of the counts grows by one where there is a record of page
+    /// `base + i`. Other pages are not counted.
+    pub(crate) fn count_pages(&self, base: usize, counts: &mut [usize])
+        requires { HasRoom base (pages_of_records self.now.records) counts.old }
+        ensures { AreCounted base (pages_of_records self.now.records) counts.old counts.new }
+    {
+        for record in self.shared_records() {
+            let page = record.page();
+            if base <= page && page - base < counts.len() {
+                counts[page - base] += 1;
+            }
+        }
+    }
+
     /// Adds each record, under its notice, to what is sent of the interval with this closing number.
     pub(crate) fn send(&self, place: u64, sent: &mut Vec<Sent>) -> Result<(), AllocError>
         ensures { OnOk result (sent.new.items ≡ sent.old.items ++ sent_interval (record { place = place; interval = self.now })) }
     {
         for record in self.shared_records() {
-            sent.push(self.sent(place, record)?)?;
+            sent.push(self.announced(place, record)?)?;
         }
         Ok(())
     }
 
-    fn sent(&self, place: u64, shared: &Arc<Record>) -> Result<Sent, AllocError>
+    /// A record of its own, under its notice.
+    fn announced(&self, place: u64, shared: &Arc<Record>) -> Result<Sent, AllocError>
         ensures { IfOk result (λ sent. sent ≡ sent_record (record { place = place; interval = self.now }) (arc_value shared.now)) }
     {
         Ok(Sent {

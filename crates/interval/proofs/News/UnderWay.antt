@@ -1,13 +1,14 @@
 -- The loop that sends the news, the earliest first.
-use Rattle.std.proofs.Common.{◌≡◌, ℕ, ◌<◌, ◌≤◌, inl, List, [], ◌∷◌, ◌++◌, filter, Some, slice_get, slice_index, length, refl, sym, ap, subst, arith, ◌∙◌}
+use Rattle.std.proofs.Common.{◌≡◌, ℕ, ◌<◌, ◌≤◌, List, [], ◌∷◌, ◌++◌, filter, Some, slice_get, slice_index, length, refl, sym, ap, subst, arith, ◌∙◌}
 use Rattle.std.specs.List.{flat_map}
 use Rattle.std.proofs.lemmas.List.{append-nil}
 use Rattle.std.proofs.lemmas.Option.{get_or_from_slice_get}
+use Rattle.lists.specs.Places.{Has}
+use Rattle.lists.proofs.Picked.{has-filter}
 use Rattle.interval.specs.declared.kept.Kept.{Kept}
 use Rattle.interval.specs.Intervals.{SentRecord}
 use Rattle.interval.specs.Closings.{Closings, is_news, sent_interval, between}
-use Rattle.interval.proofs.Members.{In, In-filter}
-use Rattle.interval.proofs.Earliest.{IsNews, news_is, entry_within}
+use Rattle.interval.proofs.News.Earliest.{IsNews, news_is, entry_within}
 
 -- `at` is how far the sending has come: what is left is the news since then
 pub record IsUnderWay (c : Closings) (old new at : List ℕ) (sent : List SentRecord) : Type 0 where
@@ -18,9 +19,9 @@ pub record IsUnderWay (c : Closings) (old new at : List ℕ) (sent : List SentRe
 -- the next one is one of the news
 pub next_is_news : (c : Closings) (new at : List ℕ) (k : Kept) (rest : List Kept) → filter (is_news at new) c.kept ≡ k ∷ rest → IsNews at new k
 next_is_news c new at k rest next =
-    let P : List Kept → Type 0 = λ ks. In k ks in
-    let among : In k (filter (is_news at new) c.kept) = subst P (sym next) (inl refl) in
-    news_is at new k (In-filter (is_news at new) c.kept k among).1
+    let P : List Kept → Type 0 = λ ks. Has ks k in
+    let among : Has (filter (is_news at new) c.kept) k = subst P (sym next) (0, refl) in
+    news_is at new k ((has-filter (is_news at new) c.kept k).0 among).1
 
 pub next_within : (c : Closings) (new at : List ℕ) (k : Kept) (rest : List Kept) → filter (is_news at new) c.kept ≡ k ∷ rest → length new ≡ length c.first → length at ≡ length c.first → k.interval.owner < length at
 next_within c new at k rest next new_long long =

@@ -7,11 +7,11 @@ use Rattle.lists.specs.Places.{Has}
 use Rattle.interval.specs.declared.kept.Kept.{Kept}
 use Rattle.interval.specs.Closings.{Closings, is_trimmed, trimmed}
 use Rattle.interval.specs.Queues.{Queue, merged, closings, without, IsQueue, AreQueues}
-use Rattle.interval.proofs.Members.{In-filter, In-filter_from}
-use Rattle.interval.proofs.Rising.{Rises-filter, same_rising}
-use Rattle.interval.proofs.Merged.{Lies, merged_lies, lies_merged, Rises-merged}
+use Rattle.lists.proofs.Picked.{has-filter, in_order-filter}
+use Rattle.interval.proofs.Order.ByPlace.{IsBefore, same_rising}
+use Rattle.interval.proofs.Queues.Merged.{Lies, merged_lies, lies_merged, rises-merged}
 use Rattle.lists.proofs.Sets.{slice_get-set_same, slice_get-set_other}
-use Rattle.interval.proofs.Pushed.{entry_of}
+use Rattle.interval.proofs.Queues.Pushed.{entry_of}
 
 slice_get-drop : {A : Type 0} → (n : ℕ) (xs : List A) (i : ℕ) → slice_get (drop n xs) i ≡ slice_get xs (n + i)
 slice_get-drop zero xs i = let e : i ≡ 0 + i = omega arith in ap (slice_get xs) e
@@ -126,9 +126,9 @@ module _ (queues : List Queue) (count owner : ℕ) (queue : Queue) (to : ℕ) (a
   pub merged_trimmed : merged (with_trim queues owner queue to) ≡ filter (λ k. not (is_trimmed owner to k)) (merged queues)
   merged_trimmed =
       let stays : Kept → Bool = λ k. not (is_trimmed owner to k) in
-      same_rising (merged (with_trim queues owner queue to)) (filter stays (merged queues)) (Rises-merged (with_trim queues owner queue to)) (Rises-filter stays (merged queues) (Rises-merged queues))
-      (λ k h. let r = remains k (merged_lies (with_trim queues owner queue to) k h) in In-filter_from stays (merged queues) k (lies_merged queues count are k r.0) r.1)
-      (λ k h. let r = In-filter stays (merged queues) k h in lies_merged (with_trim queues owner queue to) count are_trimmed k (remains_from k (merged_lies queues k r.0) r.1))
+      same_rising (merged (with_trim queues owner queue to)) (filter stays (merged queues)) (rises-merged (with_trim queues owner queue to)) (in_order-filter IsBefore stays (merged queues) (rises-merged queues))
+      (λ k h. let r = remains k (merged_lies (with_trim queues owner queue to) k h) in (has-filter stays (merged queues) k).1 (lies_merged queues count are k r.0, r.1))
+      (λ k h. let r = (has-filter stays (merged queues) k).0 h in lies_merged (with_trim queues owner queue to) count are_trimmed k (remains_from k (merged_lies queues k r.0) r.1))
 
   pub first_trimmed : map (λ (q : Queue). q.first) (with_trim queues owner queue to)
       ≡ set (map (λ (q : Queue). q.first) queues) owner (max (slice_index (map (λ (q : Queue). q.first) queues) owner) (min to (slice_index (map (λ (q : Queue). q.first + length q.kept) queues) owner)))

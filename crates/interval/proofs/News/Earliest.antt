@@ -9,9 +9,10 @@ use Rattle.vtime.specs.Times.{tick}
 use Rattle.interval.specs.declared.kept.Kept.{Kept}
 use Rattle.interval.specs.Closings.{Closings, is_news}
 use Rattle.interval.specs.Queues.{Queue, merged, closings, first_within, earlier, IsQueue, AreQueues}
-use Rattle.interval.proofs.Chosen.{filter_none, filter_least}
-use Rattle.interval.proofs.Pushed.{entry_of}
-use Rattle.interval.proofs.Merged.{Lies, merged_lies, lies_merged, Rises-merged, one_number}
+use Rattle.lists.proofs.Filters.{filter_none}
+use Rattle.interval.proofs.Order.Least.{filter_least}
+use Rattle.interval.proofs.Queues.Pushed.{entry_of}
+use Rattle.interval.proofs.Queues.Merged.{Lies, merged_lies, lies_merged, rises-merged, one_number}
 
 -- `new` covers the interval and `at` doesn't
 pub record IsNews (at new : List ℕ) (k : Kept) : Type 0 where
@@ -146,7 +147,7 @@ earliest-first queues count at new (Some k) are long is =
     let inside_new = entry_within new o k.interval.number news.below in
     let inside : o < length at = omega arith in
     let ticked = tick_at at o inside in
-    filter_least (is_news at new) (is_news (tick at o) new) (merged queues) k (Rises-merged queues) (lies_merged queues count are k is.is.0) (is_news_from at new k news)
+    filter_least (is_news at new) (is_news (tick at o) new) (merged queues) k (rises-merged queues) (lies_merged queues count are k is.is.0) (is_news_from at new k news)
     (λ j h t. let l = merged_lies queues j h in is.least j (l, slice_get_within queues l.owner l.queue l.owned) (news_is at new j t))
     (let passed : nat_le (slice_index (tick at o) o) k.interval.number ≡ false = lt-leb _ _ (omega arith) in and_left _ _ passed)
     (λ j h other. elim (cases_eq j.interval.owner o) [

@@ -2,10 +2,11 @@
 use Rattle.std.proofs.Common.{◌≡◌, ℕ, inl, inr, Some, List, slice_get, sym, ap, arith, ◌∙◌}
 use Rattle.std.specs.List.{flat_map}
 use Rattle.std.proofs.lemmas.Bool.{cases_order}
+use Rattle.lists.specs.Places.{Has}
+use Rattle.lists.proofs.Joined.{has-flat_map}
 use Rattle.interval.specs.declared.kept.Kept.{Kept}
 use Rattle.interval.specs.Queues.{Queue, merged, IsQueue, IsQueued, AreQueues}
-use Rattle.interval.proofs.Members.{In, In-from_has, Has-from_in, In-flat_map, In-flat_map_from}
-use Rattle.interval.proofs.Rising.{Rises, IsApart, In-by_place, In-by_place_from, Rises-by_place}
+use Rattle.interval.proofs.Order.ByPlace.{Rises, IsApart, has-by_place, has-by_place_from, rises-by_place}
 
 -- where an interval lies
 pub record Lies (queues : List Queue) (k : Kept) : Type 0 where
@@ -18,14 +19,13 @@ pub record Lies (queues : List Queue) (k : Kept) : Type 0 where
 abbrev items_of : Queue → List Kept
 items_of q = q.kept
 
-lies : (queues : List Queue) (k : Kept) → In k (flat_map items_of queues) → Lies queues k
+lies : (queues : List Queue) (k : Kept) → Has (flat_map items_of queues) k → Lies queues k
 lies queues k h =
-    let w = In-flat_map items_of queues k h in
-    let at = Has-from_in w.1.kept k w.3 in
-    record { owner = w.0; queue = w.1; index = at.0; owned = w.2; at = at.1 }
+    let w = (has-flat_map items_of queues k).0 h in
+    record { owner = w.1.0; queue = w.0; index = w.2.0; owned = w.1.1; at = w.2.1 }
 
-pub lies_in : (queues : List Queue) (k : Kept) → Lies queues k → In k (flat_map items_of queues)
-lies_in queues k l = In-flat_map_from items_of queues l.owner l.queue k l.owned (In-from_has _ k (l.index, l.at))
+pub lies_in : (queues : List Queue) (k : Kept) → Lies queues k → Has (flat_map items_of queues) k
+lies_in queues k l = (has-flat_map items_of queues k).1 (l.queue, (l.owner, l.owned), (l.index, l.at))
 
 -- in a queue a closing number stands for one interval
 one_place : (owner count : ℕ) (queue : Queue) → IsQueue owner count queue → (i m : ℕ) (j k : Kept)
@@ -50,14 +50,14 @@ apart : (queues : List Queue) (count : ℕ) → AreQueues queues count → IsApa
 apart queues count are j k h g same = one_interval queues count are j k (lies queues j h) (lies queues k g) same
 
 -- what stands in the merged list
-pub merged_lies : (queues : List Queue) (k : Kept) → In k (merged queues) → Lies queues k
-merged_lies queues k h = lies queues k (In-by_place (flat_map items_of queues) k h)
+pub merged_lies : (queues : List Queue) (k : Kept) → Has (merged queues) k → Lies queues k
+merged_lies queues k h = lies queues k (has-by_place (flat_map items_of queues) k h)
 
-pub lies_merged : (queues : List Queue) (count : ℕ) → AreQueues queues count → (k : Kept) → Lies queues k → In k (merged queues)
-lies_merged queues count are k l = In-by_place_from (flat_map items_of queues) (apart queues count are) k (lies_in queues k l)
+pub lies_merged : (queues : List Queue) (count : ℕ) → AreQueues queues count → (k : Kept) → Lies queues k → Has (merged queues) k
+lies_merged queues count are k l = has-by_place_from (flat_map items_of queues) (apart queues count are) k (lies_in queues k l)
 
-pub Rises-merged : (queues : List Queue) → Rises (merged queues)
-Rises-merged queues = Rises-by_place (flat_map items_of queues)
+pub rises-merged : (queues : List Queue) → Rises (merged queues)
+rises-merged queues = rises-by_place (flat_map items_of queues)
 
 -- what is known of an interval where it lies
 pub queued : (queues : List Queue) (count : ℕ) → AreQueues queues count → (k : Kept) (l : Lies queues k) → IsQueued l.owner count l.queue l.index k

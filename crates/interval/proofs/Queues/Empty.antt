@@ -2,10 +2,11 @@
 use Rattle.std.proofs.Common.{◌≡◌, ℕ, ◌+◌, List, [], ◌∷◌, ◌++◌, map, replicate, length, refl, ap, subst, arith, ◌∙◌}
 use Rattle.std.specs.List.{flat_map}
 use Rattle.std.proofs.lemmas.List.{map-append, replicate_more}
+use Rattle.lists.specs.Places.{Has}
+use Rattle.lists.proofs.Joined.{has-nil}
 use Rattle.interval.specs.declared.kept.Kept.{Kept}
 use Rattle.interval.specs.Queues.{Queue, AreQueues}
-use Rattle.interval.proofs.Members.{In}
-use Rattle.interval.proofs.Merged.{Lies, lies_in}
+use Rattle.interval.proofs.Queues.Merged.{Lies, lies_in}
 
 -- so many empty queues
 pub record AreEmpty (n : ℕ) (queues : List Queue) : Type 0 where
@@ -27,7 +28,7 @@ one_more_empty n queues queue first kept are =
     }
 
 pub nothing_lies : (queues : List Queue) → flat_map (λ (q : Queue). q.kept) queues ≡ [] → (k : Kept) → Lies queues k → ⊥
-nothing_lies queues none k l = let P : List Kept → Type 0 = λ ks. In k ks in subst P none (lies_in queues k l)
+nothing_lies queues none k l = let P : List Kept → Type 0 = λ ks. Has ks k in has-nil k (subst P none (lies_in queues k l))
 
 pub are_none : (queues : List Queue) (count : ℕ) → flat_map (λ (q : Queue). q.kept) queues ≡ [] → AreQueues queues count
 are_none queues count none = record {

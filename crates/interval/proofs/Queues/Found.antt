@@ -8,9 +8,10 @@ use Rattle.interval.specs.declared.notice.Notice.{Notice}
 use Rattle.interval.specs.declared.kept.Kept.{Kept}
 use Rattle.interval.specs.Closings.{Closings, is_noticed, record_of}
 use Rattle.interval.specs.Queues.{Queue, merged, closings, AreQueues}
-use Rattle.interval.proofs.Members.{In}
-use Rattle.interval.proofs.Chosen.{find_none, find_least}
-use Rattle.interval.proofs.Merged.{Lies, merged_lies, lies_merged, Rises-merged, queued}
+use Rattle.lists.specs.Places.{Has}
+use Rattle.lists.proofs.Filters.{find_none}
+use Rattle.interval.proofs.Order.Least.{find_least}
+use Rattle.interval.proofs.Queues.Merged.{Lies, merged_lies, lies_merged, rises-merged, queued}
 
 -- an owner's interval lies in the owner's queue
 pub in_own_queue : (queues : List Queue) (count : ℕ) → AreQueues queues count → (k : Kept) → Lies queues k → (owner : ℕ) → k.interval.owner ≡ owner → (queue : Queue) → slice_get queues owner ≡ Some queue
@@ -38,7 +39,7 @@ first_of queues count owner queue are owned =
       | Some k ↦ λ e.
           let l : Lies queues k = record { owner = owner; queue = queue; index = 0; owned = owned; at = e } in
           let is = (queued queues count are k l).owner_is in
-          find_least test (merged queues) k (Rises-merged queues) (lies_merged queues count are k l) (eq-eqb _ _ is) (λ j h t.
+          find_least test (merged queues) k (rises-merged queues) (lies_merged queues count are k l) (eq-eqb _ _ is) (λ j h t.
           let at = in_own_queue queues count are j (merged_lies queues j h) owner (eqb-true _ _ t) queue owned in
           elim (cases_order 0 at.0) [
             | inl same ↦ let there : slice_get queue.kept 0 ≡ Some j = ap (slice_get queue.kept) same ∙ at.1 in let one : k ≡ j = cc (e, there) in let place = ap (λ (z : Kept). z.place) one in omega arith
@@ -94,7 +95,7 @@ pub noticed_at : (queues : List Queue) (count : ℕ) (n : Notice) (queue : Queue
     → find (is_noticed n) (merged queues) ≡ slice_get queue.kept (n.number - queue.first)
 noticed_at queues count n queue are owned from =
     let i : ℕ = n.number - queue.first in
-    let found_at : (j : Kept) → In j (merged queues) → is_noticed n j ≡ true → slice_get queue.kept i ≡ Some j = λ j h t.
+    let found_at : (j : Kept) → Has (merged queues) j → is_noticed n j ≡ true → slice_get queue.kept i ≡ Some j = λ j h t.
     let parts = and_parts _ _ t in
     let at = in_own_queue queues count are j (merged_lies queues j h) n.owner (eqb-true _ _ parts.0) queue owned in
     let number = ((are.each n.owner queue owned).each at.0 j at.1).number_is in
@@ -108,7 +109,7 @@ noticed_at queues count n queue are owned from =
           let q = queued queues count are k l in
           let number = q.number_is in
           let is : k.interval.number ≡ n.number = omega arith in
-          find_least (is_noticed n) (merged queues) k (Rises-merged queues) (lies_merged queues count are k l) (and_from _ _ (eq-eqb _ _ q.owner_is) (eq-eqb _ _ is))
+          find_least (is_noticed n) (merged queues) k (rises-merged queues) (lies_merged queues count are k l) (and_from _ _ (eq-eqb _ _ q.owner_is) (eq-eqb _ _ is))
           (λ j h t. let there = found_at j h t in let one : k ≡ j = cc (e, there) in let place = ap (λ (z : Kept). z.place) one in omega arith)
     ] in
     go (slice_get queue.kept i) refl

@@ -4,15 +4,15 @@ use Rattle.std.proofs.lemmas.Bool.{cases_eq}
 use Rattle.std.proofs.lemmas.List.{length_push, length-map, map-set, set-get_or}
 use Rattle.std.proofs.lemmas.Option.{slice_get_within, get_or_from_slice_get, slice_get_read}
 use Rattle.lists.specs.Places.{Has, InOrder}
+use Rattle.lists.proofs.Joined.{has-nil, has-cons, has-append}
 use Rattle.lists.proofs.Places.{slice_get-append_left, slice_get-last, push_cases}
 use Rattle.lists.proofs.Sets.{slice_get-set_same, slice_get-set_other}
 use Rattle.interval.specs.declared.kept.Kept.{Kept}
 use Rattle.interval.specs.Intervals.{HasRisingPages, ClosedInterval}
 use Rattle.interval.specs.Closings.{Closings, pushed}
 use Rattle.interval.specs.Queues.{Queue, merged, closings, IsQueue, IsQueued, AreQueues}
-use Rattle.interval.proofs.Members.{In, In-append, In-append_left, In-append_right}
-use Rattle.interval.proofs.Rising.{Rises-push, same_rising}
-use Rattle.interval.proofs.Merged.{Lies, merged_lies, lies_merged, Rises-merged, queued}
+use Rattle.interval.proofs.Order.ByPlace.{rises-push, same_rising}
+use Rattle.interval.proofs.Queues.Merged.{Lies, merged_lies, lies_merged, rises-merged, queued}
 
 -- the interval k comes last in the queue of its owner, and is closed last
 pub record Comes (queues : List Queue) (count owner : ℕ) (queue : Queue) (k : Kept) : Type 0 where
@@ -157,19 +157,20 @@ module _ (queues : List Queue) (count owner : ℕ) (queue : Queue) (k : Kept) (a
   pub merged_pushed : merged (with_queue queues owner queue k) ≡ merged queues ++ k ∷ []
   merged_pushed =
       let place = comes.place_is in
-      let below : (j : Kept) → In j (merged queues) → j.place < k.place = λ j h. let lt = place_below j (merged_lies queues j h) in omega arith in
-      let to : (j : Kept) → In j (merged (with_queue queues owner queue k)) → In j (merged queues ++ k ∷ []) = λ j h. elim (came_from j (merged_lies (with_queue queues owner queue k) j h)) [
-        | inl new ↦ In-append_right (merged queues) (k ∷ []) j (inl new)
-        | inr old ↦ In-append_left (merged queues) (k ∷ []) j (lies_merged queues count are j old)
-      ] in
-      let from : (j : Kept) → In j (merged queues ++ k ∷ []) → In j (merged (with_queue queues owner queue k)) = λ j h. elim (In-append (merged queues) (k ∷ []) j h) [
+      let below : (j : Kept) → Has (merged queues) j → j.place < k.place = λ j h. let lt = place_below j (merged_lies queues j h) in omega arith in
+      let to : (j : Kept) → Has (merged (with_queue queues owner queue k)) j → Has (merged queues ++ k ∷ []) j = λ j h.
+      (has-append (merged queues) (k ∷ []) j).1 (elim (came_from j (merged_lies (with_queue queues owner queue k) j h)) [
+        | inl new ↦ inr (0, ap Some (sym new))
+        | inr old ↦ inl (lies_merged queues count are j old)
+      ]) in
+      let from : (j : Kept) → Has (merged queues ++ k ∷ []) j → Has (merged (with_queue queues owner queue k)) j = λ j h. elim ((has-append (merged queues) (k ∷ []) j).0 h) [
         | inl old ↦ lies_merged (with_queue queues owner queue k) (count + 1) are_pushed j (comes_to j (merged_lies queues j old))
-        | inr new ↦ elim new [
-          | inl e ↦ rw e (lies_merged (with_queue queues owner queue k) (count + 1) are_pushed k lies_last)
-          | inr none ↦ absurd none
+        | inr new ↦ elim ((has-cons k [] j).0 new) [
+          | inl e ↦ rw (← e) (lies_merged (with_queue queues owner queue k) (count + 1) are_pushed k lies_last)
+          | inr none ↦ absurd (has-nil j none)
         ]
       ] in
-      same_rising (merged (with_queue queues owner queue k)) (merged queues ++ k ∷ []) (Rises-merged (with_queue queues owner queue k)) (Rises-push (merged queues) k (Rises-merged queues) below) to from
+      same_rising (merged (with_queue queues owner queue k)) (merged queues ++ k ∷ []) (rises-merged (with_queue queues owner queue k)) (rises-push (merged queues) k (rises-merged queues) below) to from
 
   pub first_pushed : map (λ (q : Queue). q.first) (with_queue queues owner queue k) ≡ map (λ (q : Queue). q.first) queues
   first_pushed =

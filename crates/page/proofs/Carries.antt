@@ -5,7 +5,7 @@ use Rattle.lists.specs.Records.{record_applied, marked, harvest}
 use Rattle.lists.proofs.LastWrites.{length-written}
 use Rattle.page.specs.Changes.{Changes}
 use Rattle.page.specs.Contents.{Contents, IsClean}
-use Rattle.page.specs.Carries.{stored, IsAfter, CarriesStores}
+use Rattle.page.specs.Carries.{IsAfter, CarriesStores}
 
 -- the page with the marked words in place of its own
 abbrev merged : List ℕ → List ℕ → List Bool → List ℕ
@@ -41,11 +41,11 @@ merged-set (p ∷ page) (w ∷ words) (true ∷ marks) (suc o) v same long = ap 
 merged-set (p ∷ page) (w ∷ words) (false ∷ marks) (suc o) v same long = ap (λ (ps : List ℕ). p ∷ ps) (merged-set page words marks o v (omega arith) (omega arith))
 
 -- so for stores in turn
-merged-stored : (page words : List ℕ) (marks : List Bool) (stores : List (ℕ × ℕ)) → length page ≡ length words → length page ≡ length marks → merged page (stored words stores) (marked (λ (x : ℕ × ℕ). Some x) marks stores) ≡ stored (merged page words marks) stores
+merged-stored : (page words : List ℕ) (marks : List Bool) (stores : List (ℕ × ℕ)) → length page ≡ length words → length page ≡ length marks → merged page (record_applied words stores) (marked (λ (x : ℕ × ℕ). Some x) marks stores) ≡ record_applied (merged page words marks) stores
 merged-stored page words marks [] same long = refl
 merged-stored page words marks (x ∷ stores) same long =
     merged-stored page (set words x.0 x.1) (set marks x.0 true) stores (same ∙ sym (length-set words x.0 x.1)) (long ∙ sym (length-set marks x.0 true))
-    ∙ ap (λ (ps : List ℕ). stored ps stores) (merged-set page words marks x.0 x.1 same long)
+    ∙ ap (λ (ps : List ℕ). record_applied ps stores) (merged-set page words marks x.0 x.1 same long)
 
 -- with no mark the page stays
 merged-clean : (page words : List ℕ) → length page ≡ length words → merged page words (replicate (length words) false) ≡ page
@@ -54,12 +54,12 @@ merged-clean (p ∷ page) [] same = refl
 merged-clean (p ∷ page) (w ∷ words) same = ap (λ (ps : List ℕ). p ∷ ps) (merged-clean page words (omega arith))
 
 -- the marked words of a copy, put into another page, are what the stores that led there make of it
-merged-after : (stores : List (ℕ × ℕ)) (words other : List ℕ) (p : Contents) → IsAfter stores words p → length other ≡ length words → merged other p.words p.dirty ≡ stored other stores
+merged-after : (stores : List (ℕ × ℕ)) (words other : List ℕ) (p : Contents) → IsAfter stores words p → length other ≡ length words → merged other p.words p.dirty ≡ record_applied other stores
 merged-after stores words other p after same =
     ap (λ (ws : List ℕ). merged other ws p.dirty) after.words_are
-    ∙ ap (λ (ms : List Bool). merged other (stored words stores) ms) after.dirty_are
+    ∙ ap (λ (ms : List Bool). merged other (record_applied words stores) ms) after.dirty_are
     ∙ merged-stored other words (replicate (length words) false) stores same (same ∙ sym (length-replicate (length words) false))
-    ∙ ap (λ (ps : List ℕ). stored ps stores) (merged-clean other words same)
+    ∙ ap (λ (ps : List ℕ). record_applied ps stores) (merged-clean other words same)
 
 pub carries_record : (p : Contents) (r : Changes) → r.words ≡ harvest 0 p.words p.dirty → CarriesStores p (Some r)
 carries_record p r is stores words other after same =
