@@ -3,6 +3,11 @@
 ghost use Rattle.std.specs.Prelude.{◌≡◌, ◌<◌, ◌≤◌, ◌-◌, ◌+◌, ◌^◌, length, IsTrue, OnOk, IfOk};
 ghost use Rattle.journal.specs.InRange.{AddressInRange};
 
+mod races;
+mod reach;
+mod worked;
+
+use crate::tests::worked::{load_before_store, stale_load};
 use crate::{Event, Journal, Kind, Traffic};
 use std::alloc::Global;
 use std::process::Abort;
@@ -103,35 +108,18 @@ fn barrier(rt: HostRuntime) -> Result<(), Fail> {
     Ok(())
 }
 
-/// A load that stands after a store by another processor, and answers what was there before.
+/// A load's reply from before a store that stands before it.
 #[test]
-fn stale_load(rt: HostRuntime) -> Result<(), Fail> {
-    let events = [by(0, Kind::Store(0, 5)), by(1, Kind::Load(0, 0))];
-    let journal = journal_of(&rt, rt.alloc(), 2, 1, &events)?;
+fn stale_load_does_not_replay(rt: HostRuntime) -> Result<(), Fail> {
+    let journal = journal_of(&rt, rt.alloc(), 2, 1, &stale_load())?;
     assert_eq!(rt; journal.replay()?.is_none(), true);
     Ok(())
 }
 
 /// A race whose load stands before the store replays.
 #[test]
-fn load_before_store(rt: HostRuntime) -> Result<(), Fail> {
-    let fetch = Kind::Fetch {
-        page: 0,
-        writers: 1,
-        records: 1,
-        words: 1,
-    };
-    let events = [
-        by(0, Kind::Load(0, 0)),
-        by(0, Kind::Arrive),
-        by(1, Kind::Store(0, 4)),
-        by(1, Kind::Arrive),
-        by(1, Kind::Depart),
-        by(0, Kind::Depart),
-        by(0, fetch),
-        by(0, Kind::Load(0, 4)),
-    ];
-    let journal = journal_of(&rt, rt.alloc(), 2, 1, &events)?;
+fn race_replays(rt: HostRuntime) -> Result<(), Fail> {
+    let journal = journal_of(&rt, rt.alloc(), 2, 1, &load_before_store())?;
     let memory = journal.replay()?.ok_or("does not replay")?;
     assert_eq!(rt; memory.as_slice(), [4].as_slice());
     Ok(())
@@ -174,5 +162,19 @@ fn copies(rt: HostRuntime) -> Result<(), Fail> {
     assert_eq!(rt; copied.events(), journal.events());
     journal.reserve(1)?;
     assert_eq!(rt; copied.len(), 1);
+    Ok(())
+}
+
+/// A copy with room takes more events at once, and the first journal stays as it is.
+#[test]
+fn copies_with_room(rt: HostRuntime) -> Result<(), Fail> {
+    let mut journal = Journal::new(rt.alloc(), 1, 1)?;
+    journal.reserve(1)?;
+    journal.append(by(0, Kind::Arrive));
+    let mut longer = journal.copy_with_room(2)?;
+    longer.append(by(0, Kind::Depart));
+    longer.append(by(0, Kind::Load(0, 0)));
+    assert_eq!(rt; longer.at(2).copied(), Some(by(0, Kind::Load(0, 0))));
+    assert_eq!(rt; journal.len(), 1);
     Ok(())
 }

@@ -106,7 +106,7 @@ record IsPlain (k : Kind) : Type 0 where
 plain_kind : (k : Kind) → is_taking k ≡ false → is_closing k ≡ false → IsPlain k
 plain_kind (Load a v) t c = record { awaits = refl; arrives = refl; departs = refl; ask = λ l e. absurd cc; acquire = λ l e. absurd cc; release = λ l e. absurd cc; set = λ f e. absurd cc; arrive = λ e. absurd cc; allowed = λ s h p. tt }
 plain_kind (Store a v) t c = record { awaits = refl; arrives = refl; departs = refl; ask = λ l e. absurd cc; acquire = λ l e. absurd cc; release = λ l e. absurd cc; set = λ f e. absurd cc; arrive = λ e. absurd cc; allowed = λ s h p. tt }
-plain_kind (Fetch n w r d) t c = record { awaits = refl; arrives = refl; departs = refl; ask = λ l e. absurd cc; acquire = λ l e. absurd cc; release = λ l e. absurd cc; set = λ f e. absurd cc; arrive = λ e. absurd cc; allowed = λ s h p. tt }
+plain_kind (Fetch w n r d) t c = record { awaits = refl; arrives = refl; departs = refl; ask = λ l e. absurd cc; acquire = λ l e. absurd cc; release = λ l e. absurd cc; set = λ f e. absurd cc; arrive = λ e. absurd cc; allowed = λ s h p. tt }
 plain_kind _ t c = absurd cc
 
 -- a book with another journal that holds the history

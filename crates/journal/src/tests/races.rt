@@ -1,5 +1,6 @@
 //! The first races of worked journals.
 
+use crate::tests::worked::{load_before_store, stale_load};
 use crate::tests::{by, journal_of};
 use crate::{Event, Kind};
 use std::alloc::Global;
@@ -19,31 +20,20 @@ fn first_race_in<R: Abort>(
 /// A store, and another processor's load of its address.
 #[test]
 fn store_and_load(rt: HostRuntime) -> Result<(), Fail> {
-    let events = [by(0, Kind::Store(0, 5)), by(1, Kind::Load(0, 0))];
-    assert_eq!(rt; first_race_in(&rt, rt.alloc(), &events)?, Some((0, 1)));
+    assert_eq!(rt;
+        first_race_in(&rt, rt.alloc(), &stale_load())?,
+        Some((0, 1))
+    );
     Ok(())
 }
 
 /// A load, and a store before a barrier that both reach after it.
 #[test]
 fn load_and_store_before_barrier(rt: HostRuntime) -> Result<(), Fail> {
-    let fetch = Kind::Fetch {
-        page: 0,
-        writers: 1,
-        records: 1,
-        words: 1,
-    };
-    let events = [
-        by(0, Kind::Load(0, 0)),
-        by(0, Kind::Arrive),
-        by(1, Kind::Store(0, 4)),
-        by(1, Kind::Arrive),
-        by(1, Kind::Depart),
-        by(0, Kind::Depart),
-        by(0, fetch),
-        by(0, Kind::Load(0, 4)),
-    ];
-    assert_eq!(rt; first_race_in(&rt, rt.alloc(), &events)?, Some((0, 2)));
+    assert_eq!(rt;
+        first_race_in(&rt, rt.alloc(), &load_before_store())?,
+        Some((0, 2))
+    );
     Ok(())
 }
 
@@ -178,7 +168,46 @@ fn flags_and_barrier(rt: HostRuntime) -> Result<(), Fail> {
     Ok(())
 }
 
-/// A journal of 2^20 events of eight processors under locks is checked within a test's time.
+/// Locks and flags of great numbers cost no more than others.
+#[test]
+fn great_numbers(rt: HostRuntime) -> Result<(), Fail> {
+    let events = [
+        by(0, Kind::Store(0, 1)),
+        by(0, Kind::Release(1000000000)),
+        by(1, Kind::Acquire(1000000000)),
+        by(1, Kind::Load(0, 1)),
+        by(1, Kind::Set(usize::MAX)),
+        by(15, Kind::Await(usize::MAX)),
+        by(15, Kind::Store(0, 2)),
+        by(2, Kind::Acquire(usize::MAX)),
+        by(2, Kind::Load(0, 0)),
+    ];
+    assert_eq!(rt; first_race_in(&rt, rt.alloc(), &events)?, Some((0, 8)));
+    Ok(())
+}
+
+/// Sixteen processors hand one another a word over two thousand locks, one after the other; a load by one
+/// that takes no lock races with the stores since its own last turn.
+#[test]
+fn many_locks(rt: HostRuntime) -> Result<(), Fail> {
+    let mut events = Vec::new(rt.alloc());
+    for round in 0..2000usize {
+        let processor = round % 16;
+        events.push(by(processor, Kind::Acquire(round)))?;
+        events.push(by(processor, Kind::Store(0, 1)))?;
+        events.push(by(processor, Kind::Release(round + 1)))?;
+    }
+    assert_eq!(rt; first_race_in(&rt, rt.alloc(), &events)?, None);
+    events.push(by(0, Kind::Load(0, 1)))?;
+    assert_eq!(rt;
+        first_race_in(&rt, rt.alloc(), &events)?,
+        Some((5956, 6000))
+    );
+    Ok(())
+}
+
+/// A journal of 2^20 events of eight processors under locks is checked within a test's time, and copied
+/// whole.
 #[test]
 fn long_journal(rt: HostRuntime) -> Result<(), Fail> {
     let mut events = Vec::new(rt.alloc());
@@ -198,5 +227,8 @@ fn long_journal(rt: HostRuntime) -> Result<(), Fail> {
     let journal = journal_of(&rt, rt.alloc(), 8, 4096, &events)?;
     assert_eq!(rt; journal.len(), 1048576);
     assert_eq!(rt; journal.first_race()?, None);
+    let copied = journal.copy_with_room(4096)?;
+    assert_eq!(rt; copied.len(), 1048576);
+    assert_eq!(rt; copied.at(1048575).copied(), Some(by(7, Kind::Release(31))));
     Ok(())
 }

@@ -3,7 +3,7 @@
 ghost use Rattle.std.specs.Prelude.{◌≡◌, ◌<◌, ◌≤◌, ◌+◌, ◌^◌, vec_len};
 
 use crate::tests::{by, journal_of};
-use crate::{Event, Kind, happens_before, is_race};
+use crate::{Event, Kind, ReachTable};
 use std::alloc::{AllocError, Global};
 use std::process::Abort;
 use std::test::Fail;
@@ -15,10 +15,11 @@ fn check_order<R: Abort>(
     events: &[Event],
     pairs: &[(usize, usize)],
 ) -> Result<(), Fail> {
+    let table = ReachTable::new(alloc, events)?;
     for first in 0..events.len() {
         for second in 0..events.len() {
             let expected = pairs.contains(&(first, second));
-            assert_eq!(rt; happens_before(alloc, events, first, second)?, expected);
+            assert_eq!(rt; table.happens_before(first, second), expected);
         }
     }
     Ok(())
@@ -29,9 +30,10 @@ fn first_race_by_definition(
     alloc: Global,
     events: &[Event],
 ) -> Result<Option<(usize, usize)>, AllocError> {
+    let table = ReachTable::new(alloc, events)?;
     for second in 0..events.len() {
         for first in 0..second {
-            if is_race(alloc, events, first, second)? {
+            if table.is_race(events, first, second) {
                 return Ok(Some((first, second)));
             }
         }
