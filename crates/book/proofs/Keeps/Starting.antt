@@ -38,7 +38,8 @@ use Rattle.book.proofs.Parts.Lines.{idle_no_ask}
 use Rattle.book.proofs.Parts.Mail.{mail_kept, own_idle}
 use Rattle.book.proofs.Parts.Flags.{flag_kept}
 use Rattle.book.proofs.Parts.Meetings.{barrier_kept}
-use Rattle.book.proofs.Parts.ClosedIntervals.{closed_quiet, closed_trimmed, between_trimmed, within_trimmed, least_le}
+use Rattle.book.proofs.Parts.ClosedIntervals.{closed_quiet, closed_trimmed, within_trimmed, least_le}
+use Rattle.interval.proofs.News.Unchanged.{between-trimmed}
 use Rattle.book.proofs.Parts.Told.{is_idle, follows, still_formed}
 use Rattle.book.proofs.Keeps.Locks.{lock_kept}
 
@@ -183,7 +184,7 @@ trimmed_once s h b c owner to covered lt told = record {
   flags = told.flags;
   awaits = told.awaits;
   transit = told.transit;
-  notices = λ p m t at now. told.notices p m t at now ∙ sym (between_trimmed c owner to t m.time (covered p t now));
+  notices = λ p m t at now. told.notices p m t at now ∙ sym (between-trimmed c owner to t m.time (covered p t now));
   within = within_trimmed c owner to b.times covered (subst (λ n. owner < n) (sym told.closed.first_long) lt) told.within;
 }
 
