@@ -8,7 +8,7 @@ use Rattle.lrc_script.specs.Plan.{Plan}
 use Rattle.lrc_script.specs.Lawful.{barriers, IsEven}
 use Rattle.lrc_script.specs.Text.{Line, section_line, instruction_line, section_lines}
 use Rattle.lrc_script.specs.Faults.{IsUneven}
-use Rattle.lrc_script.proofs.Adds.{section_lines-append}
+use Rattle.lrc_script.proofs.Text.{section_lines-append}
 
 abbrev pub items_of : List (Vec Instruction) → List (List Instruction)
 items_of sections = map (λ section. section.items) sections
