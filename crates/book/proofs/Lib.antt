@@ -1,4 +1,4 @@
 pub mod Parts
 pub mod Keeps
-pub mod Reads
+pub mod Calling
 pub mod Testing

@@ -6,7 +6,7 @@ use Rattle.journal.specs.Sizes.{Sizes}
 use Rattle.journal.specs.Events.{count_of, is_closing}
 use Rattle.journal.specs.Groups.{StoresIn}
 use Rattle.page.specs.Changes.{Changes}
-use Rattle.book.specs.Events.{event}
+use Rattle.journal.specs.Did.{event}
 use Rattle.book.specs.State.{State}
 use Rattle.book.specs.Told.{IsTold}
 

@@ -8,7 +8,7 @@ use Rattle.journal.specs.Events.{At, count_of, is_closing, is_taking}
 use Rattle.journal.specs.WellFormed.{KindInRange, Holds, Ready}
 use Rattle.page.specs.Changes.{Changes}
 use Rattle.transit.specs.Letters.{Letter}
-use Rattle.book.specs.Events.{did}
+use Rattle.journal.specs.Did.{did}
 use Rattle.book.specs.Mail.{IsPosted}
 use Rattle.book.specs.ClosedIntervals.{AreContents}
 use Rattle.book.specs.State.{State}

@@ -1,4 +1,3 @@
-pub mod Events
 pub mod Stamps
 pub mod Lines
 pub mod Mail

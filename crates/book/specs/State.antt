@@ -1,6 +1,5 @@
 -- The book as contracts see it.
-use Rattle.std.specs.Prelude.{ℕ, ◌≡◌, Option, List, [], slice_index_or}
-use Rattle.journal.specs.declared.event.Event.{Event}
+use Rattle.std.specs.Prelude.{ℕ, Option, List, [], slice_index_or}
 use Rattle.journal.specs.declared.event.Kind.{Kind}
 use Rattle.journal.specs.Log.{Log}
 use Rattle.interval.specs.Closings.{Closings}
@@ -23,7 +22,3 @@ pub record State : Type 0 where
 -- the timestamp of processor p
 abbrev pub time_of : State → ℕ → List ℕ
 time_of b p = slice_index_or b.times p []
-
--- the journal holds this history: today all of it
-abbrev pub HoldsHistory : Log → List Event → Type 0
-HoldsHistory log h = log.events ≡ h

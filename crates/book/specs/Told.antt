@@ -12,7 +12,8 @@ use Rattle.book.specs.Mail.{IsMail}
 use Rattle.book.specs.Meetings.{IsBarrier}
 use Rattle.book.specs.Flags.{IsFlag}
 use Rattle.book.specs.ClosedIntervals.{AreClosed, IsWithin}
-use Rattle.book.specs.State.{State, HoldsHistory}
+use Rattle.journal.specs.Log.{HoldsHistory}
+use Rattle.book.specs.State.{State}
 
 -- the book is one of a cluster of these sizes
 pub record HasSizes (s : Sizes) (b : State) : Type 0 where

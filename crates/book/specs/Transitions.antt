@@ -14,7 +14,7 @@ use Rattle.lockq.specs.Lock.{unheld, lock_at, with_lock, asked, released}
 use Rattle.barrier.specs.Episodes.{Episodes, unmet, is_full, joined, arrived, departed}
 use Rattle.transit.specs.Letters.{Letter}
 use Rattle.transit.specs.Letters.Kind.{grant, departure}
-use Rattle.book.specs.Events.{event}
+use Rattle.journal.specs.Did.{event}
 use Rattle.book.specs.State.{State, time_of}
 
 -- an empty book, with room for 256 last events of each processor

@@ -1,5 +1,6 @@
 pub mod Sizes
 pub mod Events
+pub mod Did
 pub mod Order
 pub mod WellFormed
 pub mod Pasts

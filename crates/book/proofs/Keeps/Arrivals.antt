@@ -16,7 +16,7 @@ use Rattle.vtime.specs.Times.{tick, join}
 use Rattle.interval.specs.Closings.{between}
 use Rattle.barrier.specs.Episodes.{is_full, joined, completed}
 use Rattle.transit.specs.Letters.{Letter}
-use Rattle.book.specs.Events.{event, did}
+use Rattle.journal.specs.Did.{event, did}
 use Rattle.book.specs.Stamps.{AreAll, IsStamp}
 use Rattle.book.specs.Lines.{IsLock}
 use Rattle.book.specs.Mail.{IsPosted, Carries, IsMail}

@@ -14,7 +14,7 @@ use Rattle.page.specs.Changes.{Changes}
 use Rattle.lists.proofs.Sets.{slice_get-set_other}
 use Rattle.vtime.specs.Times.{tick, join}
 use Rattle.transit.specs.Letters.{Letter}
-use Rattle.book.specs.Events.{event, did}
+use Rattle.journal.specs.Did.{event, did}
 use Rattle.book.specs.Stamps.{AreAll, IsAwaited}
 use Rattle.book.specs.Lines.{IsLock}
 use Rattle.book.specs.Mail.{IsPosted, IsMail}

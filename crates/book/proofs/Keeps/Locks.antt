@@ -22,7 +22,7 @@ use Rattle.interval.specs.Closings.{between}
 use Rattle.lockq.specs.Lock.{Lock, unheld, lock_at, line, asked, released}
 use Rattle.transit.specs.Letters.{Letter}
 use Rattle.transit.specs.Letters.Kind.{grant}
-use Rattle.book.specs.Events.{event, did}
+use Rattle.journal.specs.Did.{event, did}
 use Rattle.book.specs.Stamps.{AreAll, IsStamp}
 use Rattle.book.specs.Lines.{IsLine, IsLock}
 use Rattle.book.specs.Mail.{IsPosted, IsMail}

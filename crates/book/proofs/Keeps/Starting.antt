@@ -10,7 +10,7 @@ use Rattle.journal.specs.declared.event.Kind.{Kind}
 use Rattle.journal.specs.declared.event.Kind.TheVariants.{Load, Store, Fetch, Ask, Acquire, Release, Arrive, Depart, Set}
 use Rattle.journal.specs.Sizes.{Sizes}
 use Rattle.journal.specs.Events.{At, is_arrive, is_depart, is_closing, is_taking}
-use Rattle.journal.specs.Log.{Log}
+use Rattle.journal.specs.Log.{Log, HoldsHistory}
 use Rattle.journal.specs.WellFormed.{KindInRange, Allowed, MayFollow}
 use Rattle.journal.specs.Waits.{awaited, IsIdle}
 use Rattle.journal.specs.Pasts.{InPast, UpToSome}
@@ -23,12 +23,12 @@ use Rattle.interval.specs.Closings.{Closings, trimmed}
 use Rattle.lockq.specs.Lock.{unheld}
 use Rattle.barrier.specs.declared.episodes.Stage.TheVariants.{Away}
 use Rattle.book.specs.Meetings.{IsAtStage}
-use Rattle.book.specs.Events.{event, did}
+use Rattle.journal.specs.Did.{event, did}
 use Rattle.book.specs.Stamps.{IsStamp, IsAwaited}
 use Rattle.book.specs.Lines.{IsLock}
 use Rattle.book.specs.Mail.{IsPosted, IsMail}
 use Rattle.book.specs.Flags.{IsFlag}
-use Rattle.book.specs.State.{State, HoldsHistory}
+use Rattle.book.specs.State.{State}
 use Rattle.book.specs.Transitions.{new_book, handed_in, least, trimmed_by}
 use Rattle.book.specs.Told.{IsTold}
 use Rattle.book.proofs.Parts.Each.{each_kept, each_own, each_replicate}

@@ -15,7 +15,7 @@ use Rattle.journal.proofs.Journals.Ready.{waits_for, taking_follows}
 use Rattle.vtime.specs.Times.{join}
 use Rattle.interval.specs.Closings.{between}
 use Rattle.transit.specs.Letters.{Letter}
-use Rattle.book.specs.Events.{event, did}
+use Rattle.journal.specs.Did.{event, did}
 use Rattle.book.specs.Stamps.{IsStamp, IsAwaited}
 use Rattle.book.specs.Lines.{IsLock}
 use Rattle.book.specs.Mail.{IsPosted, Carries, IsMail}

@@ -10,7 +10,7 @@ use Rattle.journal.specs.Sizes.{Sizes}
 use Rattle.journal.specs.Events.{At, is_closing, is_taking}
 use Rattle.journal.specs.WellFormed.{Holds}
 use Rattle.journal.proofs.Order.Places.{at_longer, at_last}
-use Rattle.book.specs.Events.{did}
+use Rattle.journal.specs.Did.{did}
 use Rattle.book.specs.State.{State}
 use Rattle.book.specs.Transitions.{handed_in, handed_last, book_took, book_signalled}
 use Rattle.book.specs.Told.{IsTold}

@@ -24,7 +24,7 @@ use Rattle.interval.specs.declared.kept.Kept.{Kept}
 use Rattle.interval.specs.Intervals.{ClosedInterval}
 use Rattle.interval.specs.Closings.{Closings, pushed, trimmed, is_trimmed, is_news, between, sent_interval}
 use Rattle.interval.proofs.Chosen.{filter_same}
-use Rattle.book.specs.Events.{event, did}
+use Rattle.journal.specs.Did.{event, did}
 use Rattle.book.specs.ClosedIntervals.{closings_of, IsKept, AreContents, AreClosed, IsWithin}
 use Rattle.book.specs.Transitions.{lesser, least, trimmed_by}
 use Rattle.book.proofs.Parts.Doings.{count_did, count_others, count_kept}

@@ -12,7 +12,7 @@ use Rattle.lists.proofs.Places.{push_cases}
 use Rattle.journal.proofs.Order.Places.{count_of-append}
 use Rattle.journal.proofs.Times.Times.{count_of-one}
 use Rattle.journal.proofs.Journals.WellFormed.{last_unique, last_now, last_longer, last_shorter, holds_cases, holds_longer}
-use Rattle.book.specs.Events.{event, did}
+use Rattle.journal.specs.Did.{event, did}
 use Rattle.book.specs.Stamps.{IsAwaited}
 
 -- the one event is not another's

@@ -9,7 +9,7 @@ use Rattle.journal.specs.Brings.{SomeDoes}
 use Rattle.journal.proofs.Times.Times.{time_none}
 use Rattle.journal.proofs.Order.Places.{at_last}
 use Rattle.journal.proofs.Times.Kept.{does_kept, kind_kept, kind_joins}
-use Rattle.book.specs.Events.{event, did}
+use Rattle.journal.specs.Did.{event, did}
 use Rattle.book.specs.Stamps.{IsStamp}
 use Rattle.book.specs.Flags.{IsFlag}
 use Rattle.book.specs.Transitions.{set_at}

@@ -12,7 +12,7 @@ use Rattle.journal.specs.Waits.{IsIdle}
 use Rattle.lists.proofs.Places.{push_cases, slice_get-append_left, slice_get-last}
 use Rattle.journal.proofs.Order.Places.{at_within}
 use Rattle.journal.proofs.Journals.WellFormed.{last_unique, holds_cases, holds_now}
-use Rattle.book.specs.Events.{event, did}
+use Rattle.journal.specs.Did.{event, did}
 use Rattle.book.specs.Lines.{IsLine}
 use Rattle.book.proofs.Parts.Doings.{last_cases, last_on, last_own, holds_on, holds_back}
 

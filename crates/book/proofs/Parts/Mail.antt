@@ -19,7 +19,7 @@ use Rattle.journal.proofs.Journals.WellFormed.{holds_cases, holds_now}
 use Rattle.transit.specs.Letters
 use Rattle.transit.specs.Letters.{Letter}
 use Rattle.transit.specs.Letters.Kind.{grant, departure, signal}
-use Rattle.book.specs.Events.{event, did}
+use Rattle.journal.specs.Did.{event, did}
 use Rattle.book.specs.Stamps.{IsStamp}
 use Rattle.book.specs.Mail.{LetsDo, IsPosted, IsMail}
 use Rattle.book.proofs.Parts.Doings.{last_cases, last_on, last_none, holds_on, count_others, count_more, count_kept}

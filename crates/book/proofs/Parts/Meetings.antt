@@ -22,7 +22,7 @@ use Rattle.vtime.specs.Times.{join}
 use Rattle.barrier.specs.Episodes.{Episodes, is_here, is_full, joined, completed, departed}
 use Rattle.barrier.specs.declared.episodes.Stage.{Stage}
 use Rattle.barrier.specs.declared.episodes.Stage.TheVariants.{Away, Here, Free}
-use Rattle.book.specs.Events.{event, did}
+use Rattle.journal.specs.Did.{event, did}
 use Rattle.book.specs.Stamps.{AreAll, IsStamp}
 use Rattle.book.specs.Meetings.{IsAtStage, IsBarrier}
 use Rattle.book.proofs.Parts.Each.{each_set, each_kept, item_at, is_at}

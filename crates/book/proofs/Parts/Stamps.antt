@@ -16,7 +16,7 @@ use Rattle.journal.proofs.Times.Pushes.{others_keep, own_quiet, own_closing, own
 use Rattle.journal.proofs.Journals.Holding.{release_time}
 use Rattle.vtime.specs.Times.{tick, join}
 use Rattle.vtime.proofs.Joins.{length-join, get_or-join}
-use Rattle.book.specs.Events.{event, did}
+use Rattle.journal.specs.Did.{event, did}
 use Rattle.book.specs.Stamps.{IsStamp}
 use Rattle.book.proofs.Parts.Doings.{away, count_did, count_others}
 

@@ -20,7 +20,7 @@ use Rattle.vtime.specs.Times.{tick, join}
 use Rattle.vtime.proofs.Joins.{get_or-join}
 use Rattle.interval.specs.Closings.{pushed, between}
 use Rattle.transit.specs.Letters.{Letter}
-use Rattle.book.specs.Events.{event, did}
+use Rattle.journal.specs.Did.{event, did}
 use Rattle.book.specs.Stamps.{AreAll, IsStamp, IsAwaited}
 use Rattle.book.specs.Mail.{Carries}
 use Rattle.book.specs.ClosedIntervals.{AreContents, AreClosed, IsWithin}

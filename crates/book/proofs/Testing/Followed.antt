@@ -16,7 +16,7 @@ use Rattle.lockq.specs.Lock.{Lock, unheld, lock_at}
 use Rattle.transit.specs.declared.message.Message.{Message}
 use Rattle.transit.specs.Letters.{Letter, letter}
 use Rattle.book.specs.declared.refused.Refused.{Refused}
-use Rattle.book.specs.Events.{event, did}
+use Rattle.journal.specs.Did.{event, did}
 use Rattle.book.specs.Lines.{IsLock}
 use Rattle.book.specs.State.{State}
 use Rattle.book.specs.Transitions.{new_book, handed_in, book_asked, book_released, book_arrived, book_set, book_watched, book_took, book_signalled}

@@ -18,7 +18,7 @@ use Rattle.journal.proofs.Order.Places.{at_longer, at_last, count_of-front, coun
 use Rattle.std.proofs.Math.Seq.{take-append_seam}
 use Rattle.journal.proofs.Intervals.Contents.{stores_in_shorter}
 use Rattle.page.specs.Changes.{Changes}
-use Rattle.book.specs.Events.{event, did}
+use Rattle.journal.specs.Did.{event, did}
 use Rattle.book.specs.Laws.{IsInner, AreOpenRecords}
 use Rattle.book.specs.Harness.{NothingOpen, IsPart}
 use Rattle.book.proofs.Parts.Doings.{count_did, count_others, count_kept}

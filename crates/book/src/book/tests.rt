@@ -3,7 +3,7 @@ ghost use Rattle.std.specs.Prelude.{◌≡◌, ◌*◌, ◌^◌, ◌<◌, ◌≤
 ghost use Rattle.std.specs.Arc.{arc_value};
 ghost use Rattle.journal.specs.declared.event.Kind.{Kind as AKind};
 ghost use Rattle.lockq.specs.Lock.{lock_at};
-ghost use Rattle.book.specs.Events.{event};
+ghost use Rattle.journal.specs.Did.{event};
 ghost use Rattle.book.specs.Harness.{IsPart, IsLoads};
 
 mod rows;

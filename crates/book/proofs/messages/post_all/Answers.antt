@@ -3,7 +3,7 @@ use Rattle.std.proofs.lemmas.List.{map-append, length-map}
 use Rattle.std.specs.Option.{option_to_list}
 use Rattle.transit.specs.Letters.{letter}
 use Rattle.transit.specs.declared.message.Message.{Message}
-use Rattle.book.proofs.Reads.Posting.{posting_step}
+use Rattle.book.proofs.Calling.Posting.{posting_step}
 use Rattle.book.proofs.messages.post_all.Goals as goal
 
 pub loop-message-preserved : goal.loop-message-preserved

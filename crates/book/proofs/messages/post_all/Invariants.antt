@@ -1,6 +1,6 @@
 use Rattle.std.proofs.Common.{map}
 use Rattle.transit.specs.Letters.{letter}
-use Rattle.book.proofs.Reads.Posting.{IsPosting}
+use Rattle.book.proofs.Calling.Posting.{IsPosting}
 use Rattle.book.proofs.messages.post_all.Given as goal
 
 abbrev pub invariant-loop-message : goal.invariant-loop-message

@@ -12,8 +12,8 @@ use Rattle.book.specs.Transitions.{handed_in, open_interval, closing}
 use Rattle.interval.specs.Closings.{pushed}
 use Rattle.book.specs.Calls.{MayBeSent}
 use Rattle.book.specs.Holding.{state_of}
-use Rattle.book.proofs.Reads.Calls.{stands, own_read, own_entry_read}
-use Rattle.book.proofs.Reads.Arrivals.{arrives, arriving, departures_made, none_waits, arrived_met, arrived_alone}
+use Rattle.book.proofs.Calling.Calls.{stands, own_read, own_entry_read}
+use Rattle.book.proofs.Calling.Arrivals.{arrives, arriving, departures_made, none_waits, arrived_met, arrived_alone}
 use Rattle.book.proofs.book.Book.arrive.Goals.{in-Some, in-None}
 use Rattle.book.proofs.book.Book.arrive.Goals as goal
 

@@ -10,7 +10,7 @@ use Rattle.transit.specs.declared.message.Message.{Message}
 use Rattle.book.specs.State.{State}
 use Rattle.book.specs.Transitions.{handed_in, closing, due, granted}
 use Rattle.book.specs.Holding.{state_of}
-use Rattle.book.proofs.Reads.Asks.{IsAsking, asking, asked_granted, asked_waits}
+use Rattle.book.proofs.Calling.Asks.{IsAsking, asking, asked_granted, asked_waits}
 use Rattle.book.proofs.book.Book.ask.Goals as goal
 
 pub grant_if_free-requires-clause-own_long : goal.grant_if_free-requires-clause-own_long

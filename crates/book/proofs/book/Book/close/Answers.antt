@@ -3,11 +3,11 @@ use Rattle.std.specs.Arc.{arc_value}
 use Rattle.journal.specs.Log.{Log}
 use Rattle.vtime.specs.Times.{tick}
 use Rattle.interval.specs.Closings.{pushed}
-use Rattle.book.specs.Events.{event}
+use Rattle.journal.specs.Did.{event}
 use Rattle.book.specs.State.{State, time_of}
 use Rattle.book.specs.Transitions.{handed_in, closing}
 use Rattle.book.specs.Holding.{state_of}
-use Rattle.book.proofs.Reads.Calls.{stands, own_read, own_entry_read, flushes, block_processors, block_addresses, closing_address, logs_are, closing_is}
+use Rattle.book.proofs.Calling.Calls.{stands, own_read, own_entry_read, flushes, block_processors, block_addresses, closing_address, logs_are, closing_is}
 use Rattle.book.proofs.book.Book.close.Goals as goal
 
 pub entry-number-requires : goal.entry-number-requires

@@ -2,8 +2,8 @@ use Rattle.std.proofs.Common.{◌≡◌, ◌≤◌, ℕ, List, [], length, count
 use Rattle.interval.specs.Closings.{between, is_of_page}
 use Rattle.book.specs.Brought.{signalled}
 use Rattle.book.specs.State.{State, time_of}
-use Rattle.book.proofs.Reads.Calls.{own_read, same_default}
-use Rattle.book.proofs.Reads.Signals.{IsWatching, watching}
+use Rattle.book.proofs.Calling.Calls.{own_read, same_default}
+use Rattle.book.proofs.Calling.Signals.{IsWatching, watching}
 use Rattle.book.proofs.book.Book.due_by_flag.Goals as goal
 
 pub index-requires : goal.index-requires

@@ -1,7 +1,7 @@
 use Rattle.std.proofs.Common.{ap, ◌∙◌}
 use Rattle.journal.specs.Log.{Log}
 use Rattle.book.specs.State.{State}
-use Rattle.book.proofs.Reads.Calls.{block_processors, block_addresses}
+use Rattle.book.proofs.Calling.Calls.{block_processors, block_addresses}
 use Rattle.book.proofs.book.Book.hand_in.Goals as goal
 
 pub append_all-requires-clause-processor : goal.append_all-requires-clause-processor

@@ -1,6 +1,6 @@
 use Rattle.std.proofs.Common.{ap}
 use Rattle.book.specs.State.{State}
-use Rattle.book.proofs.Reads.Calls.{block_processors, block_addresses}
+use Rattle.book.proofs.Calling.Calls.{block_processors, block_addresses}
 use Rattle.book.proofs.book.Book.last.Goals as goal
 
 pub append_all-requires-clause-processor : goal.append_all-requires-clause-processor

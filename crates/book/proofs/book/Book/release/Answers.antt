@@ -13,8 +13,8 @@ use Rattle.book.specs.State.{State, time_of}
 use Rattle.book.specs.Transitions.{handed_in, open_interval, closing}
 use Rattle.book.specs.Calls.{MayBeSent, addressed}
 use Rattle.book.specs.Holding.{state_of}
-use Rattle.book.proofs.Reads.Calls.{stands, own_read, own_entry_read}
-use Rattle.book.proofs.Reads.Releases.{releases, releasing, release_call, next_sent, grant_read, grant_to_whom, released_granted}
+use Rattle.book.proofs.Calling.Calls.{stands, own_read, own_entry_read}
+use Rattle.book.proofs.Calling.Releases.{releases, releasing, release_call, next_sent, grant_read, grant_to_whom, released_granted}
 use Rattle.book.proofs.book.Book.release.Goals as goal
 
 pub entry-requires : goal.entry-requires

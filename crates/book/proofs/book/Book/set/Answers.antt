@@ -2,7 +2,7 @@ use Rattle.std.proofs.Common.{map, ◌∙◌}
 use Rattle.std.specs.Arc.{arc_value}
 use Rattle.journal.specs.declared.event.Kind.TheVariants.{Set}
 use Rattle.book.specs.Holding.{state_of}
-use Rattle.book.proofs.Reads.Asks.{set_read, set_is}
+use Rattle.book.proofs.Calling.Asks.{set_read, set_is}
 use Rattle.book.proofs.book.Book.set.Goals as goal
 
 pub with_set-time-requires : goal.with_set-time-requires

@@ -4,7 +4,7 @@ use Rattle.transit.specs.Letters.{letter}
 use Rattle.book.specs.declared.refused.Refused.TheVariants.{NotYet}
 use Rattle.book.specs.State.{State}
 use Rattle.book.specs.Calls.{MayTake, IsAbsent, Takes}
-use Rattle.book.proofs.Reads.Takes.{IsReceiving, receiving, read_is, waits_posted}
+use Rattle.book.proofs.Calling.Takes.{IsReceiving, receiving, read_is, waits_posted}
 use Rattle.book.proofs.book.Book.take.Goals as goal
 
 pub index-requires : goal.index-requires

@@ -4,9 +4,9 @@ use Rattle.std.specs.Option.{option_map}
 use Rattle.journal.specs.Log.{Log}
 use Rattle.transit.specs.Letters.{letter}
 use Rattle.transit.specs.declared.message.Message.{Message}
-use Rattle.book.proofs.Reads.Calls.{own_read}
-use Rattle.book.proofs.Reads.Signals.{all_long_set}
-use Rattle.book.proofs.Reads.Takes.{IsReceiving, receiving, posted_address}
+use Rattle.book.proofs.Calling.Calls.{own_read}
+use Rattle.book.proofs.Calling.Signals.{all_long_set}
+use Rattle.book.proofs.Calling.Takes.{IsReceiving, receiving, posted_address}
 use Rattle.book.proofs.book.Book.take_message.Goals as goal
 
 pub append-requires-clause-processor : goal.append-requires-clause-processor

@@ -9,12 +9,12 @@ use Rattle.vtime.specs.Times.{join}
 use Rattle.interval.specs.Intervals.{SentRecord}
 use Rattle.interval.specs.Closings.{between}
 use Rattle.transit.specs.Letters.Kind.{signal}
-use Rattle.book.specs.Events.{event}
+use Rattle.journal.specs.Did.{event}
 use Rattle.book.specs.Laws.{trimmed_book}
 use Rattle.book.specs.Transitions.{trimmed_by, book_signalled}
 use Rattle.book.specs.declared.refused.Refused.TheVariants.{NotYet, NoMemory}
-use Rattle.book.proofs.Reads.Calls.{own_read, same_default}
-use Rattle.book.proofs.Reads.Signals.{IsWatching, watching, all_long_set, log_is, signalled_is}
+use Rattle.book.proofs.Calling.Calls.{own_read, same_default}
+use Rattle.book.proofs.Calling.Signals.{IsWatching, watching, all_long_set, log_is, signalled_is}
 use Rattle.book.proofs.book.Book.take_signal.Goals as goal
 
 pub index-requires : goal.index-requires

@@ -23,7 +23,7 @@ use Rattle.book.proofs.Parts.Mail.{idle_mail}
 use Rattle.book.proofs.Parts.Lines.{idle_no_ask, not_in_line}
 use Rattle.book.proofs.Parts.ClosedIntervals.{between_pushed, between_same}
 use Rattle.book.proofs.Parts.Told.{is_idle, is_processor, own_stamp, own_number, tick_grows}
-use Rattle.book.proofs.Reads.Calls.{standing, same_default}
+use Rattle.book.proofs.Calling.Calls.{standing, same_default}
 
 -- p's timestamp after its closing event
 own_ticked : (b : State) (p : ℕ) → p < length b.times → slice_index_or (slice_set b.times p (tick (time_of b p) p)) p [] ≡ tick (time_of b p) p

@@ -15,7 +15,7 @@ use Rattle.barrier.specs.Episodes.{Episodes}
 use Rattle.barrier.specs.declared.episodes.Stage.{Stage}
 use Rattle.barrier.specs.declared.episodes.Stage.TheVariants.{Away, Free}
 use Rattle.transit.specs.Letters.{Letter}
-use Rattle.book.specs.Events.{event}
+use Rattle.journal.specs.Did.{event}
 use Rattle.book.specs.Mail.{IsPosted, Carries, IsMail}
 use Rattle.book.specs.Meetings.{IsAtStage}
 use Rattle.book.specs.State.{State, time_of}

@@ -14,7 +14,7 @@ use Rattle.journal.specs.Waits.{awaited}
 use Rattle.page.specs.Changes.{Changes}
 use Rattle.vtime.specs.Times.{tick}
 use Rattle.interval.specs.Closings.{Closings, pushed}
-use Rattle.book.specs.Events.{event}
+use Rattle.journal.specs.Did.{event}
 use Rattle.book.specs.Transitions.{handed_in, open_interval, closing}
 use Rattle.book.specs.State.{State, time_of}
 use Rattle.book.specs.Calls.{MayFlush, MayCall}

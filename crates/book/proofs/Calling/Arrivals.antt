@@ -18,7 +18,7 @@ use Rattle.interval.specs.Closings.{Closings, pushed}
 use Rattle.barrier.specs.Episodes.{Episodes, is_full, joined, arrived}
 use Rattle.barrier.specs.declared.episodes.Stage.TheVariants.{Away, Here}
 use Rattle.transit.specs.Letters.{Letter}
-use Rattle.book.specs.Events.{did}
+use Rattle.journal.specs.Did.{did}
 use Rattle.book.specs.Stamps.{AreAll}
 use Rattle.book.specs.Mail.{IsPosted}
 use Rattle.book.specs.Meetings.{IsAtStage}
@@ -29,7 +29,7 @@ use Rattle.book.specs.Told.{IsTold}
 use Rattle.book.proofs.Parts.Each.{item_at, is_at}
 use Rattle.book.proofs.Parts.Doings.{count_others}
 use Rattle.book.proofs.Parts.Mail.{idle_allowed, no_mail}
-use Rattle.book.proofs.Reads.Posting.{all_same}
+use Rattle.book.proofs.Calling.Posting.{all_same}
 use Rattle.book.proofs.Parts.Meetings.{stage_away, idle_counts, waits_there, all_true, arrived_stages}
 use Rattle.book.proofs.Parts.Told.{is_idle, is_processor, own_stamp, within_closing}
 

@@ -1,0 +1,14 @@
+-- The limits of the product that contracts of several crates name.
+use Rattle.std.specs.Prelude.{ℕ, ◌^◌}
+
+-- processors of a cluster
+abbrev pub most_processors : ℕ
+most_processors = 16
+
+-- events of a processor's open block
+abbrev pub most_in_block : ℕ
+most_in_block = 256
+
+-- events of a journal, but for what `finish` hands in
+abbrev pub most_events : ℕ
+most_events = 2 ^ 20
