@@ -2,6 +2,7 @@
 use Rattle.std.specs.Prelude.{ℕ, ◌≡◌, List, ◌++◌, map}
 use Rattle.journal.specs.declared.event.Event.{Event}
 use Rattle.journal.specs.declared.event.Kind.{Kind}
+use Rattle.journal.specs.Did.{event}
 use Rattle.journal.specs.Sizes.{Sizes}
 
 -- what contracts see of it: how many words it has, what was handed in, and the open block
@@ -14,14 +15,10 @@ pub record Machine : Type 0 where
 abbrev pub history : Machine → List Event
 history m = m.journal ++ m.block
 
--- processor 0 does this
-abbrev pub by_first : Kind → Event
-by_first kind = record { processor = 0; kind = kind }
-
 -- these calls were made
 pub record Calls (old new : Machine) (kinds : List Kind) : Type 0 where
   pub same_addresses : new.addresses ≡ old.addresses
-  pub more : history new ≡ history old ++ map by_first kinds
+  pub more : history new ≡ history old ++ map (event 0) kinds
 
 -- one processor and one page
 abbrev pub sizes_of_one : ℕ → Sizes
