@@ -6,7 +6,7 @@ use Rattle.journal.specs.declared.event.Kind.TheVariants.{Load, Store, Arrive, D
 use Rattle.lrc_script.specs.declared.script.Instruction.{Instruction}
 use Rattle.lrc_script.specs.declared.script.Instruction.TheVariants.{Add}
 use Rattle.journal.specs.Did.{event, did}
-use Rattle.lrc.specs.Machine.{Machine, history, Calls}
+use Rattle.lrc.specs.Machine.{Machine, history, Calls, after_barrier}
 use Rattle.lrc.specs.Follows.{AreEventsOf, AreEventsOfAll}
 use Rattle.lrc.specs.Alone.{DoesInstruction, DoesAll}
 
@@ -38,7 +38,7 @@ pub does_more : (a b c : Machine) (before : List Instruction) (i : Instruction) 
 does_more a b c before i all does = (all.0 ++ does.0, calls_then a b c all.0 does.0 all.1 does.1, all_more before i all.0 does.0 all.2 does.2)
 
 -- a barrier episode
-pub calls_barrier : (old new : Machine) → new ≡ record old { journal = did (did (history old) 0 Arrive) 0 Depart; block = [] } → Calls old new (Arrive ∷ Depart ∷ [])
+pub calls_barrier : (old new : Machine) → new ≡ after_barrier old → Calls old new (Arrive ∷ Depart ∷ [])
 calls_barrier old new is = record {
   same_addresses = ap (λ m. m.addresses) is;
   more = ap history is ∙ append-nil (did (did (history old) 0 Arrive) 0 Depart) ∙ append_assoc (history old) (event 0 Arrive ∷ []) (event 0 Depart ∷ []);

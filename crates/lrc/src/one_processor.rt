@@ -6,7 +6,7 @@ ghost use Rattle.journal.specs.InRange.{AddressInRange};
 ghost use Rattle.lrc.specs.History.{IsHistory};
 ghost use Rattle.lists.specs.Limits.{most_in_block, most_events};
 ghost use Rattle.journal.specs.Did.{did};
-ghost use Rattle.lrc.specs.Machine.{history};
+ghost use Rattle.lrc.specs.Machine.{history, after_call, after_flush, after_barrier, log_of};
 
 use journal::{Event, Journal, Kind};
 use std::alloc::{AllocError, Global};
@@ -71,7 +71,10 @@ fn append_all(journal: &mut Journal, events: &[Event])
     requires limit { length journal.old.events + length events.now ≤ 2 ^ 21 }
     requires processor { All (λ e. e.processor < journal.old.processors) events.now }
     requires address { All (λ e. AddressInRange journal.old.addresses e.kind) events.now }
-    ensures { journal.new ≡ record journal.old { events = journal.old.events ++ events.now; room = journal.old.room - length events.now } }
+    ensures { journal.new ≡ record journal.old {
+      events = journal.old.events ++ events.now;
+      room = journal.old.room - length events.now;
+    } }
 {
     for event in events {
         journal.append(*event);
@@ -105,7 +108,7 @@ impl OneProcessor {
     /// The word at an address. BlockFull where the open block has 256 events, and then all is as before.
     pub fn load(&mut self, address: usize) -> Result<u32, Refused>
         requires { address < self.old.addresses }
-        ensures ok { IfOk result (λ v. self.new ≡ record self.old { block = did self.old.block 0 (Kind.Load address v) }) }
+        ensures ok { IfOk result (λ v. self.new ≡ after_call self.old (Kind.Load address v)) }
         ensures err { OnErr result (self.new ≡ self.old) }
         ensures full { result ≡ Err Refused.BlockFull ↔ (length self.old.block ≡ most_in_block) }
         ensures only { IfErr result (λ e. e ≡ Refused.BlockFull) }
@@ -123,7 +126,7 @@ impl OneProcessor {
     /// all is as before.
     pub fn store(&mut self, address: usize, value: u32) -> Result<(), Refused>
         requires { address < self.old.addresses }
-        ensures ok { OnOk result (self.new ≡ record self.old { block = did self.old.block 0 (Kind.Store address value) }) }
+        ensures ok { OnOk result (self.new ≡ after_call self.old (Kind.Store address value)) }
         ensures err { OnErr result (self.new ≡ self.old) }
         ensures full { result ≡ Err Refused.BlockFull ↔ (length self.old.block ≡ most_in_block) }
         ensures only { IfErr result (λ e. e ≡ Refused.BlockFull) }
@@ -139,7 +142,7 @@ impl OneProcessor {
     /// Hands the open block in. JournalFull where the journal would have more than 2^20 events. After an
     /// error all is as before.
     pub fn flush(&mut self) -> Result<(), Refused>
-        ensures ok { OnOk result (self.new ≡ record self.old { journal = history self.old; block = [] }) }
+        ensures ok { OnOk result (self.new ≡ after_flush self.old) }
         ensures err { OnErr result (self.new ≡ self.old) }
         ensures full { result ≡ Err Refused.JournalFull ↔ (most_events < length (history self.old)) }
     {
@@ -155,7 +158,7 @@ impl OneProcessor {
     /// Hands the open block in and passes a barrier, at which nobody else arrives. JournalFull where the
     /// journal would have more than 2^20 events. After an error all is as before.
     pub fn pass_barrier(&mut self) -> Result<(), Refused>
-        ensures ok { OnOk result (self.new ≡ record self.old { journal = did (did (history self.old) 0 Kind.Arrive) 0 Kind.Depart; block = [] }) }
+        ensures ok { OnOk result (self.new ≡ after_barrier self.old) }
         ensures err { OnErr result (self.new ≡ self.old) }
         ensures full { result ≡ Err Refused.JournalFull ↔ (most_events < length (history self.old) + 2) }
     {
@@ -179,7 +182,7 @@ impl OneProcessor {
 
     /// Hands the open block in and answers a copy of the journal. JournalFull as `flush`.
     pub fn audit(&mut self) -> Result<Journal, Refused>
-        ensures journal { IfOk result (λ j. j ≡ record { processors = 1; addresses = self.old.addresses; events = history self.old; room = 0 }) }
+        ensures journal { IfOk result (λ j. j ≡ log_of self.old) }
         ensures history { IfOk result (λ j. IsHistory self.old.addresses j.events) }
         ensures full { result ≡ Err Refused.JournalFull ↔ (most_events < length (history self.old)) }
     {

@@ -11,7 +11,7 @@ use Rattle.lrc_script.specs.declared.script.Instruction.{Instruction}
 use Rattle.lrc_script.specs.declared.script.Instruction.TheVariants as instruction
 use Rattle.lrc_script.specs.declared.line.Keyword.{Keyword}
 use Rattle.lrc_script.specs.declared.line.Keyword.TheVariants as keyword
-use Rattle.lrc_script.specs.Plan.{Plan}
+use Rattle.lrc_script.specs.Plan.{Plan, head_plan}
 use Rattle.lrc_script.specs.Lawful.{addresses, AreSizes, IsInRange, MayStandAfter, IsSection, address_of, lock_of, flag_of}
 use Rattle.lrc_script.specs.Text.{Line, cluster_line, section_line, instruction_line, show_line, section_lines}
 use Rattle.lrc_script.specs.Front.{Front, Nothing, Headed, Within, Whole, IsBegun, IsHeaded, IsWithin, lines_before}
@@ -19,7 +19,6 @@ use Rattle.lrc_script.specs.Reading.{are_sizes, is_due, sized, headed, first_sec
 use Rattle.lrc_script.proofs.Reading.Numbers.{AreWords}
 use Rattle.lrc_script.proofs.Lawful.{sizes_from_test, sizes_small, section_with, sizes_with, section_over, sizes_over, nothing_stands}
 use Rattle.lrc_script.proofs.Text.{section_lines-append}
-use Rattle.lrc_script.proofs.Front.Passes.{head_plan}
 use Rattle.lrc_script.proofs.Reading.Keywords.{spelled}
 
 guard_ok : {A : Type 0} (b : Bool) (x y : A) (fault : ScriptFault) → cond b (Ok x) (Err fault) ≡ Ok y → (b ≡ true) × (x ≡ y)

@@ -10,14 +10,13 @@ use Rattle.lrc_script.specs.declared.script.Instruction.{Instruction}
 use Rattle.lrc_script.specs.declared.script.Instruction.TheVariants as instruction
 use Rattle.lrc_script.specs.declared.line.Keyword.{Keyword}
 use Rattle.lrc_script.specs.declared.line.Keyword.TheVariants as keyword
-use Rattle.lrc_script.specs.Plan.{Plan}
+use Rattle.lrc_script.specs.Plan.{Plan, head_plan}
 use Rattle.lrc_script.specs.Lawful.{addresses, AreSizes, address_of, lock_of, flag_of, holds}
 use Rattle.lrc_script.specs.Text.{Line, line_bytes, section_line, instruction_line, show_line}
 use Rattle.lrc_script.specs.Front.{Front, Nothing, Headed, Within, Whole, IsBegun}
 use Rattle.lrc_script.specs.Faults.{Allows, IsOutOfTurn, AreNoSizes, SaysWithin, Says, IsLineFault, IsFaultBehind, IsFaultAt, IsFault}
 use Rattle.lrc_script.specs.Reading.{are_sizes, is_due, headed, first_section, next_section, ended, is_past, takes_held, gives_unheld, refusal, entered, closed, step, after}
 use Rattle.lrc_script.proofs.Lawful.{sizes_test}
-use Rattle.lrc_script.proofs.Front.Passes.{head_plan}
 use Rattle.lrc_script.proofs.Reading.Keywords.{spelled, keyword_spelled, due_allows, allows_due}
 use Rattle.lrc_script.proofs.Reading.Cases.{Reading, Shapeless, NoNumber, Reached, reading}
 use Rattle.lrc_script.proofs.Faults.Adds.{Adds, command_adds}

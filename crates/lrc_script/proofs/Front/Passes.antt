@@ -9,7 +9,7 @@ use Rattle.std.proofs.lemmas.List.Elements.{recursion_from_All, All-from_recursi
 use Rattle.lrc_script.specs.declared.script.Instruction.{Instruction}
 use Rattle.lrc_script.specs.declared.script.Instruction.TheVariants as instruction
 use Rattle.lrc_script.specs.declared.line.Keyword.TheVariants as keyword
-use Rattle.lrc_script.specs.Plan.{Plan}
+use Rattle.lrc_script.specs.Plan.{Plan, head_plan}
 use Rattle.lrc_script.specs.Lawful.{addresses, AreSizes, IsInRange, MayStandAfter, IsSection, IsLawfulButUneven}
 use Rattle.lrc_script.specs.Text.{Line, cluster_line, section_line, instruction_line, show_line, section_lines, lines_of}
 use Rattle.lrc_script.specs.Front.{Front, Nothing, Headed, Within, Whole, IsBegun, IsHeaded, IsWithin, lines_before}
@@ -18,10 +18,6 @@ use Rattle.lrc_script.proofs.Reading.Numbers.{AreWords}
 use Rattle.lrc_script.proofs.Reading.Lines.{Goes, goes}
 use Rattle.lrc_script.proofs.Lawful.{sizes_test, sizes_small, sizes_over, section_over, with_sections, section_with, sizes_with}
 use Rattle.lrc_script.proofs.Front.Runs.{Passes, Passes-append}
-
--- a plan of sizes alone
-abbrev pub head_plan : ℕ → ℕ → ℕ → ℕ → ℕ → Plan
-head_plan p n w l g = record { processors = p; pages = n; words = w; locks = l; flags = g; sections = []; shown = [] }
 
 pub head_is : (s : Plan) → IsHeaded s → s ≡ head_plan s.processors s.pages s.words s.locks s.flags
 head_is s h = ap (λ (x : List (List Instruction)). record s { sections = x }) h.no_sections ∙ ap (λ (x : List ℕ). record s { sections = []; shown = x }) h.none_shown
