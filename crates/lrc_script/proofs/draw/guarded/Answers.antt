@@ -4,7 +4,7 @@ use Rattle.lrc_script.specs.declared.draw.Style.TheVariants.{Guarded}
 use Rattle.lrc_script.specs.Plan.{plan_of}
 use Rattle.lrc_script.specs.Lawful.{IsLawful}
 use Rattle.lrc_script.specs.Draw.{drawn, seeded}
-use Rattle.lrc_script.proofs.DrawnLawful.{lawful_from}
+use Rattle.lrc_script.proofs.Drawn.Lawful.{lawful_from}
 use Rattle.lrc_script.proofs.draw.guarded.Goals as goal
 
 pub returns-clause-lawful : goal.returns-clause-lawful

@@ -2,24 +2,27 @@
 use Rattle.std.proofs.Common.{◌≡◌, ◌<◌, ◌*◌, ◌∙◌, ℕ, List, [], ◌∷◌, ◌++◌, length, map, false, refl, sym, ap, subst, arith, append_assoc, get_or}
 use Rattle.std.specs.Prelude.{Some, slice_get, filter, not, cond, ◌==◌}
 use Rattle.std.proofs.lemmas.List.Elements.{filter-append}
+use Rattle.std.proofs.lemmas.Bool.{false≢true}
 use Rattle.std.proofs.lemmas.Option.{slice_get_within, same_Some, slice_get_read}
 use Rattle.journal.specs.declared.event.Event.{Event}
 use Rattle.journal.specs.declared.event.Kind.{Kind}
-use Rattle.journal.specs.declared.event.Kind.TheVariants as event
+use Rattle.journal.specs.declared.event.Kind.TheVariants as kind
 use Rattle.journal.specs.Events.{part}
 use Rattle.lrc_script.specs.declared.script.Instruction.{Instruction}
 use Rattle.lrc_script.specs.declared.script.Instruction.TheVariants.{Load, Store, Add, Acquire, Release, Barrier, Set, Await}
 use Rattle.lrc_script.specs.Plan.{Plan}
 use Rattle.lrc_script.specs.Lawful.{IsLawful, IsSection, IsInRange}
-use Rattle.lrc.specs.Machine.{Machine, history, by_first, Calls, sizes_of_one}
+use Rattle.journal.specs.Did.{event}
+use Rattle.lrc.specs.Machine.{Machine, history, Calls, sizes_of_one}
 use Rattle.lrc.specs.Served.{IsServed}
 use Rattle.lrc.specs.History.{IsHistory}
-use Rattle.lrc.specs.Follows.{sizes_of, is_fetch, calls_of, load_of, AreEventsOf, AreEventsOfAll, FollowsSection, Follows, IsWithin}
+use Rattle.lrc.specs.Follows.{sizes_of, is_fetch, calls_of, load_of, AreEventsOf, AreEventsOfAll, FollowsSection, Follows}
+use Rattle.lrc.specs.Alone.{IsWithin}
 use Rattle.journal.specs.Traffic.{messages, records, words}
 use Rattle.lrc.specs.declared.report.Report.{Report}
 use Rattle.lrc.specs.Runs.{IsReportOf}
 use Rattle.lrc.proofs.Alone.{IsAlone, explained_alone, race_free_alone}
-use Rattle.lrc.proofs.Calling.{calls_then}
+use Rattle.lrc.proofs.Calls.{calls_then}
 
 -- none of these is a fetch
 abbrev pub NoFetch : List Kind → Type 0
@@ -48,32 +51,32 @@ no_fetch_loads [] = refl
 no_fetch_loads (x ∷ loads) = ap (λ ks. load_of x ∷ ks) (no_fetch_loads loads)
 
 -- all events of processor 0 are its part
-part_first : (kinds : List Kind) → part (map by_first kinds) 0 ≡ map by_first kinds
+part_first : (kinds : List Kind) → part (map (event 0) kinds) 0 ≡ map (event 0) kinds
 part_first [] = refl
-part_first (k ∷ kinds) = ap (λ es. by_first k ∷ es) (part_first kinds)
+part_first (k ∷ kinds) = ap (λ es. event 0 k ∷ es) (part_first kinds)
 
-kinds_first : (kinds : List Kind) → map (λ (e : Event). e.kind) (map by_first kinds) ≡ kinds
+kinds_first : (kinds : List Kind) → map (λ (e : Event). e.kind) (map (event 0) kinds) ≡ kinds
 kinds_first [] = refl
 kinds_first (k ∷ kinds) = ap (λ ks. k ∷ ks) (kinds_first kinds)
 
 -- what processor 0 called
-pub calls_first : (kinds : List Kind) → NoFetch kinds → calls_of (map by_first kinds) 0 ≡ kinds
+pub calls_first : (kinds : List Kind) → NoFetch kinds → calls_of (map (event 0) kinds) 0 ≡ kinds
 calls_first kinds none = rw (part_first kinds, kinds_first kinds) none
 
 -- all that a run calls
 abbrev pub all_calls : List Kind → List (ℕ × ℕ) → List Kind
-all_calls own loads = own ++ event.Arrive ∷ event.Depart ∷ map load_of loads
+all_calls own loads = own ++ kind.Arrive ∷ kind.Depart ∷ map load_of loads
 
-pub calls_run : (own : List Kind) (loads : List (ℕ × ℕ)) (section : List Instruction) → AreEventsOfAll section own → calls_of (map by_first (all_calls own loads)) 0 ≡ all_calls own loads
+pub calls_run : (own : List Kind) (loads : List (ℕ × ℕ)) (section : List Instruction) → AreEventsOfAll section own → calls_of (map (event 0) (all_calls own loads)) 0 ≡ all_calls own loads
 calls_run own loads section are =
-    calls_first (all_calls own loads) (no_fetch-append own (event.Arrive ∷ event.Depart ∷ map load_of loads) (no_fetch_all section own are) (ap (λ ks. event.Arrive ∷ event.Depart ∷ ks) (no_fetch_loads loads)))
+    calls_first (all_calls own loads) (no_fetch-append own (kind.Arrive ∷ kind.Depart ∷ map load_of loads) (no_fetch_all section own are) (ap (λ ks. kind.Arrive ∷ kind.Depart ∷ ks) (no_fetch_loads loads)))
 
 -- the journal after all calls
-pub run_history : (start first second last : Machine) (own : List Kind) (loads : List (ℕ × ℕ)) → history start ≡ [] → Calls start first own → Calls first second (event.Arrive ∷ event.Depart ∷ []) → Calls second last (map load_of loads) → history last ≡ map by_first (all_calls own loads)
+pub run_history : (start first second last : Machine) (own : List Kind) (loads : List (ℕ × ℕ)) → history start ≡ [] → Calls start first own → Calls first second (kind.Arrive ∷ kind.Depart ∷ []) → Calls second last (map load_of loads) → history last ≡ map (event 0) (all_calls own loads)
 run_history start first second last own loads none one two three =
-    let front = calls_then start first second own (event.Arrive ∷ event.Depart ∷ []) one two in
-    let all = calls_then start second last (own ++ event.Arrive ∷ event.Depart ∷ []) (map load_of loads) front three in
-    all.more ∙ ap (λ h. h ++ map by_first ((own ++ event.Arrive ∷ event.Depart ∷ []) ++ map load_of loads)) none ∙ ap (map by_first) (append_assoc own (event.Arrive ∷ event.Depart ∷ []) (map load_of loads))
+    let front = calls_then start first second own (kind.Arrive ∷ kind.Depart ∷ []) one two in
+    let all = calls_then start second last (own ++ kind.Arrive ∷ kind.Depart ∷ []) (map load_of loads) front three in
+    all.more ∙ ap (λ h. h ++ map (event 0) ((own ++ kind.Arrive ∷ kind.Depart ∷ []) ++ map load_of loads)) none ∙ ap (map (event 0)) (append_assoc own (kind.Arrive ∷ kind.Depart ∷ []) (map load_of loads))
 
 -- a lawful script has one section
 pub only_section : (s : Plan) (p : ℕ) (section : List Instruction) → IsLawful s → IsServed s → slice_get s.sections p ≡ Some section → p ≡ 0
@@ -90,11 +93,11 @@ sizes_one s served =
     rw (served.processors, served.pages, served.locks, served.flags) (ap sizes_of_one e)
 
 -- a run follows the script
-pub run_follows : (s : Plan) (own : List Kind) (loads : List (ℕ × ℕ)) (section : List Instruction) → IsLawful s → IsServed s → slice_get s.sections 0 ≡ Some section → AreEventsOfAll section own → map (λ (x : ℕ × ℕ). x.0) loads ≡ s.shown → Follows s (map by_first (all_calls own loads))
+pub run_follows : (s : Plan) (own : List Kind) (loads : List (ℕ × ℕ)) (section : List Instruction) → IsLawful s → IsServed s → slice_get s.sections 0 ≡ Some section → AreEventsOfAll section own → map (λ (x : ℕ × ℕ). x.0) loads ≡ s.shown → Follows s (map (event 0) (all_calls own loads))
 run_follows s own loads section lawful served at are shown p other at_p =
     let p_is = only_section s p other lawful served at_p in
     let same : section ≡ other = same_Some section other (sym at ∙ ap (λ q. slice_get s.sections q) (sym p_is) ∙ at_p) in
-    let P : ℕ → Type 0 = λ q. FollowsSection other (cond (q == 0) s.shown []) (calls_of (map by_first (all_calls own loads)) q) in
+    let P : ℕ → Type 0 = λ q. FollowsSection other (cond (q == 0) s.shown []) (calls_of (map (event 0) (all_calls own loads)) q) in
     let base : P 0 = record {
       own = own;
       loads = loads;
@@ -129,20 +132,45 @@ alone addresses h history k e at =
     let below = (history.well_formed k e at).processor in
     omega arith
 
--- the report of a run
-pub report_is : (s : Plan) (section : List Instruction) (own : List Kind) (r : Report) → IsLawful s → IsServed s → slice_get s.sections 0 ≡ Some section → AreEventsOfAll section own → r.journal.events ≡ map by_first (all_calls own r.shown.items) → IsHistory (s.pages * s.words) r.journal.events → r.racy ≡ false → map (λ (x : ℕ × ℕ). x.0) r.shown.items ≡ s.shown → (r.traffic.messages ≡ messages r.journal.events) × (r.traffic.records ≡ records r.journal.events) × (r.traffic.words ≡ words r.journal.events) → IsReportOf s r
-report_is s section own r lawful served at are events history quiet shown traffic = record {
-  well_formed = rw (sizes_one s served) history.well_formed;
-  explained = explained_alone (s.pages * s.words) r.journal.events 0 (alone (s.pages * s.words) r.journal.events history) history.replays;
-  follows = rw events (run_follows s own r.shown.items section lawful served at are shown);
-  not_racy = quiet;
-  race_free = race_free_alone r.journal.events 0 (alone (s.pages * s.words) r.journal.events history);
-  addresses = shown;
-  replies = rw events (record {
-    front = own ++ event.Arrive ∷ event.Depart ∷ [];
-    ends = calls_run own r.shown.items section are ∙ sym (append_assoc own (event.Arrive ∷ event.Depart ∷ []) (map load_of r.shown.items));
-  });
-  messages_are = traffic.0;
-  records_are = traffic.1;
-  words_are = traffic.2;
-}
+-- what a run of processor 0 alone has to show for its report
+pub record IsRun (s : Plan) (section : List Instruction) (own : List Kind) (r : Report) : Type 0 where
+  pub lawful : IsLawful s
+  pub served : IsServed s
+  pub section_at : slice_get s.sections 0 ≡ Some section
+  pub does : AreEventsOfAll section own
+  pub processors : r.journal.processors ≡ 1
+  pub addresses_are : r.journal.addresses ≡ s.pages * s.words
+  pub events : r.journal.events ≡ map (event 0) (all_calls own r.shown.items)
+  pub history : IsHistory (s.pages * s.words) r.journal.events
+  pub quiet : r.racy ≡ false
+  pub shown : map (λ (x : ℕ × ℕ). x.0) r.shown.items ≡ s.shown
+  pub messages_are : r.traffic.messages ≡ messages r.journal.events
+  pub records_are : r.traffic.records ≡ records r.journal.events
+  pub words_are : r.traffic.words ≡ words r.journal.events
+
+-- its report
+pub report_is : (s : Plan) (section : List Instruction) (own : List Kind) (r : Report) → IsRun s section own r → IsReportOf s r
+report_is s section own r run =
+    let h = r.journal.events in
+    let first = alone (s.pages * s.words) h run.history in
+    let free = race_free_alone h 0 first in
+    record {
+      processors = run.processors ∙ sym run.served.processors;
+      addresses_are = run.addresses_are;
+      history = h;
+      holds = refl;
+      tells = record {
+        well_formed = rw (sizes_one s run.served) run.history.well_formed;
+        explained = explained_alone (s.pages * s.words) h 0 first run.history.replays;
+        follows = rw run.events (run_follows s own r.shown.items section run.lawful run.served run.section_at run.does run.shown);
+        racy = (λ yes. absurd (false≢true (rw run.quiet at yes)), λ race. absurd (free race.0 race.1 race.2));
+        shown_addresses = run.shown;
+        replies = rw run.events (record {
+          front = own ++ kind.Arrive ∷ kind.Depart ∷ [];
+          ends = calls_run own r.shown.items section run.does ∙ sym (append_assoc own (kind.Arrive ∷ kind.Depart ∷ []) (map load_of r.shown.items));
+        });
+        messages_are = run.messages_are;
+        records_are = run.records_are;
+        words_are = run.words_are;
+      };
+    }

@@ -4,14 +4,11 @@ use Rattle.std.specs.Prelude.{All, Some, slice_get}
 use Rattle.std.specs.Global.{Vec}
 use Rattle.std.proofs.lemmas.List.{take_more, length-map, length-append, get_or-map, get_or_default}
 use Rattle.lrc_script.specs.declared.script.Instruction.{Instruction}
-use Rattle.lrc_script.specs.Plan.{Plan}
+use Rattle.lrc_script.specs.Plan.{Plan, items_of}
 use Rattle.lrc_script.specs.Lawful.{barriers, IsEven}
 use Rattle.lrc_script.specs.Text.{Line, section_line, instruction_line, section_lines}
 use Rattle.lrc_script.specs.Faults.{IsUneven}
-use Rattle.lrc_script.proofs.Adds.{section_lines-append}
-
-abbrev pub items_of : List (Vec Instruction) → List (List Instruction)
-items_of sections = map (λ section. section.items) sections
+use Rattle.lrc_script.proofs.Text.{section_lines-append}
 
 -- the first sections have as many barriers, and the next one's head is this line
 pub record IsAlike (sections : List (Vec Instruction)) (count expected line : ℕ) : Type 0 where

@@ -1,98 +1,23 @@
 -- The lines of a script lead from nothing to the whole script.
-use Rattle.std.proofs.Common.{◌≡◌, ℕ, suc, ◌+◌, ◌*◌, ◌<◌, ◌≤◌, Bool, true, false, ◌&&◌, cond, eqb, ltb, leb, List, [], ◌∷◌, ◌++◌, length, map, None, refl, sym, ap, subst, ◌∙◌, append_assoc, arith}
+use Rattle.std.proofs.Common.{◌≡◌, ℕ, suc, ◌+◌, ◌<◌, ◌≤◌, Bool, true, false, ◌&&◌, cond, eqb, ltb, leb, List, [], ◌∷◌, ◌++◌, length, map, None, refl, sym, ap, subst, ◌∙◌, append_assoc, arith}
 use Rattle.std.specs.Prelude.{All, codes}
 use Rattle.std.specs.List.{AllByRecursion, list_any}
 use Rattle.std.proofs.lemmas.Bool.{eqb-true}
 use Rattle.std.proofs.lemmas.Bool.Decides.{nat_tests}
-use Rattle.std.proofs.Math.Nat.{mul-le-mul}
 use Rattle.std.proofs.lemmas.List.{append-nil, length-append}
 use Rattle.std.proofs.lemmas.List.Elements.{recursion_from_All, All-from_recursion, All-weaker}
 use Rattle.lrc_script.specs.declared.script.Instruction.{Instruction}
 use Rattle.lrc_script.specs.declared.script.Instruction.TheVariants as instruction
 use Rattle.lrc_script.specs.declared.line.Keyword.TheVariants as keyword
-use Rattle.lrc_script.specs.Plan.{Plan}
+use Rattle.lrc_script.specs.Plan.{Plan, head_plan}
 use Rattle.lrc_script.specs.Lawful.{addresses, AreSizes, IsInRange, MayStandAfter, IsSection, IsLawfulButUneven}
 use Rattle.lrc_script.specs.Text.{Line, cluster_line, section_line, instruction_line, show_line, section_lines, lines_of}
 use Rattle.lrc_script.specs.Front.{Front, Nothing, Headed, Within, Whole, IsBegun, IsHeaded, IsWithin, lines_before}
 use Rattle.lrc_script.specs.Reading.{are_sizes, refusal, closed, step}
-use Rattle.lrc_script.proofs.Numbers.{and_true, AreWords}
-use Rattle.lrc_script.proofs.Lines.{Goes, goes}
-use Rattle.lrc_script.proofs.Run.{Passes, Passes-append}
-
--- the test for sizes
-pub sizes_test : (s : Plan) → AreSizes s → are_sizes s ≡ true
-sizes_test s h = grind (arith, nat_tests, h.some_processors, h.most_processors, h.some_pages, h.most_pages, h.some_words, h.most_words, h.locks, h.flags)
-
-from_leb : (a b : ℕ) → leb a b ≡ true → a ≤ b
-from_leb a b e = grind (arith, nat_tests, e)
-
-pub sizes_from_test : (s : Plan) → are_sizes s ≡ true → AreSizes s
-sizes_from_test s e =
-    let h = and_true (leb 1 s.processors && leb s.processors 16 && leb 1 s.pages && leb s.pages 64 && leb 1 s.words && leb s.words 64 && leb s.locks 32) (leb s.flags 32) e in
-    let g = and_true (leb 1 s.processors && leb s.processors 16 && leb 1 s.pages && leb s.pages 64 && leb 1 s.words && leb s.words 64) (leb s.locks 32) h.0 in
-    let f = and_true (leb 1 s.processors && leb s.processors 16 && leb 1 s.pages && leb s.pages 64 && leb 1 s.words) (leb s.words 64) g.0 in
-    let d = and_true (leb 1 s.processors && leb s.processors 16 && leb 1 s.pages && leb s.pages 64) (leb 1 s.words) f.0 in
-    let c = and_true (leb 1 s.processors && leb s.processors 16 && leb 1 s.pages) (leb s.pages 64) d.0 in
-    let b = and_true (leb 1 s.processors && leb s.processors 16) (leb 1 s.pages) c.0 in
-    let a = and_true (leb 1 s.processors) (leb s.processors 16) b.0 in
-    record {
-      some_processors = from_leb 1 s.processors a.0;
-      most_processors = from_leb s.processors 16 a.1;
-      some_pages = from_leb 1 s.pages b.1;
-      most_pages = from_leb s.pages 64 c.1;
-      some_words = from_leb 1 s.words d.1;
-      most_words = from_leb s.words 64 f.1;
-      locks = from_leb s.locks 32 g.1;
-      flags = from_leb s.flags 32 h.1;
-    }
-
--- how large sizes are
-pub record AreSmall (s : Plan) : Type 0 where
-  pub some : 0 < s.processors
-  pub processors : s.processors ≤ 16
-  pub pages : s.pages ≤ 64
-  pub words : s.words ≤ 64
-  pub locks : s.locks ≤ 32
-  pub flags : s.flags ≤ 32
-  pub address : 0 < addresses s
-  pub addresses_fit : addresses s ≤ 4096
-
-product_small : (a b : ℕ) → 1 ≤ a → a ≤ 64 → 1 ≤ b → b ≤ 64 → (0 < a * b) × (a * b ≤ 4096)
-product_small a b some_a most_a some_b most_b = (grind (arith, mul-le-mul), grind (arith, mul-le-mul))
-
-pub sizes_small : (s : Plan) → AreSizes s → AreSmall s
-sizes_small s h =
-    let product = product_small s.pages s.words h.some_pages h.most_pages h.some_words h.most_words in
-    record {
-      some = h.some_processors;
-      processors = h.most_processors;
-      pages = h.most_pages;
-      words = h.most_words;
-      locks = h.locks;
-      flags = h.flags;
-      address = product.0;
-      addresses_fit = product.1;
-    }
-
--- sections and shown addresses don't change what sizes and sections need
-pub sizes_over : (s : Plan) (sections : List (List Instruction)) (shown : List ℕ) → AreSizes s → AreSizes (record s { sections = sections; shown = shown })
-sizes_over s sections shown h = record {
-  some_processors = h.some_processors;
-  most_processors = h.most_processors;
-  some_pages = h.some_pages;
-  most_pages = h.most_pages;
-  some_words = h.some_words;
-  most_words = h.most_words;
-  locks = h.locks;
-  flags = h.flags;
-}
-
-pub section_over : (s : Plan) (sections : List (List Instruction)) (shown : List ℕ) (is : List Instruction) → IsSection s is → IsSection (record s { sections = sections; shown = shown }) is
-section_over s sections shown is h = record { most = h.most; in_range = h.in_range; holding = h.holding }
-
--- a plan of sizes alone
-abbrev pub head_plan : ℕ → ℕ → ℕ → ℕ → ℕ → Plan
-head_plan p n w l g = record { processors = p; pages = n; words = w; locks = l; flags = g; sections = []; shown = [] }
+use Rattle.lrc_script.proofs.Reading.Numbers.{AreWords}
+use Rattle.lrc_script.proofs.Reading.Lines.{Goes, goes}
+use Rattle.lrc_script.proofs.Lawful.{sizes_test, sizes_small, sizes_over, section_over, with_sections, section_with, sizes_with}
+use Rattle.lrc_script.proofs.Front.Runs.{Passes, Passes-append}
 
 pub head_is : (s : Plan) → IsHeaded s → s ≡ head_plan s.processors s.pages s.words s.locks s.flags
 head_is s h = ap (λ (x : List (List Instruction)). record s { sections = x }) h.no_sections ∙ ap (λ (x : List ℕ). record s { sections = []; shown = x }) h.none_shown
@@ -212,10 +137,6 @@ show_goes s is shown sizes one_each some most below =
 
 -- ---- whole sections
 
--- the same sizes, with other sections
-abbrev pub with_sections : Plan → List (List Instruction) → Plan
-with_sections s sections = record s { sections = sections }
-
 -- what each instruction of a list needs
 abbrev pub StandAfter : Plan → List Instruction → List Instruction → Type 0
 StandAfter s before after = AllByRecursion (IsInRange s) after × (length before + length after ≤ 10000)
@@ -230,13 +151,6 @@ instructions_pass s before (i ∷ after) sizes h =
 
 section_passes : (s : Plan) (is : List Instruction) → AreSizes s → IsSection s is → Passes (Within s []) (map instruction_line is) (Within s is)
 section_passes s is sizes h = instructions_pass s [] is sizes (recursion_from_All (IsInRange s) is h.in_range, omega (arith, h.most), h.holding)
-
--- sections don't change what a section needs
-pub section_with : (s : Plan) (sections : List (List Instruction)) (is : List Instruction) → IsSection s is → IsSection (with_sections s sections) is
-section_with s sections is h = section_over s sections s.shown is h
-
-pub sizes_with : (s : Plan) (sections : List (List Instruction)) → AreSizes s → AreSizes (with_sections s sections)
-sizes_with s sections h = sizes_over s sections s.shown h
 
 -- the sections behind the one that is open
 sections_pass : (s : Plan) (done : List (List Instruction)) (open' : List Instruction) (rest : List (List Instruction)) (last : List Instruction) → AreSizes s → length done + length rest + 1 < s.processors → AllByRecursion (IsSection s) rest → IsSection s last

@@ -1,7 +1,8 @@
 -- What a fault says of the line that is refused.
-use Rattle.std.proofs.Common.{◌≡◌, ◌≢◌, ℕ, suc, ◌+◌, ◌≤◌, Bool, true, false, not, ◌&&◌, ◌||◌, cond, eqb, ltb, leb, List, [], ◌∷◌, length, Option, Some, None, Result, Ok, Err, refl, sym, ap, subst, ◌∙◌, arith, inl, inr, ◌⊎◌}
+use Rattle.std.proofs.Common.{◌≡◌, ◌≢◌, ℕ, suc, ◌+◌, ◌≤◌, Bool, true, false, ◌&&◌, ◌||◌, cond, eqb, ltb, leb, List, [], ◌∷◌, length, Option, Some, None, Result, Ok, Err, refl, sym, ap, subst, ◌∙◌, arith, inl, inr, ◌⊎◌}
 use Rattle.std.specs.Prelude.{Any, IsSomeAnd, codes}
 use Rattle.std.specs.List.{list_any}
+use Rattle.std.proofs.lemmas.Bool.{and_cases, both_ways, not-true}
 use Rattle.std.proofs.lemmas.Bool.Decides.{nat_tests}
 use Rattle.lrc_script.specs.declared.fault.ScriptFault.{ScriptFault}
 use Rattle.lrc_script.specs.declared.fault.ScriptFault.TheVariants as fault
@@ -9,16 +10,16 @@ use Rattle.lrc_script.specs.declared.script.Instruction.{Instruction}
 use Rattle.lrc_script.specs.declared.script.Instruction.TheVariants as instruction
 use Rattle.lrc_script.specs.declared.line.Keyword.{Keyword}
 use Rattle.lrc_script.specs.declared.line.Keyword.TheVariants as keyword
-use Rattle.lrc_script.specs.Plan.{Plan}
+use Rattle.lrc_script.specs.Plan.{Plan, head_plan}
 use Rattle.lrc_script.specs.Lawful.{addresses, AreSizes, address_of, lock_of, flag_of, holds}
 use Rattle.lrc_script.specs.Text.{Line, line_bytes, section_line, instruction_line, show_line}
 use Rattle.lrc_script.specs.Front.{Front, Nothing, Headed, Within, Whole, IsBegun}
 use Rattle.lrc_script.specs.Faults.{Allows, IsOutOfTurn, AreNoSizes, SaysWithin, Says, IsLineFault, IsFaultBehind, IsFaultAt, IsFault}
 use Rattle.lrc_script.specs.Reading.{are_sizes, is_due, headed, first_section, next_section, ended, is_past, takes_held, gives_unheld, refusal, entered, closed, step, after}
-use Rattle.lrc_script.proofs.Fronts.{sizes_test, head_plan}
-use Rattle.lrc_script.proofs.Keywords.{spelled, keyword_spelled, due_allows, allows_due}
-use Rattle.lrc_script.proofs.LineReading.{Reading, Shapeless, NoNumber, Reached, reading}
-use Rattle.lrc_script.proofs.Adds.{Adds, command_adds}
+use Rattle.lrc_script.proofs.Lawful.{sizes_test}
+use Rattle.lrc_script.proofs.Reading.Keywords.{spelled, keyword_spelled, due_allows, allows_due}
+use Rattle.lrc_script.proofs.Reading.Cases.{Reading, Shapeless, NoNumber, Reached, reading}
+use Rattle.lrc_script.proofs.Faults.Adds.{Adds, command_adds}
 
 -- a refused test
 refused_unless : {A : Type 0} (b : Bool) (x : A) (f g : ScriptFault) → cond b (Ok x) (Err f) ≡ Err g → (b ≡ false) × (f ≡ g)
@@ -30,17 +31,10 @@ refused_if : {A : Type 0} (b : Bool) (r : Result A ScriptFault) (f g : ScriptFau
 refused_if true r f g e = inl (refl, cc)
 refused_if false r f g e = inr (refl, e)
 
-false-true : (b : Bool) → b ≡ false → b ≡ true → ⊥
-false-true b e t = absurd cc
-
-and_false : (a b : Bool) → (a && b) ≡ false → (a ≡ false) ⊎ (b ≡ false)
-and_false true b e = inr e
-and_false false b e = inl refl
-
 -- ---- the cluster line
 
 no_sizes : (s : Plan) → are_sizes s ≡ false → AreSizes s → ⊥
-no_sizes s e h = false-true (are_sizes s) e (sizes_test s h)
+no_sizes s e h = both_ways (are_sizes s) e (sizes_test s h)
 
 headed_says : (ns : List ℕ) (g : ScriptFault) → (eqb (length ns) 4 || eqb (length ns) 5) ≡ true → headed ns ≡ Err g → (fault.BadSize ≡ g) × AreNoSizes ns
 headed_says [] g due e = absurd cc
@@ -54,7 +48,7 @@ headed_says (p ∷ n ∷ w ∷ l ∷ []) g due e =
 headed_says (p ∷ n ∷ w ∷ l ∷ k ∷ []) g due e =
     let s = head_plan p n w l k in
     let t = refused_unless (ltb 0 k && are_sizes s) (Headed s) _ g e in
-    (t.1, elim (and_false (ltb 0 k) (are_sizes s) t.0) [ inl z ↦ inl (grind (arith, nat_tests, z)) | inr z ↦ inr (no_sizes s z) ])
+    (t.1, elim (and_cases (ltb 0 k) (are_sizes s) t.0) [ inl z ↦ inl (grind (arith, nat_tests, z)) | inr z ↦ inr (no_sizes s z) ])
 headed_says (p ∷ n ∷ w ∷ l ∷ k ∷ m ∷ ns) g due e = absurd (grind (arith, nat_tests, due))
 
 -- ---- a section line
@@ -68,7 +62,7 @@ next_says : (s : Plan) (is : List Instruction) (ns : List ℕ) (g : ScriptFault)
 next_says s is [] g due e = absurd cc
 next_says s is (k ∷ []) g due e =
     let t = refused_unless (eqb k (length s.sections + 1) && ltb k s.processors) (Within (closed s is) []) _ g e in
-    (t.1, k, refl, elim (and_false (eqb k (length s.sections + 1)) (ltb k s.processors) t.0) [ inl z ↦ inl (λ same. grind (arith, nat_tests, z, same)) | inr z ↦ inr (grind (arith, nat_tests, z)) ])
+    (t.1, k, refl, elim (and_cases (eqb k (length s.sections + 1)) (ltb k s.processors) t.0) [ inl z ↦ inl (λ same. grind (arith, nat_tests, z, same)) | inr z ↦ inr (grind (arith, nat_tests, z)) ])
 next_says s is (k ∷ m ∷ ns) g due e = absurd (grind (arith, nat_tests, due))
 
 -- ---- the show line
@@ -100,12 +94,8 @@ held_says : (is : List Instruction) (i : Instruction) → takes_held is i ≡ tr
 held_says is (instruction.Acquire l) e = (l, refl, e)
 held_says is _ e = absurd cc
 
-not_true : (b : Bool) → not b ≡ true → b ≡ false
-not_true true e = absurd cc
-not_true false e = refl
-
 unheld_says : (is : List Instruction) (i : Instruction) → gives_unheld is i ≡ true → (l : ℕ) × (i ≡ instruction.Release l) × (holds is l ≡ false)
-unheld_says is (instruction.Release l) e = (l, refl, not_true _ e)
+unheld_says is (instruction.Release l) e = (l, refl, not-true _ e)
 unheld_says is _ e = absurd cc
 
 some_if : (b : Bool) (f g : ScriptFault) (rest : Option ScriptFault) → cond b (Some f) rest ≡ Some g → ((b ≡ true) × (f ≡ g)) ⊎ ((b ≡ false) × (rest ≡ Some g))

@@ -1,7 +1,8 @@
 -- What a line that is read adds to the lines before it.
-use Rattle.std.proofs.Common.{◌≡◌, ℕ, suc, ◌+◌, ◌<◌, Bool, true, false, not, ◌&&◌, ◌||◌, cond, eqb, ltb, leb, List, [], ◌∷◌, ◌++◌, length, map, Option, Some, None, Result, Ok, Err, refl, sym, ap, subst, ◌∙◌, append_assoc, arith, inl, inr, ◌⊎◌}
+use Rattle.std.proofs.Common.{◌≡◌, ℕ, ◌+◌, ◌<◌, Bool, true, false, ◌&&◌, ◌||◌, cond, eqb, ltb, leb, List, [], ◌∷◌, ◌++◌, length, map, Option, Some, None, Result, Ok, Err, refl, sym, ap, subst, ◌∙◌, append_assoc, arith, inl, inr, ◌⊎◌}
 use Rattle.std.specs.Prelude.{All, codes}
 use Rattle.std.specs.List.{AllByRecursion, list_any}
+use Rattle.std.proofs.lemmas.Bool.{and_parts, not-false, leb-false}
 use Rattle.std.proofs.lemmas.Bool.Decides.{nat_tests}
 use Rattle.std.proofs.lemmas.List.{append-nil, length-append, map_push}
 use Rattle.std.proofs.lemmas.List.Elements.{All-from_recursion, All-weaker, All-nil, All-push}
@@ -10,14 +11,15 @@ use Rattle.lrc_script.specs.declared.script.Instruction.{Instruction}
 use Rattle.lrc_script.specs.declared.script.Instruction.TheVariants as instruction
 use Rattle.lrc_script.specs.declared.line.Keyword.{Keyword}
 use Rattle.lrc_script.specs.declared.line.Keyword.TheVariants as keyword
-use Rattle.lrc_script.specs.Plan.{Plan}
+use Rattle.lrc_script.specs.Plan.{Plan, head_plan}
 use Rattle.lrc_script.specs.Lawful.{addresses, AreSizes, IsInRange, MayStandAfter, IsSection, address_of, lock_of, flag_of}
 use Rattle.lrc_script.specs.Text.{Line, cluster_line, section_line, instruction_line, show_line, section_lines}
 use Rattle.lrc_script.specs.Front.{Front, Nothing, Headed, Within, Whole, IsBegun, IsHeaded, IsWithin, lines_before}
 use Rattle.lrc_script.specs.Reading.{are_sizes, is_due, sized, headed, first_section, next_section, ended, is_past, takes_held, gives_unheld, refusal, entered, closed, step}
-use Rattle.lrc_script.proofs.Numbers.{and_true, AreWords}
-use Rattle.lrc_script.proofs.Fronts.{sizes_from_test, sizes_small, head_plan, section_with, sizes_with, section_over, sizes_over}
-use Rattle.lrc_script.proofs.Keywords.{spelled}
+use Rattle.lrc_script.proofs.Reading.Numbers.{AreWords}
+use Rattle.lrc_script.proofs.Lawful.{sizes_from_test, sizes_small, section_with, sizes_with, section_over, sizes_over, nothing_stands}
+use Rattle.lrc_script.proofs.Text.{section_lines-append}
+use Rattle.lrc_script.proofs.Reading.Keywords.{spelled}
 
 guard_ok : {A : Type 0} (b : Bool) (x y : A) (fault : ScriptFault) → cond b (Ok x) (Err fault) ≡ Ok y → (b ≡ true) × (x ≡ y)
 guard_ok true x y fault e = (refl, cc)
@@ -51,27 +53,13 @@ headed_adds (p ∷ n ∷ w ∷ l ∷ []) g e = sized_adds (head_plan p n w l 0) 
 headed_adds (p ∷ n ∷ w ∷ l ∷ k ∷ []) g e =
     let s = head_plan p n w l k in
     let both = guard_ok (ltb 0 k && are_sizes s) (Headed s) g _ e in
-    let parts = and_true (ltb 0 k) (are_sizes s) both.0 in
+    let parts = and_parts (ltb 0 k) (are_sizes s) both.0 in
     let some = parts.0 in
     let other : eqb k 0 ≡ false = grind (arith, nat_tests, some) in
-    sized_adds s (ltb 0 k && are_sizes s) _ g (λ t. sizes_from_test s (and_true (ltb 0 k) (are_sizes s) t).1) refl refl (cluster_of_five p n w l k other) e
+    sized_adds s (ltb 0 k && are_sizes s) _ g (λ t. sizes_from_test s (and_parts (ltb 0 k) (are_sizes s) t).1) refl refl (cluster_of_five p n w l k other) e
 headed_adds (p ∷ n ∷ w ∷ l ∷ k ∷ m ∷ ns) g e = absurd cc
 
 -- ---- a section line
-
-pub section_lines-append : (k : ℕ) (xs ys : List (List Instruction)) → section_lines k (xs ++ ys) ≡ section_lines k xs ++ section_lines (k + length xs) ys
-section_lines-append k [] ys = ap (λ (n : ℕ). section_lines n ys) (omega arith)
-section_lines-append k (x ∷ xs) ys =
-    let next : suc k + length xs ≡ k + suc (length xs) = omega arith in
-    ap (λ (ls : List Line). section_line k ∷ map instruction_line x ++ ls) (section_lines-append (suc k) xs ys ∙ ap (λ (n : ℕ). section_lines (suc k) xs ++ section_lines n ys) next)
-    ∙ sym (append_assoc (section_line k ∷ map instruction_line x) (section_lines (suc k) xs) (section_lines (k + suc (length xs)) ys))
-
-pub nothing_stands : (s : Plan) → IsSection s []
-nothing_stands s = record {
-  most = omega arith;
-  in_range = All-nil (IsInRange s);
-  holding = λ before i after e. absurd (omega (arith, ap (λ (is : List Instruction). length is) e, length-append before (i ∷ after)));
-}
 
 first_adds : (s : Plan) (ns : List ℕ) (g : Front) → IsHeaded s → first_section s ns ≡ Ok g → Adds (Headed s) (record { word = codes "p"; numbers = ns }) g
 first_adds s [] g h e = absurd cc
@@ -87,7 +75,7 @@ next_adds : (s : Plan) (is : List Instruction) (ns : List ℕ) (g : Front) → I
 next_adds s is [] g h e = absurd cc
 next_adds s is (k ∷ []) g h e =
     let t = guard_ok (eqb k (length s.sections + 1) && ltb k s.processors) (Within (closed s is) []) g _ e in
-    let both = and_true (eqb k (length s.sections + 1)) (ltb k s.processors) t.0 in
+    let both = and_parts (eqb k (length s.sections + 1)) (ltb k s.processors) t.0 in
     let test = both.0 in
     let room = both.1 in
     let count : 0 + length (s.sections ++ is ∷ []) ≡ k = grind (arith, nat_tests, test, length-append s.sections (is ∷ [])) in
@@ -121,7 +109,7 @@ show_adds s is ns g h due e =
     let near = refuse_ok (list_any (λ a. leb (addresses s) a) ns) _ g _ e in
     let few = refuse_ok (ltb 64 (length ns)) (Ok (Whole whole)) g _ near.1 in
     let same : Whole whole ≡ g = let last = few.1 in cc in
-    let both = and_true (leb 1 (length ns)) (eqb (length s.sections + 1) s.processors) due in
+    let both = and_parts (leb 1 (length ns)) (eqb (length s.sections + 1) s.processors) due in
     let some = both.0 in
     let all = both.1 in
     let short = few.0 in
@@ -176,13 +164,9 @@ passed s is i e =
     let g = none_if (leb 10000 (length is)) _ _ f.1 in
     record { address = a.0; lock = b.0; flag = c.0; held = d.0; unheld = f.0; room = g.0 }
 
-not_false : (b : Bool) → not b ≡ false → b ≡ true
-not_false true e = refl
-not_false false e = absurd cc
-
 may_from : (s : Plan) (is : List Instruction) (i : Instruction) → Passed s is i → MayStandAfter is i
 may_from s is (instruction.Acquire l) p = p.held
-may_from s is (instruction.Release l) p = not_false _ p.unheld
+may_from s is (instruction.Release l) p = not-false _ p.unheld
 may_from s is _ p = tt
 
 entered_adds : (s : Plan) (is : List Instruction) (i : Instruction) (g : Front) (o : Option ScriptFault) → refusal s is i ≡ o → IsWithin s is → (Passed s is i → IsInRange s i) → entered s is i o ≡ Ok g → Adds (Within s is) (instruction_line i) g
@@ -212,9 +196,6 @@ entered_adds s is i g None refused h ranges e =
       begun = record { sizes = h.sizes; sections = h.sections; last = section; one_each = h.one_each; none_shown = h.none_shown };
     })
 
-below_from : (a n : ℕ) → leb n a ≡ false → a < n
-below_from a n e = grind (arith, nat_tests, e)
-
 -- what a keyword and its numbers add
 pub command_adds : (f : Front) (k : Keyword) (ns : List ℕ) (g : Front) → IsBegun f → is_due f k (length ns) ≡ true → AreWords ns → step f k ns ≡ Ok g → Adds f (record { word = spelled k; numbers = ns }) g
 unfolding step
@@ -224,21 +205,21 @@ command_adds (Headed s) keyword.Section ns g h due small e = first_adds s ns g h
 command_adds (Headed s) _ ns g h due small e = absurd cc
 command_adds (Within s is) keyword.Section ns g h due small e = next_adds s is ns g h e
 command_adds (Within s is) keyword.Show ns g h due small e = show_adds s is ns g h due e
-command_adds (Within s is) keyword.Load (a ∷ []) g h due small e = entered_adds s is (instruction.Load a) g _ refl h (λ p. below_from a (addresses s) p.address) e
+command_adds (Within s is) keyword.Load (a ∷ []) g h due small e = entered_adds s is (instruction.Load a) g _ refl h (λ p. leb-false (addresses s) a p.address) e
 command_adds (Within s is) keyword.Load _ g h due small e = absurd cc
-command_adds (Within s is) keyword.Store (a ∷ v ∷ []) g h due small e = entered_adds s is (instruction.Store a v) g _ refl h (λ p. (below_from a (addresses s) p.address, small.1.0)) e
+command_adds (Within s is) keyword.Store (a ∷ v ∷ []) g h due small e = entered_adds s is (instruction.Store a v) g _ refl h (λ p. (leb-false (addresses s) a p.address, small.1.0)) e
 command_adds (Within s is) keyword.Store _ g h due small e = absurd cc
-command_adds (Within s is) keyword.Add (a ∷ v ∷ []) g h due small e = entered_adds s is (instruction.Add a v) g _ refl h (λ p. (below_from a (addresses s) p.address, small.1.0)) e
+command_adds (Within s is) keyword.Add (a ∷ v ∷ []) g h due small e = entered_adds s is (instruction.Add a v) g _ refl h (λ p. (leb-false (addresses s) a p.address, small.1.0)) e
 command_adds (Within s is) keyword.Add _ g h due small e = absurd cc
-command_adds (Within s is) keyword.Acquire (l ∷ []) g h due small e = entered_adds s is (instruction.Acquire l) g _ refl h (λ p. below_from l s.locks p.lock) e
+command_adds (Within s is) keyword.Acquire (l ∷ []) g h due small e = entered_adds s is (instruction.Acquire l) g _ refl h (λ p. leb-false s.locks l p.lock) e
 command_adds (Within s is) keyword.Acquire _ g h due small e = absurd cc
-command_adds (Within s is) keyword.Release (l ∷ []) g h due small e = entered_adds s is (instruction.Release l) g _ refl h (λ p. below_from l s.locks p.lock) e
+command_adds (Within s is) keyword.Release (l ∷ []) g h due small e = entered_adds s is (instruction.Release l) g _ refl h (λ p. leb-false s.locks l p.lock) e
 command_adds (Within s is) keyword.Release _ g h due small e = absurd cc
 command_adds (Within s is) keyword.Barrier [] g h due small e = entered_adds s is instruction.Barrier g _ refl h (λ p. tt) e
 command_adds (Within s is) keyword.Barrier _ g h due small e = absurd cc
-command_adds (Within s is) keyword.Set (f ∷ []) g h due small e = entered_adds s is (instruction.Set f) g _ refl h (λ p. below_from f s.flags p.flag) e
+command_adds (Within s is) keyword.Set (f ∷ []) g h due small e = entered_adds s is (instruction.Set f) g _ refl h (λ p. leb-false s.flags f p.flag) e
 command_adds (Within s is) keyword.Set _ g h due small e = absurd cc
-command_adds (Within s is) keyword.Await (f ∷ []) g h due small e = entered_adds s is (instruction.Await f) g _ refl h (λ p. below_from f s.flags p.flag) e
+command_adds (Within s is) keyword.Await (f ∷ []) g h due small e = entered_adds s is (instruction.Await f) g _ refl h (λ p. leb-false s.flags f p.flag) e
 command_adds (Within s is) keyword.Await _ g h due small e = absurd cc
 command_adds (Within s is) keyword.Cluster ns g h due small e = absurd cc
 command_adds (Whole s) k ns g h due small e = absurd cc

@@ -1,12 +1,19 @@
--- The text of one section more.
-use Rattle.std.proofs.Common.{◌≡◌, ℕ, ◌+◌, ◌<◌, List, [], ◌∷◌, ◌++◌, length, map, take, get_or, sym, ap, ◌∙◌, arith}
+-- The text of sections.
+use Rattle.std.proofs.Common.{◌≡◌, ℕ, suc, ◌+◌, ◌<◌, List, [], ◌∷◌, ◌++◌, length, map, take, get_or, sym, ap, ◌∙◌, append_assoc, arith}
 use Rattle.std.specs.List.{flat_map}
 use Rattle.std.specs.Global.{Vec}
 use Rattle.std.proofs.lemmas.List.{append-nil, take_more, map_push, length-map, length-take}
 use Rattle.std.proofs.lemmas.List.Concat.{flat_map-append}
 use Rattle.lrc_script.specs.declared.script.Instruction.{Instruction}
 use Rattle.lrc_script.specs.Text.{Line, line_text, section_line, instruction_line, section_lines}
-use Rattle.lrc_script.proofs.Adds.{section_lines-append}
+
+-- the lines of some sections and of those behind them
+pub section_lines-append : (k : ℕ) (xs ys : List (List Instruction)) → section_lines k (xs ++ ys) ≡ section_lines k xs ++ section_lines (k + length xs) ys
+section_lines-append k [] ys = ap (λ (n : ℕ). section_lines n ys) (omega arith)
+section_lines-append k (x ∷ xs) ys =
+    let next : suc k + length xs ≡ k + suc (length xs) = omega arith in
+    ap (λ (ls : List Line). section_line k ∷ map instruction_line x ++ ls) (section_lines-append (suc k) xs ys ∙ ap (λ (n : ℕ). section_lines (suc k) xs ++ section_lines n ys) next)
+    ∙ sym (append_assoc (section_line k ∷ map instruction_line x) (section_lines (suc k) xs) (section_lines (k + suc (length xs)) ys))
 
 abbrev pub section_texts : List (Vec Instruction) → List ℕ
 section_texts sections = flat_map line_text (section_lines 0 (map (λ section. section.items) sections))

@@ -5,8 +5,10 @@ use Rattle.journal.specs.declared.event.Kind.{Kind}
 use Rattle.journal.specs.declared.event.Kind.TheVariants.{Load, Store, Arrive, Depart}
 use Rattle.lrc_script.specs.declared.script.Instruction.{Instruction}
 use Rattle.lrc_script.specs.declared.script.Instruction.TheVariants.{Add}
-use Rattle.lrc.specs.Machine.{Machine, history, by_first, Calls}
-use Rattle.lrc.specs.Follows.{AreEventsOf, AreEventsOfAll, DoesInstruction, DoesAll}
+use Rattle.journal.specs.Did.{event, did}
+use Rattle.lrc.specs.Machine.{Machine, history, Calls, after_barrier}
+use Rattle.lrc.specs.Follows.{AreEventsOf, AreEventsOfAll}
+use Rattle.lrc.specs.Alone.{DoesInstruction, DoesAll}
 
 -- no calls
 pub calls_none : (m : Machine) → Calls m m []
@@ -16,7 +18,7 @@ calls_none m = record { same_addresses = refl; more = sym (append-nil (history m
 pub calls_then : (a b c : Machine) (xs ys : List Kind) → Calls a b xs → Calls b c ys → Calls a c (xs ++ ys)
 calls_then a b c xs ys first second = record {
   same_addresses = second.same_addresses ∙ first.same_addresses;
-  more = second.more ∙ ap (λ h. h ++ map by_first ys) first.more ∙ append_assoc (history a) (map by_first xs) (map by_first ys) ∙ ap (λ h. history a ++ h) (sym (map-append by_first xs ys));
+  more = second.more ∙ ap (λ h. h ++ map (event 0) ys) first.more ∙ append_assoc (history a) (map (event 0) xs) (map (event 0) ys) ∙ ap (λ h. history a ++ h) (sym (map-append (event 0) xs ys));
 }
 
 -- a load and the store of the sum are an add
@@ -36,8 +38,8 @@ pub does_more : (a b c : Machine) (before : List Instruction) (i : Instruction) 
 does_more a b c before i all does = (all.0 ++ does.0, calls_then a b c all.0 does.0 all.1 does.1, all_more before i all.0 does.0 all.2 does.2)
 
 -- a barrier episode
-pub calls_barrier : (old new : Machine) → new ≡ record old { journal = old.journal ++ old.block ++ by_first Arrive ∷ [] ++ by_first Depart ∷ []; block = [] } → Calls old new (Arrive ∷ Depart ∷ [])
+pub calls_barrier : (old new : Machine) → new ≡ after_barrier old → Calls old new (Arrive ∷ Depart ∷ [])
 calls_barrier old new is = record {
   same_addresses = ap (λ m. m.addresses) is;
-  more = ap history is ∙ append-nil (old.journal ++ old.block ++ by_first Arrive ∷ [] ++ by_first Depart ∷ []) ∙ append_assoc (history old) (by_first Arrive ∷ []) (by_first Depart ∷ []);
+  more = ap history is ∙ append-nil (did (did (history old) 0 Arrive) 0 Depart) ∙ append_assoc (history old) (event 0 Arrive ∷ []) (event 0 Depart ∷ []);
 }

@@ -1,14 +1,13 @@
 -- The words of a line, and what stands between separators.
 use Rattle.std.proofs.Common.{◌≡◌, ◌≢◌, ℕ, Bool, true, false, cond, eqb, List, [], ◌∷◌, ◌++◌, refl, sym, ap, subst, ◌∙◌, arith}
 use Rattle.std.specs.List.{onto_first, list_all, flat_map, join_with_byte, AllByRecursion}
-use Rattle.std.proofs.lemmas.Bool.{ltb-true, lt-ltb}
+use Rattle.std.proofs.lemmas.Bool.{ltb-true, lt-ltb, and_parts, ne_eqb, eq-eqb}
 use Rattle.std.proofs.lemmas.Bool.Decides.{nat_tests}
 use Rattle.std.proofs.lemmas.List.Splits.{slice_split_at, slice_split_none, join_with_byte-slice_split}
 use Rattle.std.proofs.lemmas.List.{append-nil}
 use Rattle.std.proofs.lemmas.List.Elements.{All-from_recursion}
 use Rattle.lrc_script.specs.Faults.{IsWord, IsSplit}
 use Rattle.lrc_script.specs.Reading.{parts_of, has_bytes}
-use Rattle.lrc_script.proofs.Numbers.{and_true}
 
 -- none of these bytes is the separator
 abbrev pub HasNo : ℕ → List ℕ → Type 0
@@ -18,19 +17,13 @@ pub HasNo-append : (c : ℕ) (a b : List ℕ) → HasNo c a → HasNo c b → Ha
 HasNo-append c [] b p q = q
 HasNo-append c (x ∷ a) b p q = (p.0, HasNo-append c a b p.1 q)
 
-differs : (b c : ℕ) → b ≢ c → eqb b c ≡ false
-differs b c h = grind (arith, nat_tests, h)
-
 tests_false : (c : ℕ) (bytes : List ℕ) → HasNo c bytes → AllByRecursion (λ b. eqb b c ≡ false) bytes
 tests_false c [] h = tt
-tests_false c (b ∷ bytes) h = (differs b c h.0, tests_false c bytes h.1)
-
-same : (c : ℕ) → eqb c c ≡ true
-same c = grind (arith, nat_tests)
+tests_false c (b ∷ bytes) h = (ne_eqb b c h.0, tests_false c bytes h.1)
 
 -- the first part ends at the first separator
 pub parts_first : (c : ℕ) (bytes rest : List ℕ) → HasNo c bytes → parts_of c (bytes ++ c ∷ rest) ≡ bytes ∷ parts_of c rest
-parts_first c bytes rest h = slice_split_at (λ b. eqb b c) bytes c rest (All-from_recursion (λ b. eqb b c ≡ false) bytes (tests_false c bytes h)) (same c)
+parts_first c bytes rest h = slice_split_at (λ b. eqb b c) bytes c rest (All-from_recursion (λ b. eqb b c ≡ false) bytes (tests_false c bytes h)) (eq-eqb c c refl)
 
 -- where there is none, the bytes are the one part
 pub parts_none : (c : ℕ) (bytes : List ℕ) → HasNo c bytes → parts_of c bytes ≡ bytes ∷ []
@@ -69,7 +62,7 @@ parts_joined c w (v ∷ ws) h hs = parts_first c w (joined c v ws) h ∙ ap (λ 
 words_from : (ws : List (List ℕ)) → list_all has_bytes ws ≡ true → AllByRecursion (HasNo 32) ws → AllByRecursion IsWord ws
 words_from [] h clean = tt
 words_from (w ∷ ws) h clean =
-    let both = and_true (has_bytes w) (list_all has_bytes ws) h in
+    let both = and_parts (has_bytes w) (list_all has_bytes ws) h in
     (record { some = ltb-true _ _ both.0; no_space = clean.0 }, words_from ws both.1 clean.1)
 
 words_have : (ws : List (List ℕ)) → AllByRecursion IsWord ws → list_all has_bytes ws ≡ true

@@ -3,6 +3,7 @@ use Rattle.std.proofs.Common.{◌≡◌, ℕ, ◌^◌, ◌<◌, Bool, true, not,
 use Rattle.std.specs.Char.{is_ascii_digit}
 use Rattle.std.specs.List.{list_all, flat_map, AllByRecursion}
 use Rattle.std.specs.Fmt.{decimal}
+use Rattle.std.proofs.lemmas.Bool.{and_parts}
 use Rattle.std.proofs.lemmas.Bool.Decides.{nat_tests}
 use Rattle.std.proofs.lemmas.List.{length-map}
 use Rattle.lrc_script.specs.declared.line.Keyword.{Keyword}
@@ -10,8 +11,8 @@ use Rattle.lrc_script.specs.Text.{Line, spaced, line_bytes}
 use Rattle.lrc_script.specs.Front.{Front}
 use Rattle.lrc_script.specs.Faults.{IsWord, IsSplit}
 use Rattle.lrc_script.specs.Reading.{◌>>=◌, keyword_of, is_due, numbers_after, step, after, after_words, after_keyword}
-use Rattle.lrc_script.proofs.Numbers.{and_true, AreWords, numbers_again, Decimal-decimal}
-use Rattle.lrc_script.proofs.Words.{HasNo, HasNo-append, parts_from_split}
+use Rattle.lrc_script.proofs.Reading.Numbers.{AreWords, numbers_again, Decimal-decimal}
+use Rattle.lrc_script.proofs.Reading.Words.{HasNo, HasNo-append, parts_from_split}
 
 -- a first word: bytes, none of them a space or a line feed
 abbrev pub is_plain : List ℕ → Bool
@@ -20,7 +21,7 @@ is_plain w = ltb 0 (length w) && list_all (λ b. not (eqb b 32) && not (eqb b 10
 plain_bytes : (w : List ℕ) → list_all (λ b. not (eqb b 32) && not (eqb b 10)) w ≡ true → HasNo 32 w × HasNo 10 w
 plain_bytes [] h = (tt, tt)
 plain_bytes (b ∷ w) h =
-    let both = and_true (not (eqb b 32) && not (eqb b 10)) (list_all (λ b. not (eqb b 32) && not (eqb b 10)) w) h in
+    let both = and_parts (not (eqb b 32) && not (eqb b 10)) (list_all (λ b. not (eqb b 32) && not (eqb b 10)) w) h in
     let rest = plain_bytes w both.1 in
     let test = both.0 in
     ((λ e. grind (arith, nat_tests, test, e), rest.0), (λ e. grind (arith, nat_tests, test, e), rest.1))
@@ -29,7 +30,7 @@ plain_bytes (b ∷ w) h =
 digits_have_no : (c : ℕ) (w : List ℕ) → c < 48 → list_all is_ascii_digit w ≡ true → HasNo c w
 digits_have_no c [] lt h = tt
 digits_have_no c (b ∷ w) lt h =
-    let both = and_true (is_ascii_digit b) (list_all is_ascii_digit w) h in
+    let both = and_parts (is_ascii_digit b) (list_all is_ascii_digit w) h in
     let test = both.0 in
     (λ e. grind (arith, nat_tests, test, e), digits_have_no c w lt both.1)
 
@@ -51,7 +52,7 @@ flat_spaced (n ∷ ns) = ap (λ (t : List ℕ). spaced n ++ t) (flat_spaced ns)
 -- a line of a plain word and numbers is split into them
 pub line_split : (word : List ℕ) (ns : List ℕ) → is_plain word ≡ true → AreWords ns → IsSplit (line_bytes (record { word = word; numbers = ns })) word (map decimal ns)
 line_split word ns plain small =
-    let both = and_true (ltb 0 (length word)) (list_all (λ b. not (eqb b 32) && not (eqb b 10)) word) plain in
+    let both = and_parts (ltb 0 (length word)) (list_all (λ b. not (eqb b 32) && not (eqb b 10)) word) plain in
     let some = both.0 in
     record {
       first = record { some = grind (arith, nat_tests, some); no_space = (plain_bytes word both.1).0 };
@@ -73,7 +74,7 @@ pub record Goes (f : Front) (l : Line) (g : Front) : Type 0 where
 
 pub goes : (f g : Front) (k : Keyword) (word ns : List ℕ) → keyword_of word ≡ Some k → is_plain word ≡ true → AreWords ns → is_due f k (length ns) ≡ true → step f k ns ≡ Ok g → Goes f (record { word = word; numbers = ns }) g
 goes f g k word ns key plain small due stepped =
-    let both = and_true (ltb 0 (length word)) (list_all (λ b. not (eqb b 32) && not (eqb b 10)) word) plain in
+    let both = and_parts (ltb 0 (length word)) (list_all (λ b. not (eqb b 32) && not (eqb b 10)) word) plain in
     let due' : is_due f k (length (map decimal ns)) ≡ true = rw length-map due in
     record {
       after_is = after_due f (line_bytes (record { word = word; numbers = ns })) word (map decimal ns) k (line_split word ns plain small) key due' ∙ rw (numbers_again [] ns small) stepped;

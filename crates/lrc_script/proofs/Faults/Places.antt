@@ -16,10 +16,10 @@ use Rattle.lrc_script.specs.Text.{Line, line_text, line_bytes, text}
 use Rattle.lrc_script.specs.Front.{Front, Nothing, Whole, IsBegun, lines_before, text_before}
 use Rattle.lrc_script.specs.Faults.{IsAt, IsFaultAt, IsFault, IsUneven, IsUnevenText}
 use Rattle.lrc_script.specs.Reading.{Fails, parts_of, IsCut, after}
-use Rattle.lrc_script.proofs.Words.{HasNo, parts_clean, parts_whole}
-use Rattle.lrc_script.proofs.Verdict.{never_there, never_begins, text_ends, text_injective}
-use Rattle.lrc_script.proofs.Refused.{line_adds, line_says, behind_from, fault_from}
-use Rattle.lrc_script.proofs.Complete.{front_begins}
+use Rattle.lrc_script.proofs.Reading.Words.{HasNo, parts_clean, parts_whole}
+use Rattle.lrc_script.proofs.Front.Texts.{never_there, never_begins, text_ends, text_injective}
+use Rattle.lrc_script.proofs.Faults.Says.{line_adds, line_says, behind_from, fault_from}
+use Rattle.lrc_script.proofs.Front.Begins.{front_begins}
 
 joined_again : (rest : List ℕ) (parts : List (List ℕ)) → parts_of 10 rest ≡ parts → 0 < length parts → flat_map (λ v. 10 ∷ v) parts ≡ 10 ∷ rest
 joined_again rest [] e some = absurd (omega arith)

@@ -5,8 +5,8 @@ use Rattle.lrc_script.specs.declared.fault.ScriptFault.{ScriptFault}
 use Rattle.lrc_script.specs.Text.{Line, line_bytes, line_text}
 use Rattle.lrc_script.specs.Front.{Front}
 use Rattle.lrc_script.specs.Reading.{◌>>=◌, parts_of, after}
-use Rattle.lrc_script.proofs.Words.{HasNo, parts_first}
-use Rattle.lrc_script.proofs.Lines.{Goes}
+use Rattle.lrc_script.proofs.Reading.Words.{HasNo, parts_first}
+use Rattle.lrc_script.proofs.Reading.Lines.{Goes}
 
 -- what stands behind the whole lines among these parts, the last of which has no line feed
 unfoldable pub run : Front → List (List ℕ) → Result Front ScriptFault

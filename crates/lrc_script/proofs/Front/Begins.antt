@@ -11,8 +11,8 @@ use Rattle.lrc_script.specs.Lawful.{addresses, AreSizes, IsSection, IsLawfulButU
 use Rattle.lrc_script.specs.Text.{Line, line_text, cluster_line, section_lines, show_line, lines_of, text}
 use Rattle.lrc_script.specs.Front.{Front, Nothing, Headed, Within, Whole, IsBegun, lines_before, text_before}
 use Rattle.lrc_script.specs.Faults.{BeginsText}
-use Rattle.lrc_script.proofs.Fronts.{sizes_small, sizes_over, section_over}
-use Rattle.lrc_script.proofs.Adds.{section_lines-append, nothing_stands}
+use Rattle.lrc_script.proofs.Lawful.{sizes_small, sizes_over, section_over, nothing_stands}
+use Rattle.lrc_script.proofs.Text.{section_lines-append}
 
 -- the same sizes with these sections, then empty ones, and one address shown
 abbrev filled : Plan → List (List Instruction) → Plan

@@ -10,9 +10,9 @@ use Rattle.lrc_script.specs.Text.{line_bytes}
 use Rattle.lrc_script.specs.Front.{Front}
 use Rattle.lrc_script.specs.Faults.{IsSplit}
 use Rattle.lrc_script.specs.Reading.{◌>>=◌, parts_of, has_bytes, keyword_of, is_due, numbers_after, step, after, after_words, after_keyword}
-use Rattle.lrc_script.proofs.Numbers.{AreWords, NotNumber, numbers_take, numbers_refused}
-use Rattle.lrc_script.proofs.Words.{parts_from_split, split_from_parts}
-use Rattle.lrc_script.proofs.Lines.{flat_spaced}
+use Rattle.lrc_script.proofs.Reading.Numbers.{AreWords, NotNumber, numbers_take, numbers_refused}
+use Rattle.lrc_script.proofs.Reading.Words.{parts_from_split, split_from_parts}
+use Rattle.lrc_script.proofs.Reading.Lines.{flat_spaced}
 
 -- a line that is a keyword, allowed at this point, and numbers
 pub record Command (f : Front) (line : List ℕ) : Type 0 where

@@ -1,7 +1,8 @@
 -- Keywords: how they are spelled, and where they are allowed.
-use Rattle.std.proofs.Common.{◌≡◌, ℕ, ◌+◌, Bool, true, false, ◌||◌, cond, eqb, leb, List, length, Option, Some, refl, ap, ◌∙◌, arith, inl, inr, ◌⊎◌}
+use Rattle.std.proofs.Common.{◌≡◌, ℕ, ◌+◌, true, false, cond, eqb, leb, List, length, Option, Some, refl, ap, ◌∙◌, arith, inl, inr}
 use Rattle.std.specs.Prelude.{codes}
 use Rattle.std.specs.Str.{bytes_eq}
+use Rattle.std.proofs.lemmas.Bool.{and_parts, or_cases}
 use Rattle.std.proofs.lemmas.Bool.Decides.{nat_tests}
 use Rattle.std.proofs.lemmas.Slice.Eq.{bytes_eq-Decides}
 use Rattle.lrc_script.specs.declared.script.Instruction.{Instruction}
@@ -13,7 +14,6 @@ use Rattle.lrc_script.specs.Text.{instruction_line}
 use Rattle.lrc_script.specs.Front.{Front, Nothing, Headed, Within, Whole}
 use Rattle.lrc_script.specs.Faults.{Allows}
 use Rattle.lrc_script.specs.Reading.{keyword_of, is_due}
-use Rattle.lrc_script.proofs.Numbers.{and_true}
 
 abbrev pub spelled : Keyword → List ℕ
 spelled keyword.Cluster = codes "cluster"
@@ -41,19 +41,15 @@ keyword_spelled w k e =
     spelled_if w keyword.Add _ k (spelled_if w keyword.Acquire _ k (spelled_if w keyword.Release _ k (spelled_if w keyword.Barrier _ k (
     spelled_if w keyword.Set _ k (spelled_if w keyword.Await _ k (spelled_if w keyword.Show _ k (λ h. absurd cc))))))))))) e
 
-pub or_true : (a b : Bool) → (a || b) ≡ true → (a ≡ true) ⊎ (b ≡ true)
-or_true true b e = inl refl
-or_true false b e = inr e
-
 -- what is due is allowed
 pub due_allows : (f : Front) (k : Keyword) (n : ℕ) → is_due f k n ≡ true → Allows f (spelled k) n
-due_allows Nothing keyword.Cluster n e = (refl, elim (or_true (eqb n 4) (eqb n 5) e) [ inl t ↦ inl (grind (arith, nat_tests, t)) | inr t ↦ inr (grind (arith, nat_tests, t)) ])
+due_allows Nothing keyword.Cluster n e = (refl, elim (or_cases (eqb n 4) (eqb n 5) e) [ inl t ↦ inl (grind (arith, nat_tests, t)) | inr t ↦ inr (grind (arith, nat_tests, t)) ])
 due_allows Nothing _ n e = absurd cc
 due_allows (Headed s) keyword.Section n e = (refl, grind (arith, nat_tests, e))
 due_allows (Headed s) _ n e = absurd cc
 due_allows (Within s is) keyword.Section n e = inl (refl, grind (arith, nat_tests, e))
 due_allows (Within s is) keyword.Show n e =
-    let both = and_true (leb 1 n) (eqb (length s.sections + 1) s.processors) e in
+    let both = and_parts (leb 1 n) (eqb (length s.sections + 1) s.processors) e in
     let some = both.0 in
     let last = both.1 in
     inr (inl (refl, grind (arith, nat_tests, some), grind (arith, nat_tests, last)))

@@ -8,9 +8,9 @@ use Rattle.lrc_script.specs.Text.{text}
 use Rattle.lrc_script.specs.Front.{Front, Nothing, Whole, IsBegun, lines_before, text_before}
 use Rattle.lrc_script.specs.Faults.{BeginsText}
 use Rattle.lrc_script.specs.Reading.{◌>>=◌, parts_of, after}
-use Rattle.lrc_script.proofs.Words.{HasNo, parts_none}
-use Rattle.lrc_script.proofs.Run.{run, run_line, run_last, run_lines}
-use Rattle.lrc_script.proofs.Fronts.{front_passes}
+use Rattle.lrc_script.proofs.Reading.Words.{HasNo, parts_none}
+use Rattle.lrc_script.proofs.Front.Runs.{run, run_line, run_last, run_lines}
+use Rattle.lrc_script.proofs.Front.Passes.{front_passes}
 
 -- reading from the start goes through what stands before
 pub run_front : (f : Front) (more : List ℕ) → IsBegun f → run Nothing (parts_of 10 (text_before f ++ more)) ≡ run f (parts_of 10 more)

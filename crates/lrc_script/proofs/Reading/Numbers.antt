@@ -1,5 +1,5 @@
 -- Numbers and their decimal digits.
-use Rattle.std.proofs.Common.{◌≡◌, ℕ, suc, ◌^◌, ◌<◌, ◌≢◌, Bool, true, false, not, ◌&&◌, cond, eqb, ltb, List, [], ◌∷◌, ◌++◌, length, get_or, map, subst, append_assoc, Option, Some, None, Result, Ok, Err, refl, sym, ap, ◌∙◌, inl, inr, zero, arith, rules}
+use Rattle.std.proofs.Common.{◌≡◌, ℕ, suc, ◌^◌, ◌<◌, ◌≢◌, true, false, not, ◌&&◌, cond, eqb, ltb, List, [], ◌∷◌, ◌++◌, length, get_or, map, subst, append_assoc, Option, Some, None, Result, Ok, Err, refl, sym, ap, ◌∙◌, inl, inr, zero, arith, rules}
 use Rattle.std.specs.Char.{is_ascii_digit}
 use Rattle.std.specs.Prelude.{Contains, is_some, unwrap_or}
 use Rattle.std.specs.List.{list_all, AllByRecursion}
@@ -7,11 +7,12 @@ use Rattle.std.specs.Fmt.{decimal}
 use Rattle.std.specs.Result.{OkIff, result_ok}
 use Rattle.std.specs.Str.{IsUtf8}
 use Rattle.std.specs.Str.Parse.{digits_value, ParsesUnsigned}
-use Rattle.std.proofs.lemmas.Bool.{ltb-true, lt-ltb, le-ltb, cases_lt}
+use Rattle.std.proofs.lemmas.Bool.{ltb-true, lt-ltb, le-ltb, cases_lt, and_parts}
 use Rattle.std.proofs.lemmas.Bool.Decides.{nat_tests}
 use Rattle.std.proofs.lemmas.Str.{IsUtf8-from_ascii}
 use Rattle.std.proofs.lemmas.Str.Parse.{IsNumeralModel, numerals_by_value, parse_digits}
 use Rattle.std.proofs.lemmas.Fmt.{decimal-digits_value, digits_decimal, digits_value-decimal, decimal_nonempty, first_decimal, decimal_digit, IsAscii-from_digits}
+use Rattle.std.proofs.lemmas.Option.{cond_some}
 use Rattle.std.proofs.lemmas.List.{append-nil}
 use Rattle.std.proofs.lemmas.List.Elements.{Contains-append_right}
 use Rattle.lrc_script.specs.declared.fault.ScriptFault.{ScriptFault}
@@ -22,11 +23,6 @@ use Rattle.lrc_script.specs.Reading.{is_decimal, number_of, numbers_after}
 pub own : IsNumeralModel (λ ds. list_all is_ascii_digit ds ≡ true) (digits_value 10)
 own = numerals_by_value _ (search rules)
 
-pub and_true : (a b : Bool) → (a && b) ≡ true → (a ≡ true) × (b ≡ true)
-and_true true true e = (refl, refl)
-and_true true false e = absurd cc
-and_true false b e = absurd cc
-
 -- what the test for a decimal says
 pub record Decimal (w : List ℕ) : Type 0 where
   pub digits : list_all is_ascii_digit w ≡ true
@@ -35,8 +31,8 @@ pub record Decimal (w : List ℕ) : Type 0 where
 
 pub decimal_parts : (w : List ℕ) → is_decimal w ≡ true → Decimal w
 decimal_parts w e =
-    let a = and_true (not (eqb (length w) 0) && not (eqb (get_or w 0 0) 48 && ltb 1 (length w))) (list_all is_ascii_digit w) e in
-    let b = and_true (not (eqb (length w) 0)) (not (eqb (get_or w 0 0) 48 && ltb 1 (length w))) a.0 in
+    let a = and_parts (not (eqb (length w) 0) && not (eqb (get_or w 0 0) 48 && ltb 1 (length w))) (list_all is_ascii_digit w) e in
+    let b = and_parts (not (eqb (length w) 0)) (not (eqb (get_or w 0 0) 48 && ltb 1 (length w))) a.0 in
     record { digits = a.1; some = grind (arith, nat_tests, b.0); alone = λ z. grind (arith, nat_tests, b.0, b.1, z) }
 
 pub decimal_whole : (w : List ℕ) → Decimal w → is_decimal w ≡ true
@@ -48,15 +44,11 @@ decimal_whole w d =
     ] refl in
     rw (front, d.digits) refl
 
-take_some : (b : Bool) (v n : ℕ) → cond b (Some v) None ≡ Some n → (b ≡ true) × (v ≡ n)
-take_some true v n e = (refl, cc)
-take_some false v n e = absurd cc
-
 -- what is read as a number is its decimal digits
 pub number_takes : (w : List ℕ) (n : ℕ) → number_of w ≡ Some n → (w ≡ decimal n) × (n < 2 ^ 32)
 number_takes w n e =
-    let s = take_some (is_decimal w && ltb (digits_value 10 w) (2 ^ 32)) (digits_value 10 w) n e in
-    let t = and_true (is_decimal w) (ltb (digits_value 10 w) (2 ^ 32)) s.0 in
+    let s = cond_some (is_decimal w && ltb (digits_value 10 w) (2 ^ 32)) (digits_value 10 w) n e in
+    let t = and_parts (is_decimal w) (ltb (digits_value 10 w) (2 ^ 32)) s.0 in
     let d = decimal_parts w t.0 in
     let below : digits_value 10 w < 2 ^ 32 = ltb-true _ _ t.1 in
     (rw (← s.1) (sym (decimal-digits_value own w d.digits d.some d.alone (omega arith))), rw (← s.1) below)
