@@ -20,7 +20,9 @@ impl<B> Keeper<B> for Anything {
 
     ghost fact = { λ _ _. Unit {0} };
 
-    ghost first = { tt };
+    ghost first = { λ _. tt };
+
+    ghost nobody = { tt };
 }
 
 impl<B> Outcome<B, ()> for Anything {
