@@ -65,18 +65,6 @@ impl Barrier {
         }
     }
 
-    /// The same barrier once more. It takes no memory.
-    pub fn copy(&self) -> Barrier
-        ensures { result ≡ self.now }
-    {
-        let alloc = *self.stages.allocator();
-        Barrier {
-            stages: SmallVec::from_slice(alloc, self.stages.as_slice()).unwrap(),
-            gathered: self.gathered.copy(),
-            last: self.last.copy(),
-        }
-    }
-
     /// Lets a processor arrive with its timestamp, and answers whether the episode is complete now:
     /// exactly where all others had arrived before.
     pub fn arrive(&mut self, processor: usize, time: &VTime) -> bool
@@ -209,11 +197,8 @@ mod tests {
         let mut time = VTime::zero(rt.alloc(), 1);
         assert!(rt; *barrier.time() == time);
         time.tick(0);
-        let before = barrier.copy();
         assert!(rt; barrier.arrive(0, &time));
         assert!(rt; barrier.ready(0));
-        assert!(rt; barrier.copy().ready(0));
-        assert!(rt; !before.ready(0));
         assert!(rt; *barrier.time() == time);
         barrier.depart(0);
         assert!(rt; !barrier.ready(0));

@@ -127,8 +127,6 @@ fn join_entries(mine: &mut [u64], theirs: &[u64])
 
 #[cfg(test)]
 mod tests {
-    ghost use Rattle.lists.specs.Limits.{most_processors};
-
     use super::{MOST_PROCESSORS, VTime};
     use std::alloc::Global;
     use std::process::Abort;
