@@ -18,6 +18,7 @@ mod clocks;
 mod event;
 mod journal;
 mod kinds;
+mod limits;
 mod race;
 mod replay;
 mod slow;
@@ -27,5 +28,6 @@ mod traffic;
 
 pub use event::{Event, Kind};
 pub use journal::Journal;
+pub use limits::{MOST_EVENTS, MOST_HELD, MOST_IN_BLOCK, MOST_PROCESSORS};
 pub use slow::ReachTable;
 pub use traffic::Traffic;

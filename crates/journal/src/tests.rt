@@ -8,7 +8,7 @@ mod reach;
 mod worked;
 
 use crate::tests::worked::{load_before_store, stale_load};
-use crate::{Event, Journal, Kind, Traffic};
+use crate::{Event, Journal, Kind, MOST_HELD, MOST_PROCESSORS, Traffic};
 use std::alloc::Global;
 use std::process::Abort;
 use std::test::Fail;
@@ -40,12 +40,12 @@ pub(crate) fn journal_of<R: Abort>(
     addresses: usize,
     events: &[Event],
 ) -> Result<Journal, Fail> {
-    assert!(rt; processors <= 16);
+    assert!(rt; processors <= MOST_PROCESSORS);
     let mut journal = Journal::new(alloc, processors, addresses)?;
     for event in events {
         let event = *event;
         assert!(rt; is_taken(event, processors, addresses));
-        assert!(rt; journal.len() < 2097152);
+        assert!(rt; journal.len() < MOST_HELD);
         journal.reserve(1)?;
         journal.append(event);
     }
