@@ -128,8 +128,7 @@ impl Book {
         ensures only { IfErr result (λ e. (e ≡ Refused.JournalFull) ⊎ (e ≡ Refused.NoMemory)) }
     {
         make_room(&mut self.journal, self.owing, block.len())?;
-        let mut copy = self.journal.copy()?;
-        copy.reserve(block.len())?;
+        let mut copy = self.journal.copy_with_room(block.len())?;
         append_all(&mut self.journal, block);
         append_all(&mut copy, block);
         Ok(copy)
@@ -281,7 +280,7 @@ impl Book {
     }
 
     /// The departures of all, where the episode is complete with the arrival of the interval's owner, at
-    /// the time `own`. It shows on a copy of the barrier.
+    /// the time `own`.
     fn departures_with(
         &self,
         interval: &Interval,
@@ -297,13 +296,13 @@ impl Book {
         ensures { IfOk result (λ o. option_map (λ ms. map letter ms.items) o ≡ departures_after
             (pushed self.now.closed interval.now) self.now.barrier (slice_set self.now.times interval.now.owner own.now) interval.now.owner own.now) }
     {
-        let mut barrier = self.barrier.copy();
-        if !barrier.arrive(interval.owner, own) {
+        let barrier = &self.barrier;
+        if !barrier.completes(interval.owner) {
             return Ok(None);
         }
         let alloc = *self.times.allocator();
-        let (closed, times) = (&self.closed, &self.times);
-        let all = departures(alloc, closed, times, interval, own, barrier.time())?;
+        let time = barrier.time_with(own);
+        let all = departures(alloc, &self.closed, &self.times, interval, own, &time)?;
         Ok(Some(all))
     }
 
