@@ -1,6 +1,6 @@
 -- Lists of offsets and values whose offsets rise.
 use Rattle.std.proofs.Common.{ℕ, ◌≡◌, ◌<◌, ◌≤◌, ◌+◌, ◌-◌, Some, List, length, get_or, slice_get, arith, subst, sym, ap, ◌∙◌, inl, inr}
-use Rattle.std.proofs.lemmas.Option.{slice_get_within, slice_get-get_or, get_or_from_slice_get}
+use Rattle.std.proofs.lemmas.Option.{slice_get-get_or, get_or_from_slice_get}
 use Rattle.std.proofs.lemmas.Bool.{cases_lt}
 use Rattle.page.specs.Changes.{IsRising}
 
@@ -34,11 +34,6 @@ rises_more xs i within above before x y a b lt y_lt at_x at_y =
           let P : ℕ × ℕ → Type 0 = λ p. a.0 < p.0 in
           subst P is_new (above_all xs i x a (omega arith) within above before at_x)
     ]
-
-pub rises_all : (xs : List (ℕ × ℕ)) (n : ℕ) → length xs ≤ n → RisesTo n xs → IsRising xs
-rises_all xs n all before x y a b lt at_x at_y =
-    let within = slice_get_within xs y b at_y in
-    before x y a b lt (omega arith) at_x at_y
 
 -- neighbours out of order
 pub falls : (xs : List (ℕ × ℕ)) (i : ℕ) → 0 < i → i < length xs → (get_or xs i (0, 0)).0 ≤ (get_or xs (i - 1) (0, 0)).0 → ¬ IsRising xs

@@ -45,9 +45,6 @@ marks_of-set n word k lt few =
 pub IsBelow-set : (n word k : ℕ) → k < n → n ≤ 64 → IsBelow n word → IsBelow n (bit_or word (1 * 2 ^ k % 2 ^ 64))
 IsBelow-set n word k lt few below i le = bit_at_set_other w64 word k (omega arith) i (omega arith) ∙ below i le
 
-pub IsBelow-zero : (n : ℕ) → IsBelow n 0
-IsBelow-zero n i le = bit_at-zero i
-
 -- a word that marks nothing is 0
 pub zero_from_clean : (n word : ℕ) → IsBelow n word → marks_of n word ≡ replicate n false → word ≡ 0
 zero_from_clean n word below clean = same_from_bits word 0 (λ i. unset i ∙ sym (bit_at-zero i))

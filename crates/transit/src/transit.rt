@@ -124,7 +124,11 @@ mod tests {
         let notices = Vec::new(rt.alloc());
         transit.post(15, Message::Grant { time, notices });
         assert!(rt; transit.ready(15) && !transit.ready(14));
-        assert!(rt; transit.take(15).is_some_and(|message| is_told(rt.alloc(), &message, 1)));
+        assert!(rt;
+            transit
+                .take(15)
+                .is_some_and(|message| is_told(rt.alloc(), &message, 1))
+        );
         assert!(rt; !transit.ready(15));
         Ok(())
     }
