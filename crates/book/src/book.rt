@@ -465,6 +465,3 @@ fn leave(barrier: &mut Barrier, kind: Kind, p: usize)
         _ => {}
     }
 }
-
-#[cfg(test)]
-mod tests;
