@@ -13,8 +13,11 @@ pub trait Keeper<B> {
     // The fact over the book and all chairs' views, in the order of their places, that holds whenever the lock is free.
     ghost fact: { B → List Self.View → Type 0 };
 
-    // The view with which each chair starts.
-    ghost first: { Self.View };
+    // The view with which each chair of a lock over this book starts.
+    ghost first: { B → Self.View };
+
+    // A view of no chair.
+    ghost nobody: { Self.View };
 }
 
 /// What one call does: the relation between the book that it hands in, its chair's old view and its new one.
@@ -25,6 +28,9 @@ pub trait Outcome<B, V> {
 /// A lock round one value, the book, under a keeper.
 ///
 /// Nothing is promised of progress, fairness or time: `enter` may never return.
+///
+/// Chairs are made in this crate alone. So a lock of another crate can meet the contract only by handing its calls on to
+/// one of this crate's locks.
 pub trait Turn<B, K: Keeper<B>>: Sized + Sync {
     /// How often a chair may enter.
     const ENTRIES: u64;
@@ -43,10 +49,10 @@ pub trait Turn<B, K: Keeper<B>>: Sized + Sync {
         B: Drop,
         requires some { 1 ≤ seats }
         requires room { seats * ENTRIES < 2 ^ 64 }
-        requires fact { K.fact book (replicate seats K.first) }
+        requires fact { K.fact book (replicate seats (K.first book)) }
         ensures { IfOk result (λ t.
             (size t.0 ≡ seats) × (length t.1.items ≡ seats)
-            × AreFresh (id t.0) K.first t.1.items) };
+            × AreFresh (id t.0) (K.first book) t.1.items) };
 
     /// Waits for the chair's turn, and answers the book. It takes no memory.
     ///
@@ -74,4 +80,7 @@ pub trait Turn<B, K: Keeper<B>>: Sized + Sync {
     fn close(self, chairs: Vec<Chair<B, K>>) -> B
         requires { AreAll (id self) (size self) chairs.items }
         ensures { K.fact result (map view chairs.items) };
+
+    // A chair of the lock may enter so often.
+    ghost limits: { (l : Self) → (id l).limit ≡ ENTRIES };
 }
