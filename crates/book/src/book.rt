@@ -298,7 +298,8 @@ impl Book {
             (pushed self.now.closed interval.now) self.now.barrier (slice_set self.now.times interval.now.owner own.now) interval.now.owner own.now) }
     {
         let barrier = &self.barrier;
-        if !barrier.completes(interval.owner) {
+        let is_last = barrier.completes(interval.owner);
+        if !is_last {
             return Ok(None);
         }
         let alloc = *self.times.allocator();

@@ -2,18 +2,24 @@
 //! distributed locks, the barrier, the flags, the timestamps, what each processor waits for, and the
 //! messages on their way (Keleher, Cox and Zwaenepoel, Lazy Release Consistency for Software
 //! Distributed Shared Memory, ISCA 1992).
+//!
+//! **What contracts see**: a [`Book`] as its parts' own values in one record, `State`; each call's new
+//! value is a function of the old one (`specs/Transitions`). When a call may be made is said by some
+//! history that tells the book (`specs/Calls`, `specs/Told`).
+//!
+//! **What is proved**: each call is its function or is refused with the book as before; and, in [`laws`],
+//! that a book which a history tells is told after each call by that history with the call's events.
+//!
+//! **What is only tested**: the texts of [`Refused`]. The rows of the book's calls stand in crate
+//! `book_uses`.
 #![tactic(auto)]
 
 mod book;
-mod laws;
+pub mod laws;
 mod messages;
 mod refused;
 mod room;
 mod trims;
 
 pub use book::Book;
-pub use laws::{
-    arrive_law, ask_law, hand_in_law, last_law, message_law, new_law, news_law, release_law,
-    set_law, take_law, watch_law,
-};
 pub use refused::Refused;
