@@ -121,6 +121,8 @@ fn thirty_two_locks_and_flags_are_used(rt: HostRuntime) -> Result<(), Fail> {
 fn a_block_has_at_most_256_events(rt: HostRuntime) -> Result<(), Fail> {
     let mut told = opened(rt.alloc(), 2, 64, 64, 1, 0)?;
     let stores = four_pages(rt.alloc(), 3)?;
+    let mut fewer = four_pages(rt.alloc(), 3)?;
+    fewer.pop();
     go(
         &mut told,
         &rt,
@@ -128,7 +130,7 @@ fn a_block_has_at_most_256_events(rt: HostRuntime) -> Result<(), Fail> {
             Does(0, HandIn(255), NONE),
             Does(0, HandIn(256), NONE),
             Refuses(0, HandIn(257), Refused::BlockFull),
-            Does(0, Ask(0), &stores[..255]),
+            Does(0, Ask(0), &fewer),
             Does(0, Take, NONE),
             Does(0, HandIn(0), &stores),
             Does(0, Release(0), &stores),
