@@ -1,0 +1,7 @@
+pub mod Copies
+pub mod Local
+pub mod Refusals
+pub mod Accesses
+pub mod Sound
+pub mod Kept
+pub mod Covers

@@ -1,0 +1,54 @@
+-- Why a call that only the processor answers is refused.
+use Rattle.std.specs.Prelude.{ℕ, ◌/◌, ◌%◌, Bool, true, false, not, nat_le, nat_lt, cond, Option, Some, None, is_some, List, [], ◌∷◌, ◌≡◌, length, slice_get, slice_index_or}
+use Rattle.std.specs.Option.{option_map}
+use Rattle.page.specs.declared.pages.Access.{Access}
+use Rattle.page.specs.declared.pages.Access.TheVariants.{Valid, Invalid}
+use Rattle.book.specs.declared.refused.Refused.{Refused}
+use Rattle.book.specs.declared.refused.Refused.TheVariants.{OutOfRange, Waiting, BlockFull, AlreadyValid}
+use Rattle.book.specs.declared.refused.Refused.TheVariants as refused
+use Rattle.journal.specs.Sizes.{addresses}
+use Rattle.lists.specs.Limits.{most_in_block}
+use Rattle.cluster.specs.Copies.{Copied}
+use Rattle.cluster.specs.Local.{Local}
+
+-- the first of these that applies
+abbrev pub first_due : List (Bool × Refused) → Option Refused
+first_due [] = None
+first_due (r ∷ rs) = cond r.0 (Some r.1) (first_due rs)
+
+abbrev pub may_use : Access → Bool
+may_use Valid = true
+may_use Invalid = false
+
+-- the copy may be used, if there is one
+abbrev pub serves : Option Copied → Bool
+serves None = false
+serves (Some c) = may_use c.page.access
+
+-- p's copy of page n is valid
+abbrev pub has_valid : Local → ℕ → Bool
+has_valid m n = serves (slice_get m.copies n)
+
+-- p waits
+abbrev pub is_waiting : Local → Bool
+is_waiting m = is_some m.awaits
+
+-- no event fits into the open block any more
+abbrev pub is_full : Local → Bool
+is_full m = nat_le most_in_block (length m.block)
+
+-- why a load or a store at this address is refused
+abbrev pub access_refusal : Local → ℕ → Option Refused
+access_refusal m a = first_due (
+    (nat_le (addresses m.sizes) a, OutOfRange)
+    ∷ (not (has_valid m (a / m.sizes.words)), refused.Invalid (a / m.sizes.words))
+    ∷ (is_waiting m, Waiting)
+    ∷ (is_full m, BlockFull) ∷ [])
+
+-- why a fetch of this page is refused
+abbrev pub fetch_refusal : Local → ℕ → Option Refused
+fetch_refusal m n = first_due (
+    (nat_le m.sizes.pages n, OutOfRange)
+    ∷ (is_waiting m, Waiting)
+    ∷ (is_full m, BlockFull)
+    ∷ (has_valid m n, AlreadyValid) ∷ [])

@@ -1,0 +1,124 @@
+//! Processors.
+ghost use Rattle.std.specs.Prelude.{◌≡◌, ◌<◌, ◌/◌, ◌%◌, OnErr, OnOk, IfOk, IfSome, Some, ℕ, length, slice_get};
+ghost use Rattle.std.specs.Result.{result_err};
+
+use crate::keeper::Rule;
+use crate::marks::Marks;
+use crate::replica::Replica;
+use crate::shape::Shape;
+use book::{Book, Refused};
+use journal::{Event, Kind};
+use std::marker::{Model, PhantomData};
+use turn::{Chair, Turn};
+use vtime::VTime;
+
+/// Events of an open block at most.
+const MOST_IN_BLOCK: usize = 256;
+
+/// A processor of a cluster, which one thread owns. Loads, stores and fetches are its own business: they
+/// enter no lock and take no memory.
+#[derive(Drop)]
+pub struct Processor<T: Turn<Book, Rule>> {
+    number: usize,
+    shape: Shape,
+    chair: Chair<Book, Rule>,
+    block: Vec<Event>,
+    replicas: Vec<Replica>,
+    stored: Marks,
+    time: VTime,
+    held: Vec<bool>,
+    awaits: Option<Kind>,
+    turn: PhantomData<T>,
+}
+
+impl<T: Turn<Book, Rule>> Model for Processor<T> {
+    ghost use Rattle.std.specs.Prelude.{◌≡◌, ◌≤◌, vec_capacity};
+    ghost use Rattle.turn.specs.Chairs.{lock, view, entries, place, IsOutside};
+    ghost use Rattle.lists.specs.Limits.{most_in_block};
+    ghost use Rattle.cluster.specs.Local.{Local, local};
+    ghost use Rattle.cluster.specs.Sound.{IsSound, IsSeated};
+
+    ghost Value = { Local };
+
+    ghost view = { λ m. local m.chair m.number m.shape m.block.items m.replicas.items m.stored m.time m.held.items m.awaits };
+
+    ghost invariant = { λ m.
+        IsSound (local m.chair m.number m.shape m.block.items m.replicas.items m.stored m.time m.held.items m.awaits)
+        × IsSeated m.chair m.number
+        × (most_in_block ≤ vec_capacity m.block) };
+}
+
+impl<T: Turn<Book, Rule>> Processor<T> {
+    ghost use Rattle.journal.specs.declared.event.Kind.{Kind as AKind};
+    ghost use Rattle.cluster.specs.Local.{noted};
+    ghost use Rattle.cluster.specs.Refusals.{access_refusal};
+    ghost use Rattle.cluster.specs.Accesses.{HasWord, IsStored};
+
+    /// The processor's number, from 0.
+    pub fn number(&self) -> usize
+        ensures { result ≡ self.now.number }
+    {
+        self.number
+    }
+
+    /// The word at the address in the processor's own copy. It costs the address's division, two tests and
+    /// one event of the open block.
+    ///
+    /// The first of these that applies: [`OutOfRange`](Refused::OutOfRange) past the last address,
+    /// [`Invalid`](Refused::Invalid) where the copy of the address's page lacks records,
+    /// [`Waiting`](Refused::Waiting) between a call that waits and its take, and
+    /// [`BlockFull`](Refused::BlockFull) at 256 events.
+    pub fn load(&mut self, address: usize) -> Result<u32, Refused>
+        ensures refused { result_err result ≡ access_refusal self.old address }
+        ensures err { OnErr result (self.new ≡ self.old) }
+        ensures word { IfOk result (λ v. HasWord self.old address v) }
+        ensures ok { IfOk result (λ v. self.new ≡ noted self.old (Kind.Load address v)) }
+    {
+        let (page, offset) = self.admit(address)?;
+        let value = self.replicas[page].load(offset);
+        self.block.push_reserved(Event {
+            processor: self.number,
+            kind: Kind::Load(address, value),
+        });
+        Ok(value)
+    }
+
+    /// Writes the word at the address in the processor's own copy, and marks it as stored to. It costs what a
+    /// load costs, and is refused as a load is.
+    pub fn store(&mut self, address: usize, value: u32) -> Result<(), Refused>
+        ensures refused { result_err result ≡ access_refusal self.old address }
+        ensures err { OnErr result (self.new ≡ self.old) }
+        ensures ok { OnOk result (IsStored self.old address value self.new) }
+    {
+        let (page, offset) = self.admit(address)?;
+        self.replicas[page].store(offset, value);
+        self.stored.add(page);
+        self.block.push_reserved(Event {
+            processor: self.number,
+            kind: Kind::Store(address, value),
+        });
+        Ok(())
+    }
+
+    /// Where the word at the address is, if a load or a store may use it: its page and its offset there.
+    fn admit(&self, address: usize) -> Result<(usize, usize), Refused>
+        ensures refused { result_err result ≡ access_refusal self.now address }
+        ensures place { IfOk result (λ r. (r.0 ≡ address / self.now.sizes.words) × (r.1 ≡ address % self.now.sizes.words)) }
+    {
+        let words = self.shape.words;
+        let (page, offset) = (address / words, address % words);
+        let Some(replica) = self.replicas.get(page) else {
+            return Err(Refused::OutOfRange);
+        };
+        if !replica.is_valid() {
+            return Err(Refused::Invalid(page));
+        }
+        if self.awaits.is_some() {
+            return Err(Refused::Waiting);
+        }
+        if self.block.len() == MOST_IN_BLOCK {
+            return Err(Refused::BlockFull);
+        }
+        Ok((page, offset))
+    }
+}
