@@ -1,3 +1,4 @@
 pub mod Replicas
 pub mod Refusing
 pub mod Noting
+pub mod Covering

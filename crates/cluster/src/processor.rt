@@ -53,6 +53,7 @@ impl<T: Turn<Book, Rule>> Processor<T> {
     ghost use Rattle.cluster.specs.Local.{noted};
     ghost use Rattle.cluster.specs.Refusals.{access_refusal};
     ghost use Rattle.cluster.specs.Accesses.{HasWord, IsStored};
+    ghost use Rattle.cluster.specs.Covers.{Covers};
 
     /// The processor's number, from 0.
     pub fn number(&self) -> usize
@@ -73,6 +74,7 @@ impl<T: Turn<Book, Rule>> Processor<T> {
         ensures err { OnErr result (self.new ≡ self.old) }
         ensures word { IfOk result (λ v. HasWord self.old address v) }
         ensures ok { IfOk result (λ v. self.new ≡ noted self.old (Kind.Load address v)) }
+        ensures covers { Covers self.new }
     {
         let (page, offset) = self.admit(address)?;
         let value = self.replicas[page].load(offset);
@@ -89,6 +91,7 @@ impl<T: Turn<Book, Rule>> Processor<T> {
         ensures refused { result_err result ≡ access_refusal self.old address }
         ensures err { OnErr result (self.new ≡ self.old) }
         ensures ok { OnOk result (IsStored self.old address value self.new) }
+        ensures covers { Covers self.new }
     {
         let (page, offset) = self.admit(address)?;
         self.replicas[page].store(offset, value);

@@ -5,6 +5,7 @@ use Rattle.cluster.specs.Copies.{Copied}
 use Rattle.cluster.specs.Local.{Local, noted}
 use Rattle.cluster.specs.Refusals.{access_refusal}
 use Rattle.cluster.specs.Sound.{IsSound}
+use Rattle.cluster.proofs.Covering.{covers}
 use Rattle.cluster.proofs.Refusing.{copy_read}
 use Rattle.cluster.proofs.Noting.{offset_within, loaded}
 use Rattle.cluster.proofs.processor.Processor.load.Goals as goal
@@ -15,6 +16,13 @@ load-value-requires-clause-in_range g c =
     let place = c.in_ok-page.ensures.place in
     let read = copy_read _ m c.args.address c.in_ok-page.page c.index.result.now c.self.view_is (sym c.in_ok-page.ensures.refused) place.0 c.index.ensures in
     rw (place.1) (offset_within m c.args.address c.index.result.now read.0 (subst IsSound c.self.view_is c.self.invariant.0))
+
+pub load-value-requires-clause-valid : goal.load-value-requires-clause-valid
+load-value-requires-clause-valid g c =
+    (copy_read _ c.args.self.now c.args.address c.in_ok-page.page c.index.result.now c.self.view_is (sym c.in_ok-page.ensures.refused) c.in_ok-page.ensures.place.0 c.index.ensures).1
+
+pub returns-in_err-page-clause-covers : goal.returns-in_err-page-clause-covers
+returns-in_err-page-clause-covers g c = covers c.args.self.now (subst IsSound c.self.view_is c.self.invariant.0)
 
 pub returns-clause-word : goal.returns-clause-word
 returns-clause-word g c =
@@ -36,3 +44,6 @@ invariant_of-self g c =
       c.self.invariant.1,
       (let kept = c.self.invariant.2 in let same = c.push_reserved.ensures.capacity in omega arith),
     )
+
+pub returns-clause-covers : goal.returns-clause-covers
+returns-clause-covers g c = covers _ (invariant_of-self g c).0
