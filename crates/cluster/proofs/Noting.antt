@@ -34,7 +34,7 @@ use Rattle.cluster.specs.Sound.{IsSound}
 use Rattle.cluster.proofs.Replicas.{replica_long, IsAfterEvent, replica_pushed}
 use Rattle.cluster.proofs.Refusing.{MayAccess, may_access}
 
-valid_is_not_stale : Valid ≢ Invalid
+pub valid_is_not_stale : Valid ≢ Invalid
 valid_is_not_stale h = cc
 
 -- the offset of an address lies in its page
@@ -42,7 +42,7 @@ pub offset_within : (m : Local) (a : ℕ) (c : Copied) → slice_get m.copies (a
 offset_within m a c at sound = rw (replica_long m.sizes m.seen m.block m.number (a / m.sizes.words) (sound.bases (a / m.sizes.words)) c (sound.copies.each (a / m.sizes.words) c at)) (mod-lt a sound.sizes.some_words)
 
 -- the block with one more event of p, inside the sizes
-inner_pushed : (m : Local) (k : Kind) → is_taking k ≡ false → is_closing k ≡ false → KindInRange m.sizes k → ((i : ℕ) (e : Event) → At m.block i e → IsInner m.sizes m.number e) → (i : ℕ) (e : Event) → At (m.block ++ event m.number k ∷ []) i e → IsInner m.sizes m.number e
+pub inner_pushed : (m : Local) (k : Kind) → is_taking k ≡ false → is_closing k ≡ false → KindInRange m.sizes k → ((i : ℕ) (e : Event) → At m.block i e → IsInner m.sizes m.number e) → (i : ℕ) (e : Event) → At (m.block ++ event m.number k ∷ []) i e → IsInner m.sizes m.number e
 inner_pushed m k takes closes range inner i e at = elim (push_cases m.block (event m.number k) i e at) [
   | inl h ↦ inner i e h.1
   | inr h ↦ subst (IsInner m.sizes m.number) h.1 (record { mine = refl; takes = takes; closes = closes; in_range = range })

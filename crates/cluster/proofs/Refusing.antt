@@ -68,3 +68,31 @@ copy_read was m a page x same free place read =
     let P : List Copied → ℕ → Type 0 = λ xs k. x ≡ get_or xs k x in
     let is : x ≡ may.copy = subst₂ P (ap (λ (l : Local). l.copies) same) place read ∙ get_or_from_slice_get m.copies (a / m.sizes.words) may.copy x may.at in
     (may.at ∙ ap (λ (c : Copied). Some c) (sym is), ap (λ (c : Copied). c.page.access) is ∙ may.valid)
+
+-- a fetch of this page is not refused
+pub record MayFetch (m : Local) (n : ℕ) : Type 0 where
+  pub within : n < m.sizes.pages
+  pub idle : m.awaits ≡ None
+  pub room : length m.block < most_in_block
+  pub invalid : has_valid m n ≡ false
+
+pub may_fetch : (m : Local) (n : ℕ) → fetch_refusal m n ≡ None → MayFetch m n
+may_fetch m n none =
+    let one = due_none (nat_le m.sizes.pages n) _ _ none in
+    let two = due_none (is_waiting m) _ _ one.1 in
+    let three = due_none (is_full m) _ _ two.1 in
+    let four = due_none (has_valid m n) _ _ three.1 in
+    record {
+      within = above m.sizes.pages n one.0;
+      idle = unawaited m.awaits two.0;
+      room = above most_in_block (length m.block) three.0;
+      invalid = four.0;
+    }
+
+-- so the copy is not valid
+pub stale_copy : (m : Local) (n : ℕ) (c : Copied) → fetch_refusal m n ≡ None → slice_get m.copies n ≡ Some c → c.page.access ≡ Invalid
+stale_copy m n c free at = unusable c.page.access (ap serves (sym at) ∙ (may_fetch m n free).invalid)
+  where
+    unusable : (a : Access) → may_use a ≡ false → a ≡ Invalid
+    unusable Valid h = absurd (cc)
+    unusable Invalid h = refl

@@ -1,7 +1,8 @@
--- Loads and stores.
+-- Loads, stores and fetches.
 use Rattle.std.specs.Prelude.{ℕ, ◌≡◌, ◌/◌, ◌%◌, true, Some, slice_get, slice_set}
-use Rattle.journal.specs.declared.event.Kind.TheVariants.{Store}
-use Rattle.cluster.specs.Copies.{Copied}
+use Rattle.journal.specs.declared.event.Kind.TheVariants.{Store, Fetch}
+use Rattle.cluster.specs.declared.replica.Counts.{Counts}
+use Rattle.cluster.specs.Copies.{Copied, fetched, AreCounts}
 use Rattle.cluster.specs.Local.{Local, noted}
 
 -- the processor's copy of the address's page has this word there
@@ -26,3 +27,15 @@ pub record IsStored (old : Local) (a v : ℕ) (new : Local) : Type 0 where
   pub copy : Copied
   pub at : slice_get old.copies (a / old.sizes.words) ≡ Some copy
   pub after : new ≡ stored_at old a v copy
+
+-- the processor after a fetch of page n with these counts, where c is its copy of the page
+abbrev pub fetched_at : Local → ℕ → Copied → Counts → Local
+fetched_at m n c k = record (noted m (Fetch n k.writers k.records k.words)) { copies = slice_set m.copies n (fetched c) }
+
+-- and it had one, whose missing records are so many
+pub record IsFetched (old : Local) (n : ℕ) (new : Local) : Type 0 where
+  pub copy : Copied
+  pub at : slice_get old.copies n ≡ Some copy
+  pub counts : Counts
+  pub are : AreCounts copy.missing counts
+  pub after : new ≡ fetched_at old n copy counts

@@ -37,6 +37,10 @@ is_waiting m = is_some m.awaits
 abbrev pub is_full : Local → Bool
 is_full m = nat_le most_in_block (length m.block)
 
+-- why the open block may not have one more event
+abbrev pub event_refusal : Local → Option Refused
+event_refusal m = first_due ((is_waiting m, Waiting) ∷ (is_full m, BlockFull) ∷ [])
+
 -- why a load or a store at this address is refused
 abbrev pub access_refusal : Local → ℕ → Option Refused
 access_refusal m a = first_due (

@@ -51,8 +51,8 @@ impl<T: Turn<Book, Rule>> Model for Processor<T> {
 impl<T: Turn<Book, Rule>> Processor<T> {
     ghost use Rattle.journal.specs.declared.event.Kind.{Kind as AKind};
     ghost use Rattle.cluster.specs.Local.{noted};
-    ghost use Rattle.cluster.specs.Refusals.{access_refusal};
-    ghost use Rattle.cluster.specs.Accesses.{HasWord, IsStored};
+    ghost use Rattle.cluster.specs.Refusals.{access_refusal, fetch_refusal, event_refusal};
+    ghost use Rattle.cluster.specs.Accesses.{HasWord, IsStored, IsFetched};
     ghost use Rattle.cluster.specs.Covers.{Covers};
 
     /// The processor's number, from 0.
@@ -103,6 +103,61 @@ impl<T: Turn<Book, Rule>> Processor<T> {
         Ok(())
     }
 
+    /// Applies the records that the copy of the page lacks, in the order in which their intervals were
+    /// closed, and makes it valid. It costs its records.
+    ///
+    /// The first of these that applies: [`OutOfRange`](Refused::OutOfRange) past the last page,
+    /// [`Waiting`](Refused::Waiting), [`BlockFull`](Refused::BlockFull), and
+    /// [`AlreadyValid`](Refused::AlreadyValid) where the copy lacks nothing.
+    pub fn fetch(&mut self, page: usize) -> Result<(), Refused>
+        ensures refused { result_err result ≡ fetch_refusal self.old page }
+        ensures err { OnErr result (self.new ≡ self.old) }
+        ensures ok { OnOk result (IsFetched self.old page self.new) }
+        ensures covers { Covers self.new }
+    {
+        self.admit_fetch(page)?;
+        let replica = &mut self.replicas[page];
+        let counts = replica.counts();
+        replica.fetch();
+        self.block.push_reserved(Event {
+            processor: self.number,
+            kind: Kind::Fetch {
+                page,
+                writers: counts.writers,
+                records: counts.records,
+                words: counts.words,
+            },
+        });
+        Ok(())
+    }
+
+    /// Whether a fetch of the page may be done.
+    fn admit_fetch(&self, page: usize) -> Result<(), Refused>
+        ensures { result_err result ≡ fetch_refusal self.now page }
+    {
+        let Some(replica) = self.replicas.get(page) else {
+            return Err(Refused::OutOfRange);
+        };
+        self.admit_event()?;
+        if replica.is_valid() {
+            return Err(Refused::AlreadyValid);
+        }
+        Ok(())
+    }
+
+    /// Whether the open block may have one more event.
+    fn admit_event(&self) -> Result<(), Refused>
+        ensures { result_err result ≡ event_refusal self.now }
+    {
+        if self.awaits.is_some() {
+            return Err(Refused::Waiting);
+        }
+        if self.block.len() == MOST_IN_BLOCK {
+            return Err(Refused::BlockFull);
+        }
+        Ok(())
+    }
+
     /// Where the word at the address is, if a load or a store may use it: its page and its offset there.
     fn admit(&self, address: usize) -> Result<(usize, usize), Refused>
         ensures refused { result_err result ≡ access_refusal self.now address }
@@ -116,12 +171,7 @@ impl<T: Turn<Book, Rule>> Processor<T> {
         if !replica.is_valid() {
             return Err(Refused::Invalid(page));
         }
-        if self.awaits.is_some() {
-            return Err(Refused::Waiting);
-        }
-        if self.block.len() == MOST_IN_BLOCK {
-            return Err(Refused::BlockFull);
-        }
+        self.admit_event()?;
         Ok((page, offset))
     }
 }

@@ -1,12 +1,27 @@
 //! A processor's copy of a page, with the records that it lacks.
-ghost use Rattle.std.specs.Prelude.{◌≡◌, ◌<◌, ◌↔◌, IsTrue, Some, length, slice_get};
-ghost use Rattle.page.specs.declared.pages.Access.TheVariants.{Valid};
+ghost use Rattle.std.specs.Prelude.{◌≡◌, ◌<◌, ◌≤◌, ◌^◌, Some, length, map, slice_get, sum_by};
+ghost use Rattle.page.specs.declared.pages.Access.TheVariants.{Valid, Invalid};
+ghost use Rattle.journal.specs.Copies.{HasCount};
+ghost use Rattle.lists.specs.Records.{records_applied};
+ghost use Rattle.lists.specs.Limits.{most_events};
+ghost use Rattle.interval.specs.Intervals.{SentRecord};
+ghost use Rattle.lists.specs.Places.{Has};
 ghost use Rattle.cluster.specs.Accesses.{written_at};
+ghost use Rattle.cluster.specs.Copies.{AllFit, IsOwner, words_of};
 ghost use Rattle.cluster.specs.Refusals.{may_use};
 
+use crate::marks::Marks;
 use interval::Sent;
-use page::{Access, Page};
+use page::{Access, Page, Record};
 use std::marker::Model;
+
+/// What a fetch applies: of how many owners, how many records, and how many words.
+#[derive(Clone, Copy, Debug, PartialEq, Eq)]
+pub(crate) struct Counts {
+    pub(crate) writers: u32,
+    pub(crate) records: u32,
+    pub(crate) words: u32,
+}
 
 /// A processor's copy of a page, and the records that came for it since it was last valid, in the
 /// order in which their intervals were closed.
@@ -25,6 +40,8 @@ impl Model for Replica {
 }
 
 impl Replica {
+    ghost use Rattle.cluster.specs.Copies.{AreCounts, fetched};
+
     /// Whether the copy lacks nothing.
     pub(crate) fn is_valid(&self) -> bool
         ensures { result ≡ may_use self.now.page.access }
@@ -49,4 +66,74 @@ impl Replica {
     {
         self.page.store(offset, value);
     }
+
+    /// What a fetch applies now.
+    pub(crate) fn counts(&self) -> Counts
+        requires few { length self.now.missing ≤ most_events }
+        requires fit { AllFit (length self.now.page.words) self.now.missing }
+        ensures { AreCounts self.now.missing result }
+    {
+        let missing = self.missing.as_slice();
+        Counts {
+            writers: writers_of(missing),
+            records: missing.len() as u32,
+            words: words_in(missing),
+        }
+    }
+
+    /// Applies the missing records, in the order in which their intervals were closed, and makes the copy
+    /// valid. The list keeps its room.
+    pub(crate) fn fetch(&mut self)
+        requires invalid { self.old.page.access ≡ Invalid }
+        requires fit { AllFit (length self.old.page.words) self.old.missing }
+        ensures { self.new ≡ fetched self.old }
+    {
+        apply_all(&mut self.page, self.missing.as_slice());
+        self.page.set_valid();
+        self.missing.clear();
+    }
+}
+
+/// Applies the records in their order.
+fn apply_all(page: &mut Page, missing: &[Sent])
+    requires invalid { page.old.access ≡ Invalid }
+    requires fit { AllFit (length page.old.words) missing.now }
+    ensures { page.new ≡ record page.old { words = records_applied page.old.words (map words_of missing.now) } }
+{
+    for sent in missing {
+        let content: &Record = &sent.content;
+        page.apply(content);
+    }
+}
+
+/// How many owners the records have.
+fn writers_of(missing: &[Sent]) -> u32
+    requires few { length missing.now ≤ most_events }
+    requires fit { (x : SentRecord) → Has missing.now x → x.notice.owner < 64 }
+    ensures { HasCount (IsOwner missing.now) result }
+{
+    let mut owners = Marks::none();
+    let mut count = 0;
+    for sent in missing {
+        let owner = sent.notice.owner;
+        if !owners.has(owner) {
+            owners.add(owner);
+            count += 1;
+        }
+    }
+    count
+}
+
+/// How many words the records have.
+fn words_in(missing: &[Sent]) -> u32
+    requires few { length missing.now ≤ most_events }
+    requires fit { (x : SentRecord) → Has missing.now x → length (words_of x) ≤ 64 }
+    ensures { result ≡ sum_by (λ x. length (words_of x)) missing.now }
+{
+    let mut count = 0;
+    for sent in missing {
+        let content: &Record = &sent.content;
+        count += content.words().len() as u32;
+    }
+    count
 }
