@@ -25,6 +25,19 @@ abbrev pub serves : Option Copied → Bool
 serves None = false
 serves (Some c) = may_use c.page.access
 
+abbrev pub words_if : Bool → Copied → Option (List ℕ)
+words_if true c = Some c.page.words
+words_if false c = None
+
+-- the words of the copy, where it may be used
+abbrev pub words_in : Option Copied → Option (List ℕ)
+words_in None = None
+words_in (Some c) = words_if (may_use c.page.access) c
+
+-- the words of p's copy of page n, where it is valid
+abbrev pub page_of : Local → ℕ → Option (List ℕ)
+page_of m n = words_in (slice_get m.copies n)
+
 -- p's copy of page n is valid
 abbrev pub has_valid : Local → ℕ → Bool
 has_valid m n = serves (slice_get m.copies n)

@@ -1,5 +1,6 @@
 //! Processors.
-ghost use Rattle.std.specs.Prelude.{◌≡◌, ◌<◌, ◌/◌, ◌%◌, OnErr, OnOk, IfOk, IfSome, Some, ℕ, length, slice_get};
+ghost use Rattle.std.specs.Prelude.{◌≡◌, ◌<◌, ◌+◌, ◌/◌, ◌%◌, ◌++◌, ◌∷◌, [], OnErr, OnOk, IfOk, false, length, slice_index_or};
+ghost use Rattle.std.specs.Option.{option_map};
 ghost use Rattle.std.specs.Result.{result_err};
 
 use crate::keeper::Rule;
@@ -49,9 +50,10 @@ impl<T: Turn<Book, Rule>> Model for Processor<T> {
 }
 
 impl<T: Turn<Book, Rule>> Processor<T> {
-    ghost use Rattle.journal.specs.declared.event.Kind.{Kind as AKind};
-    ghost use Rattle.cluster.specs.Local.{noted};
-    ghost use Rattle.cluster.specs.Refusals.{access_refusal, fetch_refusal, event_refusal};
+    ghost use Rattle.journal.specs.Did.{event};
+    ghost use Rattle.lists.specs.Limits.{most_in_block};
+    ghost use Rattle.cluster.specs.Local.{calls, noted};
+    ghost use Rattle.cluster.specs.Refusals.{page_of, has_valid, is_waiting, access_refusal, fetch_refusal, event_refusal};
     ghost use Rattle.cluster.specs.Accesses.{HasWord, IsStored, IsFetched};
     ghost use Rattle.cluster.specs.Covers.{Covers};
 
@@ -60,6 +62,54 @@ impl<T: Turn<Book, Rule>> Processor<T> {
         ensures { result ≡ self.now.number }
     {
         self.number
+    }
+
+    /// Its copy of the page: None where that lacks records, or past the last page.
+    pub fn page(&self, page: usize) -> Option<&[u32]>
+        ensures { option_map (λ words. words.now) result ≡ page_of self.now page }
+    {
+        self.replicas.get(page)?.words()
+    }
+
+    /// Whether its copy of the page lacks nothing; false past the last page.
+    pub fn is_valid(&self, page: usize) -> bool
+        ensures { result ≡ has_valid self.now page }
+    {
+        match self.replicas.get(page) {
+            Some(replica) => replica.is_valid(),
+            None => false,
+        }
+    }
+
+    /// Whether it holds the lock: it acquired it, and has not released it since. False past the last lock.
+    pub fn holds(&self, lock: usize) -> bool
+        ensures { result ≡ slice_index_or self.now.held lock false }
+    {
+        match self.held.get(lock) {
+            Some(held) => *held,
+            None => false,
+        }
+    }
+
+    /// Whether it has asked, arrived or watched, and not yet taken.
+    pub fn waiting(&self) -> bool
+        ensures { result ≡ is_waiting self.now }
+    {
+        self.awaits.is_some()
+    }
+
+    /// Its timestamp: of each processor, how many intervals have been performed here.
+    pub fn timestamp(&self) -> &VTime
+        ensures { result.now ≡ self.now.time }
+    {
+        &self.time
+    }
+
+    /// How many events still fit into its open block, at most 256.
+    pub fn room(&self) -> usize
+        ensures { result + length self.now.block ≡ most_in_block }
+    {
+        MOST_IN_BLOCK - self.block.len()
     }
 
     /// The word at the address in the processor's own copy. It costs the address's division, two tests and
@@ -74,6 +124,7 @@ impl<T: Turn<Book, Rule>> Processor<T> {
         ensures err { OnErr result (self.new ≡ self.old) }
         ensures word { IfOk result (λ v. HasWord self.old address v) }
         ensures ok { IfOk result (λ v. self.new ≡ noted self.old (Kind.Load address v)) }
+        ensures calls { IfOk result (λ v. calls self.new ≡ calls self.old ++ event self.old.number (Kind.Load address v) ∷ []) }
         ensures covers { Covers self.new }
     {
         let (page, offset) = self.admit(address)?;
@@ -91,6 +142,7 @@ impl<T: Turn<Book, Rule>> Processor<T> {
         ensures refused { result_err result ≡ access_refusal self.old address }
         ensures err { OnErr result (self.new ≡ self.old) }
         ensures ok { OnOk result (IsStored self.old address value self.new) }
+        ensures calls { OnOk result (calls self.new ≡ calls self.old ++ event self.old.number (Kind.Store address value) ∷ []) }
         ensures covers { Covers self.new }
     {
         let (page, offset) = self.admit(address)?;

@@ -8,7 +8,8 @@ ghost use Rattle.interval.specs.Intervals.{SentRecord};
 ghost use Rattle.lists.specs.Places.{Has};
 ghost use Rattle.cluster.specs.Accesses.{written_at};
 ghost use Rattle.cluster.specs.Copies.{AllFit, IsOwner, words_of};
-ghost use Rattle.cluster.specs.Refusals.{may_use};
+ghost use Rattle.std.specs.Option.{option_map};
+ghost use Rattle.cluster.specs.Refusals.{may_use, words_if};
 
 use crate::marks::Marks;
 use interval::Sent;
@@ -47,6 +48,16 @@ impl Replica {
         ensures { result ≡ may_use self.now.page.access }
     {
         self.page.access() == Access::Valid
+    }
+
+    /// Its words, where it lacks nothing.
+    pub(crate) fn words(&self) -> Option<&[u32]>
+        ensures { option_map (λ words. words.now) result ≡ words_if (may_use self.now.page.access) self.now }
+    {
+        if !self.is_valid() {
+            return None;
+        }
+        Some(self.page.words())
     }
 
     /// The word at `offset`.
