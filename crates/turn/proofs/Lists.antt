@@ -1,68 +1,101 @@
--- Lists read by `get_elem?`. The lemmas of atomic_table are passed on, for the crates above.
-pub use Rattle.atomic_table.proofs.Lists.{at_index, at_set, set_here, set_else, set_again, at_longer, at_last, at_map}
-use Rattle.std.proofs.Common.{◌≡◌, ℕ, zero, suc, ◌<◌, ◌⊎◌, List, [], ◌∷◌, ◌++◌, map, length, get_or, set, refl, sym, ap, ◌∙◌, Some, slice_get, inl, inr, ⊎_elim, arith}
+-- Lists read by `slice_get`: what stands where after a write, a push and a map.
+use Rattle.std.proofs.Common.{◌≡◌, ◌≢◌, ℕ, zero, suc, ◌<◌, ◌⊎◌, List, [], ◌∷◌, ◌++◌, map, length, get_or, set, replicate, refl, sym, ap, ◌∙◌, Some, None, slice_get, inl, inr, ⊎_elim, arith}
 use mathlib.Core.Option.{some, some-injective, some-ne-none}
 use lib.ListN.{get_elem?}
+use Rattle.std.proofs.lemmas.Option.{same_Some, none-some}
 
 module _ {A : Type 0} where
-  -- what stands in a list that is one longer
-  pub at_end : (l : List A) (a b : A) (j : ℕ) → get_elem? (l ++ a ∷ []) j ≡ some b → (get_elem? l j ≡ some b) ⊎ ((j ≡ length l) × (a ≡ b))
-  at_end [] a b zero e = inr (refl, some-injective a b e)
-  at_end [] a b (suc j) e = absurd (some-ne-none b (sym e))
-  at_end (x ∷ xs) a b zero e = inl e
-  at_end (x ∷ xs) a b (suc j) e = ⊎_elim inl (λ (t : (j ≡ length xs) × (a ≡ b)). inr (ap suc t.0, t.1)) (at_end xs a b j e)
-
-  -- a place with an element is below the length
-  pub at_below : (l : List A) (j : ℕ) (a : A) → get_elem? l j ≡ some a → j < length l
-  at_below [] j a e = absurd (some-ne-none a (sym e))
-  at_below (x ∷ xs) zero a e = omega arith
-  at_below (x ∷ xs) (suc j) a e = let h = at_below xs j a e in omega arith
-
-  -- what `get_or` reads at a place with an element
-  pub read_at : (l : List A) (j : ℕ) (a d : A) → get_elem? l j ≡ some a → get_or l j d ≡ a
-  read_at [] j a d e = absurd (some-ne-none a (sym e))
-  read_at (x ∷ xs) zero a d e = some-injective x a e
-  read_at (x ∷ xs) (suc j) a d e = read_at xs j a d e
-
-  -- the same in std's words
+  -- what the table below says of a place, in std's words
   pub got_at : (l : List A) (j : ℕ) (a : A) → get_elem? l j ≡ some a → slice_get l j ≡ Some a
   got_at [] j a e = absurd (some-ne-none a (sym e))
   got_at (x ∷ xs) zero a e = ap Some (some-injective x a e)
   got_at (x ∷ xs) (suc j) a e = got_at xs j a e
 
-  pub at_got : (l : List A) (j : ℕ) (a : A) → slice_get l j ≡ Some a → get_elem? l j ≡ some a
-  at_got [] j a e = cc
-  at_got (x ∷ xs) zero a e = let same : x ≡ a = cc in ap some same
-  at_got (x ∷ xs) (suc j) a e = at_got xs j a e
+  -- what stands in a list after a write
+  pub at_set : (l : List A) (i j : ℕ) (a b : A) → slice_get (set l i a) j ≡ Some b → ((j ≡ i) × (a ≡ b)) ⊎ ((j ≢ i) × (slice_get l j ≡ Some b))
+  at_set [] i j a b e = absurd (none-some b e)
+  at_set (x ∷ xs) zero zero a b e = inl (refl, same_Some a b e)
+  at_set (x ∷ xs) zero (suc j) a b e = inr ((λ h. omega arith), e)
+  at_set (x ∷ xs) (suc i) zero a b e = inr ((λ h. omega arith), e)
+  at_set (x ∷ xs) (suc i) (suc j) a b e = ⊎_elim (λ (t : (j ≡ i) × (a ≡ b)). inl (ap suc t.0, t.1)) (λ (t : (j ≢ i) × (slice_get xs j ≡ Some b)). let n = t.0 in inr ((λ h. n (omega arith)), t.1)) (at_set xs i j a b e)
+
+  pub set_here : (l : List A) (i : ℕ) (a : A) → i < length l → slice_get (set l i a) i ≡ Some a
+  set_here [] i a h = absurd (omega arith)
+  set_here (x ∷ xs) zero a h = refl
+  set_here (x ∷ xs) (suc i) a h = set_here xs i a (omega arith)
+
+  pub set_else : (l : List A) (i j : ℕ) (a : A) → j ≢ i → slice_get (set l i a) j ≡ slice_get l j
+  set_else [] i j a n = refl
+  set_else (x ∷ xs) zero zero a n = absurd (n refl)
+  set_else (x ∷ xs) zero (suc j) a n = refl
+  set_else (x ∷ xs) (suc i) zero a n = refl
+  set_else (x ∷ xs) (suc i) (suc j) a n = set_else xs i j a (λ e. n (ap suc e))
+
+  -- a write of what stands there already
+  pub set_again : (l : List A) (i : ℕ) (a : A) → slice_get l i ≡ Some a → set l i a ≡ l
+  set_again [] i a e = absurd (none-some a e)
+  set_again (x ∷ xs) zero a e = ap (λ (y : A). y ∷ xs) (sym (same_Some x a e))
+  set_again (x ∷ xs) (suc i) a e = ap (λ (ys : List A). x ∷ ys) (set_again xs i a e)
+
+  pub at_longer : (l m : List A) (i : ℕ) (a : A) → slice_get l i ≡ Some a → slice_get (l ++ m) i ≡ Some a
+  at_longer [] m i a e = absurd (none-some a e)
+  at_longer (x ∷ xs) m zero a e = e
+  at_longer (x ∷ xs) m (suc i) a e = at_longer xs m i a e
+
+  pub at_last : (l : List A) (a : A) (n : ℕ) → length l ≡ n → slice_get (l ++ a ∷ []) n ≡ Some a
+  at_last [] a zero e = refl
+  at_last [] a (suc n) e = absurd (omega arith)
+  at_last (x ∷ xs) a zero e = absurd (omega arith)
+  at_last (x ∷ xs) a (suc n) e = at_last xs a n (omega arith)
+
+  -- what stands in a list that is one longer
+  pub at_end : (l : List A) (a b : A) (j : ℕ) → slice_get (l ++ a ∷ []) j ≡ Some b → (slice_get l j ≡ Some b) ⊎ ((j ≡ length l) × (a ≡ b))
+  at_end [] a b zero e = inr (refl, same_Some a b e)
+  at_end [] a b (suc j) e = absurd (none-some b e)
+  at_end (x ∷ xs) a b zero e = inl e
+  at_end (x ∷ xs) a b (suc j) e = ⊎_elim inl (λ (t : (j ≡ length xs) × (a ≡ b)). inr (ap suc t.0, t.1)) (at_end xs a b j e)
 
   -- two elements at one place are one
-  pub at_once : (l : List A) (j : ℕ) (a b : A) → get_elem? l j ≡ some a → get_elem? l j ≡ some b → a ≡ b
-  at_once l j a b d e = some-injective a b (sym d ∙ e)
+  pub at_once : (l : List A) (j : ℕ) (a b : A) → slice_get l j ≡ Some a → slice_get l j ≡ Some b → a ≡ b
+  at_once l j a b d e = same_Some a b (sym d ∙ e)
 
   -- lists of one length that agree at each place are one
-  pub same_list : (l m : List A) → length l ≡ length m → ((j : ℕ) (a : A) → get_elem? m j ≡ some a → get_elem? l j ≡ some a) → l ≡ m
+  pub same_list : (l m : List A) → length l ≡ length m → ((j : ℕ) (a : A) → slice_get m j ≡ Some a → slice_get l j ≡ Some a) → l ≡ m
   same_list [] [] n h = refl
   same_list [] (y ∷ ys) n h = absurd (omega arith)
   same_list (x ∷ xs) [] n h = absurd (omega arith)
   same_list (x ∷ xs) (y ∷ ys) n h =
-      let e : x ≡ y = some-injective x y (h zero y refl) in
+      let e : x ≡ y = same_Some x y (h zero y refl) in
       let t : xs ≡ ys = same_list xs ys (omega arith) (λ j a. h (suc j) a) in
       cc
 
-  -- below the length there is an element
-  pub some_at : (l : List A) (j : ℕ) → j < length l → (a : A) × (get_elem? l j ≡ some a)
-  some_at [] j h = absurd (omega arith)
-  some_at (x ∷ xs) zero h = (x, refl)
-  some_at (x ∷ xs) (suc j) h = some_at xs j (omega arith)
+  -- what stands in a list of one element over and over
+  pub at_replicate : (n : ℕ) (a b : A) (k : ℕ) → slice_get (replicate n a) k ≡ Some b → a ≡ b
+  at_replicate zero a b k e = absurd (none-some b e)
+  at_replicate (suc n) a b zero e = same_Some a b e
+  at_replicate (suc n) a b (suc k) e = at_replicate n a b k e
 
 module _ {A B : Type 0} where
-  pub map-set : (f : A → B) (l : List A) (i : ℕ) (a : A) → map f (set l i a) ≡ set (map f l) i (f a)
-  map-set f [] i a = refl
-  map-set f (x ∷ xs) zero a = refl
-  map-set f (x ∷ xs) (suc i) a = ap (λ t. f x ∷ t) (map-set f xs i a)
+  pub at_map : (f : A → B) (l : List A) (i : ℕ) (a : A) → slice_get l i ≡ Some a → slice_get (map f l) i ≡ Some (f a)
+  at_map f [] i a e = absurd (none-some a e)
+  at_map f (x ∷ xs) zero a e = ap (λ (y : A). Some (f y)) (same_Some x a e)
+  at_map f (x ∷ xs) (suc i) a e = at_map f xs i a e
 
   -- what stands in a list of images is an image
-  pub at_unmap : (f : A → B) (l : List A) (k : ℕ) (b : B) → get_elem? (map f l) k ≡ some b → (a : A) × (get_elem? l k ≡ some a) × (f a ≡ b)
-  at_unmap f [] k b e = absurd (some-ne-none b (sym e))
-  at_unmap f (x ∷ xs) zero b e = (x, refl, some-injective (f x) b e)
+  pub at_unmap : (f : A → B) (l : List A) (k : ℕ) (b : B) → slice_get (map f l) k ≡ Some b → (a : A) × (slice_get l k ≡ Some a) × (f a ≡ b)
+  at_unmap f [] k b e = absurd (none-some b e)
+  at_unmap f (x ∷ xs) zero b e = (x, refl, same_Some (f x) b e)
   at_unmap f (x ∷ xs) (suc k) b e = at_unmap f xs k b e
+
+  pub map_replicate : (f : A → B) (n : ℕ) (a : A) → map f (replicate n a) ≡ replicate n (f a)
+  map_replicate f zero a = refl
+  map_replicate f (suc n) a = ap (λ t. f a ∷ t) (map_replicate f n a)
+
+-- an image of images
+pub map_map : {A B C : Type 0} (g : B → C) (f : A → B) (l : List A) → map g (map f l) ≡ map (λ a. g (f a)) l
+map_map g f [] = refl
+map_map g f (x ∷ xs) = ap (λ t. g (f x) ∷ t) (map_map g f xs)
+
+-- a list of one, pushed to an empty one
+pub pushed_one : {A : Type 0} (before after : List A) (a : A) → before ≡ [] → after ≡ before ++ a ∷ [] → after ≡ a ∷ []
+pushed_one {A = A} before after a empty e = e ∙ ap (λ (l : List A). l ++ a ∷ []) empty

@@ -1,5 +1,5 @@
 -- Each step of the lock is one that the table allows.
-use Rattle.std.proofs.Common.{◌≡◌, ◌≢◌, ℕ, ◌+◌, ◌%◌, ◌^◌, ◌<◌, List, [], ◌∷◌, map, set, get_or, Bool, eq-eqb, ne_eqb, Option, Some, MatchBool, unwrap_or, refl, sym, ap, ◌∙◌, subst, arith}
+use Rattle.std.proofs.Common.{◌≡◌, ◌≢◌, ℕ, ◌+◌, ◌%◌, ◌^◌, ◌<◌, List, [], ◌∷◌, map, set, get_or, Bool, eq-eqb, ne_eqb, Option, Some, slice_get, MatchBool, unwrap_or, refl, sym, ap, ◌∙◌, subst, arith}
 use Rattle.std.proofs.lemmas.List.{set-get_or, get_or-set_other}
 use mathlib.Core.Option as maybe
 use mathlib.Core.Option.{some, none}
@@ -9,14 +9,14 @@ use lib.ListN.{get_elem?}
 use Rattle.atomic_table.specs.Table.{State, Me, Act, keeps, takes, gives, Valid, stepped, carried_after, put_back, rest, Allows}
 use Rattle.turn.specs.declared.chair.Stage.{Stage}
 use Rattle.turn.specs.declared.chair.Stage.TheVariants.{Outside, Waiting, Inside}
-use Rattle.turn.specs.declared.chair.Sitting.{Sitting}
-use Rattle.turn.specs.declared.chair.Hand.{Hand}
+use Rattle.turn.specs.declared.chair.ChairState.{ChairState}
+use Rattle.turn.specs.declared.chair.ChairRun.{ChairRun}
 use Rattle.turn.specs.Chairs.{MayHandIn}
-use Rattle.turn.specs.Places.{one, Dealt}
-use Rattle.turn.specs.Tickets.{shelf, sitting, view_of, Turns}
+use Rattle.turn.specs.Runs.{one, Dealt}
+use Rattle.turn.specs.Tickets.{shelf, chair_state, view_of, Turns}
 use Rattle.turn.specs.Boards.{IsBoard}
-use Rattle.turn.specs.Moves.{seated, turned_to, Sits, Draws, StepsIn, Looks, Leaves}
-use Rattle.turn.proofs.Lists.{at_map, set_again}
+use Rattle.turn.specs.Moves.{seat_with, with_stage, IsAtStage, Draws, StepsIn, Looks, Leaves}
+use Rattle.turn.proofs.Lists.{got_at, at_map, set_again}
 use Rattle.turn.proofs.Places.{at_place, moved}
 use Rattle.turn.proofs.Steps.{draws, not_out, enters, leaves, served}
 
@@ -36,41 +36,42 @@ unfolding book_or
 slot_once xs a b d e = sym (ap (book_or a) d) ∙ ap (book_or a) e
 
 module _ (B V : Type 0) (fact : B → List V → Type 0) (width : ℕ) (shows : List ℕ → ℕ → Type 0) (at : ℕ → ℕ) (passed : ℕ → ℕ → ℕ) (board : IsBoard width shows at passed) (n limit slots id : ℕ) where
-  abbrev Rule : State (Option B) (Hand (Sitting B V)) → Type 0
+  abbrev Rule : State (Option B) (ChairRun (ChairState B V)) → Type 0
   Rule = Dealt n (Turns fact shows limit)
 
   abbrev Hold : Type 0
-  Hold = Me (Option B) (Hand (Sitting B V))
+  Hold = Me (Option B) (ChairRun (ChairState B V))
 
-  pub draws_allowed : (me : Hold) → Sits Outside me → me.0.lead.entries < limit → Allows Rule slots id me 0 (λ m. (m + 1) % 2 ^ 64) (Draws me)
-  draws_allowed me sits less s h long mine fit =
+  pub draws_allowed : (me : Hold) → IsAtStage Outside me → me.0.lead.entries < limit → Allows Rule slots id me 0 (λ m. (m + 1) % 2 ^ 64) (Draws me)
+  draws_allowed me sits less s h long seen fit =
+      let mine = got_at s.views id me.0 seen in
       let p = me.0.place in
-      let c : Sitting B V = sitting Outside me.0.lead.entries me.0.lead.view in
+      let c : ChairState B V = chair_state Outside me.0.lead.entries me.0.lead.view in
       let next = get_or s.words 0 0 in
-      let mine' : get_elem? s.views id ≡ some (one p c) = mine ∙ ap (λ (x : Hold). some x.0) sits in
-      let r = draws B V fact width shows at passed board limit s.words s.homes h.chairs h.keeps p c (at_place (Option B) (Sitting B V) n (Turns fact shows limit) s h id p c mine') refl less in
-      let d : Sitting B V = sitting (Waiting next) (me.0.lead.entries + 1) me.0.lead.view in (
+      let mine' : slice_get s.views id ≡ Some (one p c) = mine ∙ ap (λ (x : Hold). Some x.0) sits in
+      let r = draws B V fact width shows at passed board limit s.words s.homes h.chairs h.keeps p c (at_place (Option B) (ChairState B V) n (Turns fact shows limit) s h id p c mine') refl less in
+      let d : ChairState B V = chair_state (Waiting next) (me.0.lead.entries + 1) me.0.lead.view in (
         one p d,
         keeps,
         tt,
-        moved (Option B) (Sitting B V) n (Turns fact shows limit) s h id p c d (set s.words 0 ((next + 1) % 2 ^ 64)) s.homes mine' r.1,
-        (let z : (one p d, me.1) ≡ seated p (Waiting next) (me.0.lead.entries + 1) me.0.lead.view = ap (λ (x : Hold). (one p d, x.1)) sits in z, r.0),
+        moved (Option B) (ChairState B V) n (Turns fact shows limit) s h id p c d (set s.words 0 ((next + 1) % 2 ^ 64)) s.homes mine' r.1,
+        (let z : (one p d, me.1) ≡ seat_with p (Waiting next) (me.0.lead.entries + 1) me.0.lead.view = ap (λ (x : Hold). (one p d, x.1)) sits in z, r.0),
       )
 
   -- a look that finds the chair's own number
-  finds_own : (m : ℕ) (me : Hold) → Sits (Waiting m) me → (s : State (Option B) (Hand (Sitting B V))) → Rule s → get_elem? s.views id ≡ some me.0 → get_or s.words (at m) 0 ≡ m
-      → (w : Hand (Sitting B V)) × (a : Act (Option B)) × Valid s.homes me.1 a × Rule (stepped s (at m) (get_or s.words (at m) 0) id me.1 w a) × Looks fact me (get_or s.words (at m) 0) (w, carried_after me.1 a)
+  finds_own : (m : ℕ) (me : Hold) → IsAtStage (Waiting m) me → (s : State (Option B) (ChairRun (ChairState B V))) → Rule s → slice_get s.views id ≡ Some me.0 → get_or s.words (at m) 0 ≡ m
+      → (w : ChairRun (ChairState B V)) × (a : Act (Option B)) × Valid s.homes me.1 a × Rule (stepped s (at m) (get_or s.words (at m) 0) id me.1 w a) × Looks fact me (get_or s.words (at m) 0) (w, carried_after me.1 a)
   finds_own m me sits s h mine found =
       let p = me.0.place in
-      let c : Sitting B V = sitting (Waiting m) me.0.lead.entries me.0.lead.view in
-      let mine' : get_elem? s.views id ≡ some (one p c) = mine ∙ ap (λ (x : Hold). some x.0) sits in
+      let c : ChairState B V = chair_state (Waiting m) me.0.lead.entries me.0.lead.view in
+      let mine' : slice_get s.views id ≡ Some (one p c) = mine ∙ ap (λ (x : Hold). Some x.0) sits in
       let t = h.keeps in
-      let here = at_place (Option B) (Sitting B V) n (Turns fact shows limit) s h id p c mine' in
+      let here = at_place (Option B) (ChairState B V) n (Turns fact shows limit) s h id p c mine' in
       let low = (t.fits p c here).0 in
       let served = board.finds s.words t.serving m t.shown low found in
       let off = not_out B V fact width shows at passed board limit s.words s.homes h.chairs t p c here m refl served in
       let r = enters B V fact width shows at passed board limit s.words s.homes h.chairs t p c here m refl served in
-      let d : Sitting B V = sitting (Inside m t.book) me.0.lead.entries me.0.lead.view in
+      let d : ChairState B V = chair_state (Inside m t.book) me.0.lead.entries me.0.lead.view in
       let lies : s.homes ≡ some (Some t.book) ∷ [] = t.lies ∙ ap (λ (o : Bool). shelf o t.book) off in
       let empty : set s.homes 0 none ≡ none ∷ [] = ap (λ (hs : List (maybe.Option (Option B))). set hs 0 none) lies in
       let none_yet : me.1 ≡ [] = ap (λ (x : Hold). x.1) sits in
@@ -79,7 +80,7 @@ module _ (B V : Type 0) (fact : B → List V → Type 0) (width : ℕ) (shows : 
         takes 0 (Some t.book),
         ap (λ (hs : List (maybe.Option (Option B))). get_elem? hs 0) lies,
         subst (λ (ws : List ℕ). Rule (record { words = ws; homes = set s.homes 0 none; views = set s.views id (one p d) })) (sym (set-get_or s.words (at m) 0))
-            (moved (Option B) (Sitting B V) n (Turns fact shows limit) s h id p c d s.words (set s.homes 0 none) mine' (subst (λ (hs : List (maybe.Option (Option B))). Turns fact shows limit s.words hs (set h.chairs p d)) (sym empty) r)),
+            (moved (Option B) (ChairState B V) n (Turns fact shows limit) s h id p c d s.words (set s.homes 0 none) mine' (subst (λ (hs : List (maybe.Option (Option B))). Turns fact shows limit s.words hs (set h.chairs p d)) (sym empty) r)),
         λ k waits.
             let same : m ≡ k = waiting_once me.0.lead.stage m k (ap (λ (x : Hold). x.0.lead.stage) sits) waits in
             subst (λ (b : Bool). MatchBool b (StepsIn fact k me (one p d, (0, Some t.book) ∷ me.1)) ((one p d, (0, Some t.book) ∷ me.1) ≡ me)) (sym (eq-eqb (get_or s.words (at m) 0) k (found ∙ same)))
@@ -87,51 +88,54 @@ module _ (B V : Type 0) (fact : B → List V → Type 0) (width : ℕ) (shows : 
       )
 
   -- a look that finds another number
-  finds_other : (m : ℕ) (me : Hold) → Sits (Waiting m) me → (s : State (Option B) (Hand (Sitting B V))) → Rule s → get_elem? s.views id ≡ some me.0 → get_or s.words (at m) 0 ≢ m
-      → (w : Hand (Sitting B V)) × (a : Act (Option B)) × Valid s.homes me.1 a × Rule (stepped s (at m) (get_or s.words (at m) 0) id me.1 w a) × Looks fact me (get_or s.words (at m) 0) (w, carried_after me.1 a)
+  finds_other : (m : ℕ) (me : Hold) → IsAtStage (Waiting m) me → (s : State (Option B) (ChairRun (ChairState B V))) → Rule s → slice_get s.views id ≡ Some me.0 → get_or s.words (at m) 0 ≢ m
+      → (w : ChairRun (ChairState B V)) × (a : Act (Option B)) × Valid s.homes me.1 a × Rule (stepped s (at m) (get_or s.words (at m) 0) id me.1 w a) × Looks fact me (get_or s.words (at m) 0) (w, carried_after me.1 a)
   finds_other m me sits s h mine found = (
     me.0,
     keeps,
     tt,
     subst (λ (ws : List ℕ). Rule (record { words = ws; homes = s.homes; views = set s.views id me.0 })) (sym (set-get_or s.words (at m) 0))
-        (subst (λ (vs : List (Hand (Sitting B V))). Rule (record { words = s.words; homes = s.homes; views = vs })) (sym (set_again s.views id me.0 mine)) h),
+        (subst (λ (vs : List (ChairRun (ChairState B V))). Rule (record { words = s.words; homes = s.homes; views = vs })) (sym (set_again s.views id me.0 mine)) h),
     λ k waits.
         let same : m ≡ k = waiting_once me.0.lead.stage m k (ap (λ (x : Hold). x.0.lead.stage) sits) waits in
         subst (λ (b : Bool). MatchBool b (StepsIn fact k me me) (me ≡ me)) (sym (ne_eqb (get_or s.words (at m) 0) k (λ e. found (e ∙ sym same)))) refl,
   )
 
-  pub looks_allowed : (m : ℕ) (me : Hold) → Sits (Waiting m) me → Allows Rule slots id me (at m) (λ k. k) (Looks fact me)
-  looks_allowed m me sits s h long mine fit = dite (ℕ_discrete (get_or s.words (at m) 0) m) (finds_own m me sits s h mine) (finds_other m me sits s h mine)
+  pub looks_allowed : (m : ℕ) (me : Hold) → IsAtStage (Waiting m) me → Allows Rule slots id me (at m) (λ k. k) (Looks fact me)
+  looks_allowed m me sits s h long seen fit =
+      let mine = got_at s.views id me.0 seen in
+      dite (ℕ_discrete (get_or s.words (at m) 0) m) (finds_own m me sits s h mine) (finds_other m me sits s h mine)
 
-  pub leaves_allowed : (then : B → V → V → Type 0) (m : ℕ) (found book : B) (me : Hold) → me ≡ ((turned_to (Inside m found) me).0, (0, Some book) ∷ []) → MayHandIn fact then found book me.0.place me.0.lead.view
+  pub leaves_allowed : (then : B → V → V → Type 0) (m : ℕ) (found book : B) (me : Hold) → me ≡ ((with_stage (Inside m found) me).0, (0, Some book) ∷ []) → MayHandIn fact then found book me.0.place me.0.lead.view
       → Allows Rule slots id me (at (m + 1)) (passed m) (λ _ after. Leaves then me after)
-  leaves_allowed then m found book me sits may s h long mine fit =
+  leaves_allowed then m found book me sits may s h long seen fit =
+      let mine = got_at s.views id me.0 seen in
       let p = me.0.place in
       let v = me.0.lead.view in
-      let c : Sitting B V = sitting (Inside m found) me.0.lead.entries v in
-      let mine' : get_elem? s.views id ≡ some (one p c) = mine ∙ ap (λ (x : Hold). some x.0) sits in
+      let c : ChairState B V = chair_state (Inside m found) me.0.lead.entries v in
+      let mine' : slice_get s.views id ≡ Some (one p c) = mine ∙ ap (λ (x : Hold). Some x.0) sits in
       let t = h.keeps in
-      let here = at_place (Option B) (Sitting B V) n (Turns fact shows limit) s h id p c mine' in
+      let here = at_place (Option B) (ChairState B V) n (Turns fact shows limit) s h id p c mine' in
       let has = served B V fact width shows at passed board limit s.words s.homes h.chairs t p c here m found refl in
       let shown : shows s.words m = subst (λ (k : ℕ). shows s.words k) (sym has.0) t.shown in
       let words = set s.words (at (m + 1)) (passed m (get_or s.words (at (m + 1)) 0)) in
       let next : get_or words 0 0 ≡ get_or s.words 0 0 = get_or-set_other s.words (at (m + 1)) 0 (passed m (get_or s.words (at (m + 1)) 0)) 0 (λ e. let z = board.beside_next (m + 1) in omega arith) in
       let w = may (map view_of h.chairs) (at_map view_of h.chairs p c here) (subst (λ (b : B). fact b (map view_of h.chairs)) (sym has.2) t.kept) in
-      let d : Sitting B V = sitting Outside me.0.lead.entries w.0 in
+      let d : ChairState B V = chair_state Outside me.0.lead.entries w.0 in
       let has_slot : me.1 ≡ (0, Some book) ∷ [] = ap (λ (x : Hold). x.1) sits in
       let r = leaves B V fact width shows at passed board limit s.words s.homes h.chairs t p c here m found book w.0 words refl (board.passes s.words m shown has.1) next w.2 in
       let back : put_back s.homes me.1 ≡ some (Some book) ∷ [] = ap (λ (xs : List (ℕ × Option B)). put_back s.homes xs) has_slot ∙ ap (λ (hs : List (maybe.Option (Option B))). set hs 0 (some (Some book))) has.3 in (
         one p d,
         gives,
         tt,
-        moved (Option B) (Sitting B V) n (Turns fact shows limit) s h id p c d words (put_back s.homes me.1) mine' (subst (λ (hs : List (maybe.Option (Option B))). Turns fact shows limit words hs (set h.chairs p d)) (sym back) r),
+        moved (Option B) (ChairState B V) n (Turns fact shows limit) s h id p c d words (put_back s.homes me.1) mine' (subst (λ (hs : List (maybe.Option (Option B))). Turns fact shows limit words hs (set h.chairs p d)) (sym back) r),
         (ap (λ (xs : List (ℕ × Option B)). (one p d, rest xs)) has_slot, λ b e. subst (λ (x : B). then x v w.0) (slot_once me.1 book b has_slot e) w.1),
       )
 
   -- the same once the book was put back into the slot
-  pub leaves_after : (then : B → V → V → Type 0) (m : ℕ) (found book : B) (was me : Hold) → Sits (Inside m found) was → me ≡ (was.0, (0, Some book) ∷ rest was.1) → MayHandIn fact then found book was.0.place was.0.lead.view
+  pub leaves_after : (then : B → V → V → Type 0) (m : ℕ) (found book : B) (was me : Hold) → IsAtStage (Inside m found) was → me ≡ (was.0, (0, Some book) ∷ rest was.1) → MayHandIn fact then found book was.0.place was.0.lead.view
       → Allows Rule slots id me (at (m + 1)) (passed m) (λ _ after. Leaves then me after)
   leaves_after then m found book was me sits put may =
       let back : Hold = (was.0, (0, Some book) ∷ rest was.1) in
-      let inside : back ≡ ((turned_to (Inside m found) back).0, (0, Some book) ∷ []) = ap (λ (x : Hold). (x.0, (0, Some book) ∷ rest x.1)) sits in
+      let inside : back ≡ ((with_stage (Inside m found) back).0, (0, Some book) ∷ []) = ap (λ (x : Hold). (x.0, (0, Some book) ∷ rest x.1)) sits in
       subst (λ (x : Hold). Allows Rule slots id x (at (m + 1)) (passed m) (λ _ after. Leaves then x after)) (sym put) (leaves_allowed then m found book back inside may)

@@ -9,7 +9,8 @@ pub record IsBoard (width : ℕ) (shows : List ℕ → ℕ → Type 0) (at : ℕ
   pub has_next : (words : List ℕ) (k : ℕ) → shows words k → 0 < length words
   -- drawing changes nothing that is shown
   pub draws : (words : List ℕ) (k x : ℕ) → shows words k → shows (slice_set words 0 x) k
-  -- who finds its number is let in
+  -- who is let in finds its number where it looks, and who finds its number is let in
+  pub lets_in : (words : List ℕ) (k : ℕ) → shows words k → slice_index words (at k) ≡ k
   pub finds : (words : List ℕ) (k m : ℕ) → shows words k → k ≤ m → slice_index words (at m) ≡ m → m ≡ k
   -- leaving lets the next number in
   pub passes : (words : List ℕ) (m : ℕ) → shows words m → m + 1 < 2 ^ 64 → shows (slice_set words (at (m + 1)) (passed m (slice_index words (at (m + 1))))) (m + 1)

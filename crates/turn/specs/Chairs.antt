@@ -1,12 +1,10 @@
 -- The words of the lock's contract.
-use Rattle.std.specs.Prelude.{◌≡◌, ℕ, List, length, slice_set}
-use mathlib.Core.Option.{some}
-use lib.ListN.{get_elem?}
+use Rattle.std.specs.Prelude.{◌≡◌, ℕ, List, length, slice_get, slice_set, Some}
 use Rattle.atomic_table.specs.Seated.{TableId}
 use Rattle.turn.specs.declared.chair.Stage.{Stage}
 use Rattle.turn.specs.declared.chair.Stage.TheVariants.{Outside, Inside}
-use Rattle.turn.specs.declared.chair.Sitting.{Sitting}
-use Rattle.turn.specs.declared.chair.Seating.{Seating}
+use Rattle.turn.specs.declared.chair.ChairState.{ChairState}
+use Rattle.turn.specs.declared.chair.ChairToken.{ChairToken}
 use Rattle.turn.specs.declared.chair.Held.{Held}
 
 -- which lock it is: its table, and how often a chair of it may enter
@@ -19,55 +17,55 @@ lock_id z n = record { table = z; limit = n }
 
 module _ {B V : Type 0} where
   -- the lock that a chair is of
-  abbrev pub lock : Seating B V → LockId
+  abbrev pub lock : ChairToken B V → LockId
   lock c = lock_id c.seat.table_id c.limit
 
   -- a chair's place among the lock's chairs, from 0
-  abbrev pub place : Seating B V → ℕ
+  abbrev pub place : ChairToken B V → ℕ
   place c = c.seat.me.0.place
 
   -- the keeper's view of the chair
-  abbrev pub view : Seating B V → V
+  abbrev pub view : ChairToken B V → V
   view c = c.seat.me.0.lead.view
 
   -- how often the chair has entered
-  abbrev pub entries : Seating B V → ℕ
+  abbrev pub entries : ChairToken B V → ℕ
   entries c = c.seat.me.0.lead.entries
 
   -- what the lock's rule says of the chair
-  abbrev pub sitting_of : Seating B V → Sitting B V
-  sitting_of c = c.seat.me.0.lead
+  abbrev pub state_of : ChairToken B V → ChairState B V
+  state_of c = c.seat.me.0.lead
 
-  abbrev pub stage : Seating B V → Stage B
+  abbrev pub stage : ChairToken B V → Stage B
   stage c = c.seat.me.0.lead.stage
 
-  abbrev pub IsOutside : Seating B V → Type 0
+  abbrev pub IsOutside : ChairToken B V → Type 0
   IsOutside c = stage c ≡ Outside
 
   -- the chair is inside, with the right `h`, and took the book as `b`
-  abbrev pub IsInside : Seating B V → Held → B → Type 0
+  abbrev pub IsInside : ChairToken B V → Held → B → Type 0
   IsInside c h b = stage c ≡ Inside h.number b
 
-  abbrev pub IsSameChair : Seating B V → Seating B V → Type 0
+  abbrev pub IsSameChair : ChairToken B V → ChairToken B V → Type 0
   IsSameChair c d = (lock d ≡ lock c) × (place d ≡ place c)
 
   -- a chair of the lock, at this place and with this view, that never entered
-  abbrev pub IsFresh : LockId → ℕ → V → Seating B V → Type 0
+  abbrev pub IsFresh : LockId → ℕ → V → ChairToken B V → Type 0
   IsFresh l k v c = (lock c ≡ l) × (place c ≡ k) × (view c ≡ v) × (entries c ≡ 0) × IsOutside c
 
   -- chairs of the lock in the order of their places, with this view, that never entered
-  abbrev pub AreFresh : LockId → V → List (Seating B V) → Type 0
-  AreFresh l v cs = (k : ℕ) (c : Seating B V) → get_elem? cs k ≡ some c → IsFresh l k v c
+  abbrev pub AreFresh : LockId → V → List (ChairToken B V) → Type 0
+  AreFresh l v cs = (k : ℕ) (c : ChairToken B V) → slice_get cs k ≡ Some c → IsFresh l k v c
 
   -- all n chairs of the lock, in the order of their places and none inside
-  abbrev pub AreAll : LockId → ℕ → List (Seating B V) → Type 0
-  AreAll l n cs = (length cs ≡ n) × ((k : ℕ) (c : Seating B V) → get_elem? cs k ≡ some c → (lock c ≡ l) × (place c ≡ k) × IsOutside c)
+  abbrev pub AreAll : LockId → ℕ → List (ChairToken B V) → Type 0
+  AreAll l n cs = (length cs ≡ n) × ((k : ℕ) (c : ChairToken B V) → slice_get cs k ≡ Some c → (lock c ≡ l) × (place c ≡ k) × IsOutside c)
 
   -- the fact holds of the book and some list of views with v at the place p
   abbrev pub Stands : (B → List V → Type 0) → B → ℕ → V → Type 0
-  Stands fact b p v = (views : List V) × (get_elem? views p ≡ some v) × fact b views
+  Stands fact b p v = (views : List V) × (slice_get views p ≡ Some v) × fact b views
 
   -- whatever the other views are: where the fact held of the book as it was found, some new view is told of and keeps it with the book handed in
   abbrev pub MayHandIn : (B → List V → Type 0) → (B → V → V → Type 0) → B → B → ℕ → V → Type 0
   MayHandIn fact then found book p v =
-      (views : List V) → get_elem? views p ≡ some v → fact found views → (w : V) × then book v w × fact book (slice_set views p w)
+      (views : List V) → slice_get views p ≡ Some v → fact found views → (w : V) × then book v w × fact book (slice_set views p w)

@@ -1,7 +1,7 @@
 pub mod Stages
 pub mod Chairs
-pub mod Places
+pub mod Runs
 pub mod Tickets
 pub mod Boards
 pub mod Moves
-pub mod BoardLaws
+pub mod Laws

@@ -2,11 +2,11 @@
 ghost use Rattle.std.specs.Prelude.{◌≡◌, ℕ, List, ◌+◌, ◌%◌, ◌^◌, ◌<◌, ◌≤◌, length, slice_index, IfOk};
 ghost use Rattle.atomic_table.specs.Table.{Me, Allows};
 ghost use Rattle.turn.specs.Boards.{IsBoard, Counts, Points};
-ghost use Rattle.turn.specs.BoardLaws.{counts, points};
 
 use atomic_table::{Play, Seat, Shared, TableRule};
 use std::alloc::{AllocError, Global};
 use std::marker::PhantomData;
+use std::snapshot::Snapshot;
 
 /// What a step makes of a seat, whatever word it finds.
 pub trait Change<S, V> {
@@ -64,18 +64,38 @@ pub trait Board {
         ensures own { seat.new.table_id ≡ seat.old.table_id }
         ensures then { M.then seat.old.me seat.new.me };
 
-    // What the locks rest on.
-    ghost lawful: { (n : ℕ) → 0 < n → IsBoard (width n) (shows n) (at n) passed };
+    /// Does nothing: its contract is what the locks rest on, and they call it for that.
+    fn lawful(seats: usize)
+        requires { 1 ≤ seats }
+        ensures { IsBoard (width seats) (shows seats) (at seats) passed };
 }
 
-/// How many words a board has for a lock with this many chairs.
+/// What is known of a board for a lock with this many chairs.
 #[derive(Drop)]
 pub struct Layout<W: Board> {
     pub(crate) seats: usize,
-    pub(crate) words: usize,
-    pub(crate) board: PhantomData<W>,
+    // How many words the lock's table has, for proofs alone.
+    pub(crate) words: Snapshot<usize>,
+    board: PhantomData<W>,
     ghost some: { 1 ≤ seats },
-    ghost wide: { words ≡ W.width seats },
+    ghost wide: { words.value ≡ W.width seats },
+    ghost more: { 1 ≤ words.value },
+}
+
+impl<W: Board> Layout<W> {
+    // The layout of a table with so many words.
+    pub(crate) fn new(seats: usize, words: usize) -> Layout<W>
+        requires some { 1 ≤ seats }
+        requires wide { words ≡ W.width seats }
+        ensures { (result.seats ≡ seats) × (result.words.value ≡ words) }
+    {
+        W::lawful(seats);
+        Layout {
+            seats,
+            words: Snapshot::of(&words),
+            board: PhantomData,
+        }
+    }
 }
 
 /// The board of the ticket lock: one word for all chairs, the number that is served.
@@ -109,7 +129,7 @@ impl Board for Counter {
         shared.fetch_add::<Changing<M>>(seat, SERVING, 1);
     }
 
-    ghost lawful = { λ _ _. counts };
+    fn lawful(_seats: usize) {}
 }
 
 /// The board of the array lock: one word for each chair, so that waiting chairs look at different words.
@@ -143,5 +163,5 @@ impl Board for Row {
         shared.store::<Changing<M>>(seat, Self::at(seats, number + 1), number + 1);
     }
 
-    ghost lawful = { points };
+    fn lawful(_seats: usize) {}
 }

@@ -6,6 +6,7 @@ ghost use Rattle.turn.specs.Stages.{carried};
 use crate::contract::Keeper;
 use atomic_table::Seat;
 use std::collections::LinkedList;
+use thiserror::Error;
 
 /// Where a chair stands, for proofs alone: outside, waiting with its number, or inside with its number and the book as
 /// it took it. No value of it is made.
@@ -16,15 +17,15 @@ pub enum Stage<B> {
 }
 
 /// What the lock's rule says of one chair, for proofs alone: its stage, how often it has entered, and the keeper's view.
-pub struct Sitting<B, V> {
+pub struct ChairState<B, V> {
     pub stage: Stage<B>,
     pub entries: u64,
     pub view: V,
 }
 
-/// The places of a seat of the table, for proofs alone: `lead` sits at `place`, and `others` at the places after it. Of
-/// a seat that is not live nothing is known.
-pub struct Hand<C> {
+/// The chairs of a seat of the table, for proofs alone: `lead` has `place`, and `others` have the places after it. Of a
+/// seat that is not live nothing is known.
+pub struct ChairRun<C> {
     pub live: bool,
     pub place: u64,
     pub lead: C,
@@ -32,12 +33,12 @@ pub struct Hand<C> {
 }
 
 /// The token with which one thread enters one lock, over the book `B` under the keeper `K`.
-pub type Chair<B, K> = Seating<B, <K as Keeper<B>>::View>;
+pub type Chair<B, K> = ChairToken<B, <K as Keeper<B>>::View>;
 
-/// A chair, by the type of its view. Write [`Chair`].
+/// A chair by the type of its view, as contracts name it. Write [`Chair`].
 #[derive(Drop)]
-pub struct Seating<B, V> {
-    pub(crate) seat: Seat<Option<B>, Hand<Sitting<B, V>>>,
+pub struct ChairToken<B, V> {
+    pub(crate) seat: Seat<Option<B>, ChairRun<ChairState<B, V>>>,
     pub(crate) entries: u64,
     pub(crate) limit: u64,
     ghost single: { (seat.me.0.live ≡ true) × (seat.me.0.others ≡ []) },
@@ -45,27 +46,27 @@ pub struct Seating<B, V> {
     ghost carries: { seat.me.1 ≡ carried seat.me.0.lead.stage },
 }
 
-impl<B, V> Seating<B, V> {
+impl<B, V> ChairToken<B, V> {
     ghost use Rattle.turn.specs.Chairs.{lock_id, IsFresh};
-    ghost use Rattle.turn.specs.Moves.{Sits};
+    ghost use Rattle.turn.specs.Moves.{IsAtStage};
 
     // A chair that never entered.
-    pub(crate) fn fresh(seat: Seat<Option<B>, Hand<Sitting<B, V>>>, limit: u64) -> Seating<B, V>
-        requires outside { Sits Outside seat.me }
+    pub(crate) fn fresh(seat: Seat<Option<B>, ChairRun<ChairState<B, V>>>, limit: u64) -> ChairToken<B, V>
+        requires outside { IsAtStage Outside seat.me }
         requires never { seat.me.0.lead.entries ≡ 0 }
         ensures { IsFresh (lock_id seat.table_id limit) seat.me.0.place seat.me.0.lead.view result }
     {
-        Seating {
+        ChairToken {
             seat,
             entries: 0,
             limit,
         }
     }
 
-    pub(crate) fn into_seat(self) -> Seat<Option<B>, Hand<Sitting<B, V>>>
+    pub(crate) fn into_seat(self) -> Seat<Option<B>, ChairRun<ChairState<B, V>>>
         ensures { result ≡ self.seat }
     {
-        let Seating {
+        let ChairToken {
             seat,
             entries: _,
             limit: _,
@@ -81,5 +82,6 @@ pub struct Held {
 }
 
 /// The chair has entered as often as it may.
-#[derive(Debug, Clone, Copy, PartialEq, Eq, Drop)]
+#[derive(Debug, Clone, Copy, PartialEq, Eq, Drop, Error)]
+#[error("lock entries spent")]
 pub struct Spent;

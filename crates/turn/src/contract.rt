@@ -25,6 +25,9 @@ pub trait Outcome<B, V> {
 /// A lock round one value, the book, under a keeper.
 ///
 /// Nothing is promised of progress, fairness or time: `enter` may never return.
+///
+/// Chairs are made in this crate alone. So a lock of another crate can meet the contract only by handing its calls on to
+/// one of this crate's locks.
 pub trait Turn<B, K: Keeper<B>>: Sized + Sync {
     /// How often a chair may enter.
     const ENTRIES: u64;
@@ -74,4 +77,7 @@ pub trait Turn<B, K: Keeper<B>>: Sized + Sync {
     fn close(self, chairs: Vec<Chair<B, K>>) -> B
         requires { AreAll (id self) (size self) chairs.items }
         ensures { K.fact result (map view chairs.items) };
+
+    // A chair of the lock may enter so often.
+    ghost limits: { (l : Self) → (id l).limit ≡ ENTRIES };
 }

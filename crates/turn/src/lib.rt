@@ -11,8 +11,9 @@
 mod board;
 mod chair;
 mod contract;
+mod laws;
 mod lock;
 
-pub use chair::{Chair, Held, Seating, Spent};
+pub use chair::{Chair, Held, ChairToken, Spent};
 pub use contract::{Keeper, Outcome, Turn};
 pub use lock::{ArrayLock, TicketLock};

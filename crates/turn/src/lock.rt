@@ -1,10 +1,10 @@
 //! The lock: one text for both boards.
-ghost use Rattle.std.specs.Prelude.{◌≡◌, ℕ, ◌+◌, ◌^◌, ◌<◌, ◌≤◌, true, [], ◌∷◌, map, length, vec_capacity, None, Some};
+ghost use Rattle.std.specs.Prelude.{◌≡◌, ℕ, ◌+◌, ◌^◌, ◌<◌, ◌≤◌, true, [], ◌∷◌, map, length, vec_capacity, None, Some, refl};
 ghost use Rattle.std.specs.Bool.{OnTrue, OnFalse};
 ghost use Rattle.turn.specs.declared.chair.Stage.TheVariants.{Outside, Waiting, Inside};
 
 use crate::board::{Board, Change, Counter, Layout, Row};
-use crate::chair::{Chair, Hand, Held, Seating, Sitting, Spent};
+use crate::chair::{Chair, ChairRun, Held, ChairToken, ChairState, Spent};
 use crate::contract::{Keeper, Outcome, Turn};
 use atomic_table::{Join, Play, Seat, Split, Table, TableRule};
 use crossbeam_utils::Backoff;
@@ -24,20 +24,20 @@ pub struct Tickets<K, W> {
     of: PhantomData<(K, W)>,
 }
 
-impl<B, K: Keeper<B>, W: Board> TableRule<Option<B>, Hand<Sitting<B, K::View>>, Sizes>
+impl<B, K: Keeper<B>, W: Board> TableRule<Option<B>, ChairRun<ChairState<B, K::View>>, Sizes>
     for Tickets<K, W> {
-    ghost use Rattle.turn.specs.Places.{Dealt};
+    ghost use Rattle.turn.specs.Runs.{Dealt};
     ghost use Rattle.turn.specs.Tickets.{Turns};
-    ghost use Rattle.turn.specs.Moves.{deck};
+    ghost use Rattle.turn.specs.Moves.{fresh_run};
 
     ghost holds = { λ z. Dealt z.seats (Turns K.fact (W.shows z.seats) z.entries) };
 
-    ghost first = { λ z. deck K.first 0 z.seats };
+    ghost first = { λ z. fresh_run K.first 0 z.seats };
 }
 
 struct Draw;
 
-impl<B, V> Play<Option<B>, Hand<Sitting<B, V>>> for Draw {
+impl<B, V> Play<Option<B>, ChairRun<ChairState<B, V>>> for Draw {
     ghost use Rattle.turn.specs.Moves.{Draws};
 
     ghost then = { λ _ before found after. Draws before found after };
@@ -47,17 +47,17 @@ struct Look<K> {
     keeper: PhantomData<K>,
 }
 
-impl<B, K: Keeper<B>> Play<Option<B>, Hand<Sitting<B, K::View>>> for Look<K> {
+impl<B, K: Keeper<B>> Play<Option<B>, ChairRun<ChairState<B, K::View>>> for Look<K> {
     ghost use Rattle.turn.specs.Moves.{Looks};
 
     ghost then = { λ _ before found after. Looks K.fact before found after };
 }
 
-// The first chair of a hand goes to a new seat.
+// The first chair of a run goes to a new seat.
 struct Deal;
 
-impl<C> Split<Hand<C>> for Deal {
-    ghost use Rattle.turn.specs.Places.{rest_of, first_of};
+impl<C> Split<ChairRun<C>> for Deal {
+    ghost use Rattle.turn.specs.Runs.{rest_of, first_of};
 
     ghost left = { λ h. rest_of h };
 
@@ -69,37 +69,37 @@ struct Gather<K> {
     keeper: PhantomData<K>,
 }
 
-impl<B, K: Keeper<B>> Join<Hand<Sitting<B, K::View>>> for Gather<K> {
+impl<B, K: Keeper<B>> Join<ChairRun<ChairState<B, K::View>>> for Gather<K> {
     ghost use Rattle.std.specs.Prelude.{false};
-    ghost use Rattle.turn.specs.Places.{hand, both_of};
+    ghost use Rattle.turn.specs.Runs.{chair_run, both_of};
     ghost use Rattle.turn.specs.Moves.{fresh};
 
     ghost both = { λ h g. both_of h g };
 
-    ghost spent = { hand false 0 (fresh K.first) [] };
+    ghost spent = { chair_run false 0 (fresh K.first) [] };
 }
 
 struct StepOut<M> {
     outcome: PhantomData<M>,
 }
 
-impl<B, V, M: Outcome<B, V>> Change<Option<B>, Hand<Sitting<B, V>>> for StepOut<M> {
+impl<B, V, M: Outcome<B, V>> Change<Option<B>, ChairRun<ChairState<B, V>>> for StepOut<M> {
     ghost use Rattle.turn.specs.Moves.{Leaves};
 
     ghost then = { λ before after. Leaves M.then before after };
 }
 
 /// A seat of a lock's table.
-type Place<B, V> = Seat<Option<B>, Hand<Sitting<B, V>>>;
+type LockSeat<B, V> = Seat<Option<B>, ChairRun<ChairState<B, V>>>;
 
 /// The next number to draw.
 const NEXT: usize = 0;
 
 /// A lock whose chairs draw numbers, and enter in the order of their numbers, on the board `W`.
 pub struct Lock<B, K: Keeper<B>, W: Board, const ENTRIES: u64> {
-    table: Table<Option<B>, Hand<Sitting<B, K::View>>, Sizes, Tickets<K, W>, Global>,
-    layout: Layout<W>,
-    ghost wide: { (table.shared.table_id.words ≡ layout.words) × (table.shared.table_id.slots ≡ 1) },
+    table: Table<Option<B>, ChairRun<ChairState<B, K::View>>, Sizes, Tickets<K, W>, Global>,
+    pub(crate) layout: Layout<W>,
+    ghost wide: { (table.shared.table_id.words ≡ layout.words.value) × (table.shared.table_id.slots ≡ 1) },
     ghost sized: { (table.shared.key.seats ≡ layout.seats) × (table.shared.key.entries ≡ ENTRIES) },
 }
 
@@ -110,39 +110,41 @@ pub type TicketLock<B, K, const ENTRIES: u64> = Lock<B, K, Counter, ENTRIES>;
 pub type ArrayLock<B, K, const ENTRIES: u64> = Lock<B, K, Row, ENTRIES>;
 
 impl<B, K: Keeper<B>, W: Board, const ENTRIES: u64> Lock<B, K, W, ENTRIES> {
-    ghost use Rattle.turn.specs.Moves.{deck, seated, turned_to, Sits, StepsIn};
-    ghost use Rattle.turn.specs.Places.{chairs_of};
-    ghost use Rattle.turn.specs.Chairs.{lock_id, sitting_of, AreFresh, AreAll, Stands, MayHandIn};
+    ghost use Rattle.turn.specs.Moves.{fresh_run, seat_with, with_stage, IsAtStage, StepsIn};
+    ghost use Rattle.turn.specs.Runs.{chairs_of};
+    ghost use Rattle.turn.specs.Chairs.{lock_id, state_of, AreFresh, AreAll, Stands, MayHandIn};
 
     // The step 'draw': one addition to the next number. The chair waits with the number found.
-    fn draw(&self, seat: &mut Place<B, K::View>) -> u64
+    fn draw(&self, seat: &mut LockSeat<B, K::View>) -> u64
         requires own { seat.old.table_id ≡ self.now.table.shared.table_id }
-        requires outside { Sits Outside seat.old.me }
+        requires outside { IsAtStage Outside seat.old.me }
         requires left { seat.old.me.0.lead.entries < ENTRIES }
         ensures own { seat.new.table_id ≡ seat.old.table_id }
         ensures waits { seat.new.me
-            ≡ seated seat.old.me.0.place (Waiting result) (seat.old.me.0.lead.entries + 1)
+            ≡ seat_with seat.old.me.0.place (Waiting result) (seat.old.me.0.lead.entries + 1)
             seat.old.me.0.lead.view }
         ensures small { result + 1 < 2 ^ 64 }
     {
+        W::lawful(self.layout.seats);
         self.table.shared.fetch_add::<Draw>(seat, NEXT, 1)
     }
 
     // The steps 'look' and 'enter': one load of the chair's word. Where it finds another number, nothing changes; where
     // it finds the chair's own, the chair is inside, and its seat alone has the slot with the book.
-    fn look(&self, seat: &mut Place<B, K::View>, word: usize, number: u64) -> bool
+    fn look(&self, seat: &mut LockSeat<B, K::View>, word: usize, number: u64) -> bool
         requires own { seat.old.table_id ≡ self.now.table.shared.table_id }
         requires word { word ≡ W.at self.now.layout.seats number }
-        requires waits { Sits (Waiting number) seat.old.me }
+        requires waits { IsAtStage (Waiting number) seat.old.me }
         ensures own { seat.new.table_id ≡ seat.old.table_id }
         ensures enter { OnTrue result (StepsIn K.fact number seat.old.me seat.new.me) }
         ensures look { OnFalse result (seat.new.me ≡ seat.old.me) }
     {
+        W::lawful(self.layout.seats);
         self.table.shared.load::<Look<K>>(seat, word) == number
     }
 
     // The plain read of the slot, which the seat has.
-    fn take_book(&self, seat: &mut Place<B, K::View>) -> B
+    fn take_book(&self, seat: &mut LockSeat<B, K::View>) -> B
         requires own { seat.old.table_id ≡ self.now.table.shared.table_id }
         requires full { (book : B) × (seat.old.me.1 ≡ (0, Some book) ∷ []) }
         ensures own { seat.new.table_id ≡ seat.old.table_id }
@@ -155,9 +157,9 @@ impl<B, K: Keeper<B>, W: Board, const ENTRIES: u64> Lock<B, K, W, ENTRIES> {
     }
 
     // Looks until the chair's number is served, and gives way between two looks.
-    fn wait_until_served<R: Wait>(&self, rt: &R, seat: &mut Place<B, K::View>, number: u64)
+    fn wait_until_served<R: Wait>(&self, rt: &R, seat: &mut LockSeat<B, K::View>, number: u64)
         requires own { seat.old.table_id ≡ self.now.table.shared.table_id }
-        requires waits { Sits (Waiting number) seat.old.me }
+        requires waits { IsAtStage (Waiting number) seat.old.me }
         ensures own { seat.new.table_id ≡ seat.old.table_id }
         ensures enter { StepsIn K.fact number seat.old.me seat.new.me }
     {
@@ -173,11 +175,11 @@ impl<B, K: Keeper<B>, W: Board, const ENTRIES: u64> Lock<B, K, W, ENTRIES> {
     }
 
     // Waits for the chair's turn, and takes the book.
-    fn step_in<R: Wait>(&self, rt: &R, seat: &mut Place<B, K::View>, number: u64) -> B
+    fn step_in<R: Wait>(&self, rt: &R, seat: &mut LockSeat<B, K::View>, number: u64) -> B
         requires own { seat.old.table_id ≡ self.now.table.shared.table_id }
-        requires waits { Sits (Waiting number) seat.old.me }
+        requires waits { IsAtStage (Waiting number) seat.old.me }
         ensures own { seat.new.table_id ≡ seat.old.table_id }
-        ensures inside { seat.new.me ≡ turned_to (Inside number result) seat.old.me }
+        ensures inside { seat.new.me ≡ with_stage (Inside number result) seat.old.me }
         ensures fact { Stands K.fact result seat.old.me.0.place seat.old.me.0.lead.view }
     {
         self.wait_until_served(rt, seat, number);
@@ -186,45 +188,46 @@ impl<B, K: Keeper<B>, W: Board, const ENTRIES: u64> Lock<B, K, W, ENTRIES> {
 
     // Puts the book back into the slot, and then makes the step 'leave', which gives the slot back and lets the next
     // number in.
-    fn hand_in<M: Outcome<B, K::View>>(&self, seat: &mut Place<B, K::View>, number: u64, book: B)
+    fn hand_in<M: Outcome<B, K::View>>(&self, seat: &mut LockSeat<B, K::View>, number: u64, book: B)
         requires own { seat.old.table_id ≡ self.now.table.shared.table_id }
         requires small { number + 1 < 2 ^ 64 }
-        requires inside { (found : B) × Sits (Inside number found) seat.old.me
+        requires inside { (found : B) × IsAtStage (Inside number found) seat.old.me
             × MayHandIn K.fact M.then found book seat.old.me.0.place seat.old.me.0.lead.view }
         ensures own { seat.new.table_id ≡ seat.old.table_id }
         ensures outside { seat.new.me
-            ≡ seated seat.old.me.0.place Outside seat.old.me.0.lead.entries
+            ≡ seat_with seat.old.me.0.place Outside seat.old.me.0.lead.entries
             seat.new.me.0.lead.view }
         ensures then { M.then book seat.old.me.0.lead.view seat.new.me.0.lead.view }
     {
         let taken = self.table.shared.exchange(seat, 0, Some(book));
         let None = taken else { unreachable!() };
+        W::lawful(self.layout.seats);
         W::pass::<_, _, _, _, StepOut<M>>(&self.table.shared, seat, self.layout.seats, number);
     }
 
     // Gives each place of the lock to a chair of its own.
-    fn deal(&self, mut rest: Place<B, K::View>, mut chairs: Vec<Chair<B, K>>) -> Vec<Chair<B, K>>
+    fn deal(&self, mut rest: LockSeat<B, K::View>, mut chairs: Vec<Chair<B, K>>) -> Vec<Chair<B, K>>
         requires own { rest.table_id ≡ self.now.table.shared.table_id }
-        requires whole { rest.me ≡ (deck K.first 0 self.now.layout.seats, []) }
+        requires whole { rest.me ≡ (fresh_run K.first 0 self.now.layout.seats, []) }
         requires room { (chairs.items ≡ []) × (self.now.layout.seats ≤ vec_capacity chairs) }
         ensures all { length result.items ≡ self.now.layout.seats }
         ensures fresh { AreFresh (lock_id self.now.table.shared.table_id ENTRIES) K.first result.items }
     {
         for _ in 0..self.layout.seats {
             let seat = self.table.shared.split_seat::<Deal>(&mut rest);
-            chairs.push_reserved(Seating::fresh(seat, ENTRIES));
+            chairs.push_reserved(ChairToken::fresh(seat, ENTRIES));
         }
         chairs
     }
 
     // Takes the chairs in, the last one first, so that one seat has all places.
-    fn gather(&self, mut chairs: Vec<Chair<B, K>>) -> Place<B, K::View>
+    fn gather(&self, mut chairs: Vec<Chair<B, K>>) -> LockSeat<B, K::View>
         requires { AreAll (lock_id self.now.table.shared.table_id ENTRIES) self.now.layout.seats
             chairs.items }
         ensures own { result.table_id ≡ self.now.table.shared.table_id }
         ensures free { result.me.1 ≡ [] }
         ensures whole { (result.me.0.live ≡ true) × (result.me.0.place ≡ 0)
-            × (chairs_of result.me.0 ≡ map sitting_of chairs.items) }
+            × (chairs_of result.me.0 ≡ map state_of chairs.items) }
     {
         let Some(last) = chairs.pop() else {
             unreachable!()
@@ -257,6 +260,7 @@ impl<B: Send, K: Keeper<B>, W: Board + Sync, const ENTRIES: u64> Turn<B, K>
     {
         let chairs = Vec::with_capacity(alloc, seats)?;
         let words = W::words(alloc, seats)?;
+        let layout = Layout::new(seats, words.len());
         let mut slots = Vec::with_capacity(alloc, 1)?;
         slots.push_reserved(Some(book));
         let sizes = Sizes {
@@ -265,11 +269,6 @@ impl<B: Send, K: Keeper<B>, W: Board + Sync, const ENTRIES: u64> Turn<B, K>
         };
         let Ok((table, rest)) = Table::new(alloc, words.as_slice(), slots, &sizes) else {
             return Err(AllocError);
-        };
-        let layout = Layout {
-            seats,
-            words: words.len(),
-            board: PhantomData,
         };
         let lock = Lock { table, layout };
         let chairs = lock.deal(rest, chairs);
@@ -303,6 +302,8 @@ impl<B: Send, K: Keeper<B>, W: Board + Sync, const ENTRIES: u64> Turn<B, K>
         let Some(book) = slot else { unreachable!() };
         book
     }
+
+    ghost limits = { λ _. refl };
 }
 
 impl<B: Drop, K: Keeper<B>, W: Board, const ENTRIES: u64> Drop for Lock<B, K, W, ENTRIES> {

@@ -1,14 +1,13 @@
 -- Adding one keeps the count the sum of what the chairs have added.
-use Rattle.std.proofs.Common.{◌≡◌, ℕ, ◌+◌, ◌*◌, ◌^◌, ◌<◌, ◌≤◌, List, [], ◌∷◌, ◌++◌, length, length-append, get_or, set, sum, replicate, ap, ◌∙◌, mul-le-mul_right, arith}
+use Rattle.std.proofs.Common.{◌≡◌, ℕ, ◌+◌, ◌*◌, ◌^◌, ◌<◌, ◌≤◌, List, [], ◌∷◌, ◌++◌, length, length-append, slice_get, Some, get_or, set, sum, replicate, ap, ◌∙◌, mul-le-mul_right, arith}
 use Rattle.std.proofs.Math.ListN.{length-set}
 use Rattle.std.proofs.lemmas.List.{length-replicate}
 use Rattle.std.proofs.lemmas.List.Sums.{sum_by-le, sum_by-set}
 use Rattle.std.proofs.lemmas.List.Folds.{sum_by-replicate}
 use Rattle.std.proofs.lemmas.List.Elements.{All-set, All-replicate}
-use mathlib.Core.Option.{some}
-use lib.ListN.{get_elem?}
-use Rattle.turn.proofs.Lists.{at_below, at_last, at_longer, read_at}
-use Rattle.turn.specs.declared.chair.Seating.{Seating}
+use Rattle.std.proofs.lemmas.Option.{slice_get_within, get_or_from_slice_get}
+use Rattle.turn.proofs.Lists.{at_last, at_longer}
+use Rattle.turn.specs.declared.chair.ChairToken.{ChairToken}
 use Rattle.turn.specs.Chairs.{LockId, place, AreFresh}
 use Rattle.turn_uses.specs.Tallies.{IsTallied, IsNew}
 
@@ -21,10 +20,10 @@ bounded count views t =
     let s = t.summed in
     omega arith
 
-pub adds : (count : ℕ) (views : List ℕ) (p v : ℕ) → IsTallied count views → get_elem? views p ≡ some v → v < 2 ^ 32 → IsTallied (count + 1) (set views p (v + 1))
+pub adds : (count : ℕ) (views : List ℕ) (p v : ℕ) → IsTallied count views → slice_get views p ≡ Some v → v < 2 ^ 32 → IsTallied (count + 1) (set views p (v + 1))
 adds count views p v t at room =
-    let read : get_or views p 0 ≡ v = read_at views p v 0 at in
-    let sums = sum_by-set (λ (x : ℕ). x) views p (v + 1) 0 (at_below views p v at) in
+    let read : get_or views p 0 ≡ v = get_or_from_slice_get views p v 0 at in
+    let sums = sum_by-set (λ (x : ℕ). x) views p (v + 1) 0 (slice_get_within views p v at) in
     let s = t.summed in
     let few = t.few in
     let long = length-set views p (v + 1) in
@@ -43,11 +42,11 @@ starts n few = record {
 }
 
 -- the two chairs of a new lock
-pub two_new : (l : LockId) (cs ds es : List (Seating ℕ ℕ)) (a b : Seating ℕ ℕ) → length cs ≡ 2 → AreFresh l 0 cs → cs ≡ ds ++ b ∷ [] → ds ≡ es ++ a ∷ [] → (IsNew l a × (place a ≡ 0)) × (IsNew l b × (place b ≡ 1))
+pub two_new : (l : LockId) (cs ds es : List (ChairToken ℕ ℕ)) (a b : ChairToken ℕ ℕ) → length cs ≡ 2 → AreFresh l 0 cs → cs ≡ ds ++ b ∷ [] → ds ≡ es ++ a ∷ [] → (IsNew l a × (place a ≡ 0)) × (IsNew l b × (place b ≡ 1))
 two_new l cs ds es a b two fresh last next =
     let long : length cs ≡ length ds + 1 = ap length last ∙ length-append ds (b ∷ []) in
     let long' : length ds ≡ length es + 1 = ap length next ∙ length-append es (a ∷ []) in
-    let first : get_elem? ds 0 ≡ some a = ap (λ (xs : List (Seating ℕ ℕ)). get_elem? xs 0) next ∙ at_last es a 0 (omega arith) in
-    let f = fresh 0 a (ap (λ (xs : List (Seating ℕ ℕ)). get_elem? xs 0) last ∙ at_longer ds (b ∷ []) 0 a first) in
-    let s = fresh 1 b (ap (λ (xs : List (Seating ℕ ℕ)). get_elem? xs 1) last ∙ at_last ds b 1 (omega arith)) in
+    let first : slice_get ds 0 ≡ Some a = ap (λ (xs : List (ChairToken ℕ ℕ)). slice_get xs 0) next ∙ at_last es a 0 (omega arith) in
+    let f = fresh 0 a (ap (λ (xs : List (ChairToken ℕ ℕ)). slice_get xs 0) last ∙ at_longer ds (b ∷ []) 0 a first) in
+    let s = fresh 1 b (ap (λ (xs : List (ChairToken ℕ ℕ)). slice_get xs 1) last ∙ at_last ds b 1 (omega arith)) in
     (((f.0, f.4, f.2, f.3), f.1), ((s.0, s.4, s.2, s.3), s.1))

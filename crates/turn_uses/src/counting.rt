@@ -22,7 +22,6 @@ pub fn add_one<T: Turn<u64, Tally>, R: Wait>(
     ensures added { OnOk result ((view chair.new ≡ view chair.old + 1)
         × (entries chair.new ≡ entries chair.old + 1)
         × IsSameChair chair.old chair.new × IsOutside chair.new) }
-    ensures left { OnOk result (entries chair.new ≤ T.ENTRIES) }
     ensures spent { OnErr result ((entries chair.old ≡ T.ENTRIES) × (chair.new ≡ chair.old)) }
 {
     let (held, count) = turn.enter(rt, chair)?;
@@ -43,7 +42,6 @@ pub fn add_many<T: Turn<u64, Tally>, R: Wait>(
     ensures same { IsSameChair chair.old chair.new × IsOutside chair.new }
     ensures added { OnOk result ((view chair.new ≡ view chair.old + times)
         × (entries chair.new ≡ entries chair.old + times)) }
-    ensures left { OnOk result (entries chair.old ≤ T.ENTRIES → entries chair.new ≤ T.ENTRIES) }
     ensures spent { OnErr result (T.ENTRIES < entries chair.old + times) }
 {
     for _ in 0..times {

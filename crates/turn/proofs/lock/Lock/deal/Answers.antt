@@ -1,5 +1,5 @@
 use Rattle.std.proofs.Common.{Option, arith}
-use Rattle.turn.specs.declared.chair.Sitting.{Sitting}
+use Rattle.turn.specs.declared.chair.ChairState.{ChairState}
 use Rattle.turn.specs.Tickets.{Turns}
 use Rattle.turn.proofs.Places.{deals}
 use Rattle.turn.proofs.Dealing.{is_live, deals_one}
@@ -9,14 +9,10 @@ pub split_seat-seat-requires : goal.split_seat-seat-requires
 split_seat-seat-requires g c =
     let lock = c.args.self.now in
     let wide = lock.wide in
-    let laid = lock.layout.wide in
-    let some = lock.layout.some in
-    let laws = g.met.W.Board in
-    let here = laws.lawful lock.layout.seats (omega arith) in
-    let within = here.within 0 in
+    let more = lock.layout.more in
     let d = c.loop.invariant.0 in
     let live = is_live g.K.Keeper.first lock.table.shared.table_id g.row.ENTRIES lock.layout.seats c.loop.counter c.loop.rest c.loop.chairs.items d c.loop-test.true in
-    (d.own, omega arith, deals (Option g.row.B.Denot) (Sitting g.row.B.Denot g.row.K-View.Denot) lock.table.shared.key.seats (Turns g.K.Keeper.fact (g.W.Board.shows lock.table.shared.key.seats) lock.table.shared.key.entries) c.loop.rest.id c.loop.rest.me.0 live)
+    (d.own, omega arith, deals (Option g.row.B.Denot) (ChairState g.row.B.Denot g.row.K-View.Denot) lock.table.shared.key.seats (Turns g.K.Keeper.fact (g.W.Board.shows lock.table.shared.key.seats) lock.table.shared.key.entries) c.loop.rest.id c.loop.rest.me.0 live)
 
 pub loop-preserved : goal.loop-preserved
 loop-preserved g c =

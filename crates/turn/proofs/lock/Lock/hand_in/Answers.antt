@@ -1,5 +1,6 @@
-use Rattle.std.proofs.Common.{◌≡◌, ℕ, ◌<◌, ◌+◌, ap, arith}
+use Rattle.std.proofs.Common.{◌≡◌, ℕ, ◌<◌, ◌+◌, ap, subst, sym, arith}
 use Rattle.turn.proofs.Rounds.{leaves_after}
+use Rattle.turn.specs.Boards.{IsBoard}
 use Rattle.turn.proofs.lock.Lock.hand_in.Goals as goal
 
 pub pass-requires-clause-rule : goal.pass-requires-clause-rule
@@ -7,11 +8,11 @@ pass-requires-clause-rule g c =
     let lock = c.args.self.now in
     let sized = lock.sized in
     let some = lock.layout.some in
+    let laid = lock.layout.wide in
     let n = lock.table.shared.key.seats in
     let positive : 0 < n = omega arith in
     let next = c.args.number + 1 in
-    let laws = g.met.W.Board in
-    let board = laws.lawful n positive in
+    let board = subst (λ (k : ℕ). IsBoard (g.W.Board.width k) (g.W.Board.shows k) (g.W.Board.at k) g.W.Board.passed) (sym sized.0) c.lawful.ensures in
     let word : g.W.Board.at n next ≡ g.W.Board.at lock.layout.seats next = ap (λ (k : ℕ). g.W.Board.at k next) sized.0 in
     let inside = c.requires.inside in
     let put = c.exchange-taken.ensures in

@@ -1,5 +1,6 @@
-use Rattle.std.proofs.Common.{◌≡◌, ℕ, ◌<◌, ap, sym, ◌∙◌, arith}
+use Rattle.std.proofs.Common.{◌≡◌, ℕ, ◌<◌, ap, sym, ◌∙◌, subst, arith}
 use Rattle.turn.proofs.Rounds.{looks_allowed}
+use Rattle.turn.specs.Boards.{IsBoard}
 use Rattle.turn.proofs.lock.Lock.look.Goals as goal
 
 pub load-requires : goal.load-requires
@@ -7,14 +8,13 @@ load-requires g c =
     let lock = c.args.self.now in
     let sized = lock.sized in
     let wide = lock.wide in
-    let laid = lock.layout.wide in
     let some = lock.layout.some in
+    let laid = lock.layout.wide in
     let n = lock.table.shared.key.seats in
     let positive : 0 < n = omega arith in
     let number = c.args.number in
-    let laws = g.met.W.Board in
-    let here = laws.lawful lock.layout.seats (omega arith) in
-    let board = laws.lawful n positive in
+    let here = c.lawful.ensures in
+    let board = subst (λ (k : ℕ). IsBoard (g.W.Board.width k) (g.W.Board.shows k) (g.W.Board.at k) g.W.Board.passed) (sym sized.0) c.lawful.ensures in
     let within = here.within number in
     let word_is = c.requires.word in
     let word : g.W.Board.at n number ≡ c.args.word = ap (λ (k : ℕ). g.W.Board.at k number) sized.0 ∙ sym word_is in

@@ -1,5 +1,6 @@
 use Rattle.std.proofs.Common.{◌≡◌, [], ◌∷◌, Some}
-use Rattle.turn.proofs.Dealing.{begins, pushed_one}
+use Rattle.turn.proofs.Dealing.{begins}
+use Rattle.turn.proofs.Lists.{pushed_one}
 use Rattle.turn.proofs.lock.LockTurn.new.Goals as goal
 
 pub new-requires : goal.new-requires

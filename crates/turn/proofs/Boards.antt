@@ -13,6 +13,7 @@ counts = record {
   beside_next = λ m. omega arith;
   has_next = λ words k shown. let n = shown.0 in omega arith;
   draws = λ words k x shown. (length-set words 0 x ∙ shown.0, get_or-set_other words 0 1 x 0 (λ e. omega arith) ∙ shown.1);
+  lets_in = λ words k shown. shown.1;
   finds = λ words k m shown low found. sym found ∙ shown.1;
   passes = λ words m shown small.
       let long = shown.0 in
@@ -31,6 +32,7 @@ points n some = record {
     get_or-set_other words 0 (k % n + 1) x 0 (λ e. omega arith) ∙ shown.1,
     λ j low. let e = get_or-set_other words 0 (j + 1) x 0 (λ e. omega arith) in let h = shown.2 j low in omega arith,
   );
+  lets_in = λ words k shown. shown.1;
   finds = λ words k m shown low found. let h = shown.2 (m % n) (mod-lt m some) in omega arith;
   passes = λ words m shown small.
       let i = (m + 1) % n in

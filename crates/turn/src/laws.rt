@@ -1,0 +1,22 @@
+//! The lock's law, as the contract of a method that does nothing.
+//!
+//! It has no body that an edit could turn: what it says of the rule is proved, and each step keeps the rule by its own
+//! contract.
+ghost use Rattle.turn.specs.Laws.{TurnsLaw};
+
+use crate::board::Board;
+use crate::contract::Keeper;
+use crate::lock::Lock;
+
+impl<B, K: Keeper<B>, W: Board, const ENTRIES: u64> Lock<B, K, W, ENTRIES> {
+    /// In each state that meets the lock's rule, which holds between any two steps: the numbers drawn and not left are
+    /// those from the number of leaves up to the next one, each of one chair; one chair at most is inside, and it has the
+    /// least of them; the slot is empty only while a chair is inside, and of the book in it the keeper's fact holds; and
+    /// the chair whose turn it is finds its number where it looks.
+    pub fn turns_law(&self)
+        ensures { TurnsLaw K.fact (W.shows self.now.layout.seats) (W.at self.now.layout.seats)
+            self.now.layout.seats ENTRIES }
+    {
+        W::lawful(self.layout.seats);
+    }
+}
