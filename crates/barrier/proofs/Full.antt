@@ -1,7 +1,7 @@
 -- An episode is full exactly where as many are here as there are processors.
-use Rattle.std.proofs.Common.{ℕ, ◌≡◌, ◌+◌, ◌↔◌, true, cond, Some, List, [], ◌∷◌, ◌++◌, length, set, drop, replicate, count_by, slice_get, refl, sym, ap, ◌∙◌, arith}
+use Rattle.std.proofs.Common.{ℕ, ◌≡◌, ◌+◌, ◌↔◌, true, cond, nat_eq, inl, inr, Some, List, [], ◌∷◌, ◌++◌, length, set, drop, replicate, count_by, slice_get, refl, sym, ap, ◌∙◌, arith}
 use Rattle.std.specs.List.{list_all, refill}
-use Rattle.std.proofs.lemmas.Bool.{false≢true}
+use Rattle.std.proofs.lemmas.Bool.{false≢true, cases_Bool, both_ways, eq-eqb, ne_eqb}
 use Rattle.std.proofs.lemmas.List.{length-set, length_push, take_at}
 use Rattle.std.proofs.lemmas.List.Sums.{sum_by-cons, sum_by-set, count_by-le-length, fold_push}
 use Rattle.std.proofs.lemmas.Option.{get_or_from_slice_get, slice_get_within}
@@ -34,6 +34,16 @@ last_arrival stages p away =
     let was = ap one_here (get_or_from_slice_get stages p Away Here away) in
     let long = length-set stages p Here in
     (λ all. let full = all_counted (set stages p Here) all in omega arith, λ count. counted_all (set stages p Here) (omega arith))
+
+-- the test of the count is the test of all, once p is here
+pub last_arrival_test : (stages : List Stage) (p n m : ℕ) → slice_get stages p ≡ Some Away → n ≡ count_by is_here stages → m ≡ length stages
+    → nat_eq (n + 1) m ≡ list_all is_here (set stages p Here)
+last_arrival_test stages p n m away count long =
+    let law = last_arrival stages p away in
+    elim (cases_Bool (list_all is_here (set stages p Here))) [
+      | inl all ↦ let full = law.0 all in eq-eqb (n + 1) m (omega arith) ∙ sym all
+      | inr some ↦ ne_eqb (n + 1) m (λ same. both_ways _ some (law.1 (omega arith))) ∙ sym some
+    ]
 
 -- a slice that is written back with another stage of p
 pub read_set : (p : ℕ) (stage : Stage) (stages read old : List Stage) → read ≡ stages → stages ≡ old → refill (length stages) stages (set read p stage) ≡ set old p stage

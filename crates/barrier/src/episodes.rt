@@ -1,6 +1,7 @@
 //! Episodes of the barrier.
 ghost use Rattle.std.specs.Prelude.{ℕ, ◌≡◌, ◌≤◌, ◌<◌, ◌+◌, ◌↔◌, IsTrue, Some, List, [], length, replicate, slice_get, count_by};
 ghost use Rattle.std.specs.List.{list_all};
+ghost use Rattle.vtime.specs.Times.{join};
 ghost use Rattle.barrier.specs.Episodes.{unmet, is_here, is_full, joined, arrived, departed, HasGathered, Gathers};
 
 use smallvec::SmallVec;
@@ -100,6 +101,28 @@ impl Barrier {
         full
     }
 
+    /// Whether the arrival of a processor that is away would complete the episode: `arrive` would
+    /// answer the same, at whatever time.
+    pub fn completes(&self, processor: usize) -> bool
+        requires { slice_get self.now.stages processor ≡ Some Stage.Away }
+        ensures complete { IsTrue result ↔ (count_by is_here self.now.stages + 1 ≡ length self.now.stages) }
+        ensures full { (time : List ℕ) → result ≡ is_full (joined self.now processor time) }
+    {
+        count_here(self.stages.as_slice()) + 1 == self.stages.len()
+    }
+
+    /// The time that the open episode would have if an arrival at the time `own` were its last: the join of
+    /// its arrivals so far and `own`.
+    pub fn time_with(&self, own: &VTime) -> VTime
+        requires { length own.now ≡ length self.now.stages }
+        ensures value { result ≡ join self.now.gathered own.now }
+        ensures long { length result ≡ length self.now.stages }
+    {
+        let mut time = self.gathered.copy();
+        time.join(own);
+        time
+    }
+
     /// Where a processor is.
     pub fn stage(&self, processor: usize) -> Stage
         requires { processor < length self.now.stages }
@@ -134,6 +157,12 @@ impl Barrier {
     }
 }
 
+fn count_here(stages: &[Stage]) -> usize
+    ensures { result ≡ count_by is_here stages.now }
+{
+    stages.iter().filter(|stage| **stage == Stage::Here).count()
+}
+
 fn all_here(stages: &[Stage]) -> bool
     ensures { result ≡ list_all is_here stages.now }
 {
@@ -160,7 +189,10 @@ mod tests {
                 let mut time = barrier.time().copy();
                 assert!(rt; time.entry(processor) < 9);
                 time.tick(processor);
+                assert_eq!(rt; barrier.completes(processor), processor == 15);
+                let with = barrier.time_with(&time);
                 assert_eq!(rt; barrier.arrive(processor, &time), processor == 15);
+                assert!(rt; processor < 15 || *barrier.time() == with);
             }
             for processor in 0..16 {
                 assert_eq!(rt; barrier.time().entry(processor), round + 1);

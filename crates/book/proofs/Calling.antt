@@ -1,7 +1,6 @@
 -- What the calls rest on, read off the book.
 pub mod Calls
 pub mod Asks
-pub mod Signals
 pub mod Takes
 pub mod Releases
 pub mod Arrivals

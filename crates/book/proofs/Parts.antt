@@ -8,3 +8,4 @@ pub mod Flags
 pub mod Meetings
 pub mod ClosedIntervals
 pub mod Told
+pub mod News

@@ -1,32 +1,37 @@
--- What a take would bring now.
-use Rattle.std.specs.Prelude.{ℕ, Option, Some, None, List, [], slice_index_or}
+-- The message for a processor that waits, and what it brings.
+use Rattle.std.specs.Prelude.{ℕ, Bool, Option, Some, None, List, [], slice_index_or}
+use Rattle.std.specs.Option.{option_map, option_and_then, is_some}
 use Rattle.journal.specs.declared.event.Kind.{Kind}
 use Rattle.journal.specs.declared.event.Kind.TheVariants.{Await}
 use Rattle.interval.specs.Intervals.{SentRecord}
 use Rattle.interval.specs.Closings.{Closings, between}
 use Rattle.transit.specs.Letters.{Letter}
+use Rattle.transit.specs.Letters.Kind.{signal}
 use Rattle.book.specs.State.{State, time_of}
+
+-- the signal of a flag with this time, to one with that timestamp
+abbrev pub signal_after : Closings → List ℕ → List ℕ → Letter
+signal_after c own t = record { kind = signal; time = t; notices = between c own t }
+
+-- what has come for p, with the timestamp `own`, where it waits for this: the flag's signal as the flag stands now, else its mail
+abbrev pub message_among : Closings → List (Option (List ℕ)) → List (Option Letter) → List ℕ → ℕ → Kind → Option Letter
+message_among c flags mail own p (Await f) = option_map (signal_after c own) (slice_index_or flags f None)
+message_among c flags mail own p _ = slice_index_or mail p None
+
+-- p's message where it waits for this
+abbrev pub message_for : State → ℕ → Kind → Option Letter
+message_for b p k = message_among b.closed b.flags b.transit (time_of b p) p k
+
+-- whether it has come
+abbrev pub has_come : List (Option (List ℕ)) → List (Option Letter) → ℕ → Kind → Bool
+has_come flags mail p (Await f) = is_some (slice_index_or flags f None)
+has_come flags mail p _ = is_some (slice_index_or mail p None)
 
 -- what is sent with a message, if there is one
 abbrev pub sent_with : Option Letter → List SentRecord
 sent_with None = []
 sent_with (Some m) = m.notices
 
--- what a flag's signal has for one with this timestamp, if the flag is set
-abbrev pub signalled : Closings → List ℕ → Option (List ℕ) → List SentRecord
-signalled c own None = []
-signalled c own (Some t) = between c own t
-
--- what p would be sent if it waited for this
-abbrev pub brought_by : State → ℕ → Kind → List SentRecord
-brought_by b p (Await f) = signalled b.closed (time_of b p) (slice_index_or b.flags f None)
-brought_by b p _ = sent_with (slice_index_or b.transit p None)
-
--- what p would be sent for what it waits for
-abbrev pub brought_where : State → ℕ → Option Kind → List SentRecord
-brought_where b p None = []
-brought_where b p (Some k) = brought_by b p k
-
--- what a take by p would bring: nothing where p waits for nothing, or where that isn't there
+-- what a take by p would bring: nothing where p waits for nothing, or where that hasn't come
 abbrev pub brought : State → ℕ → List SentRecord
-brought b p = brought_where b p (slice_index_or b.awaits p None)
+brought b p = sent_with (option_and_then (message_for b p) (slice_index_or b.awaits p None))

@@ -1,18 +1,17 @@
 -- What a call of an idle processor may rest on.
-use Rattle.std.specs.Prelude.{ℕ, ◌≡◌, ◌<◌, ◌≤◌, List, [], Some, None, length, slice_get, slice_index, slice_index_or}
+use Rattle.std.specs.Prelude.{ℕ, ◌≡◌, ◌<◌, ◌≤◌, Option, List, [], Some, None, length, slice_get, slice_index, slice_index_or}
 use Rattle.journal.specs.declared.event.Event.{Event}
 use Rattle.journal.specs.declared.event.Kind.{Kind}
-use Rattle.journal.specs.declared.event.Kind.TheVariants.{Await}
 use Rattle.journal.specs.Sizes.{Sizes}
-use Rattle.interval.specs.Closings.{Closings, between}
+use Rattle.interval.specs.Closings.{Closings}
 use Rattle.transit.specs.Letters.{Letter, letter}
 use Rattle.transit.specs.declared.message.Message.{Message}
-use Rattle.transit.specs.Letters.Kind.{signal}
-use Rattle.book.specs.Transitions.{grant_after, book_took, book_signalled}
+use Rattle.book.specs.Transitions.{grant_after, book_took}
 use Rattle.journal.specs.WellFormed.{Holds}
-use Rattle.book.specs.State.{State, time_of}
+use Rattle.book.specs.State.{State}
 use Rattle.book.specs.Told.{IsTold}
-use Rattle.book.specs.Laws.{MayHandIn, MayGive, trimmed_book}
+use Rattle.book.specs.Brought.{message_for}
+use Rattle.book.specs.Laws.{MayHandIn, MayGive}
 
 -- by some history that tells the book, p may hand in this block, which is empty where p waits
 abbrev pub MayFlush : State → ℕ → List Event → Type 0
@@ -36,6 +35,13 @@ pub record MayBeSent (c : Closings) (times : List (List ℕ)) (r : ℕ) : Type 0
   pub long : length (slice_index_or times r []) ≡ length c.first
   pub kept : (q : ℕ) → slice_index c.first q ≤ slice_index (slice_index_or times r []) q
 
+-- the flag can be signalled to one with the timestamp `own`: no interval is dropped that it doesn't cover
+pub record MaySignal (c : Closings) (flags : List (Option (List ℕ))) (own : List ℕ) (f : ℕ) : Type 0 where
+  pub within : f < length flags
+  pub time : (t : List ℕ) → slice_index_or flags f None ≡ Some t → length t ≡ length c.first
+  pub long : length own ≡ length c.first
+  pub kept : (q : ℕ) → slice_index c.first q ≤ slice_index own q
+
 -- a message and who is to have it
 abbrev pub addressed : ℕ × Message → ℕ × Letter
 addressed x = (x.0, letter x.1)
@@ -56,16 +62,9 @@ MayTake b p k = (s : Sizes) × (h : List Event) × IsTold s h b × (slice_get b.
 abbrev pub MayTakeSome : State → ℕ → Type 0
 MayTakeSome b p = (k : Kind) × MayTake b p k
 
--- what p waits for is not here
-abbrev pub IsAbsent : State → ℕ → Kind → Type 0
-IsAbsent b p (Await f) = slice_index_or b.flags f None ≡ None
-IsAbsent b p _ = slice_index_or b.transit p None ≡ None
-
--- p takes its grant or its departure
-abbrev pub TakesMail : State → ℕ → Kind → Letter → State → Type 0
-TakesMail old p k m new = (slice_index_or old.transit p None ≡ Some m) × (new ≡ trimmed_book (length old.times) (book_took old p k m))
-
--- p takes this message: its grant or its departure, or the signal of a flag with the flag's time
-abbrev pub Takes : State → ℕ → Kind → Letter → State → Type 0
-Takes old p (Await f) m new = (slice_index_or old.flags f None ≡ Some m.time) × (m ≡ record { kind = signal; time = m.time; notices = between old.closed (time_of old p) m.time }) × (new ≡ trimmed_book (length old.times) (book_signalled old p f m.time))
-Takes old p k m new = TakesMail old p k m new
+-- p takes this message, which has come for what it waits for
+pub record Takes (old : State) (p : ℕ) (m : Letter) (new : State) : Type 0 where
+  pub kind : Kind
+  pub awaits : slice_get old.awaits p ≡ Some (Some kind)
+  pub message : message_for old p kind ≡ Some m
+  pub after : new ≡ book_took old p kind m

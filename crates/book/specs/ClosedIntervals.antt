@@ -1,38 +1,31 @@
 -- What the closed intervals are by the history.
-use Rattle.std.specs.Prelude.{ℕ, ◌≡◌, ◌<◌, ◌≤◌, List, length, take, count_by, slice_get, slice_index, Some}
+use Rattle.std.specs.Prelude.{ℕ, ◌≡◌, ◌≢◌, ◌<◌, ◌≤◌, List, [], length, slice_get, slice_index, Some}
 use Rattle.journal.specs.declared.event.Event.{Event}
 use Rattle.lists.specs.Places.{Has, InOrder}
 use Rattle.journal.specs.Sizes.{Sizes}
 use Rattle.journal.specs.Events.{count_of, interval_at, is_closing}
 use Rattle.journal.specs.Times.{ClosesAt}
 use Rattle.journal.specs.Groups.{StoresIn, IsContent}
+use Rattle.journal.specs.Missing.{closed_count, IsPlaced}
 use Rattle.page.specs.Changes.{Changes}
 use Rattle.interval.specs.declared.kept.Kept.{Kept}
+use Rattle.interval.specs.Intervals.{HasRisingPages}
 use Rattle.interval.specs.Closings.{Closings}
 
--- how many events close an interval
-abbrev pub closings_of : List Event → ℕ
-closings_of h = count_by (λ (e : Event). is_closing e.kind) h
-
--- the kept interval is one that its owner has closed, with its number and its closing number
-pub record IsKept (h : List Event) (k : Kept) : Type 0 where
-  pub at : ℕ
-  pub closes : ClosesAt h k.interval.owner at
-  pub number : interval_at h k.interval.owner at ≡ k.interval.number
-  pub place : closings_of (take at h) ≡ k.place
-
--- the records are what the owner's stores of the interval come to, one for each page that they go to
+-- the records are what the owner's stores of the interval come to: one for each page that they go to, by rising page
 pub record AreContents (s : Sizes) (h : List Event) (owner number : ℕ) (records : List Changes) : Type 0 where
   pub each : (r : Changes) → Has records r → IsContent s h owner number r.page r.words
+  pub some : (r : Changes) → Has records r → r.words ≢ []
   pub all : (n i : ℕ) → StoresIn s h owner number n i → (r : Changes) × Has records r × (r.page ≡ n)
+  pub rising : HasRisingPages records
 
 -- the intervals closed so far, but for each owner's first ones, are kept in closing order
 pub record AreClosed (s : Sizes) (h : List Event) (c : Closings) : Type 0 where
-  pub count : c.pushed ≡ closings_of h
+  pub count : c.pushed ≡ closed_count h
   pub next_long : length c.next ≡ s.processors
   pub next : (q : ℕ) → q < s.processors → slice_index c.next q ≡ count_of is_closing h q
   pub first_long : length c.first ≡ s.processors
-  pub each : (k : Kept) → Has c.kept k → IsKept h k
+  pub each : (k : Kept) → Has c.kept k → IsPlaced h k.interval.owner k.interval.number k.place
   pub all : (q i : ℕ) → ClosesAt h q i → slice_index c.first q ≤ interval_at h q i → (k : Kept) × Has c.kept k × (k.interval.owner ≡ q) × (k.interval.number ≡ interval_at h q i)
   pub contents : (k : Kept) → Has c.kept k → AreContents s h k.interval.owner k.interval.number k.interval.records
   pub rising : InOrder (λ (j k : Kept). j.place < k.place) c.kept

@@ -1,18 +1,24 @@
 -- The laws of the transitions: a book that is told by a history is told, after the transition, by the history with the block and the event after it.
-use Rattle.std.specs.Prelude.{ℕ, ◌≡◌, ◌≢◌, ◌<◌, ◌↔◌, false, Option, Some, None, List, [], ◌++◌, slice_get}
+use Rattle.std.specs.Prelude.{ℕ, ◌≡◌, ◌≢◌, ◌<◌, false, Option, Some, None, List, [], ◌++◌, slice_get, slice_index}
 use Rattle.journal.specs.declared.event.Event.{Event}
 use Rattle.journal.specs.declared.event.Kind.{Kind}
-use Rattle.journal.specs.declared.event.Kind.TheVariants.{Ask, Release, Arrive, Set, Watch, Await}
+use Rattle.journal.specs.declared.event.Kind.TheVariants.{Ask, Release, Arrive, Set, Watch}
 use Rattle.journal.specs.Sizes.{Sizes}
 use Rattle.journal.specs.Events.{At, count_of, is_closing, is_taking}
-use Rattle.journal.specs.WellFormed.{KindInRange, Holds, Ready}
+use Rattle.journal.specs.WellFormed.{KindInRange, Holds, Allowed}
+use Rattle.journal.specs.Brings.{Brings}
+use Rattle.journal.specs.Missing.{InClosingOrder, AreNews}
+use Rattle.vtime.specs.Times.{join}
+use Rattle.interval.specs.Closings.{between}
 use Rattle.page.specs.Changes.{Changes}
 use Rattle.transit.specs.Letters.{Letter}
 use Rattle.journal.specs.Did.{did}
-use Rattle.book.specs.Mail.{IsPosted}
+use Rattle.book.specs.Brought.{message_for}
 use Rattle.book.specs.ClosedIntervals.{AreContents}
-use Rattle.book.specs.State.{State}
-use Rattle.book.specs.Transitions.{new_book, handed_in, handed_last, book_asked, book_released, book_arrived, book_set, book_watched, book_took, book_signalled, trimmed_by}
+use Rattle.book.specs.State.{State, time_of}
+use Rattle.book.specs.Stamps.{IsStamp}
+use Rattle.book.specs.News.{missing_in}
+use Rattle.book.specs.Transitions.{new_book, handed_in, handed_last, book_asked, book_released, book_arrived, book_set, book_watched, book_took}
 use Rattle.book.specs.Told.{IsTold}
 
 -- the event is a load, a store or a fetch of p within the sizes
@@ -73,26 +79,27 @@ abbrev pub WatchLaw : Type 0
 WatchLaw = (s : Sizes) (h block : List Event) (b : State) (p f : ℕ) (records : List Changes) → IsTold s h b → MayHandIn s b p block → AreOpenRecords s (h ++ block) p records → f < s.flags
     → IsTold s (did (h ++ block) p (Watch f)) (book_watched (handed_in b block) p f records)
 
--- the book with the intervals trimmed that everyone's timestamp covers
-abbrev pub trimmed_book : ℕ → State → State
-trimmed_book n b = record b { closed = trimmed_by b.closed b.times n }
+-- p's message lets p do what it waits for, has the time of what that brings, and what p lacks of it
+pub record IsMessage (s : Sizes) (h : List Event) (b : State) (p : ℕ) (k : Kind) (m : Letter) : Type 0 where
+  pub allowed : Allowed s h p k
+  pub time : IsStamp s.processors h (Brings h p k) m.time
+  pub notices : m.notices ≡ between b.closed (time_of b p) m.time
 
--- a take of a grant or a departure
+-- what has come for one who waits
+abbrev pub MessageLaw : Type 0
+MessageLaw = (s : Sizes) (h : List Event) (b : State) (p : ℕ) (k : Kind) (m : Letter) → IsTold s h b → slice_get b.awaits p ≡ Some (Some k) → message_for b p k ≡ Some m
+    → IsMessage s h b p k m
+
+-- a take of a grant, a departure or a flag's signal, with the trim after it
 abbrev pub TakeLaw : Type 0
-TakeLaw = (s : Sizes) (h : List Event) (b : State) (p : ℕ) (k : Kind) (m : Letter) → IsTold s h b → slice_get b.awaits p ≡ Some (Some k) → slice_get b.transit p ≡ Some (Some m)
-    → IsTold s (did h p k) (trimmed_book s.processors (book_took b p k m))
+TakeLaw = (s : Sizes) (h : List Event) (b : State) (p : ℕ) (k : Kind) (m : Letter) → IsTold s h b → slice_get b.awaits p ≡ Some (Some k) → message_for b p k ≡ Some m
+    → IsTold s (did h p k) (book_took b p k m)
 
--- a take of a flag's signal
-abbrev pub SignalLaw : Type 0
-SignalLaw = (s : Sizes) (h : List Event) (b : State) (p f : ℕ) (t : List ℕ) → IsTold s h b → slice_get b.awaits p ≡ Some (Some (Await f)) → slice_get b.flags f ≡ Some (Some t)
-    → IsTold s (did h p (Await f)) (trimmed_book s.processors (book_signalled b p f t))
+-- what a taking brings of page n is news of it
+abbrev pub NewsLaw : Type 0
+NewsLaw = (s : Sizes) (h : List Event) (b : State) (p n : ℕ) (k : Kind) (u : List ℕ) → IsTold s h b → p < s.processors → IsStamp s.processors h (Brings h p k) u
+    → AreNews s h p n (slice_index (time_of b p)) (slice_index (join (time_of b p) u)) (missing_in n (between b.closed (time_of b p) u))
 
--- who waits for a lock or at the barrier may go on exactly where its message is there
-abbrev pub MailLaw : Type 0
-MailLaw = (s : Sizes) (h : List Event) (b : State) (p : ℕ) (k : Kind) (m : Option Letter) → IsTold s h b → slice_get b.awaits p ≡ Some (Some k) → IsPosted k → slice_get b.transit p ≡ Some m
-    → (m ≢ None) ↔ Ready s h p
-
--- who waits for a flag may go on exactly where it is set
-abbrev pub FlagLaw : Type 0
-FlagLaw = (s : Sizes) (h : List Event) (b : State) (p f : ℕ) (t : Option (List ℕ)) → IsTold s h b → slice_get b.awaits p ≡ Some (Some (Await f)) → slice_get b.flags f ≡ Some t
-    → (t ≢ None) ↔ Ready s h p
+-- what lies between two timestamps is in closing order
+abbrev pub NewsOrderLaw : Type 0
+NewsOrderLaw = (s : Sizes) (h : List Event) (b : State) (n : ℕ) (old new : List ℕ) → IsTold s h b → InClosingOrder (missing_in n (between b.closed old new))

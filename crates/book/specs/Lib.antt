@@ -7,8 +7,9 @@ pub mod ClosedIntervals
 pub mod State
 pub mod Transitions
 pub mod Told
+pub mod News
+pub mod Brought
 pub mod Laws
 pub mod Holding
 pub mod Calls
 pub mod Harness
-pub mod Brought

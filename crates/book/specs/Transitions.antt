@@ -2,7 +2,7 @@
 use Rattle.std.specs.Prelude.{ℕ, zero, suc, ◌-◌, ◌*◌, min, Bool, true, false, cond, Option, Some, None, List, [], ◌∷◌, ◌++◌, map, length, slice_index, slice_index_or, slice_set, replicate, fold}
 use Rattle.journal.specs.declared.event.Event.{Event}
 use Rattle.journal.specs.declared.event.Kind.{Kind}
-use Rattle.journal.specs.declared.event.Kind.TheVariants.{Ask, Release, Arrive, Depart, Set, Watch, Await}
+use Rattle.journal.specs.declared.event.Kind.TheVariants.{Ask, Release, Arrive, Depart, Set, Watch}
 use Rattle.journal.specs.Log.{Log}
 use Rattle.journal.specs.Sizes.{Sizes, addresses}
 use Rattle.journal.specs.Waits.{awaited}
@@ -136,14 +136,6 @@ abbrev pub left : Kind → Episodes → ℕ → Episodes
 left Depart b p = departed b p
 left _ b p = b
 
--- p takes its message
-abbrev pub book_took : State → ℕ → Kind → Letter → State
-book_took b p k m = record (taken b p k m.time) { transit = slice_set b.transit p None; barrier = left k b.barrier p }
-
--- p awaits a flag that was set at this time
-abbrev pub book_signalled : State → ℕ → ℕ → List ℕ → State
-book_signalled b p f t = taken b p (Await f) t
-
 -- the lesser of a number and an entry for q
 abbrev pub lesser : ℕ → ℕ → List ℕ → ℕ
 lesser q n t = min n (slice_index t q)
@@ -156,3 +148,15 @@ least times q = fold (lesser q) (slice_index (slice_index_or times 0 []) q) time
 abbrev pub trimmed_by : Closings → List (List ℕ) → ℕ → Closings
 trimmed_by c times zero = c
 trimmed_by c times (suc n) = trimmed (trimmed_by c times n) n (least times n)
+
+-- the book with the intervals trimmed that everyone's timestamp covers
+abbrev pub trimmed_book : State → State
+trimmed_book b = record b { closed = trimmed_by b.closed b.times (length b.times) }
+
+-- p takes this message, for which it waited
+abbrev pub took : State → ℕ → Kind → Letter → State
+took b p k m = record (taken b p k m.time) { transit = slice_set b.transit p None; barrier = left k b.barrier p }
+
+-- and what everyone has performed then is trimmed
+abbrev pub book_took : State → ℕ → Kind → Letter → State
+book_took b p k m = trimmed_book (took b p k m)

@@ -1,15 +1,17 @@
 //! The book: everything that the processors share.
-ghost use Rattle.std.specs.Prelude.{◌≡◌, ◌≢◌, ℕ, ◌+◌, ◌-◌, ◌*◌, None, replicate, ◌^◌, ◌<◌, ◌≤◌, ◌++◌, ◌↔◌, ◌⊎◌, true, map, OnOk, OnErr, IfErr, IfOk, IfSome, slice_index, slice_index_or, Err, length, slice_get, slice_set, Some};
+ghost use Rattle.std.specs.Prelude.{List, ◌≡◌, ◌≢◌, ℕ, ◌+◌, ◌-◌, ◌*◌, None, replicate, ◌^◌, ◌<◌, ◌≤◌, ◌++◌, ◌↔◌, ◌⊎◌, true, map, OnOk, OnErr, IfErr, IfOk, IfSome, slice_index, slice_index_or, Err, length, slice_get, slice_set, Some};
 ghost use Rattle.std.specs.Arc.{arc_value};
-ghost use Rattle.journal.specs.declared.event.Kind.{Kind as AKind};
 ghost use Rattle.journal.specs.Events.{is_closing};
 ghost use Rattle.journal.specs.Waits.{awaited};
 ghost use Rattle.interval.specs.Intervals.{HasRisingPages};
 ghost use Rattle.book.specs.Brought.{brought};
-ghost use Rattle.book.specs.Calls.{MayFlush, MayCall, MayAsk, MayRelease, MayBeSent, MayTake, MayTakeSome, IsAbsent, Takes, TakesMail};
+ghost use Rattle.book.specs.Calls.{MayFlush, MayCall, MayAsk, MayRelease, MayBeSent, MayTakeSome, Takes};
 ghost use Rattle.book.specs.Transitions.{new_book, handed_in, handed_last, closing, due, granted, left, set_at, book_watched, book_set, book_asked, book_released, book_arrived, departures_after};
 ghost use Rattle.book.specs.State.{time_of};
-ghost use Rattle.book.specs.Mail.{IsPosted};
+ghost use Rattle.book.specs.Told.{IsTold};
+ghost use Rattle.journal.specs.Sizes.{Sizes};
+ghost use Rattle.journal.specs.WellFormed.{Ready};
+ghost use Rattle.journal.specs.declared.event.Event.{Event as AnEvent};
 ghost use Rattle.std.specs.Option.{option_map};
 ghost use Rattle.vtime.specs.Times.{tick};
 ghost use Rattle.interval.specs.Closings.{between, pushed};
@@ -19,7 +21,7 @@ ghost use Rattle.transit.specs.Letters.Kind.{grant};
 
 mod pending;
 
-use crate::messages::{departures, grant_to, post_all};
+use crate::messages::{departures, grant_to, has_come, post_all, receive};
 use crate::refused::Refused;
 use crate::room::{append_all, make_room};
 use crate::trims::trim;
@@ -326,72 +328,28 @@ impl Book {
         Ok(Some(Message::Grant { time, notices }))
     }
 
-    /// Takes what `p` waits for: its grant, its departure, or the signal of its flag, with what it is to
-    /// perform. NotYet exactly where that isn't there; else JournalFull exactly where the journal would have
-    /// more than 2^20 events. Intervals that everyone has performed are dropped then; a refused call drops
-    /// none.
+    /// Takes what `p` waits for: its grant, its departure, or the signal of its flag as the flag stands now,
+    /// with what it is to perform. NotYet exactly where that hasn't come: where `p` isn't ready in any history
+    /// that tells the book. Else JournalFull exactly where the journal would have more than 2^20 events.
+    /// Intervals that everyone has performed are dropped then; a refused call drops none.
     pub fn take(&mut self, p: usize) -> Result<Message, Refused>
         requires call { MayTakeSome self.old p }
-        ensures ok { (k : AKind) → slice_get self.old.awaits p ≡ Some (Some k) → IfOk result (λ m. Takes self.old p k (letter m) self.new) }
+        ensures ok { IfOk result (λ m. Takes self.old p (letter m) self.new) }
         ensures brings { IfOk result (λ m. (letter m).notices ≡ brought self.old p) }
         ensures err { OnErr result (self.new ≡ self.old) }
-        ensures absent { (k : AKind) → slice_get self.old.awaits p ≡ Some (Some k) → result ≡ Err Refused.NotYet ↔ IsAbsent self.old p k }
+        ensures absent { (s : Sizes) (h : List AnEvent) → IsTold s h self.old → result ≡ Err Refused.NotYet ↔ (¬ Ready s h p) }
         ensures full { result ≢ Err Refused.NotYet → result ≡ Err Refused.JournalFull ↔ (2 ^ 20 < length self.old.journal.events + 1) }
         ensures only { IfErr result (λ e. (e ≡ Refused.NotYet) ⊎ (e ≡ Refused.JournalFull) ⊎ (e ≡ Refused.NoMemory)) }
     {
         let Some(kind) = self.awaits[p] else {
             unreachable!("the processor waits")
         };
-        match kind {
-            Kind::Await(flag) => self.take_signal(p, flag),
-            _ => self.take_message(p, kind),
-        }
-    }
-
-    /// Takes the signal of a flag that `p` watches, made from the flag's time as it stands now.
-    fn take_signal(&mut self, p: usize, f: usize) -> Result<Message, Refused>
-        requires call { MayTake self.old p (Kind.Await f) }
-        ensures ok { IfOk result (λ m. Takes self.old p (Kind.Await f) (letter m) self.new) }
-        ensures err { OnErr result (self.new ≡ self.old) }
-        ensures absent { result ≡ Err Refused.NotYet ↔ IsAbsent self.old p (Kind.Await f) }
-        ensures full { result ≢ Err Refused.NotYet → result ≡ Err Refused.JournalFull ↔ (2 ^ 20 < length self.old.journal.events + 1) }
-        ensures only { IfErr result (λ e. (e ≡ Refused.NotYet) ⊎ (e ≡ Refused.JournalFull) ⊎ (e ≡ Refused.NoMemory)) }
-    {
-        let Some(time) = &self.flags[f] else {
-            return Err(Refused::NotYet);
-        };
-        let time = time.copy();
-        make_room(&mut self.journal, self.owing, 1)?;
-        let closed = &self.closed;
-        let notices = closed.between(&self.times[p], &time)?;
-        self.journal.append(Event {
-            processor: p,
-            kind: Kind::Await(f),
-        });
-        self.times[p].join(&time);
-        self.awaits[p] = None;
-        trim(&mut self.closed, &self.times);
-        Ok(Message::Signal { time, notices })
-    }
-
-    /// Takes the grant or the departure of `p`, as it was posted.
-    fn take_message(&mut self, p: usize, kind: Kind) -> Result<Message, Refused>
-        requires call { MayTake self.old p kind }
-        requires posted { IsPosted kind }
-        ensures ok { IfOk result (λ m. TakesMail self.old p kind (letter m) self.new) }
-        ensures err { OnErr result (self.new ≡ self.old) }
-        ensures absent { result ≡ Err Refused.NotYet ↔ (slice_index_or self.old.transit p None ≡ None) }
-        ensures full { result ≢ Err Refused.NotYet → result ≡ Err Refused.JournalFull ↔ (2 ^ 20 < length self.old.journal.events + 1) }
-        ensures only { IfErr result (λ e. (e ≡ Refused.NotYet) ⊎ (e ≡ Refused.JournalFull) ⊎ (e ≡ Refused.NoMemory)) }
-    {
-        let transit = &self.transit;
-        if !transit.ready(p) {
+        if !has_come(&self.flags, &self.transit, p, kind) {
             return Err(Refused::NotYet);
         }
         make_room(&mut self.journal, self.owing, 1)?;
-        let Some(message) = self.transit.take(p) else {
-            unreachable!("the message is ready")
-        };
+        let (closed, flags) = (&self.closed, &self.flags);
+        let message = receive(&mut self.transit, closed, flags, &self.times[p], p, kind)?;
         self.journal.append(Event { processor: p, kind });
         self.times[p].join(message.time());
         self.awaits[p] = None;

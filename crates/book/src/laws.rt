@@ -1,6 +1,6 @@
 //! The laws of the transitions, as contracts of functions that do nothing: the check proves each by
 //! its name.
-ghost use Rattle.book.specs.Laws.{NewLaw, HandInLaw, LastLaw, AskLaw, ReleaseLaw, ArriveLaw, SetLaw, WatchLaw, TakeLaw, SignalLaw, MailLaw, FlagLaw};
+ghost use Rattle.book.specs.Laws.{NewLaw, HandInLaw, LastLaw, AskLaw, ReleaseLaw, ArriveLaw, SetLaw, WatchLaw, TakeLaw, MessageLaw, NewsLaw, NewsOrderLaw};
 
 /// An empty book is told by the empty history.
 pub fn new_law()
@@ -42,22 +42,19 @@ pub fn watch_law()
     ensures { WatchLaw }
 {}
 
-/// The same of the take of a grant or a departure, with the trim after it.
+/// The same of a take, with the trim after it.
 pub fn take_law()
     ensures { TakeLaw }
 {}
 
-/// The same of the take of a flag's signal.
-pub fn take_signal_law()
-    ensures { SignalLaw }
+/// What has come for a processor lets it go on, and brings it what it lacks.
+pub fn message_law()
+    ensures { MessageLaw }
 {}
 
-/// A grant or a departure is there exactly where its receiver may go on.
-pub fn mail_law()
-    ensures { MailLaw }
-{}
-
-/// A flag is set exactly where one who waits for it may go on.
-pub fn flag_law()
-    ensures { FlagLaw }
+/// What a processor's taking brings it of a page is news of that page, by a message and by a flag's signal
+/// alike; and what lies between any two timestamps is in closing order.
+pub fn news_law()
+    ensures news { NewsLaw }
+    ensures in_order { NewsOrderLaw }
 {}

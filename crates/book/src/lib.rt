@@ -13,7 +13,7 @@ mod trims;
 
 pub use book::Book;
 pub use laws::{
-    arrive_law, ask_law, flag_law, hand_in_law, last_law, mail_law, new_law, release_law, set_law,
-    take_law, take_signal_law, watch_law,
+    arrive_law, ask_law, hand_in_law, last_law, message_law, new_law, news_law, release_law,
+    set_law, take_law, watch_law,
 };
 pub use refused::Refused;

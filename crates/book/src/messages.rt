@@ -1,13 +1,15 @@
 //! Messages that are made before the interval is closed with which they come.
-ghost use Rattle.std.specs.Prelude.{◌≡◌, ℕ, ◌<◌, IfOk, IfSome, None, Some, length, map, replicate, slice_set};
+ghost use Rattle.std.specs.Prelude.{◌≡◌, ℕ, ◌<◌, ◌≤◌, IfOk, IfSome, IsSome, OnOk, OnErr, None, Some, true, length, map, replicate, slice_index, slice_set};
 ghost use Rattle.std.specs.Option.{option_map};
 ghost use Rattle.interval.specs.Intervals.{HasRisingPages};
 ghost use Rattle.interval.specs.Closings.{pushed};
 ghost use Rattle.transit.specs.Letters.{letter};
 ghost use Rattle.book.specs.Transitions.{departure_to};
-ghost use Rattle.book.specs.Calls.{MayBeSent, addressed, grant_for};
+ghost use Rattle.book.specs.Brought.{has_come, message_among, signal_after};
+ghost use Rattle.book.specs.Calls.{MayBeSent, MaySignal, addressed, grant_for};
 
 use interval::{Closed, Interval};
+use journal::Kind;
 use std::alloc::{AllocError, Global};
 use transit::{Message, Transit};
 use vtime::VTime;
@@ -101,4 +103,61 @@ pub(crate) fn post_all(transit: &mut Transit, messages: Vec<Message>)
     while let Some(message) = messages.pop() {
         transit.post(messages.len(), message);
     }
+}
+
+/// Whether what `p` waits for has come: the flag is set, or there is mail.
+pub(crate) fn has_come(flags: &[Option<VTime>], mail: &Transit, p: usize, kind: Kind) -> bool
+    requires processor { p < length mail.now }
+    requires flag { (f : ℕ) → kind ≡ Kind.Await f → f < length flags.now }
+    ensures { result ≡ has_come flags.now mail.now p kind }
+{
+    match kind {
+        Kind::Await(flag) => flags[flag].is_some(),
+        _ => mail.ready(p),
+    }
+}
+
+/// The message for `p`, who has the timestamp `own` and waits for this, which has come: a flag's signal is
+/// made now, mail is taken as it was posted.
+pub(crate) fn receive(
+    mail: &mut Transit,
+    closed: &Closed,
+    flags: &[Option<VTime>],
+    own: &VTime,
+    p: usize,
+    kind: Kind,
+) -> Result<Message, AllocError>
+    requires come { has_come flags.now mail.old p kind ≡ true }
+    requires processor { p < length mail.old }
+    requires flag { (f : ℕ) → kind ≡ Kind.Await f → MaySignal closed.now flags.now own.now f }
+    requires none { (f : ℕ) → kind ≡ Kind.Await f → mail.old ≡ slice_set mail.old p None }
+    ensures ok { IfOk result (λ m. message_among closed.now flags.now mail.old own.now p kind ≡ Some (letter m)) }
+    ensures after { OnOk result (mail.new ≡ slice_set mail.old p None) }
+    ensures err { OnErr result (mail.new ≡ mail.old) }
+{
+    match kind {
+        Kind::Await(flag) => signal(closed, &flags[flag], own),
+        _ => {
+            let Some(message) = mail.take(p) else {
+                unreachable!("the mail is there")
+            };
+            Ok(message)
+        }
+    }
+}
+
+/// The signal of a flag that is set, to one with the timestamp `own`.
+fn signal(closed: &Closed, flag: &Option<VTime>, own: &VTime) -> Result<Message, AllocError>
+    requires set { IsSome flag.now }
+    requires time { IfSome flag.now (λ t. length t ≡ length closed.now.first) }
+    requires own { length own.now ≡ length closed.now.first }
+    requires kept { (q : ℕ) → slice_index closed.now.first q ≤ slice_index own.now q }
+    ensures { IfOk result (λ m. option_map (signal_after closed.now own.now) flag.now ≡ Some (letter m)) }
+{
+    let Some(time) = flag else {
+        unreachable!("the flag is set")
+    };
+    let notices = closed.between(own, time)?;
+    let time = time.copy();
+    Ok(Message::Signal { time, notices })
 }

@@ -1,3 +1,4 @@
 pub mod Intervals
 pub mod Closings
 pub mod Queues
+pub mod Counts

@@ -1,5 +1,5 @@
 -- How the kept intervals lie: one queue for each owner.
-use Rattle.std.specs.Prelude.{ℕ, ◌≡◌, ◌+◌, ◌-◌, ◌<◌, min, max, drop, nat_lt, cond, Option, Some, None, List, [], ◌∷◌, map, length, slice_get}
+use Rattle.std.specs.Prelude.{ℕ, ◌≡◌, ◌+◌, ◌-◌, ◌<◌, min, max, drop, take, nat_lt, cond, Option, Some, None, List, [], ◌∷◌, map, length, slice_get}
 use Rattle.std.specs.List.{flat_map}
 use Rattle.lists.specs.Places.{Has, InOrder}
 use Rattle.interval.specs.declared.kept.Kept.{Kept}
@@ -68,3 +68,7 @@ without queue to = record {
   first = max queue.first (min to (queue.first + length queue.kept));
   kept = drop (to - queue.first) queue.kept;
 }
+
+-- the queue's intervals with numbers within from..to
+abbrev pub within : Queue → ℕ → ℕ → List Kept
+within queue from to = drop (from - queue.first) (take (to - queue.first) queue.kept)

@@ -1,5 +1,5 @@
 //! The closed intervals of all owners.
-ghost use Rattle.std.specs.Prelude.{◌≡◌, ℕ, ◌-◌, ◌^◌, ◌<◌, ◌≤◌, ◌==◌, MatchOption, OnOk, OnErr, IfOk, List, replicate, [], ◌∷◌, length, find, filter, count_by, slice_get, slice_index};
+ghost use Rattle.std.specs.Prelude.{◌≡◌, ℕ, ◌+◌, ◌-◌, ◌^◌, ◌<◌, ◌≤◌, ◌==◌, MatchOption, OnOk, OnErr, IfOk, List, replicate, [], ◌∷◌, length, find, filter, count_by, slice_get, slice_index, EachIndex};
 ghost use Rattle.std.specs.Option.{option_copied};
 ghost use Rattle.vtime.specs.Times.{tick};
 ghost use Rattle.interval.specs.Intervals.{HasRisingPages, IsInClosingOrder};
@@ -87,22 +87,46 @@ impl Closed {
         Ok(sent)
     }
 
-    /// How many notices of the page `between` answers. It takes no memory.
+    /// How many notices of each page `between` answers: entry n of the slice, whatever stood there, becomes
+    /// the number for page n. Pages past the slice's end are not counted. It takes no memory, and costs in
+    /// the order of the owners, the slice, and the intervals between the timestamps with their records.
+    pub fn count_news(&self, old: &VTime, new: &VTime, counts: &mut [usize])
+        requires old_long { length old.now ≡ length self.now.first }
+        requires new_long { length new.now ≡ length self.now.first }
+        requires none_trimmed { (q : ℕ) → slice_index self.now.first q ≤ slice_index old.now q }
+        ensures each { EachIndex counts.new (λ n. slice_index counts.new n ≡ count_by (is_of_page n) (between self.now old.now new.now)) }
+        ensures same_length { length counts.new ≡ length counts.old }
+    {
+        self.count_pages(0, old, new, counts);
+    }
+
+    /// How many notices of the page `between` answers. It takes no memory, and costs as `count_news` does.
     pub fn news_of(&self, page: usize, old: &VTime, new: &VTime) -> usize
         requires old_long { length old.now ≡ length self.now.first }
         requires new_long { length new.now ≡ length self.now.first }
         requires none_trimmed { (q : ℕ) → slice_index self.now.first q ≤ slice_index old.now q }
         ensures { result ≡ count_by (is_of_page page) (between self.now old.now new.now) }
     {
-        let mut at = old.copy();
-        let mut count = 0;
-        while let Some(kept) = self.next_news(&mut at, new) {
-            if kept.interval.record(page).is_some() {
-                prove!((count as u64) < self.pushed);
-                count += 1;
-            }
+        let mut count = [0];
+        self.count_pages(page, old, new, &mut count);
+        count[0]
+    }
+
+    /// As `count_news`, with the number for page `base + i` in entry i: one walk over each owner's intervals
+    /// between the timestamps, in no order.
+    fn count_pages(&self, base: usize, old: &VTime, new: &VTime, counts: &mut [usize])
+        requires old_long { length old.now ≡ length self.now.first }
+        requires new_long { length new.now ≡ length self.now.first }
+        requires none_trimmed { (q : ℕ) → slice_index self.now.first q ≤ slice_index old.now q }
+        ensures each { EachIndex counts.new (λ i. slice_index counts.new i ≡ count_by (is_of_page (base + i)) (between self.now old.now new.now)) }
+        ensures same_length { length counts.new ≡ length counts.old }
+    {
+        // No count passes the number of intervals that were ever closed.
+        let _most = self.pushed;
+        counts.fill(0);
+        for (owner, queue) in self.queues.iter().enumerate() {
+            queue.count_pages(old.entry(owner), new.entry(owner), base, counts);
         }
-        count
     }
 
     /// What `between` will answer once the interval is pushed: with it a caller can take all the memory

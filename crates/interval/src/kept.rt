@@ -3,6 +3,7 @@ ghost use Rattle.std.specs.Prelude.{◌≡◌, ◌==◌, ◌++◌, IfOk, OnOk, f
 ghost use Rattle.std.specs.Arc.{arc_value};
 ghost use Rattle.std.specs.Option.{option_copied};
 ghost use Rattle.interval.specs.Closings.{sent_interval, sent_record};
+ghost use Rattle.interval.specs.Counts.{pages_of_records, AreCounted, HasRoom};
 
 use crate::notice::{Notice, Sent};
 use page::Record;
@@ -44,6 +45,20 @@ impl Interval {
             }
         }
         None
+    }
+
+    /// Counts its records, by pages: entry i of the counts grows by one where there is a record of page
+    /// `base + i`. Other pages are not counted.
+    pub(crate) fn count_pages(&self, base: usize, counts: &mut [usize])
+        requires { HasRoom base (pages_of_records self.now.records) counts.old }
+        ensures { AreCounted base (pages_of_records self.now.records) counts.old counts.new }
+    {
+        for record in self.shared_records() {
+            let page = record.page();
+            if base <= page && page - base < counts.len() {
+                counts[page - base] += 1;
+            }
+        }
     }
 
     /// Adds each record, under its notice, to what is sent of the interval with this closing number.

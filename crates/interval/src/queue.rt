@@ -1,7 +1,8 @@
 //! The kept intervals of one owner.
 ghost use Rattle.std.specs.Prelude.{◌≡◌, ◌-◌, ◌≤◌, [], ◌∷◌, ◌++◌, slice_get, OnOk, OnErr};
 ghost use Rattle.std.specs.Option.{option_copied};
-ghost use Rattle.interval.specs.Queues.{first_within, earlier, without};
+ghost use Rattle.interval.specs.Queues.{first_within, within, earlier, without};
+ghost use Rattle.interval.specs.Counts.{pages_of, AreCounted, HasRoom};
 
 use crate::kept::Kept;
 use std::alloc::{AllocError, Global};
@@ -65,6 +66,20 @@ impl Queue {
         ensures { option_copied result ≡ first_within self.now from to }
     {
         if from < to { self.numbered(from) } else { None }
+    }
+
+    /// Counts the records of the intervals with numbers in `from..to`, by pages, as
+    /// `Interval::count_pages` does.
+    pub(crate) fn count_pages(&self, from: u64, to: u64, base: usize, counts: &mut [usize])
+        requires kept { self.now.first ≤ from }
+        requires room { HasRoom base (pages_of (within self.now from to)) counts.old }
+        ensures { AreCounted base (pages_of (within self.now from to)) counts.old counts.new }
+    {
+        let start = (from - self.first) as usize;
+        let end = to.saturating_sub(self.first).min(self.kept.len() as u64) as usize;
+        for index in start..end {
+            self.kept[index].interval.count_pages(base, counts);
+        }
     }
 
     /// Drops the intervals with numbers below `to`.

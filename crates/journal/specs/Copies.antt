@@ -47,7 +47,7 @@ Lawful s j p n page = IsImage s j (InPast j p) n page
 
 -- p fetches page n at place k
 abbrev pub Fetches : List Event → ℕ → ℕ → ℕ → Type 0
-Fetches j k p n = (writers : ℕ) × (records : ℕ) × (words : ℕ) × Does j k p (Fetch n writers records words)
+Fetches j k p n = (writers : ℕ) × (records : ℕ) × (words : ℕ) × Does j k p (Fetch writers n records words)
 
 -- place i is p's own
 abbrev pub Mine : List Event → ℕ → ℕ → Type 0

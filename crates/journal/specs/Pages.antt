@@ -14,7 +14,7 @@ use Rattle.journal.specs.Missing.{Missing, AreMissing}
 abbrev pub Touches : Sizes → ℕ → Kind → Type 0
 Touches s n (Load a v) = a / s.words ≡ n
 Touches s n (Store a v) = a / s.words ≡ n
-Touches s n (Fetch m w r d) = m ≡ n
+Touches s n (Fetch w m r d) = m ≡ n
 Touches s n _ = ⊥
 
 -- the copy is what the block's stores make of one that is lawful before the block, and lacks nothing

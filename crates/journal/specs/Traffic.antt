@@ -9,15 +9,15 @@ messages_of (Acquire l) = 2
 messages_of (Await f) = 2
 messages_of Arrive = 1
 messages_of Depart = 1
-messages_of (Fetch n writers records words) = 2 * writers
+messages_of (Fetch writers n records words) = 2 * writers
 messages_of _ = 0
 
 abbrev pub records_of : Kind → ℕ
-records_of (Fetch n writers records words) = records
+records_of (Fetch writers n records words) = records
 records_of _ = 0
 
 abbrev pub words_of : Kind → ℕ
-words_of (Fetch n writers records words) = words
+words_of (Fetch writers n records words) = words
 words_of _ = 0
 
 abbrev pub messages : List Event → ℕ

@@ -10,7 +10,7 @@ use Rattle.journal.specs.Events.{At, count_of, is_arrive, is_depart, is_taking}
 abbrev pub KindInRange : Sizes → Kind → Type 0
 KindInRange s (Load a v) = a < addresses s
 KindInRange s (Store a v) = a < addresses s
-KindInRange s (Fetch n w r d) = n < s.pages
+KindInRange s (Fetch w n r d) = n < s.pages
 KindInRange s (Ask l) = l < s.locks
 KindInRange s (Acquire l) = l < s.locks
 KindInRange s (Release l) = l < s.locks

@@ -1,11 +1,11 @@
 //! Vector timestamps of sixteen processors, for the race checker.
 
-ghost use Rattle.std.specs.Prelude.{◌≡◌, ◌⊎◌, ℕ, ◌+◌, ◌<◌, ◌≤◌, ◌^◌, ◌≢◌, ◌↔◌, ◌==◌, IsTrue, IfOk, OnOk, cond, max, length, slice_index, slice_index_or, vec_len};
+ghost use Rattle.std.specs.Prelude.{◌≡◌, ◌⊎◌, ℕ, ◌+◌, ◌<◌, ◌≤◌, ◌^◌, ◌≢◌, ◌↔◌, ◌==◌, IsTrue, IfOk, OnOk, cond, max, length, slice_index, slice_index_or};
 ghost use Rattle.std.specs.VecDeque.{deque_len};
-ghost use Rattle.journal.specs.Entries.{entry, IsJoinedAt};
+ghost use Rattle.journal.specs.Entries.{entry, kept_entry, IsJoinedAt};
 
 use std::alloc::AllocError;
-use std::collections::VecDeque;
+use std::collections::{BTreeMap, VecDeque};
 
 /// A vector timestamp: of each processor, how many of its closing events are counted.
 pub(crate) type Clock = [u32; 16];
@@ -31,63 +31,35 @@ pub(crate) fn tick(clock: &mut Clock, processor: usize)
     }
 }
 
-/// The timestamp with one more closing event of the processor.
-pub(crate) fn ticked(clock: &Clock, processor: usize) -> Clock
-    requires processor { processor < 16 }
-    requires room { slice_index clock.now processor < 2 ^ 22 }
-    ensures { (q : ℕ) → slice_index result q ≡ slice_index clock.now q + cond (processor == q) 1 0 }
-{
-    let mut next = *clock;
-    tick(&mut next, processor);
-    next
-}
-
-/// Whether each entry is at most the other timestamp's.
-pub(crate) fn is_within(clock: &Clock, other: &Clock) -> bool
-    ensures { IsTrue result ↔ ((q : ℕ) → slice_index clock.now q ≤ slice_index other.now q) }
+/// Whether each entry but the processor's own is at most the other timestamp's.
+pub(crate) fn others_are_within(clock: &Clock, other: &Clock, processor: usize) -> bool
+    ensures { IsTrue result ↔ ((q : ℕ) → q ≢ processor → slice_index clock.now q ≤ slice_index other.now q) }
 {
     let mut within = true;
     for q in 0..16 {
-        within &= clock[q] <= other[q];
+        within &= q == processor || clock[q] <= other[q];
     }
     within
 }
 
-/// The timestamp at this place of the list, zeros past its end.
-pub(crate) fn clock_at(clocks: &[Clock], place: usize) -> Clock
-    ensures { (q : ℕ) → slice_index result q ≡ entry clocks.now place q }
+/// The timestamp that is kept under this number, zeros where there is none.
+pub(crate) fn clock_at(clocks: &BTreeMap<usize, Clock>, number: usize) -> Clock
+    ensures { (q : ℕ) → slice_index result q ≡ kept_entry clocks.now number q }
 {
-    if place < clocks.len() {
-        clocks[place]
-    } else {
-        [0; 16]
-    }
+    clocks.get(&number).copied().unwrap_or([0; 16])
 }
 
-/// Makes the list long enough for this place, with zeros.
-fn grow_to(clocks: &mut Vec<Clock>, place: usize) -> Result<(), AllocError>
-    ensures within { OnOk result (place < vec_len clocks.new) }
-    ensures same { OnOk result ((n q : ℕ) → entry clocks.new.items n q ≡ entry clocks.old.items n q) }
-{
-    if clocks.len() <= place {
-        let len = place.checked_add(1).ok_or(AllocError)?;
-        clocks.resize(len, [0; 16])?;
-    }
-    Ok(())
-}
-
-/// Joins the timestamp into that at this place of the list, which grows as far as it has to.
+/// Joins the timestamp into that which is kept under this number.
 pub(crate) fn join_at(
-    clocks: &mut Vec<Clock>,
-    place: usize,
+    clocks: &mut BTreeMap<usize, Clock>,
+    number: usize,
     clock: &Clock,
 ) -> Result<(), AllocError>
-    ensures { OnOk result (IsJoinedAt clocks.old.items clocks.new.items place (slice_index clock.now)) }
+    ensures { OnOk result (IsJoinedAt (kept_entry clocks.old) (kept_entry clocks.new) number (slice_index clock.now)) }
 {
-    grow_to(clocks, place)?;
-    let mut kept = clocks[place];
+    let mut kept = clock_at(clocks, number);
     join(&mut kept, clock);
-    clocks[place] = kept;
+    clocks.insert(number, kept)?;
     Ok(())
 }
 
@@ -119,7 +91,7 @@ pub(crate) fn join_in(
     place: usize,
     clock: &Clock,
 ) -> Result<(), AllocError>
-    ensures { OnOk result (IsJoinedAt clocks.old.items clocks.new.items place (slice_index clock.now)) }
+    ensures { OnOk result (IsJoinedAt (entry clocks.old.items) (entry clocks.new.items) place (slice_index clock.now)) }
 {
     grow_in(clocks, place)?;
     let mut kept = clocks[place];

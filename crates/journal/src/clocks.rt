@@ -10,15 +10,15 @@ use crate::clock::{Clock, clock_at, clock_in, join, join_at, join_in, tick};
 use crate::event::{Event, Kind};
 use crate::kinds::{closes, departs, is_plain};
 use std::alloc::{AllocError, Global};
-use std::collections::VecDeque;
+use std::collections::{BTreeMap, VecDeque};
 
 /// The timestamps after a journal's front: of each processor, and what each lock, each flag and each
 /// episode of the barrier keeps. The journal need not be one that a cluster can make.
 #[derive(Drop)]
 pub(crate) struct Clocks {
     processors: Vec<Clock>,
-    locks: Vec<Clock>,
-    flags: Vec<Clock>,
+    locks: BTreeMap<usize, Clock>,
+    flags: BTreeMap<usize, Clock>,
     episodes: VecDeque<Clock>,
     arrivals: [u32; 16],
     departures: [u32; 16],
@@ -44,8 +44,8 @@ impl Clocks {
     {
         Ok(Clocks {
             processors: vec![in alloc; [0; 16]; 16]?,
-            locks: Vec::new(alloc),
-            flags: Vec::new(alloc),
+            locks: BTreeMap::new(alloc),
+            flags: BTreeMap::new(alloc),
             episodes: VecDeque::new(alloc),
             arrivals: [0; 16],
             departures: [0; 16],
@@ -104,7 +104,7 @@ impl Clocks {
         ensures departures { self.new.departures ≡ self.old.departures }
         ensures present { self.new.present ≡ self.old.present }
         ensures gone { self.new.gone ≡ self.old.gone }
-        ensures keeps { OnOk result (Keeps self.old self.new.locks.items self.new.flags.items self.new.episodes.items event.processor (slice_index own.now) event.kind) }
+        ensures keeps { OnOk result (Keeps self.old self.new.locks self.new.flags self.new.episodes.items event.processor (slice_index own.now) event.kind) }
     {
         match event.kind {
             Kind::Release(lock) => join_at(&mut self.locks, lock, own),

@@ -115,16 +115,29 @@ impl Journal {
         self.room -= 1;
     }
 
-    /// The same events in a journal of their own, with no room for more.
+    /// The same events in a journal of their own, with no room for more. The only error is want of memory.
     pub fn copy(&self) -> Result<Journal, AllocError>
         ensures { IfOk result (λ j. j ≡ record self.now { room = 0 }) }
     {
-        let events = Vec::from_slice(*self.events.allocator(), &self.events)?;
+        self.copy_with_room(0)
+    }
+
+    /// The same events in a journal of their own, with room for `additional` more, by one allocation.
+    /// The only error is want of memory.
+    pub fn copy_with_room(&self, additional: usize) -> Result<Journal, AllocError>
+        ensures { IfOk result (λ j. j ≡ record self.now { room = additional }) }
+    {
+        let len = self.events.len();
+        let capacity = len.checked_add(additional).ok_or(AllocError)?;
+        let mut events = Vec::with_capacity(*self.events.allocator(), capacity)?;
+        let Ok(()) = events.extend_from_slice(&self.events) else {
+            unreachable!("room is reserved")
+        };
         Ok(Journal {
             processors: self.processors,
             addresses: self.addresses,
             events,
-            room: 0,
+            room: additional,
         })
     }
 

@@ -6,9 +6,9 @@ ghost use Rattle.journal.specs.Times.{IsTimeOf};
 ghost use Rattle.journal.specs.Races.{Conflict, Race, IsFirstRace, RaceFree};
 ghost use Rattle.journal.specs.InRange.{AddressInRange, AddressesInRange, ProcessorsInRange};
 ghost use Rattle.journal.specs.Entries.{entry};
-ghost use Rattle.journal.specs.Accesses.{AreAccesses, IsNoted};
+ghost use Rattle.journal.specs.Accesses.{AreAccesses, ConflictsAreCounted, IsNoted};
 
-use crate::clock::{Clock, is_within, set_at, tick, ticked};
+use crate::clock::{Clock, others_are_within, set_at, tick};
 use crate::clocks::Clocks;
 use crate::event::{Event, Kind};
 use crate::kinds::closes;
@@ -33,26 +33,19 @@ impl Accesses {
         })
     }
 
-    /// Whether the earlier accesses by others that conflict with the event lie in intervals that the
-    /// timestamp counts.
+    /// Whether the timestamp counts the intervals of all earlier accesses by others that conflict with the
+    /// event.
     fn are_counted(&self, event: Event, time: &Clock) -> bool
-        requires processor { event.processor < 16 }
-        requires room { slice_index time.now event.processor < 2 ^ 22 }
         requires stores { AddressInRange (vec_len self.now.stores) event.kind }
         requires loads { AddressInRange (vec_len self.now.loads) event.kind }
-        ensures stores { IsTrue result → (a q : ℕ) → address_of event.kind ≡ Some a → q ≢ event.processor → entry self.now.stores.items a q ≤ slice_index time.now q }
-        ensures loads { IsTrue result → (a v q : ℕ) → event.kind ≡ Kind.Store a v → q ≢ event.processor → entry self.now.loads.items a q ≤ slice_index time.now q }
-        ensures counted { ((a q : ℕ) → address_of event.kind ≡ Some a → entry self.now.stores.items a q ≤ slice_index time.now q + cond (event.processor == q) 1 0) → ((a v q : ℕ) → event.kind ≡ Kind.Store a v → entry self.now.loads.items a q ≤ slice_index time.now q + cond (event.processor == q) 1 0) → IsTrue result }
+        ensures { IsTrue result ↔ ConflictsAreCounted self.now event (slice_index time.now) }
     {
+        let processor = event.processor;
         match event.kind {
-            // The processor's own accesses lie in its open interval at the latest.
-            Kind::Load(address, _) => {
-                let now = ticked(time, event.processor);
-                is_within(&self.stores[address], &now)
-            }
+            Kind::Load(address, _) => others_are_within(&self.stores[address], time, processor),
             Kind::Store(address, _) => {
-                let now = ticked(time, event.processor);
-                is_within(&self.stores[address], &now) && is_within(&self.loads[address], &now)
+                others_are_within(&self.stores[address], time, processor)
+                    && others_are_within(&self.loads[address], time, processor)
             }
             _ => true,
         }
@@ -124,8 +117,6 @@ impl Accesses {
         requires processors { ProcessorsInRange 16 events.now }
         requires stores { AddressInRange (vec_len self.now.stores) event.kind }
         requires loads { AddressInRange (vec_len self.now.loads) event.kind }
-        requires processor { event.processor < 16 }
-        requires room { slice_index time.now event.processor < 2 ^ 22 }
         requires time { IsTimeOf (take place events.now) event.processor (slice_index time.now) }
         requires kept { AreAccesses (take place events.now) (vec_len self.now.stores) self.now }
         ensures { MatchOption result ((i : ℕ) → ¬ Race events.now i place) (λ i. Race events.now i place × ((m : ℕ) → Race events.now m place → i ≤ m)) }
@@ -141,10 +132,11 @@ impl Accesses {
 /// The pair of the first race of these events: the least second place, and with it the least first one;
 /// None where no events race. The only error is want of memory.
 ///
-/// It takes time in the order of the events times the processors. A timestamp tells which intervals an
-/// event's past has, so of each address and processor only the latest store and load are looked at; the
-/// least first place is looked for once, at the end. It takes memory in the order of the addresses, locks,
-/// flags and open episodes times the processors.
+/// It takes time in the order of the events times the processors; an event of a lock or a flag takes the
+/// logarithm of how many of these occur besides. A timestamp tells which intervals an event's past has, so
+/// of each address and processor only the latest store and load are looked at; the least first place is
+/// looked for once, at the end. It takes memory in the order of the addresses, the locks and flags that
+/// occur and the open episodes, times the processors, however great the locks' and flags' numbers are.
 pub(crate) fn first_race_of(
     alloc: Global,
     processors: usize,

@@ -176,3 +176,17 @@ fn copies(rt: HostRuntime) -> Result<(), Fail> {
     assert_eq!(rt; copied.len(), 1);
     Ok(())
 }
+
+/// A copy with room takes more events at once, and the first journal stays as it is.
+#[test]
+fn copies_with_room(rt: HostRuntime) -> Result<(), Fail> {
+    let mut journal = Journal::new(rt.alloc(), 1, 1)?;
+    journal.reserve(1)?;
+    journal.append(by(0, Kind::Arrive));
+    let mut longer = journal.copy_with_room(2)?;
+    longer.append(by(0, Kind::Depart));
+    longer.append(by(0, Kind::Load(0, 0)));
+    assert_eq!(rt; longer.at(2).copied(), Some(by(0, Kind::Load(0, 0))));
+    assert_eq!(rt; journal.len(), 1);
+    Ok(())
+}

@@ -6,3 +6,4 @@ pub mod Harvests
 pub mod Joined
 pub mod Once
 pub mod Picked
+pub mod Filters

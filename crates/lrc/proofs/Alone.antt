@@ -46,7 +46,7 @@ store_of (Store b w) a v h =
     let w_is : w ≡ v = ap (λ (x : ℕ × ℕ). x.1) parts in
     rw (b_is, w_is) refl
 store_of (Load b w) a v h = absurd (cc)
-store_of (Fetch n w r d) a v h = absurd (cc)
+store_of (Fetch w n r d) a v h = absurd (cc)
 store_of (Ask l) a v h = absurd (cc)
 store_of (Acquire l) a v h = absurd (cc)
 store_of (Release l) a v h = absurd (cc)

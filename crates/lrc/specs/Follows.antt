@@ -43,7 +43,7 @@ pub record FollowsSection (section : List Instruction) (shown : List ℕ) (kinds
   pub addresses_are : map (λ (x : ℕ × ℕ). x.0) loads ≡ shown
 
 abbrev pub is_fetch : Kind → Bool
-is_fetch (event.Fetch page writers records words) = true
+is_fetch (event.Fetch writers page records words) = true
 is_fetch _ = false
 
 -- what p called, its fetches aside

@@ -21,7 +21,8 @@ use Rattle.book.specs.Calls.{MayCall, MayAsk}
 use Rattle.book.proofs.Parts.Each.{is_at}
 use Rattle.book.proofs.Parts.Mail.{idle_mail}
 use Rattle.book.proofs.Parts.Lines.{idle_no_ask, not_in_line}
-use Rattle.book.proofs.Parts.ClosedIntervals.{between_pushed, between_same}
+use Rattle.book.proofs.Parts.ClosedIntervals.{between_same}
+use Rattle.interval.proofs.News.{between-pushed}
 use Rattle.book.proofs.Parts.Told.{is_idle, is_processor, own_stamp, own_number, tick_grows}
 use Rattle.book.proofs.Calling.Calls.{standing, same_default}
 
@@ -107,7 +108,7 @@ grant_same b p l block records lt is =
     let older = is.older in
     let more = tick_grows own p p in
     let ticked : between b.closed own t ≡ between b.closed (tick own p) t = between_same b.closed own (tick own p) t p (λ q apart. sym (get_or-set_other own p q (slice_index own p + 1) 0 apart)) older (omega arith) in
-    let news = between_pushed b.closed (open_interval b p records) (tick own p) t older in
+    let news = between-pushed b.closed (open_interval b p records) (tick own p) t older in
     ap (λ (ns : List SentRecord). record { kind = grant; time = t; notices = ns }) (ticked ∙ sym news ∙ ap (λ (now : List ℕ). between (pushed b.closed (open_interval b p records)) now t) (sym (own_ticked b p lt)))
 
 -- what is there already is written without a change

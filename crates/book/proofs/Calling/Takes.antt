@@ -1,12 +1,17 @@
--- What the take of a grant or a departure rests on, read off the book.
-use Rattle.std.proofs.Common.{◌≡◌, ℕ, ◌<◌, ◌≢◌, ◌⊎◌, inl, inr, Result, Ok, Err, IfOk, List, [], ◌∷◌, ◌++◌, length, Option, Some, None, slice_get, slice_set, slice_index_or, subst, sym, refl, ap, ◌∙◌, arith}
-use Rattle.std.proofs.lemmas.Option.{get_or_from_slice_get, same_Some}
-use Rattle.std.proofs.lemmas.List.{length-set}
+-- What a take rests on, and what it makes, read off the book.
+use Rattle.std.proofs.Common.{Bool, ◌≡◌, ◌↔◌, ◌-◌, ℕ, ◌<◌, inl, inr, true, IsTrue, List, [], ◌∷◌, ◌++◌, length, Option, Some, None, slice_get, slice_set, slice_index_or, subst, sym, refl, ap, ◌∙◌, arith}
+use Rattle.std.proofs.lemmas.Bool.{cases_eq}
+use Rattle.std.proofs.lemmas.Option.{get_or_from_slice_get, slice_get-get_or}
+use Rattle.lists.proofs.Sets.{slice_get-set_found, slice_get-set_other}
+use Rattle.std.specs.Option.{option_and_then}
+use Rattle.journal.specs.declared.event.Event.{Event}
 use Rattle.journal.specs.declared.event.Kind.{Kind}
-use Rattle.journal.specs.declared.event.Kind.TheVariants.{Ask, Acquire, Arrive, Depart, Watch, Await, Load, Store}
+use Rattle.journal.specs.declared.event.Kind.TheVariants.{Acquire, Depart, Watch, Await, Load, Store}
 use Rattle.journal.specs.Log.{Log}
+use Rattle.journal.specs.Sizes.{Sizes}
+use Rattle.journal.specs.Events.{is_taking}
 use Rattle.journal.specs.InRange.{AddressInRange}
-use Rattle.journal.specs.WellFormed.{Allowed}
+use Rattle.journal.specs.WellFormed.{Allowed, Ready}
 use Rattle.journal.specs.Waits.{awaited}
 use Rattle.journal.proofs.Journals.Balance.{balanced}
 use Rattle.vtime.specs.Times.{join}
@@ -16,25 +21,33 @@ use Rattle.barrier.specs.declared.episodes.Stage.{Stage}
 use Rattle.barrier.specs.declared.episodes.Stage.TheVariants.{Away, Free}
 use Rattle.transit.specs.Letters.{Letter}
 use Rattle.journal.specs.Did.{event}
-use Rattle.book.specs.Mail.{IsPosted, Carries, IsMail}
+use Rattle.book.specs.Flags.{IsFlag}
 use Rattle.book.specs.Meetings.{IsAtStage}
 use Rattle.book.specs.State.{State, time_of}
+use Rattle.book.specs.Brought.{message_among, message_for, has_come, sent_with, brought}
 use Rattle.book.specs.Transitions.{trimmed_by, left, book_took}
-use Rattle.book.specs.Laws.{trimmed_book}
-use Rattle.book.specs.Calls.{MayTake, IsAbsent, Takes, TakesMail}
+use Rattle.book.specs.Told.{IsTold}
+use Rattle.book.specs.Calls.{MaySignal, MayTake, MayTakeSome}
 use Rattle.book.proofs.Parts.Each.{is_at, item_at}
 use Rattle.book.proofs.Parts.Meetings.{stage_free}
-use Rattle.book.proofs.Keeps.Takes.{message_lets}
+use Rattle.book.proofs.Keeps.Flags.{last_watch}
+use Rattle.book.proofs.Keeps.Takes.{waits_taking, message_is, message_come, no_mail_waits}
 use Rattle.book.proofs.Parts.Told.{is_processor, own_stamp}
 
+-- p waits for this
 pub record IsReceiving (b : State) (p : ℕ) (k : Kind) : Type 0 where
+  pub waits : slice_get b.awaits p ≡ Some (Some k)
   pub transit : p < length b.transit
   pub times : p < length b.times
   pub awaits : p < length b.awaits
   pub journal : p < b.journal.processors
   pub own_long : length (time_of b p) ≡ length b.times
-  pub mail_long : (m : Letter) → slice_index_or b.transit p None ≡ Some m → length m.time ≡ length b.times
-  pub free : (m : Letter) → slice_index_or b.transit p None ≡ Some m → k ≡ Depart → slice_get b.barrier.stages p ≡ Some Free
+  pub flag : (f : ℕ) → k ≡ Await f → MaySignal b.closed b.flags (time_of b p) f
+  pub none : (f : ℕ) → k ≡ Await f → b.transit ≡ slice_set b.transit p None
+  pub long : (m : Letter) → message_for b p k ≡ Some m → length m.time ≡ length b.times
+  pub free : (m : Letter) → message_for b p k ≡ Some m → k ≡ Depart → slice_get b.barrier.stages p ≡ Some Free
+  pub come : (s : Sizes) (h : List Event) → IsTold s h b → (has_come b.flags b.transit p k ≡ true) ↔ Ready s h p
+  pub takes : IsTrue (is_taking k)
   pub all_long : (i : ℕ) (t : List ℕ) → slice_get b.times i ≡ Some t → length t ≡ length b.times
   pub owners : length b.closed.first ≡ length b.times
 
@@ -47,16 +60,19 @@ receiving b p k (s, h, told, waits) =
     let first_long = told.closed.first_long in
     let processors = told.sizes.processors in
     let own_long = (own_stamp s h b p told lt).long in
-    let mail : (m : Letter) → slice_index_or b.transit p None ≡ Some m → Carries s h p m = λ m is. subst (λ (o : Option Letter). IsMail s h p o) is (is_at s.processors (IsMail s h) b.transit p None told.transit lt) in
-    let awaits = told.awaits.each p (Some k) waits in
     record {
+      waits = waits;
       transit = omega arith;
       times = omega arith;
       awaits = omega arith;
       journal = omega arith;
       own_long = omega arith;
-      mail_long = λ m is. (let long = (mail m is).time.long in omega arith);
-      free = λ m is departs. departing (subst (λ a. Allowed s h p a) departs (message_lets s h p k m awaits (mail m is)).1) lt;
+      flag = λ f is. signals f (subst (λ a. slice_get b.awaits p ≡ Some (Some a)) is waits);
+      none = λ f is. no_mail_waits s h b p f told (subst (λ a. slice_get b.awaits p ≡ Some (Some a)) is waits);
+      long = λ m is. (let long = (message_is s h b p k m told waits is).time.long in omega arith);
+      free = λ m is departs. departing (subst (λ a. Allowed s h p a) departs (message_is s h b p k m told waits is).allowed) lt;
+      come = λ t j also. message_come t j b p k also waits;
+      takes = waits_taking h p k (told.awaits.each p (Some k) waits);
       all_long = λ i t at. (let stamp = told.times.each i t at in let long = stamp.long in omega arith);
       owners = omega arith;
     }
@@ -70,57 +86,80 @@ receiving b p k (s, h, told, waits) =
         let stage = is_at s.processors (IsAtStage h x.complete) b.barrier.stages p Away x.stages less in
         item_at s.processors (IsAtStage h x.complete) b.barrier.stages p Away x.stages less ∙ ap (λ (y : Stage). Some y) (sym (stage_free h x.complete p (slice_index_or b.barrier.stages p Away) more (omega arith) stage))
 
-pub posted_address : (n : ℕ) (k : Kind) → IsPosted k → AddressInRange n k
-posted_address n (Load a v) posted = absurd posted
-posted_address n (Store a v) posted = absurd posted
-posted_address n _ posted = tt
+    signals : (f : ℕ) → slice_get b.awaits p ≡ Some (Some (Await f)) → MaySignal b.closed b.flags (time_of b p) f
+    signals f waits_f =
+        let lt = is_processor s h b p (Some k) told waits in
+        let last = last_watch h p f (told.awaits.each p (Some (Await f)) waits_f) in
+        let range : f < s.flags = (told.well_formed last.0 (event p (Watch f)) last.1.does).in_range in
+        let flags_long = told.flags.long in
+        let first_long = told.closed.first_long in
+        let times_long = told.times.long in
+        let own_long = (own_stamp s h b p told lt).long in
+        record {
+          within = omega arith;
+          time = λ t is. (let flag : IsFlag s.processors h f (Some t) = subst (λ o. IsFlag s.processors h f o) is (is_at s.flags (IsFlag s.processors h) b.flags f None told.flags range) in let long = flag.1.long in omega arith);
+          long = omega arith;
+          kept = λ q. told.within p q (time_of b p) (slice_get-get_or b.times p [] (omega arith));
+        }
+
+-- what was read is what p waits for
+pub reading : (b now : State) (p : ℕ) (o : Option Kind) → b ≡ now → MayTakeSome now p → o ≡ slice_index_or b.awaits p o → (k : Kind) → o ≡ Some k → IsReceiving b p k
+reading b now p o same may is k some =
+    let r = receiving now p may.0 may.1 in
+    let read = is ∙ get_or_from_slice_get b.awaits p (Some may.0) o (ap (λ (x : State). slice_get x.awaits p) same ∙ r.waits) in
+    let P : Kind → Type 0 = λ a. IsReceiving b p a in
+    subst P (let e = sym read ∙ some in cc) (subst (λ x. IsReceiving x p may.0) (sym same) r)
+
+-- a list of timestamps with another one of the same length
+pub all_long_set : (times : List (List ℕ)) (p : ℕ) (u : List ℕ) (n : ℕ) → length u ≡ n → ((i : ℕ) (t : List ℕ) → slice_get times i ≡ Some t → length t ≡ n) → (i : ℕ) (t : List ℕ) → slice_get (slice_set times p u) i ≡ Some t → length t ≡ n
+all_long_set times p u n long all i t at = elim (cases_eq i p) [
+  | inl is ↦ (let P : ℕ → Type 0 = λ x. slice_get (slice_set times p u) x ≡ Some t in subst (λ (v : List ℕ). length v ≡ n) (slice_get-set_found times p u t (subst P is at)) long)
+  | inr isnt ↦ all i t (sym (slice_get-set_other times p i u isnt) ∙ at)
+]
+
+-- the journal after one event
+pub log_is : (a b c : Log) (owing : ℕ) (e : Event) → b ≡ record a { room = b.room } → c ≡ record b { events = b.events ++ e ∷ []; room = b.room - 1 } → record c { room = owing } ≡ record a { events = a.events ++ e ∷ []; room = owing }
+log_is a b c owing e first second = ap (λ (l : Log). record l { room = owing }) second ∙ ap (λ (l : Log). record l { events = l.events ++ e ∷ []; room = owing }) first
+
+-- an event that takes has no address
+pub taking_address : (n : ℕ) (k : Kind) → IsTrue (is_taking k) → AddressInRange n k
+taking_address n (Load a v) takes = absurd cc
+taking_address n (Store a v) takes = absurd cc
+taking_address n _ takes = tt
 
 -- the book after the take of a message, part by part
 pub took_is : (b : State) (p : ℕ) (k : Kind) (m : Letter) (u : List ℕ) (log : Log) (c : Closings) (transit : List (Option Letter)) (barrier : Episodes) → log ≡ record b.journal { events = b.journal.events ++ event p k ∷ [] } → u ≡ join (time_of b p) m.time
-    → c ≡ trimmed_by b.closed (slice_set b.times p u) (length (slice_set b.times p u)) → transit ≡ slice_set b.transit p None → barrier ≡ left k b.barrier p → awaited k ≡ None
-    → record b { journal = log; closed = c; times = slice_set b.times p u; awaits = slice_set b.awaits p None; transit = transit; barrier = barrier } ≡ trimmed_book (length b.times) (book_took b p k m)
+    → c ≡ trimmed_by b.closed (slice_set b.times p u) (length (slice_set b.times p u)) → transit ≡ slice_set b.transit p None → barrier ≡ left k b.barrier p → IsTrue (is_taking k)
+    → record b { journal = log; closed = c; times = slice_set b.times p u; awaits = slice_set b.awaits p None; transit = transit; barrier = barrier } ≡ book_took b p k m
 took_is b p k m u log c transit barrier one two three four five six =
     ap (λ (l : Log). record b { journal = l; closed = c; times = slice_set b.times p u; awaits = slice_set b.awaits p None; transit = transit; barrier = barrier }) one
-    ∙ ap (λ (x : Closings). record b { journal = record b.journal { events = b.journal.events ++ event p k ∷ [] }; closed = x; times = slice_set b.times p u; awaits = slice_set b.awaits p None; transit = transit; barrier = barrier }) (three ∙ ap (λ n. trimmed_by b.closed (slice_set b.times p u) n) (length-set b.times p u))
-    ∙ ap (λ (v : List ℕ). record b { journal = record b.journal { events = b.journal.events ++ event p k ∷ [] }; closed = trimmed_by b.closed (slice_set b.times p v) (length b.times); times = slice_set b.times p v; awaits = slice_set b.awaits p None; transit = transit; barrier = barrier }) two
-    ∙ ap (λ (x : List (Option Letter)). record b { journal = record b.journal { events = b.journal.events ++ event p k ∷ [] }; closed = trimmed_by b.closed (slice_set b.times p (join (time_of b p) m.time)) (length b.times); times = slice_set b.times p (join (time_of b p) m.time); awaits = slice_set b.awaits p None; transit = x; barrier = barrier }) four
-    ∙ ap (λ (x : Episodes). record b { journal = record b.journal { events = b.journal.events ++ event p k ∷ [] }; closed = trimmed_by b.closed (slice_set b.times p (join (time_of b p) m.time)) (length b.times); times = slice_set b.times p (join (time_of b p) m.time); awaits = slice_set b.awaits p None; transit = slice_set b.transit p None; barrier = x }) five
-    ∙ ap (λ (w : Option Kind). record b { journal = record b.journal { events = b.journal.events ++ event p k ∷ [] }; closed = trimmed_by b.closed (slice_set b.times p (join (time_of b p) m.time)) (length b.times); times = slice_set b.times p (join (time_of b p) m.time); awaits = slice_set b.awaits p w; transit = slice_set b.transit p None; barrier = left k b.barrier p }) (sym six)
+    ∙ ap (λ (x : Closings). record b { journal = record b.journal { events = b.journal.events ++ event p k ∷ [] }; closed = x; times = slice_set b.times p u; awaits = slice_set b.awaits p None; transit = transit; barrier = barrier }) three
+    ∙ ap (λ (v : List ℕ). record b { journal = record b.journal { events = b.journal.events ++ event p k ∷ [] }; closed = trimmed_by b.closed (slice_set b.times p v) (length (slice_set b.times p v)); times = slice_set b.times p v; awaits = slice_set b.awaits p None; transit = transit; barrier = barrier }) two
+    ∙ ap (λ (x : List (Option Letter)). record (book_took b p k m) { awaits = slice_set b.awaits p None; transit = x; barrier = barrier }) four
+    ∙ ap (λ (x : Episodes). record (book_took b p k m) { awaits = slice_set b.awaits p None; barrier = x }) five
+    ∙ ap (λ (w : Option Kind). record (book_took b p k m) { awaits = slice_set b.awaits p w }) (sym (takes_on k six))
+  where
+    takes_on : (a : Kind) → IsTrue (is_taking a) → awaited a ≡ None
+    takes_on (Acquire l) takes = refl
+    takes_on Depart takes = refl
+    takes_on (Await f) takes = refl
+    takes_on _ takes = absurd cc
 
-pub posted_ends : (k : Kind) → IsPosted k → awaited k ≡ None
-posted_ends (Acquire l) posted = refl
-posted_ends Depart posted = refl
-posted_ends _ posted = absurd posted
+-- what was read of what has come tells whether p is ready
+pub comes : (b now : State) (p : ℕ) (k : Kind) (flags : List (Option (List ℕ))) (r : Bool) → b ≡ now → IsReceiving b p k → flags ≡ b.flags → r ≡ has_come flags b.transit p k → (s : Sizes) (h : List Event) → IsTold s h now → (r ≡ true) ↔ Ready s h p
+comes b now p k flags r same w flags_are is s h told =
+    let come = w.come s h (subst (λ x. IsTold s h x) (sym same) told) in
+    let all : r ≡ has_come b.flags b.transit p k = is ∙ ap (λ (fs : List (Option (List ℕ))). has_come fs b.transit p k) flags_are in
+    ((λ e. come.0 (sym all ∙ e)), (λ ready. all ∙ come.1 ready))
 
--- what p waits for is a grant, a departure or a flag
-awaited_cases : (a k : Kind) → awaited a ≡ Some k → ((f : ℕ) × (k ≡ Await f)) ⊎ IsPosted k
-awaited_cases (Ask l) k is = inr (subst (λ x. IsPosted x) (same_Some (Acquire l) k is) tt)
-awaited_cases Arrive k is = inr (subst (λ x. IsPosted x) (same_Some Depart k is) tt)
-awaited_cases (Watch f) k is = inl (f, sym (same_Some (Await f) k is))
-awaited_cases _ k is = absurd (cc (is))
+-- the message that was received, read off the book before the call
+pub received_is : (b now : State) (p : ℕ) (k : Kind) (flags : List (Option (List ℕ))) (own : List ℕ) (m : Letter) → b ≡ now → flags ≡ b.flags → own ≡ time_of b p → message_among b.closed flags b.transit own p k ≡ Some m → message_for now p k ≡ Some m
+received_is b now p k flags own m same flags_are own_is is =
+    ap (λ (x : State). message_for x p k) (sym same)
+    ∙ ap (λ (t : List ℕ). message_among b.closed b.flags b.transit t p k) (sym own_is)
+    ∙ ap (λ (fs : List (Option (List ℕ))). message_among b.closed fs b.transit own p k) (sym flags_are)
+    ∙ is
 
-pub waits_posted : (b : State) (p : ℕ) (k : Kind) → MayTake b p k → ((f : ℕ) → k ≢ Await f) → IsPosted k
-waits_posted b p k (s, h, told, waits) isnt =
-    let awaits = told.awaits.each p (Some k) waits in
-    let last = awaits.some k refl in
-    elim (awaited_cases last.1 k (sym (awaits.last last.0 last.1 last.2))) [ inl flag ↦ absurd (isnt flag.0 flag.1) | inr posted ↦ posted ]
-
--- what was read is what p waits for
-pub read_is : (b : State) (p : ℕ) (k : Kind) (o : Option Kind) → MayTake b p k → o ≡ slice_index_or b.awaits p o → o ≡ Some k
-read_is b p k o may is =
-    let waits = may.3 in
-    is ∙ get_or_from_slice_get b.awaits p (Some k) o waits
-
-pub takes_mail : (old new : State) (p : ℕ) (k : Kind) (m : Letter) → IsPosted k → TakesMail old p k m new → Takes old p k m new
-takes_mail old new p (Acquire l) m posted takes = takes
-takes_mail old new p Depart m posted takes = takes
-takes_mail old new p _ m posted takes = absurd posted
-
-pub absent_mail : (old : State) (p : ℕ) (k : Kind) → IsPosted k → IsAbsent old p k ≡ (slice_index_or old.transit p None ≡ None)
-absent_mail old p (Acquire l) posted = refl
-absent_mail old p Depart posted = refl
-absent_mail old p _ posted = absurd posted
-
-pub if_ok_map : {A E : Type 0} (P Q : A → Type 0) (r : Result A E) → ((a : A) → P a → Q a) → IfOk r P → IfOk r Q
-if_ok_map P Q (Ok a) on h = on a h
-if_ok_map P Q (Err e) on h = tt
+-- what a message brings is what was due
+pub brings_is : (b : State) (p : ℕ) (k : Kind) (m : Letter) → slice_get b.awaits p ≡ Some (Some k) → message_for b p k ≡ Some m → m.notices ≡ brought b p
+brings_is b p k m waits is = sym (ap (λ (w : Option Kind). sent_with (option_and_then (message_for b p) w)) (get_or_from_slice_get b.awaits p (Some k) None waits) ∙ ap sent_with is)

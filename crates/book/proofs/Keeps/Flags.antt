@@ -21,7 +21,7 @@ use Rattle.book.specs.Mail.{IsPosted, IsMail}
 use Rattle.book.specs.Flags.{IsFlag}
 use Rattle.book.specs.ClosedIntervals.{AreContents}
 use Rattle.book.specs.State.{State, time_of}
-use Rattle.book.specs.Transitions.{closing, set_at, book_set, book_watched, book_signalled}
+use Rattle.book.specs.Transitions.{closing, set_at, book_set, book_watched, taken}
 use Rattle.book.specs.Told.{IsTold}
 use Rattle.book.proofs.Parts.Each.{each_set, each_kept, each_own, is_at}
 use Rattle.book.proofs.Parts.Stamps.{stamp_closing}
@@ -98,7 +98,7 @@ pub last_watch : (h : List Event) (p f : ℕ) → IsAwaited h p (Some (Await f))
 last_watch h p f w = let s = w.some (Await f) refl in (s.0, subst (λ a. LastIs h p s.0 a) (watched s.1 f (sym (w.last s.0 s.1 s.2))) s.2)
 
 -- who waits for a flag has no message
-watching_mail : (s : Sizes) (h : List Event) (p i f : ℕ) (o : Option Letter) → LastIs h p i (Watch f) → IsMail s h p o → None ≡ o
+pub watching_mail : (s : Sizes) (h : List Event) (p i f : ℕ) (o : Option Letter) → LastIs h p i (Watch f) → IsMail s h p o → None ≡ o
 watching_mail s h p i f None last mail = refl
 watching_mail s h p i f (Some m) last mail = absurd (go mail.kind (lets_posted m.kind mail.kind mail.lets) mail.allowed)
   where
@@ -108,7 +108,7 @@ watching_mail s h p i f (Some m) last mail = absurd (go mail.kind (lets_posted m
     go _ posted allowed = absurd posted
 
 -- p awaits a flag that is set
-pub told_signal : (s : Sizes) (h : List Event) (b : State) (p f : ℕ) (t : List ℕ) → IsTold s h b → slice_get b.awaits p ≡ Some (Some (Await f)) → slice_get b.flags f ≡ Some (Some t) → IsTold s (did h p (Await f)) (book_signalled b p f t)
+pub told_signal : (s : Sizes) (h : List Event) (b : State) (p f : ℕ) (t : List ℕ) → IsTold s h b → slice_get b.awaits p ≡ Some (Some (Await f)) → slice_get b.flags f ≡ Some (Some t) → IsTold s (did h p (Await f)) (taken b p (Await f) t)
 told_signal s h b p f t told waits set = record {
   well_formed = still_formed s h b p (Await f) told may;
   sizes = record { processors = told.sizes.processors; addresses = told.sizes.addresses; lockers = told.sizes.lockers };

@@ -38,7 +38,8 @@ use Rattle.book.proofs.Parts.Lines.{idle_no_ask}
 use Rattle.book.proofs.Parts.Mail.{mail_kept, own_idle}
 use Rattle.book.proofs.Parts.Flags.{flag_kept}
 use Rattle.book.proofs.Parts.Meetings.{barrier_kept}
-use Rattle.book.proofs.Parts.ClosedIntervals.{closed_quiet, closed_trimmed, between_trimmed, within_trimmed, least_le}
+use Rattle.book.proofs.Parts.ClosedIntervals.{closed_quiet, closed_trimmed, within_trimmed, least_le}
+use Rattle.interval.proofs.News.{between-trimmed}
 use Rattle.book.proofs.Parts.Told.{is_idle, follows, still_formed}
 use Rattle.book.proofs.Keeps.Locks.{lock_kept}
 
@@ -106,7 +107,7 @@ record IsPlain (k : Kind) : Type 0 where
 plain_kind : (k : Kind) → is_taking k ≡ false → is_closing k ≡ false → IsPlain k
 plain_kind (Load a v) t c = record { awaits = refl; arrives = refl; departs = refl; ask = λ l e. absurd cc; acquire = λ l e. absurd cc; release = λ l e. absurd cc; set = λ f e. absurd cc; arrive = λ e. absurd cc; allowed = λ s h p. tt }
 plain_kind (Store a v) t c = record { awaits = refl; arrives = refl; departs = refl; ask = λ l e. absurd cc; acquire = λ l e. absurd cc; release = λ l e. absurd cc; set = λ f e. absurd cc; arrive = λ e. absurd cc; allowed = λ s h p. tt }
-plain_kind (Fetch n w r d) t c = record { awaits = refl; arrives = refl; departs = refl; ask = λ l e. absurd cc; acquire = λ l e. absurd cc; release = λ l e. absurd cc; set = λ f e. absurd cc; arrive = λ e. absurd cc; allowed = λ s h p. tt }
+plain_kind (Fetch w n r d) t c = record { awaits = refl; arrives = refl; departs = refl; ask = λ l e. absurd cc; acquire = λ l e. absurd cc; release = λ l e. absurd cc; set = λ f e. absurd cc; arrive = λ e. absurd cc; allowed = λ s h p. tt }
 plain_kind _ t c = absurd cc
 
 -- a book with another journal that holds the history
@@ -183,7 +184,7 @@ trimmed_once s h b c owner to covered lt told = record {
   flags = told.flags;
   awaits = told.awaits;
   transit = told.transit;
-  notices = λ p m t at now. told.notices p m t at now ∙ sym (between_trimmed c owner to t m.time (covered p t now));
+  notices = λ p m t at now. told.notices p m t at now ∙ sym (between-trimmed c owner to t m.time (covered p t now));
   within = within_trimmed c owner to b.times covered (subst (λ n. owner < n) (sym told.closed.first_long) lt) told.within;
 }
 

@@ -1,11 +1,19 @@
 -- Takes of grants and departures: what the book is told by the history before, it is told by the history with the event after.
-use Rattle.std.proofs.Common.{◌≡◌, ◌≢◌, ℕ, ◌<◌, inl, inr, ◌↔◌, List, [], ◌∷◌, ◌++◌, false, Option, Some, None, IsTrue, slice_get, slice_set, subst, sym, refl, ap, ◌∙◌}
+use Rattle.std.proofs.lemmas.Bool.{true≢false}
+use Rattle.std.proofs.lemmas.List.{set-get_or}
+use Rattle.std.specs.Option.{option_map, is_some}
+use Rattle.journal.specs.Waits.{awaited}
+use Rattle.journal.specs.Pasts.{InPast}
+use Rattle.book.specs.Brought.{signal_after, message_for, has_come}
+use Rattle.book.specs.Laws.{IsMessage}
+use Rattle.book.proofs.Keeps.Flags.{last_watch, watching_mail, told_signal, signal_ready}
+use Rattle.std.proofs.Common.{◌⊎◌, true, slice_index_or, ◌≡◌, ◌≢◌, ℕ, ◌<◌, inl, inr, ◌↔◌, List, [], ◌∷◌, ◌++◌, false, Option, Some, None, IsTrue, slice_get, slice_set, subst, sym, refl, ap, ◌∙◌}
 use Rattle.std.proofs.lemmas.Bool.{cases_eq}
 use Rattle.std.proofs.lemmas.Option.{same_Some, none-some}
 use Rattle.lists.proofs.Sets.{slice_get-set_found, slice_get-set_other}
 use Rattle.journal.specs.declared.event.Event.{Event}
 use Rattle.journal.specs.declared.event.Kind.{Kind}
-use Rattle.journal.specs.declared.event.Kind.TheVariants.{Ask, Acquire, Release, Arrive, Depart, Set}
+use Rattle.journal.specs.declared.event.Kind.TheVariants.{Ask, Acquire, Release, Arrive, Depart, Set, Watch, Await}
 use Rattle.journal.specs.Sizes.{Sizes}
 use Rattle.journal.specs.Events.{is_closing, is_taking}
 use Rattle.journal.specs.WellFormed.{LastIs, MayBeGranted, Allowed, MayFollow, Ready}
@@ -23,9 +31,9 @@ use Rattle.book.specs.Flags.{IsFlag}
 use Rattle.book.specs.Meetings.{IsBarrier}
 use Rattle.lockq.specs.Lock.{Lock}
 use Rattle.book.specs.State.{State, time_of}
-use Rattle.book.specs.Transitions.{left, book_took}
+use Rattle.book.specs.Transitions.{left, taken, took}
 use Rattle.book.specs.Told.{IsTold}
-use Rattle.book.proofs.Parts.Each.{each_set, each_kept}
+use Rattle.book.proofs.Parts.Each.{each_set, each_kept, item_at, is_at}
 use Rattle.book.proofs.Parts.Mail.{lets_posted, mail_kept, own_none}
 use Rattle.book.proofs.Parts.Flags.{flag_kept}
 use Rattle.book.proofs.Parts.Meetings.{barrier_kept, barrier_departed}
@@ -77,8 +85,8 @@ takes_posted (Acquire l) posted = record { takes = refl; closes = refl; ask = λ
 takes_posted Depart posted = record { takes = refl; closes = refl; ask = λ m e. absurd cc; arrive = λ e. absurd cc; release = λ m e. absurd cc; set = λ f e. absurd cc }
 takes_posted _ posted = absurd posted
 
--- p takes its message
-pub told_take : (s : Sizes) (h : List Event) (b : State) (p : ℕ) (k : Kind) (m : Letter) → IsTold s h b → slice_get b.awaits p ≡ Some (Some k) → slice_get b.transit p ≡ Some (Some m) → IsTold s (did h p k) (book_took b p k m)
+-- p takes its mail
+pub told_take : (s : Sizes) (h : List Event) (b : State) (p : ℕ) (k : Kind) (m : Letter) → IsTold s h b → slice_get b.awaits p ≡ Some (Some k) → slice_get b.transit p ≡ Some (Some m) → IsTold s (did h p k) (took b p k m)
 told_take s h b p k m told waits mail = record {
   well_formed = still_formed s h b p k told may;
   sizes = record { processors = told.sizes.processors; addresses = told.sizes.addresses; lockers = told.sizes.lockers };
@@ -123,3 +131,82 @@ mail_ready s h b p k o told waits posted at = (there o (told.transit.each p o at
     back : (x : Option Letter) → IsMail s h p x → Ready s h p → x ≢ None
     back (Some m) mail ready e = absurd (cc (e))
     back None mail (a, taking, allowed) e = mail k posted (subst (λ c. Allowed s h p c) (awaits_it s h p k a (told.awaits.each p (Some k) waits) taking allowed) allowed)
+
+-- what p waits for is a grant, a departure or a flag
+awaited_cases : (a k : Kind) → awaited a ≡ Some k → ((f : ℕ) × (k ≡ Await f)) ⊎ IsPosted k
+awaited_cases (Ask l) k is = inr (subst (λ x. IsPosted x) (same_Some (Acquire l) k is) tt)
+awaited_cases Arrive k is = inr (subst (λ x. IsPosted x) (same_Some Depart k is) tt)
+awaited_cases (Watch f) k is = inl (f, sym (same_Some (Await f) k is))
+awaited_cases _ k is = absurd (cc (is))
+
+-- who waits for no flag waits for mail
+waits_posted : (h : List Event) (p : ℕ) (k : Kind) → IsAwaited h p (Some k) → ((f : ℕ) → k ≢ Await f) → IsPosted k
+waits_posted h p k w isnt =
+    let last = w.some k refl in
+    elim (awaited_cases last.1 k (sym (w.last last.0 last.1 last.2))) [ inl flag ↦ absurd (isnt flag.0 flag.1) | inr posted ↦ posted ]
+
+pub waits_taking : (h : List Event) (p : ℕ) (k : Kind) → IsAwaited h p (Some k) → IsTrue (is_taking k)
+waits_taking h p k w =
+    let last = w.some k refl in
+    elim (awaited_cases last.1 k (sym (w.last last.0 last.1 last.2))) [ inl flag ↦ subst (λ a. IsTrue (is_taking a)) (sym flag.1) refl | inr posted ↦ posted_taking k posted ]
+
+-- p's mail, as it stands in the book
+mail_at : (s : Sizes) (h : List Event) (b : State) (p : ℕ) (m : Letter) → IsTold s h b → p < s.processors → slice_index_or b.transit p None ≡ Some m → slice_get b.transit p ≡ Some (Some m)
+mail_at s h b p m told lt is = item_at s.processors (IsMail s h) b.transit p None told.transit lt ∙ ap (λ (o : Option Letter). Some o) is
+
+mail_is : (s : Sizes) (h : List Event) (b : State) (p : ℕ) (k : Kind) (m : Letter) → IsTold s h b → slice_get b.awaits p ≡ Some (Some k) → slice_index_or b.transit p None ≡ Some m → IsMessage s h b p k m
+mail_is s h b p k m told waits is =
+    let lt = is_processor s h b p (Some k) told waits in
+    let at = mail_at s h b p m told lt is in
+    let lets = message_lets s h p k m (told.awaits.each p (Some k) waits) (told.transit.each p (Some m) at) in
+    record { allowed = lets.1; time = lets.2; notices = told.notices p m (time_of b p) at (item_at s.processors (λ q t. IsStamp s.processors h (InPast h q) t) b.times p [] told.times lt) }
+
+-- a flag as it stands in the book
+flag_at : (s : Sizes) (h : List Event) (b : State) (p f : ℕ) → IsTold s h b → slice_get b.awaits p ≡ Some (Some (Await f)) → slice_get b.flags f ≡ Some (slice_index_or b.flags f None)
+flag_at s h b p f told waits =
+    let last = last_watch h p f (told.awaits.each p (Some (Await f)) waits) in
+    item_at s.flags (IsFlag s.processors h) b.flags f None told.flags (told.well_formed last.0 (event p (Watch f)) last.1.does).in_range
+
+signal_is : (s : Sizes) (h : List Event) (b : State) (p f : ℕ) (m : Letter) (o : Option (List ℕ)) → IsTold s h b → slice_get b.awaits p ≡ Some (Some (Await f)) → slice_get b.flags f ≡ Some o → option_map (signal_after b.closed (time_of b p)) o ≡ Some m → IsMessage s h b p (Await f) m
+signal_is s h b p f m None told waits at is = absurd (none-some m is)
+signal_is s h b p f m (Some t) told waits at is =
+    let last = last_watch h p f (told.awaits.each p (Some (Await f)) waits) in
+    let flag : IsFlag s.processors h f (Some t) = told.flags.each f (Some t) at in
+    subst (IsMessage s h b p (Await f)) (same_Some (signal_after b.closed (time_of b p) t) m is) (record { allowed = (last.0, flag.0.0, flag.0.1.0, last.1, flag.0.1.1); time = flag.1; notices = refl })
+
+-- p's message lets p go on
+pub message_is : (s : Sizes) (h : List Event) (b : State) (p : ℕ) (k : Kind) (m : Letter) → IsTold s h b → slice_get b.awaits p ≡ Some (Some k) → message_for b p k ≡ Some m → IsMessage s h b p k m
+message_is s h b p (Await f) m told waits is = signal_is s h b p f m (slice_index_or b.flags f None) told waits (flag_at s h b p f told waits) is
+message_is s h b p _ m told waits is = mail_is s h b p _ m told waits is
+
+-- who waits for a flag has no mail
+pub no_mail_waits : (s : Sizes) (h : List Event) (b : State) (p f : ℕ) → IsTold s h b → slice_get b.awaits p ≡ Some (Some (Await f)) → b.transit ≡ slice_set b.transit p None
+no_mail_waits s h b p f told waits =
+    let lt = is_processor s h b p (Some (Await f)) told waits in
+    let last = last_watch h p f (told.awaits.each p (Some (Await f)) waits) in
+    let none = watching_mail s h p last.0 f (slice_index_or b.transit p None) last.1 (is_at s.processors (IsMail s h) b.transit p None told.transit lt) in
+    sym (set-get_or b.transit p None) ∙ ap (λ (o : Option Letter). slice_set b.transit p o) (sym none)
+
+signal_took : (s : Sizes) (h : List Event) (b : State) (p f : ℕ) (m : Letter) (o : Option (List ℕ)) → IsTold s h b → slice_get b.awaits p ≡ Some (Some (Await f)) → slice_get b.flags f ≡ Some o → option_map (signal_after b.closed (time_of b p)) o ≡ Some m → IsTold s (did h p (Await f)) (took b p (Await f) m)
+signal_took s h b p f m None told waits at is = absurd (none-some m is)
+signal_took s h b p f m (Some t) told waits at is =
+    subst (λ x. IsTold s (did h p (Await f)) (took b p (Await f) x)) (same_Some (signal_after b.closed (time_of b p) t) m is)
+    (subst (λ ts. IsTold s (did h p (Await f)) (record (taken b p (Await f) t) { transit = ts })) (no_mail_waits s h b p f told waits) (told_signal s h b p f t told waits at))
+
+-- p takes its message
+pub told_took : (s : Sizes) (h : List Event) (b : State) (p : ℕ) (k : Kind) (m : Letter) → IsTold s h b → slice_get b.awaits p ≡ Some (Some k) → message_for b p k ≡ Some m → IsTold s (did h p k) (took b p k m)
+told_took s h b p (Await f) m told waits is = signal_took s h b p f m (slice_index_or b.flags f None) told waits (flag_at s h b p f told waits) is
+told_took s h b p _ m told waits is = told_take s h b p _ m told waits (mail_at s h b p m told (is_processor s h b p (Some _) told waits) is)
+
+mail_come : (s : Sizes) (h : List Event) (b : State) (p : ℕ) (k : Kind) → IsTold s h b → slice_get b.awaits p ≡ Some (Some k) → ((f : ℕ) → k ≢ Await f) → (slice_index_or b.transit p None ≢ None) ↔ Ready s h p
+mail_come s h b p k told waits isnt = mail_ready s h b p k (slice_index_or b.transit p None) told waits (waits_posted h p k (told.awaits.each p (Some k) waits) isnt) (item_at s.processors (IsMail s h) b.transit p None told.transit (is_processor s h b p (Some k) told waits))
+
+there : {A R : Type 0} (o : Option A) → ((o ≢ None) ↔ R) → (is_some o ≡ true) ↔ R
+there None is = ((λ e. absurd (true≢false (sym e))), (λ r. absurd (is.1 r refl)))
+there (Some a) is = ((λ e. is.0 (λ none. none-some a (sym none))), (λ r. refl))
+
+-- p's message has come exactly where p may go on
+pub message_come : (s : Sizes) (h : List Event) (b : State) (p : ℕ) (k : Kind) → IsTold s h b → slice_get b.awaits p ≡ Some (Some k) → (has_come b.flags b.transit p k ≡ true) ↔ Ready s h p
+message_come s h b p (Await f) told waits = there (slice_index_or b.flags f None) (signal_ready s h b p f (slice_index_or b.flags f None) told waits (flag_at s h b p f told waits))
+message_come s h b p (Acquire l) told waits = there (slice_index_or b.transit p None) (mail_come s h b p (Acquire l) told waits (λ f e. absurd (cc (e))))
+message_come s h b p _ told waits = there (slice_index_or b.transit p None) (mail_come s h b p _ told waits (λ f e. absurd (cc (e))))

@@ -5,22 +5,23 @@ use Rattle.std.proofs.lemmas.Option.{none-some}
 use Rattle.journal.specs.declared.event.Kind.{Kind}
 use Rattle.lists.proofs.Places.{push_induction}
 use Rattle.journal.specs.declared.event.Event.{Event}
-use Rattle.journal.specs.declared.event.Kind.TheVariants.{Acquire, Release, Await}
+use Rattle.journal.specs.declared.event.Kind.TheVariants.{Acquire, Release}
 use Rattle.journal.specs.Sizes.{Sizes}
 use Rattle.journal.specs.Events.{At, is_closing, is_taking}
 use Rattle.journal.specs.WellFormed.{Holds}
 use Rattle.journal.proofs.Order.Places.{at_longer, at_last}
 use Rattle.journal.specs.Did.{did}
 use Rattle.book.specs.State.{State}
-use Rattle.book.specs.Transitions.{handed_in, handed_last, book_took, book_signalled}
+use Rattle.book.specs.Transitions.{handed_in, handed_last, took}
 use Rattle.book.specs.Told.{IsTold}
-use Rattle.book.specs.Laws.{IsInner, MayHandIn, NewLaw, HandInLaw, LastLaw, AskLaw, ReleaseLaw, ArriveLaw, SetLaw, WatchLaw, TakeLaw, SignalLaw, MailLaw, FlagLaw}
+use Rattle.book.specs.Laws.{IsInner, MayHandIn, NewLaw, HandInLaw, LastLaw, AskLaw, ReleaseLaw, ArriveLaw, SetLaw, WatchLaw, TakeLaw, MessageLaw, NewsLaw, NewsOrderLaw}
+use Rattle.book.proofs.Parts.News.{news_are, sent_in_order}
 use Rattle.book.proofs.Parts.Doings.{holds_on, holds_back}
 use Rattle.book.proofs.Keeps.Starting.{told_new, told_journal, told_block, told_trimmed}
 use Rattle.book.proofs.Keeps.Locks.{told_ask, told_release}
 use Rattle.book.proofs.Keeps.Arrivals.{told_arrive}
-use Rattle.book.proofs.Keeps.Flags.{told_set, told_watch, told_signal, signal_ready}
-use Rattle.book.proofs.Keeps.Takes.{told_take, mail_ready}
+use Rattle.book.proofs.Keeps.Flags.{told_set, told_watch}
+use Rattle.book.proofs.Keeps.Takes.{told_took, message_is}
 
 -- a block of loads, stores and fetches leaves who holds a lock
 pub holds_block : (s : Sizes) (h block : List Event) (p l : ℕ) → ((k : ℕ) (e : Event) → At block k e → IsInner s p e) → Holds (h ++ block) p l ↔ Holds h p l
@@ -72,13 +73,15 @@ pub watch_law : WatchLaw
 watch_law s h block b p f records told may are range = told_watch s (h ++ block) (handed_in b block) p f records (block_told s h block b p told may) range may.idle are
 
 pub take_law : TakeLaw
-take_law s h b p k m told waits mail = told_trimmed s (did h p k) (book_took b p k m) s.processors (omega arith) (told_take s h b p k m told waits mail)
+take_law s h b p k m told waits is =
+    let next = told_took s h b p k m told waits is in
+    told_trimmed s (did h p k) (took b p k m) (length (took b p k m).times) (let long = next.times.long in omega arith) next
 
-pub take_signal_law : SignalLaw
-take_signal_law s h b p f t told waits set = told_trimmed s (did h p (Await f)) (book_signalled b p f t) s.processors (omega arith) (told_signal s h b p f t told waits set)
+pub message_law : MessageLaw
+message_law s h b p k m told waits is = message_is s h b p k m told waits is
 
-pub mail_law : MailLaw
-mail_law s h b p k m told waits posted at = mail_ready s h b p k m told waits posted at
+pub news_law : NewsLaw
+news_law s h b p n k u told lt brings = news_are s h b p n k u told lt brings
 
-pub flag_law : FlagLaw
-flag_law s h b p f t told waits at = signal_ready s h b p f t told waits at
+pub news_order_law : NewsOrderLaw
+news_order_law s h b n old new told = sent_in_order s h b.closed n old new told.closed

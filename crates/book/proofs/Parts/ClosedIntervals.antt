@@ -1,10 +1,9 @@
 -- The closed intervals under one more event, and under trimming.
-use Rattle.std.proofs.Common.{◌≡◌, ◌≢◌, ◌&&◌, nat_le, nat_lt, ℕ, zero, suc, ◌+◌, ◌<◌, ◌≤◌, min, max, ◌⊎◌, inl, inr, List, [], ◌∷◌, ◌++◌, length, take, filter, Bool, cond, not, true, false, Some, IsTrue, slice_get, slice_set, slice_index, slice_index_or, fold, subst, sym, refl, ap, ◌∙◌, arith, append-nil}
+use Rattle.std.proofs.Common.{◌≡◌, ◌≢◌, ◌&&◌, nat_le, nat_lt, ℕ, zero, suc, ◌+◌, ◌<◌, ◌≤◌, min, max, ◌⊎◌, inl, inr, List, [], ◌∷◌, ◌++◌, length, filter, Bool, cond, not, true, false, Some, IsTrue, slice_get, slice_set, slice_index, slice_index_or, fold, subst, subst₂, sym, refl, ap, ◌∙◌, arith}
 use Rattle.std.specs.List.{flat_map}
-use Rattle.std.proofs.lemmas.Bool.{cases_eq, cases_lt, cases_Bool, ne_eqb, not_from_false, eqb-true, and_parts, and_left, and_right, false_from_ne_true, ltb-true, le-ltb, leb-true, true≢false}
+use Rattle.std.proofs.lemmas.Bool.{cases_eq, cases_lt, ne_eqb, not_from_false, and_parts, and_left, and_right, false_from_ne_true, ltb-true, le-ltb, leb-true, true≢false}
 use Rattle.std.proofs.lemmas.Option.{none-some, same_Some, slice_get_within}
-use Rattle.std.proofs.lemmas.List.{length-set, get_or-set_same, get_or-set_other, take-append-le}
-use Rattle.std.proofs.lemmas.List.Elements.{filter-append}
+use Rattle.std.proofs.lemmas.List.{length-set, get_or-set_same, get_or-set_other}
 use Rattle.std.proofs.Math.Seq.{take-append_seam}
 use Rattle.journal.specs.declared.event.Event.{Event}
 use Rattle.journal.specs.declared.event.Kind.{Kind}
@@ -14,38 +13,25 @@ use Rattle.journal.specs.Events.{count_of, interval_at, is_closing}
 use Rattle.journal.specs.Times.{ClosesAt}
 use Rattle.lists.proofs.Places.{push_cases, slice_get-append_left, slice_get-last, count_by-append, count_by-within}
 use Rattle.lists.proofs.Picked.{has-filter, in_order-filter}
-use Rattle.journal.proofs.Order.Places.{at_within, at_last, count_of-front, count_of-within}
+use Rattle.journal.proofs.Order.Places.{count_of-front, count_of-within}
 use Rattle.journal.specs.declared.event.Kind.TheVariants.{Store}
 use Rattle.journal.specs.Groups.{StoresIn}
 use Rattle.journal.proofs.Intervals.Contents.{stores_in_shorter, content_closing, content_closed}
-use Rattle.journal.proofs.Times.Times.{closes_longer, closes_shorter, interval_behind}
+use Rattle.journal.specs.Missing.{closed_count, IsPlaced}
+use Rattle.journal.proofs.Missing.Placed.{placed_longer, placed_now}
+use Rattle.journal.proofs.Times.Times.{closes_shorter, interval_behind}
 use Rattle.page.specs.Changes.{Changes}
 use Rattle.interval.specs.declared.kept.Kept.{Kept}
-use Rattle.interval.specs.Intervals.{ClosedInterval}
 use Rattle.interval.specs.Closings.{Closings, pushed, trimmed, is_trimmed, is_news, between, sent_interval}
 use Rattle.interval.proofs.Chosen.{filter_same}
 use Rattle.journal.specs.Did.{event, did}
-use Rattle.book.specs.ClosedIntervals.{closings_of, IsKept, AreContents, AreClosed, IsWithin}
+use Rattle.book.specs.ClosedIntervals.{AreContents, AreClosed, IsWithin}
 use Rattle.book.specs.Transitions.{lesser, least, trimmed_by}
 use Rattle.book.proofs.Parts.Doings.{count_did, count_others, count_kept}
 
 -- one more event, which closes an interval or doesn't
-closings_did : (h : List Event) (p : ℕ) (k : Kind) → closings_of (did h p k) ≡ closings_of h + cond (is_closing k) 1 0
+closings_did : (h : List Event) (p : ℕ) (k : Kind) → closed_count (did h p k) ≡ closed_count h + cond (is_closing k) 1 0
 closings_did h p k = let sum = count_by-append (λ (e : Event). is_closing e.kind) h (event p k ∷ []) in omega arith
-
-closings_front : (h es : List Event) (i : ℕ) → i ≤ length h → closings_of (take i (h ++ es)) ≡ closings_of (take i h)
-closings_front h es i le = ap (λ (xs : List Event). closings_of xs) (take-append-le i h es le)
-
--- a kept interval stays the one that it is
-pub kept_on : (h es : List Event) (k : Kept) → IsKept h k → IsKept (h ++ es) k
-kept_on h es k x =
-    let lt = at_within h x.at (record { processor = k.interval.owner; kind = x.closes.kind }) x.closes.does in
-    record {
-      at = x.at;
-      closes = closes_longer h es k.interval.owner x.at x.closes;
-      number = count_of-front is_closing h es x.at k.interval.owner (omega arith) ∙ x.number;
-      place = closings_front h es x.at (omega arith) ∙ x.place;
-    }
 
 -- the contents of a closed interval stay
 stores_before : (s : Sizes) (h es : List Event) (q k n i : ℕ) → k < count_of is_closing h q → StoresIn s (h ++ es) q k n i → StoresIn s h q k n i
@@ -57,14 +43,18 @@ stores_before s h es q k n i lt x = elim (cases_lt i (length h)) [
 pub contents_on : (s : Sizes) (h es : List Event) (q k : ℕ) (records : List Changes) → k < count_of is_closing h q → AreContents s h q k records → AreContents s (h ++ es) q k records
 contents_on s h es q k records lt x = record {
   each = λ r has. content_closed s h es q k r.page r.words lt (x.each r has);
+  some = x.some;
   all = λ n i stores. x.all n i (stores_before s h es q k n i lt stores);
+  rising = x.rising;
 }
 
 -- and of the one that the event closes
 contents_closing : (s : Sizes) (h : List Event) (p : ℕ) (a : Kind) (q k : ℕ) (records : List Changes) → is_closing a ≡ true → AreContents s h q k records → AreContents s (did h p a) q k records
 contents_closing s h p a q k records closes x = record {
   each = λ r has. content_closing s h (event p a) q k r.page r.words closes (x.each r has);
+  some = x.some;
   all = λ n i stores. x.all n i (before n i stores);
+  rising = x.rising;
 }
   where
     before : (n i : ℕ) → StoresIn s (did h p a) q k n i → StoresIn s h q k n i
@@ -74,7 +64,7 @@ contents_closing s h p a q k records closes x = record {
     ]
 
 -- a kept interval's number is one of a closed interval
-kept_number : (h : List Event) (k : Kept) → IsKept h k → k.interval.number < count_of is_closing h k.interval.owner
+kept_number : (h : List Event) (k : Kept) → IsPlaced h k.interval.owner k.interval.number k.place → k.interval.number < count_of is_closing h k.interval.owner
 kept_number h k x = let within = count_of-within is_closing h x.at k.interval.owner x.closes.kind x.closes.does x.closes.closes in let number = x.number in omega arith
 
 -- what closes in a longer history closed before, or with its last event
@@ -91,7 +81,7 @@ closed_quiet s h p k c quiet x = record {
   next_long = x.next_long;
   next = λ q lt. x.next q lt ∙ sym (count_kept is_closing h p k q quiet);
   first_long = x.first_long;
-  each = λ j has. kept_on h (event p k ∷ []) j (x.each j has);
+  each = λ j has. placed_longer h (event p k ∷ []) j.interval.owner j.interval.number j.place (x.each j has);
   all = all;
   contents = λ j has. contents_on s h (event p k ∷ []) j.interval.owner j.interval.number j.interval.records (kept_number h j (x.each j has)) (x.contents j has);
   rising = x.rising;
@@ -139,18 +129,13 @@ closed_closing s h p k c n records closes lt number stored x = record {
     front : interval_at (did h p k) p (length h) ≡ n
     front = ap (λ (xs : List Event). count_of is_closing xs p) (take-append_seam h (event p k ∷ [])) ∙ sym number
 
-    is_new : IsKept (did h p k) new
-    is_new = record {
-      at = length h;
-      closes = record { kind = k; does = at_last h (event p k); closes = closes };
-      number = front;
-      place = ap (λ (xs : List Event). closings_of xs) (take-append_seam h (event p k ∷ [])) ∙ sym x.count;
-    }
+    is_new : IsPlaced (did h p k) p n c.pushed
+    is_new = subst₂ (IsPlaced (did h p k) p) (sym number) (sym x.count) (placed_now h (event p k) closes)
 
-    each : (j : Kept) → Has (c.kept ++ new ∷ []) j → IsKept (did h p k) j
+    each : (j : Kept) → Has (c.kept ++ new ∷ []) j → IsPlaced (did h p k) j.interval.owner j.interval.number j.place
     each j has = elim (push_cases c.kept new has.0 j has.1) [
-      | inl old ↦ kept_on h (event p k ∷ []) j (x.each j (has.0, old.1))
-      | inr last ↦ subst (λ y. IsKept (did h p k) y) last.1 is_new
+      | inl old ↦ placed_longer h (event p k ∷ []) j.interval.owner j.interval.number j.place (x.each j (has.0, old.1))
+      | inr last ↦ subst (λ (y : Kept). IsPlaced (did h p k) y.interval.owner y.interval.number y.place) last.1 is_new
     ]
 
     all : (q i : ℕ) → ClosesAt (did h p k) q i → slice_index c.first q ≤ interval_at (did h p k) q i → (j : Kept) × Has (c.kept ++ new ∷ []) j × (j.interval.owner ≡ q) × (j.interval.number ≡ interval_at (did h p k) q i)
@@ -175,7 +160,7 @@ closed_closing s h p k c n records closes lt number stored x = record {
     below j has =
         let old = x.each j has in
         let within = count_by-within (λ (e : Event). is_closing e.kind) h old.at (event j.interval.owner old.closes.kind) old.closes.does old.closes.closes in
-        let place = old.place in
+        let place = old.before in
         let count = x.count in
         omega arith
 
@@ -190,14 +175,6 @@ closed_closing s h p k c n records closes lt number stored x = record {
         | inr one ↦ absurd (omega (arith, one.0, two.0))
       ]
     ]
-
--- an interval that is no news is not sent
-pub between_pushed : (c : Closings) (i : ClosedInterval) (old new : List ℕ) → slice_index new i.owner ≤ i.number → between (pushed c i) old new ≡ between c old new
-between_pushed c i old new le =
-    let none : is_news old new (record { place = c.pushed; interval = i }) ≡ false = and_right _ _ (le-ltb i.number (slice_index new i.owner) le) in
-    let sum = filter-append (is_news old new) c.kept (record { place = c.pushed; interval = i } ∷ []) in
-    let same : filter (is_news old new) c.kept ++ filter (is_news old new) (record { place = c.pushed; interval = i } ∷ []) ≡ filter (is_news old new) c.kept = rw none (append-nil (filter (is_news old new) c.kept)) in
-    ap (λ (ks : List Kept). flat_map sent_interval ks) (sum ∙ same)
 
 -- where nothing is news, nothing is news
 news_false : (old new : List ℕ) (k : Kept) → slice_index new k.interval.owner ≤ slice_index old k.interval.owner → is_news old new k ≡ false
@@ -217,36 +194,6 @@ between_same c one other new p same here there = ap (λ (ks : List Kept). flat_m
           let P : List ℕ → ℕ → Type 0 = λ t q. slice_index new q ≤ slice_index t q in
           news_false one new k (subst (P one) (sym is) here) ∙ sym (news_false other new k (subst (P other) (sym is) there)))
       | inr apart ↦ ap (λ (n : ℕ). nat_le n k.interval.number && nat_lt k.interval.number (slice_index new k.interval.owner)) (same k.interval.owner apart)
-    ]
-
--- what is picked among what passes is what is picked, where what is picked passes
-filter_passed : (pick passes : Kept → Bool) (ks : List Kept) → ((k : Kept) → pick k ≡ true → passes k ≡ true) → filter pick (filter passes ks) ≡ filter pick ks
-filter_passed pick passes [] all = refl
-filter_passed pick passes (k ∷ ks) all = elim (cases_Bool (passes k)) [
-  | inl does ↦ (let rest = filter_passed pick passes ks all in rw (does, rest) refl)
-  | inr doesnt ↦ (
-      let rest = filter_passed pick passes ks all in
-      let out : pick k ≡ false = false_from_ne_true (pick k) (λ e. true≢false (sym (all k e) ∙ doesnt)) in
-      rw (doesnt, out) rest)
-]
-
-trimmed_parts : (owner to : ℕ) (k : Kept) → is_trimmed owner to k ≡ true → (k.interval.owner ≡ owner) × (k.interval.number < to)
-trimmed_parts owner to k h = let parts = and_parts _ _ h in (eqb-true _ _ parts.0, ltb-true _ _ parts.1)
-
--- intervals that the receiver has are not sent to it
-pub between_trimmed : (c : Closings) (owner to : ℕ) (old new : List ℕ) → to ≤ slice_index old owner → between (trimmed c owner to) old new ≡ between c old new
-between_trimmed c owner to old new le = ap (λ (ks : List Kept). flat_map sent_interval ks) (filter_passed (is_news old new) (λ k. not (is_trimmed owner to k)) c.kept passes)
-  where
-    passes : (k : Kept) → is_news old new k ≡ true → not (is_trimmed owner to k) ≡ true
-    passes k news = elim (cases_Bool (is_trimmed owner to k)) [
-      | inl is ↦ (
-          let parts = trimmed_parts owner to k is in
-          let from = leb-true _ _ (and_parts _ _ news).0 in
-          let P : ℕ → Type 0 = λ o. slice_index old o ≤ k.interval.number in
-          let here = subst P parts.0 from in
-          let below = parts.1 in
-          absurd (omega arith))
-      | inr isnt ↦ not_from_false (is_trimmed owner to k) isnt
     ]
 
 -- a trim keeps what the intervals are

@@ -30,7 +30,8 @@ use Rattle.book.specs.Told.{IsTold}
 use Rattle.book.proofs.Parts.Each.{each_set, is_at}
 use Rattle.book.proofs.Parts.Doings.{awaits_idle, awaited_on, awaited_now}
 use Rattle.book.proofs.Parts.Stamps.{stamp_others, stamp_closing, stamp_taking}
-use Rattle.book.proofs.Parts.ClosedIntervals.{closed_closing, between_pushed}
+use Rattle.book.proofs.Parts.ClosedIntervals.{closed_closing}
+use Rattle.interval.proofs.News.{between-pushed}
 
 -- who awaits nothing is idle
 pub is_idle : (s : Sizes) (h : List Event) (b : State) (p : ℕ) → IsTold s h b → slice_get b.awaits p ≡ Some None → IsIdle h p
@@ -114,4 +115,4 @@ old_notices s h b p records r m t told lt isnt at time =
     let mail : Carries s h r m = told.transit.each r (Some m) at in
     let most = mail.time.is.within p in
     let number = own_number s h b p told lt in
-    told.notices r m t at (sym (slice_get-set_other b.times p r (tick (time_of b p) p) isnt) ∙ time) ∙ sym (between_pushed b.closed (open_interval b p records) t m.time (omega arith))
+    told.notices r m t at (sym (slice_get-set_other b.times p r (tick (time_of b p) p) isnt) ∙ time) ∙ sym (between-pushed b.closed (open_interval b p records) t m.time (omega arith))

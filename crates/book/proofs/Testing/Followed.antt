@@ -1,33 +1,34 @@
 -- A book that is followed is followed after each call.
-use Rattle.std.proofs.Common.{◌≡◌, ◌≢◌, ℕ, zero, suc, ◌<◌, Result, Ok, Err, IfOk, OnOk, OnErr, inl, inr, List, [], ◌∷◌, ◌++◌, replicate, true, false, Option, Some, None, slice_get, slice_index_or, subst, sym, refl, ap, ◌∙◌, append-nil, append_assoc, arith}
+use Rattle.std.proofs.Common.{IsTrue, ◌≡◌, ◌≢◌, ℕ, zero, suc, ◌<◌, Result, Ok, Err, IfOk, OnOk, OnErr, inl, inr, List, [], ◌++◌, replicate, true, false, Option, Some, None, slice_get, slice_index_or, subst, sym, refl, ap, ◌∙◌, append-nil, append_assoc, arith}
 use Rattle.std.specs.Option.{option_to_list}
-use Rattle.std.proofs.lemmas.Option.{same_Some, none-some, slice_get-get_or}
+use Rattle.std.proofs.lemmas.Option.{slice_get-get_or}
 use Rattle.lists.proofs.Joined.{has-nil}
 use Rattle.lists.proofs.Sets.{slice_get-replicate_found}
 use Rattle.journal.specs.declared.event.Event.{Event}
 use Rattle.journal.specs.declared.event.Kind.{Kind}
 use Rattle.journal.specs.declared.event.Kind.TheVariants.{Load, Ask, Acquire, Release, Arrive, Depart, Set, Watch, Await}
 use Rattle.journal.specs.Sizes.{Sizes, addresses}
-use Rattle.journal.specs.Events.{At, is_closing, is_store}
+use Rattle.journal.specs.Events.{At, is_closing, is_store, is_taking}
 use Rattle.journal.specs.WellFormed.{Holds}
-use Rattle.journal.specs.Waits.{awaited, IsIdle}
+use Rattle.journal.specs.Waits.{IsIdle}
 use Rattle.page.specs.Changes.{Changes}
 use Rattle.lockq.specs.Lock.{Lock, unheld, lock_at}
 use Rattle.transit.specs.declared.message.Message.{Message}
-use Rattle.transit.specs.Letters.{Letter, letter}
+use Rattle.transit.specs.Letters.{letter}
 use Rattle.book.specs.declared.refused.Refused.{Refused}
 use Rattle.journal.specs.Did.{event, did}
 use Rattle.book.specs.Lines.{IsLock}
 use Rattle.book.specs.State.{State}
-use Rattle.book.specs.Transitions.{new_book, handed_in, book_asked, book_released, book_arrived, book_set, book_watched, book_took, book_signalled}
+use Rattle.book.specs.Transitions.{new_book, handed_in, book_asked, book_released, book_arrived, book_set, book_watched}
 use Rattle.book.specs.Told.{IsTold}
-use Rattle.book.specs.Laws.{IsInner, MayHandIn, MayGive, trimmed_book}
-use Rattle.book.specs.Calls.{MayFlush, MayLook, MayCall, MayAsk, MayRelease, MayTakeSome, Takes, TakesMail}
+use Rattle.book.specs.Laws.{IsInner, MayHandIn, MayGive}
+use Rattle.book.specs.Calls.{MayFlush, MayLook, MayCall, MayAsk, MayRelease, MayTakeSome, Takes}
 use Rattle.book.specs.Harness.{NothingOpen, IsFollowed, IsPart}
 use Rattle.book.proofs.Parts.Each.{is_at}
 use Rattle.book.proofs.Parts.Lines.{idle_no_ask}
 use Rattle.book.proofs.Parts.Told.{is_idle}
-use Rattle.book.proofs.Keeps.Whole.{new_law, hand_in_law, ask_law, release_law, arrive_law, set_law, watch_law, take_law, take_signal_law}
+use Rattle.book.proofs.Keeps.Whole.{new_law, hand_in_law, ask_law, release_law, arrive_law, set_law, watch_law, take_law}
+use Rattle.book.proofs.Keeps.Takes.{waits_taking}
 use Rattle.book.proofs.Testing.Harness.{part_inner, part_records, nothing_closing, nothing_quiet, others_block}
 
 -- a refused call leaves the book
@@ -172,42 +173,19 @@ followed_room s b new n x is = subst (λ c. IsFollowed s c) (sym is) (record {
 pub may_take : (s : Sizes) (b : State) (p : ℕ) (k : Kind) → IsFollowed s b → slice_get b.awaits p ≡ Some (Some k) → MayTakeSome b p
 may_take s b p k x waits = (k, (s, x.history, x.told, waits))
 
-found : {A : Type 0} (xs : List (Option A)) (i : ℕ) (x : A) → slice_index_or xs i None ≡ Some x → slice_get xs i ≡ Some (Some x)
-found [] i x is = absurd (none-some x is)
-found (o ∷ xs) zero x is = ap (λ y. Some y) is
-found (o ∷ xs) (suc i) x is = found xs i x is
+-- an event that takes neither closes nor stores
+taking_quiet : (k : Kind) → IsTrue (is_taking k) → (is_closing k ≡ false) × (is_store k ≡ false)
+taking_quiet (Acquire l) takes = (refl, refl)
+taking_quiet Depart takes = (refl, refl)
+taking_quiet (Await f) takes = (refl, refl)
+taking_quiet _ takes = absurd cc
 
-took : (s : Sizes) (b new : State) (p : ℕ) (k : Kind) (m : Letter) (a : Kind) → IsFollowed s b → slice_get b.awaits p ≡ Some (Some k) → Takes b p k m new → awaited a ≡ Some k → IsFollowed s new
-took s b new p k m a x waits takes is = by a is
-  where
-    both : Kind → Type 0
-    both y = (slice_get b.awaits p ≡ Some (Some y)) × Takes b p y m new
-
-    known : (y : Kind) → Some y ≡ Some k → both y
-    known y e = subst both (sym (same_Some y k e)) (waits, takes)
-
-    mail : (y : Kind) → is_closing y ≡ false → is_store y ≡ false → slice_get b.awaits p ≡ Some (Some y) → TakesMail b p y m new → IsFollowed s new
-    mail y quiet silent w t = subst (λ c. IsFollowed s c) (sym (t.1 ∙ ap (λ n. trimmed_book n (book_took b p y m)) x.told.times.long)) (record {
-      history = did x.history p y;
-      told = take_law s x.history b p y m x.told w (found b.transit p m t.0);
-      nothing = nothing_quiet s x.history p y quiet silent x.nothing;
+pub followed_take : (s : Sizes) (old new : State) (p : ℕ) (r : Result Message Refused) → IsFollowed s old → IfOk r (λ m. Takes old p (letter m) new) → OnErr r (new ≡ old) → IsFollowed s new
+followed_take s old new p (Ok m) x t err =
+    let quiet = taking_quiet t.kind (waits_taking x.history p t.kind (x.told.awaits.each p (Some t.kind) t.awaits)) in
+    subst (λ b. IsFollowed s b) (sym t.after) (record {
+      history = did x.history p t.kind;
+      told = take_law s x.history old p t.kind (letter m) x.told t.awaits t.message;
+      nothing = nothing_quiet s x.history p t.kind quiet.0 quiet.1 x.nothing;
     })
-
-    by : (c : Kind) → awaited c ≡ Some k → IsFollowed s new
-    by (Ask l) e = let t = known (Acquire l) e in mail (Acquire l) refl refl t.0 t.1
-    by Arrive e = let t = known Depart e in mail Depart refl refl t.0 t.1
-    by (Watch f) e =
-        let t = known (Await f) e in
-        subst (λ c. IsFollowed s c) (sym (t.1.2 ∙ ap (λ n. trimmed_book n (book_signalled b p f m.time)) x.told.times.long)) (record {
-          history = did x.history p (Await f);
-          told = take_signal_law s x.history b p f m.time x.told t.0 (found b.flags f m.time t.1.0);
-          nothing = nothing_quiet s x.history p (Await f) refl refl x.nothing;
-        })
-    by _ e = absurd (cc (e))
-
-pub followed_take : (s : Sizes) (old new : State) (p : ℕ) (k : Kind) (r : Result Message Refused) → IsFollowed s old → slice_get old.awaits p ≡ Some (Some k) → IfOk r (λ m. Takes old p k (letter m) new) → OnErr r (new ≡ old) → IsFollowed s new
-followed_take s old new p k (Ok m) x waits ok err =
-    let awaits = x.told.awaits.each p (Some k) waits in
-    let last = awaits.some k refl in
-    took s old new p k (letter m) last.1 x waits ok (sym (awaits.last last.0 last.1 last.2))
-followed_take s old new p k (Err e) x waits ok err = subst (λ b. IsFollowed s b) (sym err) x
+followed_take s old new p (Err e) x t err = subst (λ b. IsFollowed s b) (sym err) x

@@ -5,7 +5,7 @@ use Rattle.lists.specs.Places.{Has}
 use Rattle.lists.specs.Writes.{LastWrite}
 use Rattle.lists.specs.Records.{IsRecordOf}
 use Rattle.lists.proofs.Places.{push_cases, push_induction}
-use Rattle.lists.proofs.Joined.{has-nil, has-cons, in_order_single}
+use Rattle.lists.proofs.Joined.{has-nil, has-cons, in_order-nil, in_order_single}
 use Rattle.lists.proofs.LastWrites.{last_first}
 use Rattle.journal.specs.declared.event.Event.{Event}
 use Rattle.journal.specs.declared.event.Kind.{Kind}
@@ -96,13 +96,20 @@ single_record {A} f x o w writes = record {
 
 -- the records of the open interval: of nothing
 no_records : (s : Sizes) (h : List Event) (p : ℕ) → NothingOpen s h → AreOpenRecords s h p []
-no_records s h p nothing = record { each = λ r has. absurd (has-nil r has); all = λ n i x. absurd (nothing p n i x) }
+no_records s h p nothing = record {
+  each = λ r has. absurd (has-nil r has);
+  some = λ r has. absurd (has-nil r has);
+  all = λ n i x. absurd (nothing p n i x);
+  rising = in_order-nil (λ (q r : Changes). q.page < r.page);
+}
 
 -- and of one store
 one_record : (s : Sizes) (h : List Event) (p a v : ℕ) → NothingOpen s h → AreOpenRecords s (did h p (Store a v)) p (record { page = a / s.words; words = (a % s.words, v) ∷ [] } ∷ [])
 one_record s h p a v nothing = record {
   each = λ r has. elim ((has-cons changes [] r).0 has) [ inl is ↦ subst (λ (x : Changes). IsContent s long p number x.page x.words) is content | inr none ↦ absurd (has-nil r none) ];
+  some = λ r has. elim ((has-cons changes [] r).0 has) [ inl is ↦ subst (λ (x : Changes). x.words ≢ []) is (λ e. absurd cc) | inr none ↦ absurd (has-nil r none) ];
   all = λ n i x. (changes, (0, refl), (only n i x).1);
+  rising = in_order_single (λ (q r : Changes). q.page < r.page) changes;
 }
   where
     long : List Event

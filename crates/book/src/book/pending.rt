@@ -1,9 +1,8 @@
 //! How much a take would bring.
 ghost use Rattle.std.specs.Prelude.{◌≡◌, ◌<◌, None, count_by, length, slice_index_or};
 ghost use Rattle.interval.specs.Closings.{is_of_page};
-ghost use Rattle.book.specs.Brought.{brought, sent_with, signalled};
+ghost use Rattle.book.specs.Brought.{brought, message_for, sent_with};
 ghost use Rattle.book.specs.Calls.{MayLook, MayTake};
-ghost use Rattle.book.specs.State.{time_of};
 
 use super::Book;
 use interval::Sent;
@@ -28,7 +27,7 @@ impl Book {
     /// The same where `p` waits for the flag.
     fn due_by_flag(&self, p: usize, f: usize, page: usize) -> usize
         requires call { MayTake self.now p (Kind.Await f) }
-        ensures { result ≡ count_by (is_of_page page) (signalled self.now.closed (time_of self.now p) (slice_index_or self.now.flags f None)) }
+        ensures { result ≡ count_by (is_of_page page) (sent_with (message_for self.now p (Kind.Await f))) }
     {
         let closed = &self.closed;
         match &self.flags[f] {

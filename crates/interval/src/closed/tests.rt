@@ -149,6 +149,42 @@ fn count_between(
     closed.news_of(page, &old, &new)
 }
 
+/// How many notices of pages 0 to 3 lie between the timestamps, counted at once into a used slice.
+fn counts_between(
+    rt: &(impl Abort + AllocGlobal),
+    closed: &Closed,
+    old: [u64; 2],
+    new: [u64; 2],
+) -> [usize; 4]
+    requires { length closed.now.first ≡ 2 }
+{
+    let old = stamp(rt.alloc(), old);
+    let new = stamp(rt.alloc(), new);
+    assert!(rt; closed.first(0) <= old.entry(0));
+    assert!(rt; closed.first(1) <= old.entry(1));
+    let mut counts = [9; 4];
+    closed.count_news(&old, &new, &mut counts);
+    counts
+}
+
+#[test]
+fn counts_the_news_of_all_pages(rt: HostRuntime) -> Result<(), Fail> {
+    let mut closed = four_intervals(rt.alloc())?;
+    assert_eq!(rt; counts_between(&rt, &closed, [0, 0], [2, 2]), [1, 0, 1, 2]);
+    assert_eq!(rt; counts_between(&rt, &closed, [1, 0], [2, 2]), [1, 0, 1, 1]);
+    assert_eq!(rt; counts_between(&rt, &closed, [0, 0], [9, 0]), [0, 0, 0, 1]);
+    assert_eq!(rt; counts_between(&rt, &closed, [2, 2], [2, 2]), [0; 4]);
+    closed.trim(0, 1);
+    assert_eq!(rt; counts_between(&rt, &closed, [1, 1], [2, 2]), [0, 0, 0, 1]);
+    assert_eq!(rt; counts_between(&rt, &closed, [9, 0], [0, 1]), [1, 0, 1, 0]);
+    let (old, new) = (stamp(rt.alloc(), [1, 0]), stamp(rt.alloc(), [2, 2]));
+    let mut one = [5];
+    assert!(rt; closed.first(0) == 1 && closed.first(1) == 0);
+    closed.count_news(&old, &new, &mut one);
+    assert_eq!(rt; one, [1]);
+    Ok(())
+}
+
 #[test]
 fn counts_the_news_of_a_page(rt: HostRuntime) -> Result<(), Fail> {
     let closed = four_intervals(rt.alloc())?;

@@ -58,17 +58,17 @@ complete_block s j block p n is complete i x past = elim ((block_past j block p 
 ]
 
 -- a block that fetches the page leaves nothing out
-pub complete_fetched : (s : Sizes) (j block : List Event) (p n k w r d : ℕ) → IsBlock p block → Does block k p (Fetch n w r d) → Complete s (j ++ block) p n
+pub complete_fetched : (s : Sizes) (j block : List Event) (p n k w r d : ℕ) → IsBlock p block → Does block k p (Fetch w n r d) → Complete s (j ++ block) p n
 complete_fetched s j block p n k w r d is fetch i x past = elim ((block_past j block p i is).0 past) [
   | inl old ↦ inr (length j + k, (w, r, d, at_behind j block k e fetch), (block_reaches j block p i k is (at_within block k e fetch)).1 (inl old))
   | inr b ↦ inl (block_mine s j block p n i is x b.0)
 ]
   where
     e : Event
-    e = record { processor = p; kind = Fetch n w r d }
+    e = record { processor = p; kind = Fetch w n r d }
 
 -- the gap under a block that doesn't fetch the page is the gap before it
-pub gap_block : (s : Sizes) (j block : List Event) (p n i : ℕ) → IsBlock p block → ((k w r d : ℕ) → ¬ Does block k p (Fetch n w r d)) → InGap s (j ++ block) p n i ↔ InGap s j p n i
+pub gap_block : (s : Sizes) (j block : List Event) (p n i : ℕ) → IsBlock p block → ((k w r d : ℕ) → ¬ Does block k p (Fetch w n r d)) → InGap s (j ++ block) p n i ↔ InGap s j p n i
 gap_block s j block p n i is none = (there, back)
   where
     there : InGap s (j ++ block) p n i → InGap s j p n i
@@ -81,7 +81,7 @@ gap_block s j block p n i is none = (there, back)
     old g (inl m) = g.others (m.0, at_shorter j block i m.0 (past_within j p i g.past) m.1, m.2)
     old g (inr m) =
         let f = m.1 in
-        elim (append_cases j block m.0 (record { processor = p; kind = Fetch n f.0 f.1 f.2 }) f.3) [
+        elim (append_cases j block m.0 (record { processor = p; kind = Fetch f.0 n f.1 f.2 }) f.3) [
           | inl h ↦ g.new m.0 (f.0, f.1, f.2, h.1) (shorter j block h.0 m.2)
           | inr h ↦ none h.0 f.0 f.1 f.2 h.2
         ]

@@ -65,7 +65,7 @@ pub valid_push : (s : Sizes) (j block : List Event) (e : Event) (p n : ℕ) (bas
 valid_push s j block e p n base page valid = record {
   lawful = valid.lawful;
   gives = ap (λ (ws : List ℕ). wrote ws (write_in s n e.kind)) valid.gives ∙ sym (block_done-push s n base block e);
-  full = elim valid.full [ inl c ↦ inl c | inr f ↦ inr (f.0, (f.1.0, f.1.1, f.1.2, at_longer block (e ∷ []) f.0 (record { processor = p; kind = Fetch n f.1.0 f.1.1 f.1.2 }) f.1.3)) ];
+  full = elim valid.full [ inl c ↦ inl c | inr f ↦ inr (f.0, (f.1.0, f.1.1, f.1.2, at_longer block (e ∷ []) f.0 (record { processor = p; kind = Fetch f.1.0 n f.1.1 f.1.2 }) f.1.3)) ];
 }
 
 -- a block that is handed in leaves it valid
@@ -105,7 +105,7 @@ copy_untouched s j es p n page away copy = push_induction (λ xs. ((k : ℕ) (e 
     step : (xs : List Event) (e : Event) → (((k : ℕ) (f : Event) → At xs k f → f.processor ≡ p → ¬ Touches s n f.kind) → IsCopy s (j ++ xs) p n page) → ((k : ℕ) (f : Event) → At (xs ++ e ∷ []) k f → f.processor ≡ p → ¬ Touches s n f.kind) → IsCopy s (j ++ (xs ++ e ∷ [])) p n page
     step xs e ih all =
         let last = all (length xs) e (at_last xs e) in
-        rw (← append_assoc j xs (e ∷ [])) (copy_kept s (j ++ xs) e p n page (λ a v in_page is. is_own (Store a v) e is last in_page) (λ w r d is. is_own (Fetch n w r d) e is last refl) (ih (λ k f at. all k f (at_longer xs (e ∷ []) k f at))))
+        rw (← append_assoc j xs (e ∷ [])) (copy_kept s (j ++ xs) e p n page (λ a v in_page is. is_own (Store a v) e is last in_page) (λ w r d is. is_own (Fetch w n r d) e is last refl) (ih (λ k f at. all k f (at_longer xs (e ∷ []) k f at))))
 
 -- others' events leave a stale copy as it is
 pub stale_others : (s : Sizes) (j es block : List Event) (p n : ℕ) (page : List ℕ) (missing : List Missing) → ((k : ℕ) (e : Event) → At es k e → e.processor ≢ p) → IsStaleCopy s j block p n page missing → IsStaleCopy s (j ++ es) block p n page missing
@@ -119,7 +119,7 @@ stale_push s j block e p n page missing away stale = record { copy = stale.copy;
 pub stale_handed : (s : Sizes) (j block : List Event) (p n : ℕ) (page : List ℕ) (missing : List Missing) → IsBlock p block → IsStaleCopy s j block p n page missing → IsStaleCopy s (j ++ block) [] p n page missing
 stale_handed s j block p n page missing is stale = record {
   copy = copy_untouched s j block p n page (λ k e at _. stale.untouched k e at) stale.copy;
-  lacks = missing_block s j block p n missing is (λ k w r d f. stale.untouched k (record { processor = p; kind = Fetch n w r d }) f refl) stale.lacks;
+  lacks = missing_block s j block p n missing is (λ k w r d f. stale.untouched k (record { processor = p; kind = Fetch w n r d }) f refl) stale.lacks;
   untouched = λ k e at. absurd (none-some e at);
 }
 
@@ -128,7 +128,7 @@ pub stale_gap : (s : Sizes) (j block : List Event) (p n : ℕ) (page : List ℕ)
 stale_gap s j block p n page x missing is stale = missing_some s (j ++ block) p n x missing (stale_handed s j block p n page (x ∷ missing) is stale).lacks
 
 -- a fetch applies the missing records in closing order, and makes it valid
-pub stale_fetched : (s : Sizes) (j block : List Event) (p n w r d : ℕ) (page : List ℕ) (missing : List Missing) → InClosingOrder missing → IsStaleCopy s j block p n page missing → IsValidCopy s j (block ++ record { processor = p; kind = Fetch n w r d } ∷ []) p n (records_applied page (map (λ (x : Missing). x.words) missing)) (records_applied page (map (λ (x : Missing). x.words) missing))
+pub stale_fetched : (s : Sizes) (j block : List Event) (p n w r d : ℕ) (page : List ℕ) (missing : List Missing) → InClosingOrder missing → IsStaleCopy s j block p n page missing → IsValidCopy s j (block ++ record { processor = p; kind = Fetch w n r d } ∷ []) p n (records_applied page (map (λ (x : Missing). x.words) missing)) (records_applied page (map (λ (x : Missing). x.words) missing))
 stale_fetched s j block p n w r d page missing order stale = record {
   lawful = missing_fetched s j p n page missing stale.lacks order stale.copy;
   gives = sym (written_nothing (λ (f : Event). write_in s n f.kind) new (block ++ e ∷ []) nothing);
@@ -136,7 +136,7 @@ stale_fetched s j block p n w r d page missing order stale = record {
 }
   where
     e : Event
-    e = record { processor = p; kind = Fetch n w r d }
+    e = record { processor = p; kind = Fetch w n r d }
 
     new : List ℕ
     new = records_applied page (map (λ (x : Missing). x.words) missing)
@@ -148,34 +148,34 @@ stale_fetched s j block p n w r d page missing order stale = record {
     ]
 
 -- the fetch's counts are how many owners, intervals and words the missing list has
-pub stale_counted : (s : Sizes) (j block : List Event) (p n writers : ℕ) (page : List ℕ) (missing : List Missing) → InClosingOrder missing → HasCount (λ (q : ℕ). (x : Missing) × Has missing x × (x.owner ≡ q)) writers → IsStaleCopy s j block p n page missing → BlockCounts s j block p → BlockCounts s j (block ++ record { processor = p; kind = Fetch n writers (length missing) (sum_by (λ (x : Missing). length x.words) missing) } ∷ []) p
-stale_counted s j block p n writers page missing order count stale counts = block_counts_push s j block (record { processor = p; kind = Fetch n writers (length missing) (sum_by (λ (x : Missing). length x.words) missing) }) p new counts
+pub stale_counted : (s : Sizes) (j block : List Event) (p n writers : ℕ) (page : List ℕ) (missing : List Missing) → InClosingOrder missing → HasCount (λ (q : ℕ). (x : Missing) × Has missing x × (x.owner ≡ q)) writers → IsStaleCopy s j block p n page missing → BlockCounts s j block p → BlockCounts s j (block ++ record { processor = p; kind = Fetch writers n (length missing) (sum_by (λ (x : Missing). length x.words) missing) } ∷ []) p
+stale_counted s j block p n writers page missing order count stale counts = block_counts_push s j block (record { processor = p; kind = Fetch writers n (length missing) (sum_by (λ (x : Missing). length x.words) missing) }) p new counts
   where
     words : ℕ
     words = sum_by (λ (x : Missing). length x.words) missing
 
     Result : ℕ → ℕ → ℕ → ℕ → Type 0
-    Result m w r d = GapCounts s j p m w r d × ((i w' r' d' : ℕ) → ¬ Does block i p (Fetch m w' r' d'))
+    Result m w r d = GapCounts s j p m w r d × ((i w' r' d' : ℕ) → ¬ Does block i p (Fetch w' m r' d'))
 
-    new : (m w r d : ℕ) → ◌≡◌ {A = Event} (record { processor = p; kind = Fetch n writers (length missing) words }) (record { processor = p; kind = Fetch m w r d }) → Result m w r d
+    new : (m w r d : ℕ) → ◌≡◌ {A = Event} (record { processor = p; kind = Fetch writers n (length missing) words }) (record { processor = p; kind = Fetch w m r d }) → Result m w r d
     new m w r d e =
-        let kinds : Fetch n writers (length missing) words ≡ Fetch m w r d = ap (λ (x : Event). x.kind) e in
+        let kinds : Fetch writers n (length missing) words ≡ Fetch w m r d = ap (λ (x : Event). x.kind) e in
         let a : n ≡ m = cc in
         let b : writers ≡ w = cc in
         let c : length missing ≡ r = cc in
         let f : words ≡ d = cc in
-        subst (λ x. Result m w r x) f (subst (λ x. Result m w x words) c (subst₂ (λ x y. Result x y (length missing) words) a b (missing_counts s j p n writers missing stale.lacks order count, λ i w' r' d' g. stale.untouched i (record { processor = p; kind = Fetch n w' r' d' }) g refl)))
+        subst (λ x. Result m w r x) f (subst (λ x. Result m w x words) c (subst₂ (λ x y. Result x y (length missing) words) a b (missing_counts s j p n writers missing stale.lacks order count, λ i w' r' d' g. stale.untouched i (record { processor = p; kind = Fetch w' n r' d' }) g refl)))
 
 -- what the block's loads answer is untouched by a fetch of a page that was stale
-pub answers_fetched : (s : Sizes) (j block : List Event) (p n w r d : ℕ) (page new : List ℕ) (missing : List Missing) (base : ℕ → List ℕ) → IsStaleCopy s j block p n page missing → BlockAnswers s j block p base → BlockAnswers s j (block ++ record { processor = p; kind = Fetch n w r d } ∷ []) p (with_page n new base)
+pub answers_fetched : (s : Sizes) (j block : List Event) (p n w r d : ℕ) (page new : List ℕ) (missing : List Missing) (base : ℕ → List ℕ) → IsStaleCopy s j block p n page missing → BlockAnswers s j block p base → BlockAnswers s j (block ++ record { processor = p; kind = Fetch w n r d } ∷ []) p (with_page n new base)
 answers_fetched s j block p n w r d page new missing base stale answers =
-    answers_push s j block (record { processor = p; kind = Fetch n w r d }) p (with_page n new base)
+    answers_push s j block (record { processor = p; kind = Fetch w n r d }) p (with_page n new base)
     (answers_with_page s j block p n new base (λ k a v load. stale.untouched k (record { processor = p; kind = Load a v }) load) answers)
     (λ a v e. absurd (cc (ap (λ (f : Event). f.kind) e)))
 
 -- without a block a valid copy lacks nothing
 pub valid_full : (s : Sizes) (j : List Event) (p n : ℕ) (base page : List ℕ) → IsValidCopy s j [] p n base page → Complete s j p n
-valid_full s j p n base page valid = elim valid.full [ inl c ↦ c | inr f ↦ absurd (none-some (record { processor = p; kind = Fetch n f.1.0 f.1.1 f.1.2 }) f.1.3) ]
+valid_full s j p n base page valid = elim valid.full [ inl c ↦ c | inr f ↦ absurd (none-some (record { processor = p; kind = Fetch f.1.0 n f.1.1 f.1.2 }) f.1.3) ]
 
 -- an event by which p gets to know of others' adds to what a stale copy lacks
 pub stale_taken : (s : Sizes) (j : List Event) (p n : ℕ) (page : List ℕ) (k : Kind) (t t' : ℕ → ℕ) (missing new : List Missing) → is_taking k ≡ true → IsTimeOf j p t → IsTimeOf (j ++ record { processor = p; kind = k } ∷ []) p t' → AreNews s j p n t t' new → IsStaleCopy s j [] p n page missing → IsStaleCopy s (j ++ record { processor = p; kind = k } ∷ []) [] p n page (missing ++ new)
@@ -191,7 +191,7 @@ stale_taken s j p n page k t t' missing new takes time after news stale = record
     takes_nothing : (m : Kind) → is_taking m ≡ true → ¬ Touches s n m
     takes_nothing (Load a v) h = absurd (true≢false (sym h))
     takes_nothing (Store a v) h = absurd (true≢false (sym h))
-    takes_nothing (Fetch m w r d) h = absurd (true≢false (sym h))
+    takes_nothing (Fetch w m r d) h = absurd (true≢false (sym h))
     takes_nothing _ h = λ x. x
 
     taking : (m : ℕ) (f : Event) → At (e ∷ []) m f → f.processor ≡ p → ¬ Touches s n f.kind

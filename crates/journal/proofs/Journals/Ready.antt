@@ -79,7 +79,7 @@ idle_follows s j p k within idle range allowed = record { processor = within; in
 quiet_allowed : (s : Sizes) (j : List Event) (p : ℕ) (k : Kind) → is_taking k ≡ false → is_closing k ≡ false → Allowed s j p k
 quiet_allowed s j p (Load a v) h g = tt
 quiet_allowed s j p (Store a v) h g = tt
-quiet_allowed s j p (Fetch n w r d) h g = tt
+quiet_allowed s j p (Fetch w n r d) h g = tt
 quiet_allowed s j p _ h g = absurd cc
 
 quiet_idle : (k : Kind) → is_closing k ≡ false → awaited k ≡ None

@@ -48,7 +48,7 @@ gap_between s j p n q i a v f t u time before fetch last does page apart = (
 )
   where
     kind : Kind
-    kind = Fetch n fetch.0 fetch.1 fetch.2
+    kind = Fetch fetch.0 n fetch.1 fetch.2
 
     past : InPast j p i ↔ (interval_at j q i < t q)
     past = covered j p q i (Store a v) t time does apart
@@ -61,7 +61,7 @@ gap_between s j p n q i a v f t u time before fetch last does page apart = (
 
     on : (m : ℕ) → Fetches j m p n → (m ≡ f) ⊎ ((m < f) ⊎ (f < m)) → HappensBefore j i m → HappensBefore j i f
     on m other (inl e) h = subst (HappensBefore j i) e h
-    on m other (inr (inl less)) h = transitive j h (own_order j p m f (Fetch n other.0 other.1 other.2) kind other.3 fetch.3 less)
+    on m other (inr (inl less)) h = transitive j h (own_order j p m f (Fetch other.0 n other.1 other.2) kind other.3 fetch.3 less)
     on m other (inr (inr less)) h = let le = last m other in absurd (omega arith)
 
 -- others' events leave the gap
@@ -77,7 +77,7 @@ gap_others s j es p n i away = (there, back)
     old g (inl m) = g.others (m.0, at_shorter j es i m.0 (past_within j p i g.past) m.1, m.2)
     old g (inr m) =
         let f = m.1 in
-        let e : Event = record { processor = p; kind = Fetch n f.0 f.1 f.2 } in
+        let e : Event = record { processor = p; kind = Fetch f.0 n f.1 f.2 } in
         elim (append_cases j es m.0 e f.3) [
           | inl h ↦ g.new m.0 (f.0, f.1, f.2, h.1) (shorter j es h.0 m.2)
           | inr h ↦ away h.0 e h.2 refl
@@ -108,7 +108,7 @@ gap_taken s j p n q i a v k t t' takes time after does page apart = (there, back
     new : InPast (j ++ e ∷ []) p i ↔ (interval_at (j ++ e ∷ []) q i < t' q)
     new = covered (j ++ e ∷ []) p q i (Store a v) t' after (at_longer j (e ∷ []) i (record { processor = q; kind = Store a v }) does) apart
 
-    not_fetch : (w r d : ℕ) → e ≢ record { processor = p; kind = Fetch n w r d }
+    not_fetch : (w r d : ℕ) → e ≢ record { processor = p; kind = Fetch w n r d }
     not_fetch w r d is = true≢false (sym takes ∙ ap (λ (f : Event). is_taking f.kind) is)
 
     brought_old : Brought (j ++ e ∷ []) p n i → Brought j p n i
@@ -156,7 +156,7 @@ gap_whole s j p n q i m a b v w g does other page same = record {
   store = stores_to s j n m q b w other page;
   others = not_mine j p q m (Store b w) other apart;
   past = (closed_past j p q m c.0 (Store b w) second other apart).1 ((closed_past j p q i c.0 (Store a v) first does apart).0 g.past);
-  new = λ f fetch h. g.new f fetch (before f fetch (leaving_at j f p q m (Store b w) (Fetch n fetch.0 fetch.1 fetch.2) other fetch.3 apart (inr h)));
+  new = λ f fetch h. g.new f fetch (before f fetch (leaving_at j f p q m (Store b w) (Fetch fetch.0 n fetch.1 fetch.2) other fetch.3 apart (inr h)));
 }
   where
     apart : q ≢ p
@@ -176,7 +176,7 @@ gap_whole s j p n q i m a b v w g does other page same = record {
         let least = closes_first j q m c.0 l.close (Store b w) second other l.from l.closes in
         let less = first.before in
         elim (up_to_back j i l.close f (own_order j q i l.close (Store a v) l.closes.kind does l.closes.does (omega arith)) l.inside) [
-          | inl is ↦ (let P : ℕ → Type 0 = λ x. Does j x q (Store a v) in absurd (apart (does_same j f q p (Store a v) (Fetch n fetch.0 fetch.1 fetch.2) (subst P is does) fetch.3).0))
+          | inl is ↦ (let P : ℕ → Type 0 = λ x. Does j x q (Store a v) in absurd (apart (does_same j f q p (Store a v) (Fetch fetch.0 n fetch.1 fetch.2) (subst P is does) fetch.3).0))
           | inr h ↦ h
         ]
 

@@ -63,7 +63,7 @@ pub missing_others : (s : Sizes) (j es : List Event) (p n : ℕ) (missing : List
 missing_others s j es p n missing away = missing_on s j es p n missing (λ i. gap_others s j es p n i away)
 
 -- and a block that doesn't fetch the page
-pub missing_block : (s : Sizes) (j block : List Event) (p n : ℕ) (missing : List Missing) → IsBlock p block → ((k w r d : ℕ) → ¬ Does block k p (Fetch n w r d)) → AreMissing s j p n missing → AreMissing s (j ++ block) p n missing
+pub missing_block : (s : Sizes) (j block : List Event) (p n : ℕ) (missing : List Missing) → IsBlock p block → ((k w r d : ℕ) → ¬ Does block k p (Fetch w n r d)) → AreMissing s j p n missing → AreMissing s (j ++ block) p n missing
 missing_block s j block p n missing is none = missing_on s j block p n missing (λ i. gap_block s j block p n i is none)
 
 -- an event by which p gets to know of others' adds the intervals between its timestamps that store in the page

@@ -1,5 +1,6 @@
 -- The race checker's timestamps after one more event.
 use Rattle.std.proofs.Common.{◌≡◌, ◌≢◌, ℕ, ◌+◌, ◌<◌, ◌≤◌, ◌-◌, ◌^◌, max, List, [], ◌∷◌, ◌++◌, length, take, inl, inr, Bool, false, cond, ◌==◌, ◌&&◌, slice_index, vec_len, subst, sym, refl, ap, ◌∙◌, add-one, arith}
+use Rattle.std.specs.BTreeMap.{BTreeMap}
 use Rattle.std.proofs.lemmas.Bool.{cases_eq, cases_lt}
 use Rattle.std.proofs.lemmas.List.Sums.{count_by-le-length}
 use Rattle.journal.specs.declared.event.Event.{Event}
@@ -10,7 +11,7 @@ use Rattle.journal.specs.Events.{At, count_of, is_closing, is_taking, is_arrive,
 use Rattle.journal.specs.Pasts.{InPast, UpToSome}
 use Rattle.journal.specs.Times.{IsTimeIn, IsTimeOf}
 use Rattle.journal.specs.Brings.{SomeDoes, SomeArrives, Brings}
-use Rattle.journal.specs.Entries.{entry, IsJoinedAt}
+use Rattle.journal.specs.Entries.{entry, kept_entry, IsJoinedAt}
 use Rattle.journal.specs.Clocks.{brought_entry, Keeps, AreClocks}
 use Rattle.lists.proofs.Places.{push_cases, take-suc_at}
 use Rattle.journal.proofs.Order.Places.{count_of-append}
@@ -41,21 +42,21 @@ brought_time j c p Depart a h =
     subst P (a.departures p (omega arith)) (a.episodes (slice_index c.departures p) (a.left p h))
 brought_time j c p _ a h = time_none j (UpToSome j (λ _. ⊥)) (λ i x. x.1)
 
--- a list of kept timestamps, one for each kind k n
-abbrev AreKept : List Event → (ℕ → Kind) → List (List ℕ) → Type 0
-AreKept j k xs = (n : ℕ) → IsTimeIn j (UpToSome j (SomeDoes j (k n))) (entry xs n)
+-- kept timestamps, one for each kind k n
+abbrev AreKept : List Event → (ℕ → Kind) → (ℕ → ℕ → ℕ) → Type 0
+AreKept j k times = (n : ℕ) → IsTimeIn j (UpToSome j (SomeDoes j (k n))) (times n)
 
 -- and one for each episode from this one on
 abbrev AreGathered : List Event → List (List ℕ) → ℕ → Type 0
 AreGathered j xs gone = (n : ℕ) → gone ≤ n → IsTimeIn j (UpToSome j (SomeArrives j n)) (entry xs (n - gone))
 
-kept_same : (j : List Event) (e : Event) (k : ℕ → Kind) (xs ys : List (List ℕ)) → ((n : ℕ) → e.kind ≢ k n) → ys ≡ xs → AreKept j k xs → AreKept (j ++ e ∷ []) k ys
-kept_same j e k xs ys isnt same a n = subst (λ zs. IsTimeIn (j ++ e ∷ []) (UpToSome (j ++ e ∷ []) (SomeDoes (j ++ e ∷ []) (k n))) (entry zs n)) (sym same) (kind_kept j (e ∷ []) (k n) (entry xs n) (λ m f at. one_event e f (k n) m at (isnt n)) (a n))
+kept_same : (j : List Event) (e : Event) (k : ℕ → Kind) (xs ys : ℕ → ℕ → ℕ) → ((n : ℕ) → e.kind ≢ k n) → ys ≡ xs → AreKept j k xs → AreKept (j ++ e ∷ []) k ys
+kept_same j e k xs ys isnt same a n = subst (λ zs. IsTimeIn (j ++ e ∷ []) (UpToSome (j ++ e ∷ []) (SomeDoes (j ++ e ∷ []) (k n))) (zs n)) (sym same) (kind_kept j (e ∷ []) (k n) (xs n) (λ m f at. one_event e f (k n) m at (isnt n)) (a n))
 
-kept_joined : (j : List Event) (p : ℕ) (k : ℕ → Kind) (m : ℕ) (xs ys : List (List ℕ)) (own : ℕ → ℕ) → ((n : ℕ) → n ≢ m → k m ≢ k n) → IsTimeOf (j ++ record { processor = p; kind = k m } ∷ []) p own → IsJoinedAt xs ys m own → AreKept j k xs → AreKept (j ++ record { processor = p; kind = k m } ∷ []) k ys
+kept_joined : (j : List Event) (p : ℕ) (k : ℕ → Kind) (m : ℕ) (xs ys : ℕ → ℕ → ℕ) (own : ℕ → ℕ) → ((n : ℕ) → n ≢ m → k m ≢ k n) → IsTimeOf (j ++ record { processor = p; kind = k m } ∷ []) p own → IsJoinedAt xs ys m own → AreKept j k xs → AreKept (j ++ record { processor = p; kind = k m } ∷ []) k ys
 kept_joined j p k m xs ys own apart time joined a n = elim (cases_eq n m) [
-  | inl is ↦ subst (λ x. IsTimeIn now (UpToSome now (SomeDoes now (k x))) (entry ys x)) (sym is) (time_equal now (UpToSome now (SomeDoes now (k m))) (λ q. max (entry xs m q) (own q)) (entry ys m) (λ q. sym (joined.joined q)) (kind_joins j e (entry xs m) own (a m) time))
-  | inr isnt ↦ time_equal now (UpToSome now (SomeDoes now (k n))) (entry xs n) (entry ys n) (λ q. sym (joined.same n q isnt)) (kind_kept j (e ∷ []) (k n) (entry xs n) (λ i f at. one_event e f (k n) i at (apart n isnt)) (a n))
+  | inl is ↦ subst (λ x. IsTimeIn now (UpToSome now (SomeDoes now (k x))) (ys x)) (sym is) (time_equal now (UpToSome now (SomeDoes now (k m))) (λ q. max (xs m q) (own q)) (ys m) (λ q. sym (joined.joined q)) (kind_joins j e (xs m) own (a m) time))
+  | inr isnt ↦ time_equal now (UpToSome now (SomeDoes now (k n))) (xs n) (ys n) (λ q. sym (joined.same n q isnt)) (kind_kept j (e ∷ []) (k n) (xs n) (λ i f at. one_event e f (k n) i at (apart n isnt)) (a n))
 ]
   where
     e : Event
@@ -67,7 +68,7 @@ kept_joined j p k m xs ys own apart time joined a n = elim (cases_eq n m) [
 gathered_same : (j : List Event) (e : Event) (xs ys : List (List ℕ)) (gone : ℕ) → e.kind ≢ Arrive → ys ≡ xs → AreGathered j xs gone → AreGathered (j ++ e ∷ []) ys gone
 gathered_same j e xs ys gone isnt same a n le = subst (λ zs. IsTimeIn (j ++ e ∷ []) (UpToSome (j ++ e ∷ []) (SomeArrives (j ++ e ∷ []) n)) (entry zs (n - gone))) (sym same) (arrivals_kept j (e ∷ []) n (entry xs (n - gone)) (λ m f at. one_event e f Arrive m at isnt) (a n le))
 
-gathered_joined : (j : List Event) (p m : ℕ) (xs ys : List (List ℕ)) (gone : ℕ) (own : ℕ → ℕ) → m ≡ count_of is_arrive j p → IsTimeOf (j ++ record { processor = p; kind = Arrive } ∷ []) p own → (gone ≤ m → IsJoinedAt xs ys (m - gone) own) → (m < gone → ys ≡ xs) → AreGathered j xs gone → AreGathered (j ++ record { processor = p; kind = Arrive } ∷ []) ys gone
+gathered_joined : (j : List Event) (p m : ℕ) (xs ys : List (List ℕ)) (gone : ℕ) (own : ℕ → ℕ) → m ≡ count_of is_arrive j p → IsTimeOf (j ++ record { processor = p; kind = Arrive } ∷ []) p own → (gone ≤ m → IsJoinedAt (entry xs) (entry ys) (m - gone) own) → (m < gone → ys ≡ xs) → AreGathered j xs gone → AreGathered (j ++ record { processor = p; kind = Arrive } ∷ []) ys gone
 gathered_joined j p m xs ys gone own number time joined same a n le = elim (cases_eq n m) [
   | inl is ↦
       (let here = joined (omega arith) in
@@ -98,7 +99,7 @@ pub record AreNext (c d : Clocks) (p : ℕ) (k : Kind) (own : ℕ → ℕ) : Typ
   pub time : (q : ℕ) → own q ≡ max (entry c.processors.items p q) (brought_entry c p k q) + cond ((p == q) && is_closing k) 1 0
   pub mine : (q : ℕ) → entry d.processors.items p q ≡ own q
   pub others : (m q : ℕ) → m ≢ p → entry d.processors.items m q ≡ entry c.processors.items m q
-  pub keeps : Keeps c d.locks.items d.flags.items d.episodes.items p own k
+  pub keeps : Keeps c d.locks d.flags d.episodes.items p own k
   pub arrivals : (q : ℕ) → slice_index d.arrivals q ≡ slice_index c.arrivals q + cond ((p == q) && is_arrive k) 1 0
   pub departures : (q : ℕ) → slice_index d.departures q ≡ slice_index c.departures q + cond ((p == q) && is_depart k) 1 0
 
@@ -118,29 +119,29 @@ counts_next is j p q k x y next now =
 
 -- the kept timestamps after the event
 record AreKeptNext (j : List Event) (d : Clocks) : Type 0 where
-  pub locks : AreKept j (λ l. Release l) d.locks.items
-  pub flags : AreKept j (λ f. Set f) d.flags.items
+  pub locks : AreKept j (λ l. Release l) (kept_entry d.locks)
+  pub flags : AreKept j (λ f. Set f) (kept_entry d.flags)
   pub episodes : AreGathered j d.episodes.items d.gone
 
-kept_next : (j : List Event) (c d : Clocks) (p : ℕ) (k : Kind) (own : ℕ → ℕ) → slice_index c.arrivals p ≡ count_of is_arrive j p → IsTimeOf (j ++ record { processor = p; kind = k } ∷ []) p own → d.gone ≡ c.gone → AreClocks j c → Keeps c d.locks.items d.flags.items d.episodes.items p own k → AreKeptNext (j ++ record { processor = p; kind = k } ∷ []) d
+kept_next : (j : List Event) (c d : Clocks) (p : ℕ) (k : Kind) (own : ℕ → ℕ) → slice_index c.arrivals p ≡ count_of is_arrive j p → IsTimeOf (j ++ record { processor = p; kind = k } ∷ []) p own → d.gone ≡ c.gone → AreClocks j c → Keeps c d.locks d.flags d.episodes.items p own k → AreKeptNext (j ++ record { processor = p; kind = k } ∷ []) d
 kept_next j c d p (Release l) own number time gone a n = record {
-  locks = kept_joined j p (λ m. Release m) l c.locks.items d.locks.items own (λ m isnt same. isnt cc) time n.0 a.locks;
-  flags = kept_same j (record { processor = p; kind = Release l }) (λ f. Set f) c.flags.items d.flags.items (λ m same. absurd cc) n.1 a.flags;
+  locks = kept_joined j p (λ m. Release m) l (kept_entry c.locks) (kept_entry d.locks) own (λ m isnt same. isnt cc) time n.0 a.locks;
+  flags = kept_same j (record { processor = p; kind = Release l }) (λ f. Set f) (kept_entry c.flags) (kept_entry d.flags) (λ m same. absurd cc) (ap kept_entry n.1) a.flags;
   episodes = subst (λ x. AreGathered (j ++ record { processor = p; kind = Release l } ∷ []) d.episodes.items x) (sym gone) (gathered_same j (record { processor = p; kind = Release l }) c.episodes.items d.episodes.items c.gone (λ same. absurd cc) n.2 a.episodes);
 }
 kept_next j c d p (Set f) own number time gone a n = record {
-  locks = kept_same j (record { processor = p; kind = Set f }) (λ m. Release m) c.locks.items d.locks.items (λ m same. absurd cc) n.0 a.locks;
-  flags = kept_joined j p (λ m. Set m) f c.flags.items d.flags.items own (λ m isnt same. isnt cc) time n.1 a.flags;
+  locks = kept_same j (record { processor = p; kind = Set f }) (λ m. Release m) (kept_entry c.locks) (kept_entry d.locks) (λ m same. absurd cc) (ap kept_entry n.0) a.locks;
+  flags = kept_joined j p (λ m. Set m) f (kept_entry c.flags) (kept_entry d.flags) own (λ m isnt same. isnt cc) time n.1 a.flags;
   episodes = subst (λ x. AreGathered (j ++ record { processor = p; kind = Set f } ∷ []) d.episodes.items x) (sym gone) (gathered_same j (record { processor = p; kind = Set f }) c.episodes.items d.episodes.items c.gone (λ same. absurd cc) n.2 a.episodes);
 }
 kept_next j c d p Arrive own number time gone a n = record {
-  locks = kept_same j (record { processor = p; kind = Arrive }) (λ m. Release m) c.locks.items d.locks.items (λ m same. absurd cc) n.0 a.locks;
-  flags = kept_same j (record { processor = p; kind = Arrive }) (λ f. Set f) c.flags.items d.flags.items (λ m same. absurd cc) n.1 a.flags;
+  locks = kept_same j (record { processor = p; kind = Arrive }) (λ m. Release m) (kept_entry c.locks) (kept_entry d.locks) (λ m same. absurd cc) (ap kept_entry n.0) a.locks;
+  flags = kept_same j (record { processor = p; kind = Arrive }) (λ f. Set f) (kept_entry c.flags) (kept_entry d.flags) (λ m same. absurd cc) (ap kept_entry n.1) a.flags;
   episodes = subst (λ x. AreGathered (j ++ record { processor = p; kind = Arrive } ∷ []) d.episodes.items x) (sym gone) (gathered_joined j p (slice_index c.arrivals p) c.episodes.items d.episodes.items c.gone own number time n.2 n.3 a.episodes);
 }
 kept_next j c d p k own number time gone a n = record {
-  locks = kept_same j (record { processor = p; kind = k }) (λ m. Release m) c.locks.items d.locks.items (λ m same. absurd cc) n.0 a.locks;
-  flags = kept_same j (record { processor = p; kind = k }) (λ f. Set f) c.flags.items d.flags.items (λ m same. absurd cc) n.1 a.flags;
+  locks = kept_same j (record { processor = p; kind = k }) (λ m. Release m) (kept_entry c.locks) (kept_entry d.locks) (λ m same. absurd cc) (ap kept_entry n.0) a.locks;
+  flags = kept_same j (record { processor = p; kind = k }) (λ f. Set f) (kept_entry c.flags) (kept_entry d.flags) (λ m same. absurd cc) (ap kept_entry n.1) a.flags;
   episodes = subst (λ x. AreGathered (j ++ record { processor = p; kind = k } ∷ []) d.episodes.items x) (sym gone) (gathered_same j (record { processor = p; kind = k }) c.episodes.items d.episodes.items c.gone (λ same. absurd cc) n.2 a.episodes);
 }
 
@@ -176,8 +177,8 @@ clocks_plain j e c takes closes a = record {
   few = a.few;
   left = a.left;
   times = times;
-  locks = kept_same j e (λ l. Release l) c.locks.items c.locks.items (λ l same. absurd (cc (closes, ap (λ k. is_closing k) same))) refl a.locks;
-  flags = kept_same j e (λ f. Set f) c.flags.items c.flags.items (λ f same. absurd (cc (closes, ap (λ k. is_closing k) same))) refl a.flags;
+  locks = kept_same j e (λ l. Release l) (kept_entry c.locks) (kept_entry c.locks) (λ l same. absurd (cc (closes, ap (λ k. is_closing k) same))) refl a.locks;
+  flags = kept_same j e (λ f. Set f) (kept_entry c.flags) (kept_entry c.flags) (λ f same. absurd (cc (closes, ap (λ k. is_closing k) same))) refl a.flags;
   episodes = gathered_same j e c.episodes.items c.episodes.items c.gone (λ same. absurd (cc (closes, ap (λ k. is_closing k) same))) refl a.episodes;
   arrivals = λ q h. (let none = none_of is_arrive q (quiet_no_arrive e.kind closes) in let sum = count_of-append is_arrive j (e ∷ []) q in let now = a.arrivals q h in omega arith);
   departures = λ q h. (let none = none_of is_depart q (quiet_no_depart e.kind takes) in let sum = count_of-append is_depart j (e ∷ []) q in let now = a.departures q h in omega arith);
@@ -204,8 +205,8 @@ own_room j c p k q h few a =
     let y = time_small j (Brings j p k) (brought_entry c p k) q (brought_time j c p k a h) in
     omega arith
 
-pub keeps_same : (c : Clocks) (p : ℕ) (own : ℕ → ℕ) (k : Kind) (locks flags episodes locks' flags' episodes' : List (List ℕ)) → locks' ≡ locks → flags' ≡ flags → episodes' ≡ episodes → Keeps c locks flags episodes p own k → Keeps c locks' flags' episodes' p own k
-keeps_same c p own k locks flags episodes locks' flags' episodes' x y z h = subst (λ l. Keeps c l flags' episodes' p own k) (sym x) (subst (λ f. Keeps c locks f episodes' p own k) (sym y) (subst (λ e. Keeps c locks flags e p own k) (sym z) h))
+pub keeps_same : (c : Clocks) (p : ℕ) (own : ℕ → ℕ) (k : Kind) (locks flags locks' flags' : BTreeMap ℕ (List ℕ)) (episodes episodes' : List (List ℕ)) → locks' ≡ locks → flags' ≡ flags → episodes' ≡ episodes → Keeps c locks flags episodes p own k → Keeps c locks' flags' episodes' p own k
+keeps_same c p own k locks flags locks' flags' episodes episodes' x y z h = subst (λ l. Keeps c l flags' episodes' p own k) (sym x) (subst (λ f. Keeps c locks f episodes' p own k) (sym y) (subst (λ e. Keeps c locks flags e p own k) (sym z) h))
 
 -- letting go of an episode that every processor has departed from keeps them
 pub clocks_let_go : (j : List Event) (c d : Clocks) → AreClocks j c → d.processors ≡ c.processors → d.locks ≡ c.locks → d.flags ≡ c.flags → d.arrivals ≡ c.arrivals → d.departures ≡ c.departures → d.present ≡ c.present → ((p : ℕ) → p < c.present → c.gone ≤ slice_index c.departures p → d.gone ≤ slice_index c.departures p) → ((n q : ℕ) → d.gone ≤ n → (c.gone ≤ n) × (entry d.episodes.items (n - d.gone) q ≡ entry c.episodes.items (n - c.gone) q)) → AreClocks j d
@@ -213,8 +214,8 @@ clocks_let_go j c d a processors locks flags arrivals departures present left ep
   long = ap (λ v. vec_len v) processors ∙ a.long;
   few = (let few = a.few in omega arith);
   times = λ p h. subst (λ v. IsTimeOf j p (entry v.items p)) (sym processors) (a.times p h);
-  locks = λ l. subst (λ v. IsTimeIn j (UpToSome j (SomeDoes j (Release l))) (entry v.items l)) (sym locks) (a.locks l);
-  flags = λ f. subst (λ v. IsTimeIn j (UpToSome j (SomeDoes j (Set f))) (entry v.items f)) (sym flags) (a.flags f);
+  locks = λ l. subst (λ v. IsTimeIn j (UpToSome j (SomeDoes j (Release l))) (kept_entry v l)) (sym locks) (a.locks l);
+  flags = λ f. subst (λ v. IsTimeIn j (UpToSome j (SomeDoes j (Set f))) (kept_entry v f)) (sym flags) (a.flags f);
   episodes = λ n le. time_equal j (UpToSome j (SomeArrives j n)) (entry c.episodes.items (n - c.gone)) (entry d.episodes.items (n - d.gone)) (λ q. sym (episodes n q le).1) (a.episodes n (episodes n 0 le).0);
   left = λ p h. subst (λ xs. d.gone ≤ slice_index xs p) (sym departures) (left p (omega arith) (a.left p (omega arith)));
   arrivals = λ p h. ap (λ xs. slice_index xs p) arrivals ∙ a.arrivals p h;

@@ -13,7 +13,7 @@ use Rattle.journal.specs.WellFormed.{Does}
 use Rattle.journal.specs.Times.{IsTimeOf}
 use Rattle.journal.specs.Races.{Conflict, Race}
 use Rattle.journal.specs.Entries.{entry}
-use Rattle.journal.specs.Accesses.{AreAccesses, IsNoted}
+use Rattle.journal.specs.Accesses.{AreAccesses, ConflictsAreCounted, IsNoted}
 use Rattle.lists.proofs.Places.{slice_get-take, push_cases, take-suc_at}
 use Rattle.journal.proofs.Order.Places.{at_same, count_of-append, count_of-front, count_of-take-le}
 use Rattle.journal.proofs.Times.Pushes.{own_entry}
@@ -71,11 +71,31 @@ interval_front events place q i lt =
     let le : i ≤ place = omega arith in
     ap (λ (xs : List Event). count_of is_closing xs q) (take-take i place events le)
 
+-- what a load needs counted
+pub counted_load : (x : Accesses) (e : Event) (a v : ℕ) (t : ℕ → ℕ) → e.kind ≡ Load a v → ((q : ℕ) → q ≢ e.processor → entry x.stores.items a q ≤ t q) ↔ ConflictsAreCounted x e t
+counted_load x e a v t is = (
+  λ h. record {
+    stores = λ b q at apart. subst (λ m. entry x.stores.items m q ≤ t q) (same_Some a b (sym (ap (λ k. address_of k) is) ∙ at)) (h q apart);
+    loads = λ b w q at. absurd (cc (is, at));
+  },
+  λ c q apart. c.stores a q (ap (λ k. address_of k) is) apart,
+)
+
+-- what a store needs counted
+pub counted_store : (x : Accesses) (e : Event) (a v : ℕ) (t : ℕ → ℕ) → e.kind ≡ Store a v → (((q : ℕ) → q ≢ e.processor → entry x.stores.items a q ≤ t q) × ((q : ℕ) → q ≢ e.processor → entry x.loads.items a q ≤ t q)) ↔ ConflictsAreCounted x e t
+counted_store x e a v t is = (
+  λ h. record {
+    stores = λ b q at apart. subst (λ m. entry x.stores.items m q ≤ t q) (same_Some a b (sym (ap (λ k. address_of k) is) ∙ at)) (h.0 q apart);
+    loads = λ b w q at apart. subst (λ m. entry x.loads.items m q ≤ t q) (same_Some a b (ap (λ k. address_of k) (sym is ∙ at))) (h.1 q apart);
+  },
+  λ c. (λ q apart. c.stores a q (ap (λ k. address_of k) is) apart, λ q apart. c.loads a v q is apart),
+)
+
 -- an event doesn't end a race where its timestamp counts all intervals of earlier accesses by others that conflict with it
-pub no_race : (events : List Event) (place addresses : ℕ) (e : Event) (t : ℕ → ℕ) (x : Accesses) → At events place e → IsTimeOf (take place events) e.processor t → AreAccesses (take place events) addresses x → ((a q : ℕ) → address_of e.kind ≡ Some a → q ≢ e.processor → entry x.stores.items a q ≤ t q) → ((a v q : ℕ) → e.kind ≡ Store a v → q ≢ e.processor → entry x.loads.items a q ≤ t q) → (i : ℕ) → ¬ Race events i place
-no_race events place addresses e t x at time kept stores loads i r = elim (access_cases r.first.kind conflict.address conflict.first) [
+pub no_race : (events : List Event) (place addresses : ℕ) (e : Event) (t : ℕ → ℕ) (x : Accesses) → At events place e → IsTimeOf (take place events) e.processor t → AreAccesses (take place events) addresses x → ConflictsAreCounted x e t → (i : ℕ) → ¬ Race events i place
+no_race events place addresses e t x at time kept counted i r = elim (access_cases r.first.kind conflict.address conflict.first) [
   | inl load ↦ loaded load.0 load.1
-  | inr store ↦ (let below = kept.stores conflict.address r.first.processor i store.0 (does store.0 (Store conflict.address store.0) store.1) in let le = stores conflict.address r.first.processor conflict.second both.0 in absurd (omega (arith, late, front)))
+  | inr store ↦ (let below = kept.stores conflict.address r.first.processor i store.0 (does store.0 (Store conflict.address store.0) store.1) in let le = counted.stores conflict.address r.first.processor conflict.second both.0 in absurd (omega (arith, late, front)))
 ]
   where
     both : (r.first.processor ≢ e.processor) × Conflict r.first e
@@ -98,7 +118,7 @@ no_race events place addresses e t x at time kept stores loads i r = elim (acces
       | inl first ↦ absurd (cc (first, ap (λ k. is_store k) is))
       | inr second ↦ elim (access_cases e.kind conflict.address conflict.second) [
         | inl load ↦ absurd (cc (second, ap (λ k. is_store k) load.1))
-        | inr store ↦ (let below = kept.loads conflict.address r.first.processor i v (does v (Load conflict.address v) is) in let le = loads conflict.address store.0 r.first.processor store.1 both.0 in absurd (omega (arith, late, front)))
+        | inr store ↦ (let below = kept.loads conflict.address r.first.processor i v (does v (Load conflict.address v) is) in let le = counted.loads conflict.address store.0 r.first.processor store.1 both.0 in absurd (omega (arith, late, front)))
       ]
     ]
 

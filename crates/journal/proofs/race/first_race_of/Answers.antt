@@ -29,12 +29,6 @@ of-requires c =
 pub race_at-requires-clause-at : goal.race_at-requires-clause-at
 race_at-requires-clause-at c = slice_get-get_or c.args.events.now c.loop-place.place (record { processor = 0; kind = Load 0 0 }) (omega arith)
 
-pub race_at-requires-clause-processor : goal.race_at-requires-clause-processor
-race_at-requires-clause-processor c =
-    let at = slice_get-get_or c.args.events.now c.loop-place.place (record { processor = 0; kind = Load 0 0 }) (omega arith) in
-    let present = c.requires.processors c.loop-place.place (here c.args.events.now c.loop-place.place) at in
-    omega (arith, c.requires.few_processors)
-
 pub race_at-requires-clause-stores : goal.race_at-requires-clause-stores
 race_at-requires-clause-stores c =
     let at = slice_get-get_or c.args.events.now c.loop-place.place (record { processor = 0; kind = Load 0 0 }) (omega arith) in
@@ -68,18 +62,6 @@ note-requires-clause-processor c =
 
 pub note-requires-clause-interval : goal.note-requires-clause-interval
 note-requires-clause-interval c =
-    let e = here c.args.events.now c.loop-place.place in
-    let at = slice_get-get_or c.args.events.now c.loop-place.place (record { processor = 0; kind = Load 0 0 }) (omega arith) in
-    let present = c.requires.processors c.loop-place.place e at in
-    let lt : e.processor < 16 = omega (arith, c.requires.few_processors) in
-    let small = time_small (take c.loop-place.place c.args.events.now) (InPast (take c.loop-place.place c.args.events.now) e.processor) (entry c.loop-place.clocks.processors.items e.processor) e.processor (c.loop-place.invariant.0.times e.processor lt) in
-    let long = length-take-le c.loop-place.place c.args.events.now (omega arith) in
-    let is = c.of.ensures e.processor in
-    let few = c.requires.few in
-    omega arith
-
-pub race_at-requires-clause-room : goal.race_at-requires-clause-room
-race_at-requires-clause-room c =
     let e = here c.args.events.now c.loop-place.place in
     let at = slice_get-get_or c.args.events.now c.loop-place.place (record { processor = 0; kind = Load 0 0 }) (omega arith) in
     let present = c.requires.processors c.loop-place.place e at in

@@ -1,40 +1,129 @@
-use Rattle.std.proofs.Common.{◌≡◌, ◌↔◌, Some, Err, IfOk, slice_index_or, ap, ◌∙◌, sym, subst, arith}
-use Rattle.std.proofs.lemmas.Option.{same_Some}
+use Rattle.std.proofs.Common.{◌≡◌, ◌<◌, ℕ, List, [], length, inl, inr, Some, refl, slice_get, slice_set, slice_index_or, ap, ◌∙◌, sym, subst, arith, true≢false}
+use Rattle.std.proofs.lemmas.List.{length-set}
+use Rattle.journal.specs.Did.{event}
+use Rattle.journal.specs.Log.{Log}
+use Rattle.vtime.specs.Times.{join}
 use Rattle.transit.specs.Letters.{letter}
-use Rattle.book.specs.declared.refused.Refused.TheVariants.{NotYet}
+use Rattle.book.specs.declared.refused.Refused.TheVariants.{NotYet, NoMemory}
+use Rattle.book.specs.Brought.{message_for}
+use Rattle.book.specs.Calls.{MaySignal}
+use Rattle.book.specs.Holding.{state_of}
 use Rattle.book.specs.State.{State}
-use Rattle.book.specs.Calls.{MayTake, IsAbsent, Takes}
-use Rattle.book.proofs.Calling.Takes.{IsReceiving, receiving, read_is, waits_posted}
+use Rattle.book.specs.Transitions.{trimmed_by, book_took}
+use Rattle.book.proofs.Calling.Calls.{own_read}
+use Rattle.book.proofs.Calling.Takes.{reading, all_long_set, log_is, taking_address, took_is, comes, received_is, brings_is}
 use Rattle.book.proofs.book.Book.take.Goals as goal
 
-pub index-requires : goal.index-requires
-index-requires c = omega (arith, (subst (λ b. IsReceiving b c.args.p c.requires.call.0) (sym c.self.view_is) (receiving c.args.self.now c.args.p c.requires.call.0 c.requires.call.1)).awaits, c.self.inside.awaits.ok.0)
+pub has_come-requires-clause-flag : goal.has_come-requires-clause-flag
+has_come-requires-clause-flag c =
+    let w = reading _ c.args.self.now c.args.p c.index.result.now c.self.view_is c.requires.call c.index.ensures c.in-Some.kind c.in-Some.is in
+    λ f is. subst (λ fs. f < length fs) (sym c.deref.ensures.value) (w.flag f is).within
 
-pub unreachable-requires : goal.unreachable-requires
-unreachable-requires c =
-    let is = c.index.ensures ∙ ap (λ (b : State). slice_index_or b.awaits c.args.p c.index.result.now) c.self.view_is in
-    let read = read_is c.args.self.now c.args.p c.requires.call.0 c.index.result.now c.requires.call.1 is in
-    c.in_default.not-Some c.requires.call.0 read
+pub returns-then-not-has_come-clause-absent : goal.returns-then-not-has_come-clause-absent
+returns-then-not-has_come-clause-absent c =
+    λ s h told. (λ e ready. absurd (true≢false (sym ((comes _ c.args.self.now c.args.p c.in-Some.kind c.deref.result.now c.has_come.result c.self.view_is (reading _ c.args.self.now c.args.p c.index.result.now c.self.view_is c.requires.call c.index.ensures c.in-Some.kind c.in-Some.is) c.deref.ensures.value c.has_come.ensures s h told).1 ready) ∙ c.if-not-has_come.true)), λ isnt. refl)
 
-pub take_message-requires : goal.take_message-requires
-take_message-requires c =
-    let is = c.index.ensures ∙ ap (λ (b : State). slice_index_or b.awaits c.args.p c.index.result.now) c.self.view_is in
-    let same = same_Some c.requires.call.0 c.in-Some.kind (sym (read_is c.args.self.now c.args.p c.requires.call.0 c.index.result.now c.requires.call.1 is) ∙ c.in-Some.is) in
-    let may = subst (λ k. MayTake c.args.self.now c.args.p k) same c.requires.call.1 in
-    record { call = may; posted = waits_posted c.args.self.now c.args.p c.in-Some.kind may c.in_default-kind.not-Await }
+pub returns-in_err-make_room-clause-absent : goal.returns-in_err-make_room-clause-absent
+returns-in_err-make_room-clause-absent c =
+    λ s h told. (
+      λ e ready. (let x : NotYet ≡ c.in_err-make_room.field-0.0 = rw e at c.from_residual.ensures.1 in elim c.in_err-make_room.ensures.only [ inl full ↦ absurd (cc (full)) | inr none ↦ absurd (cc (none)) ]),
+      λ isnt. absurd (isnt ((comes _ c.args.self.now c.args.p c.in-Some.kind c.deref.result.now c.has_come.result c.self.view_is (reading _ c.args.self.now c.args.p c.index.result.now c.self.view_is c.requires.call c.index.ensures c.in-Some.kind c.in-Some.is) c.deref.ensures.value c.has_come.ensures s h told).0 c.if-not-has_come.false)),
+    )
 
-pub returns-in-Await-clause-ok : goal.returns-in-Await-clause-ok
-returns-in-Await-clause-ok c = λ k waits.
-    let is = c.index.ensures ∙ ap (λ (b : State). slice_index_or b.awaits c.args.p c.index.result.now) c.self.view_is in
-    let same = same_Some c.requires.call.0 c.in-Some.kind (sym (read_is c.args.self.now c.args.p c.requires.call.0 c.index.result.now c.requires.call.1 is) ∙ c.in-Some.is) in
-    let first = same_Some k c.requires.call.0 (same_Some (Some k) (Some c.requires.call.0) (sym waits ∙ c.requires.call.1.3)) in
-    let whole = sym (first ∙ same ∙ c.in-Await.is) in
-    subst (λ a. IfOk c.take_signal.result (λ m. Takes c.args.self.now c.args.p a (letter m) c.take_signal.new.self)) whole c.take_signal.ensures.ok
+pub index-requires-2 : goal.index-requires-2
+index-requires-2 c =
+    let w = reading _ c.args.self.now c.args.p c.index.result.now c.self.view_is c.requires.call c.index.ensures c.in-Some.kind c.in-Some.is in
+    omega (arith, w.times, c.self.inside.times.ok.0)
 
-pub returns-in-Await-clause-absent : goal.returns-in-Await-clause-absent
-returns-in-Await-clause-absent c = λ k waits.
-    let is = c.index.ensures ∙ ap (λ (b : State). slice_index_or b.awaits c.args.p c.index.result.now) c.self.view_is in
-    let same = same_Some c.requires.call.0 c.in-Some.kind (sym (read_is c.args.self.now c.args.p c.requires.call.0 c.index.result.now c.requires.call.1 is) ∙ c.in-Some.is) in
-    let first = same_Some k c.requires.call.0 (same_Some (Some k) (Some c.requires.call.0) (sym waits ∙ c.requires.call.1.3)) in
-    let whole = sym (first ∙ same ∙ c.in-Await.is) in
-    subst (λ a. (c.take_signal.result ≡ Err NotYet) ↔ IsAbsent c.args.self.now c.args.p a) whole c.take_signal.ensures.absent
+pub receive-requires-clause-processor : goal.receive-requires-clause-processor
+receive-requires-clause-processor c =
+    let w = reading _ c.args.self.now c.args.p c.index.result.now c.self.view_is c.requires.call c.index.ensures c.in-Some.kind c.in-Some.is in
+    w.transit
+
+pub receive-requires-clause-flag : goal.receive-requires-clause-flag
+receive-requires-clause-flag c =
+    let w = reading _ c.args.self.now c.args.p c.index.result.now c.self.view_is c.requires.call c.index.ensures c.in-Some.kind c.in-Some.is in
+    λ f is. subst (λ fs. MaySignal c.self.inside.closed fs c.index-2.result.now f) (sym c.deref-2.ensures.value) (subst (λ t. MaySignal c.self.inside.closed c.self.inside.flags.items t f) (sym (own_read c.self.inside.times.items c.args.p c.index-2.result.now w.times c.index-2.ensures)) (w.flag f is))
+
+pub receive-requires-clause-none : goal.receive-requires-clause-none
+receive-requires-clause-none c =
+    let w = reading _ c.args.self.now c.args.p c.index.result.now c.self.view_is c.requires.call c.index.ensures c.in-Some.kind c.in-Some.is in
+    w.none
+
+pub returns-in_err-message-clause-absent : goal.returns-in_err-message-clause-absent
+returns-in_err-message-clause-absent c =
+    λ s h told. (
+      λ e ready. (let x : NotYet ≡ NoMemory = rw e at c.from_residual-in_err-message.ensures.1 in absurd (cc (x))),
+      λ isnt. absurd (isnt ((comes _ c.args.self.now c.args.p c.in-Some.kind c.deref.result.now c.has_come.result c.self.view_is (reading _ c.args.self.now c.args.p c.index.result.now c.self.view_is c.requires.call c.index.ensures c.in-Some.kind c.in-Some.is) c.deref.ensures.value c.has_come.ensures s h told).0 c.if-not-has_come.false)),
+    )
+
+pub append-requires-clause-processor : goal.append-requires-clause-processor
+append-requires-clause-processor c =
+    let w = reading _ c.args.self.now c.args.p c.index.result.now c.self.view_is c.requires.call c.index.ensures c.in-Some.kind c.in-Some.is in
+    let lt = w.journal in
+    let e = ap (λ (l : Log). l.processors) c.in_ok-make_room.ensures.same in
+    omega arith
+
+pub append-requires-clause-address : goal.append-requires-clause-address
+append-requires-clause-address c =
+    let w = reading _ c.args.self.now c.args.p c.index.result.now c.self.view_is c.requires.call c.index.ensures c.in-Some.kind c.in-Some.is in
+    taking_address c.make_room.new.journal.addresses c.in-Some.kind w.takes
+
+pub index_mut-requires : goal.index_mut-requires
+index_mut-requires c =
+    let w = reading _ c.args.self.now c.args.p c.index.result.now c.self.view_is c.requires.call c.index.ensures c.in-Some.kind c.in-Some.is in
+    omega (arith, w.times, c.self.inside.times.ok.0)
+
+pub join-requires : goal.join-requires
+join-requires c =
+    let w = reading _ c.args.self.now c.args.p c.index.result.now c.self.view_is c.requires.call c.index.ensures c.in-Some.kind c.in-Some.is in
+    let mail = ap (λ (t : List ℕ). length t) c.time.ensures ∙ w.long (letter c.in_ok-message.message) (received_is (state_of c.self.inside) (state_of c.self.inside) c.args.p c.in-Some.kind c.deref-2.result.now c.index-2.result.now (letter c.in_ok-message.message) refl c.deref-2.ensures.value (own_read c.self.inside.times.items c.args.p c.index-2.result.now w.times c.index-2.ensures) c.in_ok-message.ensures.ok) in
+    let own = ap length (own_read c.self.inside.times.items c.args.p c.index_mut.result.now w.times c.index_mut.ensures.value) ∙ w.own_long in
+    mail ∙ sym own
+
+pub index_mut-requires-2 : goal.index_mut-requires-2
+index_mut-requires-2 c =
+    let w = reading _ c.args.self.now c.args.p c.index.result.now c.self.view_is c.requires.call c.index.ensures c.in-Some.kind c.in-Some.is in
+    omega (arith, w.awaits, c.self.inside.awaits.ok.0)
+
+pub leave-requires : goal.leave-requires
+leave-requires c =
+    let w = reading _ c.args.self.now c.args.p c.index.result.now c.self.view_is c.requires.call c.index.ensures c.in-Some.kind c.in-Some.is in
+    w.free (letter c.in_ok-message.message) (received_is (state_of c.self.inside) (state_of c.self.inside) c.args.p c.in-Some.kind c.deref-2.result.now c.index-2.result.now (letter c.in_ok-message.message) refl c.deref-2.ensures.value (own_read c.self.inside.times.items c.args.p c.index-2.result.now w.times c.index-2.ensures) c.in_ok-message.ensures.ok)
+
+pub trim-requires-clause-long : goal.trim-requires-clause-long
+trim-requires-clause-long c =
+    let w = reading _ c.args.self.now c.args.p c.index.result.now c.self.view_is c.requires.call c.index.ensures c.in-Some.kind c.in-Some.is in
+    let d : c.deref-3.result.now ≡ slice_set c.self.inside.times.items c.args.p c.join.new.self = c.deref-3.ensures.value in
+    let own = ap length (own_read c.self.inside.times.items c.args.p c.index_mut.result.now w.times c.index_mut.ensures.value) ∙ w.own_long in
+    let joined = c.join.ensures.same_length ∙ own in
+    let long = length-set c.self.inside.times.items c.args.p c.join.new.self in
+    subst (λ ts. (i : ℕ) (t : List ℕ) → slice_get ts i ≡ Some t → length t ≡ length ts) (sym d) (subst (λ n. (i : ℕ) (t : List ℕ) → slice_get (slice_set c.self.inside.times.items c.args.p c.join.new.self) i ≡ Some t → length t ≡ n) (sym long) (all_long_set c.self.inside.times.items c.args.p c.join.new.self (length c.self.inside.times.items) joined w.all_long))
+
+pub returns-clause-ok : goal.returns-clause-ok
+returns-clause-ok c =
+    let w = reading _ c.args.self.now c.args.p c.index.result.now c.self.view_is c.requires.call c.index.ensures c.in-Some.kind c.in-Some.is in
+    let m = letter c.in_ok-message.message in
+    let again = own_read c.self.inside.times.items c.args.p c.index_mut.result.now w.times c.index_mut.ensures.value in
+    let log = log_is c.self.inside.journal c.make_room.new.journal c.append.new.self c.self.inside.owing (event c.args.p c.in-Some.kind) c.in_ok-make_room.ensures.same c.append.ensures in
+    let time = c.join.ensures.value ∙ ap (λ (t : List ℕ). join t c.time.result.now) again ∙ ap (λ (t : List ℕ). join (slice_index_or c.self.inside.times.items c.args.p []) t) c.time.ensures in
+    let closed = c.trim.ensures ∙ ap (λ (ts : List (List ℕ)). trimmed_by c.self.inside.closed ts (length ts)) c.deref-3.ensures.value in
+    let whole = took_is (state_of c.self.inside) c.args.p c.in-Some.kind m c.join.new.self (record c.append.new.self { room = c.self.inside.owing }) c.trim.new.closed c.receive.new.mail c.leave.new.barrier log time closed c.in_ok-message.ensures.after c.leave.ensures w.takes in
+    record {
+      kind = c.in-Some.kind;
+      awaits = ap (λ (b : State). slice_get b.awaits c.args.p) (sym c.self.view_is) ∙ w.waits;
+      message = ap (λ (b : State). message_for b c.args.p c.in-Some.kind) (sym c.self.view_is) ∙ received_is (state_of c.self.inside) (state_of c.self.inside) c.args.p c.in-Some.kind c.deref-2.result.now c.index-2.result.now (letter c.in_ok-message.message) refl c.deref-2.ensures.value (own_read c.self.inside.times.items c.args.p c.index-2.result.now w.times c.index-2.ensures) c.in_ok-message.ensures.ok;
+      after = whole ∙ ap (λ (b : State). book_took b c.args.p c.in-Some.kind m) c.self.view_is;
+    }
+
+pub returns-clause-brings : goal.returns-clause-brings
+returns-clause-brings c =
+    let w = reading _ c.args.self.now c.args.p c.index.result.now c.self.view_is c.requires.call c.index.ensures c.in-Some.kind c.in-Some.is in
+    brings_is c.args.self.now c.args.p c.in-Some.kind (letter c.in_ok-message.message) (ap (λ (b : State). slice_get b.awaits c.args.p) (sym c.self.view_is) ∙ w.waits) (ap (λ (b : State). message_for b c.args.p c.in-Some.kind) (sym c.self.view_is) ∙ received_is (state_of c.self.inside) (state_of c.self.inside) c.args.p c.in-Some.kind c.deref-2.result.now c.index-2.result.now (letter c.in_ok-message.message) refl c.deref-2.ensures.value (own_read c.self.inside.times.items c.args.p c.index-2.result.now w.times c.index-2.ensures) c.in_ok-message.ensures.ok)
+
+pub returns-clause-absent : goal.returns-clause-absent
+returns-clause-absent c =
+    λ s h told. (
+      λ e ready. absurd (cc (e)),
+      λ isnt. absurd (isnt ((comes _ c.args.self.now c.args.p c.in-Some.kind c.deref.result.now c.has_come.result c.self.view_is (reading _ c.args.self.now c.args.p c.index.result.now c.self.view_is c.requires.call c.index.ensures c.in-Some.kind c.in-Some.is) c.deref.ensures.value c.has_come.ensures s h told).0 c.if-not-has_come.false)),
+    )

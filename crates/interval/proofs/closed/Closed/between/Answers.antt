@@ -1,5 +1,5 @@
-use Rattle.interval.proofs.Between.{all_sent}
-use Rattle.interval.proofs.Sending.{between_in_order}
+use Rattle.interval.proofs.News.UnderWay.{all_sent}
+use Rattle.interval.proofs.News.InClosingOrder.{between_in_order}
 use Rattle.interval.proofs.closed.Closed.between.Goals as goal
 
 pub returns-clause-in_order : goal.returns-clause-in_order

@@ -1,6 +1,6 @@
 use Rattle.std.proofs.Common.{filter, length}
 use Rattle.interval.specs.Closings.{is_news}
-use Rattle.interval.proofs.Between.{IsUnderWay}
+use Rattle.interval.proofs.News.UnderWay.{IsUnderWay}
 use Rattle.interval.proofs.closed.Closed.between.Given as goal
 
 abbrev pub invariant-loop-kept : goal.invariant-loop-kept

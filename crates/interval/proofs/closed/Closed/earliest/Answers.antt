@@ -1,6 +1,6 @@
 use Rattle.std.proofs.Common.{sym, ◌∙◌, arith}
 use Rattle.std.specs.Option.{option_copied}
-use Rattle.interval.proofs.Earliest.{earliest-step, earliest-found}
+use Rattle.interval.proofs.News.Earliest.{earliest-step, earliest-found}
 use Rattle.interval.proofs.closed.Closed.earliest.Goals as goal
 
 pub loop-owner-init : goal.loop-owner-init

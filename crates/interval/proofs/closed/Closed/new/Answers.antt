@@ -1,6 +1,6 @@
 use Rattle.std.proofs.Common.{◌≡◌, ap, ◌∙◌, arith, replicate, refl, ℕ}
 use Rattle.interval.specs.Queues.{by_place}
-use Rattle.interval.proofs.Empty.{one_more_empty, are_none}
+use Rattle.interval.proofs.Queues.Empty.{one_more_empty, are_none}
 use Rattle.interval.proofs.closed.Closed.new.Goals as goal
 
 pub loop-init : goal.loop-init

@@ -1,4 +1,4 @@
-use Rattle.interval.proofs.Empty.{AreEmpty}
+use Rattle.interval.proofs.Queues.Empty.{AreEmpty}
 use Rattle.interval.proofs.closed.Closed.new.Given as goal
 
 abbrev pub invariant-loop : goal.invariant-loop

@@ -1,6 +1,6 @@
 use Rattle.std.proofs.Common.{arith}
 use Rattle.std.proofs.lemmas.Option.{get_or_from_slice_get}
-use Rattle.interval.proofs.Between.{owner_within, entry_below}
+use Rattle.interval.proofs.News.UnderWay.{owner_within, entry_below}
 use Rattle.interval.proofs.closed.Closed.next_news.Goals as goal
 
 pub entry-requires : goal.entry-requires

@@ -1,8 +1,8 @@
 use Rattle.std.proofs.Common.{ap, ◌∙◌}
 use Rattle.interval.specs.Intervals.{ClosedInterval}
 use Rattle.interval.specs.Closings.{Closings, between}
-use Rattle.interval.proofs.News.{between-pushed}
-use Rattle.interval.proofs.Pushed.{Comes, comes_next, are_pushed, closings_pushed}
+use Rattle.interval.proofs.News.Unchanged.{between-pushed}
+use Rattle.interval.proofs.Queues.Pushed.{Comes, comes_next, are_pushed, closings_pushed}
 use Rattle.interval.proofs.closed.Closed.push.Goals as goal
 
 comes : (c : goal.After-self-2-1) → Comes c.self.inside.queues.items c.self.inside.pushed c.interval.inside.owner c.index_mut.result.now (record { place = c.self.inside.pushed; interval = c.args.interval })

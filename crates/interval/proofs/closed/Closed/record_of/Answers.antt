@@ -1,7 +1,7 @@
 use Rattle.std.proofs.Common.{◌<◌, ◌≤◌, Some, None, List, length, ap, sym, ◌∙◌, arith}
 use Rattle.std.specs.Option.{option_copied}
 use Rattle.interval.specs.Queues.{Queue}
-use Rattle.interval.proofs.Looked.{none_of, none_below, noticed_at, queue_read, record_found}
+use Rattle.interval.proofs.Queues.Found.{none_of, none_below, noticed_at, queue_read, record_found}
 use Rattle.interval.proofs.closed.Closed.record_of.Goals as goal
 
 pub returns-in_err-queue : goal.returns-in_err-queue

@@ -3,7 +3,7 @@ use Rattle.std.specs.Arc.{arc_value}
 use Rattle.std.proofs.lemmas.Bool.{cond-true, cond-false, eq-eqb, ne_eqb}
 use Rattle.std.proofs.lemmas.List.{drop_all}
 use Rattle.page.specs.Changes.{Changes}
-use Rattle.interval.proofs.Steps.{find_more}
+use Rattle.interval.proofs.Records.Steps.{find_more}
 use Rattle.interval.proofs.kept.Interval.record.Goals as goal
 
 pub loop-record-init : goal.loop-record-init

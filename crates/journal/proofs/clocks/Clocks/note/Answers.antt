@@ -91,7 +91,7 @@ returns-clause-clocks c =
       time = c.own_after-own.ensures;
       mine = λ q. ap (λ xs. entry xs e.processor q) write ∙ entry-set_same c.keep.new.self.processors.items e.processor own q inside;
       others = λ m q isnt. ap (λ xs. entry xs m q) write ∙ entry-set_other c.keep.new.self.processors.items e.processor m own q isnt ∙ ap (λ xs. entry xs m q) same;
-      keeps = keeps_same c.args.self.now e.processor (slice_index own) e.kind c.keep.new.self.locks.items c.keep.new.self.flags.items c.keep.new.self.episodes.items c.count.new.self.locks.items c.count.new.self.flags.items c.count.new.self.episodes.items (ap (λ v. v.items) c.count.ensures.locks) (ap (λ v. v.items) c.count.ensures.flags) (ap (λ v. v.items) c.count.ensures.episodes) c.in_ok-keep.ensures.keeps;
+      keeps = keeps_same c.args.self.now e.processor (slice_index own) e.kind c.keep.new.self.locks c.keep.new.self.flags c.count.new.self.locks c.count.new.self.flags c.keep.new.self.episodes.items c.count.new.self.episodes.items c.count.ensures.locks c.count.ensures.flags (ap (λ v. v.items) c.count.ensures.episodes) c.in_ok-keep.ensures.keeps;
       arrivals = λ q. c.count.ensures.arrivals q ∙ ap (λ xs. slice_index xs q + cond ((e.processor == q) && is_arrive e.kind) 1 0) old.arrivals;
       departures = λ q. c.count.ensures.departures q ∙ ap (λ xs. slice_index xs q + cond ((e.processor == q) && is_depart e.kind) 1 0) old.departures;
     } in

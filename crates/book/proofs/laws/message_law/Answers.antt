@@ -1,0 +1,5 @@
+use Rattle.book.proofs.Keeps.Whole.{message_law}
+use Rattle.book.proofs.laws.message_law.Goals as goal
+
+pub returns : goal.returns
+returns c = message_law

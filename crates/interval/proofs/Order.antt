@@ -1,0 +1,3 @@
+-- Intervals in the order in which they were closed.
+pub mod ByPlace
+pub mod Least

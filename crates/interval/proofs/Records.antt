@@ -1,0 +1,2 @@
+-- Steps of loops over the records of one interval.
+pub mod Steps

@@ -1,0 +1,49 @@
+use Rattle.std.proofs.Common.{◌≡◌, ◌<◌, ◌+◌, ◌==◌, ℕ, List, length, slice_index, count_by, ap, sym, subst, arith, ◌∙◌}
+use Rattle.std.specs.List.{flat_map}
+use Rattle.std.proofs.lemmas.List.{take_all, get_or-replicate}
+use Rattle.interval.specs.Counts.{AreCounted, HasRoom}
+use Rattle.interval.specs.Queues.{Queue}
+use Rattle.interval.proofs.Counts.Counted.{counted_more, room_more}
+use Rattle.interval.proofs.Counts.Walked.{news_pages, news_read, news_total, news_room}
+use Rattle.interval.proofs.closed.Closed.count_pages.Goals as goal
+
+pub count_pages-requires-clause-room : goal.count_pages-requires-clause-room
+count_pages-requires-clause-room c =
+    let old = c.args.old.now in
+    let new = c.args.new.now in
+    let queues = c.self.inside.queues.items in
+    let items = c.deref-queue-items.result.now in
+    let zeros : (i : ℕ) → i < length c.fill.new.self → slice_index c.fill.new.self i ≡ 0 = λ i inside.
+    let long = c.fill.ensures.len in
+    ap (λ (ns : List ℕ). slice_index ns i) (c.fill.ensures.after (λ y e. e)) ∙ get_or-replicate (length c.args.counts.now) i 0 0 (omega arith) in
+    let all = news_room queues items c.self.inside.pushed c.args.self.now c.args.base old new c.fill.new.self c.deref-queue-items.ensures.value c.self.view_is c.self.invariant (omega arith) zeros in
+    let room = room_more c.args.base (news_pages old new) items c.loop-owner.owner c.queue-item.result c.fill.new.self c.loop-owner.counts c.loop-owner-test.true c.queue-item.is all c.loop-owner.invariant in
+    let read = news_read queues items c.self.inside.pushed old new c.loop-owner.owner c.entry.result c.entry-in-loop-owner.result c.queue-item.result
+    c.deref-queue-items.ensures.value c.self.invariant c.loop-owner-test.true c.queue-item.is c.entry.ensures c.entry-in-loop-owner.ensures in
+    let Room : List ℕ → Type 0 = λ ps. HasRoom c.args.base ps c.loop-owner.counts in
+    subst Room read room
+
+pub loop-owner-preserved : goal.loop-owner-preserved
+loop-owner-preserved c =
+    let old = c.args.old.now in
+    let new = c.args.new.now in
+    let items = c.deref-queue-items.result.now in
+    let read = news_read c.self.inside.queues.items items c.self.inside.pushed old new c.loop-owner.owner c.entry.result c.entry-in-loop-owner.result c.queue-item.result
+    c.deref-queue-items.ensures.value c.self.invariant c.loop-owner-test.true c.queue-item.is c.entry.ensures c.entry-in-loop-owner.ensures in
+    let Counted : List ℕ → Type 0 = λ ps. AreCounted c.args.base ps c.loop-owner.counts c.count_pages.new.counts in
+    counted_more c.args.base (news_pages old new) items c.loop-owner.owner c.queue-item.result c.fill.new.self c.loop-owner.counts c.count_pages.new.counts
+    c.loop-owner-test.true c.queue-item.is c.loop-owner.invariant (subst Counted (sym read) c.count_pages.ensures)
+
+pub returns-clause-each : goal.returns-clause-each
+returns-clause-each c i inside =
+    let old = c.args.old.now in
+    let new = c.args.new.now in
+    let items = c.deref-queue-items.result.now in
+    let n = c.args.base + i in
+    let long = c.loop-owner.invariant.long in
+    let filled = c.fill.ensures.len in
+    let none : slice_index c.fill.new.self i ≡ 0 = ap (λ (ns : List ℕ). slice_index ns i) (c.fill.ensures.after (λ y e. e)) ∙ get_or-replicate (length c.args.counts.now) i 0 0 (omega arith) in
+    let now = c.loop-owner.invariant.each i (omega arith) in
+    let all = ap (λ (qs : List Queue). count_by (λ (p : ℕ). p == n) (flat_map (news_pages old new) qs)) (take_all c.loop-owner.owner items (omega arith)) in
+    let total = news_total c.self.inside.queues.items items c.self.inside.pushed c.args.self.now old new n c.deref-queue-items.ensures.value c.self.view_is c.self.invariant in
+    omega arith
