@@ -111,7 +111,7 @@ module _ (m : Local) (sound : IsSound m) (n : ℕ) (c : Copied) (at : slice_get 
 
   module _ (k : Counts) (counts : AreCounts c.missing k) (free : fetch_refusal m n ≡ None) where
     abbrev e : Event
-    e = event m.number (Fetch n k.writers k.records k.words)
+    e = event m.number (Fetch k.writers n k.records k.words)
 
     may : MayFetch m n
     may = may_fetch m n free
@@ -124,7 +124,7 @@ module _ (m : Local) (sound : IsSound m) (n : ℕ) (c : Copied) (at : slice_get 
 
     counted_now : BlockCounts m.sizes m.seen (m.block ++ e ∷ []) m.number
     counted_now =
-        let P : ℕ → ℕ → Type 0 = λ r d. BlockCounts m.sizes m.seen (m.block ++ event m.number (Fetch n k.writers r d) ∷ []) m.number in
+        let P : ℕ → ℕ → Type 0 = λ r d. BlockCounts m.sizes m.seen (m.block ++ event m.number (Fetch k.writers n r d) ∷ []) m.number in
         subst₂ P (length-map c.missing missing_of ∙ sym counts.records) (sums_same ∙ sym counts.words)
         (stale_counted m.sizes m.seen m.block m.number n k.writers c.page.words (map missing_of c.missing) (sound.copies.each n c at).order
         (count_of_same (IsOwner c.missing) (λ q. (x : Missing) × Has (map missing_of c.missing) x × (x.owner ≡ q)) k.writers owners_same counts.writers) stale sound.counts)
@@ -167,7 +167,7 @@ module _ (m : Local) (sound : IsSound m) (n : ℕ) (c : Copied) (at : slice_get 
       mine = sound.mine;
       few = sound.few;
       well_formed = sound.well_formed;
-      inner = inner_pushed m (Fetch n k.writers k.records k.words) refl refl may.within sound.inner;
+      inner = inner_pushed m (Fetch k.writers n k.records k.words) refl refl may.within sound.inner;
       short = let grows = length_push m.block e in let room = may.room in omega arith;
       time = sound.time;
       bases = bases;
@@ -201,5 +201,5 @@ stale_read was m n x same free read sound =
     (at, stale_copy m n x free at)
 
 -- the parts of a processor after a fetch
-pub fetch_done : (was m : Local) (n : ℕ) (x y : Copied) (k : Counts) (block : List Event) → was ≡ m → y ≡ fetched x → block ≡ was.block ++ event was.number (Fetch n k.writers k.records k.words) ∷ [] → record was { block = block; copies = slice_set was.copies n y } ≡ fetched_at m n x k
-fetch_done was m n x y k block same y_is block_is = rw (y_is, block_is) (ap (λ (l : Local). record l { block = l.block ++ event l.number (Fetch n k.writers k.records k.words) ∷ []; copies = slice_set l.copies n (fetched x) }) same)
+pub fetch_done : (was m : Local) (n : ℕ) (x y : Copied) (k : Counts) (block : List Event) → was ≡ m → y ≡ fetched x → block ≡ was.block ++ event was.number (Fetch k.writers n k.records k.words) ∷ [] → record was { block = block; copies = slice_set was.copies n y } ≡ fetched_at m n x k
+fetch_done was m n x y k block same y_is block_is = rw (y_is, block_is) (ap (λ (l : Local). record l { block = l.block ++ event l.number (Fetch k.writers n k.records k.words) ∷ []; copies = slice_set l.copies n (fetched x) }) same)

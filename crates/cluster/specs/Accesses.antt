@@ -30,7 +30,7 @@ pub record IsStored (old : Local) (a v : ℕ) (new : Local) : Type 0 where
 
 -- the processor after a fetch of page n with these counts, where c is its copy of the page
 abbrev pub fetched_at : Local → ℕ → Copied → Counts → Local
-fetched_at m n c k = record (noted m (Fetch n k.writers k.records k.words)) { copies = slice_set m.copies n (fetched c) }
+fetched_at m n c k = record (noted m (Fetch k.writers n k.records k.words)) { copies = slice_set m.copies n (fetched c) }
 
 -- and it had one, whose missing records are so many
 pub record IsFetched (old : Local) (n : ℕ) (new : Local) : Type 0 where

@@ -6,7 +6,7 @@ use Rattle.journal.specs.Sizes.{Sizes}
 use Rattle.journal.specs.Events.{part}
 use Rattle.journal.specs.Did.{event}
 use Rattle.turn.specs.Chairs.{LockId, lock, view, entries}
-use Rattle.turn.specs.declared.chair.Seating.{Seating}
+use Rattle.turn.specs.declared.chair.ChairToken.{ChairToken}
 use Rattle.book.specs.State.{State}
 use Rattle.cluster.specs.declared.keeper.View.{View}
 use Rattle.cluster.specs.Copies.{Copied}
@@ -36,7 +36,7 @@ abbrev pub noted : Local → Kind → Local
 noted m k = record m { block = m.block ++ event m.number k ∷ [] }
 
 -- the processor with these parts
-abbrev pub local : Seating State View → ℕ → Sizes → List Event → List Copied → List Bool → List ℕ → List Bool → Option Kind → Local
+abbrev pub local : ChairToken State View → ℕ → Sizes → List Event → List Copied → List Bool → List ℕ → List Bool → Option Kind → Local
 local chair p s block copies stored time held awaits = record {
   lock = lock chair;
   entries = entries chair;

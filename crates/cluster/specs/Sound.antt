@@ -12,7 +12,7 @@ use Rattle.page.specs.Contents.{IsClean}
 use Rattle.book.specs.Stamps.{AreAll, IsStamp, IsAwaited}
 use Rattle.book.specs.Laws.{IsInner}
 use Rattle.turn.specs.Chairs.{place, IsOutside}
-use Rattle.turn.specs.declared.chair.Seating.{Seating}
+use Rattle.turn.specs.declared.chair.ChairToken.{ChairToken}
 use Rattle.book.specs.State.{State}
 use Rattle.cluster.specs.declared.keeper.View.{View}
 use Rattle.cluster.specs.Copies.{Copied, IsReplica}
@@ -45,5 +45,5 @@ pub record IsSound (m : Local) : Type 0 where
   pub quiet : m.awaits ≢ None → m.block ≡ []
 
 -- the chair of processor p, which is outside
-abbrev pub IsSeated : Seating State View → ℕ → Type 0
+abbrev pub IsSeated : ChairToken State View → ℕ → Type 0
 IsSeated chair p = (place chair ≡ p) × IsOutside chair
