@@ -22,7 +22,7 @@ use Rattle.book.proofs.Parts.Each.{is_at}
 use Rattle.book.proofs.Parts.Mail.{idle_mail}
 use Rattle.book.proofs.Parts.Lines.{idle_no_ask, not_in_line}
 use Rattle.book.proofs.Parts.ClosedIntervals.{between_same}
-use Rattle.interval.proofs.News.{between-pushed}
+use Rattle.interval.proofs.News.Unchanged.{between-pushed}
 use Rattle.book.proofs.Parts.Told.{is_idle, is_processor, own_stamp, own_number, tick_grows}
 use Rattle.book.proofs.Calling.Calls.{standing, same_default}
 

@@ -39,7 +39,7 @@ use Rattle.book.proofs.Parts.Mail.{mail_kept, own_idle}
 use Rattle.book.proofs.Parts.Flags.{flag_kept}
 use Rattle.book.proofs.Parts.Meetings.{barrier_kept}
 use Rattle.book.proofs.Parts.ClosedIntervals.{closed_quiet, closed_trimmed, within_trimmed, least_le}
-use Rattle.interval.proofs.News.{between-trimmed}
+use Rattle.interval.proofs.News.Unchanged.{between-trimmed}
 use Rattle.book.proofs.Parts.Told.{is_idle, follows, still_formed}
 use Rattle.book.proofs.Keeps.Locks.{lock_kept}
 

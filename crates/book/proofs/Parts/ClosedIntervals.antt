@@ -23,7 +23,7 @@ use Rattle.journal.proofs.Times.Times.{closes_shorter, interval_behind}
 use Rattle.page.specs.Changes.{Changes}
 use Rattle.interval.specs.declared.kept.Kept.{Kept}
 use Rattle.interval.specs.Closings.{Closings, pushed, trimmed, is_trimmed, is_news, between, sent_interval}
-use Rattle.interval.proofs.Chosen.{filter_same}
+use Rattle.lists.proofs.Filters.{filter_same}
 use Rattle.journal.specs.Did.{event, did}
 use Rattle.book.specs.ClosedIntervals.{AreContents, AreClosed, IsWithin}
 use Rattle.book.specs.Transitions.{lesser, least, trimmed_by}

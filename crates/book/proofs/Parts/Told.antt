@@ -31,7 +31,7 @@ use Rattle.book.proofs.Parts.Each.{each_set, is_at}
 use Rattle.book.proofs.Parts.Doings.{awaits_idle, awaited_on, awaited_now}
 use Rattle.book.proofs.Parts.Stamps.{stamp_others, stamp_closing, stamp_taking}
 use Rattle.book.proofs.Parts.ClosedIntervals.{closed_closing}
-use Rattle.interval.proofs.News.{between-pushed}
+use Rattle.interval.proofs.News.Unchanged.{between-pushed}
 
 -- who awaits nothing is idle
 pub is_idle : (s : Sizes) (h : List Event) (b : State) (p : ℕ) → IsTold s h b → slice_get b.awaits p ≡ Some None → IsIdle h p
