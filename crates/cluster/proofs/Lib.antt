@@ -5,3 +5,4 @@ pub mod Owners
 pub mod Noting
 pub mod Fetching
 pub mod Covering
+pub mod Starting

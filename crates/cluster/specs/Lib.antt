@@ -5,3 +5,4 @@ pub mod Accesses
 pub mod Sound
 pub mod Kept
 pub mod Covers
+pub mod Clusters

@@ -1,5 +1,5 @@
 -- A processor as contracts see it.
-use Rattle.std.specs.Prelude.{ℕ, Bool, Option, List, [], ◌∷◌, ◌++◌}
+use Rattle.std.specs.Prelude.{ℕ, Bool, false, Option, None, List, [], ◌∷◌, ◌++◌, replicate}
 use Rattle.journal.specs.declared.event.Event.{Event}
 use Rattle.journal.specs.declared.event.Kind.{Kind}
 use Rattle.journal.specs.Sizes.{Sizes}
@@ -9,6 +9,7 @@ use Rattle.turn.specs.Chairs.{LockId, lock, view, entries}
 use Rattle.turn.specs.declared.chair.ChairToken.{ChairToken}
 use Rattle.book.specs.State.{State}
 use Rattle.cluster.specs.declared.keeper.View.{View}
+use Rattle.page.specs.declared.pages.Access.TheVariants.{Valid}
 use Rattle.cluster.specs.Copies.{Copied}
 
 -- its lock and how often it has entered; its number and the cluster's sizes; the journal as it left it last;
@@ -49,4 +50,24 @@ local chair p s block copies stored time held awaits = record {
   time = time;
   held = held;
   awaits = awaits;
+}
+
+-- a copy of a page that nobody stored to
+abbrev pub blank : Sizes → Copied
+blank s = record { page = record { words = replicate s.words 0; dirty = replicate s.words false; access = Valid }; missing = [] }
+
+-- processor p of this lock before its first call
+abbrev pub new_local : LockId → ℕ → Sizes → Local
+new_local l p s = record {
+  lock = l;
+  entries = 0;
+  number = p;
+  sizes = s;
+  seen = [];
+  block = [];
+  copies = replicate s.pages (blank s);
+  stored = replicate 64 false;
+  time = replicate s.processors 0;
+  held = replicate s.locks false;
+  awaits = None;
 }

@@ -1,5 +1,5 @@
 -- What holds of each processor between its calls, by what it has seen and its open block alone.
-use Rattle.std.specs.Prelude.{ℕ, ◌≡◌, ◌≢◌, ◌<◌, ◌≤◌, ◌↔◌, Bool, false, IsTrue, Option, Some, None, List, [], length, slice_get}
+use Rattle.std.specs.Prelude.{ℕ, ◌≡◌, ◌≢◌, ◌<◌, ◌≤◌, ◌↔◌, Bool, true, false, Option, Some, None, List, [], length, slice_get}
 use Rattle.journal.specs.declared.event.Event.{Event}
 use Rattle.journal.specs.Sizes.{Sizes}
 use Rattle.journal.specs.Events.{At}
@@ -18,12 +18,16 @@ use Rattle.cluster.specs.declared.keeper.View.{View}
 use Rattle.cluster.specs.Copies.{Copied, IsReplica}
 use Rattle.cluster.specs.Local.{Local}
 
--- sizes within the product's
+-- sizes within the product's: 1 to 16 processors, 1 to 64 pages of 1 to 64 words, and up to 32 locks and flags
 pub record AreSizes (s : Sizes) : Type 0 where
+  pub some_processors : 0 < s.processors
   pub processors : s.processors ≤ most_processors
+  pub some_pages : 0 < s.pages
+  pub pages : s.pages ≤ 64
   pub some_words : 0 < s.words
   pub words : s.words ≤ 64
-  pub pages : s.pages ≤ 64
+  pub locks : s.locks ≤ 32
+  pub flags : s.flags ≤ 32
 
 -- the copies, the timestamp, the locks held and what is awaited are what `seen` and the open block say
 pub record IsSound (m : Local) : Type 0 where
@@ -40,7 +44,7 @@ pub record IsSound (m : Local) : Type 0 where
   pub copies : AreAll m.sizes.pages (λ n c. IsReplica m.sizes m.seen m.block m.number n (bases n) c) m.copies
   pub marks : length m.stored ≡ 64
   pub clean : (n : ℕ) (c : Copied) → slice_get m.copies n ≡ Some c → slice_get m.stored n ≡ Some false → IsClean c.page
-  pub held : AreAll m.sizes.locks (λ l b. IsTrue b ↔ Holds m.seen m.number l) m.held
+  pub held : AreAll m.sizes.locks (λ l b. (b ≡ true) ↔ Holds m.seen m.number l) m.held
   pub awaits : IsAwaited m.seen m.number m.awaits
   pub quiet : m.awaits ≢ None → m.block ≡ []
 

@@ -5,7 +5,7 @@ ghost use Rattle.cluster.specs.Kept.{Kept};
 use book::Book;
 use journal::Event;
 use std::collections::LinkedList;
-use turn::Keeper;
+use turn::{ArrayLock, Keeper, TicketLock};
 
 /// What one processor knows of the book while it is outside: the journal as its last call that entered
 /// left it. No value of it is made.
@@ -24,3 +24,9 @@ impl Keeper<Book> for Rule {
 
     ghost first = { record { seen = [] } };
 }
+
+/// The lock round the book: an array lock of 2^40 entries a processor.
+pub type BookLock = ArrayLock<Book, Rule, 1099511627776>;
+
+/// The same as a ticket lock.
+pub type TicketBookLock = TicketLock<Book, Rule, 1099511627776>;

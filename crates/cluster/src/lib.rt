@@ -3,12 +3,16 @@
 //! Software Distributed Shared Memory, ISCA 1992).
 #![tactic(auto)]
 
+mod cluster;
 mod keeper;
 mod marks;
 mod processor;
 mod replica;
 mod shape;
+#[cfg(test)]
+mod tests;
 
-pub use keeper::{Rule, View};
+pub use cluster::Cluster;
+pub use keeper::{BookLock, Rule, TicketBookLock, View};
 pub use processor::Processor;
 pub use shape::Shape;

@@ -1,7 +1,9 @@
 //! Processors.
-ghost use Rattle.std.specs.Prelude.{◌≡◌, ◌<◌, ◌+◌, ◌/◌, ◌%◌, ◌++◌, ◌∷◌, [], OnErr, OnOk, IfOk, false, length, slice_index_or};
+ghost use Rattle.std.specs.Prelude.{◌≡◌, ◌<◌, ◌+◌, ◌/◌, ◌%◌, ◌++◌, ◌∷◌, [], OnErr, OnOk, IfOk, false, length, replicate, slice_index_or};
 ghost use Rattle.std.specs.Option.{option_map};
 ghost use Rattle.std.specs.Result.{result_err};
+ghost use Rattle.cluster.specs.Local.{blank};
+ghost use Rattle.cluster.specs.Sound.{AreSizes};
 
 use crate::keeper::Rule;
 use crate::marks::Marks;
@@ -9,12 +11,51 @@ use crate::replica::Replica;
 use crate::shape::Shape;
 use book::{Book, Refused};
 use journal::{Event, Kind};
+use std::alloc::{AllocError, Global};
 use std::marker::{Model, PhantomData};
 use turn::{Chair, Turn};
 use vtime::VTime;
 
 /// Events of an open block at most.
 const MOST_IN_BLOCK: usize = 256;
+
+/// What a processor has before it has a chair.
+#[derive(Drop)]
+pub(crate) struct Parts {
+    pub(crate) block: Vec<Event>,
+    pub(crate) replicas: Vec<Replica>,
+    pub(crate) held: Vec<bool>,
+    pub(crate) time: VTime,
+}
+
+impl Parts {
+    ghost use Rattle.cluster.specs.Clusters.{AreParts};
+
+    /// An open block with room, a zero copy of each page, and a zero timestamp.
+    pub(crate) fn new(alloc: Global, shape: Shape) -> Result<Parts, AllocError>
+        requires { AreSizes shape }
+        ensures { IfOk result (λ x. AreParts shape x) }
+    {
+        Ok(Parts {
+            block: Vec::with_capacity(alloc, MOST_IN_BLOCK)?,
+            replicas: replicas_of(alloc, shape)?,
+            held: vec![in alloc; false; shape.locks]?,
+            time: VTime::zero(alloc, shape.processors),
+        })
+    }
+}
+
+/// A zero copy of each page.
+fn replicas_of(alloc: Global, shape: Shape) -> Result<Vec<Replica>, AllocError>
+    requires { AreSizes shape }
+    ensures { IfOk result (λ all. all.items ≡ replicate shape.pages (blank shape)) }
+{
+    let mut replicas = Vec::with_capacity(alloc, shape.pages)?;
+    for _ in 0..shape.pages {
+        replicas.push(Replica::zero(alloc, shape)?)?;
+    }
+    Ok(replicas)
+}
 
 /// A processor of a cluster, which one thread owns. Loads, stores and fetches are its own business: they
 /// enter no lock and take no memory.
@@ -52,10 +93,40 @@ impl<T: Turn<Book, Rule>> Model for Processor<T> {
 impl<T: Turn<Book, Rule>> Processor<T> {
     ghost use Rattle.journal.specs.Did.{event};
     ghost use Rattle.lists.specs.Limits.{most_in_block};
-    ghost use Rattle.cluster.specs.Local.{calls, noted};
+    ghost use Rattle.turn.specs.Chairs.{lock};
+    ghost use Rattle.cluster.specs.Clusters.{AreParts, IsNewChair};
+    ghost use Rattle.cluster.specs.Local.{calls, noted, new_local};
     ghost use Rattle.cluster.specs.Refusals.{page_of, has_valid, is_waiting, access_refusal, fetch_refusal, event_refusal};
     ghost use Rattle.cluster.specs.Accesses.{HasWord, IsStored, IsFetched};
     ghost use Rattle.cluster.specs.Covers.{Covers};
+
+    /// The processor with this number and chair, before its first call.
+    pub(crate) fn seated(number: usize, shape: Shape, chair: Chair<Book, Rule>, parts: Parts) -> Processor<T>
+        requires sizes { AreSizes shape }
+        requires number { number < shape.processors }
+        requires chair { IsNewChair (lock chair) number chair }
+        requires parts { AreParts shape parts }
+        ensures { result ≡ new_local (lock chair) number shape }
+    {
+        let Parts {
+            block,
+            replicas,
+            held,
+            time,
+        } = parts;
+        Processor {
+            number,
+            shape,
+            chair,
+            block,
+            replicas,
+            stored: Marks::none(),
+            time,
+            held,
+            awaits: None,
+            turn: PhantomData,
+        }
+    }
 
     /// The processor's number, from 0.
     pub fn number(&self) -> usize

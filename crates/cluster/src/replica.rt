@@ -1,5 +1,5 @@
 //! A processor's copy of a page, with the records that it lacks.
-ghost use Rattle.std.specs.Prelude.{◌≡◌, ◌<◌, ◌≤◌, ◌^◌, Some, length, map, slice_get, sum_by};
+ghost use Rattle.std.specs.Prelude.{◌≡◌, ◌<◌, ◌≤◌, ◌^◌, Some, IfOk, length, map, slice_get, sum_by};
 ghost use Rattle.page.specs.declared.pages.Access.TheVariants.{Valid, Invalid};
 ghost use Rattle.journal.specs.Copies.{HasCount};
 ghost use Rattle.lists.specs.Records.{records_applied};
@@ -12,8 +12,10 @@ ghost use Rattle.std.specs.Option.{option_map};
 ghost use Rattle.cluster.specs.Refusals.{may_use, words_if};
 
 use crate::marks::Marks;
+use crate::shape::Shape;
 use interval::Sent;
 use page::{Access, Page, Record};
+use std::alloc::{AllocError, Global};
 use std::marker::Model;
 
 /// What a fetch applies: of how many owners, how many records, and how many words.
@@ -42,6 +44,19 @@ impl Model for Replica {
 
 impl Replica {
     ghost use Rattle.cluster.specs.Copies.{AreCounts, fetched};
+    ghost use Rattle.cluster.specs.Local.{blank};
+    ghost use Rattle.cluster.specs.Sound.{AreSizes};
+
+    /// A valid copy of zeros.
+    pub(crate) fn zero(alloc: Global, shape: Shape) -> Result<Replica, AllocError>
+        requires { AreSizes shape }
+        ensures { IfOk result (λ r. r ≡ blank shape) }
+    {
+        Ok(Replica {
+            page: Page::zero(alloc, shape.words)?,
+            missing: Vec::new(alloc),
+        })
+    }
 
     /// Whether the copy lacks nothing.
     pub(crate) fn is_valid(&self) -> bool

@@ -1,4 +1,5 @@
 //! The sizes of a cluster.
+ghost use Rattle.std.specs.Prelude.{◌↔◌, IsTrue};
 
 use std::marker::Model;
 
@@ -25,4 +26,19 @@ impl Model for Shape {
     ghost inverse = { λ s. record {
       processors = s.processors; pages = s.pages; words = s.words; locks = s.locks; flags = s.flags;
     } };
+}
+
+impl Shape {
+    ghost use Rattle.cluster.specs.Sound.{AreSizes};
+
+    /// Whether the sizes are within the product's.
+    pub(crate) fn is_lawful(&self) -> bool
+        ensures { IsTrue result ↔ AreSizes self.now }
+    {
+        (1..=16).contains(&self.processors)
+            && (1..=64).contains(&self.pages)
+            && (1..=64).contains(&self.words)
+            && self.locks <= 32
+            && self.flags <= 32
+    }
 }
