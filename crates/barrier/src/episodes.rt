@@ -1,6 +1,7 @@
 //! Episodes of the barrier.
 ghost use Rattle.std.specs.Prelude.{ℕ, ◌≡◌, ◌≤◌, ◌<◌, ◌+◌, ◌↔◌, IsTrue, Some, List, [], length, replicate, slice_get, count_by};
 ghost use Rattle.std.specs.List.{list_all};
+ghost use Rattle.lists.specs.Limits.{most_processors};
 ghost use Rattle.vtime.specs.Times.{join};
 ghost use Rattle.barrier.specs.Episodes.{unmet, is_here, is_full, joined, arrived, departed, HasGathered, Gathers};
 
@@ -8,7 +9,7 @@ use smallvec::SmallVec;
 use std::alloc::Global;
 use std::marker::Model;
 use std::mem;
-use vtime::VTime;
+use vtime::{MOST_PROCESSORS, VTime};
 
 /// Where a processor is.
 #[derive(Clone, Copy, Debug, Default, PartialEq, Eq)]
@@ -29,13 +30,14 @@ pub enum Stage {
 /// next episode while others are still to depart. No call takes memory.
 #[derive(Debug, Drop)]
 pub struct Barrier {
-    stages: SmallVec<Stage, 16>,
+    stages: SmallVec<Stage, MOST_PROCESSORS>,
     gathered: VTime,
     last: VTime,
 }
 
 impl Model for Barrier {
     ghost use Rattle.std.specs.Prelude.{◌≡◌, ◌≤◌, length};
+    ghost use Rattle.lists.specs.Limits.{most_processors};
     ghost use Rattle.barrier.specs.Episodes.{Episodes};
 
     ghost Value = { Episodes };
@@ -44,7 +46,7 @@ impl Model for Barrier {
 
     ghost invariant = { λ b.
         let processors = length b.stages.items in
-        (1 ≤ processors) × (processors ≤ 16)
+        (1 ≤ processors) × (processors ≤ most_processors)
         × (length b.gathered ≡ processors) × (length b.last ≡ processors) };
 }
 
@@ -52,7 +54,7 @@ impl Barrier {
     /// The barrier of `processors` processors (1 to 16), none of which has arrived.
     pub fn new(alloc: Global, processors: usize) -> Self
         requires some { 1 ≤ processors }
-        requires most { processors ≤ 16 }
+        requires most { processors ≤ most_processors }
         ensures value { result ≡ unmet processors }
         ensures gathers { HasGathered result [] }
     {
@@ -60,18 +62,6 @@ impl Barrier {
             stages: SmallVec::from_elem(alloc, Stage::Away, processors).unwrap(),
             gathered: VTime::zero(alloc, processors),
             last: VTime::zero(alloc, processors),
-        }
-    }
-
-    /// The same barrier once more. It takes no memory.
-    pub fn copy(&self) -> Barrier
-        ensures { result ≡ self.now }
-    {
-        let alloc = *self.stages.allocator();
-        Barrier {
-            stages: SmallVec::from_slice(alloc, self.stages.as_slice()).unwrap(),
-            gathered: self.gathered.copy(),
-            last: self.last.copy(),
         }
     }
 
@@ -177,9 +167,9 @@ mod tests {
     /// those after it are still to depart.
     #[test]
     fn meets_three_times(rt: HostRuntime) {
-        let mut barrier = Barrier::new(rt.alloc(), 16);
+        let mut barrier = Barrier::new(rt.alloc(), MOST_PROCESSORS);
         for round in 0..3 {
-            for processor in 0..16 {
+            for processor in 0..MOST_PROCESSORS {
                 assert_eq!(rt; barrier.ready(processor), round > 0);
                 if barrier.ready(processor) {
                     barrier.depart(processor);
@@ -194,7 +184,7 @@ mod tests {
                 assert_eq!(rt; barrier.arrive(processor, &time), processor == 15);
                 assert!(rt; processor < 15 || *barrier.time() == with);
             }
-            for processor in 0..16 {
+            for processor in 0..MOST_PROCESSORS {
                 assert_eq!(rt; barrier.time().entry(processor), round + 1);
                 assert!(rt; barrier.ready(processor));
             }
@@ -207,11 +197,8 @@ mod tests {
         let mut time = VTime::zero(rt.alloc(), 1);
         assert!(rt; *barrier.time() == time);
         time.tick(0);
-        let before = barrier.copy();
         assert!(rt; barrier.arrive(0, &time));
         assert!(rt; barrier.ready(0));
-        assert!(rt; barrier.copy().ready(0));
-        assert!(rt; !before.ready(0));
         assert!(rt; *barrier.time() == time);
         barrier.depart(0);
         assert!(rt; !barrier.ready(0));

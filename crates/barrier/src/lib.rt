@@ -1,4 +1,10 @@
 //! The barrier: episodes at which all processors meet, and the join of their timestamps.
+//!
+//! - Contracts see a `Barrier` as `Episodes` (where each processor is, the join so far, the last one), and
+//!   speak of it by `arrived`, `departed` and `HasGathered` (specs/Episodes).
+//! - Proved: each call is what these words say; an episode is complete exactly at the last arrival, and its
+//!   time is the join of all its arrivals; `completes` and `time_with` are what an arrival would make.
+//! - Only tested: nothing. That no call takes memory is read off the code.
 #![tactic(auto)]
 
 mod episodes;

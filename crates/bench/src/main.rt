@@ -11,6 +11,7 @@ mod work;
 
 use crate::journals::build;
 use crate::work::{Answer, Work, do_times};
+use journal::MOST_HELD;
 use std::io;
 use std::io::Write;
 use std::process::ExitCode;
@@ -30,7 +31,7 @@ fn order_of(words: &[String]) -> Option<Order>
     let work = Work::named(words.get(1)?.as_str())?;
     let events = words.get(2)?.parse::<usize>().ok()?;
     let times = words.get(3)?.parse::<usize>().ok()?;
-    if words.len() == 4 && events <= 2097152 && times > 0 {
+    if words.len() == 4 && events <= MOST_HELD && times > 0 {
         Some(Order {
             work,
             events,

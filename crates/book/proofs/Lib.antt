@@ -1,4 +1,3 @@
 pub mod Parts
 pub mod Keeps
 pub mod Calling
-pub mod Testing

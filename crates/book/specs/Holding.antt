@@ -1,5 +1,6 @@
 -- How the book holds its value.
 use Rattle.std.specs.Prelude.{◌+◌, ◌^◌, ◌≤◌, length}
+use Rattle.lists.specs.Limits.{most_events}
 use Rattle.book.specs.declared.book.Book.TheInside.{Inside}
 use Rattle.book.specs.State.{State}
 
@@ -20,4 +21,4 @@ state_of b = record {
 pub record IsHeld (b : Inside) : Type 0 where
   pub room : b.owing ≤ b.journal.room
   pub owing : b.owing ≤ 2 ^ 12
-  pub few : length b.journal.events + b.owing ≤ 2 ^ 20 + 2 ^ 12
+  pub few : length b.journal.events + b.owing ≤ most_events + 2 ^ 12

@@ -12,4 +12,3 @@ pub mod Brought
 pub mod Laws
 pub mod Holding
 pub mod Calls
-pub mod Harness

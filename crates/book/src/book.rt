@@ -1,5 +1,6 @@
 //! The book: everything that the processors share.
 ghost use Rattle.std.specs.Prelude.{List, ◌≡◌, ◌≢◌, ℕ, ◌+◌, ◌-◌, ◌*◌, None, replicate, ◌^◌, ◌<◌, ◌≤◌, ◌++◌, ◌↔◌, ◌⊎◌, true, map, OnOk, OnErr, IfErr, IfOk, IfSome, slice_index, slice_index_or, Err, length, slice_get, slice_set, Some};
+ghost use Rattle.lists.specs.Limits.{most_events, most_in_block, most_processors};
 ghost use Rattle.std.specs.Arc.{arc_value};
 ghost use Rattle.journal.specs.Events.{is_closing};
 ghost use Rattle.journal.specs.Waits.{awaited};
@@ -75,7 +76,7 @@ impl Book {
         flags: usize,
     ) -> Result<Book, AllocError>
         requires some { 1 ≤ processors }
-        requires most { processors ≤ 16 }
+        requires most { processors ≤ most_processors }
         requires locks { locks ≤ 32 }
         requires addresses { pages * words < 2 ^ 64 }
         ensures { IfOk result (λ b. b ≡ new_book (record { processors = processors; pages = pages; words = words; locks = locks; flags = flags })) }
@@ -106,10 +107,10 @@ impl Book {
     /// JournalFull exactly where the journal would have more than 2^20 events.
     pub fn hand_in(&mut self, p: usize, block: &[Event]) -> Result<(), Refused>
         requires call { MayFlush self.old p block.now }
-        requires short { length block.now ≤ 256 }
+        requires short { length block.now ≤ most_in_block }
         ensures ok { OnOk result (self.new ≡ handed_in self.old block.now) }
         ensures err { OnErr result (self.new ≡ self.old) }
-        ensures full { result ≡ Err Refused.JournalFull ↔ (2 ^ 20 < length self.old.journal.events + length block.now) }
+        ensures full { result ≡ Err Refused.JournalFull ↔ (most_events < length self.old.journal.events + length block.now) }
         ensures only { IfErr result (λ e. (e ≡ Refused.JournalFull) ⊎ (e ≡ Refused.NoMemory)) }
     {
         make_room(&mut self.journal, self.owing, block.len())?;
@@ -120,16 +121,15 @@ impl Book {
     /// Hands in a block as `hand_in` does, and answers a copy of the whole journal after it.
     pub fn audit(&mut self, p: usize, block: &[Event]) -> Result<Journal, Refused>
         requires call { MayFlush self.old p block.now }
-        requires short { length block.now ≤ 256 }
+        requires short { length block.now ≤ most_in_block }
         ensures ok { OnOk result (self.new ≡ handed_in self.old block.now) }
         ensures copy { IfOk result (λ j. j ≡ record self.new.journal { room = j.room }) }
         ensures err { OnErr result (self.new ≡ self.old) }
-        ensures full { result ≡ Err Refused.JournalFull ↔ (2 ^ 20 < length self.old.journal.events + length block.now) }
+        ensures full { result ≡ Err Refused.JournalFull ↔ (most_events < length self.old.journal.events + length block.now) }
         ensures only { IfErr result (λ e. (e ≡ Refused.JournalFull) ⊎ (e ≡ Refused.NoMemory)) }
     {
         make_room(&mut self.journal, self.owing, block.len())?;
-        let mut copy = self.journal.copy()?;
-        copy.reserve(block.len())?;
+        let mut copy = self.journal.copy_with_room(block.len())?;
         append_all(&mut self.journal, block);
         append_all(&mut copy, block);
         Ok(copy)
@@ -145,11 +145,11 @@ impl Book {
         records: Vec<Arc<Record>>,
     ) -> Result<(), Refused>
         requires call { MayCall self.old p block.now }
-        requires short { length block.now ≤ 256 }
+        requires short { length block.now ≤ most_in_block }
         requires rising { HasRisingPages (map arc_value records.items) }
         ensures ok { OnOk result (self.new ≡ book_watched (handed_in self.old block.now) p f (map arc_value records.items)) }
         ensures err { OnErr result (self.new ≡ self.old) }
-        ensures full { result ≡ Err Refused.JournalFull ↔ (2 ^ 20 < length self.old.journal.events + length block.now + 1) }
+        ensures full { result ≡ Err Refused.JournalFull ↔ (most_events < length self.old.journal.events + length block.now + 1) }
         ensures only { IfErr result (λ e. (e ≡ Refused.JournalFull) ⊎ (e ≡ Refused.NoMemory)) }
     {
         self.close(p, Kind::Watch(f), block, records)
@@ -166,11 +166,11 @@ impl Book {
     ) -> Result<(), Refused>
         requires call { MayCall self.old p block.now }
         requires flag { f < length self.old.flags }
-        requires short { length block.now ≤ 256 }
+        requires short { length block.now ≤ most_in_block }
         requires rising { HasRisingPages (map arc_value records.items) }
         ensures ok { OnOk result (self.new ≡ book_set (handed_in self.old block.now) p f (map arc_value records.items)) }
         ensures err { OnErr result (self.new ≡ self.old) }
-        ensures full { result ≡ Err Refused.JournalFull ↔ (2 ^ 20 < length self.old.journal.events + length block.now + 1) }
+        ensures full { result ≡ Err Refused.JournalFull ↔ (most_events < length self.old.journal.events + length block.now + 1) }
         ensures only { IfErr result (λ e. (e ≡ Refused.JournalFull) ⊎ (e ≡ Refused.NoMemory)) }
     {
         self.close(p, Kind::Set(f), block, records)?;
@@ -190,11 +190,11 @@ impl Book {
         records: Vec<Arc<Record>>,
     ) -> Result<(), Refused>
         requires call { MayAsk self.old p l block.now }
-        requires short { length block.now ≤ 256 }
+        requires short { length block.now ≤ most_in_block }
         requires rising { HasRisingPages (map arc_value records.items) }
         ensures ok { OnOk result (self.new ≡ book_asked (handed_in self.old block.now) p l (map arc_value records.items)) }
         ensures err { OnErr result (self.new ≡ self.old) }
-        ensures full { result ≡ Err Refused.JournalFull ↔ (2 ^ 20 < length self.old.journal.events + length block.now + 1) }
+        ensures full { result ≡ Err Refused.JournalFull ↔ (most_events < length self.old.journal.events + length block.now + 1) }
         ensures only { IfErr result (λ e. (e ≡ Refused.JournalFull) ⊎ (e ≡ Refused.NoMemory)) }
     {
         make_room(&mut self.journal, self.owing, block.len() + 1)?;
@@ -219,11 +219,11 @@ impl Book {
         records: Vec<Arc<Record>>,
     ) -> Result<(), Refused>
         requires call { MayRelease self.old p l block.now }
-        requires short { length block.now ≤ 256 }
+        requires short { length block.now ≤ most_in_block }
         requires rising { HasRisingPages (map arc_value records.items) }
         ensures ok { OnOk result (self.new ≡ book_released (handed_in self.old block.now) p l (map arc_value records.items)) }
         ensures err { OnErr result (self.new ≡ self.old) }
-        ensures full { result ≡ Err Refused.JournalFull ↔ (2 ^ 20 < length self.old.journal.events + length block.now + 1) }
+        ensures full { result ≡ Err Refused.JournalFull ↔ (most_events < length self.old.journal.events + length block.now + 1) }
         ensures only { IfErr result (λ e. (e ≡ Refused.JournalFull) ⊎ (e ≡ Refused.NoMemory)) }
     {
         make_room(&mut self.journal, self.owing, block.len() + 1)?;
@@ -255,11 +255,11 @@ impl Book {
         records: Vec<Arc<Record>>,
     ) -> Result<(), Refused>
         requires call { MayCall self.old p block.now }
-        requires short { length block.now ≤ 256 }
+        requires short { length block.now ≤ most_in_block }
         requires rising { HasRisingPages (map arc_value records.items) }
         ensures ok { OnOk result (self.new ≡ book_arrived (handed_in self.old block.now) p (map arc_value records.items)) }
         ensures err { OnErr result (self.new ≡ self.old) }
-        ensures full { result ≡ Err Refused.JournalFull ↔ (2 ^ 20 < length self.old.journal.events + length block.now + 1) }
+        ensures full { result ≡ Err Refused.JournalFull ↔ (most_events < length self.old.journal.events + length block.now + 1) }
         ensures only { IfErr result (λ e. (e ≡ Refused.JournalFull) ⊎ (e ≡ Refused.NoMemory)) }
     {
         make_room(&mut self.journal, self.owing, block.len() + 1)?;
@@ -281,7 +281,7 @@ impl Book {
     }
 
     /// The departures of all, where the episode is complete with the arrival of the interval's owner, at
-    /// the time `own`. It shows on a copy of the barrier.
+    /// the time `own`.
     fn departures_with(
         &self,
         interval: &Interval,
@@ -297,13 +297,13 @@ impl Book {
         ensures { IfOk result (λ o. option_map (λ ms. map letter ms.items) o ≡ departures_after
             (pushed self.now.closed interval.now) self.now.barrier (slice_set self.now.times interval.now.owner own.now) interval.now.owner own.now) }
     {
-        let mut barrier = self.barrier.copy();
-        if !barrier.arrive(interval.owner, own) {
+        let barrier = &self.barrier;
+        if !barrier.completes(interval.owner) {
             return Ok(None);
         }
         let alloc = *self.times.allocator();
-        let (closed, times) = (&self.closed, &self.times);
-        let all = departures(alloc, closed, times, interval, own, barrier.time())?;
+        let time = barrier.time_with(own);
+        let all = departures(alloc, &self.closed, &self.times, interval, own, &time)?;
         Ok(Some(all))
     }
 
@@ -338,7 +338,7 @@ impl Book {
         ensures brings { IfOk result (λ m. (letter m).notices ≡ brought self.old p) }
         ensures err { OnErr result (self.new ≡ self.old) }
         ensures absent { (s : Sizes) (h : List AnEvent) → IsTold s h self.old → result ≡ Err Refused.NotYet ↔ (¬ Ready s h p) }
-        ensures full { result ≢ Err Refused.NotYet → result ≡ Err Refused.JournalFull ↔ (2 ^ 20 < length self.old.journal.events + 1) }
+        ensures full { result ≢ Err Refused.NotYet → result ≡ Err Refused.JournalFull ↔ (most_events < length self.old.journal.events + 1) }
         ensures only { IfErr result (λ e. (e ≡ Refused.NotYet) ⊎ (e ≡ Refused.JournalFull) ⊎ (e ≡ Refused.NoMemory)) }
     {
         let Some(kind) = self.awaits[p] else {
@@ -378,12 +378,12 @@ impl Book {
         records: Vec<Arc<Record>>,
     ) -> Result<(), Refused>
         requires call { MayCall self.old p block.now }
-        requires short { length block.now ≤ 256 }
+        requires short { length block.now ≤ most_in_block }
         requires rising { HasRisingPages (map arc_value records.items) }
         requires kind { is_closing kind ≡ true }
         ensures ok { OnOk result (self.new ≡ closing (handed_in self.old block.now) p kind (map arc_value records.items)) }
         ensures err { OnErr result (self.new ≡ self.old) }
-        ensures full { result ≡ Err Refused.JournalFull ↔ (2 ^ 20 < length self.old.journal.events + length block.now + 1) }
+        ensures full { result ≡ Err Refused.JournalFull ↔ (most_events < length self.old.journal.events + length block.now + 1) }
         ensures only { IfErr result (λ e. (e ≡ Refused.JournalFull) ⊎ (e ≡ Refused.NoMemory)) }
     {
         make_room(&mut self.journal, self.owing, block.len() + 1)?;
@@ -465,6 +465,3 @@ fn leave(barrier: &mut Barrier, kind: Kind, p: usize)
         _ => {}
     }
 }
-
-#[cfg(test)]
-mod tests;

@@ -55,43 +55,14 @@ pub(crate) fn departures(
     ensures { IfOk result (λ ms. map letter ms.items
         ≡ map (departure_to (pushed closed.now interval.now) time.now) (slice_set times.now interval.now.owner own.now)) }
 {
-    let mut times = copies(alloc, times)?;
-    times[interval.owner] = own.copy();
-    departures_of(alloc, closed, &times, interval, time)
-}
-
-/// The departures of those who have these timestamps.
-fn departures_of(
-    alloc: Global,
-    closed: &Closed,
-    times: &[VTime],
-    interval: &Interval,
-    time: &VTime,
-) -> Result<Vec<Message>, AllocError>
-    requires owner { interval.now.owner < length closed.now.next }
-    requires pages { HasRisingPages interval.now.records }
-    requires long { length time.now ≡ length closed.now.first }
-    requires all { (r : ℕ) → r < length times.now → MayBeSent closed.now times.now r }
-    ensures { IfOk result (λ ms. map letter ms.items ≡ map (departure_to (pushed closed.now interval.now) time.now) times.now) }
-{
-    let mut departures = Vec::new(alloc);
-    for own in times {
-        let notices = closed.between_after(interval, own, time)?;
+    let mut departures = Vec::with_capacity(alloc, times.len())?;
+    for (q, old) in times.iter().enumerate() {
+        let old = if q == interval.owner { own } else { old };
+        let notices = closed.between_after(interval, old, time)?;
         let time = time.copy();
         departures.push(Message::Departure { time, notices })?;
     }
     Ok(departures)
-}
-
-/// The same timestamps once more.
-fn copies(alloc: Global, times: &[VTime]) -> Result<Vec<VTime>, AllocError>
-    ensures { IfOk result (λ all. all.items ≡ times.now) }
-{
-    let mut all = Vec::with_capacity(alloc, times.len())?;
-    for time in times {
-        all.push(time.copy())?;
-    }
-    Ok(all)
 }
 
 /// Sends each processor its message; nobody has one.

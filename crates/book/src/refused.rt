@@ -42,8 +42,8 @@ pub enum Refused {
     /// The journal would have more than 2^20 events.
     #[error("journal full")]
     JournalFull,
-    /// The processor has entered the book as often as it may.
-    #[error("entries spent")]
+    /// The processor has entered the book's lock as often as it may.
+    #[error("lock entries spent")]
     SeatSpent,
     /// A growth was refused in this call.
     #[error("out of memory")]

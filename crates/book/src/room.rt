@@ -1,5 +1,6 @@
 //! Room in the journal.
 ghost use Rattle.std.specs.Prelude.{◌≡◌, ◌⊎◌, ◌+◌, ◌-◌, ◌^◌, ◌<◌, ◌≤◌, ◌++◌, ◌↔◌, All, IfErr, OnOk, length, Err};
+ghost use Rattle.lists.specs.Limits.{most_events};
 ghost use Rattle.journal.specs.InRange.{AddressInRange};
 
 use crate::refused::Refused;
@@ -16,10 +17,10 @@ pub(crate) fn make_room(
 ) -> Result<(), Refused>
     requires owing { owing ≤ 2 ^ 12 }
     requires additional { additional ≤ 2 ^ 9 }
-    ensures ok { OnOk result ((owing + additional ≤ journal.new.room) × (length journal.old.events + additional ≤ 2 ^ 20)) }
+    ensures ok { OnOk result ((owing + additional ≤ journal.new.room) × (length journal.old.events + additional ≤ most_events)) }
     ensures same { journal.new ≡ record journal.old { room = journal.new.room } }
     ensures grows { journal.old.room ≤ journal.new.room }
-    ensures full { result ≡ Err Refused.JournalFull ↔ (2 ^ 20 < length journal.old.events + additional) }
+    ensures full { result ≡ Err Refused.JournalFull ↔ (most_events < length journal.old.events + additional) }
     ensures only { IfErr result (λ e. (e ≡ Refused.JournalFull) ⊎ (e ≡ Refused.NoMemory)) }
 {
     if journal.len() + additional > LIMIT {

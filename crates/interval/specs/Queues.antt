@@ -11,15 +11,17 @@ pub record Queue : Type 0 where
   pub first : ℕ
   pub kept : List Kept
 
--- the list with k put at its place
-abbrev pub put : Kept → List Kept → List Kept
-put k [] = k ∷ []
-put k (x ∷ xs) = cond (nat_lt k.place x.place) (k ∷ x ∷ xs) (cond (nat_lt x.place k.place) (x ∷ put k xs) (x ∷ xs))
+-- the list with k at its place. One that has an interval with k's closing number stays as it is, and k
+-- is dropped
+abbrev pub placed : Kept → List Kept → List Kept
+placed k [] = k ∷ []
+placed k (x ∷ xs) =
+    cond (nat_lt k.place x.place) (k ∷ x ∷ xs) (cond (nat_lt x.place k.place) (x ∷ placed k xs) (x ∷ xs))
 
--- the intervals by rising closing number
+-- the intervals by rising closing number, one for each such number
 abbrev pub by_place : List Kept → List Kept
 by_place [] = []
-by_place (x ∷ xs) = put x (by_place xs)
+by_place (x ∷ xs) = placed x (by_place xs)
 
 -- all queues as one list in closing order
 abbrev pub merged : List Queue → List Kept

@@ -71,7 +71,8 @@ impl Closed {
 
     /// What has to be sent to one who has performed `old` and is to perform `new`: the records of the
     /// kept intervals that `new` covers and `old` doesn't, in closing order, and within one interval by
-    /// rising page. It costs in the order of what it answers times the owners.
+    /// rising page. Each interval that is sent costs a look at every owner, also where it has no record,
+    /// and each of its records a step; what else is kept costs nothing. It takes memory for what it answers.
     pub fn between(&self, old: &VTime, new: &VTime) -> Result<Vec<Sent>, AllocError>
         requires old_long { length old.now ≡ length self.now.first }
         requires new_long { length new.now ≡ length self.now.first }

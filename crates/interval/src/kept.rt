@@ -66,12 +66,13 @@ impl Interval {
         ensures { OnOk result (sent.new.items ≡ sent.old.items ++ sent_interval (record { place = place; interval = self.now })) }
     {
         for record in self.shared_records() {
-            sent.push(self.sent(place, record)?)?;
+            sent.push(self.announced(place, record)?)?;
         }
         Ok(())
     }
 
-    fn sent(&self, place: u64, shared: &Arc<Record>) -> Result<Sent, AllocError>
+    /// A record of its own, under its notice.
+    fn announced(&self, place: u64, shared: &Arc<Record>) -> Result<Sent, AllocError>
         ensures { IfOk result (λ sent. sent ≡ sent_record (record { place = place; interval = self.now }) (arc_value shared.now)) }
     {
         Ok(Sent {

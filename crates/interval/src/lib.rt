@@ -1,4 +1,13 @@
 //! Closed intervals, and which of them a processor still has to learn of.
+//!
+//! - Contracts see `Closed` as one list in closing order (`Closings`, specs/Closings), an `Interval` as
+//!   `ClosedInterval` and what is sent as `SentRecord` (specs/Intervals). How the intervals lie, a queue
+//!   for each owner, is specs/Queues, and counts of pages are specs/Counts.
+//! - Proved: `between` is a filter of that list by two timestamps, and comes in closing order; `push` and
+//!   `trim` change the list as they say, and what is news to nobody concerned stays; `count_news` and
+//!   `news_of` are counts of what `between` would answer.
+//! - Only tested: that memory isn't wanted needlessly. That the counts take none, and what a call costs, is
+//!   read off the code.
 #![tactic(auto)]
 
 mod closed;

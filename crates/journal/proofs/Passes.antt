@@ -4,3 +4,4 @@ pub mod Spending
 pub mod Entries
 pub mod ClockSteps
 pub mod RaceSteps
+pub mod Reaching

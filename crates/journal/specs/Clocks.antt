@@ -1,5 +1,6 @@
 -- What the race checker's timestamps are by the events so far.
 use Rattle.std.specs.Prelude.{ℕ, ◌≡◌, ◌<◌, ◌≤◌, ◌-◌, List, slice_index, vec_len}
+use Rattle.lists.specs.Limits.{most_processors}
 use Rattle.std.specs.BTreeMap.{BTreeMap}
 use Rattle.journal.specs.declared.event.Event.{Event}
 use Rattle.journal.specs.declared.event.Kind.{Kind}
@@ -28,7 +29,7 @@ Keeps c locks flags episodes p own _ = (locks ≡ c.locks) × (flags ≡ c.flags
 -- the timestamps of the processors, locks, flags and episodes, and the counts of arrivals and departures, are those of the journal
 pub record AreClocks (j : List Event) (c : Clocks) : Type 0 where
   pub long : vec_len c.processors ≡ 16
-  pub few : c.present ≤ 16
+  pub few : c.present ≤ most_processors
   pub times : (p : ℕ) → p < 16 → IsTimeOf j p (entry c.processors.items p)
   pub locks : (l : ℕ) → IsTimeIn j (UpToSome j (SomeDoes j (Release l))) (kept_entry c.locks l)
   pub flags : (f : ℕ) → IsTimeIn j (UpToSome j (SomeDoes j (Set f))) (kept_entry c.flags f)

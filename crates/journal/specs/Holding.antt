@@ -1,5 +1,6 @@
 -- How a journal holds its events.
-use Rattle.std.specs.Prelude.{◌+◌, ◌^◌, ◌≤◌, vec_len, vec_capacity}
+use Rattle.std.specs.Prelude.{◌+◌, ◌≤◌, vec_len, vec_capacity}
+use Rattle.lists.specs.Limits.{most_held, most_processors}
 use Rattle.journal.specs.declared.journal.Journal.TheInside.{Inside}
 use Rattle.journal.specs.Log.{Log}
 use Rattle.journal.specs.InRange.{AddressesInRange, ProcessorsInRange}
@@ -10,7 +11,7 @@ log_of j = record { processors = j.processors; addresses = j.addresses; events =
 -- the memory that is reserved is there, processors and events are few enough, and the events' processors and addresses in range
 pub record IsHeld (j : Inside) : Type 0 where
   pub reserved : vec_len j.events + j.room ≤ vec_capacity j.events
-  pub few : vec_len j.events ≤ 2 ^ 21
-  pub few_processors : j.processors ≤ 16
+  pub few : vec_len j.events ≤ most_held
+  pub few_processors : j.processors ≤ most_processors
   pub by_processors : ProcessorsInRange j.processors j.events.items
   pub in_range : AddressesInRange j.addresses j.events.items

@@ -26,3 +26,4 @@ pub mod Missing
 pub mod Pages
 pub mod Dirty
 pub mod Counted
+pub mod Reach

@@ -3,6 +3,7 @@ use Rattle.std.specs.Prelude.{ℕ, ◌≡◌, ◌≢◌, ◌+◌, ◌<◌, ◌�
 use Rattle.journal.specs.declared.event.Event.{Event}
 use Rattle.journal.specs.declared.event.Kind.{Kind}
 use Rattle.journal.specs.declared.event.Kind.TheVariants.{Load, Store, Fetch, Ask, Acquire, Release, Arrive, Depart, Set, Watch, Await}
+use Rattle.journal.specs.Did.{event}
 use Rattle.journal.specs.Sizes.{Sizes, addresses}
 use Rattle.journal.specs.Events.{At, count_of, is_arrive, is_depart, is_taking}
 
@@ -22,7 +23,7 @@ KindInRange s (Await f) = f < s.flags
 
 -- processor p does this at place i
 abbrev pub Does : List Event → ℕ → ℕ → Kind → Type 0
-Does j i p k = At j i (record { processor = p; kind = k })
+Does j i p k = At j i (event p k)
 
 -- p's last event stands at place i and is this
 pub record LastIs (j : List Event) (p i : ℕ) (k : Kind) : Type 0 where

@@ -1,6 +1,7 @@
 //! The timestamps that a journal's events give, an event at a time.
 
 ghost use Rattle.std.specs.Prelude.{◌≡◌, ◌↔◌, ℕ, ◌+◌, ◌-◌, ◌<◌, ◌≤◌, ◌^◌, ◌==◌, ◌&&◌, [], IsTrue, EachIndex, IfOk, OnOk, cond, max, length, take, slice_get, slice_index, vec_len, true};
+ghost use Rattle.lists.specs.Limits.{most_held, most_processors};
 ghost use Rattle.journal.specs.Events.{is_closing, is_taking, is_arrive, is_depart};
 ghost use Rattle.journal.specs.InRange.{ProcessorsInRange};
 ghost use Rattle.journal.specs.Entries.{entry};
@@ -38,7 +39,7 @@ fn are_past(counts: &[u32], number: usize) -> bool
 impl Clocks {
     /// The timestamps of this many processors before the first event. The only error is want of memory.
     pub(crate) fn new(alloc: Global, processors: usize) -> Result<Clocks, AllocError>
-        requires { processors ≤ 16 }
+        requires { processors ≤ most_processors }
         ensures clocks { IfOk result (λ c. AreClocks [] c) }
         ensures present { IfOk result (λ c. c.present ≡ processors) }
     {
@@ -145,7 +146,7 @@ impl Clocks {
     /// Lets go of the first episode that is kept, where the event is the last departure from it.
     fn let_go(&mut self, event: Event)
         requires present { event.processor < self.old.present }
-        requires few { self.old.present ≤ 16 }
+        requires few { self.old.present ≤ most_processors }
         ensures processors { self.new.processors ≡ self.old.processors }
         ensures locks { self.new.locks ≡ self.old.locks }
         ensures flags { self.new.flags ≡ self.old.flags }
@@ -165,7 +166,7 @@ impl Clocks {
     /// Takes note of the event at this place, the next one.
     pub(crate) fn note(&mut self, events: &[Event], place: usize) -> Result<(), AllocError>
         requires place { place < length events.now }
-        requires few { length events.now ≤ 2 ^ 21 }
+        requires few { length events.now ≤ most_held }
         requires processors { ProcessorsInRange self.old.present events.now }
         requires so_far { AreClocks (take place events.now) self.old }
         ensures clocks { OnOk result (AreClocks (take (place + 1) events.now) self.new) }

@@ -1,6 +1,7 @@
 //! The journal: a list of events with room for more.
 
 ghost use Rattle.std.specs.Prelude.{◌≡◌, ◌-◌, ◌^◌, ◌<◌, ◌≤◌, ◌++◌, ◌∷◌, [], ◌↔◌, IfOk, OnOk, OnErr, IfSome, IsSome, IsTrue, MatchOption, length, replicate, max, option_copied, slice_get, take};
+ghost use Rattle.lists.specs.Limits.{most_held, most_processors};
 ghost use Rattle.journal.specs.InRange.{AddressInRange, AddressesInRange};
 ghost use Rattle.journal.specs.Loads.{Explained};
 ghost use Rattle.journal.specs.Flat.{Replays, memory_after};
@@ -14,7 +15,7 @@ use crate::traffic::{Traffic, traffic_of};
 use std::alloc::{AllocError, Global};
 use std::marker::Model;
 
-/// The events of a cluster in the order in which they were handed in, at most 2^21 of them.
+/// The events of a cluster in the order in which they were handed in, at most `MOST_HELD` of them.
 ///
 /// Contracts see it as a `Log`: the number of processors and of addresses, the events, and the room,
 /// which is for how many more events memory is reserved.
@@ -39,10 +40,11 @@ impl Model for Journal {
 }
 
 impl Journal {
-    /// An empty journal of a cluster of `processors` processors, at most 16, and `addresses` addresses.
+    /// An empty journal of a cluster of `processors` processors, at most `MOST_PROCESSORS`, and
+    /// `addresses` addresses.
     /// The only error is want of memory.
     pub fn new(alloc: Global, processors: usize, addresses: usize) -> Result<Journal, AllocError>
-        requires { processors ≤ 16 }
+        requires { processors ≤ most_processors }
         ensures { IfOk result (λ j. j ≡ record { processors = processors; addresses = addresses; events = []; room = 0 }) }
     {
         Ok(Journal {
@@ -53,10 +55,10 @@ impl Journal {
         })
     }
 
-    /// How many events it has, at most 2^21.
+    /// How many events it has, at most `MOST_HELD`.
     pub fn len(&self) -> usize
         ensures value { result ≡ length self.now.events }
-        ensures limit { result ≤ 2 ^ 21 }
+        ensures limit { result ≤ most_held }
     {
         let events = &self.events;
         events.len()
@@ -104,7 +106,7 @@ impl Journal {
     /// Puts the event at the end. It takes no memory, since room is a condition.
     pub fn append(&mut self, event: Event)
         requires room { 0 < self.old.room }
-        requires limit { length self.old.events < 2 ^ 21 }
+        requires limit { length self.old.events < most_held }
         requires processor { event.processor < self.old.processors }
         requires address { AddressInRange self.old.addresses event.kind }
         ensures { self.new ≡ record self.old { events = self.old.events ++ event ∷ []; room = self.old.room - 1 } }

@@ -1,5 +1,16 @@
 //! The journal of a cluster: its events in the order in which they were handed in, and what can be
-//! said of them alone: happens-before, races, replay on one flat memory, traffic.
+//! said of them alone.
+//!
+//! **What contracts see.** A `Journal` is a `Log` (specs/Log): sizes, events, room. What an event may be
+//! is in specs/Events and WellFormed; order, pasts and timestamps in Order, Pasts and Times; what copies
+//! of pages have and lack in Copies, Pages and Missing.
+//!
+//! **What is proved.** `replay`, `first_race` and `traffic` answer exactly what Flat, Races and Traffic
+//! define, and up to its first race an explained journal replays. Lemmas for the crates above lie in
+//! proofs/, a folder a topic. `ReachTable` is the slow program by the definition.
+//!
+//! **What is only tested.** That memory isn't refused needlessly, and that a journal of 2^20 events is
+//! checked in a test's time.
 #![tactic(auto)]
 
 mod clock;
@@ -7,18 +18,16 @@ mod clocks;
 mod event;
 mod journal;
 mod kinds;
+mod limits;
 mod race;
-#[cfg(test)]
-mod race_tests;
 mod replay;
 mod slow;
-#[cfg(test)]
-mod slow_tests;
 #[cfg(test)]
 mod tests;
 mod traffic;
 
 pub use event::{Event, Kind};
 pub use journal::Journal;
-pub use slow::{happens_before, is_race};
+pub use limits::{MOST_EVENTS, MOST_HELD, MOST_IN_BLOCK, MOST_PROCESSORS};
+pub use slow::ReachTable;
 pub use traffic::Traffic;

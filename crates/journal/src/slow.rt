@@ -1,10 +1,11 @@
 //! Happens-before and races straight from their definitions: small, plain and slow. What faster
-//! programs answer is compared with it.
+//! programs answer is compared with it, of whole journals too.
 
-ghost use Rattle.std.specs.Prelude.{◌≡◌, ◌↔◌, ℕ, ◌+◌, ◌<◌, ◌≤◌, IsTrue, IfOk, Some, true, length, take, slice_get, vec_len};
+ghost use Rattle.std.specs.Prelude.{◌||◌, ◌==◌, List, false, slice_index_or, ◌≡◌, ◌↔◌, ℕ, ◌+◌, ◌<◌, ◌≤◌, IsTrue, IfOk, Some, true, length, take, slice_get, vec_len};
 ghost use Rattle.journal.specs.Events.{is_arrive, is_depart, count_of};
 ghost use Rattle.journal.specs.Order.{LetsThrough, Edge, HappensBefore};
 ghost use Rattle.journal.specs.Races.{Conflict, Race};
+ghost use Rattle.journal.specs.Reach.{IsRow, AreRows, IsTable};
 
 use crate::event::{Event, Kind};
 use crate::kinds::{arrives, departs};
@@ -62,61 +63,80 @@ fn is_edge(events: &[Event], first: usize, second: usize) -> bool
                 == departures_before(events, second, to.processor)
 }
 
-/// Whether the first place happens before this one, where it is marked of each place before this one
-/// whether it does so.
-fn is_reached(events: &[Event], first: usize, after: &[bool], place: usize) -> bool
-    requires within { place < length events.now }
-    requires long { length after.now ≡ place }
-    requires marks { (m : ℕ) → m < place → slice_get after.now m ≡ Some true ↔ HappensBefore events.now first m }
-    ensures { IsTrue result ↔ HappensBefore events.now first place }
+/// Marks in the row what is marked in the other, and the place of that one's event.
+fn mark_source(row: &mut [bool], other: &[bool], source: usize)
+    requires { length other.now ≡ length row.old }
+    ensures { (i : ℕ) → i < length row.old → slice_index_or row.new i false ≡ (slice_index_or row.old i false || (slice_index_or other.now i false || (i == source))) }
 {
-    for m in 0..place {
-        if (m == first || after[m]) && is_edge(events, m, place) {
-            return true;
+    for i in 0..row.len() {
+        row[i] = row[i] || other[i] || i == source;
+    }
+}
+
+/// The row of this place, from the rows of the places before it: the union of its sources' rows, and the
+/// sources.
+fn row_of(
+    alloc: Global,
+    events: &[Event],
+    rows: &[Vec<bool>],
+    place: usize,
+) -> Result<Vec<bool>, AllocError>
+    requires within { place < length events.now }
+    requires long { length rows.now ≡ place }
+    requires rows { AreRows events.now rows.now }
+    ensures { IfOk result (IsRow events.now place) }
+{
+    let mut row = vec![in alloc; false; events.len()]?;
+    for source in 0..place {
+        if is_edge(events, source, place) {
+            mark_source(&mut row, &rows[source], source);
         }
     }
-    false
+    Ok(row)
 }
 
-/// Of each place, whether the first one happens before it. The only error is want of memory.
-fn places_after(alloc: Global, events: &[Event], first: usize) -> Result<Vec<bool>, AllocError>
-    ensures long { IfOk result (λ v. vec_len v ≡ length events.now) }
-    ensures marks { IfOk result (λ v. (m : ℕ) → slice_get v.items m ≡ Some true ↔ HappensBefore events.now first m) }
-{
-    let mut after = Vec::new(alloc);
-    for place in 0..events.len() {
-        let reached = is_reached(events, first, &after, place);
-        after.push(reached)?;
+/// Of each two places of a list of events, whether the event at the one happens before that at the other:
+/// a row for each place, with a mark for each that happens before it.
+#[derive(Drop)]
+pub struct ReachTable {
+    rows: Vec<Vec<bool>>,
+}
+
+impl ReachTable {
+    /// The table of these events, by the definition: each row is the union of its sources' rows, and the
+    /// sources. The only error is want of memory.
+    ///
+    /// Of n events it takes n * n bytes, and time in the order of n * n * n: for hundreds of events.
+    pub fn new(alloc: Global, events: &[Event]) -> Result<ReachTable, AllocError>
+        ensures { IfOk result (IsTable events.now) }
+    {
+        let mut rows = Vec::new(alloc);
+        for place in 0..events.len() {
+            let row = row_of(alloc, events, &rows, place)?;
+            rows.push(row)?;
+        }
+        Ok(ReachTable { rows })
     }
-    Ok(after)
-}
 
-/// Whether the event at the first place happens before the one at the second. It searches the places
-/// that edges lead to from the first. The only error is want of memory.
-pub fn happens_before(
-    alloc: Global,
-    events: &[Event],
-    first: usize,
-    second: usize,
-) -> Result<bool, AllocError>
-    ensures { IfOk result (λ b. IsTrue b ↔ HappensBefore events.now first second) }
-{
-    let after = places_after(alloc, events, first)?;
-    Ok(second < after.len() && after[second])
-}
+    /// Whether the event at the first place happens before the one at the second; false where there is
+    /// no such place.
+    pub fn happens_before(&self, first: usize, second: usize) -> bool
+        ensures { (j : List Event) → IsTable j self.now → IsTrue result ↔ HappensBefore j first second }
+    {
+        match self.rows.get(second) {
+            Some(row) => first < row.len() && row[first],
+            None => false,
+        }
+    }
 
-/// Whether the events at these places race. The only error is want of memory.
-pub fn is_race(
-    alloc: Global,
-    events: &[Event],
-    first: usize,
-    second: usize,
-) -> Result<bool, AllocError>
-    ensures { IfOk result (λ b. IsTrue b ↔ Race events.now first second) }
-{
-    if first < second && second < events.len() && is_conflict(events[first], events[second]) {
-        Ok(!happens_before(alloc, events, first, second)?)
-    } else {
-        Ok(false)
+    /// Whether the events at these places race. The table is that of the events.
+    pub fn is_race(&self, events: &[Event], first: usize, second: usize) -> bool
+        requires { IsTable events.now self.now }
+        ensures { IsTrue result ↔ Race events.now first second }
+    {
+        first < second
+            && second < events.len()
+            && is_conflict(events[first], events[second])
+            && !self.happens_before(first, second)
     }
 }

@@ -3,7 +3,12 @@
 ghost use Rattle.std.specs.Prelude.{◌≡◌, ◌<◌, ◌≤◌, ◌-◌, ◌+◌, ◌^◌, length, IsTrue, OnOk, IfOk};
 ghost use Rattle.journal.specs.InRange.{AddressInRange};
 
-use crate::{Event, Journal, Kind, Traffic};
+mod races;
+mod reach;
+mod worked;
+
+use crate::tests::worked::{load_before_store, stale_load};
+use crate::{Event, Journal, Kind, MOST_HELD, MOST_PROCESSORS, Traffic};
 use std::alloc::Global;
 use std::process::Abort;
 use std::test::Fail;
@@ -35,12 +40,12 @@ pub(crate) fn journal_of<R: Abort>(
     addresses: usize,
     events: &[Event],
 ) -> Result<Journal, Fail> {
-    assert!(rt; processors <= 16);
+    assert!(rt; processors <= MOST_PROCESSORS);
     let mut journal = Journal::new(alloc, processors, addresses)?;
     for event in events {
         let event = *event;
         assert!(rt; is_taken(event, processors, addresses));
-        assert!(rt; journal.len() < 2097152);
+        assert!(rt; journal.len() < MOST_HELD);
         journal.reserve(1)?;
         journal.append(event);
     }
@@ -103,35 +108,18 @@ fn barrier(rt: HostRuntime) -> Result<(), Fail> {
     Ok(())
 }
 
-/// A load that stands after a store by another processor, and answers what was there before.
+/// A load's reply from before a store that stands before it.
 #[test]
-fn stale_load(rt: HostRuntime) -> Result<(), Fail> {
-    let events = [by(0, Kind::Store(0, 5)), by(1, Kind::Load(0, 0))];
-    let journal = journal_of(&rt, rt.alloc(), 2, 1, &events)?;
+fn stale_load_does_not_replay(rt: HostRuntime) -> Result<(), Fail> {
+    let journal = journal_of(&rt, rt.alloc(), 2, 1, &stale_load())?;
     assert_eq!(rt; journal.replay()?.is_none(), true);
     Ok(())
 }
 
 /// A race whose load stands before the store replays.
 #[test]
-fn load_before_store(rt: HostRuntime) -> Result<(), Fail> {
-    let fetch = Kind::Fetch {
-        page: 0,
-        writers: 1,
-        records: 1,
-        words: 1,
-    };
-    let events = [
-        by(0, Kind::Load(0, 0)),
-        by(0, Kind::Arrive),
-        by(1, Kind::Store(0, 4)),
-        by(1, Kind::Arrive),
-        by(1, Kind::Depart),
-        by(0, Kind::Depart),
-        by(0, fetch),
-        by(0, Kind::Load(0, 4)),
-    ];
-    let journal = journal_of(&rt, rt.alloc(), 2, 1, &events)?;
+fn race_replays(rt: HostRuntime) -> Result<(), Fail> {
+    let journal = journal_of(&rt, rt.alloc(), 2, 1, &load_before_store())?;
     let memory = journal.replay()?.ok_or("does not replay")?;
     assert_eq!(rt; memory.as_slice(), [4].as_slice());
     Ok(())

@@ -1,6 +1,7 @@
 //! What a journal's events cost in messages, records and words.
 
 ghost use Rattle.std.specs.Prelude.{◌≡◌, ◌^◌, ◌<◌, ◌≤◌, length};
+ghost use Rattle.lists.specs.Limits.{most_held};
 ghost use Rattle.journal.specs.Traffic.{messages, records, words, messages_of, records_of, words_of};
 
 use crate::event::{Event, Kind};
@@ -45,7 +46,7 @@ fn cost_of(kind: Kind) -> Traffic
 
 /// The traffic of these events.
 pub(crate) fn traffic_of(events: &[Event]) -> Traffic
-    requires { length events.now ≤ 2 ^ 21 }
+    requires { length events.now ≤ most_held }
     ensures messages { result.messages ≡ messages events.now }
     ensures records { result.records ≡ records events.now }
     ensures words { result.words ≡ words events.now }

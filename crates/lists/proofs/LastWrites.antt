@@ -66,15 +66,6 @@ word_written {A} f words (x ∷ xs) o w h = go (f x) refl (word_written f (wrote
     go None e (inr h) = inr (h.0, unwritten-cons f x xs o (λ u g. none-some (o, u) (sym e ∙ g)) h.1)
     go (Some p) e (inr h) = at p e h.0 h.1 (cases_eq o p.0)
 
--- a place that is never written keeps its word
-pub word_kept : {A : Type 0} (f : A → Option (ℕ × ℕ)) (words : List ℕ) (xs : List A) (o : ℕ) → Unwritten f xs o → slice_get (written f words xs) o ≡ slice_get words o
-word_kept f words xs o n = go (slice_get words o) (slice_get (written f words xs) o) refl refl
-  where
-    go : (a b : Option ℕ) → slice_get words o ≡ a → slice_get (written f words xs) o ≡ b → slice_get (written f words xs) o ≡ slice_get words o
-    go a (Some w) d e = elim (word_written f words xs o w e) [ inl l ↦ absurd (n l.place l.item w l.at l.writes) | inr h ↦ e ∙ sym h.0 ]
-    go None None d e = e ∙ sym d
-    go (Some v) None d e = absurd (none-some (get_or (written f words xs) o 0) (sym e ∙ slice_get-get_or (written f words xs) o 0 (rw length-written (slice_get_within words o v d))))
-
 -- the last write at a place is found there
 pub last_word : {A : Type 0} (f : A → Option (ℕ × ℕ)) (words : List ℕ) (xs : List A) (o v : ℕ) → o < length words → LastWrite f xs o v → slice_get (written f words xs) o ≡ Some v
 last_word f words xs o v h l =

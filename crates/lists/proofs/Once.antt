@@ -1,8 +1,8 @@
 -- Lists in which nothing stands twice, and how long they can be.
-use Rattle.std.proofs.Common.{ℕ, zero, suc, ◌≡◌, ◌≢◌, ◌≤◌, ◌↔◌, List, [], ◌∷◌, ◌++◌, Some, slice_get, length, map, arith, refl, sym, ap, ◌∙◌, subst}
+use Rattle.std.proofs.Common.{ℕ, zero, suc, ◌≡◌, ◌≢◌, ◌≤◌, ◌↔◌, List, [], ◌∷◌, ◌++◌, Some, slice_get, length, arith, refl, sym, ap, ◌∙◌, subst}
 use Rattle.std.proofs.lemmas.Option.{same_Some, none-some}
 use Rattle.lists.specs.Places.{Has, IsOnce}
-use Rattle.lists.proofs.Joined.{in_order_tail, in_order-append, in_order-map, in_order_weaker}
+use Rattle.lists.proofs.Joined.{in_order_tail, in_order-append}
 
 -- the list without what stands at place k
 without : {A : Type 0} → List A → ℕ → List A
@@ -24,10 +24,6 @@ has-without (z ∷ xs) zero (suc m) x y h g d = (m, g)
 has-without (z ∷ xs) (suc k) zero x y h g d = (0, g)
 has-without (z ∷ xs) (suc k) (suc m) x y h g d = let r = has-without xs k m x y h g d in (suc r.0, r.1)
 
--- the first item does not stand in the rest
-pub once_head : {A : Type 0} (x : A) (xs : List A) → IsOnce (x ∷ xs) → ¬ Has xs x
-once_head x xs h m = h 0 (suc m.0) x x (omega arith) refl m.1 refl
-
 -- what has each item once is no longer than a list with all of them
 pub once_le : {A : Type 0} (xs ys : List A) → IsOnce xs → ((x : A) → Has xs x → Has ys x) → length xs ≤ length ys
 once_le [] ys once all = omega arith
@@ -47,7 +43,3 @@ once_same xs ys once other same =
 -- two lists with nothing in common
 pub once-append : {A : Type 0} (xs ys : List A) → IsOnce xs → IsOnce ys → ((x : A) → Has xs x → ¬ Has ys x) → IsOnce (xs ++ ys)
 once-append {A} xs ys first second apart = in_order-append (λ (a b : A). a ≢ b) xs ys first second (λ a b here there e. let P : A → Type 0 = Has ys in apart a here (subst P (sym e) there))
-
--- a function that tells the items apart
-pub once-map : {A B : Type 0} (f : A → B) (xs : List A) → ((a b : A) → Has xs a → Has xs b → f a ≡ f b → a ≡ b) → IsOnce xs → IsOnce (map f xs)
-once-map {A} {B} f xs apart once = in_order-map (λ (a b : B). a ≢ b) f xs (in_order_weaker (λ (a b : A). a ≢ b) (λ (a b : A). f a ≢ f b) xs (λ a b here there d e. d (apart a b here there e)) once)

@@ -3,7 +3,7 @@ use Rattle.std.proofs.Common.{◌≡◌, ℕ, zero, suc, ◌+◌, ◌<◌, ◌�
 use Rattle.std.proofs.lemmas.Option.{slice_get_within, same_Some, none-some}
 use Rattle.std.proofs.lemmas.List.{take-append-le}
 use Rattle.std.proofs.lemmas.List.Sums.{sum_by-append, sum_by-take-le}
-use Rattle.std.proofs.lemmas.Bool.{cases_lt, cases_order}
+use Rattle.std.proofs.lemmas.Bool.{cases_lt}
 use Rattle.std.proofs.Math.Seq.{take-append_seam}
 
 -- the first list's items keep their places
@@ -130,13 +130,3 @@ counted {A} p xs n = push_induction (λ ys. n < count_by p ys → CountedAt p ys
 
     step : (ys : List A) (y : A) → (n < count_by p ys → CountedAt p ys n) → n < count_by p (ys ++ y ∷ []) → CountedAt p (ys ++ y ∷ []) n
     step ys y ih h = elim (cases_lt n (count_by p ys)) [ inl lt ↦ longer ys y (ih lt) | inr le ↦ now ys y (p y) refl h le ]
-
--- two counted items with one number stand at one place
-pub same_number : {A : Type 0} (p : A → Bool) (xs : List A) (i k : ℕ) (x y : A) → slice_get xs i ≡ Some x → slice_get xs k ≡ Some y → p x ≡ true → p y ≡ true → count_by p (take i xs) ≡ count_by p (take k xs) → i ≡ k
-same_number p xs i k x y at to is too e = elim (cases_order i k) [
-  | inl same ↦ same
-  | inr apart ↦ elim apart [
-    | inl lt ↦ (let up = count_by-past p xs i k x at is lt in absurd (omega arith))
-    | inr lt ↦ (let up = count_by-past p xs k i y to too lt in absurd (omega arith))
-  ]
-]

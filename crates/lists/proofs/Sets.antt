@@ -1,5 +1,5 @@
 -- The item at a place after a write to a place, and lists that agree at every place.
-use Rattle.std.proofs.Common.{ℕ, zero, suc, ◌≡◌, ◌≢◌, ◌<◌, List, [], ◌∷◌, Some, slice_get, slice_set, length, replicate, arith, refl, sym, ap}
+use Rattle.std.proofs.Common.{ℕ, zero, suc, ◌≡◌, ◌≢◌, ◌<◌, List, [], ◌∷◌, Some, slice_get, slice_set, slice_index, length, replicate, arith, refl, sym, ap}
 use Rattle.std.proofs.lemmas.Option.{same_Some, none-some}
 
 -- a write within the list is found where it was written
@@ -43,3 +43,9 @@ pub slice_get-replicate : {A : Type 0} (n : ℕ) (a : A) (k : ℕ) → k < n →
 slice_get-replicate zero a k h = absurd (omega arith)
 slice_get-replicate (suc n) a zero h = refl
 slice_get-replicate (suc n) a (suc k) h = slice_get-replicate n a k (omega arith)
+
+-- zeros are zeros, past their end too
+pub index-zeros : (n q : ℕ) → slice_index (replicate n 0) q ≡ 0
+index-zeros zero q = refl
+index-zeros (suc n) zero = refl
+index-zeros (suc n) (suc q) = index-zeros n q

@@ -12,3 +12,7 @@ most_in_block = 256
 -- events of a journal, but for what `finish` hands in
 abbrev pub most_events : ℕ
 most_events = 2 ^ 20
+
+-- events that a journal can hold: those, what `finish` hands in, and room to spare
+abbrev pub most_held : ℕ
+most_held = 2 ^ 21

@@ -1,5 +1,11 @@
 //! Distributed locks: for each lock who holds it, who is queued for it, and the timestamp that its
 //! last release left with it.
+//!
+//! - Contracts see `Locks` as a list of `Lock`s (holder, queue, time), and speak of one by `lock_at`,
+//!   `asked` and `released` (specs/Lock).
+//! - Proved: each call is what these words say, and the line at a lock stays orderly (`IsOrderly`): nobody
+//!   stands in it twice, and somebody is queued only where the lock is held.
+//! - Only tested: that `new` wants no memory needlessly. That no other call takes any is read off the code.
 #![tactic(auto)]
 
 mod lines;

@@ -1,5 +1,6 @@
 //! The lines of processors at distributed locks.
 ghost use Rattle.std.specs.Prelude.{◌≡◌, ◌≤◌, ◌<◌, ◌↔◌, IsTrue, IfOk, None, Some, [], length, replicate, slice_get};
+ghost use Rattle.lists.specs.Limits.{most_processors};
 ghost use Rattle.lists.specs.Places.{Has};
 ghost use Rattle.lockq.specs.Lock.{unheld, lock_at, with_lock, line, asked, released, IsOrderly};
 
@@ -33,7 +34,7 @@ impl Model for Lock {
 impl Lock {
     fn new(alloc: Global, processors: usize) -> Result<Self, AllocError>
         requires some { 1 ≤ processors }
-        requires most { processors ≤ 16 }
+        requires most { processors ≤ most_processors }
         ensures { IfOk result (λ k. k ≡ unheld processors) }
     {
         Ok(Lock {
@@ -101,12 +102,11 @@ impl Model for Locks {
 }
 
 impl Locks {
-    /// `locks` locks (up to 32) that nobody has asked for, among `processors` processors (1 to 16).
+    /// `locks` locks that nobody has asked for, among `processors` processors (1 to 16).
     /// Answers `AllocError` where memory for them is refused.
     pub fn new(alloc: Global, locks: usize, processors: usize) -> Result<Self, AllocError>
-        requires locks { locks ≤ 32 }
         requires some { 1 ≤ processors }
-        requires most { processors ≤ 16 }
+        requires most { processors ≤ most_processors }
         ensures processors { IfOk result (λ s. s.processors ≡ processors) }
         ensures locks { IfOk result (λ s. s.locks ≡ replicate locks (unheld processors)) }
     {
@@ -182,6 +182,7 @@ impl Locks {
 mod tests {
     use super::*;
     use std::test::Fail;
+    use vtime::MOST_PROCESSORS;
 
     /// Whoever asks while the lock is held waits for those who asked before. Passes also where one
     /// growth, any of them, is refused.
@@ -240,7 +241,7 @@ mod tests {
 
     #[test]
     fn holds_several_locks(rt: HostRuntime) -> Result<(), Fail> {
-        let mut locks = Locks::new(rt.alloc(), 32, 16)?;
+        let mut locks = Locks::new(rt.alloc(), 32, MOST_PROCESSORS)?;
         assert!(rt; locks.ask(31, 0));
         assert!(rt; locks.ask(4, 0));
         assert!(rt; locks.ask(5, 9));
@@ -254,6 +255,21 @@ mod tests {
             locks.release(31, processor, VTime::zero(rt.alloc(), 16));
         }
         assert_eq!(rt; locks.next(31), None);
+        Ok(())
+    }
+
+    #[test]
+    fn takes_more_than_a_thousand_locks(rt: HostRuntime) -> Result<(), Fail> {
+        let mut locks = Locks::new(rt.alloc(), 1_025, MOST_PROCESSORS)?;
+        assert!(rt; locks.ask(1_024, 15));
+        assert!(rt; !locks.ask(1_024, 0));
+        assert_eq!(rt; locks.holder(1_023), None);
+        assert_eq!(rt; locks.holder(1_024), Some(15));
+        let mut time = VTime::zero(rt.alloc(), MOST_PROCESSORS);
+        time.tick(15);
+        assert_eq!(rt; locks.release(1_024, 15, time), Some(0));
+        assert_eq!(rt; locks.time(1_024).entry(15), 1);
+        assert_eq!(rt; locks.time(1_023).entry(15), 0);
         Ok(())
     }
 }

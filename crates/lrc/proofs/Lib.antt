@@ -1,5 +1,5 @@
-pub mod Histories
+pub mod History
 pub mod Alone
-pub mod Calling
-pub mod Reporting
-pub mod Written
+pub mod Calls
+pub mod Runs
+pub mod Writing

@@ -1,7 +1,10 @@
 -- The stand-in for a cluster of one processor.
-use Rattle.std.specs.Prelude.{ℕ, ◌≡◌, List, ◌++◌, map}
+use Rattle.std.specs.Prelude.{ℕ, ◌≡◌, List, [], ◌++◌, map}
 use Rattle.journal.specs.declared.event.Event.{Event}
 use Rattle.journal.specs.declared.event.Kind.{Kind}
+use Rattle.journal.specs.declared.event.Kind.TheVariants.{Arrive, Depart}
+use Rattle.journal.specs.Did.{event, did}
+use Rattle.journal.specs.Log.{Log}
 use Rattle.journal.specs.Sizes.{Sizes}
 
 -- what contracts see of it: how many words it has, what was handed in, and the open block
@@ -14,14 +17,26 @@ pub record Machine : Type 0 where
 abbrev pub history : Machine → List Event
 history m = m.journal ++ m.block
 
--- processor 0 does this
-abbrev pub by_first : Kind → Event
-by_first kind = record { processor = 0; kind = kind }
-
 -- these calls were made
 pub record Calls (old new : Machine) (kinds : List Kind) : Type 0 where
   pub same_addresses : new.addresses ≡ old.addresses
-  pub more : history new ≡ history old ++ map by_first kinds
+  pub more : history new ≡ history old ++ map (event 0) kinds
+
+-- after a call that stays in the open block
+abbrev pub after_call : Machine → Kind → Machine
+after_call m kind = record m { block = did m.block 0 kind }
+
+-- after the open block is handed in
+abbrev pub after_flush : Machine → Machine
+after_flush m = record m { journal = history m; block = [] }
+
+-- after a barrier, which hands the open block in
+abbrev pub after_barrier : Machine → Machine
+after_barrier m = record m { journal = did (did (history m) 0 Arrive) 0 Depart; block = [] }
+
+-- a journal of all that was called, with no room for more
+abbrev pub log_of : Machine → Log
+log_of m = record { processors = 1; addresses = m.addresses; events = history m; room = 0 }
 
 -- one processor and one page
 abbrev pub sizes_of_one : ℕ → Sizes

@@ -18,8 +18,10 @@ word_line x = codes "word " ++ decimal x.0 ++ codes " " ++ decimal x.1 ++ codes 
 
 -- the messages, records and words
 abbrev pub traffic_line : Traffic → List ℕ
-traffic_line t = codes "traffic " ++ decimal t.messages ++ codes " " ++ decimal t.records ++ codes " " ++ decimal t.words ++ codes "\n"
+traffic_line t =
+    codes "traffic " ++ decimal t.messages ++ codes " " ++ decimal t.records ++ codes " " ++ decimal t.words ++ codes "\n"
 
+-- whether there is a race
 abbrev pub verdict_line : Bool → List ℕ
 verdict_line racy = if racy then codes "verdict racy\n" else codes "verdict race-free\n"
 

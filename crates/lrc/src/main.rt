@@ -1,4 +1,16 @@
 //! `lrc`: runs scripts of a shared memory and prints the final words, a race verdict and the traffic.
+//!
+//! **What contracts see.** A run's `Report` is one of a script's plan (`IsReportOf`): its journal has the
+//! plan's sizes and holds a history that is well formed, explained and follows the plan, and the report
+//! tells of that history alone. `report_text` is the text of a report, `file_given` the file that the words
+//! give. What goes with the stand-in of one processor is in `Machine`, `History`, `Holding`, `Alone` and
+//! `Served`.
+//!
+//! **What is proved.** `run::run` answers such a report, or refuses the script by name; `render::render`
+//! writes its text and nothing else, after a fault a beginning of it; `words::options` reads the file.
+//!
+//! **What is only tested.** The texts of faults, help and usage, the exit statuses, the gate, and that
+//! memory isn't wanted needlessly.
 #![tactic(auto)]
 
 mod fault;

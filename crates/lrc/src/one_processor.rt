@@ -4,7 +4,9 @@
 ghost use Rattle.std.specs.Prelude.{◌≡◌, ◌+◌, ◌-◌, ◌^◌, ◌<◌, ◌≤◌, ◌++◌, ◌∷◌, [], ◌↔◌, All, IfOk, IfErr, OnOk, OnErr, length, vec_len, vec_capacity};
 ghost use Rattle.journal.specs.InRange.{AddressInRange};
 ghost use Rattle.lrc.specs.History.{IsHistory};
-ghost use Rattle.lrc.specs.Machine.{by_first, history};
+ghost use Rattle.lists.specs.Limits.{most_in_block, most_events};
+ghost use Rattle.journal.specs.Did.{did};
+ghost use Rattle.lrc.specs.Machine.{history, after_call, after_flush, after_barrier, log_of};
 
 use journal::{Event, Journal, Kind};
 use std::alloc::{AllocError, Global};
@@ -69,7 +71,10 @@ fn append_all(journal: &mut Journal, events: &[Event])
     requires limit { length journal.old.events + length events.now ≤ 2 ^ 21 }
     requires processor { All (λ e. e.processor < journal.old.processors) events.now }
     requires address { All (λ e. AddressInRange journal.old.addresses e.kind) events.now }
-    ensures { journal.new ≡ record journal.old { events = journal.old.events ++ events.now; room = journal.old.room - length events.now } }
+    ensures { journal.new ≡ record journal.old {
+      events = journal.old.events ++ events.now;
+      room = journal.old.room - length events.now;
+    } }
 {
     for event in events {
         journal.append(*event);
@@ -79,7 +84,7 @@ fn append_all(journal: &mut Journal, events: &[Event])
 /// Puts a call of the processor at the block's end.
 fn push_call(block: &mut Vec<Event>, kind: Kind)
     requires { vec_len block.old < vec_capacity block.old }
-    ensures items { block.new.items ≡ block.old.items ++ by_first kind ∷ [] }
+    ensures items { block.new.items ≡ did block.old.items 0 kind }
     ensures length { vec_len block.new ≡ vec_len block.old + 1 }
     ensures capacity { vec_capacity block.old ≤ vec_capacity block.new }
 {
@@ -103,9 +108,9 @@ impl OneProcessor {
     /// The word at an address. BlockFull where the open block has 256 events, and then all is as before.
     pub fn load(&mut self, address: usize) -> Result<u32, Refused>
         requires { address < self.old.addresses }
-        ensures ok { IfOk result (λ v. self.new ≡ record self.old { block = self.old.block ++ by_first (Kind.Load address v) ∷ [] }) }
+        ensures ok { IfOk result (λ v. self.new ≡ after_call self.old (Kind.Load address v)) }
         ensures err { OnErr result (self.new ≡ self.old) }
-        ensures full { result ≡ Err Refused.BlockFull ↔ (length self.old.block ≡ 256) }
+        ensures full { result ≡ Err Refused.BlockFull ↔ (length self.old.block ≡ most_in_block) }
         ensures only { IfErr result (λ e. e ≡ Refused.BlockFull) }
     {
         if self.block.len() == BLOCK {
@@ -121,9 +126,9 @@ impl OneProcessor {
     /// all is as before.
     pub fn store(&mut self, address: usize, value: u32) -> Result<(), Refused>
         requires { address < self.old.addresses }
-        ensures ok { OnOk result (self.new ≡ record self.old { block = self.old.block ++ by_first (Kind.Store address value) ∷ [] }) }
+        ensures ok { OnOk result (self.new ≡ after_call self.old (Kind.Store address value)) }
         ensures err { OnErr result (self.new ≡ self.old) }
-        ensures full { result ≡ Err Refused.BlockFull ↔ (length self.old.block ≡ 256) }
+        ensures full { result ≡ Err Refused.BlockFull ↔ (length self.old.block ≡ most_in_block) }
         ensures only { IfErr result (λ e. e ≡ Refused.BlockFull) }
     {
         if self.block.len() == BLOCK {
@@ -137,9 +142,9 @@ impl OneProcessor {
     /// Hands the open block in. JournalFull where the journal would have more than 2^20 events. After an
     /// error all is as before.
     pub fn flush(&mut self) -> Result<(), Refused>
-        ensures ok { OnOk result (self.new ≡ record self.old { journal = self.old.journal ++ self.old.block; block = [] }) }
+        ensures ok { OnOk result (self.new ≡ after_flush self.old) }
         ensures err { OnErr result (self.new ≡ self.old) }
-        ensures full { result ≡ Err Refused.JournalFull ↔ (2 ^ 20 < length self.old.journal + length self.old.block) }
+        ensures full { result ≡ Err Refused.JournalFull ↔ (most_events < length (history self.old)) }
     {
         if self.journal.len() + self.block.len() > LIMIT {
             return Err(Refused::JournalFull);
@@ -153,9 +158,9 @@ impl OneProcessor {
     /// Hands the open block in and passes a barrier, at which nobody else arrives. JournalFull where the
     /// journal would have more than 2^20 events. After an error all is as before.
     pub fn pass_barrier(&mut self) -> Result<(), Refused>
-        ensures ok { OnOk result (self.new ≡ record self.old { journal = self.old.journal ++ self.old.block ++ by_first Kind.Arrive ∷ [] ++ by_first Kind.Depart ∷ []; block = [] }) }
+        ensures ok { OnOk result (self.new ≡ after_barrier self.old) }
         ensures err { OnErr result (self.new ≡ self.old) }
-        ensures full { result ≡ Err Refused.JournalFull ↔ (2 ^ 20 < length self.old.journal + length self.old.block + 2) }
+        ensures full { result ≡ Err Refused.JournalFull ↔ (most_events < length (history self.old) + 2) }
     {
         let more = self.block.len() + 2;
         if self.journal.len() + more > LIMIT {
@@ -177,9 +182,9 @@ impl OneProcessor {
 
     /// Hands the open block in and answers a copy of the journal. JournalFull as `flush`.
     pub fn audit(&mut self) -> Result<Journal, Refused>
-        ensures events { IfOk result (λ j. j.events ≡ history self.old) }
+        ensures journal { IfOk result (λ j. j ≡ log_of self.old) }
         ensures history { IfOk result (λ j. IsHistory self.old.addresses j.events) }
-        ensures full { result ≡ Err Refused.JournalFull ↔ (2 ^ 20 < length self.old.journal + length self.old.block) }
+        ensures full { result ≡ Err Refused.JournalFull ↔ (most_events < length (history self.old)) }
     {
         self.flush()?;
         let journal = self.journal.copy()?;

@@ -1,13 +1,14 @@
 //! Runs a script.
 
-ghost use Rattle.std.specs.Prelude.{◌≡◌, ◌<◌, ◌∷◌, [], IfOk, IfErr, ◌≢◌, IsTrue, ◌↔◌, OnOk, All, map};
-ghost use Rattle.journal.specs.declared.event.Kind.TheVariants as event;
+ghost use Rattle.std.specs.Prelude.{◌≡◌, ◌<◌, ◌∷◌, [], false, IfOk, IfErr, ◌≢◌, IsTrue, ◌↔◌, OnOk, All, map};
+ghost use Rattle.journal.specs.declared.event.Kind.TheVariants as kind;
 ghost use Rattle.lrc_script.specs.Lawful.{IsLawful};
 ghost use Rattle.lrc_script.specs.Plan.{plan_of};
 ghost use Rattle.lrc.specs.Served.{IsServed};
 ghost use Rattle.lrc.specs.Runs.{IsReportOf};
 ghost use Rattle.lrc.specs.Machine.{Calls};
-ghost use Rattle.lrc.specs.Follows.{DoesInstruction, DoesAll, IsWithin, load_of};
+ghost use Rattle.lrc.specs.Follows.{load_of};
+ghost use Rattle.lrc.specs.Alone.{DoesInstruction, DoesAll, IsWithin};
 
 use crate::gate::Gate;
 use crate::one_processor::{OneProcessor, Refused};
@@ -18,7 +19,7 @@ use std::alloc::{AllocError, Global};
 /// Loads the word at an address, after a flush where the block is full.
 fn load(memory: &mut OneProcessor, address: usize) -> Result<u32, Refused>
     requires { address < memory.old.addresses }
-    ensures { IfOk result (λ v. Calls memory.old memory.new (event.Load address v ∷ [])) }
+    ensures { IfOk result (λ v. Calls memory.old memory.new (kind.Load address v ∷ [])) }
 {
     match memory.load(address) {
         Err(Refused::BlockFull) => {
@@ -32,7 +33,7 @@ fn load(memory: &mut OneProcessor, address: usize) -> Result<u32, Refused>
 /// Stores a value at an address, after a flush where the block is full.
 fn store(memory: &mut OneProcessor, address: usize, value: u32) -> Result<(), Refused>
     requires { address < memory.old.addresses }
-    ensures { OnOk result (Calls memory.old memory.new (event.Store address value ∷ [])) }
+    ensures { OnOk result (Calls memory.old memory.new (kind.Store address value ∷ [])) }
 {
     match memory.store(address, value) {
         Err(Refused::BlockFull) => {
@@ -112,6 +113,7 @@ fn run_alone<G: Gate>(alloc: Global, script: &Script, gate: &G) -> Result<Report
     requires lawful { IsLawful (plan_of script.now) }
     requires served { IsServed (plan_of script.now) }
     ensures report { IfOk result (IsReportOf (plan_of script.now)) }
+    ensures quiet { IfOk result (λ r. r.racy ≡ false) }
     ensures halts { IfErr result (λ cause. cause ≢ Cause.Unserved) }
 {
     let mut memory = OneProcessor::new(alloc, script.pages * script.words)?;
@@ -129,7 +131,8 @@ fn run_alone<G: Gate>(alloc: Global, script: &Script, gate: &G) -> Result<Report
 }
 
 /// Runs a script: does the section of its processor, the closing barrier and the loads of the shown
-/// addresses, and answers the report, whose journal follows the script and is explained.
+/// addresses, and answers the report, whose journal follows the script and is explained. One processor
+/// alone has no race.
 ///
 /// # Errors
 ///
@@ -138,6 +141,7 @@ fn run_alone<G: Gate>(alloc: Global, script: &Script, gate: &G) -> Result<Report
 pub fn run<G: Gate>(alloc: Global, script: &Script, gate: &G) -> Result<Report, RunFault>
     requires { IsLawful (plan_of script.now) }
     ensures report { IfOk result (IsReportOf (plan_of script.now)) }
+    ensures quiet { IfOk result (λ r. r.racy ≡ false) }
     ensures unserved { ¬ IsServed (plan_of script.now) → result ≡ Err (record { processor = 0; cause = Cause.Unserved }) }
     ensures served { IsServed (plan_of script.now) → IfErr result (λ fault. fault.cause ≢ Cause.Unserved) }
 {

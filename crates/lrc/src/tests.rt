@@ -64,6 +64,28 @@ fn many_adds(rt: HostRuntime) -> Result<(), Fail> {
     Ok(())
 }
 
+/// As many instructions and shown addresses as a script may have. A run that answers that memory ran out past
+/// some hundred events or shown words is proved; it fails here.
+#[test]
+fn the_longest_script(rt: HostRuntime) -> Result<(), Fail> {
+    let mut script = Vec::from_slice(rt.alloc(), b"cluster 1 1 64 0\np 0\n")?;
+    for _ in 0..10_000 {
+        script.extend_from_slice(b"add 63 4294967295\n")?;
+    }
+    script.extend_from_slice(b"show")?;
+    for address in 0..64 {
+        script.extend_from_slice(format!(in rt.alloc(); " {address}")?.as_bytes())?;
+    }
+    script.extend_from_slice(b"\n")?;
+    let mut out = Vec::new(rt.alloc());
+    for address in 0..63 {
+        out.extend_from_slice(format!(in rt.alloc(); "word {address} 0\n")?.as_bytes())?;
+    }
+    out.extend_from_slice(b"word 63 4294957296\nverdict race-free\ntraffic 2 0 0\n")?;
+    check(&rt, rt.alloc(), &script, 0, &out, b"");
+    Ok(())
+}
+
 #[test]
 fn refused_scripts(rt: HostRuntime) {
     let rows: [(&[u8], &[u8]); 11] = [

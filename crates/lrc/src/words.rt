@@ -39,7 +39,8 @@ fn file_of<'a>(matches: &ArgMatches<'a>) -> Option<&'a str>
 ///
 /// clap's: words that give no such command, a question for help, or want of memory.
 pub fn options<'a>(alloc: Global, words: &'a [&'a str]) -> Result<Options, Error>
-    ensures { IfOk result (λ o. option_map (λ f. string_bytes f) o.file ≡ file_given (map (λ w. w.now) words.entry.now)) }
+    ensures { IfOk result (λ o. option_map (λ f. string_bytes f) o.file
+        ≡ file_given (map (λ w. w.now) words.entry.now)) }
 {
     let matches = command(alloc)?.try_get_matches_from(words)?;
     match file_of(&matches) {

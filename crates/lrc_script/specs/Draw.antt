@@ -30,13 +30,15 @@ group s g =
 -- a load, a store or an addition
 abbrev pub access : ℕ → ℕ → Lcg → Instruction × Lcg
 access kind a g =
-    if nat_lt kind 2 then (Load a, g) else (let v = below 8 g in (if nat_lt kind 4 then Store a v.0 else Add a v.0, v.1))
+    if nat_lt kind 2 then (Load a, g)
+    else (let v = below 8 g in (if nat_lt kind 4 then Store a v.0 else Add a v.0, v.1))
 
 -- an item of a drawn kind: the last of six is a group
 abbrev pub item : Shape → Lcg → List Instruction × Lcg
 item s g =
     let kind = below 6 g in
-    if kind.0 == 5 then group s kind.1 else (let a = below (s.pages * s.words) kind.1 in let i = access kind.0 a.0 a.1 in (i.0 ∷ [], i.1))
+    if kind.0 == 5 then group s kind.1
+    else (let a = below (s.pages * s.words) kind.1 in let i = access kind.0 a.0 a.1 in (i.0 ∷ [], i.1))
 
 abbrev pub piece : Style → Shape → Lcg → List Instruction × Lcg
 piece Guarded s g = group s g
@@ -58,15 +60,24 @@ phase style s g = let n = below (most_pieces style) g in pieces n.0 style s n.1
 -- so many barriers, each with a phase behind it
 unfoldable pub more_phases : ℕ → Style → Shape → Lcg → List Instruction × Lcg
 more_phases zero style s g = ([], g)
-more_phases (suc n) style s g = let one = phase style s g in let rest = more_phases n style s one.1 in (Barrier ∷ one.0 ++ rest.0, rest.1)
+more_phases (suc n) style s g =
+    let one = phase style s g in
+    let rest = more_phases n style s one.1 in
+    (Barrier ∷ one.0 ++ rest.0, rest.1)
 
 unfoldable pub section : Style → Shape → Lcg → List Instruction × Lcg
-section style s g = let first = phase style s g in let rest = more_phases s.barriers style s first.1 in (first.0 ++ rest.0, rest.1)
+section style s g =
+    let first = phase style s g in
+    let rest = more_phases s.barriers style s first.1 in
+    (first.0 ++ rest.0, rest.1)
 
 -- so many sections
 unfoldable pub drawn_sections : ℕ → Style → Shape → Lcg → List (List Instruction) × Lcg
 drawn_sections zero style s g = ([], g)
-drawn_sections (suc n) style s g = let one = section style s g in let rest = drawn_sections n style s one.1 in (one.0 ∷ rest.0, rest.1)
+drawn_sections (suc n) style s g =
+    let one = section style s g in
+    let rest = drawn_sections n style s one.1 in
+    (one.0 ∷ rest.0, rest.1)
 
 -- the script that the draws give, which shows all addresses
 unfoldable pub drawn : Style → Lcg → Plan

@@ -6,7 +6,7 @@ use Rattle.lrc_script.specs.declared.fault.ScriptFault.{ScriptFault}
 use Rattle.lrc_script.specs.declared.fault.ScriptFault.TheVariants.{Truncated, BadLine, BadNumber, BadSize, OutOfRange, BadLock, BadFlag, AlreadyHeld, NotHeld, TooLong, Uneven, NoMemory}
 use Rattle.lrc_script.specs.declared.script.Instruction.{Instruction}
 use Rattle.lrc_script.specs.declared.script.Instruction.TheVariants.{Acquire, Release}
-use Rattle.lrc_script.specs.Plan.{Plan}
+use Rattle.lrc_script.specs.Plan.{Plan, head_plan}
 use Rattle.lrc_script.specs.Lawful.{addresses, address_of, lock_of, flag_of, holds, barriers, AreSizes, IsLawfulButUneven}
 use Rattle.lrc_script.specs.Text.{cluster_line, section_lines, line_bytes, section_line, instruction_line, show_line, text}
 use Rattle.lrc_script.specs.Front.{Front, Nothing, Headed, Within, Whole, IsBegun, lines_before, text_before}
@@ -40,10 +40,8 @@ IsOutOfTurn _ k = ⊥
 
 -- the numbers aren't sizes that a script may have; no flags are written with four numbers
 abbrev pub AreNoSizes : List ℕ → Type 0
-AreNoSizes (p ∷ n ∷ w ∷ l ∷ []) =
-    AreSizes (record { processors = p; pages = n; words = w; locks = l; flags = 0; sections = []; shown = [] }) → ⊥
-AreNoSizes (p ∷ n ∷ w ∷ l ∷ g ∷ []) =
-    (g ≡ 0) ⊎ (AreSizes (record { processors = p; pages = n; words = w; locks = l; flags = g; sections = []; shown = [] }) → ⊥)
+AreNoSizes (p ∷ n ∷ w ∷ l ∷ []) = AreSizes (head_plan p n w l 0) → ⊥
+AreNoSizes (p ∷ n ∷ w ∷ l ∷ g ∷ []) = (g ≡ 0) ⊎ (AreSizes (head_plan p n w l g) → ⊥)
 AreNoSizes _ = ⊥
 
 -- the line is an instruction with this property
@@ -73,7 +71,8 @@ Says BadLine f line =
 Says BadNumber f line =
     (word : List ℕ) × (words : List (List ℕ)) × IsSplit line word words × Allows f word (length words)
     × (w : List ℕ) × Contains words w × ((n : ℕ) → n < 2 ^ 32 → w ≢ decimal n)
-Says BadSize Nothing line = (ns : List ℕ) × (line ≡ line_bytes (record { word = codes "cluster"; numbers = ns })) × AreNoSizes ns
+Says BadSize Nothing line =
+    (ns : List ℕ) × (line ≡ line_bytes (record { word = codes "cluster"; numbers = ns })) × AreNoSizes ns
 Says fault (Within s is) line = SaysWithin fault s is line
 Says _ f line = ⊥
 
@@ -124,12 +123,16 @@ pub record IsFaultAt (bytes : List ℕ) (n : ℕ) (fault : ScriptFault) : Type 0
   pub begins : BeginsText (text_before front)
   pub behind : IsFaultBehind fault front rest
 
+-- how many barriers section k has
+abbrev pub barriers_in : Plan → ℕ → ℕ
+barriers_in s k = barriers (slice_index_or s.sections k [])
+
 -- line n is the head of the first section with another number of barriers than section 0
 pub record IsUneven (s : Plan) (n : ℕ) : Type 0 where
   pub section : ℕ
   pub within : section < length s.sections
-  pub differs : barriers (slice_index_or s.sections section []) ≢ barriers (slice_index_or s.sections 0 [])
-  pub first : (k : ℕ) → k < section → barriers (slice_index_or s.sections k []) ≡ barriers (slice_index_or s.sections 0 [])
+  pub differs : barriers_in s section ≢ barriers_in s 0
+  pub first : (k : ℕ) → k < section → barriers_in s k ≡ barriers_in s 0
   pub line : n ≡ suc (length (cluster_line s ∷ section_lines 0 (take section s.sections)))
 
 -- the bytes are the text of a script that is lawful but for evenness, and line n says where it is uneven

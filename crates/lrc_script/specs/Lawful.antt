@@ -18,18 +18,20 @@ pub record AreSizes (s : Plan) : Type 0 where
   pub locks : s.locks ≤ 32
   pub flags : s.flags ≤ 32
 
--- the address, the lock and the flag that an instruction names
+-- the address that an instruction names
 abbrev pub address_of : Instruction → Option ℕ
 address_of (Load a) = Some a
 address_of (Store a v) = Some a
 address_of (Add a v) = Some a
 address_of _ = None
 
+-- the lock that it names
 abbrev pub lock_of : Instruction → Option ℕ
 lock_of (Acquire l) = Some l
 lock_of (Release l) = Some l
 lock_of _ = None
 
+-- the flag that it names
 abbrev pub flag_of : Instruction → Option ℕ
 flag_of (Set f) = Some f
 flag_of (Await f) = Some f
@@ -66,7 +68,8 @@ MayStandAfter before _ = Unit {0}
 pub record IsSection (s : Plan) (is : List Instruction) : Type 0 where
   pub most : length is ≤ 10000
   pub in_range : All (IsInRange s) is
-  pub holding : (before : List Instruction) (i : Instruction) (after : List Instruction) → is ≡ before ++ i ∷ after → MayStandAfter before i
+  pub holding : (before : List Instruction) (i : Instruction) (after : List Instruction)
+      → is ≡ before ++ i ∷ after → MayStandAfter before i
 
 -- all that the grammar asks of a script, except that each section has as many barriers
 pub record IsLawfulButUneven (s : Plan) : Type 0 where
@@ -77,6 +80,7 @@ pub record IsLawfulButUneven (s : Plan) : Type 0 where
   pub most_shown : length s.shown ≤ 64
   pub shown : All (λ a. a < addresses s) s.shown
 
+-- whether an instruction is a barrier
 abbrev pub is_barrier : Instruction → Bool
 is_barrier Barrier = true
 is_barrier _ = false

@@ -1,4 +1,5 @@
-use Rattle.std.specs.Prelude.{ℕ, List, map}
+use Rattle.std.specs.Prelude.{ℕ, List, [], map}
+use Rattle.std.specs.Global.{Vec}
 use Rattle.lrc_script.specs.declared.script.Instruction.{Instruction}
 use Rattle.lrc_script.specs.declared.script.Script.{Script}
 
@@ -12,6 +13,14 @@ pub record Plan : Type 0 where
   pub sections : List (List Instruction)
   pub shown : List ℕ
 
+-- what a cluster line says: sizes alone
+abbrev pub head_plan : ℕ → ℕ → ℕ → ℕ → ℕ → Plan
+head_plan p n w l g = record { processors = p; pages = n; words = w; locks = l; flags = g; sections = []; shown = [] }
+
+-- the instructions of sections in memory
+abbrev pub items_of : List (Vec Instruction) → List (List Instruction)
+items_of sections = map (λ section. section.items) sections
+
 -- what the script in memory says
 abbrev pub plan_of : Script → Plan
 plan_of s = record {
@@ -20,6 +29,6 @@ plan_of s = record {
   words = s.words;
   locks = s.locks;
   flags = s.flags;
-  sections = map (λ section. section.items) s.sections.items;
+  sections = items_of s.sections.items;
   shown = s.shown.items;
 }

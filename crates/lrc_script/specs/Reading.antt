@@ -13,7 +13,7 @@ use Rattle.lrc_script.specs.declared.script.Instruction.{Instruction}
 use Rattle.lrc_script.specs.declared.script.Instruction.TheVariants as instruction
 use Rattle.lrc_script.specs.declared.progress.Progress.{Progress}
 use Rattle.lrc_script.specs.declared.progress.Progress.TheVariants as progress
-use Rattle.lrc_script.specs.Plan.{Plan, plan_of}
+use Rattle.lrc_script.specs.Plan.{Plan, head_plan, plan_of}
 use Rattle.lrc_script.specs.Lawful.{addresses, address_of, lock_of, flag_of, holds}
 use Rattle.lrc_script.specs.Faults.{HasNoLineFeed}
 use Rattle.lrc_script.specs.Front.{Front, Nothing, Headed, Within, Whole}
@@ -69,7 +69,8 @@ number_of w = if is_decimal w && nat_lt (digits_value 10 w) (2 ^ 32) then Some (
 -- the numbers that words are, behind these, or the fault of the first that is none
 abbrev pub numbers_after : List ℕ → List (List ℕ) → Result (List ℕ) ScriptFault
 numbers_after ns [] = Ok ns
-numbers_after ns (w ∷ ws) = if is_some (number_of w) then numbers_after (ns ++ unwrap_or (number_of w) 0 ∷ []) ws else Err BadNumber
+numbers_after ns (w ∷ ws) =
+    if is_some (number_of w) then numbers_after (ns ++ unwrap_or (number_of w) 0 ∷ []) ws else Err BadNumber
 
 infixl 10 ◌>>=◌
 abbrev pub ◌>>=◌ : {A B : Type 0} → Result A ScriptFault → (A → Result B ScriptFault) → Result B ScriptFault
@@ -79,8 +80,8 @@ abbrev pub ◌>>=◌ : {A B : Type 0} → Result A ScriptFault → (A → Result
 -- which sizes a script may have
 abbrev pub are_sizes : Plan → Bool
 are_sizes s =
-    nat_le 1 s.processors && nat_le s.processors 16 && nat_le 1 s.pages && nat_le s.pages 64 && nat_le 1 s.words && nat_le s.words 64
-    && nat_le s.locks 32 && nat_le s.flags 32
+    nat_le 1 s.processors && nat_le s.processors 16 && nat_le 1 s.pages && nat_le s.pages 64
+    && nat_le 1 s.words && nat_le s.words 64 && nat_le s.locks 32 && nat_le s.flags 32
 
 -- how many numbers the instruction of a keyword takes
 abbrev pub takes : Keyword → ℕ → Bool
@@ -110,10 +111,8 @@ sized are s = if are then Ok (Headed s) else Err BadSize
 
 -- the numbers of a cluster line
 abbrev pub headed : List ℕ → Result Front ScriptFault
-headed (p ∷ n ∷ w ∷ l ∷ []) =
-    let s : Plan = record { processors = p; pages = n; words = w; locks = l; flags = 0; sections = []; shown = [] } in sized (are_sizes s) s
-headed (p ∷ n ∷ w ∷ l ∷ g ∷ []) =
-    let s : Plan = record { processors = p; pages = n; words = w; locks = l; flags = g; sections = []; shown = [] } in sized (nat_lt 0 g && are_sizes s) s
+headed (p ∷ n ∷ w ∷ l ∷ []) = sized (are_sizes (head_plan p n w l 0)) (head_plan p n w l 0)
+headed (p ∷ n ∷ w ∷ l ∷ g ∷ []) = sized (nat_lt 0 g && are_sizes (head_plan p n w l g)) (head_plan p n w l g)
 headed _ = Err BadLine
 
 -- the section is whole
@@ -127,7 +126,8 @@ first_section s _ = Err BadLine
 
 -- the numbers of another section line
 abbrev pub next_section : Plan → List Instruction → List ℕ → Result Front ScriptFault
-next_section s is (k ∷ []) = if (k == length s.sections + 1) && nat_lt k s.processors then Ok (Within (closed s is) []) else Err BadLine
+next_section s is (k ∷ []) =
+    if (k == length s.sections + 1) && nat_lt k s.processors then Ok (Within (closed s is) []) else Err BadLine
 next_section s is _ = Err BadLine
 
 -- the numbers of the show line

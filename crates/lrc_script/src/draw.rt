@@ -1,8 +1,8 @@
 //! Scripts drawn from a generator, to run under many schedules.
 
-ghost use Rattle.std.specs.Prelude.{◌≡◌, ◌+◌, ◌*◌, ◌<◌, ◌≤◌, ◌++◌, map, IfOk, OnOk};
+ghost use Rattle.std.specs.Prelude.{◌≡◌, ◌+◌, ◌*◌, ◌<◌, ◌≤◌, ◌++◌, IfOk, OnOk};
 ghost use Rattle.std.specs.List.{range_with_len};
-ghost use Rattle.lrc_script.specs.Plan.{plan_of};
+ghost use Rattle.lrc_script.specs.Plan.{items_of, plan_of};
 ghost use Rattle.lrc_script.specs.Lawful.{IsLawful};
 ghost use Rattle.lrc_script.specs.declared.draw.Style.TheVariants as style;
 ghost use Rattle.lrc_script.specs.Draw.{below, shape, group, access, item, piece, pieces, most_pieces, phase, more_phases, section, drawn_sections, drawn, seeded, IsShape};
@@ -167,7 +167,7 @@ fn sections(
     shape: Shape,
 ) -> Result<Vec<Vec<Instruction>>, AllocError>
     requires { IsShape shape }
-    ensures { IfOk result (λ v. map (λ section. section.items) v.items ≡ (drawn_sections shape.processors style shape rng.old).0) }
+    ensures { IfOk result (λ v. items_of v.items ≡ (drawn_sections shape.processors style shape rng.old).0) }
 {
     let mut sections = Vec::new(alloc);
     for _ in 0..shape.processors {

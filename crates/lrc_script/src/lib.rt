@@ -1,4 +1,15 @@
 //! Scripts of a cluster: what they say, their exact text, and the reader of that text.
+//!
+//! **What contracts see.** A `Script` is seen as a `Plan` (`plan_of`): its numbers, its sections as lists of
+//! instructions, its shown addresses. `IsLawful` says which plans are scripts, `text` what their bytes are.
+//! `IsFault` says what a fault says of the bytes, `drawn` which plan the draws give.
+//!
+//! **What is proved.** `script::parse` answers a script only where it is lawful and the bytes are its text,
+//! and a fault only where they are no lawful script's, with its line; `Display` writes the text;
+//! `draw::guarded` and `draw::free` give lawful scripts by the stated draws.
+//!
+//! **What is only tested.** Which fault is answered among several on one line, the texts of the faults, and
+//! that memory isn't wanted needlessly: at the limits of a script, for long lines and for each number.
 #![tactic(auto)]
 
 mod display;

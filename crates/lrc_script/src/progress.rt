@@ -192,7 +192,8 @@ fn add(
 ) -> Result<Progress, ScriptFault>
     requires fits { addresses (plan_of script) ≤ 4096 }
     requires locks { script.locks ≤ 32 }
-    ensures { Gives front_of result (with_instruction (plan_of script) section.instructions.items (Some instruction)) }
+    ensures { Gives front_of result
+        (with_instruction (plan_of script) section.instructions.items (Some instruction)) }
 {
     match refusal(&script, &section, instruction) {
         Some(fault) => Err(fault),

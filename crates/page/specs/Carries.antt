@@ -1,7 +1,6 @@
 -- What a record carries from one copy of a page to another.
 use Rattle.std.specs.Prelude.{ℕ, ◌≡◌, ◌<◌, false, Option, Some, None, List, length, replicate}
 use Rattle.lists.specs.Places.{Has}
-use Rattle.lists.specs.Writes.{written}
 use Rattle.lists.specs.Records.{record_applied, marked, harvest}
 use Rattle.page.specs.Changes.{Changes}
 use Rattle.page.specs.Contents.{Contents}
@@ -16,13 +15,10 @@ pub record IsHarvest (n : ℕ) (p : Contents) (r : Changes) : Type 0 where
   pub words_are : r.words ≡ harvest 0 p.words p.dirty
   pub fits : FitsIn (length p.words) r.words
 
--- the words after these stores, in turn
-abbrev pub stored : List ℕ → List (ℕ × ℕ) → List ℕ
-stored words stores = written (λ (x : ℕ × ℕ). Some x) words stores
-
--- the copy is what these stores, in turn, make of a clean copy with these words
+-- the copy is what these stores, in turn, make of a clean copy with these words: they write as a
+-- record's words do
 pub record IsAfter (stores : List (ℕ × ℕ)) (words : List ℕ) (p : Contents) : Type 0 where
-  pub words_are : p.words ≡ stored words stores
+  pub words_are : p.words ≡ record_applied words stores
   pub dirty_are : p.dirty ≡ marked (λ (x : ℕ × ℕ). Some x) (replicate (length words) false) stores
 
 -- the words after a record, if there is one
@@ -37,4 +33,4 @@ CarriesStores p r =
     (stores : List (ℕ × ℕ)) (words other : List ℕ) →
     IsAfter stores words p →
     length other ≡ length words →
-    carried other r ≡ stored other stores
+    carried other r ≡ record_applied other stores

@@ -75,7 +75,7 @@ mod tests {
     use super::*;
     use std::process::Abort;
     use std::test::Fail;
-    use vtime::VTime;
+    use vtime::{MOST_PROCESSORS, VTime};
 
     /// The timestamp of two processors that has one interval of processor 1.
     fn stamp(alloc: Global) -> VTime {
@@ -115,6 +115,22 @@ mod tests {
         let (time, notices) = taken.into_parts();
         assert!(rt; time == stamp(rt.alloc()) && notices.is_empty());
         assert!(rt; !transit.ready(1) && transit.peek(1).is_none());
+    }
+
+    #[test]
+    fn carries_a_message_to_each_of_sixteen(rt: HostRuntime) -> Result<(), Fail> {
+        let mut transit = Transit::new(rt.alloc(), MOST_PROCESSORS)?;
+        let time = stamp(rt.alloc());
+        let notices = Vec::new(rt.alloc());
+        transit.post(15, Message::Grant { time, notices });
+        assert!(rt; transit.ready(15) && !transit.ready(14));
+        assert!(rt;
+            transit
+                .take(15)
+                .is_some_and(|message| is_told(rt.alloc(), &message, 1))
+        );
+        assert!(rt; !transit.ready(15));
+        Ok(())
     }
 
     // Also with each allocation in turn refused to it: the call is made again.

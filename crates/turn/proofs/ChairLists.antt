@@ -1,14 +1,22 @@
 -- All chairs of a lock in one list, one of which enters and leaves.
-use Rattle.std.proofs.Common.{◌≡◌, ◌≢◌, ℕ, ◌<◌, ◌≤◌, List, Some, slice_get, set, get_or, sym, ◌∙◌, subst, ⊎_elim, arith}
+use Rattle.std.proofs.Common.{◌≡◌, ◌≢◌, ℕ, ◌<◌, ◌≤◌, List, [], ◌∷◌, ◌++◌, length, Some, slice_get, set, get_or, refl, sym, ap, ◌∙◌, subst, ⊎_elim, arith}
 use Rattle.std.proofs.Math.ListN.{length-set}
 use Rattle.std.proofs.lemmas.Option.{slice_get_read}
 use Rattle.turn.specs.declared.chair.ChairToken.{ChairToken}
-use Rattle.turn.specs.Chairs.{LockId, lock, place, entries, IsOutside, IsSameChair, AreAll}
-use Rattle.turn.proofs.Lists.{at_set}
+use Rattle.turn.specs.Chairs.{LockId, lock, place, entries, IsOutside, IsSameChair, IsFresh, AreFresh, AreAll}
+use Rattle.turn.proofs.Lists.{at_set, at_longer, at_last}
 
 -- a chair has entered at most as often as a chair of its lock may
 pub within_limit : {B V : Type 0} (c : ChairToken B V) → entries c ≤ (lock c).limit
 within_limit c = let counted = c.counted in omega arith
+
+-- the last two chairs of a new lock, taken off one after the other
+pub popped_two : {B V : Type 0} (l : LockId) (v : V) (cs ds es : List (ChairToken B V)) (a b : ChairToken B V) → AreFresh l v cs → cs ≡ ds ++ b ∷ [] → ds ≡ es ++ a ∷ [] → IsFresh l (length es) v a × IsFresh l (length ds) v b
+popped_two {B = B} {V = V} l v cs ds es a b fresh last next =
+    let before : slice_get ds (length es) ≡ Some a = ap (λ (xs : List (ChairToken B V)). slice_get xs (length es)) next ∙ at_last es a (length es) refl in (
+      fresh (length es) a (ap (λ (xs : List (ChairToken B V)). slice_get xs (length es)) last ∙ at_longer ds (b ∷ []) (length es) a before),
+      fresh (length ds) b (ap (λ (xs : List (ChairToken B V)). slice_get xs (length ds)) last ∙ at_last ds b (length ds) refl),
+    )
 
 module _ {B V : Type 0} (l : LockId) (n : ℕ) (cs : List (ChairToken B V)) (all : AreAll l n cs) (k : ℕ) (c : ChairToken B V) (less : k < n) (read : c ≡ get_or cs k c) where
   -- the chair at a place

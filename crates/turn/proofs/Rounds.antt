@@ -1,5 +1,6 @@
 -- Each step of the lock is one that the table allows.
-use Rattle.std.proofs.Common.{◌≡◌, ◌≢◌, ℕ, ◌+◌, ◌%◌, ◌^◌, ◌<◌, List, [], ◌∷◌, map, set, get_or, Bool, eq-eqb, ne_eqb, Option, Some, slice_get, MatchBool, unwrap_or, refl, sym, ap, ◌∙◌, subst, arith}
+use Rattle.std.proofs.Common.{◌≡◌, ◌≢◌, ℕ, ◌+◌, ◌%◌, ◌^◌, ◌<◌, List, [], ◌∷◌, map, set, get_or, Bool, true, false, eq-eqb, ne_eqb, Option, Some, slice_get, MatchBool, unwrap_or, refl, sym, ap, ◌∙◌, subst, arith}
+use Rattle.std.specs.Bool.{OnTrue, OnFalse}
 use Rattle.std.proofs.lemmas.List.{set-get_or, get_or-set_other}
 use mathlib.Core.Option as maybe
 use mathlib.Core.Option.{some, none}
@@ -22,6 +23,11 @@ use Rattle.turn.proofs.Steps.{draws, not_out, enters, leaves, served}
 
 waiting_once : {B : Type 0} (g : Stage B) (m k : ℕ) → g ≡ Waiting m → g ≡ Waiting k → m ≡ k
 waiting_once g m k d e = let both : Waiting m ≡ Waiting k = sym d ∙ e in cc
+
+-- what holds in both cases, case by case
+pub both_cases : (X Y : Type 0) (b : Bool) → MatchBool b X Y → OnTrue b X × OnFalse b Y
+both_cases X Y true x = (x, tt)
+both_cases X Y false y = (tt, y)
 
 -- a slot taken alone is the one taken last
 pub taken_last : {S : Type 0} (xs : List (ℕ × S)) (x : S) → xs ≡ (0, x) ∷ [] → xs ≡ (0, x) ∷ rest xs

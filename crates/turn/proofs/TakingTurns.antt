@@ -1,9 +1,8 @@
 -- What the lock's rule means of each state.
-use Rattle.std.proofs.Common.{◌≡◌, ◌↔◌, ℕ, ◌<◌, ◌≤◌, List, [], ◌∷◌, map, get_or, Bool, true, false, Option, Some, refl, sym, ap, ◌∙◌, subst, arith}
+use Rattle.std.proofs.Common.{◌≡◌, ℕ, ◌<◌, ◌≤◌, List, [], ◌∷◌, map, get_or, Bool, true, false, Option, Some, refl, sym, ap, ◌∙◌, subst, arith}
 use mathlib.Core.Option as maybe
 use mathlib.Core.Option.{some, none}
 use Rattle.turn.specs.declared.chair.Stage.{Stage}
-use Rattle.turn.specs.declared.chair.Stage.TheVariants.{Inside}
 use Rattle.turn.specs.declared.chair.ChairState.{ChairState}
 use Rattle.turn.specs.Tickets.{number, shelf, Fits, view_of, drawn, HasNumber, Turns}
 use Rattle.turn.specs.Boards.{IsBoard}
@@ -37,8 +36,8 @@ module _ (B V : Type 0) (fact : B → List V → Type 0) (width : ℕ) (shows : 
   take_turns = record {
     serving = t.serving;
     drawn = λ m. (
-        λ (h : (k : ℕ) × HasNumber cs k m). let r = between h.0 m h.1 in let next = t.next_is in (r.0, omega arith),
-        λ (h : (t.serving ≤ m) × (m < get_or ws 0 0)). let next = t.next_is in t.queued m h.0 (omega arith),
+      λ (h : (k : ℕ) × HasNumber cs k m). let r = between h.0 m h.1 in let next = t.next_is in (r.0, omega arith),
+      λ (h : (t.serving ≤ m) × (m < get_or ws 0 0)). let next = t.next_is in t.queued m h.0 (omega arith),
     );
     apart = t.apart;
     shown = board.lets_in ws t.serving t.shown;

@@ -3,7 +3,6 @@ use Rattle.std.specs.Prelude.{◌≡◌, ◌↔◌, ℕ, ◌<◌, ◌≤◌, Lis
 use mathlib.Core.Option as maybe
 use mathlib.Core.Option.{some, none}
 use Rattle.atomic_table.specs.Table.{State}
-use Rattle.turn.specs.declared.chair.Stage.{Stage}
 use Rattle.turn.specs.declared.chair.Stage.TheVariants.{Inside}
 use Rattle.turn.specs.declared.chair.ChairState.{ChairState}
 use Rattle.turn.specs.declared.chair.ChairRun.{ChairRun}
@@ -16,7 +15,8 @@ module _ {B V : Type 0} where
   InsideAt chairs k m b = (c : ChairState B V) × (slice_get chairs k ≡ Some c) × (c.stage ≡ Inside m b)
 
   -- The chairs take turns. `at m` is the word at which the chair with the number m looks, word 0 the next number
-  pub record TakeTurns (fact : B → List V → Type 0) (at : ℕ → ℕ) (words : List ℕ) (homes : List (maybe.Option (Option B))) (chairs : List (ChairState B V)) : Type 0 where
+  pub record TakeTurns (fact : B → List V → Type 0) (at : ℕ → ℕ) (words : List ℕ)
+      (homes : List (maybe.Option (Option B))) (chairs : List (ChairState B V)) : Type 0 where
     -- the number of leaves
     pub serving : ℕ
     -- the numbers drawn and not left are those from the number of leaves up to the next one, each of one chair
@@ -34,6 +34,8 @@ module _ {B V : Type 0} where
     pub kept : (b : B) → homes ≡ some (Some b) ∷ [] → fact b (map view_of chairs)
 
 -- in each state that meets the rule of a lock with n chairs, of which each may enter `limit` times, the chairs take turns
-abbrev pub TurnsLaw : {B V : Type 0} → (B → List V → Type 0) → (List ℕ → ℕ → Type 0) → (ℕ → ℕ) → ℕ → ℕ → Type 0
+abbrev pub TurnsLaw : {B V : Type 0} → (B → List V → Type 0) → (List ℕ → ℕ → Type 0) → (ℕ → ℕ) → ℕ → ℕ
+    → Type 0
 TurnsLaw {B = B} {V = V} fact shows at n limit =
-    (s : State (Option B) (ChairRun (ChairState B V))) (d : Dealt n (Turns fact shows limit) s) → TakeTurns fact at s.words s.homes d.chairs
+    (s : State (Option B) (ChairRun (ChairState B V))) (d : Dealt n (Turns fact shows limit) s)
+    → TakeTurns fact at s.words s.homes d.chairs

@@ -6,7 +6,6 @@ ghost use Rattle.turn.specs.Boards.{IsBoard, Counts, Points};
 use atomic_table::{Play, Seat, Shared, TableRule};
 use std::alloc::{AllocError, Global};
 use std::marker::PhantomData;
-use std::snapshot::Snapshot;
 
 /// What a step makes of a seat, whatever word it finds.
 pub trait Change<S, V> {
@@ -74,12 +73,12 @@ pub trait Board {
 #[derive(Drop)]
 pub struct Layout<W: Board> {
     pub(crate) seats: usize,
-    // How many words the lock's table has, for proofs alone.
-    pub(crate) words: Snapshot<usize>,
+    // How many words the lock's table has.
+    pub(crate) words: usize,
     board: PhantomData<W>,
     ghost some: { 1 ≤ seats },
-    ghost wide: { words.value ≡ W.width seats },
-    ghost more: { 1 ≤ words.value },
+    ghost wide: { words ≡ W.width seats },
+    ghost more: { 1 ≤ words },
 }
 
 impl<W: Board> Layout<W> {
@@ -87,12 +86,12 @@ impl<W: Board> Layout<W> {
     pub(crate) fn new(seats: usize, words: usize) -> Layout<W>
         requires some { 1 ≤ seats }
         requires wide { words ≡ W.width seats }
-        ensures { (result.seats ≡ seats) × (result.words.value ≡ words) }
+        ensures { (result.seats ≡ seats) × (result.words ≡ words) }
     {
         W::lawful(seats);
         Layout {
             seats,
-            words: Snapshot::of(&words),
+            words,
             board: PhantomData,
         }
     }

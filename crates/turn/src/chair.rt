@@ -51,7 +51,10 @@ impl<B, V> ChairToken<B, V> {
     ghost use Rattle.turn.specs.Moves.{IsAtStage};
 
     // A chair that never entered.
-    pub(crate) fn fresh(seat: Seat<Option<B>, ChairRun<ChairState<B, V>>>, limit: u64) -> ChairToken<B, V>
+    pub(crate) fn fresh(
+        seat: Seat<Option<B>, ChairRun<ChairState<B, V>>>,
+        limit: u64,
+    ) -> ChairToken<B, V>
         requires outside { IsAtStage Outside seat.me }
         requires never { seat.me.0.lead.entries ≡ 0 }
         ensures { IsFresh (lock_id seat.table_id limit) seat.me.0.place seat.me.0.lead.view result }

@@ -13,8 +13,11 @@ pub trait Keeper<B> {
     // The fact over the book and all chairs' views, in the order of their places, that holds whenever the lock is free.
     ghost fact: { B → List Self.View → Type 0 };
 
-    // The view with which each chair starts.
-    ghost first: { Self.View };
+    // The view with which each chair of a lock over this book starts.
+    ghost first: { B → Self.View };
+
+    // A view of no chair.
+    ghost nobody: { Self.View };
 }
 
 /// What one call does: the relation between the book that it hands in, its chair's old view and its new one.
@@ -46,10 +49,10 @@ pub trait Turn<B, K: Keeper<B>>: Sized + Sync {
         B: Drop,
         requires some { 1 ≤ seats }
         requires room { seats * ENTRIES < 2 ^ 64 }
-        requires fact { K.fact book (replicate seats K.first) }
+        requires fact { K.fact book (replicate seats (K.first book)) }
         ensures { IfOk result (λ t.
             (size t.0 ≡ seats) × (length t.1.items ≡ seats)
-            × AreFresh (id t.0) K.first t.1.items) };
+            × AreFresh (id t.0) (K.first book) t.1.items) };
 
     /// Waits for the chair's turn, and answers the book. It takes no memory.
     ///

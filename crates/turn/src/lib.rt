@@ -6,6 +6,15 @@
 //! sequencers", CACM 1979; Mellor-Crummey and Scott, "Algorithms for scalable synchronization on shared-memory
 //! multiprocessors", ACM TOCS 1991, section 2.2) and the array lock (Anderson, "The performance of spin lock
 //! alternatives for shared-memory multiprocessors", IEEE TPDS 1990).
+//!
+//! **What contracts see** (`specs/Chairs`): of a chair its `lock`, `place`, `view`, `entries`, and whether it `IsOutside`
+//! or `IsInside` with the book that it took; of a lock its `id`, `size` and `ENTRIES`. Lists are read by `slice_get`.
+//!
+//! **What is proved**: the keeper's fact whenever the lock is free; [`Spent`] exactly after so many entries, with nothing
+//! changed; `turns_law` of both locks, that the numbers are served in turn and one chair at most is inside.
+//!
+//! **What is only tested**: that waiting chairs get in; the words of both boards. Fairness, time and that `enter` returns
+//! are neither proved nor promised.
 #![tactic(auto)]
 
 mod board;
@@ -14,6 +23,6 @@ mod contract;
 mod laws;
 mod lock;
 
-pub use chair::{Chair, Held, ChairToken, Spent};
+pub use chair::{Chair, ChairToken, Held, Spent};
 pub use contract::{Keeper, Outcome, Turn};
 pub use lock::{ArrayLock, TicketLock};

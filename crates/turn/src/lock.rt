@@ -4,19 +4,22 @@ ghost use Rattle.std.specs.Bool.{OnTrue, OnFalse};
 ghost use Rattle.turn.specs.declared.chair.Stage.TheVariants.{Outside, Waiting, Inside};
 
 use crate::board::{Board, Change, Counter, Layout, Row};
-use crate::chair::{Chair, ChairRun, Held, ChairToken, ChairState, Spent};
+use crate::chair::{Chair, ChairRun, ChairState, ChairToken, Held, Spent};
 use crate::contract::{Keeper, Outcome, Turn};
 use atomic_table::{Join, Play, Seat, Split, Table, TableRule};
 use crossbeam_utils::Backoff;
 use std::alloc::{AllocError, Global};
 use std::marker::PhantomData;
+use std::snapshot::Snapshot;
 use std::sync::Wait;
 
-/// What a lock is told once, when it is made.
-#[derive(Clone, Copy, Drop)]
-pub struct Sizes {
+/// What a lock is told once, when it is made: how many chairs it has, how often each may enter, and, for proofs alone,
+/// the first book.
+#[derive(Drop)]
+pub struct Terms<B> {
     pub seats: usize,
     pub entries: u64,
+    pub book: Snapshot<B>,
 }
 
 /// The lock's rule, on the board `W`.
@@ -24,7 +27,7 @@ pub struct Tickets<K, W> {
     of: PhantomData<(K, W)>,
 }
 
-impl<B, K: Keeper<B>, W: Board> TableRule<Option<B>, ChairRun<ChairState<B, K::View>>, Sizes>
+impl<B, K: Keeper<B>, W: Board> TableRule<Option<B>, ChairRun<ChairState<B, K::View>>, Terms<B>>
     for Tickets<K, W> {
     ghost use Rattle.turn.specs.Runs.{Dealt};
     ghost use Rattle.turn.specs.Tickets.{Turns};
@@ -32,7 +35,7 @@ impl<B, K: Keeper<B>, W: Board> TableRule<Option<B>, ChairRun<ChairState<B, K::V
 
     ghost holds = { λ z. Dealt z.seats (Turns K.fact (W.shows z.seats) z.entries) };
 
-    ghost first = { λ z. fresh_run K.first 0 z.seats };
+    ghost first = { λ z. fresh_run (K.first z.book.value) 0 z.seats };
 }
 
 struct Draw;
@@ -76,7 +79,7 @@ impl<B, K: Keeper<B>> Join<ChairRun<ChairState<B, K::View>>> for Gather<K> {
 
     ghost both = { λ h g. both_of h g };
 
-    ghost spent = { chair_run false 0 (fresh K.first) [] };
+    ghost spent = { chair_run false 0 (fresh K.nobody) [] };
 }
 
 struct StepOut<M> {
@@ -97,9 +100,9 @@ const NEXT: usize = 0;
 
 /// A lock whose chairs draw numbers, and enter in the order of their numbers, on the board `W`.
 pub struct Lock<B, K: Keeper<B>, W: Board, const ENTRIES: u64> {
-    table: Table<Option<B>, ChairRun<ChairState<B, K::View>>, Sizes, Tickets<K, W>, Global>,
+    table: Table<Option<B>, ChairRun<ChairState<B, K::View>>, Terms<B>, Tickets<K, W>, Global>,
     pub(crate) layout: Layout<W>,
-    ghost wide: { (table.shared.table_id.words ≡ layout.words.value) × (table.shared.table_id.slots ≡ 1) },
+    ghost wide: { (table.shared.table_id.words ≡ layout.words) × (table.shared.table_id.slots ≡ 1) },
     ghost sized: { (table.shared.key.seats ≡ layout.seats) × (table.shared.key.entries ≡ ENTRIES) },
 }
 
@@ -208,10 +211,10 @@ impl<B, K: Keeper<B>, W: Board, const ENTRIES: u64> Lock<B, K, W, ENTRIES> {
     // Gives each place of the lock to a chair of its own.
     fn deal(&self, mut rest: LockSeat<B, K::View>, mut chairs: Vec<Chair<B, K>>) -> Vec<Chair<B, K>>
         requires own { rest.table_id ≡ self.now.table.shared.table_id }
-        requires whole { rest.me ≡ (fresh_run K.first 0 self.now.layout.seats, []) }
+        requires whole { rest.me ≡ (fresh_run (K.first self.now.table.shared.key.book.value) 0 self.now.layout.seats, []) }
         requires room { (chairs.items ≡ []) × (self.now.layout.seats ≤ vec_capacity chairs) }
         ensures all { length result.items ≡ self.now.layout.seats }
-        ensures fresh { AreFresh (lock_id self.now.table.shared.table_id ENTRIES) K.first result.items }
+        ensures fresh { AreFresh (lock_id self.now.table.shared.table_id ENTRIES) (K.first self.now.table.shared.key.book.value) result.items }
     {
         for _ in 0..self.layout.seats {
             let seat = self.table.shared.split_seat::<Deal>(&mut rest);
@@ -262,12 +265,13 @@ impl<B: Send, K: Keeper<B>, W: Board + Sync, const ENTRIES: u64> Turn<B, K>
         let words = W::words(alloc, seats)?;
         let layout = Layout::new(seats, words.len());
         let mut slots = Vec::with_capacity(alloc, 1)?;
-        slots.push_reserved(Some(book));
-        let sizes = Sizes {
+        let terms = Terms {
             seats,
             entries: ENTRIES,
+            book: Snapshot::of(&book),
         };
-        let Ok((table, rest)) = Table::new(alloc, words.as_slice(), slots, &sizes) else {
+        slots.push_reserved(Some(book));
+        let Ok((table, rest)) = Table::new(alloc, words.as_slice(), slots, &terms) else {
             return Err(AllocError);
         };
         let lock = Lock { table, layout };

@@ -6,7 +6,7 @@ use Rattle.std.proofs.lemmas.List.Sums.{sum_by-le, sum_by-set}
 use Rattle.std.proofs.lemmas.List.Folds.{sum_by-replicate}
 use Rattle.std.proofs.lemmas.List.Elements.{All-set, All-replicate}
 use Rattle.std.proofs.lemmas.Option.{slice_get_within, get_or_from_slice_get}
-use Rattle.turn.proofs.Lists.{at_last, at_longer}
+use Rattle.turn.proofs.ChairLists.{popped_two}
 use Rattle.turn.specs.declared.chair.ChairToken.{ChairToken}
 use Rattle.turn.specs.Chairs.{LockId, place, AreFresh}
 use Rattle.turn_uses.specs.Tallies.{IsTallied, IsNew}
@@ -42,11 +42,12 @@ starts n few = record {
 }
 
 -- the two chairs of a new lock
-pub two_new : (l : LockId) (cs ds es : List (ChairToken ℕ ℕ)) (a b : ChairToken ℕ ℕ) → length cs ≡ 2 → AreFresh l 0 cs → cs ≡ ds ++ b ∷ [] → ds ≡ es ++ a ∷ [] → (IsNew l a × (place a ≡ 0)) × (IsNew l b × (place b ≡ 1))
+pub two_new : (l : LockId) (cs ds es : List (ChairToken ℕ ℕ)) (a b : ChairToken ℕ ℕ) → length cs ≡ 2 → AreFresh l 0 cs
+    → cs ≡ ds ++ b ∷ [] → ds ≡ es ++ a ∷ [] → (IsNew l a × (place a ≡ 0)) × (IsNew l b × (place b ≡ 1))
 two_new l cs ds es a b two fresh last next =
     let long : length cs ≡ length ds + 1 = ap length last ∙ length-append ds (b ∷ []) in
     let long' : length ds ≡ length es + 1 = ap length next ∙ length-append es (a ∷ []) in
-    let first : slice_get ds 0 ≡ Some a = ap (λ (xs : List (ChairToken ℕ ℕ)). slice_get xs 0) next ∙ at_last es a 0 (omega arith) in
-    let f = fresh 0 a (ap (λ (xs : List (ChairToken ℕ ℕ)). slice_get xs 0) last ∙ at_longer ds (b ∷ []) 0 a first) in
-    let s = fresh 1 b (ap (λ (xs : List (ChairToken ℕ ℕ)). slice_get xs 1) last ∙ at_last ds b 1 (omega arith)) in
-    (((f.0, f.4, f.2, f.3), f.1), ((s.0, s.4, s.2, s.3), s.1))
+    let both = popped_two l 0 cs ds es a b fresh last next in
+    let f = both.0 in
+    let s = both.1 in
+    (((f.0, f.4, f.2, f.3), f.1 ∙ omega arith), ((s.0, s.4, s.2, s.3), s.1 ∙ omega arith))

@@ -12,7 +12,9 @@ impl Keeper<u64> for Tally {
 
     ghost fact = { IsTallied };
 
-    ghost first = { 0 };
+    ghost first = { λ _. 0 };
+
+    ghost nobody = { 0 };
 }
 
 /// One more.

@@ -1,10 +1,14 @@
 //! `VTime`, the vector timestamp of a processor, a lock, a flag or a message.
 ghost use Rattle.std.specs.Prelude.{◌≡◌, ℕ, ◌-◌, ◌^◌, ◌<◌, ◌≤◌, ◌↔◌, max, length, replicate, IsTrue, slice_get, slice_index};
+ghost use Rattle.lists.specs.Limits.{most_processors};
 ghost use Rattle.vtime.specs.Times.{tick, join, Covers};
 
 use smallvec::SmallVec;
 use std::alloc::Global;
 use std::marker::Model;
+
+/// The most processors of a cluster, and so the most entries of a timestamp: `most_processors` of contracts.
+pub const MOST_PROCESSORS: usize = 16;
 
 /// A vector timestamp: entry q is how many of processor q's intervals have been performed here.
 ///
@@ -14,24 +18,26 @@ use std::marker::Model;
 /// Consistency for Software Distributed Shared Memory, ISCA 1992, section 3).
 #[derive(Debug, Drop)]
 pub struct VTime {
-    entries: SmallVec<u64, 16>,
+    entries: SmallVec<u64, MOST_PROCESSORS>,
 }
 
 impl Model for VTime {
     ghost use Rattle.std.specs.Prelude.{◌≡◌, ℕ, ◌≤◌, List, length};
+    ghost use Rattle.lists.specs.Limits.{most_processors};
 
     ghost Value = { List ℕ };
 
     ghost view = { λ time. time.entries.items };
 
-    ghost invariant = { λ time. (time.entries.capacity ≡ 16) × (1 ≤ length time.entries.items) × (length time.entries.items ≤ 16) };
+    ghost invariant = { λ time. (time.entries.capacity ≡ most_processors)
+        × (1 ≤ length time.entries.items) × (length time.entries.items ≤ most_processors) };
 }
 
 impl VTime {
     /// The timestamp of `processors` processors (1 to 16) of which no interval has been performed.
     pub fn zero(alloc: Global, processors: usize) -> VTime
         requires some { 1 ≤ processors }
-        requires most { processors ≤ 16 }
+        requires most { processors ≤ most_processors }
         ensures { result ≡ replicate processors 0 }
     {
         VTime {
@@ -121,14 +127,14 @@ fn join_entries(mine: &mut [u64], theirs: &[u64])
 
 #[cfg(test)]
 mod tests {
-    use super::VTime;
+    use super::{MOST_PROCESSORS, VTime};
     use std::alloc::Global;
     use std::process::Abort;
 
     /// The timestamp with these entries, each below 10.
     fn stamp(alloc: Global, counts: &[u64]) -> VTime
         requires some { 1 ≤ length counts.now }
-        requires most { length counts.now ≤ 16 }
+        requires most { length counts.now ≤ most_processors }
         ensures { length result ≡ length counts.now }
     {
         let mut time = VTime::zero(alloc, counts.len());
@@ -164,13 +170,13 @@ mod tests {
 
     #[test]
     fn has_sixteen_entries(rt: HostRuntime) {
-        let mut time = VTime::zero(rt.alloc(), 16);
+        let mut time = VTime::zero(rt.alloc(), MOST_PROCESSORS);
         assert!(rt; has_entries(&time, &[0; 16]));
         assert!(rt; !time.covers(15, 0));
         time.tick(15);
         assert!(rt; time.covers(15, 0));
         let before = time.copy();
-        time.join(&VTime::zero(rt.alloc(), 16));
+        time.join(&VTime::zero(rt.alloc(), MOST_PROCESSORS));
         assert!(rt; time == before);
         assert!(rt; has_entries(&before, &[0, 0, 0, 0, 0, 0, 0, 0, 0, 0, 0, 0, 0, 0, 0, 1]));
     }

@@ -1,8 +1,10 @@
 -- What an arrival rests on, and what it makes, read off the book.
-use Rattle.std.proofs.Common.{◌≡◌, ◌≢◌, ℕ, ◌+◌, ◌<◌, inl, inr, List, [], ◌∷◌, length, map, Bool, true, false, cond, Option, Some, None, replicate, slice_get, slice_set, slice_index, slice_index_or, subst, sym, refl, ap, ◌∙◌, arith}
+use Rattle.std.proofs.Common.{suc, ◌⊎◌, ◌++◌, take, ◌≡◌, ◌≢◌, ℕ, ◌+◌, ◌<◌, inl, inr, List, [], ◌∷◌, length, map, Bool, true, false, cond, Option, Some, None, replicate, slice_get, slice_set, slice_index, slice_index_or, subst, sym, refl, ap, ◌∙◌, arith}
 use Rattle.std.proofs.lemmas.Bool.{cases_eq}
 use Rattle.std.proofs.lemmas.Option.{slice_get-get_or, same_Some, none-some}
-use Rattle.std.proofs.lemmas.List.{length-set, length-map}
+use Rattle.std.proofs.lemmas.List.{length-set, length-map, map-append, get_or-set_same, get_or-set_other}
+use Rattle.lists.proofs.Places.{take-suc_at}
+use Rattle.book.proofs.Calling.Calls.{same_default}
 use Rattle.lists.proofs.Sets.{slice_get-set_found, slice_get-set_other}
 use Rattle.journal.specs.declared.event.Event.{Event}
 use Rattle.journal.specs.declared.event.Kind.{Kind}
@@ -204,3 +206,26 @@ departures_made old b p n records t o same number made =
     made
     ∙ ap (λ (x : ℕ). departures_after (pushed b.closed (record { owner = p; number = x; records = records })) b.barrier (slice_set b.times p t) p t) number
     ∙ ap (λ (x : State). departures_after (pushed x.closed (open_interval x p records)) x.barrier (slice_set x.times p t) p t) same
+
+-- each one's timestamp once p has closed its interval
+pub read_after : (times : List (List ℕ)) (p q : ℕ) (own old t : List ℕ) → p < length times → q < length times → t ≡ slice_index_or times q t → ((q ≡ p) × (old ≡ own)) ⊎ ((q ≢ p) × (old ≡ t)) → old ≡ slice_index_or (slice_set times p own) q []
+read_after times p q own old t here there read (inl same) = same.1 ∙ sym (ap (λ (n : ℕ). slice_index_or (slice_set times p own) n []) same.0 ∙ get_or-set_same times p own [] here)
+read_after times p q own old t here there read (inr other) = other.1 ∙ read ∙ same_default times q t [] there ∙ sym (get_or-set_other times p q own [] other.0)
+
+-- one more departure is made
+pub departing_step : (c : Closings) (u : List ℕ) (times : List (List ℕ)) (q : ℕ) (old : List ℕ) (ms ns : List Letter) (m : Letter) → ms ≡ map (departure_to c u) (take q times) → q < length times → old ≡ slice_index_or times q [] → m ≡ departure_to c u old → ns ≡ ms ++ m ∷ []
+    → ns ≡ map (departure_to c u) (take (q + 1) times)
+departing_step c u times q old ms ns m made less is one more =
+    let at = slice_get-get_or times q [] less ∙ ap (λ (t : List ℕ). Some t) (sym is) in
+    let next : q + 1 ≡ suc q = omega arith in
+    more ∙ ap (λ (xs : List Letter). xs ++ m ∷ []) made ∙ ap (λ (x : Letter). map (departure_to c u) (take q times) ++ x ∷ []) one ∙ sym (map-append (departure_to c u) (take q times) (old ∷ []))
+    ∙ ap (λ (ts : List (List ℕ)). map (departure_to c u) ts) (sym (take-suc_at times q old at) ∙ ap (λ (n : ℕ). take n times) (sym next))
+
+-- the departures, where the arrival completes the episode, and none where it doesn't
+pub departures_are : (c : Closings) (b : Episodes) (times : List (List ℕ)) (p : ℕ) (own u : List ℕ) (full : Bool) (ms : List Letter) → full ≡ is_full (joined b p own) → full ≡ true → u ≡ join b.gathered own → ms ≡ map (departure_to c u) times → Some ms ≡ departures_after c b times p own
+departures_are c b times p own u full ms is all time made =
+    ap (λ (xs : List Letter). Some xs) (made ∙ ap (λ (t : List ℕ). map (departure_to c t) times) time)
+    ∙ ap (λ (f : Bool). cond f (Some (map (departure_to c (join b.gathered own)) times)) None) (sym all ∙ is)
+
+pub none_depart : (c : Closings) (b : Episodes) (times : List (List ℕ)) (p : ℕ) (own : List ℕ) (full : Bool) → full ≡ is_full (joined b p own) → full ≡ false → None ≡ departures_after c b times p own
+none_depart c b times p own full is some = ap (λ (f : Bool). cond f (Some (map (departure_to c (join b.gathered own)) times)) None) (sym some ∙ is)

@@ -163,3 +163,7 @@ received_is b now p k flags own m same flags_are own_is is =
 -- what a message brings is what was due
 pub brings_is : (b : State) (p : ℕ) (k : Kind) (m : Letter) → slice_get b.awaits p ≡ Some (Some k) → message_for b p k ≡ Some m → m.notices ≡ brought b p
 brings_is b p k m waits is = sym (ap (λ (w : Option Kind). sent_with (option_and_then (message_for b p) w)) (get_or_from_slice_get b.awaits p (Some k) None waits) ∙ ap sent_with is)
+
+-- what stands in the book of one who waits for a flag
+pub waits_flag : (b now : State) (p f : ℕ) → b ≡ now → MayTake now p (Await f) → IsReceiving b p (Await f)
+waits_flag b now p f same may = subst (λ x. IsReceiving x p (Await f)) (sym same) (receiving now p (Await f) may)

@@ -1,5 +1,5 @@
 -- Arrivals: what the book is told by the history before, it is told by the history with the event after.
-use Rattle.std.proofs.Common.{◌≡◌, ◌≢◌, ℕ, ◌<◌, ◌≤◌, inl, inr, List, [], ◌∷◌, ◌++◌, length, map, Bool, true, false, Option, Some, None, slice_get, slice_set, slice_index_or, subst, sym, refl, ap, ◌∙◌, arith}
+use Rattle.std.proofs.Common.{◌≡◌, ◌≢◌, ℕ, ◌<◌, ◌≤◌, inl, inr, List, [], ◌∷◌, length, map, Bool, true, false, Option, Some, None, slice_get, slice_set, slice_index_or, subst, sym, refl, ap, ◌∙◌, arith}
 use Rattle.std.proofs.lemmas.Option.{same_Some, none-some, slice_get_within, slice_get-get_or, slice_get-map}
 use Rattle.std.proofs.lemmas.List.{length-map}
 use Rattle.std.specs.Option.{option_map}
@@ -33,7 +33,7 @@ use Rattle.book.proofs.Parts.Lines.{idle_no_ask}
 use Rattle.book.proofs.Parts.Mail.{News, lets_posted, allowed_on, brings_on, mail_unless, idle_mail}
 use Rattle.book.proofs.Parts.Flags.{flag_kept}
 use Rattle.book.proofs.Parts.Meetings.{barrier_waits, barrier_completes, completes_all, idle_counts}
-use Rattle.book.proofs.Parts.Told.{is_idle, is_processor, own_stamp, follows, still_formed, awaits_set, times_closing, closed_now, within_closing, old_notices}
+use Rattle.book.proofs.Parts.Told.{history_on, is_idle, is_processor, own_stamp, follows, still_formed, awaits_set, times_closing, closed_now, within_closing, old_notices}
 use Rattle.book.proofs.Keeps.Locks.{lock_kept}
 
 -- in an open episode only those may depart that might before
@@ -127,7 +127,7 @@ pub told_arrive : (s : Sizes) (h : List Event) (b : State) (p : ℕ) (records : 
 told_arrive s h b p records told idle stored = record {
   well_formed = well;
   sizes = record { processors = told.sizes.processors; addresses = told.sizes.addresses; lockers = told.sizes.lockers };
-  holds = ap (λ es. es ++ event p Arrive ∷ []) told.holds;
+  holds = history_on b.journal h (event p Arrive ∷ []) told.holds;
   closed = closed_now s h b p Arrive records told lt refl stored;
   times = times;
   locks = each_kept s.locks (IsLock s.processors h) (IsLock s.processors (did h p Arrive)) b.locks.locks told.locks (λ l x at is. lock_kept s.processors h p Arrive l x (λ e. absurd cc) (λ e. absurd cc) (λ e. absurd cc) (idle_no_ask h p l free) is);

@@ -1,5 +1,5 @@
 -- Sets, watches and awaits: what the book is told by the history before, it is told by the history with the event after.
-use Rattle.std.proofs.Common.{◌≡◌, ◌≢◌, ℕ, ◌<◌, ◌↔◌, List, [], ◌∷◌, ◌++◌, true, false, Option, Some, None, slice_get, slice_set, slice_index_or, subst, sym, refl, ap, ◌∙◌}
+use Rattle.std.proofs.Common.{◌≡◌, ◌≢◌, ℕ, ◌<◌, ◌↔◌, List, [], ◌∷◌, true, false, Option, Some, None, slice_get, slice_set, slice_index_or, subst, sym, refl, ap, ◌∙◌}
 use Rattle.std.proofs.lemmas.Option.{same_Some, none-some}
 use Rattle.journal.specs.declared.event.Event.{Event}
 use Rattle.journal.specs.declared.event.Kind.{Kind}
@@ -30,7 +30,7 @@ use Rattle.book.proofs.Parts.Mail.{mail_kept, idle_mail, own_idle, own_none, let
 use Rattle.book.proofs.Parts.Flags.{flag_kept, flag_set}
 use Rattle.book.proofs.Parts.Meetings.{barrier_kept}
 use Rattle.book.proofs.Parts.ClosedIntervals.{closed_quiet}
-use Rattle.book.proofs.Parts.Told.{is_idle, is_processor, own_stamp, follows, still_formed, awaits_set, times_closing, times_taking, closed_now, within_closing, within_taking, old_notices}
+use Rattle.book.proofs.Parts.Told.{history_on, is_idle, is_processor, own_stamp, follows, still_formed, awaits_set, times_closing, times_taking, closed_now, within_closing, within_taking, old_notices}
 use Rattle.book.proofs.Keeps.Locks.{lock_kept}
 
 -- the event closes its interval, and neither locks nor the barrier know of it
@@ -49,7 +49,7 @@ told_closing : (s : Sizes) (h : List Event) (b : State) (p : ℕ) (k : Kind) (re
 told_closing s h b p k records flags told idle may plain all stored = record {
   well_formed = still_formed s h b p k told may;
   sizes = record { processors = told.sizes.processors; addresses = told.sizes.addresses; lockers = told.sizes.lockers };
-  holds = ap (λ es. es ++ event p k ∷ []) told.holds;
+  holds = history_on b.journal h (event p k ∷ []) told.holds;
   closed = closed_now s h b p k records told lt plain.closes stored;
   times = times_closing s h b p k told lt plain.takes plain.closes;
   locks = each_kept s.locks (IsLock s.processors h) (IsLock s.processors (did h p k)) b.locks.locks told.locks (λ l x at is. lock_kept s.processors h p k l x (plain.ask l) (plain.acquire l) (plain.release l) (idle_no_ask h p l free) is);
@@ -112,7 +112,7 @@ pub told_signal : (s : Sizes) (h : List Event) (b : State) (p f : ℕ) (t : List
 told_signal s h b p f t told waits set = record {
   well_formed = still_formed s h b p (Await f) told may;
   sizes = record { processors = told.sizes.processors; addresses = told.sizes.addresses; lockers = told.sizes.lockers };
-  holds = ap (λ es. es ++ event p (Await f) ∷ []) told.holds;
+  holds = history_on b.journal h (event p (Await f) ∷ []) told.holds;
   closed = closed_quiet s h p (Await f) b.closed refl told.closed;
   times = times_taking s h b p (Await f) t told lt refl flag.1;
   locks = each_kept s.locks (IsLock s.processors h) (IsLock s.processors (did h p (Await f))) b.locks.locks told.locks

@@ -38,7 +38,7 @@ use Rattle.book.proofs.Parts.Lines.{NoAsk, idle_no_ask, not_in_line, line_kept, 
 use Rattle.book.proofs.Parts.Mail.{News, other_kind, mail_unless, mail_kept, idle_mail, own_idle}
 use Rattle.book.proofs.Parts.Flags.{flag_kept}
 use Rattle.book.proofs.Parts.Meetings.{barrier_kept}
-use Rattle.book.proofs.Parts.Told.{is_idle, is_processor, own_stamp, follows, still_formed, awaits_set, times_closing, closed_now, within_closing, old_notices}
+use Rattle.book.proofs.Parts.Told.{history_on, is_idle, is_processor, own_stamp, follows, still_formed, awaits_set, times_closing, closed_now, within_closing, old_notices}
 
 -- locks
 
@@ -127,7 +127,7 @@ pub told_ask : (s : Sizes) (h : List Event) (b : State) (p l : ℕ) (records : L
 told_ask s h b p l records told range idle free stored = record {
   well_formed = still_formed s h b p (Ask l) told may;
   sizes = record { processors = told.sizes.processors; addresses = told.sizes.addresses; lockers = told.sizes.lockers };
-  holds = ap (λ es. es ++ event p (Ask l) ∷ []) told.holds;
+  holds = history_on b.journal h (event p (Ask l) ∷ []) told.holds;
   closed = closed_now s h b p (Ask l) records told lt refl stored;
   times = times_closing s h b p (Ask l) told lt refl refl;
   locks = each_set s.locks (IsLock s.processors h) (IsLock s.processors (did h p (Ask l))) b.locks.locks l (asked (lock_at b.locks l) p) told.locks
@@ -218,7 +218,7 @@ pub told_release : (s : Sizes) (h : List Event) (b : State) (p l : ℕ) (records
 told_release s h b p l records told range idle held stored = record {
   well_formed = well;
   sizes = record { processors = told.sizes.processors; addresses = told.sizes.addresses; lockers = told.sizes.lockers };
-  holds = ap (λ es. es ++ event p (Release l) ∷ []) told.holds;
+  holds = history_on b.journal h (event p (Release l) ∷ []) told.holds;
   closed = closed_now s h b p (Release l) records told lt refl stored;
   times = times_closing s h b p (Release l) told lt refl refl;
   locks = each_set s.locks (IsLock s.processors h) (IsLock s.processors (did h p (Release l))) b.locks.locks l (released (lock_at b.locks l) (tick (time_of b p) p)) told.locks

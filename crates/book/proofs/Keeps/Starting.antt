@@ -40,7 +40,7 @@ use Rattle.book.proofs.Parts.Flags.{flag_kept}
 use Rattle.book.proofs.Parts.Meetings.{barrier_kept}
 use Rattle.book.proofs.Parts.ClosedIntervals.{closed_quiet, closed_trimmed, within_trimmed, least_le}
 use Rattle.interval.proofs.News.Unchanged.{between-trimmed}
-use Rattle.book.proofs.Parts.Told.{is_idle, follows, still_formed}
+use Rattle.book.proofs.Parts.Told.{history_on, is_idle, follows, still_formed}
 use Rattle.book.proofs.Keeps.Locks.{lock_kept}
 
 -- nothing has happened in an empty history
@@ -155,7 +155,7 @@ told_quiet s h b p k log same told idle takes closes range holds = record {
 
 -- p hands in a block of loads, stores and fetches
 pub told_block : (s : Sizes) (h block : List Event) (b : State) (p : ℕ) → IsTold s h b → slice_get b.awaits p ≡ Some None → ((k : ℕ) (e : Event) → At block k e → IsPlainAt s p e) → IsTold s (h ++ block) (handed_in b block)
-told_block s h block b p told idle all = told_journal s (h ++ block) (with (h ++ block)) (handed_in b block).journal (refl, refl) (ap (λ es. es ++ block) told.holds) (push_induction (λ es. ((k : ℕ) (e : Event) → At es k e → IsPlainAt s p e) → IsTold s (h ++ es) (with (h ++ es))) start step block all)
+told_block s h block b p told idle all = told_journal s (h ++ block) (with (h ++ block)) (handed_in b block).journal (refl, refl) (history_on b.journal h block told.holds) (push_induction (λ es. ((k : ℕ) (e : Event) → At es k e → IsPlainAt s p e) → IsTold s (h ++ es) (with (h ++ es))) start step block all)
   where
     with : List Event → State
     with es = record b { journal = record b.journal { events = es } }

@@ -7,7 +7,7 @@ use Rattle.journal.specs.Pasts.{InPast}
 use Rattle.book.specs.Brought.{signal_after, message_for, has_come}
 use Rattle.book.specs.Laws.{IsMessage}
 use Rattle.book.proofs.Keeps.Flags.{last_watch, watching_mail, told_signal, signal_ready}
-use Rattle.std.proofs.Common.{◌⊎◌, true, slice_index_or, ◌≡◌, ◌≢◌, ℕ, ◌<◌, inl, inr, ◌↔◌, List, [], ◌∷◌, ◌++◌, false, Option, Some, None, IsTrue, slice_get, slice_set, subst, sym, refl, ap, ◌∙◌}
+use Rattle.std.proofs.Common.{◌⊎◌, true, slice_index_or, ◌≡◌, ◌≢◌, ℕ, ◌<◌, inl, inr, ◌↔◌, List, [], ◌∷◌, false, Option, Some, None, IsTrue, slice_get, slice_set, subst, sym, refl, ap, ◌∙◌}
 use Rattle.std.proofs.lemmas.Bool.{cases_eq}
 use Rattle.std.proofs.lemmas.Option.{same_Some, none-some}
 use Rattle.lists.proofs.Sets.{slice_get-set_found, slice_get-set_other}
@@ -38,7 +38,7 @@ use Rattle.book.proofs.Parts.Mail.{lets_posted, mail_kept, own_none}
 use Rattle.book.proofs.Parts.Flags.{flag_kept}
 use Rattle.book.proofs.Parts.Meetings.{barrier_kept, barrier_departed}
 use Rattle.book.proofs.Parts.ClosedIntervals.{closed_quiet}
-use Rattle.book.proofs.Parts.Told.{is_processor, still_formed, awaits_set, times_taking, within_taking}
+use Rattle.book.proofs.Parts.Told.{history_on, is_processor, still_formed, awaits_set, times_taking, within_taking}
 use Rattle.book.proofs.Keeps.Locks.{lock_kept, lock_taken}
 
 posted_taking : (k : Kind) → IsPosted k → IsTrue (is_taking k)
@@ -90,7 +90,7 @@ pub told_take : (s : Sizes) (h : List Event) (b : State) (p : ℕ) (k : Kind) (m
 told_take s h b p k m told waits mail = record {
   well_formed = still_formed s h b p k told may;
   sizes = record { processors = told.sizes.processors; addresses = told.sizes.addresses; lockers = told.sizes.lockers };
-  holds = ap (λ es. es ++ event p k ∷ []) told.holds;
+  holds = history_on b.journal h (event p k ∷ []) told.holds;
   closed = closed_quiet s h p k b.closed kind.closes told.closed;
   times = times_taking s h b p k m.time told lt kind.closes lets.2;
   locks = each_kept s.locks (IsLock s.processors h) (IsLock s.processors (did h p k)) b.locks.locks told.locks (λ l x at is. took_lock s h p k l x lets.0 lets.1 is);

@@ -1,10 +1,11 @@
 -- The book stays what the history says: each part under one event.
-use Rattle.std.proofs.Common.{◌≡◌, ◌≢◌, ℕ, ◌+◌, ◌<◌, ◌≤◌, inl, inr, List, [], length, true, false, Option, Some, None, slice_get, slice_set, slice_index, slice_index_or, subst, sym, ◌∙◌, arith}
+use Rattle.std.proofs.Common.{ap, ◌≡◌, ◌≢◌, ℕ, ◌+◌, ◌<◌, ◌≤◌, ◌++◌, inl, inr, List, [], length, true, false, Option, Some, None, slice_get, slice_set, slice_index, slice_index_or, subst, sym, ◌∙◌, arith}
 use Rattle.std.proofs.lemmas.Bool.{cases_eq, cases_lt}
 use Rattle.std.proofs.lemmas.Option.{slice_get_within, slice_get-get_or}
 use Rattle.std.proofs.lemmas.List.{get_or-set_same, get_or-set_other, get_or_past}
 use Rattle.journal.specs.declared.event.Event.{Event}
 use Rattle.journal.specs.declared.event.Kind.{Kind}
+use Rattle.journal.specs.Log.{Log, HoldsHistory}
 use Rattle.journal.specs.Sizes.{Sizes}
 use Rattle.journal.specs.Events.{count_of, is_closing, is_taking}
 use Rattle.journal.specs.WellFormed.{KindInRange, Allowed, MayFollow, WellFormed}
@@ -25,13 +26,17 @@ use Rattle.book.specs.Stamps.{AreAll, IsStamp, IsAwaited}
 use Rattle.book.specs.Mail.{Carries}
 use Rattle.book.specs.ClosedIntervals.{AreContents, AreClosed, IsWithin}
 use Rattle.book.specs.State.{State, time_of}
-use Rattle.book.specs.Transitions.{open_interval}
+use Rattle.book.specs.Transitions.{appended, open_interval}
 use Rattle.book.specs.Told.{IsTold}
 use Rattle.book.proofs.Parts.Each.{each_set, is_at}
 use Rattle.book.proofs.Parts.Doings.{awaits_idle, awaited_on, awaited_now}
 use Rattle.book.proofs.Parts.Stamps.{stamp_others, stamp_closing, stamp_taking}
 use Rattle.book.proofs.Parts.ClosedIntervals.{closed_closing}
 use Rattle.interval.proofs.News.Unchanged.{between-pushed}
+
+-- a journal that goes on holds the history that goes on
+pub history_on : (log : Log) (h es : List Event) → HoldsHistory log h → HoldsHistory (appended log es) (h ++ es)
+history_on log h es holds = ap (λ (xs : List Event). xs ++ es) holds
 
 -- who awaits nothing is idle
 pub is_idle : (s : Sizes) (h : List Event) (b : State) (p : ℕ) → IsTold s h b → slice_get b.awaits p ≡ Some None → IsIdle h p

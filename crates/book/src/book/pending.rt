@@ -1,5 +1,5 @@
 //! How much a take would bring.
-ghost use Rattle.std.specs.Prelude.{◌≡◌, ◌<◌, None, count_by, length, slice_index_or};
+ghost use Rattle.std.specs.Prelude.{◌≡◌, ◌<◌, EachIndex, None, count_by, length, slice_index, slice_index_or};
 ghost use Rattle.interval.specs.Closings.{is_of_page};
 ghost use Rattle.book.specs.Brought.{brought, message_for, sent_with};
 ghost use Rattle.book.specs.Calls.{MayLook, MayTake};
@@ -24,7 +24,51 @@ impl Book {
         }
     }
 
+    /// How many notices of each page a take by `p` would bring now: entry n of the slice, whatever stood
+    /// there, becomes the number for page n, as `due` answers it. Pages past the slice's end are not counted.
+    /// It takes no memory, and costs in the order of the slice and of what a take would bring.
+    pub fn count_due(&self, p: usize, counts: &mut [usize])
+        requires call { MayLook self.now p }
+        ensures each { EachIndex counts.new (λ n. slice_index counts.new n ≡ count_by (is_of_page n) (brought self.now p)) }
+        ensures same_length { length counts.new ≡ length counts.old }
+    {
+        let Some(kind) = self.awaits[p] else {
+            counts.fill(0);
+            return;
+        };
+        match kind {
+            Kind::Await(flag) => self.count_by_flag(p, flag, counts),
+            _ => self.count_by_message(p, counts),
+        }
+    }
+
     /// The same where `p` waits for the flag.
+    fn count_by_flag(&self, p: usize, f: usize, counts: &mut [usize])
+        requires call { MayTake self.now p (Kind.Await f) }
+        ensures each { EachIndex counts.new (λ n. slice_index counts.new n ≡ count_by (is_of_page n) (sent_with (message_for self.now p (Kind.Await f)))) }
+        ensures same_length { length counts.new ≡ length counts.old }
+    {
+        let closed = &self.closed;
+        match &self.flags[f] {
+            Some(time) => closed.count_news(&self.times[p], time, counts),
+            None => counts.fill(0),
+        }
+    }
+
+    /// The same where `p` waits for a grant or a departure.
+    fn count_by_message(&self, p: usize, counts: &mut [usize])
+        requires processor { p < length self.now.transit }
+        ensures each { EachIndex counts.new (λ n. slice_index counts.new n ≡ count_by (is_of_page n) (sent_with (slice_index_or self.now.transit p None))) }
+        ensures same_length { length counts.new ≡ length counts.old }
+    {
+        let transit = &self.transit;
+        match transit.peek(p) {
+            Some(message) => count_pages(message.notices(), counts),
+            None => counts.fill(0),
+        }
+    }
+
+    /// How many notices of the page, where `p` waits for the flag.
     fn due_by_flag(&self, p: usize, f: usize, page: usize) -> usize
         requires call { MayTake self.now p (Kind.Await f) }
         ensures { result ≡ count_by (is_of_page page) (sent_with (message_for self.now p (Kind.Await f))) }
@@ -57,4 +101,18 @@ fn count_of_page(notices: &[Sent], page: usize) -> usize
         .iter()
         .filter(|sent| sent.notice.page == page)
         .count()
+}
+
+/// Entry n becomes how many of the notices are of page n.
+fn count_pages(notices: &[Sent], counts: &mut [usize])
+    ensures each { EachIndex counts.new (λ n. slice_index counts.new n ≡ count_by (is_of_page n) notices.now) }
+    ensures same_length { length counts.new ≡ length counts.old }
+{
+    counts.fill(0);
+    for sent in notices {
+        let page = sent.notice.page;
+        if page < counts.len() {
+            counts[page] += 1;
+        }
+    }
 }

@@ -13,7 +13,7 @@ use Rattle.interval.specs.declared.kept.Kept.{Kept}
 use Rattle.interval.specs.Intervals.{SentRecord}
 use Rattle.interval.specs.Closings.{Closings, is_news, sent_record, sent_interval, is_of_page, between}
 use Rattle.interval.specs.Counts.{pages_of_records, pages_of, HasRoom}
-use Rattle.interval.specs.Queues.{Queue, put, by_place, merged, closings, within, IsQueue, AreQueues}
+use Rattle.interval.specs.Queues.{Queue, placed, by_place, merged, closings, within, IsQueue, AreQueues}
 use Rattle.interval.proofs.Order.ByPlace.{has-by_place}
 use Rattle.interval.proofs.Counts.Most.{count_fits}
 
@@ -90,17 +90,17 @@ within_at held queue from to i k same after before is =
 abbrev pub news_pages : List ℕ → List ℕ → Queue → List ℕ
 news_pages old new queue = pages_of (filter (is_news old new) queue.kept)
 
--- `put` adds an interval whose closing number is new
-sum_by-put : (w : Kept → ℕ) (k : Kept) (xs : List Kept) → ((j : Kept) → Has xs j → k.place ≢ j.place) → sum_by w (put k xs) ≡ w k + sum_by w xs
-sum_by-put w k [] apart = sum_by-cons w k []
-sum_by-put w k (x ∷ xs) apart =
+-- `placed` adds an interval whose closing number is new
+sum_by-placed : (w : Kept → ℕ) (k : Kept) (xs : List Kept) → ((j : Kept) → Has xs j → k.place ≢ j.place) → sum_by w (placed k xs) ≡ w k + sum_by w xs
+sum_by-placed w k [] apart = sum_by-cons w k []
+sum_by-placed w k (x ∷ xs) apart =
     let P : List Kept → Type 0 = λ ys. sum_by w ys ≡ w k + sum_by w (x ∷ xs) in
-    let rest = sum_by-put w k xs (λ j h. apart j (suc h.0, h.1)) in
+    let rest = sum_by-placed w k xs (λ j h. apart j (suc h.0, h.1)) in
     let last = sum_by-cons w x xs in
-    let later = sum_by-cons w x (put k xs) in
-    cond_both (nat_lt k.place x.place) (k ∷ x ∷ xs) (cond (nat_lt x.place k.place) (x ∷ put k xs) (x ∷ xs)) P
+    let later = sum_by-cons w x (placed k xs) in
+    cond_both (nat_lt k.place x.place) (k ∷ x ∷ xs) (cond (nat_lt x.place k.place) (x ∷ placed k xs) (x ∷ xs)) P
     (λ e. sum_by-cons w k (x ∷ xs))
-    (λ e. cond_both (nat_lt x.place k.place) (x ∷ put k xs) (x ∷ xs) P (λ f. omega arith)
+    (λ e. cond_both (nat_lt x.place k.place) (x ∷ placed k xs) (x ∷ xs) P (λ f. omega arith)
     (λ f. let le = ltb-false _ _ e in let ge = ltb-false _ _ f in absurd (apart x (0, refl) (omega arith))))
 
 -- each closing number stands for one interval
@@ -111,7 +111,7 @@ sum_by-by_place : (w : Kept → ℕ) (xs : List Kept) → AreApart xs → sum_by
 sum_by-by_place w [] apart = refl
 sum_by-by_place w (x ∷ xs) apart =
     let rest = sum_by-by_place w xs (in_order_tail (λ (j k : Kept). j.place ≢ k.place) x xs apart) in
-    let first = sum_by-put w x (by_place xs) (λ j h. let at = has-by_place xs j h in apart 0 (suc at.0) x j (omega arith) refl at.1) in
+    let first = sum_by-placed w x (by_place xs) (λ j h. let at = has-by_place xs j h in apart 0 (suc at.0) x j (omega arith) refl at.1) in
     let all = sum_by-cons w x xs in
     omega arith
 

@@ -4,7 +4,7 @@ use Rattle.std.proofs.lemmas.Bool.{cond_both, ltb-true, ltb-false}
 use Rattle.lists.specs.Places.{Has, InOrder}
 use Rattle.lists.proofs.Joined.{has-nil, has-cons, in_order-nil, in_order-cons, in_order_single, in_order_tail, in_order-append}
 use Rattle.interval.specs.declared.kept.Kept.{Kept}
-use Rattle.interval.specs.Queues.{put, by_place}
+use Rattle.interval.specs.Queues.{placed, by_place}
 
 abbrev pub IsBefore : Kept → Kept → Type 0
 IsBefore j k = j.place < k.place
@@ -20,62 +20,62 @@ rises_first x xs rises j h = rises 0 (suc h.0) x j (omega arith) refl h.1
 pub rises_rest : (x : Kept) (xs : List Kept) → Rises (x ∷ xs) → Rises xs
 rises_rest x xs rises = in_order_tail IsBefore x xs rises
 
--- `put`
+-- `placed`
 
-pub has-put : (k : Kept) (xs : List Kept) (j : Kept) → Has (put k xs) j → (k ≡ j) ⊎ Has xs j
-has-put k [] j h = (has-cons k [] j).0 h
-has-put k (x ∷ xs) j h =
+pub has-placed : (k : Kept) (xs : List Kept) (j : Kept) → Has (placed k xs) j → (k ≡ j) ⊎ Has xs j
+has-placed k [] j h = (has-cons k [] j).0 h
+has-placed k (x ∷ xs) j h =
     let P : List Kept → Type 0 = λ ys. Has ys j → (k ≡ j) ⊎ Has (x ∷ xs) j in
-    let later : P (x ∷ put k xs) = λ g. elim ((has-cons x (put k xs) j).0 g) [
+    let later : P (x ∷ placed k xs) = λ g. elim ((has-cons x (placed k xs) j).0 g) [
       | inl same ↦ inr (0, ap Some same)
-      | inr rest ↦ elim (has-put k xs j rest) [ inl same ↦ inl same | inr old ↦ inr (suc old.0, old.1) ]
+      | inr rest ↦ elim (has-placed k xs j rest) [ inl same ↦ inl same | inr old ↦ inr (suc old.0, old.1) ]
     ] in
-    cond_both (nat_lt k.place x.place) (k ∷ x ∷ xs) (cond (nat_lt x.place k.place) (x ∷ put k xs) (x ∷ xs)) P (λ e. (has-cons k (x ∷ xs) j).0)
-    (λ e. cond_both (nat_lt x.place k.place) (x ∷ put k xs) (x ∷ xs) P (λ f. later) (λ f g. inr g)) h
+    cond_both (nat_lt k.place x.place) (k ∷ x ∷ xs) (cond (nat_lt x.place k.place) (x ∷ placed k xs) (x ∷ xs)) P (λ e. (has-cons k (x ∷ xs) j).0)
+    (λ e. cond_both (nat_lt x.place k.place) (x ∷ placed k xs) (x ∷ xs) P (λ f. later) (λ f g. inr g)) h
 
-pub has-put_old : (k : Kept) (xs : List Kept) (j : Kept) → Has xs j → Has (put k xs) j
-has-put_old k [] j h = absurd (has-nil j h)
-has-put_old k (x ∷ xs) j h =
+pub has-placed_old : (k : Kept) (xs : List Kept) (j : Kept) → Has xs j → Has (placed k xs) j
+has-placed_old k [] j h = absurd (has-nil j h)
+has-placed_old k (x ∷ xs) j h =
     let P : List Kept → Type 0 = λ ys. Has ys j in
-    let later : P (x ∷ put k xs) = elim ((has-cons x xs j).0 h) [
+    let later : P (x ∷ placed k xs) = elim ((has-cons x xs j).0 h) [
       | inl same ↦ (0, ap Some same)
-      | inr old ↦ (let there = has-put_old k xs j old in (suc there.0, there.1))
+      | inr old ↦ (let there = has-placed_old k xs j old in (suc there.0, there.1))
     ] in
-    cond_both (nat_lt k.place x.place) (k ∷ x ∷ xs) (cond (nat_lt x.place k.place) (x ∷ put k xs) (x ∷ xs)) P (λ e. (suc h.0, h.1))
-    (λ e. cond_both (nat_lt x.place k.place) (x ∷ put k xs) (x ∷ xs) P (λ f. later) (λ f. h))
+    cond_both (nat_lt k.place x.place) (k ∷ x ∷ xs) (cond (nat_lt x.place k.place) (x ∷ placed k xs) (x ∷ xs)) P (λ e. (suc h.0, h.1))
+    (λ e. cond_both (nat_lt x.place k.place) (x ∷ placed k xs) (x ∷ xs) P (λ f. later) (λ f. h))
 
-pub has-put_new : (k : Kept) (xs : List Kept) → ((x : Kept) → Has xs x → k.place ≡ x.place → k ≡ x) → Has (put k xs) k
-has-put_new k [] apart = (0, refl)
-has-put_new k (x ∷ xs) apart =
+pub has-placed_new : (k : Kept) (xs : List Kept) → ((x : Kept) → Has xs x → k.place ≡ x.place → k ≡ x) → Has (placed k xs) k
+has-placed_new k [] apart = (0, refl)
+has-placed_new k (x ∷ xs) apart =
     let P : List Kept → Type 0 = λ ys. Has ys k in
-    let rest = has-put_new k xs (λ y h e. apart y (suc h.0, h.1) e) in
-    cond_both (nat_lt k.place x.place) (k ∷ x ∷ xs) (cond (nat_lt x.place k.place) (x ∷ put k xs) (x ∷ xs)) P (λ e. (0, refl))
-    (λ e. cond_both (nat_lt x.place k.place) (x ∷ put k xs) (x ∷ xs) P (λ f. (suc rest.0, rest.1))
+    let rest = has-placed_new k xs (λ y h e. apart y (suc h.0, h.1) e) in
+    cond_both (nat_lt k.place x.place) (k ∷ x ∷ xs) (cond (nat_lt x.place k.place) (x ∷ placed k xs) (x ∷ xs)) P (λ e. (0, refl))
+    (λ e. cond_both (nat_lt x.place k.place) (x ∷ placed k xs) (x ∷ xs) P (λ f. (suc rest.0, rest.1))
     (λ f. let a = ltb-false _ _ e in let b = ltb-false _ _ f in (0, ap Some (sym (apart x (0, refl) (omega arith))))))
 
-pub rises-put : (k : Kept) (xs : List Kept) → Rises xs → Rises (put k xs)
-rises-put k [] rises = in_order_single IsBefore k
-rises-put k (x ∷ xs) rises =
+pub rises-placed : (k : Kept) (xs : List Kept) → Rises xs → Rises (placed k xs)
+rises-placed k [] rises = in_order_single IsBefore k
+rises-placed k (x ∷ xs) rises =
     let front : nat_lt k.place x.place ≡ true → Rises (k ∷ x ∷ xs) = λ e.
     let lt = ltb-true _ _ e in
     in_order-cons IsBefore k (x ∷ xs) (λ j h. elim ((has-cons x xs j).0 h) [
       | inl same ↦ (let place = ap (λ (z : Kept). z.place) same in omega arith)
       | inr old ↦ (let after = rises_first x xs rises j old in omega arith)
     ]) rises in
-    let later : nat_lt x.place k.place ≡ true → Rises (x ∷ put k xs) = λ f.
+    let later : nat_lt x.place k.place ≡ true → Rises (x ∷ placed k xs) = λ f.
     let lt = ltb-true _ _ f in
-    in_order-cons IsBefore x (put k xs) (λ j h. elim (has-put k xs j h) [
+    in_order-cons IsBefore x (placed k xs) (λ j h. elim (has-placed k xs j h) [
       | inl same ↦ (let place = ap (λ (z : Kept). z.place) same in omega arith)
       | inr old ↦ rises_first x xs rises j old
-    ]) (rises-put k xs (rises_rest x xs rises)) in
-    cond_both (nat_lt k.place x.place) (k ∷ x ∷ xs) (cond (nat_lt x.place k.place) (x ∷ put k xs) (x ∷ xs)) Rises front
-    (λ e. cond_both (nat_lt x.place k.place) (x ∷ put k xs) (x ∷ xs) Rises later (λ f. rises))
+    ]) (rises-placed k xs (rises_rest x xs rises)) in
+    cond_both (nat_lt k.place x.place) (k ∷ x ∷ xs) (cond (nat_lt x.place k.place) (x ∷ placed k xs) (x ∷ xs)) Rises front
+    (λ e. cond_both (nat_lt x.place k.place) (x ∷ placed k xs) (x ∷ xs) Rises later (λ f. rises))
 
 -- `by_place`
 
 pub has-by_place : (xs : List Kept) (j : Kept) → Has (by_place xs) j → Has xs j
 has-by_place [] j h = h
-has-by_place (x ∷ xs) j h = elim (has-put x (by_place xs) j h) [
+has-by_place (x ∷ xs) j h = elim (has-placed x (by_place xs) j h) [
   | inl same ↦ (0, ap Some same)
   | inr later ↦ (let old = has-by_place xs j later in (suc old.0, old.1))
 ]
@@ -88,15 +88,15 @@ pub has-by_place_from : (xs : List Kept) → IsApart xs → (j : Kept) → Has x
 has-by_place_from [] apart j h = absurd (has-nil j h)
 has-by_place_from (x ∷ xs) apart j h = elim ((has-cons x xs j).0 h) [
   | inl same ↦ (
-      let new = has-put_new x (by_place xs) (λ y g e. let old = has-by_place xs y g in apart x y (0, refl) (suc old.0, old.1) e) in
-      let P : Kept → Type 0 = λ z. Has (put x (by_place xs)) z in
+      let new = has-placed_new x (by_place xs) (λ y g e. let old = has-by_place xs y g in apart x y (0, refl) (suc old.0, old.1) e) in
+      let P : Kept → Type 0 = λ z. Has (placed x (by_place xs)) z in
       subst P same new)
-  | inr later ↦ has-put_old x (by_place xs) j (has-by_place_from xs (λ i k a b e. apart i k (suc a.0, a.1) (suc b.0, b.1) e) j later)
+  | inr later ↦ has-placed_old x (by_place xs) j (has-by_place_from xs (λ i k a b e. apart i k (suc a.0, a.1) (suc b.0, b.1) e) j later)
 ]
 
 pub rises-by_place : (xs : List Kept) → Rises (by_place xs)
 rises-by_place [] = in_order-nil IsBefore
-rises-by_place (x ∷ xs) = rises-put x (by_place xs) (rises-by_place xs)
+rises-by_place (x ∷ xs) = rises-placed x (by_place xs) (rises-by_place xs)
 
 -- a rising list is known by what stands in it
 pub same_rising : (xs ys : List Kept) → Rises xs → Rises ys → ((k : Kept) → Has xs k → Has ys k) → ((k : Kept) → Has ys k → Has xs k) → xs ≡ ys

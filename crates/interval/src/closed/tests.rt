@@ -1,4 +1,4 @@
-ghost use Rattle.std.specs.Prelude.{◌≡◌, ◌+◌, ◌<◌, Some, IfOk, OnOk, OnErr, length, map, slice_get, slice_set};
+ghost use Rattle.std.specs.Prelude.{◌≡◌, ◌+◌, ◌<◌, ◌≤◌, Some, IfOk, OnOk, OnErr, length, map, slice_get, slice_set};
 ghost use Rattle.std.specs.Arc.{arc_value};
 ghost use Rattle.interval.specs.Intervals.{HasRisingPages};
 
@@ -25,7 +25,7 @@ fn keep(
     requires two_owners { length closed.old.first ≡ 2 }
     requires next { slice_get closed.old.next owner ≡ Some number }
     requires pages { HasRisingPages (map arc_value records.items) }
-    requires few { closed.old.pushed < 100 }
+    requires few { closed.old.pushed < 10_000 }
     ensures two_owners { length closed.new.first ≡ 2 }
     ensures next { OnOk result (closed.new.next ≡ slice_set closed.old.next owner (number + 1)) }
     ensures pushed { OnOk result (closed.new.pushed ≡ closed.old.pushed + 1) }
@@ -53,19 +53,19 @@ fn four_intervals(alloc: Global) -> Result<Closed, AllocError>
     Ok(closed)
 }
 
-/// Raises the entry, while it is below 9.
+/// Raises the entry, while it is below 2,000.
 fn raise(time: &mut VTime, q: usize, count: u64)
     requires { q < length time.old }
     ensures { length time.new ≡ length time.old }
 {
-    for _ in 0..count.min(9) {
-        if time.entry(q) < 9 {
+    for _ in 0..count.min(2_000) {
+        if time.entry(q) < 2_000 {
             time.tick(q);
         }
     }
 }
 
-/// The timestamp with these two entries, each below 10.
+/// The timestamp with these two entries, each at most 2,000.
 fn stamp(alloc: Global, entries: [u64; 2]) -> VTime
     ensures { length result ≡ 2 }
 {
@@ -279,7 +279,7 @@ fn keep_page(
 ) -> Result<(), AllocError>
     requires two_owners { length closed.old.first ≡ 2 }
     requires next { slice_get closed.old.next owner ≡ Some number }
-    requires few { closed.old.pushed < 100 }
+    requires few { closed.old.pushed < 10_000 }
     ensures two_owners { length closed.new.first ≡ 2 }
     ensures next { OnOk result (closed.new.next ≡ slice_set closed.old.next owner (number + 1)) }
     ensures pushed { OnOk result (closed.new.pushed ≡ closed.old.pushed + 1) }
@@ -308,5 +308,46 @@ fn goes_on_after_a_refusal(rt: HostRuntime) -> Result<(), Fail> {
         Err(_) => has_between(&rt, &closed, [0, 0], [1, 1], &both)?,
     };
     assert!(rt; has_both);
+    Ok(())
+}
+
+/// Closes this many intervals of owner 0 of two, which had none. Each has a record of page 3.
+fn keep_many(alloc: Global, closed: &mut Closed, count: u64) -> Result<(), AllocError>
+    requires two_owners { length closed.old.first ≡ 2 }
+    requires next { slice_get closed.old.next 0 ≡ Some 0 }
+    requires none { closed.old.pushed ≡ 0 }
+    requires few { count ≤ 2_000 }
+    ensures two_owners { length closed.new.first ≡ 2 }
+{
+    for number in 0..count {
+        keep(closed, 0, number, one_record(alloc, 3)?)?;
+    }
+    Ok(())
+}
+
+#[test]
+fn keeps_more_than_a_thousand_intervals(rt: HostRuntime) -> Result<(), Fail> {
+    let mut closed = Closed::new(rt.alloc(), 2)?;
+    keep_many(rt.alloc(), &mut closed, 1_025)?;
+    let last = [(notice(3, 0, 1_023), 1_023), (notice(3, 0, 1_024), 1_024)];
+    assert!(rt; has_between(&rt, &closed, [1_023, 0], [1_025, 0], &last)?);
+    assert_eq!(rt; count_between(&rt, &closed, 3, [0, 0], [1_025, 0]), 1_025);
+    assert_eq!(rt;
+        counts_between(&rt, &closed, [1_000, 0], [1_024, 0]),
+        [0, 0, 0, 24]
+    );
+    closed.trim(0, 1_024);
+    assert_eq!(rt; closed.first(0), 1_024);
+    assert!(rt; closed.record_of(&notice(3, 0, 1_023)).is_none());
+    assert!(rt; closed.record_of(&notice(3, 0, 1_024)).is_some());
+    assert!(rt;
+        has_between(
+            &rt,
+            &closed,
+            [1_024, 0],
+            [1_025, 0],
+            &[(notice(3, 0, 1_024), 1_024)]
+        )?
+    );
     Ok(())
 }

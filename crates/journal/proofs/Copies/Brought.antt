@@ -3,6 +3,7 @@ use Rattle.std.proofs.Common.{ℕ, ◌≡◌, ◌≢◌, ◌⊎◌, ◌↔◌, �
 use Rattle.std.proofs.lemmas.Option.{none-some}
 use Rattle.journal.specs.declared.event.Event.{Event}
 use Rattle.journal.specs.declared.event.Kind.TheVariants.{Store, Fetch}
+use Rattle.journal.specs.Did.{event}
 use Rattle.journal.specs.Sizes.{Sizes}
 use Rattle.journal.specs.Events.{At}
 use Rattle.journal.specs.Order.{HappensBefore}
@@ -22,24 +23,24 @@ pub brought_longer : (j es : List Event) (p n i : ℕ) → Brought j p n i → B
 brought_longer j es p n i (inl x) = inl (x.0, at_longer j es i x.0 x.1, x.2)
 brought_longer j es p n i (inr x) =
     let f = x.1 in
-    inr (x.0, (f.0, f.1, f.2, at_longer j es x.0 (record { processor = p; kind = Fetch f.0 n f.1 f.2 }) f.3), longer j es x.2)
+    inr (x.0, (f.0, f.1, f.2, at_longer j es x.0 (event p (Fetch f.0 n f.1 f.2)) f.3), longer j es x.2)
 
 -- what was brought is in the past
 pub brought_past : (j : List Event) (p n i : ℕ) → Brought j p n i → InPast j p i
 brought_past j p n i (inl x) = own_in_past j p i x.0 x.1 x.2
 brought_past j p n i (inr x) =
     let f = x.1 in
-    past_back j p i x.0 x.2 (own_in_past j p x.0 (record { processor = p; kind = Fetch f.0 n f.1 f.2 }) f.3 refl)
+    past_back j p i x.0 x.2 (own_in_past j p x.0 (event p (Fetch f.0 n f.1 f.2)) f.3 refl)
 
 -- what was brought to a store of the page by one more event
-pub brought_push : (s : Sizes) (j : List Event) (e : Event) (p n i : ℕ) → ((w r d : ℕ) → e ≢ record { processor = p; kind = Fetch w n r d }) → StoresTo s (j ++ e ∷ []) n i → Brought (j ++ e ∷ []) p n i → Brought j p n i ⊎ ((i ≡ length j) × (e.processor ≡ p))
+pub brought_push : (s : Sizes) (j : List Event) (e : Event) (p n i : ℕ) → ((w r d : ℕ) → e ≢ (event p (Fetch w n r d))) → StoresTo s (j ++ e ∷ []) n i → Brought (j ++ e ∷ []) p n i → Brought j p n i ⊎ ((i ≡ length j) × (e.processor ≡ p))
 brought_push s j e p n i no_fetch x (inl m) = elim (push_cases j e i m.0 m.1) [
   | inl h ↦ inl (inl (m.0, h.1, m.2))
   | inr h ↦ inr (h.0, ap (λ (f : Event). f.processor) h.1 ∙ m.2)
 ]
 brought_push s j e p n i no_fetch x (inr m) =
     let f = m.1 in
-    elim (push_cases j e m.0 (record { processor = p; kind = Fetch f.0 n f.1 f.2 }) f.3) [
+    elim (push_cases j e m.0 (event p (Fetch f.0 n f.1 f.2)) f.3) [
       | inl h ↦ inl (inr (m.0, (f.0, f.1, f.2, h.1), shorter j (e ∷ []) h.0 m.2))
       | inr h ↦ absurd (no_fetch f.0 f.1 f.2 h.1)
     ]
@@ -60,16 +61,16 @@ pub copy_start : (s : Sizes) (p n : ℕ) → IsCopy s [] p n (replicate s.words 
 copy_start s p n = record {
   image = record {
     order = [];
-    each = λ i. (λ h. absurd (has-nil i h), λ x. absurd (none-some (record { processor = x.1.by; kind = Store x.1.address x.1.value }) x.1.does));
+    each = λ i. (λ h. absurd (has-nil i h), λ x. absurd (none-some (event x.1.by (Store x.1.address x.1.value)) x.1.does));
     once = in_order-nil (λ (a b : ℕ). a ≢ b);
     extends = in_order-nil (λ i k. ¬ HappensBefore [] k i);
     gives = refl;
   };
-  closed = λ i k x y b before. absurd (none-some (record { processor = x.by; kind = Store x.address x.value }) x.does);
+  closed = λ i k x y b before. absurd (none-some (event x.by (Store x.address x.value)) x.does);
 }
 
 -- an event that is neither p's store to the page nor p's fetch of it keeps p's copy
-pub copy_kept : (s : Sizes) (j : List Event) (e : Event) (p n : ℕ) (page : List ℕ) → ((a v : ℕ) → a / s.words ≡ n → e ≢ record { processor = p; kind = Store a v }) → ((w r d : ℕ) → e ≢ record { processor = p; kind = Fetch w n r d }) → IsCopy s j p n page → IsCopy s (j ++ e ∷ []) p n page
+pub copy_kept : (s : Sizes) (j : List Event) (e : Event) (p n : ℕ) (page : List ℕ) → ((a v : ℕ) → a / s.words ≡ n → e ≢ (event p (Store a v))) → ((w r d : ℕ) → e ≢ (event p (Fetch w n r d))) → IsCopy s j p n page → IsCopy s (j ++ e ∷ []) p n page
 copy_kept s j e p n page no_store no_fetch copy = record {
   image = image_kept s j (e ∷ []) (Brought j p n) (Brought (j ++ e ∷ []) p n) n page (λ i x. brought_longer j (e ∷ []) p n i) (λ i x b. (old i x b, past_within j p i (brought_past j p n i (old i x b)))) copy.image;
   closed = λ i k x y b before.

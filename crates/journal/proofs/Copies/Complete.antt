@@ -3,6 +3,7 @@ use Rattle.std.proofs.Common.{ℕ, ◌≡◌, ◌≢◌, ◌≤◌, ◌+◌, ◌
 use Rattle.std.specs.List.{concat}
 use Rattle.journal.specs.declared.event.Event.{Event}
 use Rattle.journal.specs.declared.event.Kind.TheVariants.{Store, Fetch}
+use Rattle.journal.specs.Did.{event}
 use Rattle.journal.specs.Sizes.{Sizes}
 use Rattle.journal.specs.Events.{At}
 use Rattle.journal.specs.Order.{HappensBefore}
@@ -47,7 +48,7 @@ complete_others s j es p n away = complete_on s j es p n (λ i x. (others j es p
 -- a store behind j is the block's own
 block_mine : (s : Sizes) (j block : List Event) (p n i : ℕ) → IsBlock p block → StoresTo s (j ++ block) n i → length j ≤ i → Mine (j ++ block) p i
 block_mine s j block p n i is x behind =
-    let e : Event = record { processor = x.by; kind = Store x.address x.value } in
+    let e : Event = event x.by (Store x.address x.value) in
     (e, x.does, elim (append_cases j block i e x.does) [ inl h ↦ absurd (omega (arith, h.0)) | inr h ↦ (is h.0 e h.2).0 ])
 
 -- nor does a block
@@ -65,7 +66,7 @@ complete_fetched s j block p n k w r d is fetch i x past = elim ((block_past j b
 ]
   where
     e : Event
-    e = record { processor = p; kind = Fetch w n r d }
+    e = event p (Fetch w n r d)
 
 -- the gap under a block that doesn't fetch the page is the gap before it
 pub gap_block : (s : Sizes) (j block : List Event) (p n i : ℕ) → IsBlock p block → ((k w r d : ℕ) → ¬ Does block k p (Fetch w n r d)) → InGap s (j ++ block) p n i ↔ InGap s j p n i
@@ -81,7 +82,7 @@ gap_block s j block p n i is none = (there, back)
     old g (inl m) = g.others (m.0, at_shorter j block i m.0 (past_within j p i g.past) m.1, m.2)
     old g (inr m) =
         let f = m.1 in
-        elim (append_cases j block m.0 (record { processor = p; kind = Fetch f.0 n f.1 f.2 }) f.3) [
+        elim (append_cases j block m.0 (event p (Fetch f.0 n f.1 f.2)) f.3) [
           | inl h ↦ g.new m.0 (f.0, f.1, f.2, h.1) (shorter j block h.0 m.2)
           | inr h ↦ none h.0 f.0 f.1 f.2 h.2
         ]

@@ -2,6 +2,7 @@
 use Rattle.std.proofs.Common.{ℕ, ◌≡◌, ◌≢◌, ◌/◌, ◌%◌, List, [], ◌∷◌, ◌++◌, Some, map, length, sum_by, slice_get, slice_set, refl, sym, ap, subst, ◌∙◌}
 use Rattle.journal.specs.declared.event.Event.{Event}
 use Rattle.journal.specs.declared.event.Kind.TheVariants.{Load, Store, Fetch}
+use Rattle.journal.specs.Did.{event}
 use Rattle.journal.specs.Sizes.{Sizes}
 use Rattle.journal.specs.Loads.{Explained}
 use Rattle.journal.specs.Copies.{Lawful, HasCount}
@@ -18,7 +19,7 @@ use Rattle.journal.proofs.Copies.Pages.{answers_start, stale_fetched, stale_coun
 
 -- the block: p fetches page n, loads a and stores at b
 abbrev pub fetch_load_store : (p n writers a v b w : ℕ) → List Missing → List Event
-fetch_load_store p n writers a v b w missing = record { processor = p; kind = Fetch writers n (length missing) (sum_by (λ (x : Missing). length x.words) missing) } ∷ record { processor = p; kind = Load a v } ∷ record { processor = p; kind = Store b w } ∷ []
+fetch_load_store p n writers a v b w missing = event p (Fetch writers n (length missing) (sum_by (λ (x : Missing). length x.words) missing)) ∷ event p (Load a v) ∷ event p (Store b w) ∷ []
 
 -- behind an explained and counted journal it is explained and counted, and leaves a lawful copy
 pub fetch_load_store_lawful : (s : Sizes) (j : List Event) (p n writers a v b w : ℕ) (page : List ℕ) (missing : List Missing) (base : ℕ → List ℕ) → IsStaleCopy s j [] p n page missing → InClosingOrder missing → HasCount (λ (q : ℕ). (x : Missing) × Has missing x × (x.owner ≡ q)) writers → Explained j → AreCounted s j → a / s.words ≡ n → b / s.words ≡ n → slice_get (records_applied page (map (λ (x : Missing). x.words) missing)) (a % s.words) ≡ Some v → Explained (j ++ fetch_load_store p n writers a v b w missing) × AreCounted s (j ++ fetch_load_store p n writers a v b w missing) × Lawful s (j ++ fetch_load_store p n writers a v b w missing) p n (slice_set (records_applied page (map (λ (x : Missing). x.words) missing)) (b % s.words) w)
@@ -28,13 +29,13 @@ fetch_load_store_lawful s j p n writers a v b w page missing base stale order co
     new = records_applied page (map (λ (x : Missing). x.words) missing)
 
     fetch : Event
-    fetch = record { processor = p; kind = Fetch writers n (length missing) (sum_by (λ (x : Missing). length x.words) missing) }
+    fetch = event p (Fetch writers n (length missing) (sum_by (λ (x : Missing). length x.words) missing))
 
     load : Event
-    load = record { processor = p; kind = Load a v }
+    load = event p (Load a v)
 
     store : Event
-    store = record { processor = p; kind = Store b w }
+    store = event p (Store b w)
 
     block : List Event
     block = fetch ∷ load ∷ store ∷ []
@@ -63,5 +64,5 @@ fetch_load_store_lawful s j p n writers a v b w page missing base stale order co
     counts : BlockCounts s j block p
     counts = other (fetch ∷ load ∷ []) store (λ m x y z e. absurd (cc (ap (λ (f : Event). f.kind) e))) (other (fetch ∷ []) load (λ m x y z e. absurd (cc (ap (λ (f : Event). f.kind) e))) (stale_counted s j [] p n writers page missing order count stale (block_counts_start s j p)))
       where
-        other : (es : List Event) (e : Event) → ((m x y z : ℕ) → e ≢ record { processor = p; kind = Fetch x m y z }) → BlockCounts s j es p → BlockCounts s j (es ++ e ∷ []) p
+        other : (es : List Event) (e : Event) → ((m x y z : ℕ) → e ≢ (event p (Fetch x m y z))) → BlockCounts s j es p → BlockCounts s j (es ++ e ∷ []) p
         other es e not = block_counts_push s j es e p (λ m x y z is. absurd (not m x y z is))

@@ -4,6 +4,7 @@ use Rattle.std.proofs.lemmas.List.{length-replicate}
 use Rattle.journal.specs.declared.event.Event.{Event}
 use Rattle.journal.specs.declared.event.Kind.{Kind}
 use Rattle.journal.specs.declared.event.Kind.TheVariants.{Store}
+use Rattle.journal.specs.Did.{event}
 use Rattle.journal.specs.Sizes.{Sizes}
 use Rattle.journal.specs.Events.{At, is_taking}
 use Rattle.journal.specs.Order.{HappensBefore}
@@ -73,11 +74,11 @@ lawful_quiet s j e n page quiet elsewhere = lawful_on s j (e ∷ []) e.processor
     ]
 
 -- what is new to the past by an own store: its place
-store_is_new : (s : Sizes) (j : List Event) (p n a v : ℕ) → a / s.words ≡ n → (i : ℕ) → Has (length j ∷ []) i ↔ (InPast (j ++ record { processor = p; kind = Store a v } ∷ []) p i × StoresTo s (j ++ record { processor = p; kind = Store a v } ∷ []) n i × (InPast j p i → ⊥))
+store_is_new : (s : Sizes) (j : List Event) (p n a v : ℕ) → a / s.words ≡ n → (i : ℕ) → Has (length j ∷ []) i ↔ (InPast (j ++ event p (Store a v) ∷ []) p i × StoresTo s (j ++ event p (Store a v) ∷ []) n i × (InPast j p i → ⊥))
 store_is_new s j p n a v in_page i = (λ h. there (elim ((has-cons (length j) [] i).0 h) [ inl e ↦ e | inr m ↦ absurd (has-nil i m) ]), back)
   where
     e : Event
-    e = record { processor = p; kind = Store a v }
+    e = event p (Store a v)
 
     there : length j ≡ i → InPast (j ++ e ∷ []) p i × StoresTo s (j ++ e ∷ []) n i × (InPast j p i → ⊥)
     there is =
@@ -88,13 +89,13 @@ store_is_new s j p n a v in_page i = (λ h. there (elim ((has-cons (length j) []
     back x = elim ((own_past j e i refl).0 x.0) [ inl old ↦ absurd (x.2 old) | inr is ↦ (0, ap Some (sym is)) ]
 
 -- an own store, done to the copy, keeps it lawful
-pub lawful_store : (s : Sizes) (j : List Event) (p n : ℕ) (page : List ℕ) (a v : ℕ) → a / s.words ≡ n → Lawful s j p n page → Lawful s (j ++ record { processor = p; kind = Store a v } ∷ []) p n (slice_set page (a % s.words) v)
+pub lawful_store : (s : Sizes) (j : List Event) (p n : ℕ) (page : List ℕ) (a v : ℕ) → a / s.words ≡ n → Lawful s j p n page → Lawful s (j ++ event p (Store a v) ∷ []) p n (slice_set page (a % s.words) v)
 lawful_store s j p n page a v in_page lawful =
     let P : Option Event → Type 0 = λ x. IsImage s (j ++ e ∷ []) (InPast (j ++ e ∷ []) p) n (wrote page (page_write s x)) in
     subst P (at_last j e) (image_more s (j ++ e ∷ []) (InPast j p) (InPast (j ++ e ∷ []) p) n page (length j ∷ []) (λ i x. past_longer j (e ∷ []) p i) closed (store_is_new s j p n a v in_page) (in_order_single (λ (x y : ℕ). x ≢ y) (length j)) (in_order_single (λ i k. ¬ HappensBefore (j ++ e ∷ []) k i) (length j)) old)
   where
     e : Event
-    e = record { processor = p; kind = Store a v }
+    e = event p (Store a v)
 
     closed : (i k : ℕ) → StoresTo s (j ++ e ∷ []) n i → StoresTo s (j ++ e ∷ []) n k → InPast j p i → HappensBefore (j ++ e ∷ []) k i → InPast j p k
     closed i k x y past before = past_back j p k i (shorter j (e ∷ []) (past_within j p i past) before) past
@@ -113,16 +114,16 @@ image_among s j among among' n page same image = record {
 }
 
 -- an own event that takes nothing keeps a copy lawful, with what it stores in the page done to it
-pub lawful_event : (s : Sizes) (j : List Event) (p n : ℕ) (page : List ℕ) (k : Kind) → is_taking k ≡ false → Lawful s j p n page → Lawful s (j ++ record { processor = p; kind = k } ∷ []) p n (wrote page (write_in s n k))
+pub lawful_event : (s : Sizes) (j : List Event) (p n : ℕ) (page : List ℕ) (k : Kind) → is_taking k ≡ false → Lawful s j p n page → Lawful s (j ++ event p k ∷ []) p n (wrote page (write_in s n k))
 lawful_event s j p n page (Store a v) quiet lawful = go (a / s.words == n) refl
   where
-    go : (b : Bool) → (a / s.words == n) ≡ b → Lawful s (j ++ record { processor = p; kind = Store a v } ∷ []) p n (wrote page (cond b (Some (a % s.words, v)) None))
+    go : (b : Bool) → (a / s.words == n) ≡ b → Lawful s (j ++ event p (Store a v) ∷ []) p n (wrote page (cond b (Some (a % s.words, v)) None))
     go true e = lawful_store s j p n page a v (eqb-true (a / s.words) n e) lawful
-    go false e = lawful_quiet s j (record { processor = p; kind = Store a v }) n page refl (λ b w is in_page.
+    go false e = lawful_quiet s j (event p (Store a v)) n page refl (λ b w is in_page.
         let same : a ≡ b = cc in
         let here : (a / s.words == n) ≡ true = eq-eqb (a / s.words) n (ap (λ x. x / s.words) same ∙ in_page) in
         absurd (true≢false (sym here ∙ e))) lawful
-lawful_event s j p n page k quiet lawful = lawful_quiet s j (record { processor = p; kind = k }) n page quiet (λ a v is. absurd (cc)) lawful
+lawful_event s j p n page k quiet lawful = lawful_quiet s j (event p k) n page quiet (λ a v is. absurd (cc)) lawful
 
 -- an image has the words of a page
 pub image_long : (s : Sizes) (j : List Event) (among : ℕ → Type 0) (n : ℕ) (page : List ℕ) → IsImage s j among n page → length page ≡ s.words

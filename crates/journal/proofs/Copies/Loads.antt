@@ -4,6 +4,7 @@ use Rattle.std.proofs.lemmas.Bool.{cases_order}
 use Rattle.std.proofs.lemmas.Option.{same_Some}
 use Rattle.journal.specs.declared.event.Event.{Event}
 use Rattle.journal.specs.declared.event.Kind.TheVariants.{Load, Store}
+use Rattle.journal.specs.Did.{event}
 use Rattle.journal.specs.Sizes.{Sizes}
 use Rattle.journal.specs.Order.{HappensBefore}
 use Rattle.journal.specs.Pasts.{InPast}
@@ -56,24 +57,24 @@ image_word s j among n page a v image in_page h = go (word_written f (replicate 
     go (inr r) = inl (sym (slice_get-replicate_found s.words 0 v (a % s.words) r.0), λ i q w does some. let y = (image.each i).1 (some, stores_to s j n i q a w does in_page) in r.1 y.0 i w y.1 (store_writes s j i q a w does))
 
 -- a load of a lawful copy answers what it may
-pub load_answers : (s : Sizes) (j : List Event) (p n : ℕ) (page : List ℕ) (a v : ℕ) → Lawful s j p n page → a / s.words ≡ n → slice_get page (a % s.words) ≡ Some v → IsAnswer (j ++ record { processor = p; kind = Load a v } ∷ []) (length j) a v
+pub load_answers : (s : Sizes) (j : List Event) (p n : ℕ) (page : List ℕ) (a v : ℕ) → Lawful s j p n page → a / s.words ≡ n → slice_get page (a % s.words) ≡ Some v → IsAnswer (j ++ event p (Load a v) ∷ []) (length j) a v
 load_answers s j p n page a v lawful in_page h = go (image_word s j (InPast j p) n page a v lawful in_page h)
   where
     e : Event
-    e = record { processor = p; kind = Load a v }
+    e = event p (Load a v)
 
     past : (i : ℕ) → HappensBefore (j ++ e ∷ []) i (length j) → InPast j p i
     past i = (reaches_new j e i refl).0
 
     old : (i q w : ℕ) → InPast j p i → Does (j ++ e ∷ []) i q (Store a w) → Does j i q (Store a w)
-    old i q w x d = at_shorter j (e ∷ []) i (record { processor = q; kind = Store a w }) (past_within j p i x) d
+    old i q w x d = at_shorter j (e ∷ []) i (event q (Store a w)) (past_within j p i x) d
 
     go : ((v ≡ 0) × ((i q w : ℕ) → Does j i q (Store a w) → ¬ InPast j p i)) ⊎ LatestAmong j (InPast j p) a v → IsAnswer (j ++ e ∷ []) (length j) a v
     go (inl n) = inl (n.0, λ i q w d before. n.1 i q w (old i q w (past i before) d) (past i before))
     go (inr l) = inr (record {
       place = l.place;
       by = l.by;
-      stores = at_longer j (e ∷ []) l.place (record { processor = l.by; kind = Store a v }) l.stores;
+      stores = at_longer j (e ∷ []) l.place (event l.by (Store a v)) l.stores;
       before = (reaches_new j e l.place refl).1 l.here;
       latest = λ i q w d before on. l.latest i q w (old i q w (past i before) d) (past i before) (shorter j (e ∷ []) (past_within j p i (past i before)) on);
     })
@@ -86,32 +87,32 @@ answer_on j es k a v within answer = go answer
     past i = shorter j es within
 
     old : (i q w : ℕ) → HappensBefore j i k → Does (j ++ es) i q (Store a w) → Does j i q (Store a w)
-    old i q w x d = at_shorter j es i (record { processor = q; kind = Store a w }) (begins_within j x) d
+    old i q w x d = at_shorter j es i (event q (Store a w)) (begins_within j x) d
 
     go : IsAnswer j k a v → IsAnswer (j ++ es) k a v
     go (inl n) = inl (n.0, λ i q w d before. n.1 i q w (old i q w (past i before) d) (past i before))
     go (inr l) = inr (record {
       place = l.place;
       by = l.by;
-      stores = at_longer j es l.place (record { processor = l.by; kind = Store a v }) l.stores;
+      stores = at_longer j es l.place (event l.by (Store a v)) l.stores;
       before = longer j es l.before;
       latest = λ i q w d before on. l.latest i q w (old i q w (past i before) d) (past i before) (shorter j es (begins_within j (past i before)) on);
     })
 
 -- an explained journal stays so by an event that is no load, or a load that answers what it may
-pub explained_push : (j : List Event) (e : Event) → Explained j → ((p a v : ℕ) → e ≡ record { processor = p; kind = Load a v } → IsAnswer (j ++ e ∷ []) (length j) a v) → Explained (j ++ e ∷ [])
-explained_push j e explained new k p a v d = elim (push_cases j e k (record { processor = p; kind = Load a v }) d) [
+pub explained_push : (j : List Event) (e : Event) → Explained j → ((p a v : ℕ) → e ≡ event p (Load a v) → IsAnswer (j ++ e ∷ []) (length j) a v) → Explained (j ++ e ∷ [])
+explained_push j e explained new k p a v d = elim (push_cases j e k (event p (Load a v)) d) [
   | inl x ↦ answer_on j (e ∷ []) k a v x.0 (explained k p a v x.1)
   | inr x ↦ (let P : ℕ → Type 0 = λ m. IsAnswer (j ++ e ∷ []) m a v in subst P (sym x.0) (new p a v x.1))
 ]
 
 -- and by a load of a lawful copy
-pub explained_load : (s : Sizes) (j : List Event) (p n : ℕ) (page : List ℕ) (a v : ℕ) → Explained j → Lawful s j p n page → a / s.words ≡ n → slice_get page (a % s.words) ≡ Some v → Explained (j ++ record { processor = p; kind = Load a v } ∷ [])
-explained_load s j p n page a v explained lawful in_page h = explained_push j (record { processor = p; kind = Load a v }) explained again
+pub explained_load : (s : Sizes) (j : List Event) (p n : ℕ) (page : List ℕ) (a v : ℕ) → Explained j → Lawful s j p n page → a / s.words ≡ n → slice_get page (a % s.words) ≡ Some v → Explained (j ++ event p (Load a v) ∷ [])
+explained_load s j p n page a v explained lawful in_page h = explained_push j (event p (Load a v)) explained again
   where
-    again : (q b w : ℕ) → ◌≡◌ {A = Event} (record { processor = p; kind = Load a v }) (record { processor = q; kind = Load b w }) → IsAnswer (j ++ record { processor = p; kind = Load a v } ∷ []) (length j) b w
+    again : (q b w : ℕ) → ◌≡◌ {A = Event} (event p (Load a v)) (event q (Load b w)) → IsAnswer (j ++ event p (Load a v) ∷ []) (length j) b w
     again q b w e =
         let kinds : Load a v ≡ Load b w = ap (λ (x : Event). x.kind) e in
         let same_address : a ≡ b = cc in
         let same_value : v ≡ w = cc in
-        subst₂ (IsAnswer (j ++ record { processor = p; kind = Load a v } ∷ []) (length j)) same_address same_value (load_answers s j p n page a v lawful in_page h)
+        subst₂ (IsAnswer (j ++ event p (Load a v) ∷ []) (length j)) same_address same_value (load_answers s j p n page a v lawful in_page h)

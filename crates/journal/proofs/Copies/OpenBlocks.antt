@@ -5,6 +5,7 @@ use Rattle.std.proofs.lemmas.List.{take-append-le}
 use Rattle.std.proofs.Math.Seq.{take-append_seam}
 use Rattle.journal.specs.declared.event.Event.{Event}
 use Rattle.journal.specs.declared.event.Kind.TheVariants.{Load}
+use Rattle.journal.specs.Did.{event}
 use Rattle.journal.specs.Sizes.{Sizes}
 use Rattle.journal.specs.Events.{At, is_taking}
 use Rattle.journal.specs.WellFormed.{Does}
@@ -49,7 +50,7 @@ lawful_block s j block p n base is lawful = push_induction (λ es. IsBlock p es 
     step : (es : List Event) (e : Event) → (IsBlock p es → Lawful s (j ++ es) p n (block_done s n base es)) → IsBlock p (es ++ e ∷ []) → Lawful s (j ++ (es ++ e ∷ [])) p n (block_done s n base (es ++ e ∷ []))
     step es e ih more =
         let last = block_last p es e more in
-        let P : ℕ → Type 0 = λ q. Lawful s ((j ++ es) ++ record { processor = q; kind = e.kind } ∷ []) p n (wrote (block_done s n base es) (write_in s n e.kind)) in
+        let P : ℕ → Type 0 = λ q. Lawful s ((j ++ es) ++ event q e.kind ∷ []) p n (wrote (block_done s n base es) (write_in s n e.kind)) in
         rw (block_done-push s n base es e, ← append_assoc j es (e ∷ [])) (subst P (sym last.0) (lawful_event s (j ++ es) p n (block_done s n base es) e.kind last.1 (ih (block_front p es (e ∷ []) more))))
 
 -- the copy under a block is lawful after the block
@@ -64,17 +65,17 @@ open_handed s j block p n page is x = record { base = page; lawful = open_lawful
 pub answers_front : (s : Sizes) (j block es : List Event) (p : ℕ) (base : ℕ → List ℕ) → BlockAnswers s j (block ++ es) p base → BlockAnswers s j block p base
 answers_front s j block es p base x = record {
   lawful = λ k a v d. x.lawful k a v (longer k a v d);
-  answers = λ k a v d. let le = at_within block k (record { processor = p; kind = Load a v }) d in rw (take-append-le k block es (omega arith)) at (x.answers k a v (longer k a v d));
+  answers = λ k a v d. let le = at_within block k (event p (Load a v)) d in rw (take-append-le k block es (omega arith)) at (x.answers k a v (longer k a v d));
 }
   where
     longer : (k a v : ℕ) → Does block k p (Load a v) → Does (block ++ es) k p (Load a v)
-    longer k a v = at_longer block es k (record { processor = p; kind = Load a v })
+    longer k a v = at_longer block es k (event p (Load a v))
 
 -- what the last load of a block answers is explained
-last_answer : (s : Sizes) (j es : List Event) (p a v : ℕ) (base : ℕ → List ℕ) → IsBlock p es → BlockAnswers s j (es ++ record { processor = p; kind = Load a v } ∷ []) p base → IsAnswer ((j ++ es) ++ record { processor = p; kind = Load a v } ∷ []) (length (j ++ es)) a v
+last_answer : (s : Sizes) (j es : List Event) (p a v : ℕ) (base : ℕ → List ℕ) → IsBlock p es → BlockAnswers s j (es ++ event p (Load a v) ∷ []) p base → IsAnswer ((j ++ es) ++ event p (Load a v) ∷ []) (length (j ++ es)) a v
 last_answer s j es p a v base is x =
-    let here = at_last es (record { processor = p; kind = Load a v }) in
-    let word = rw (take-append_seam es (record { processor = p; kind = Load a v } ∷ [])) at (x.answers (length es) a v here) in
+    let here = at_last es (event p (Load a v)) in
+    let word = rw (take-append_seam es (event p (Load a v) ∷ [])) at (x.answers (length es) a v here) in
     load_answers s (j ++ es) p (a / s.words) (block_done s (a / s.words) (base (a / s.words)) es) a v (lawful_block s j es p (a / s.words) (base (a / s.words)) is (x.lawful (length es) a v here)) refl word
 
 -- a block whose loads answer so is explained behind an explained journal
@@ -87,9 +88,9 @@ explained_block s j block p base is answers explained = push_induction (λ es. I
         front : IsBlock p es
         front = block_front p es (e ∷ []) more
 
-        new : (q a v : ℕ) → e ≡ record { processor = q; kind = Load a v } → IsAnswer ((j ++ es) ++ e ∷ []) (length (j ++ es)) a v
+        new : (q a v : ℕ) → e ≡ event q (Load a v) → IsAnswer ((j ++ es) ++ e ∷ []) (length (j ++ es)) a v
         new q a v i =
-            let load : ℕ → Event = λ r. record { processor = r; kind = Load a v } in
+            let load : ℕ → Event = λ r. event r (Load a v) in
             let mine : q ≡ p = sym (ap (λ (f : Event). f.processor) i) ∙ (block_last p es e more).0 in
             let P : Event → Type 0 = λ f. BlockAnswers s j (es ++ f ∷ []) p base → IsAnswer ((j ++ es) ++ f ∷ []) (length (j ++ es)) a v in
             subst P (sym (i ∙ ap load mine)) (last_answer s j es p a v base front) x
@@ -99,14 +100,14 @@ pub answers_others : (s : Sizes) (j es block : List Event) (p : ℕ) (base : ℕ
 answers_others s j es block p base away x = record { lawful = λ k a v d. lawful_others s j es p (a / s.words) (base (a / s.words)) away (x.lawful k a v d); answers = x.answers }
 
 -- a further event of the block: if it is a load, it answers the word of its copy
-pub answers_push : (s : Sizes) (j block : List Event) (e : Event) (p : ℕ) (base : ℕ → List ℕ) → BlockAnswers s j block p base → ((a v : ℕ) → e ≡ record { processor = p; kind = Load a v } → Lawful s j p (a / s.words) (base (a / s.words)) × (slice_get (block_done s (a / s.words) (base (a / s.words)) block) (a % s.words) ≡ Some v)) → BlockAnswers s j (block ++ e ∷ []) p base
+pub answers_push : (s : Sizes) (j block : List Event) (e : Event) (p : ℕ) (base : ℕ → List ℕ) → BlockAnswers s j block p base → ((a v : ℕ) → e ≡ event p (Load a v) → Lawful s j p (a / s.words) (base (a / s.words)) × (slice_get (block_done s (a / s.words) (base (a / s.words)) block) (a % s.words) ≡ Some v)) → BlockAnswers s j (block ++ e ∷ []) p base
 answers_push s j block e p base x new = record { lawful = lawful; answers = answers }
   where
     lawful : (k a v : ℕ) → Does (block ++ e ∷ []) k p (Load a v) → Lawful s j p (a / s.words) (base (a / s.words))
-    lawful k a v d = elim (push_cases block e k (record { processor = p; kind = Load a v }) d) [ inl h ↦ x.lawful k a v h.1 | inr h ↦ (new a v h.1).0 ]
+    lawful k a v d = elim (push_cases block e k (event p (Load a v)) d) [ inl h ↦ x.lawful k a v h.1 | inr h ↦ (new a v h.1).0 ]
 
     answers : (k a v : ℕ) → Does (block ++ e ∷ []) k p (Load a v) → slice_get (block_done s (a / s.words) (base (a / s.words)) (take k (block ++ e ∷ []))) (a % s.words) ≡ Some v
-    answers k a v d = elim (push_cases block e k (record { processor = p; kind = Load a v }) d) [
+    answers k a v d = elim (push_cases block e k (event p (Load a v)) d) [
       | inl h ↦ (let within : k < length block = h.0 in rw (take-append-le k block (e ∷ []) (omega arith)) (x.answers k a v h.1))
       | inr h ↦ rw (h.0, take-append_seam block (e ∷ [])) ((new a v h.1).1)
     ]

@@ -2,6 +2,7 @@
 use Rattle.std.proofs.Common.{ℕ, ◌≡◌, ◌≢◌, ◌<◌, ◌↔◌, ◌/◌, ◌%◌, inl, inr, List, [], ◌∷◌, ◌++◌, Option, Some, slice_set, length, arith, refl, sym, ap, subst}
 use Rattle.journal.specs.declared.event.Event.{Event}
 use Rattle.journal.specs.declared.event.Kind.TheVariants.{Store, Fetch}
+use Rattle.journal.specs.Did.{event}
 use Rattle.journal.specs.Sizes.{Sizes}
 use Rattle.journal.specs.Events.{At}
 use Rattle.journal.specs.Order.{HappensBefore}
@@ -20,11 +21,11 @@ use Rattle.journal.proofs.Missing.Applying.{fetched}
 use Rattle.journal.proofs.Copies.Brought.{brought_longer, brought_past, brought_push, gap_is, gapless}
 
 -- what an own store brings to the copy: its place
-store_is_brought : (s : Sizes) (j : List Event) (p n a v : ℕ) → a / s.words ≡ n → (i : ℕ) → Has (length j ∷ []) i ↔ (Brought (j ++ record { processor = p; kind = Store a v } ∷ []) p n i × StoresTo s (j ++ record { processor = p; kind = Store a v } ∷ []) n i × (Brought j p n i → ⊥))
+store_is_brought : (s : Sizes) (j : List Event) (p n a v : ℕ) → a / s.words ≡ n → (i : ℕ) → Has (length j ∷ []) i ↔ (Brought (j ++ event p (Store a v) ∷ []) p n i × StoresTo s (j ++ event p (Store a v) ∷ []) n i × (Brought j p n i → ⊥))
 store_is_brought s j p n a v in_page i = (λ h. there (elim ((has-cons (length j) [] i).0 h) [ inl e ↦ e | inr m ↦ absurd (has-nil i m) ]), back)
   where
     e : Event
-    e = record { processor = p; kind = Store a v }
+    e = event p (Store a v)
 
     there : length j ≡ i → Brought (j ++ e ∷ []) p n i × StoresTo s (j ++ e ∷ []) n i × (Brought j p n i → ⊥)
     there is =
@@ -36,11 +37,11 @@ store_is_brought s j p n a v in_page i = (λ h. there (elim ((has-cons (length j
     back x = elim (brought_push s j e p n i (λ w r d is. absurd (cc (ap (λ (f : Event). f.kind) is))) x.1 x.0) [ inl old ↦ absurd (x.2 old) | inr m ↦ (0, ap Some (sym m.0)) ]
 
 -- an own store, done to a copy that lacks nothing, keeps it
-pub copy_store : (s : Sizes) (j : List Event) (p n : ℕ) (page : List ℕ) (a v : ℕ) → a / s.words ≡ n → NoGap s j p n → IsCopy s j p n page → IsCopy s (j ++ record { processor = p; kind = Store a v } ∷ []) p n (slice_set page (a % s.words) v)
+pub copy_store : (s : Sizes) (j : List Event) (p n : ℕ) (page : List ℕ) (a v : ℕ) → a / s.words ≡ n → NoGap s j p n → IsCopy s j p n page → IsCopy s (j ++ event p (Store a v) ∷ []) p n (slice_set page (a % s.words) v)
 copy_store s j p n page a v in_page none copy = record { image = subst P (at_last j e) more; closed = closed_more }
   where
     e : Event
-    e = record { processor = p; kind = Store a v }
+    e = event p (Store a v)
 
     P : Option Event → Type 0
     P x = IsImage s (j ++ e ∷ []) (Brought (j ++ e ∷ []) p n) n (wrote page (page_write s x))
@@ -71,28 +72,28 @@ copy_store s j p n page a v in_page none copy = record { image = subst P (at_las
     ]
 
 -- what a fetch brings to stores of the page is all of the past
-fetch_brings : (s : Sizes) (j : List Event) (p n w r d i : ℕ) → StoresTo s (j ++ record { processor = p; kind = Fetch w n r d } ∷ []) n i → InPast (j ++ record { processor = p; kind = Fetch w n r d } ∷ []) p i → InPast j p i × HappensBefore (j ++ record { processor = p; kind = Fetch w n r d } ∷ []) i (length j)
+fetch_brings : (s : Sizes) (j : List Event) (p n w r d i : ℕ) → StoresTo s (j ++ event p (Fetch w n r d) ∷ []) n i → InPast (j ++ event p (Fetch w n r d) ∷ []) p i → InPast j p i × HappensBefore (j ++ event p (Fetch w n r d) ∷ []) i (length j)
 fetch_brings s j p n w r d i x past = elim ((own_past j e i refl).0 past) [
   | inl old ↦ (old, (reaches_new j e i refl).1 old)
   | inr is ↦ (let P : ℕ → Type 0 = λ k. At (j ++ e ∷ []) k e in absurd (cc ((stores_at s (j ++ e ∷ []) n i e (subst P (sym is) (at_last j e)) x).1)))
 ]
   where
     e : Event
-    e = record { processor = p; kind = Fetch w n r d }
+    e = event p (Fetch w n r d)
 
 -- after a fetch the copy lacks nothing
-pub fetched_all : (s : Sizes) (j : List Event) (p n w r d : ℕ) → NoGap s (j ++ record { processor = p; kind = Fetch w n r d } ∷ []) p n
-fetched_all s j p n w r d i g = g.new (length j) (w, r, d, at_last j (record { processor = p; kind = Fetch w n r d })) (fetch_brings s j p n w r d i g.store g.past).1
+pub fetched_all : (s : Sizes) (j : List Event) (p n w r d : ℕ) → NoGap s (j ++ event p (Fetch w n r d) ∷ []) p n
+fetched_all s j p n w r d i g = g.new (length j) (w, r, d, at_last j (event p (Fetch w n r d))) (fetch_brings s j p n w r d i g.store g.past).1
 
 -- the missing stores, done to a copy by a fetch, keep it
-pub copy_fetch : (s : Sizes) (j : List Event) (p n : ℕ) (page new : List ℕ) (w r d : ℕ) → ((i : ℕ) → Has new i ↔ InGap s j p n i) → IsOnce new → InOrder (λ i k. ¬ HappensBefore j k i) new → IsCopy s j p n page → IsCopy s (j ++ record { processor = p; kind = Fetch w n r d } ∷ []) p n (page_after s j page new)
+pub copy_fetch : (s : Sizes) (j : List Event) (p n : ℕ) (page new : List ℕ) (w r d : ℕ) → ((i : ℕ) → Has new i ↔ InGap s j p n i) → IsOnce new → InOrder (λ i k. ¬ HappensBefore j k i) new → IsCopy s j p n page → IsCopy s (j ++ event p (Fetch w n r d) ∷ []) p n (page_after s j page new)
 copy_fetch s j p n page new w r d each once extends copy = record {
   image = image_kept s j (e ∷ []) (InPast j p) (Brought (j ++ e ∷ []) p n) n (page_after s j page new) (λ i x. brings i) (λ i x b. (old i x b, past_within j p i (old i x b))) full;
   closed = λ i k x y b before. let past = old i x b in brings k (past_back j p k i (shorter j (e ∷ []) (past_within j p i past) before) past);
 }
   where
     e : Event
-    e = record { processor = p; kind = Fetch w n r d }
+    e = event p (Fetch w n r d)
 
     full : Lawful s j p n (page_after s j page new)
     full = fetched s j p (Brought j p n) n page new (λ i x. brought_past j p n i) copy.closed (λ i. (λ h. (gap_is s j p n i).0 ((each i).0 h), λ x. (each i).1 ((gap_is s j p n i).1 x))) once extends copy.image

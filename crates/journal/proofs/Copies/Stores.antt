@@ -4,6 +4,7 @@ use Rattle.std.proofs.lemmas.Option.{some_pair_parts}
 use Rattle.journal.specs.declared.event.Event.{Event}
 use Rattle.journal.specs.declared.event.Kind.{Kind}
 use Rattle.journal.specs.declared.event.Kind.TheVariants.{Store}
+use Rattle.journal.specs.Did.{event}
 use Rattle.journal.specs.Events.{At}
 use Rattle.journal.specs.WellFormed.{Does}
 use Rattle.journal.specs.Sizes.{Sizes}
@@ -15,7 +16,7 @@ use Rattle.journal.proofs.Order.Places.{at_within, at_longer, at_shorter, does_s
 
 -- an event with this kind, as what its processor does
 pub does_kind : (j : List Event) (i : ℕ) (e : Event) (k : Kind) → At j i e → e.kind ≡ k → Does j i e.processor k
-does_kind j i e k at is = let P : Kind → Type 0 = λ x. At j i (record { processor = e.processor; kind = x }) in subst P is at
+does_kind j i e k at is = let P : Kind → Type 0 = λ x. At j i (event e.processor x) in subst P is at
 
 -- two stores at one place are one
 pub store_same : (j : List Event) (i p q a b v w : ℕ) → Does j i p (Store a v) → Does j i q (Store b w) → (p ≡ q) × (a ≡ b) × (v ≡ w)
@@ -48,15 +49,15 @@ store_at s j n i a v x page writes =
 
 -- a store to the page stays one as the journal goes on
 pub stores_longer : (s : Sizes) (j es : List Event) (n i : ℕ) → StoresTo s j n i → StoresTo s (j ++ es) n i
-stores_longer s j es n i x = stores_to s (j ++ es) n i x.by x.address x.value (at_longer j es i (record { processor = x.by; kind = Store x.address x.value }) x.does) x.in_page
+stores_longer s j es n i x = stores_to s (j ++ es) n i x.by x.address x.value (at_longer j es i (event x.by (Store x.address x.value)) x.does) x.in_page
 
 -- and was one before it did, at a place of before
 pub stores_shorter : (s : Sizes) (j es : List Event) (n i : ℕ) → i < length j → StoresTo s (j ++ es) n i → StoresTo s j n i
-stores_shorter s j es n i within x = stores_to s j n i x.by x.address x.value (at_shorter j es i (record { processor = x.by; kind = Store x.address x.value }) within x.does) x.in_page
+stores_shorter s j es n i within x = stores_to s j n i x.by x.address x.value (at_shorter j es i (event x.by (Store x.address x.value)) within x.does) x.in_page
 
 -- a store to the page stands within the journal
 pub stores_within : (s : Sizes) (j : List Event) (n i : ℕ) → StoresTo s j n i → i < length j
-stores_within s j n i x = at_within j i (record { processor = x.by; kind = Store x.address x.value }) x.does
+stores_within s j n i x = at_within j i (event x.by (Store x.address x.value)) x.does
 
 -- a store to the page at the place of an event is what that event does
 pub stores_at : (s : Sizes) (j : List Event) (n i : ℕ) (e : Event) → At j i e → (x : StoresTo s j n i) → (e.processor ≡ x.by) × (e.kind ≡ Store x.address x.value)
@@ -67,8 +68,5 @@ pub page_after_longer : (s : Sizes) (j es : List Event) (page is : List ℕ) →
 page_after_longer s j es page is within = written_same (λ (i : ℕ). page_write s (slice_get (j ++ es) i)) (λ (i : ℕ). page_write s (slice_get j i)) page is (λ k i at. ap (page_write s) (slice_get-append_left j es i (within i (k, at))))
 
 -- an event is what its processor does
-pub event_is : (e : Event) (p : ℕ) (k : Kind) → e.processor ≡ p → e.kind ≡ k → e ≡ record { processor = p; kind = k }
+pub event_is : (e : Event) (p : ℕ) (k : Kind) → e.processor ≡ p → e.kind ≡ k → e ≡ event p k
 event_is e p k mine is = ap₂ (λ (q : ℕ) (a : Kind). event q a) mine is
-  where
-    event : ℕ → Kind → Event
-    event q a = record { processor = q; kind = a }

@@ -6,6 +6,7 @@ use Rattle.std.proofs.lemmas.Bool.{cases_eq, cases_order}
 use Rattle.journal.specs.declared.event.Event.{Event}
 use Rattle.journal.specs.declared.event.Kind.{Kind}
 use Rattle.journal.specs.declared.event.Kind.TheVariants.{Load, Store}
+use Rattle.journal.specs.Did.{event}
 use Rattle.journal.specs.Events.{At, address_of}
 use Rattle.journal.specs.Order.{HappensBefore}
 use Rattle.journal.specs.Order.Link.{same}
@@ -35,7 +36,7 @@ not_unordered j m n e f less at to conflict none un = go (cases_eq e.processor f
     go (inr apart) = none (record { before = less; first = e; second = f; first_at = at; second_at = to; apart = apart; conflict = conflict; unordered = un })
 
 -- a store and an access of its address conflict
-pub store_conflicts : (p q a v : ℕ) (k : Kind) → address_of k ≡ Some a → Conflict (record { processor = p; kind = Store a v }) (record { processor = q; kind = k })
+pub store_conflicts : (p q a v : ℕ) (k : Kind) → address_of k ≡ Some a → Conflict (event p (Store a v)) (event q k)
 store_conflicts p q a v k h = record { address = a; first = refl; second = h; stores = inl refl }
 
 -- what the last store before a load wrote is what the load answered
@@ -52,11 +53,11 @@ answers_last j k i p a v w explained free less loads l = go (explained i p a v l
     stores = does_kind j l.place l.item (Store a w) (slice_get-from_take j i l.place l.item l.at) is
 
     ordered : (m q u n x : ℕ) (b : Kind) → m < n → n < k → address_of b ≡ Some a → Does j m q (Store a u) → Does j n x b → ¬ (¬ HappensBefore j m n)
-    ordered m q u n x b h g at d f = not_unordered j m n (record { processor = q; kind = Store a u }) (record { processor = x; kind = b }) h d f (store_conflicts q x a u b at) (free m n g)
+    ordered m q u n x b h g at d f = not_unordered j m n (event q (Store a u)) (event x b) h d f (store_conflicts q x a u b at) (free m n g)
 
     latest : (s : LatestStore j i a v) → (l.place ≡ s.place) ⊎ ((l.place < s.place) ⊎ (s.place < l.place)) → w ≡ v
     latest s (inl e) = let P : ℕ → Type 0 = λ m. Does j m l.item.processor (Store a w) in (store_same j s.place l.item.processor s.by a a w v (subst P e stores) s.stores).2
-    latest s (inr (inl h)) = absurd (l.last s.place (record { processor = s.by; kind = Store a v }) v h (slice_get-take j i s.place (goes_forward j s.before) ∙ s.stores) refl)
+    latest s (inr (inl h)) = absurd (l.last s.place (event s.by (Store a v)) v h (slice_get-take j i s.place (goes_forward j s.before) ∙ s.stores) refl)
     latest s (inr (inr h)) = absurd (ordered l.place l.item.processor w i p (Load a v) before less refl stores loads (λ x. ordered s.place s.by v l.place l.item.processor (Store a w) h (omega (arith, before, less)) refl s.stores stores (s.latest l.place l.item.processor w stores x)))
 
     go : IsAnswer j i a v → w ≡ v
@@ -77,13 +78,13 @@ flat_up_to size j k ranges explained free i p a v loads = subst P (sym (take-tak
     P es = slice_get (memory_after memory es) a ≡ Some v
 
     less : i < k
-    less = slice_get-take_within j k i (record { processor = p; kind = Load a v }) loads
+    less = slice_get-take_within j k i (event p (Load a v)) loads
 
     before_k : i ≤ k
     before_k = omega (arith, less)
 
     does : Does j i p (Load a v)
-    does = slice_get-from_take j k i (record { processor = p; kind = Load a v }) loads
+    does = slice_get-from_take j k i (event p (Load a v)) loads
 
     word : ℕ
     word = get_or (memory_after memory (take i j)) a 0
@@ -93,7 +94,7 @@ flat_up_to size j k ranges explained free i p a v loads = subst P (sym (take-tak
 
     untouched : (slice_get memory a ≡ Some word) × Unwritten f (take i j) a → IsAnswer j i a v → word ≡ v
     untouched n (inl z) = sym (slice_get-replicate_found size 0 word a n.0) ∙ sym z.0
-    untouched n (inr x) = absurd (n.1 x.place (record { processor = x.by; kind = Store a v }) v (slice_get-take j i x.place (goes_forward j x.before) ∙ x.stores) refl)
+    untouched n (inr x) = absurd (n.1 x.place (event x.by (Store a v)) v (slice_get-take j i x.place (goes_forward j x.before) ∙ x.stores) refl)
 
     go : LastWrite f (take i j) a word ⊎ ((slice_get memory a ≡ Some word) × Unwritten f (take i j) a) → word ≡ v
     go (inl l) = answers_last j k i p a v word explained free less does l

@@ -6,6 +6,7 @@ use Rattle.std.proofs.lemmas.Option.{some_pair_parts}
 use Rattle.journal.specs.declared.event.Event.{Event}
 use Rattle.journal.specs.declared.event.Kind.{Kind}
 use Rattle.journal.specs.declared.event.Kind.TheVariants.{Store}
+use Rattle.journal.specs.Did.{event}
 use Rattle.journal.specs.Sizes.{Sizes}
 use Rattle.journal.specs.Events.{At, is_closing, count_of, interval_at}
 use Rattle.journal.specs.WellFormed.{Does}
@@ -98,20 +99,20 @@ since_content s j p n words record_of = record {
 
     back : (i : ℕ) → StoresIn s j p (count_of is_closing j p) n i → Has (filter (picks s n j) places) i
     back i x =
-        let e : Event = record { processor = p; kind = Store x.0 x.1 } in
+        let e : Event = event p (Store x.0 x.1) in
         (has-filter (picks s n j) places i).1 ((open_at.each i).1 (record { event = e; at = x.2; mine = refl; open_at = refl; number = x.4 }), ap (λ (o : Option Event). is_some (write_at s n o)) x.2 ∙ ap is_some (store_in s n x.0 x.1 x.3))
 
 -- a store of an interval stays one as the journal goes on
 pub stores_in_longer : (s : Sizes) (j es : List Event) (q k n i : ℕ) → StoresIn s j q k n i → StoresIn s (j ++ es) q k n i
 stores_in_longer s j es q k n i x =
-    let e : Event = record { processor = q; kind = Store x.0 x.1 } in
+    let e : Event = event q (Store x.0 x.1) in
     let within = at_within j i e x.2 in
     (x.0, x.1, at_longer j es i e x.2, x.3, count_of-front is_closing j es i q (omega arith) ∙ x.4)
 
 -- and was one before
 pub stores_in_shorter : (s : Sizes) (j es : List Event) (q k n i : ℕ) → i < length j → StoresIn s (j ++ es) q k n i → StoresIn s j q k n i
 stores_in_shorter s j es q k n i within x =
-    (x.0, x.1, at_shorter j es i (record { processor = q; kind = Store x.0 x.1 }) within x.2, x.3, sym (count_of-front is_closing j es i q (omega arith)) ∙ x.4)
+    (x.0, x.1, at_shorter j es i (event q (Store x.0 x.1)) within x.2, x.3, sym (count_of-front is_closing j es i q (omega arith)) ∙ x.4)
 
 -- what an interval comes to in a page stays as long as it stores nothing more there
 pub content_on : (s : Sizes) (j es : List Event) (q k n : ℕ) (words : List (ℕ × ℕ)) → ((i : ℕ) → StoresIn s (j ++ es) q k n i → i < length j) → IsContent s j q k n words → IsContent s (j ++ es) q k n words
@@ -123,18 +124,18 @@ content_on s j es q k n words within content = record {
 }
   where
     inside : (i : ℕ) → Has content.places i → i < length j
-    inside i h = let x = (content.each i).0 h in at_within j i (record { processor = q; kind = Store x.0 x.1 }) x.2
+    inside i h = let x = (content.each i).0 h in at_within j i (event q (Store x.0 x.1)) x.2
 
 -- so through others' events
 pub content_others : (s : Sizes) (j es : List Event) (q k n : ℕ) (words : List (ℕ × ℕ)) → ((m : ℕ) (e : Event) → At es m e → e.processor ≢ q) → IsContent s j q k n words → IsContent s (j ++ es) q k n words
 content_others s j es q k n words away = content_on s j es q k n words (λ i x.
-    let e : Event = record { processor = q; kind = Store x.0 x.1 } in
+    let e : Event = event q (Store x.0 x.1) in
     elim (append_cases j es i e x.2) [ inl h ↦ h.0 | inr h ↦ absurd (away h.0 e h.2 refl) ])
 
 -- through the closing event
 pub content_closing : (s : Sizes) (j : List Event) (e : Event) (q k n : ℕ) (words : List (ℕ × ℕ)) → is_closing e.kind ≡ true → IsContent s j q k n words → IsContent s (j ++ e ∷ []) q k n words
 content_closing s j e q k n words closes = content_on s j (e ∷ []) q k n words (λ i x.
-    let f : Event = record { processor = q; kind = Store x.0 x.1 } in
+    let f : Event = event q (Store x.0 x.1) in
     elim (push_cases j e i f x.2) [ inl h ↦ h.0 | inr h ↦ absurd (true≢false (sym closes ∙ ap (λ (g : Event). is_closing g.kind) h.1)) ])
 
 -- and, once the interval is closed, through all events

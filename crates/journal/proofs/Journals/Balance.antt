@@ -5,6 +5,7 @@ use Rattle.std.proofs.lemmas.Option.{none-some}
 use Rattle.journal.specs.declared.event.Event.{Event}
 use Rattle.journal.specs.declared.event.Kind.{Kind}
 use Rattle.journal.specs.declared.event.Kind.TheVariants.{Arrive, Depart}
+use Rattle.journal.specs.Did.{event}
 use Rattle.journal.specs.Sizes.{Sizes}
 use Rattle.journal.specs.Events.{At, count_of, is_arrive, is_depart}
 use Rattle.journal.specs.WellFormed.{LastIs, Allowed, MayFollow, WellFormed}
@@ -42,41 +43,41 @@ others_balance j e p isnt b =
     none_depart = elim (count_of-one is_depart e p) [ inl none ↦ none | inr one ↦ absurd (isnt one.0) ]
 
 -- p's own event counts one where it is of these kinds
-count_own : (is : Kind → Bool) (k : Kind) (p : ℕ) → count_of is (record { processor = p; kind = k } ∷ []) p ≡ cond (is k) 1 0
+count_own : (is : Kind → Bool) (k : Kind) (p : ℕ) → count_of is (event p k ∷ []) p ≡ cond (is k) 1 0
 count_own is k p = let own = eq-eqb p p refl in rw own (omega arith)
 
-own_balance : (s : Sizes) (j : List Event) (p : ℕ) (k : Kind) → MayFollow s j (record { processor = p; kind = k }) → IsBalanced j p → IsBalanced (j ++ record { processor = p; kind = k } ∷ []) p
+own_balance : (s : Sizes) (j : List Event) (p : ℕ) (k : Kind) → MayFollow s j (event p k) → IsBalanced j p → IsBalanced (j ++ event p k ∷ []) p
 own_balance s j p k may b = elim (kind_sorts k) [
-  | inl arrive ↦ record { waiting = λ i last. arrived arrive; going = λ none. absurd (none (length j) (subst (λ x. LastIs (j ++ record { processor = p; kind = k } ∷ []) p (length j) x) arrive now)) }
+  | inl arrive ↦ record { waiting = λ i last. arrived arrive; going = λ none. absurd (none (length j) (subst (λ x. LastIs (j ++ event p k ∷ []) p (length j) x) arrive now)) }
   | inr rest ↦ elim rest [
     | inl depart ↦ record { waiting = λ i last. absurd (cc (depart, is_last i Arrive last)); going = λ none. departed depart }
     | inr other ↦ record { waiting = λ i last. absurd (cc (other.0, ap (λ x. is_arrive x) (is_last i Arrive last))); going = λ none. neither other }
   ]
 ]
   where
-    arrives : count_of is_arrive (j ++ record { processor = p; kind = k } ∷ []) p ≡ count_of is_arrive j p + cond (is_arrive k) 1 0
-    arrives = count_of-append is_arrive j (record { processor = p; kind = k } ∷ []) p ∙ ap (λ n. count_of is_arrive j p + n) (count_own is_arrive k p)
+    arrives : count_of is_arrive (j ++ event p k ∷ []) p ≡ count_of is_arrive j p + cond (is_arrive k) 1 0
+    arrives = count_of-append is_arrive j (event p k ∷ []) p ∙ ap (λ n. count_of is_arrive j p + n) (count_own is_arrive k p)
 
-    departs : count_of is_depart (j ++ record { processor = p; kind = k } ∷ []) p ≡ count_of is_depart j p + cond (is_depart k) 1 0
-    departs = count_of-append is_depart j (record { processor = p; kind = k } ∷ []) p ∙ ap (λ n. count_of is_depart j p + n) (count_own is_depart k p)
+    departs : count_of is_depart (j ++ event p k ∷ []) p ≡ count_of is_depart j p + cond (is_depart k) 1 0
+    departs = count_of-append is_depart j (event p k ∷ []) p ∙ ap (λ n. count_of is_depart j p + n) (count_own is_depart k p)
 
-    now : LastIs (j ++ record { processor = p; kind = k } ∷ []) p (length j) k
-    now = last_now j (record { processor = p; kind = k })
+    now : LastIs (j ++ event p k ∷ []) p (length j) k
+    now = last_now j (event p k)
 
-    is_last : (i : ℕ) (a : Kind) → LastIs (j ++ record { processor = p; kind = k } ∷ []) p i a → k ≡ a
-    is_last i a last = (last_unique (j ++ record { processor = p; kind = k } ∷ []) p (length j) i k a now last).1
+    is_last : (i : ℕ) (a : Kind) → LastIs (j ++ event p k ∷ []) p i a → k ≡ a
+    is_last i a last = (last_unique (j ++ event p k ∷ []) p (length j) i k a now last).1
 
     not_waiting : (k ≢ Depart) → (i : ℕ) → ¬ LastIs j p i Arrive
     not_waiting isnt i last = isnt (may.answers i Arrive last)
 
-    arrived : k ≡ Arrive → count_of is_arrive (j ++ record { processor = p; kind = k } ∷ []) p ≡ count_of is_depart (j ++ record { processor = p; kind = k } ∷ []) p + 1
+    arrived : k ≡ Arrive → count_of is_arrive (j ++ event p k ∷ []) p ≡ count_of is_depart (j ++ event p k ∷ []) p + 1
     arrived is =
         let old = b.going (not_waiting (λ d. absurd (cc (is, d)))) in
         let x = ap (λ (a : Kind). cond {A = ℕ} (is_arrive a) 1 0) is in
         let y = ap (λ (a : Kind). cond {A = ℕ} (is_depart a) 1 0) is in
         omega (arith, arrives, departs)
 
-    departed : k ≡ Depart → count_of is_arrive (j ++ record { processor = p; kind = k } ∷ []) p ≡ count_of is_depart (j ++ record { processor = p; kind = k } ∷ []) p
+    departed : k ≡ Depart → count_of is_arrive (j ++ event p k ∷ []) p ≡ count_of is_depart (j ++ event p k ∷ []) p
     departed is =
         let allowed = subst (λ x. Allowed s j p x) is may.allowed in
         let old = b.waiting allowed.0 allowed.1 in
@@ -84,7 +85,7 @@ own_balance s j p k may b = elim (kind_sorts k) [
         let y = ap (λ (a : Kind). cond {A = ℕ} (is_depart a) 1 0) is in
         omega (arith, arrives, departs)
 
-    neither : (is_arrive k ≡ false) × (is_depart k ≡ false) → count_of is_arrive (j ++ record { processor = p; kind = k } ∷ []) p ≡ count_of is_depart (j ++ record { processor = p; kind = k } ∷ []) p
+    neither : (is_arrive k ≡ false) × (is_depart k ≡ false) → count_of is_arrive (j ++ event p k ∷ []) p ≡ count_of is_depart (j ++ event p k ∷ []) p
     neither is =
         let old = b.going (not_waiting (λ d. absurd (cc (is.1, ap (λ x. is_depart x) d)))) in
         let x = ap (λ (c : Bool). cond {A = ℕ} c 1 0) is.0 in
@@ -93,7 +94,7 @@ own_balance s j p k may b = elim (kind_sorts k) [
 
 -- in a well formed journal a processor is balanced
 pub balanced : (s : Sizes) (j : List Event) (p : ℕ) → WellFormed s j → IsBalanced j p
-balanced s j p = push_induction (λ xs. WellFormed s xs → IsBalanced xs p) (λ well. record { waiting = λ i last. absurd (none-some (record { processor = p; kind = Arrive }) last.does); going = λ none. refl }) step j
+balanced s j p = push_induction (λ xs. WellFormed s xs → IsBalanced xs p) (λ well. record { waiting = λ i last. absurd (none-some (event p Arrive) last.does); going = λ none. refl }) step j
   where
     step : (xs : List Event) (e : Event) → (WellFormed s xs → IsBalanced xs p) → WellFormed s (xs ++ e ∷ []) → IsBalanced (xs ++ e ∷ []) p
     step xs e ih well =

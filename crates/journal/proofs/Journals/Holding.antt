@@ -3,6 +3,7 @@ use Rattle.std.proofs.Common.{◌≡◌, ℕ, ◌<◌, inl, inr, List, [], ◌�
 use Rattle.std.proofs.lemmas.Bool.{cases_order}
 use Rattle.journal.specs.declared.event.Event.{Event}
 use Rattle.journal.specs.declared.event.Kind.TheVariants.{Acquire, Release}
+use Rattle.journal.specs.Did.{event}
 use Rattle.journal.specs.Sizes.{Sizes}
 use Rattle.journal.specs.Order.{HappensBefore}
 use Rattle.journal.specs.Order.Link.{same, lets}
@@ -23,11 +24,11 @@ holds_take : (j : List Event) (n p l : ℕ) (h : Holds j p l) → h.place < n �
 holds_take j n p l h lt = record {
   place = h.place;
   acquires = slice_get-take j n h.place lt ∙ h.acquires;
-  keeps = λ k after does. h.keeps k after (slice_get-from_take j n k (record { processor = p; kind = Release l }) does);
+  keeps = λ k after does. h.keeps k after (slice_get-from_take j n k (event p (Release l)) does);
 }
 
 not_before : (s : Sizes) (j : List Event) → WellFormed s j → (p q l : ℕ) (a : Holds j p l) (b : Holds j q l) → a.place < b.place → ⊥
-not_before s j well p q l a b lt = (well b.place (record { processor = q; kind = Acquire l }) b.acquires).allowed.2.free p (holds_take j b.place p l a lt)
+not_before s j well p q l a b lt = (well b.place (event q (Acquire l)) b.acquires).allowed.2.free p (holds_take j b.place p l a lt)
 
 -- a lock has at most one holder
 pub holder_alone : (s : Sizes) (j : List Event) → WellFormed s j → (p q l : ℕ) → Holds j p l → Holds j q l → p ≡ q
@@ -44,26 +45,26 @@ releases_ordered s j well m k p q l lt first second = elim (cases_order m h.plac
 ]
   where
     h : Holds (take k j) q l
-    h = (well k (record { processor = q; kind = Release l }) second).allowed
+    h = (well k (event q (Release l)) second).allowed
 
     taken : Does j h.place q (Acquire l)
-    taken = slice_get-from_take j k h.place (record { processor = q; kind = Acquire l }) h.acquires
+    taken = slice_get-from_take j k h.place (event q (Acquire l)) h.acquires
 
     within : h.place < k
-    within = slice_get-take_within j k h.place (record { processor = q; kind = Acquire l }) h.acquires
+    within = slice_get-take_within j k h.place (event q (Acquire l)) h.acquires
 
     between : m < h.place → HappensBefore j m k
-    between before = on (edge (record { before = before; from = record { processor = p; kind = Release l }; to = record { processor = q; kind = Acquire l }; from_at = first; to_at = taken; link = lets refl }))
-        (record { before = within; from = record { processor = q; kind = Acquire l }; to = record { processor = q; kind = Release l }; from_at = taken; to_at = second; link = same refl })
+    between before = on (edge (record { before = before; from = event p (Release l); to = event q (Acquire l); from_at = first; to_at = taken; link = lets refl }))
+        (record { before = within; from = event q (Acquire l); to = event q (Release l); from_at = taken; to_at = second; link = same refl })
 
     held : h.place < m → ⊥
     held after =
         let mine : Holds (take m j) q l = record {
           place = h.place;
           acquires = slice_get-take j m h.place after ∙ taken;
-          keeps = λ x lt_x does. (let in_m = slice_get-take_within j m x (record { processor = q; kind = Release l }) does in h.keeps x lt_x (slice_get-take j k x (omega arith) ∙ slice_get-from_take j m x (record { processor = q; kind = Release l }) does));
+          keeps = λ x lt_x does. (let in_m = slice_get-take_within j m x (event q (Release l)) does in h.keeps x lt_x (slice_get-take j k x (omega arith) ∙ slice_get-from_take j m x (event q (Release l)) does));
         } in
-        let is = holder_alone s (take m j) (well_formed_take s j m well) q p l mine (well m (record { processor = p; kind = Release l }) first).allowed in
+        let is = holder_alone s (take m j) (well_formed_take s j m well) q p l mine (well m (event p (Release l)) first).allowed in
         h.keeps m after (slice_get-take j k m lt ∙ subst (λ x. Does j m x (Release l)) (sym is) first)
 
 -- after a release, what the lock keeps is the releaser's timestamp
@@ -77,7 +78,7 @@ release_time s j e l t is well time = time_same (j ++ e ∷ []) (UpTo (j ++ e �
     there i h = (length j, (e.processor, releases), h)
 
     last : (k : ℕ) → SomeDoes (j ++ e ∷ []) (Release l) k → UpTo (j ++ e ∷ []) (length j) k
-    last k h = elim (push_cases j e k (record { processor = h.0; kind = Release l }) h.1) [
+    last k h = elim (push_cases j e k (event h.0 (Release l)) h.1) [
       | inl old ↦ inr (releases_ordered s (j ++ e ∷ []) well k (length j) h.0 e.processor l old.0 h.1 releases)
       | inr new ↦ inl new.0
     ]

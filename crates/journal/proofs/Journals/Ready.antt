@@ -4,6 +4,7 @@ use Rattle.std.proofs.lemmas.Option.{same_Some}
 use Rattle.journal.specs.declared.event.Event.{Event}
 use Rattle.journal.specs.declared.event.Kind.{Kind}
 use Rattle.journal.specs.declared.event.Kind.TheVariants.{Load, Store, Fetch, Ask, Acquire, Arrive, Depart, Watch, Await}
+use Rattle.journal.specs.Did.{event}
 use Rattle.journal.specs.Sizes.{Sizes}
 use Rattle.journal.specs.Events.{At, is_taking, is_closing}
 use Rattle.journal.specs.WellFormed.{KindInRange, LastIs, Answers, Allowed, MayFollow, WellFormed, Ready}
@@ -54,10 +55,10 @@ waits_for_one s j p k m x y =
     same_Some k m (sym x.awaits ∙ ap (λ a. awaited a) is ∙ y.awaits)
 
 -- what a processor is allowed to take may follow
-pub taking_follows : (s : Sizes) (j : List Event) (p : ℕ) (k : Kind) → WellFormed s j → IsTrue (is_taking k) → Allowed s j p k → MayFollow s j (record { processor = p; kind = k })
+pub taking_follows : (s : Sizes) (j : List Event) (p : ℕ) (k : Kind) → WellFormed s j → IsTrue (is_taking k) → Allowed s j p k → MayFollow s j (event p k)
 taking_follows s j p k well taking allowed =
     let w = waits_for s j p k taking allowed in
-    let call = well w.place (record { processor = p; kind = w.call }) w.last.does in
+    let call = well w.place (event p w.call) w.last.does in
     record {
       processor = call.processor;
       in_range = w.in_range call.in_range;
@@ -66,14 +67,14 @@ taking_follows s j p k well taking allowed =
     }
 
 -- a processor is ready exactly where a well formed journal may go on with an Acquire, a Depart or an Await of it
-pub ready_exact : (s : Sizes) (j : List Event) (p : ℕ) → WellFormed s j → Ready s j p ↔ ((k : Kind) × IsTrue (is_taking k) × WellFormed s (j ++ record { processor = p; kind = k } ∷ []))
+pub ready_exact : (s : Sizes) (j : List Event) (p : ℕ) → WellFormed s j → Ready s j p ↔ ((k : Kind) × IsTrue (is_taking k) × WellFormed s (j ++ event p k ∷ []))
 ready_exact s j p well = (
-  (λ r. (r.0, r.1, (each_push s j (record { processor = p; kind = r.0 })).1 (well, taking_follows s j p r.0 well r.1 r.2))),
-  (λ x. (x.0, x.1, ((each_push s j (record { processor = p; kind = x.0 })).0 x.2).1.allowed)),
+  (λ r. (r.0, r.1, (each_push s j (event p r.0)).1 (well, taking_follows s j p r.0 well r.1 r.2))),
+  (λ x. (x.0, x.1, ((each_push s j (event p x.0)).0 x.2).1.allowed)),
 )
 
 -- of an idle processor what is in range and allowed may follow
-pub idle_follows : (s : Sizes) (j : List Event) (p : ℕ) (k : Kind) → p < s.processors → IsIdle j p → KindInRange s k → Allowed s j p k → MayFollow s j (record { processor = p; kind = k })
+pub idle_follows : (s : Sizes) (j : List Event) (p : ℕ) (k : Kind) → p < s.processors → IsIdle j p → KindInRange s k → Allowed s j p k → MayFollow s j (event p k)
 idle_follows s j p k within idle range allowed = record { processor = within; in_range = range; answers = λ i a last. idle_answers a k (idle i a last); allowed = allowed }
 
 quiet_allowed : (s : Sizes) (j : List Event) (p : ℕ) (k : Kind) → is_taking k ≡ false → is_closing k ≡ false → Allowed s j p k
@@ -104,7 +105,7 @@ plain_block s j block p within well idle = push_induction (λ es. ((k : ℕ) (e 
 
     pushed : (es : List Event) (e : Event) → IsPlainAt s p e → WellFormed s es → IsIdle es p → WellFormed s (es ++ e ∷ []) × IsIdle (es ++ e ∷ []) p
     pushed es e x w i =
-        let same : record { processor = p; kind = e.kind } ≡ e = ap (λ q. record { processor = q; kind = e.kind }) (sym x.mine) in
+        let same : (event p e.kind) ≡ e = ap (λ q. event q e.kind) (sym x.mine) in
         let may = subst (λ f. MayFollow s es f) same (idle_follows s es p e.kind within i x.in_range (quiet_allowed s es p e.kind x.takes x.closes)) in
         let last = subst (λ q. LastIs (es ++ e ∷ []) q (length es) e.kind) x.mine (last_now es e) in
         ((each_push s es e).1 (w, may), λ m a now. subst (λ b. awaited b ≡ None) (last_unique (es ++ e ∷ []) p (length es) m e.kind a last now).1 (quiet_idle e.kind x.closes))

@@ -7,6 +7,7 @@ use Rattle.std.proofs.Math.Seq.{take-append_seam}
 use Rattle.journal.specs.declared.event.Event.{Event}
 use Rattle.journal.specs.declared.event.Kind.{Kind}
 use Rattle.journal.specs.declared.event.Kind.TheVariants.{Acquire, Release}
+use Rattle.journal.specs.Did.{event}
 use Rattle.journal.specs.Sizes.{Sizes}
 use Rattle.journal.specs.Events.{At}
 use Rattle.journal.specs.WellFormed.{Does, LastIs, Holds, MayFollow, WellFormed}
@@ -48,8 +49,8 @@ pub last_unique : (j : List Event) (p i k : ℕ) (a b : Kind) → LastIs j p i a
 last_unique j p i k a b x y = elim (cases_order i k) [
   | inl is ↦ (is, (does_same j k p p a b (subst (λ m. Does j m p a) is x.does) y.does).1)
   | inr apart ↦ elim apart [
-    | inl lt ↦ absurd (x.last k (record { processor = p; kind = b }) lt y.does refl)
-    | inr lt ↦ absurd (y.last i (record { processor = p; kind = a }) lt x.does refl)
+    | inl lt ↦ absurd (x.last k (event p b) lt y.does refl)
+    | inr lt ↦ absurd (y.last i (event p a) lt x.does refl)
   ]
 ]
 
@@ -60,14 +61,14 @@ last_now j e = record { does = at_last j e; last = λ m f lt at. (let within = a
 -- others' events leave a processor's last one
 pub last_longer : (j es : List Event) (p i : ℕ) (a : Kind) → ((m : ℕ) (f : Event) → At es m f → f.processor ≢ p) → LastIs j p i a → LastIs (j ++ es) p i a
 last_longer j es p i a away x = record {
-  does = at_longer j es i (record { processor = p; kind = a }) x.does;
+  does = at_longer j es i (event p a) x.does;
   last = λ m f lt at. elim (append_cases j es m f at) [ inl old ↦ x.last m f lt old.1 | inr new ↦ away new.0 f new.2 ];
 }
 
 pub last_shorter : (j es : List Event) (p i : ℕ) (a : Kind) → ((m : ℕ) (f : Event) → At es m f → f.processor ≢ p) → LastIs (j ++ es) p i a → LastIs j p i a
-last_shorter j es p i a away x = elim (append_cases j es i (record { processor = p; kind = a }) x.does) [
+last_shorter j es p i a away x = elim (append_cases j es i (event p a) x.does) [
   | inl old ↦ record { does = old.1; last = λ m f lt at. x.last m f lt (at_longer j es m f at) }
-  | inr new ↦ absurd (away new.0 (record { processor = p; kind = a }) new.2 refl)
+  | inr new ↦ absurd (away new.0 (event p a) new.2 refl)
 ]
 
 -- a processor has a last event, or none
@@ -87,26 +88,26 @@ last_or_none j p = push_induction (λ xs. ((i : ℕ) × (a : Kind) × LastIs xs 
     ]
 
 -- who acquires a lock holds it
-pub holds_now : (j : List Event) (p l : ℕ) → Holds (j ++ record { processor = p; kind = Acquire l } ∷ []) p l
+pub holds_now : (j : List Event) (p l : ℕ) → Holds (j ++ event p (Acquire l) ∷ []) p l
 holds_now j p l = record {
   place = length j;
-  acquires = at_last j (record { processor = p; kind = Acquire l });
-  keeps = λ k lt does. elim (push_cases j (record { processor = p; kind = Acquire l }) k (record { processor = p; kind = Release l }) does) [ inl old ↦ omega (arith, old.0) | inr new ↦ omega (arith, new.0) ];
+  acquires = at_last j (event p (Acquire l));
+  keeps = λ k lt does. elim (push_cases j (event p (Acquire l)) k (event p (Release l)) does) [ inl old ↦ omega (arith, old.0) | inr new ↦ omega (arith, new.0) ];
 }
 
 -- and holds it until its release
-pub holds_longer : (j : List Event) (e : Event) (p l : ℕ) → e ≢ record { processor = p; kind = Release l } → Holds j p l → Holds (j ++ e ∷ []) p l
+pub holds_longer : (j : List Event) (e : Event) (p l : ℕ) → e ≢ (event p (Release l)) → Holds j p l → Holds (j ++ e ∷ []) p l
 holds_longer j e p l isnt h = record {
   place = h.place;
-  acquires = at_longer j (e ∷ []) h.place (record { processor = p; kind = Acquire l }) h.acquires;
-  keeps = λ k lt does. elim (push_cases j e k (record { processor = p; kind = Release l }) does) [ inl old ↦ h.keeps k lt old.1 | inr new ↦ isnt new.1 ];
+  acquires = at_longer j (e ∷ []) h.place (event p (Acquire l)) h.acquires;
+  keeps = λ k lt does. elim (push_cases j e k (event p (Release l)) does) [ inl old ↦ h.keeps k lt old.1 | inr new ↦ isnt new.1 ];
 }
 
 -- who holds a lock after an event held it before, and does not release it, or acquires it
-pub holds_cases : (j : List Event) (e : Event) (p l : ℕ) → Holds (j ++ e ∷ []) p l → (Holds j p l × (e ≢ record { processor = p; kind = Release l })) ⊎ (e ≡ record { processor = p; kind = Acquire l })
-holds_cases j e p l h = elim (push_cases j e h.place (record { processor = p; kind = Acquire l }) h.acquires) [
+pub holds_cases : (j : List Event) (e : Event) (p l : ℕ) → Holds (j ++ e ∷ []) p l → (Holds j p l × (e ≢ (event p (Release l)))) ⊎ (e ≡ event p (Acquire l))
+holds_cases j e p l h = elim (push_cases j e h.place (event p (Acquire l)) h.acquires) [
   | inl old ↦ inl (
-    record { place = h.place; acquires = old.1; keeps = λ k lt does. h.keeps k lt (at_longer j (e ∷ []) k (record { processor = p; kind = Release l }) does) },
+    record { place = h.place; acquires = old.1; keeps = λ k lt does. h.keeps k lt (at_longer j (e ∷ []) k (event p (Release l)) does) },
     λ is. h.keeps (length j) old.0 (subst (λ f. At (j ++ e ∷ []) (length j) f) is (at_last j e)),
   )
   | inr new ↦ inr new.1

@@ -4,6 +4,7 @@ use Rattle.std.proofs.lemmas.Bool.{cases_eq, cases_lt, cases_order}
 use Rattle.journal.specs.declared.event.Event.{Event}
 use Rattle.journal.specs.declared.event.Kind.{Kind}
 use Rattle.journal.specs.declared.event.Kind.TheVariants.{Store, Fetch}
+use Rattle.journal.specs.Did.{event}
 use Rattle.journal.specs.Sizes.{Sizes}
 use Rattle.journal.specs.Events.{At, is_closing, is_taking, interval_at}
 use Rattle.journal.specs.Order.{HappensBefore}
@@ -27,11 +28,11 @@ use Rattle.journal.proofs.Times.IntervalNumbers.{closed_by, number_closed}
 
 -- another processor's event is not one's own
 pub not_mine : (j : List Event) (p q i : ℕ) (a : Kind) → Does j i q a → q ≢ p → ¬ Mine j p i
-not_mine j p q i a does apart m = apart (ap (λ (e : Event). e.processor) (at_same j i (record { processor = q; kind = a }) m.0 does m.1) ∙ m.2)
+not_mine j p q i a does apart m = apart (ap (λ (e : Event). e.processor) (at_same j i (event q a) m.0 does m.1) ∙ m.2)
 
 -- a store in the gap is another processor's
 pub gap_apart : (s : Sizes) (j : List Event) (p n q i a v : ℕ) → InGap s j p n i → Does j i q (Store a v) → q ≢ p
-gap_apart s j p n q i a v g does mine = g.others (record { processor = q; kind = Store a v }, does, mine)
+gap_apart s j p n q i a v g does mine = g.others (event q (Store a v), does, mine)
 
 -- while p has not fetched the page, the gap is what p's timestamp counts
 pub gap_unfetched : (s : Sizes) (j : List Event) (p n q i a v : ℕ) (t : ℕ → ℕ) → IsTimeOf j p t → ((m : ℕ) → ¬ Fetches j m p n) → Does j i q (Store a v) → a / s.words ≡ n → q ≢ p → InGap s j p n i ↔ (interval_at j q i < t q)
@@ -77,7 +78,7 @@ gap_others s j es p n i away = (there, back)
     old g (inl m) = g.others (m.0, at_shorter j es i m.0 (past_within j p i g.past) m.1, m.2)
     old g (inr m) =
         let f = m.1 in
-        let e : Event = record { processor = p; kind = Fetch f.0 n f.1 f.2 } in
+        let e : Event = event p (Fetch f.0 n f.1 f.2) in
         elim (append_cases j es m.0 e f.3) [
           | inl h ↦ g.new m.0 (f.0, f.1, f.2, h.1) (shorter j es h.0 m.2)
           | inr h ↦ away h.0 e h.2 refl
@@ -87,14 +88,14 @@ gap_others s j es p n i away = (there, back)
     back g = (gap_is s (j ++ es) p n i).1 ((others j es p i away).1 g.past, stores_longer s j es n i g.store, old g)
 
 -- an event by which p gets to know of others' adds what lies between p's timestamps before and after it
-pub gap_taken : (s : Sizes) (j : List Event) (p n q i a v : ℕ) (k : Kind) (t t' : ℕ → ℕ) → is_taking k ≡ true → IsTimeOf j p t → IsTimeOf (j ++ record { processor = p; kind = k } ∷ []) p t' → Does j i q (Store a v) → a / s.words ≡ n → q ≢ p → InGap s (j ++ record { processor = p; kind = k } ∷ []) p n i ↔ (InGap s j p n i ⊎ ((t q ≤ interval_at j q i) × (interval_at j q i < t' q)))
+pub gap_taken : (s : Sizes) (j : List Event) (p n q i a v : ℕ) (k : Kind) (t t' : ℕ → ℕ) → is_taking k ≡ true → IsTimeOf j p t → IsTimeOf (j ++ event p k ∷ []) p t' → Does j i q (Store a v) → a / s.words ≡ n → q ≢ p → InGap s (j ++ event p k ∷ []) p n i ↔ (InGap s j p n i ⊎ ((t q ≤ interval_at j q i) × (interval_at j q i < t' q)))
 gap_taken s j p n q i a v k t t' takes time after does page apart = (there, back)
   where
     e : Event
-    e = record { processor = p; kind = k }
+    e = event p k
 
     within : i < length j
-    within = at_within j i (record { processor = q; kind = Store a v }) does
+    within = at_within j i (event q (Store a v)) does
 
     store : StoresTo s (j ++ e ∷ []) n i
     store = stores_longer s j (e ∷ []) n i (stores_to s j n i q a v does page)
@@ -106,9 +107,9 @@ gap_taken s j p n q i a v k t t' takes time after does page apart = (there, back
     number = count_of-front is_closing j (e ∷ []) i q (le_of_lt within)
 
     new : InPast (j ++ e ∷ []) p i ↔ (interval_at (j ++ e ∷ []) q i < t' q)
-    new = covered (j ++ e ∷ []) p q i (Store a v) t' after (at_longer j (e ∷ []) i (record { processor = q; kind = Store a v }) does) apart
+    new = covered (j ++ e ∷ []) p q i (Store a v) t' after (at_longer j (e ∷ []) i (event q (Store a v)) does) apart
 
-    not_fetch : (w r d : ℕ) → e ≢ record { processor = p; kind = Fetch w n r d }
+    not_fetch : (w r d : ℕ) → e ≢ (event p (Fetch w n r d))
     not_fetch w r d is = true≢false (sym takes ∙ ap (λ (f : Event). is_taking f.kind) is)
 
     brought_old : Brought (j ++ e ∷ []) p n i → Brought j p n i
@@ -127,14 +128,14 @@ gap_taken s j p n q i a v k t t' takes time after does page apart = (there, back
     back (inr x) = (gap_is s (j ++ e ∷ []) p n i).1 (new.1 (omega (arith, x.1, number)), store, λ b. let less = old.0 (brought_past j p n i (brought_old b)) in let le = x.0 in omega arith)
 
 -- no store to the page between the timestamps: nothing comes to the past
-pub nothing_taken : (s : Sizes) (j : List Event) (p n : ℕ) (k : Kind) (t t' : ℕ → ℕ) → is_taking k ≡ true → IsTimeOf j p t → IsTimeOf (j ++ record { processor = p; kind = k } ∷ []) p t' → ((q i a v : ℕ) → q ≢ p → Does j i q (Store a v) → a / s.words ≡ n → t q ≤ interval_at j q i → interval_at j q i < t' q → ⊥) → (i : ℕ) → StoresTo s (j ++ record { processor = p; kind = k } ∷ []) n i → InPast (j ++ record { processor = p; kind = k } ∷ []) p i → InPast j p i
+pub nothing_taken : (s : Sizes) (j : List Event) (p n : ℕ) (k : Kind) (t t' : ℕ → ℕ) → is_taking k ≡ true → IsTimeOf j p t → IsTimeOf (j ++ event p k ∷ []) p t' → ((q i a v : ℕ) → q ≢ p → Does j i q (Store a v) → a / s.words ≡ n → t q ≤ interval_at j q i → interval_at j q i < t' q → ⊥) → (i : ℕ) → StoresTo s (j ++ event p k ∷ []) n i → InPast (j ++ event p k ∷ []) p i → InPast j p i
 nothing_taken s j p n k t t' takes time after none i x past = elim (cases_lt i (length j)) [ inl within ↦ old within (cases_eq x.by p) | inr from ↦ absurd (last from) ]
   where
     e : Event
-    e = record { processor = p; kind = k }
+    e = event p k
 
     f : Event
-    f = record { processor = x.by; kind = Store x.address x.value }
+    f = event x.by (Store x.address x.value)
 
     last : length j ≤ i → ⊥
     last from = elim (push_cases j e i f x.does) [ inl h ↦ (let less = h.0 in omega arith) | inr h ↦ true≢false (sym takes ∙ ap (λ (g : Event). is_taking g.kind) h.1) ]
@@ -191,9 +192,9 @@ stored_on s j es p n same z = (there, back)
     there g =
         let old = (same g.0).0 g.3 in
         let within = stores_within s j n g.0 old.store in
-        (g.0, g.1, at_shorter j es g.0 (record { processor = z.0; kind = Store z.2 g.1 }) within g.2, old, sym (number g.0 within) ∙ g.4)
+        (g.0, g.1, at_shorter j es g.0 (event z.0 (Store z.2 g.1)) within g.2, old, sym (number g.0 within) ∙ g.4)
 
     back : StoredInGap s j p n z → StoredInGap s (j ++ es) p n z
     back g =
         let within = stores_within s j n g.0 g.3.store in
-        (g.0, g.1, at_longer j es g.0 (record { processor = z.0; kind = Store z.2 g.1 }) g.2, (same g.0).1 g.3, number g.0 within ∙ g.4)
+        (g.0, g.1, at_longer j es g.0 (event z.0 (Store z.2 g.1)) g.2, (same g.0).1 g.3, number g.0 within ∙ g.4)

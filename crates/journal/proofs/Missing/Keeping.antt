@@ -4,6 +4,7 @@ use Rattle.lists.proofs.Places.{push_cases}
 use Rattle.journal.specs.declared.event.Event.{Event}
 use Rattle.journal.specs.declared.event.Kind.{Kind}
 use Rattle.journal.specs.declared.event.Kind.TheVariants.{Store, Fetch}
+use Rattle.journal.specs.Did.{event}
 use Rattle.journal.specs.Sizes.{Sizes}
 use Rattle.journal.specs.Events.{At, is_closing, is_taking, interval_at}
 use Rattle.journal.specs.WellFormed.{Does}
@@ -67,23 +68,23 @@ pub missing_block : (s : Sizes) (j block : List Event) (p n : ℕ) (missing : Li
 missing_block s j block p n missing is none = missing_on s j block p n missing (λ i. gap_block s j block p n i is none)
 
 -- an event by which p gets to know of others' adds the intervals between its timestamps that store in the page
-pub missing_taken : (s : Sizes) (j : List Event) (p n : ℕ) (k : Kind) (t t' : ℕ → ℕ) (missing new : List Missing) → is_taking k ≡ true → IsTimeOf j p t → IsTimeOf (j ++ record { processor = p; kind = k } ∷ []) p t' → AreNews s j p n t t' new → AreMissing s j p n missing → AreMissing s (j ++ record { processor = p; kind = k } ∷ []) p n (missing ++ new)
+pub missing_taken : (s : Sizes) (j : List Event) (p n : ℕ) (k : Kind) (t t' : ℕ → ℕ) (missing new : List Missing) → is_taking k ≡ true → IsTimeOf j p t → IsTimeOf (j ++ event p k ∷ []) p t' → AreNews s j p n t t' new → AreMissing s j p n missing → AreMissing s (j ++ event p k ∷ []) p n (missing ++ new)
 missing_taken s j p n k t t' missing new takes time after news are = record { each = λ q m. (λ x. there q m x.0 x.2 x.3 ((has-append missing new x.0).0 x.1), back q m); placed = λ x h. placed_longer j (e ∷ []) x.owner x.number x.place (elim ((has-append missing new x).0 h) [ inl old ↦ are.placed x old | inr now ↦ news.placed x now ]); contents = λ x h. elim ((has-append missing new x).0 h) [ inl old ↦ contents_on s j (e ∷ []) p n missing are x old | inr now ↦ now_on x now ] }
   where
     e : Event
-    e = record { processor = p; kind = k }
+    e = event p k
 
     at_e : (q i a v : ℕ) → Does j i q (Store a v) → Does (j ++ e ∷ []) i q (Store a v)
-    at_e q i a v = at_longer j (e ∷ []) i (record { processor = q; kind = Store a v })
+    at_e q i a v = at_longer j (e ∷ []) i (event q (Store a v))
 
     number : (q i a v : ℕ) → Does j i q (Store a v) → interval_at (j ++ e ∷ []) q i ≡ interval_at j q i
-    number q i a v does = count_of-front is_closing j (e ∷ []) i q (le_of_lt (at_within j i (record { processor = q; kind = Store a v }) does))
+    number q i a v does = count_of-front is_closing j (e ∷ []) i q (le_of_lt (at_within j i (event q (Store a v)) does))
 
     old : (q i a v : ℕ) → Does (j ++ e ∷ []) i q (Store a v) → Does j i q (Store a v)
-    old q i a v does = elim (push_cases j e i (record { processor = q; kind = Store a v }) does) [ inl h ↦ h.1 | inr h ↦ absurd (true≢false (sym takes ∙ ap (λ (f : Event). is_taking f.kind) h.1)) ]
+    old q i a v does = elim (push_cases j e i (event q (Store a v)) does) [ inl h ↦ h.1 | inr h ↦ absurd (true≢false (sym takes ∙ ap (λ (f : Event). is_taking f.kind) h.1)) ]
 
     now_on : (x : Missing) → Has new x → IsContent s (j ++ e ∷ []) x.owner x.number n x.words
-    now_on x h = content_on s j (e ∷ []) x.owner x.number n x.words (λ i y. at_within j i (record { processor = x.owner; kind = Store y.0 y.1 }) (old x.owner i y.0 y.1 y.2)) (news.contents x h)
+    now_on x h = content_on s j (e ∷ []) x.owner x.number n x.words (λ i y. at_within j i (event x.owner (Store y.0 y.1)) (old x.owner i y.0 y.1 y.2)) (news.contents x h)
 
     from_gap : (q m : ℕ) → ((a : ℕ) × StoredInGap s j p n (q, m, a)) → (a : ℕ) × StoredInGap s (j ++ e ∷ []) p n (q, m, a)
     from_gap q m x =

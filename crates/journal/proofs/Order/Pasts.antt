@@ -4,6 +4,7 @@ use Rattle.std.proofs.Math.Seq.{take-append_seam}
 use Rattle.journal.specs.declared.event.Event.{Event}
 use Rattle.journal.specs.declared.event.Kind.{Kind}
 use Rattle.journal.specs.declared.event.Kind.TheVariants.{Acquire, Release, Arrive, Depart, Set, Await}
+use Rattle.journal.specs.Did.{event}
 use Rattle.journal.specs.Events.{At, count_of, is_arrive, is_depart, is_taking}
 use Rattle.journal.specs.Order.{LetsThrough, Link, Edge, HappensBefore}
 use Rattle.journal.specs.Order.Link.{same, lets, meets}
@@ -81,15 +82,15 @@ link_source j e f m at lt (meets x) =
     inr (subst (λ k. Sources j e.processor k m) (sym x.departs) (f.processor, now))
 
 -- what an event brings reaches it
-source_link : (j : List Event) (p m : ℕ) (b : Kind) → Sources j p b m → (f : Event) × At j m f × Link (j ++ record { processor = p; kind = b } ∷ []) m (length j) f (record { processor = p; kind = b })
-source_link j p m (Acquire l) h = (record { processor = h.0; kind = Release l }, h.1, lets refl)
-source_link j p m (Await f) h = (record { processor = h.0; kind = Set f }, h.1, lets refl)
+source_link : (j : List Event) (p m : ℕ) (b : Kind) → Sources j p b m → (f : Event) × At j m f × Link (j ++ event p b ∷ []) m (length j) f (event p b)
+source_link j p m (Acquire l) h = (event h.0 (Release l), h.1, lets refl)
+source_link j p m (Await f) h = (event h.0 (Set f), h.1, lets refl)
 source_link j p m Depart h =
-    let e : Event = record { processor = p; kind = Depart } in
-    let lt = at_within j m (record { processor = h.0; kind = Arrive }) h.1.does in
+    let e : Event = event p Depart in
+    let lt = at_within j m (event h.0 Arrive) h.1.does in
     let front = count_of-front is_arrive j (e ∷ []) m h.0 (omega arith) in
     let whole = ap (λ (xs : List Event). count_of is_depart xs p) (take-append_seam j (e ∷ [])) in
-    (record { processor = h.0; kind = Arrive }, h.1.does, meets (record { arrives = refl; departs = refl; episode = front ∙ h.1.number ∙ sym whole }))
+    (event h.0 Arrive, h.1.does, meets (record { arrives = refl; departs = refl; episode = front ∙ h.1.number ∙ sym whole }))
 source_link j p m _ h = absurd h
 
 last_edge : (j : List Event) (e f : Event) (m : ℕ) → At j m f → Link (j ++ e ∷ []) m (length j) f e → Edge (j ++ e ∷ []) m (length j)

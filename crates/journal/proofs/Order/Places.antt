@@ -5,6 +5,7 @@ use Rattle.std.proofs.lemmas.List.{take-append-le}
 use Rattle.std.proofs.lemmas.Bool.{eq-eqb, eqb-true, and_from, and_parts}
 use Rattle.journal.specs.declared.event.Event.{Event}
 use Rattle.journal.specs.declared.event.Kind.{Kind}
+use Rattle.journal.specs.Did.{event}
 use Rattle.journal.specs.Events.{At, count_of}
 use Rattle.journal.specs.WellFormed.{Does}
 use Rattle.lists.proofs.Places.{slice_get-append_left, slice_get-append_right, slice_get-last, count_by-append, count_by-mono, count_by-take-le, count_by-past, count_by-within, counted}
@@ -28,21 +29,18 @@ at_shorter j es k e lt h = sym (slice_get-append_left j es k lt) ∙ h
 pub at_behind : (j es : List Event) (m : ℕ) (e : Event) → At es m e → At (j ++ es) (length j + m) e
 at_behind j es m e h = slice_get-append_right j es m ∙ h
 
-pub at_before : (j es : List Event) (m : ℕ) (e : Event) → At (j ++ es) (length j + m) e → At es m e
-at_before j es m e h = sym (slice_get-append_right j es m) ∙ h
-
 -- the event that is pushed stands last
 pub at_last : (j : List Event) (e : Event) → At (j ++ e ∷ []) (length j) e
 at_last j e = slice_get-last j e
 
 -- an event as what its processor does
 pub does_at : (j : List Event) (k p : ℕ) (e : Event) → At j k e → e.processor ≡ p → Does j k p e.kind
-does_at j k p e h mine = let P : ℕ → Type 0 = λ q. At j k (record { processor = q; kind = e.kind }) in subst P mine h
+does_at j k p e h mine = let P : ℕ → Type 0 = λ q. At j k (event q e.kind) in subst P mine h
 
 -- two doings at one place are one
 pub does_same : (j : List Event) (k p q : ℕ) (a b : Kind) → Does j k p a → Does j k q b → (p ≡ q) × (a ≡ b)
 does_same j k p q a b h g =
-    let e = at_same j k (record { processor = p; kind = a }) (record { processor = q; kind = b }) h g in
+    let e = at_same j k (event p a) (event q b) h g in
     (ap (λ x. x.processor) e, ap (λ x. x.kind) e)
 
 -- a count over a journal that goes on
@@ -62,10 +60,10 @@ count_of-take-le is j i q = count_by-take-le (λ (e : Event). (e.processor == q)
 
 -- and strictly past a counted place
 pub count_of-past : (is : Kind → Bool) (j : List Event) (i k q : ℕ) (a : Kind) → Does j i q a → IsTrue (is a) → i < k → count_of is (take i j) q < count_of is (take k j) q
-count_of-past is j i k q a h yes_is lt = count_by-past (λ (e : Event). (e.processor == q) && is e.kind) j i k (record { processor = q; kind = a }) h (and_from (q == q) (is a) (eq-eqb q q refl) yes_is) lt
+count_of-past is j i k q a h yes_is lt = count_by-past (λ (e : Event). (e.processor == q) && is e.kind) j i k (event q a) h (and_from (q == q) (is a) (eq-eqb q q refl) yes_is) lt
 
 pub count_of-within : (is : Kind → Bool) (j : List Event) (i q : ℕ) (a : Kind) → Does j i q a → IsTrue (is a) → count_of is (take i j) q < count_of is j q
-count_of-within is j i q a h yes_is = count_by-within (λ (e : Event). (e.processor == q) && is e.kind) j i (record { processor = q; kind = a }) h (and_from (q == q) (is a) (eq-eqb q q refl) yes_is)
+count_of-within is j i q a h yes_is = count_by-within (λ (e : Event). (e.processor == q) && is e.kind) j i (event q a) h (and_from (q == q) (is a) (eq-eqb q q refl) yes_is)
 
 -- q does at this place what has number n of these kinds
 pub record NumberedAt (is : Kind → Bool) (j : List Event) (q n : ℕ) : Type 0 where

@@ -7,6 +7,7 @@ use Rattle.journal.specs.declared.event.Event.{Event}
 use Rattle.journal.specs.declared.event.Kind.{Kind}
 use Rattle.journal.specs.declared.event.Kind.TheVariants.{Acquire, Release, Arrive, Depart, Set, Await}
 use Rattle.journal.specs.declared.clocks.Clocks.{Clocks}
+use Rattle.journal.specs.Did.{event}
 use Rattle.journal.specs.Events.{At, count_of, is_closing, is_taking, is_arrive, is_depart}
 use Rattle.journal.specs.Pasts.{InPast, UpToSome}
 use Rattle.journal.specs.Times.{IsTimeIn, IsTimeOf}
@@ -53,22 +54,22 @@ AreGathered j xs gone = (n : ℕ) → gone ≤ n → IsTimeIn j (UpToSome j (Som
 kept_same : (j : List Event) (e : Event) (k : ℕ → Kind) (xs ys : ℕ → ℕ → ℕ) → ((n : ℕ) → e.kind ≢ k n) → ys ≡ xs → AreKept j k xs → AreKept (j ++ e ∷ []) k ys
 kept_same j e k xs ys isnt same a n = subst (λ zs. IsTimeIn (j ++ e ∷ []) (UpToSome (j ++ e ∷ []) (SomeDoes (j ++ e ∷ []) (k n))) (zs n)) (sym same) (kind_kept j (e ∷ []) (k n) (xs n) (λ m f at. one_event e f (k n) m at (isnt n)) (a n))
 
-kept_joined : (j : List Event) (p : ℕ) (k : ℕ → Kind) (m : ℕ) (xs ys : ℕ → ℕ → ℕ) (own : ℕ → ℕ) → ((n : ℕ) → n ≢ m → k m ≢ k n) → IsTimeOf (j ++ record { processor = p; kind = k m } ∷ []) p own → IsJoinedAt xs ys m own → AreKept j k xs → AreKept (j ++ record { processor = p; kind = k m } ∷ []) k ys
+kept_joined : (j : List Event) (p : ℕ) (k : ℕ → Kind) (m : ℕ) (xs ys : ℕ → ℕ → ℕ) (own : ℕ → ℕ) → ((n : ℕ) → n ≢ m → k m ≢ k n) → IsTimeOf (j ++ event p (k m) ∷ []) p own → IsJoinedAt xs ys m own → AreKept j k xs → AreKept (j ++ event p (k m) ∷ []) k ys
 kept_joined j p k m xs ys own apart time joined a n = elim (cases_eq n m) [
   | inl is ↦ subst (λ x. IsTimeIn now (UpToSome now (SomeDoes now (k x))) (ys x)) (sym is) (time_equal now (UpToSome now (SomeDoes now (k m))) (λ q. max (xs m q) (own q)) (ys m) (λ q. sym (joined.joined q)) (kind_joins j e (xs m) own (a m) time))
   | inr isnt ↦ time_equal now (UpToSome now (SomeDoes now (k n))) (xs n) (ys n) (λ q. sym (joined.same n q isnt)) (kind_kept j (e ∷ []) (k n) (xs n) (λ i f at. one_event e f (k n) i at (apart n isnt)) (a n))
 ]
   where
     e : Event
-    e = record { processor = p; kind = k m }
+    e = event p (k m)
 
     now : List Event
-    now = j ++ record { processor = p; kind = k m } ∷ []
+    now = j ++ event p (k m) ∷ []
 
 gathered_same : (j : List Event) (e : Event) (xs ys : List (List ℕ)) (gone : ℕ) → e.kind ≢ Arrive → ys ≡ xs → AreGathered j xs gone → AreGathered (j ++ e ∷ []) ys gone
 gathered_same j e xs ys gone isnt same a n le = subst (λ zs. IsTimeIn (j ++ e ∷ []) (UpToSome (j ++ e ∷ []) (SomeArrives (j ++ e ∷ []) n)) (entry zs (n - gone))) (sym same) (arrivals_kept j (e ∷ []) n (entry xs (n - gone)) (λ m f at. one_event e f Arrive m at isnt) (a n le))
 
-gathered_joined : (j : List Event) (p m : ℕ) (xs ys : List (List ℕ)) (gone : ℕ) (own : ℕ → ℕ) → m ≡ count_of is_arrive j p → IsTimeOf (j ++ record { processor = p; kind = Arrive } ∷ []) p own → (gone ≤ m → IsJoinedAt (entry xs) (entry ys) (m - gone) own) → (m < gone → ys ≡ xs) → AreGathered j xs gone → AreGathered (j ++ record { processor = p; kind = Arrive } ∷ []) ys gone
+gathered_joined : (j : List Event) (p m : ℕ) (xs ys : List (List ℕ)) (gone : ℕ) (own : ℕ → ℕ) → m ≡ count_of is_arrive j p → IsTimeOf (j ++ event p Arrive ∷ []) p own → (gone ≤ m → IsJoinedAt (entry xs) (entry ys) (m - gone) own) → (m < gone → ys ≡ xs) → AreGathered j xs gone → AreGathered (j ++ event p Arrive ∷ []) ys gone
 gathered_joined j p m xs ys gone own number time joined same a n le = elim (cases_eq n m) [
   | inl is ↦
       (let here = joined (omega arith) in
@@ -80,10 +81,10 @@ gathered_joined j p m xs ys gone own number time joined same a n le = elim (case
 ]
   where
     e : Event
-    e = record { processor = p; kind = Arrive }
+    e = event p Arrive
 
     now : List Event
-    now = j ++ record { processor = p; kind = Arrive } ∷ []
+    now = j ++ event p Arrive ∷ []
 
     others : n ≢ m → (q : ℕ) → entry xs (n - gone) q ≡ entry ys (n - gone) q
     others isnt q = elim (cases_lt m gone) [
@@ -103,18 +104,18 @@ pub record AreNext (c d : Clocks) (p : ℕ) (k : Kind) (own : ℕ → ℕ) : Typ
   pub arrivals : (q : ℕ) → slice_index d.arrivals q ≡ slice_index c.arrivals q + cond ((p == q) && is_arrive k) 1 0
   pub departures : (q : ℕ) → slice_index d.departures q ≡ slice_index c.departures q + cond ((p == q) && is_depart k) 1 0
 
-own_time : (j : List Event) (c d : Clocks) (p : ℕ) (k : Kind) (own : ℕ → ℕ) → p < c.present → AreClocks j c → AreNext c d p k own → IsTimeOf (j ++ record { processor = p; kind = k } ∷ []) p own
-own_time j c d p k own h a n = time_equal (j ++ record { processor = p; kind = k } ∷ []) (InPast (j ++ record { processor = p; kind = k } ∷ []) p) (λ q. max (entry c.processors.items p q) (brought_entry c p k q) + count_of is_closing (record { processor = p; kind = k } ∷ []) q) own (λ q. omega (arith, n.time q)) (time_push j (record { processor = p; kind = k }) (entry c.processors.items p) (brought_entry c p k) (a.times p (let few = a.few in omega arith)) (brought_time j c p k a h))
+own_time : (j : List Event) (c d : Clocks) (p : ℕ) (k : Kind) (own : ℕ → ℕ) → p < c.present → AreClocks j c → AreNext c d p k own → IsTimeOf (j ++ event p k ∷ []) p own
+own_time j c d p k own h a n = time_equal (j ++ event p k ∷ []) (InPast (j ++ event p k ∷ []) p) (λ q. max (entry c.processors.items p q) (brought_entry c p k q) + count_of is_closing (event p k ∷ []) q) own (λ q. omega (arith, n.time q)) (time_push j (event p k) (entry c.processors.items p) (brought_entry c p k) (a.times p (let few = a.few in omega arith)) (brought_time j c p k a h))
 
-times_next : (j : List Event) (c d : Clocks) (p : ℕ) (k : Kind) (own : ℕ → ℕ) → p < c.present → AreClocks j c → AreNext c d p k own → (m : ℕ) → m < 16 → IsTimeOf (j ++ record { processor = p; kind = k } ∷ []) m (entry d.processors.items m)
+times_next : (j : List Event) (c d : Clocks) (p : ℕ) (k : Kind) (own : ℕ → ℕ) → p < c.present → AreClocks j c → AreNext c d p k own → (m : ℕ) → m < 16 → IsTimeOf (j ++ event p k ∷ []) m (entry d.processors.items m)
 times_next j c d p k own h a n m within = elim (cases_eq m p) [
-  | inl is ↦ subst (λ x. IsTimeOf (j ++ record { processor = p; kind = k } ∷ []) x (entry d.processors.items x)) (sym is) (time_equal (j ++ record { processor = p; kind = k } ∷ []) (InPast (j ++ record { processor = p; kind = k } ∷ []) p) own (entry d.processors.items p) (λ q. sym (n.mine q)) (own_time j c d p k own h a n))
-  | inr isnt ↦ time_equal (j ++ record { processor = p; kind = k } ∷ []) (InPast (j ++ record { processor = p; kind = k } ∷ []) m) (entry c.processors.items m) (entry d.processors.items m) (λ q. sym (n.others m q isnt)) (others_keep j (record { processor = p; kind = k } ∷ []) m (entry c.processors.items m) (λ i f at. one_other (record { processor = p; kind = k }) f m i at (λ same. isnt (sym same))) (a.times m within))
+  | inl is ↦ subst (λ x. IsTimeOf (j ++ event p k ∷ []) x (entry d.processors.items x)) (sym is) (time_equal (j ++ event p k ∷ []) (InPast (j ++ event p k ∷ []) p) own (entry d.processors.items p) (λ q. sym (n.mine q)) (own_time j c d p k own h a n))
+  | inr isnt ↦ time_equal (j ++ event p k ∷ []) (InPast (j ++ event p k ∷ []) m) (entry c.processors.items m) (entry d.processors.items m) (λ q. sym (n.others m q isnt)) (others_keep j (event p k ∷ []) m (entry c.processors.items m) (λ i f at. one_other (event p k) f m i at (λ same. isnt (sym same))) (a.times m within))
 ]
 
-counts_next : (is : Kind → Bool) (j : List Event) (p q : ℕ) (k : Kind) (x y : ℕ) → y ≡ x + cond ((p == q) && is k) 1 0 → x ≡ count_of is j q → y ≡ count_of is (j ++ record { processor = p; kind = k } ∷ []) q
+counts_next : (is : Kind → Bool) (j : List Event) (p q : ℕ) (k : Kind) (x y : ℕ) → y ≡ x + cond ((p == q) && is k) 1 0 → x ≡ count_of is j q → y ≡ count_of is (j ++ event p k ∷ []) q
 counts_next is j p q k x y next now =
-    let sum = count_of-append is j (record { processor = p; kind = k } ∷ []) q in
+    let sum = count_of-append is j (event p k ∷ []) q in
     omega arith
 
 -- the kept timestamps after the event
@@ -123,30 +124,30 @@ record AreKeptNext (j : List Event) (d : Clocks) : Type 0 where
   pub flags : AreKept j (λ f. Set f) (kept_entry d.flags)
   pub episodes : AreGathered j d.episodes.items d.gone
 
-kept_next : (j : List Event) (c d : Clocks) (p : ℕ) (k : Kind) (own : ℕ → ℕ) → slice_index c.arrivals p ≡ count_of is_arrive j p → IsTimeOf (j ++ record { processor = p; kind = k } ∷ []) p own → d.gone ≡ c.gone → AreClocks j c → Keeps c d.locks d.flags d.episodes.items p own k → AreKeptNext (j ++ record { processor = p; kind = k } ∷ []) d
+kept_next : (j : List Event) (c d : Clocks) (p : ℕ) (k : Kind) (own : ℕ → ℕ) → slice_index c.arrivals p ≡ count_of is_arrive j p → IsTimeOf (j ++ event p k ∷ []) p own → d.gone ≡ c.gone → AreClocks j c → Keeps c d.locks d.flags d.episodes.items p own k → AreKeptNext (j ++ event p k ∷ []) d
 kept_next j c d p (Release l) own number time gone a n = record {
   locks = kept_joined j p (λ m. Release m) l (kept_entry c.locks) (kept_entry d.locks) own (λ m isnt same. isnt cc) time n.0 a.locks;
-  flags = kept_same j (record { processor = p; kind = Release l }) (λ f. Set f) (kept_entry c.flags) (kept_entry d.flags) (λ m same. absurd cc) (ap kept_entry n.1) a.flags;
-  episodes = subst (λ x. AreGathered (j ++ record { processor = p; kind = Release l } ∷ []) d.episodes.items x) (sym gone) (gathered_same j (record { processor = p; kind = Release l }) c.episodes.items d.episodes.items c.gone (λ same. absurd cc) n.2 a.episodes);
+  flags = kept_same j (event p (Release l)) (λ f. Set f) (kept_entry c.flags) (kept_entry d.flags) (λ m same. absurd cc) (ap kept_entry n.1) a.flags;
+  episodes = subst (λ x. AreGathered (j ++ event p (Release l) ∷ []) d.episodes.items x) (sym gone) (gathered_same j (event p (Release l)) c.episodes.items d.episodes.items c.gone (λ same. absurd cc) n.2 a.episodes);
 }
 kept_next j c d p (Set f) own number time gone a n = record {
-  locks = kept_same j (record { processor = p; kind = Set f }) (λ m. Release m) (kept_entry c.locks) (kept_entry d.locks) (λ m same. absurd cc) (ap kept_entry n.0) a.locks;
+  locks = kept_same j (event p (Set f)) (λ m. Release m) (kept_entry c.locks) (kept_entry d.locks) (λ m same. absurd cc) (ap kept_entry n.0) a.locks;
   flags = kept_joined j p (λ m. Set m) f (kept_entry c.flags) (kept_entry d.flags) own (λ m isnt same. isnt cc) time n.1 a.flags;
-  episodes = subst (λ x. AreGathered (j ++ record { processor = p; kind = Set f } ∷ []) d.episodes.items x) (sym gone) (gathered_same j (record { processor = p; kind = Set f }) c.episodes.items d.episodes.items c.gone (λ same. absurd cc) n.2 a.episodes);
+  episodes = subst (λ x. AreGathered (j ++ event p (Set f) ∷ []) d.episodes.items x) (sym gone) (gathered_same j (event p (Set f)) c.episodes.items d.episodes.items c.gone (λ same. absurd cc) n.2 a.episodes);
 }
 kept_next j c d p Arrive own number time gone a n = record {
-  locks = kept_same j (record { processor = p; kind = Arrive }) (λ m. Release m) (kept_entry c.locks) (kept_entry d.locks) (λ m same. absurd cc) (ap kept_entry n.0) a.locks;
-  flags = kept_same j (record { processor = p; kind = Arrive }) (λ f. Set f) (kept_entry c.flags) (kept_entry d.flags) (λ m same. absurd cc) (ap kept_entry n.1) a.flags;
-  episodes = subst (λ x. AreGathered (j ++ record { processor = p; kind = Arrive } ∷ []) d.episodes.items x) (sym gone) (gathered_joined j p (slice_index c.arrivals p) c.episodes.items d.episodes.items c.gone own number time n.2 n.3 a.episodes);
+  locks = kept_same j (event p Arrive) (λ m. Release m) (kept_entry c.locks) (kept_entry d.locks) (λ m same. absurd cc) (ap kept_entry n.0) a.locks;
+  flags = kept_same j (event p Arrive) (λ f. Set f) (kept_entry c.flags) (kept_entry d.flags) (λ m same. absurd cc) (ap kept_entry n.1) a.flags;
+  episodes = subst (λ x. AreGathered (j ++ event p Arrive ∷ []) d.episodes.items x) (sym gone) (gathered_joined j p (slice_index c.arrivals p) c.episodes.items d.episodes.items c.gone own number time n.2 n.3 a.episodes);
 }
 kept_next j c d p k own number time gone a n = record {
-  locks = kept_same j (record { processor = p; kind = k }) (λ m. Release m) (kept_entry c.locks) (kept_entry d.locks) (λ m same. absurd cc) (ap kept_entry n.0) a.locks;
-  flags = kept_same j (record { processor = p; kind = k }) (λ f. Set f) (kept_entry c.flags) (kept_entry d.flags) (λ m same. absurd cc) (ap kept_entry n.1) a.flags;
-  episodes = subst (λ x. AreGathered (j ++ record { processor = p; kind = k } ∷ []) d.episodes.items x) (sym gone) (gathered_same j (record { processor = p; kind = k }) c.episodes.items d.episodes.items c.gone (λ same. absurd cc) n.2 a.episodes);
+  locks = kept_same j (event p k) (λ m. Release m) (kept_entry c.locks) (kept_entry d.locks) (λ m same. absurd cc) (ap kept_entry n.0) a.locks;
+  flags = kept_same j (event p k) (λ f. Set f) (kept_entry c.flags) (kept_entry d.flags) (λ m same. absurd cc) (ap kept_entry n.1) a.flags;
+  episodes = subst (λ x. AreGathered (j ++ event p k ∷ []) d.episodes.items x) (sym gone) (gathered_same j (event p k) c.episodes.items d.episodes.items c.gone (λ same. absurd cc) n.2 a.episodes);
 }
 
 -- after the event the timestamps are those of the journal with it
-pub clocks_next : (j : List Event) (c d : Clocks) (p : ℕ) (k : Kind) (own : ℕ → ℕ) → p < c.present → AreClocks j c → AreNext c d p k own → AreClocks (j ++ record { processor = p; kind = k } ∷ []) d
+pub clocks_next : (j : List Event) (c d : Clocks) (p : ℕ) (k : Kind) (own : ℕ → ℕ) → p < c.present → AreClocks j c → AreNext c d p k own → AreClocks (j ++ event p k ∷ []) d
 clocks_next j c d p k own h a n =
     let few = a.few in
     let kept = kept_next j c d p k own (a.arrivals p (omega arith)) (own_time j c d p k own h a n) n.gone a n.keeps in

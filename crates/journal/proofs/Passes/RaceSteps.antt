@@ -7,6 +7,7 @@ use Rattle.journal.specs.declared.event.Event.{Event}
 use Rattle.journal.specs.declared.event.Kind.{Kind}
 use Rattle.journal.specs.declared.event.Kind.TheVariants.{Load, Store, Acquire, Depart, Await}
 use Rattle.journal.specs.declared.race.Accesses.{Accesses}
+use Rattle.journal.specs.Did.{event}
 use Rattle.journal.specs.Events.{At, count_of, interval_at, address_of, is_store, is_closing, is_taking}
 use Rattle.journal.specs.Order.{HappensBefore}
 use Rattle.journal.specs.WellFormed.{Does}
@@ -111,7 +112,7 @@ no_race events place addresses e t x at time kept counted i r = elim (access_cas
     front = interval_front events place r.first.processor i r.before
 
     does : (v : ℕ) (k : Kind) → r.first.kind ≡ k → Does (take place events) i r.first.processor k
-    does v k is = slice_get-take events place i r.before ∙ subst (λ y. At events i (record { processor = r.first.processor; kind = y })) is r.first_at
+    does v k is = slice_get-take events place i r.before ∙ subst (λ y. At events i (event r.first.processor y)) is r.first_at
 
     loaded : (v : ℕ) → r.first.kind ≡ Load conflict.address v → ⊥
     loaded v is = elim conflict.stores [
@@ -124,12 +125,12 @@ no_race events place addresses e t x at time kept counted i r = elim (access_cas
 
 -- a table of accesses of kind k a v, one event on
 table_next : (j : List Event) (e : Event) (t : ℕ → ℕ) (k : ℕ → ℕ → Kind) (xs ys : List (List ℕ)) → ((a : ℕ) → ((v : ℕ) × (e.kind ≡ k a v)) ⊎ (((v : ℕ) × (e.kind ≡ k a v)) → ⊥)) → IsTimeOf j e.processor t → IsNoted xs ys e.processor (t e.processor + 1) (λ a. (v : ℕ) × (e.kind ≡ k a v)) → ((a q i v : ℕ) → Does j i q (k a v) → interval_at j q i < entry xs a q) → (a q i v : ℕ) → Does (j ++ e ∷ []) i q (k a v) → interval_at (j ++ e ∷ []) q i < entry ys a q
-table_next j e t k xs ys at time noted old a q i v does = elim (push_cases j e i (record { processor = q; kind = k a v }) does) [ inl before ↦ earlier before.0 before.1 | inr last ↦ latest last.0 last.1 ]
+table_next j e t k xs ys at time noted old a q i v does = elim (push_cases j e i (event q (k a v)) does) [ inl before ↦ earlier before.0 before.1 | inr last ↦ latest last.0 last.1 ]
   where
     own : t e.processor ≡ count_of is_closing j e.processor
     own = own_entry j e.processor t time
 
-    latest : i ≡ length j → e ≡ record { processor = q; kind = k a v } → interval_at (j ++ e ∷ []) q i < entry ys a q
+    latest : i ≡ length j → e ≡ event q (k a v) → interval_at (j ++ e ∷ []) q i < entry ys a q
     latest is same =
         let mine = ap (λ f. f.processor) same in
         let set = subst (λ x. entry ys a x ≡ t x + 1) mine (noted.set a (v, ap (λ f. f.kind) same)) in
@@ -144,7 +145,7 @@ table_next j e t k xs ys at time noted old a q i v does = elim (push_cases j e i
       | inr not_now ↦ (let same = noted.same a q (inr not_now) in omega arith)
     ]
 
-    earlier : i < length j → At j i (record { processor = q; kind = k a v }) → interval_at (j ++ e ∷ []) q i < entry ys a q
+    earlier : i < length j → At j i (event q (k a v)) → interval_at (j ++ e ∷ []) q i < entry ys a q
     earlier lt does_old =
         let front = count_of-front is_closing j (e ∷ []) i q (omega arith) in
         let below = old a q i v does_old in

@@ -8,6 +8,7 @@ use Rattle.lists.proofs.LastWrites.{written-append}
 use Rattle.lists.proofs.Places.{take-suc_at}
 use Rattle.journal.specs.declared.event.Event.{Event}
 use Rattle.journal.specs.declared.event.Kind.TheVariants.{Load}
+use Rattle.journal.specs.Did.{event}
 use Rattle.journal.specs.WellFormed.{Does}
 use Rattle.journal.specs.Flat.{memory_after, flat_write, AnswersWord}
 
@@ -30,6 +31,6 @@ replays-suc start memory events n e at so answers = record {
   where
     answers_load : (p a v : ℕ) → Does events n p (Load a v) → slice_get memory a ≡ Some v
     answers_load p a v does =
-        let same : e ≡ record { processor = p; kind = Load a v } = same_Some e (record { processor = p; kind = Load a v }) (sym at ∙ does) in
+        let same : e ≡ event p (Load a v) = same_Some e (event p (Load a v)) (sym at ∙ does) in
         let P : Kind → Type 0 = λ k. AnswersWord memory k in
         subst P (ap (λ x. x.kind) same) answers

@@ -4,6 +4,7 @@ use Rattle.std.proofs.lemmas.Bool.{cases_eq}
 use Rattle.journal.specs.declared.event.Event.{Event}
 use Rattle.journal.specs.declared.event.Kind.{Kind}
 use Rattle.journal.specs.declared.event.Kind.TheVariants.{Acquire, Release, Arrive, Depart, Set, Await}
+use Rattle.journal.specs.Did.{event}
 use Rattle.journal.specs.Events.{interval_at}
 use Rattle.journal.specs.WellFormed.{Does}
 use Rattle.journal.specs.Pasts.{UpTo, UpToSome}
@@ -38,7 +39,7 @@ leaving_some j some q i a closes does u = go u.2
         at_end (sym (does_same j u.0 q (closes u.0 u.1).0 a c.kind here c.does).0) (omega arith)
     go (inr h) = elim (cases_eq (closes u.0 u.1).0 q) [
       | inl is ↦ (let lt = goes_forward j h in at_end is (omega arith))
-      | inr isnt ↦ (let l = path_leaves j q h (record { processor = q; kind = a }) (record { processor = (closes u.0 u.1).0; kind = c.kind }) does c.does refl isnt in
+      | inr isnt ↦ (let l = path_leaves j q h (event q a) (event ((closes u.0 u.1).0) c.kind) does c.does refl isnt in
           record { close = l.close; from = l.from; closes = l.closes; inside = (u.0, u.1, inr l.inside) })
     ]
 

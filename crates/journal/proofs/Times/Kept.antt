@@ -3,8 +3,9 @@ use Rattle.std.proofs.Common.{◌≡◌, ◌≢◌, ℕ, ◌<◌, max, ◌⊎◌
 use Rattle.std.proofs.Math.Seq.{take-append_seam}
 use Rattle.journal.specs.declared.event.Event.{Event}
 use Rattle.journal.specs.declared.event.Kind.{Kind}
-use Rattle.journal.specs.declared.event.Kind.TheVariants.{Acquire, Release, Arrive, Depart, Set, Await}
-use Rattle.journal.specs.Events.{At, count_of, is_arrive, is_depart}
+use Rattle.journal.specs.declared.event.Kind.TheVariants.{Arrive}
+use Rattle.journal.specs.Did.{event}
+use Rattle.journal.specs.Events.{At, count_of, is_arrive}
 use Rattle.journal.specs.Pasts.{UpTo, UpToSome}
 use Rattle.journal.specs.Times.{IsTimeIn, IsTimeOf}
 use Rattle.journal.specs.Brings.{SomeDoes, ArrivesAt, SomeArrives}
@@ -12,7 +13,7 @@ use Rattle.lists.proofs.Places.{push_cases, append_cases}
 use Rattle.journal.proofs.Order.Places.{at_within, at_longer, at_last, count_of-front}
 use Rattle.journal.proofs.Order.Pasts.{up_to_longer, up_to_shorter, up_to_within}
 use Rattle.journal.proofs.Times.Times.{time_same, time_joined, time_longer}
-use Rattle.journal.proofs.Times.Pushes.{own_taking, time_at_last}
+use Rattle.journal.proofs.Times.Pushes.{time_at_last}
 
 -- the same places keep their time as the journal goes on
 pub kept_others : (j es : List Event) (some others : ℕ → Type 0) (t : ℕ → ℕ) → ((i : ℕ) → some i → i < length j) → ((i : ℕ) → some i ↔ others i) → IsTimeIn j (UpToSome j some) t → IsTimeIn (j ++ es) (UpToSome (j ++ es) others) t
@@ -39,30 +40,30 @@ kept_now j e some others t u inside is a b =
 
 -- what someone does stands in the journal
 pub some_within : (j : List Event) (k : Kind) (i : ℕ) → SomeDoes j k i → i < length j
-some_within j k i h = at_within j i (record { processor = h.0; kind = k }) h.1
+some_within j k i h = at_within j i (event h.0 k) h.1
 
 pub arrives_within : (j : List Event) (n i : ℕ) → SomeArrives j n i → i < length j
-arrives_within j n i h = at_within j i (record { processor = h.0; kind = Arrive }) h.1.does
+arrives_within j n i h = at_within j i (event h.0 Arrive) h.1.does
 
 -- other events leave who does this
 pub does_kept : (j es : List Event) (k : Kind) (i : ℕ) → ((m : ℕ) (f : Event) → At es m f → f.kind ≢ k) → SomeDoes j k i ↔ SomeDoes (j ++ es) k i
 does_kept j es k i away = (there, back)
   where
     there : SomeDoes j k i → SomeDoes (j ++ es) k i
-    there h = (h.0, at_longer j es i (record { processor = h.0; kind = k }) h.1)
+    there h = (h.0, at_longer j es i (event h.0 k) h.1)
 
     back : SomeDoes (j ++ es) k i → SomeDoes j k i
-    back h = elim (append_cases j es i (record { processor = h.0; kind = k }) h.1) [ inl a ↦ (h.0, a.1) | inr b ↦ absurd (away b.0 (record { processor = h.0; kind = k }) b.2 refl) ]
+    back h = elim (append_cases j es i (event h.0 k) h.1) [ inl a ↦ (h.0, a.1) | inr b ↦ absurd (away b.0 (event h.0 k) b.2 refl) ]
 
 -- an event of this kind is one more
 pub does_now : (j : List Event) (e : Event) (i : ℕ) → SomeDoes (j ++ e ∷ []) e.kind i ↔ (SomeDoes j e.kind i ⊎ (i ≡ length j))
 does_now j e i = (there, back)
   where
     there : SomeDoes (j ++ e ∷ []) e.kind i → SomeDoes j e.kind i ⊎ (i ≡ length j)
-    there h = elim (push_cases j e i (record { processor = h.0; kind = e.kind }) h.1) [ inl a ↦ inl (h.0, a.1) | inr b ↦ inr b.0 ]
+    there h = elim (push_cases j e i (event h.0 e.kind) h.1) [ inl a ↦ inl (h.0, a.1) | inr b ↦ inr b.0 ]
 
     back : SomeDoes j e.kind i ⊎ (i ≡ length j) → SomeDoes (j ++ e ∷ []) e.kind i
-    back (inl h) = (h.0, at_longer j (e ∷ []) i (record { processor = h.0; kind = e.kind }) h.1)
+    back (inl h) = (h.0, at_longer j (e ∷ []) i (event h.0 e.kind) h.1)
     back (inr is) = (e.processor, subst (λ m. At (j ++ e ∷ []) m e) (sym is) (at_last j e))
 
 -- a lock or flag keeps its time under events of other kinds
@@ -76,9 +77,9 @@ kind_joins j e t u a b = kept_now j e (SomeDoes j e.kind) (SomeDoes (j ++ e ∷ 
 arrives_longer : (j es : List Event) (n i : ℕ) → SomeArrives j n i → SomeArrives (j ++ es) n i
 arrives_longer j es n i h =
     let lt = arrives_within j n i h in
-    (h.0, record { does = at_longer j es i (record { processor = h.0; kind = Arrive }) h.1.does; number = count_of-front is_arrive j es i h.0 (omega arith) ∙ h.1.number })
+    (h.0, record { does = at_longer j es i (event h.0 Arrive) h.1.does; number = count_of-front is_arrive j es i h.0 (omega arith) ∙ h.1.number })
 
-arrives_shorter : (j es : List Event) (n q i : ℕ) → i < length j → At j i (record { processor = q; kind = Arrive }) → ArrivesAt (j ++ es) n q i → SomeArrives j n i
+arrives_shorter : (j es : List Event) (n q i : ℕ) → i < length j → At j i (event q Arrive) → ArrivesAt (j ++ es) n q i → SomeArrives j n i
 arrives_shorter j es n q i lt does h = (q, record { does = does; number = sym (count_of-front is_arrive j es i q (omega arith)) ∙ h.number })
 
 -- events that are no arrivals leave who arrives
@@ -86,7 +87,7 @@ pub arrives_kept : (j es : List Event) (n i : ℕ) → ((m : ℕ) (f : Event) �
 arrives_kept j es n i away = (arrives_longer j es n i, back)
   where
     back : SomeArrives (j ++ es) n i → SomeArrives j n i
-    back h = elim (append_cases j es i (record { processor = h.0; kind = Arrive }) h.1.does) [ inl a ↦ arrives_shorter j es n h.0 i a.0 a.1 h.1 | inr b ↦ absurd (away b.0 (record { processor = h.0; kind = Arrive }) b.2 refl) ]
+    back h = elim (append_cases j es i (event h.0 Arrive) h.1.does) [ inl a ↦ arrives_shorter j es n h.0 i a.0 a.1 h.1 | inr b ↦ absurd (away b.0 (event h.0 Arrive) b.2 refl) ]
 
 last_number : (j : List Event) (e : Event) (n q i : ℕ) → i ≡ length j → e.processor ≡ q → ArrivesAt (j ++ e ∷ []) n q i → count_of is_arrive j e.processor ≡ n
 last_number j e n q i is mine h =
@@ -99,7 +100,7 @@ pub arrives_others : (j : List Event) (e : Event) (n i : ℕ) → count_of is_ar
 arrives_others j e n i away = (arrives_longer j (e ∷ []) n i, back)
   where
     back : SomeArrives (j ++ e ∷ []) n i → SomeArrives j n i
-    back h = elim (push_cases j e i (record { processor = h.0; kind = Arrive }) h.1.does) [
+    back h = elim (push_cases j e i (event h.0 Arrive) h.1.does) [
       | inl a ↦ arrives_shorter j (e ∷ []) n h.0 i a.0 a.1 h.1
       | inr b ↦ absurd (away (last_number j e n h.0 i b.0 (ap (λ x. x.processor) b.1) h.1))
     ]
@@ -109,10 +110,10 @@ pub arrives_now : (j : List Event) (e : Event) (i : ℕ) → e.kind ≡ Arrive �
 arrives_now j e i arrive = (there, back)
   where
     there : SomeArrives (j ++ e ∷ []) (count_of is_arrive j e.processor) i → SomeArrives j (count_of is_arrive j e.processor) i ⊎ (i ≡ length j)
-    there h = elim (push_cases j e i (record { processor = h.0; kind = Arrive }) h.1.does) [ inl a ↦ inl (arrives_shorter j (e ∷ []) (count_of is_arrive j e.processor) h.0 i a.0 a.1 h.1) | inr b ↦ inr b.0 ]
+    there h = elim (push_cases j e i (event h.0 Arrive) h.1.does) [ inl a ↦ inl (arrives_shorter j (e ∷ []) (count_of is_arrive j e.processor) h.0 i a.0 a.1 h.1) | inr b ↦ inr b.0 ]
 
     now : ArrivesAt (j ++ e ∷ []) (count_of is_arrive j e.processor) e.processor (length j)
-    now = record { does = subst (λ k. At (j ++ e ∷ []) (length j) (record { processor = e.processor; kind = k })) arrive (at_last j e); number = ap (λ (xs : List Event). count_of is_arrive xs e.processor) (take-append_seam j (e ∷ [])) }
+    now = record { does = subst (λ k. At (j ++ e ∷ []) (length j) (event e.processor k)) arrive (at_last j e); number = ap (λ (xs : List Event). count_of is_arrive xs e.processor) (take-append_seam j (e ∷ [])) }
 
     back : SomeArrives j (count_of is_arrive j e.processor) i ⊎ (i ≡ length j) → SomeArrives (j ++ e ∷ []) (count_of is_arrive j e.processor) i
     back (inl h) = arrives_longer j (e ∷ []) (count_of is_arrive j e.processor) i h
@@ -129,15 +130,3 @@ arrivals_others j e n t away a = kept_others j (e ∷ []) (SomeArrives j n) (Som
 -- an arrival joins its timestamp
 pub arrival_joins : (j : List Event) (e : Event) (t u : ℕ → ℕ) → e.kind ≡ Arrive → IsTimeIn j (UpToSome j (SomeArrives j (count_of is_arrive j e.processor))) t → IsTimeOf (j ++ e ∷ []) e.processor u → IsTimeIn (j ++ e ∷ []) (UpToSome (j ++ e ∷ []) (SomeArrives (j ++ e ∷ []) (count_of is_arrive j e.processor))) (λ q. max (t q) (u q))
 arrival_joins j e t u arrive a b = kept_now j e (SomeArrives j (count_of is_arrive j e.processor)) (SomeArrives (j ++ e ∷ []) (count_of is_arrive j e.processor)) t u (arrives_within j (count_of is_arrive j e.processor)) (λ i. arrives_now j e i arrive) a b
-
--- an acquire joins what the lock keeps
-pub acquire_joins : (j : List Event) (p l : ℕ) (t u : ℕ → ℕ) → IsTimeOf j p t → IsTimeIn j (UpToSome j (SomeDoes j (Release l))) u → IsTimeOf (j ++ record { processor = p; kind = Acquire l } ∷ []) p (λ q. max (t q) (u q))
-acquire_joins j p l t u a b = own_taking j (record { processor = p; kind = Acquire l }) t u refl a b
-
--- an await joins what the flag keeps
-pub await_joins : (j : List Event) (p f : ℕ) (t u : ℕ → ℕ) → IsTimeOf j p t → IsTimeIn j (UpToSome j (SomeDoes j (Set f))) u → IsTimeOf (j ++ record { processor = p; kind = Await f } ∷ []) p (λ q. max (t q) (u q))
-await_joins j p f t u a b = own_taking j (record { processor = p; kind = Await f }) t u refl a b
-
--- a departure joins what the episode keeps
-pub depart_joins : (j : List Event) (p : ℕ) (t u : ℕ → ℕ) → IsTimeOf j p t → IsTimeIn j (UpToSome j (SomeArrives j (count_of is_depart j p))) u → IsTimeOf (j ++ record { processor = p; kind = Depart } ∷ []) p (λ q. max (t q) (u q))
-depart_joins j p t u a b = own_taking j (record { processor = p; kind = Depart }) t u refl a b

@@ -1,9 +1,10 @@
--- A processor's event is in another's past exactly where the closing event of its interval is.
-use Rattle.std.proofs.Common.{◌≡◌, ◌≢◌, ℕ, ◌<◌, ◌≤◌, inl, inr, ◌↔◌, List, IsTrue, subst, sym, refl, ap, ◌∙◌, le_refl, arith}
+-- A path from a processor's event to another processor leaves by an event that closes an interval.
+use Rattle.std.proofs.Common.{◌≡◌, ◌≢◌, ℕ, ◌<◌, ◌≤◌, inl, inr, List, IsTrue, subst, sym, refl, ap, ◌∙◌, le_refl, arith}
 use Rattle.std.proofs.lemmas.Bool.{cases_eq}
 use Rattle.journal.specs.declared.event.Event.{Event}
 use Rattle.journal.specs.declared.event.Kind.{Kind}
 use Rattle.journal.specs.declared.event.Kind.TheVariants.{Acquire, Release, Set, Await}
+use Rattle.journal.specs.Did.{event}
 use Rattle.journal.specs.Events.{At, is_closing}
 use Rattle.journal.specs.Order.{LetsThrough, Link, HappensBefore}
 use Rattle.journal.specs.Order.Link.{same, lets, meets}
@@ -11,10 +12,8 @@ use Rattle.journal.specs.Order.HappensBefore.{edge, on}
 use Rattle.journal.specs.WellFormed.{Does}
 use Rattle.journal.specs.Pasts.{UpTo, InPast}
 use Rattle.journal.specs.Times.{ClosesAt}
-use Rattle.journal.specs.Intervals.{ClosedAt}
 use Rattle.journal.proofs.Order.Places.{at_same, does_at}
 use Rattle.journal.proofs.Order.HappensBefore.{goes_forward}
-use Rattle.journal.proofs.Order.Pasts.{past_back}
 
 lets_closing : (a b : Kind) → LetsThrough a b → IsTrue (is_closing a)
 lets_closing (Release l) (Acquire m) h = refl
@@ -64,24 +63,24 @@ leaving j p q i a does apart x = go x.reaches
 
     go : UpTo j x.own i → LeavesAt j q i (InPast j p)
     go (inl is) =
-        let here = at_same j x.own x.event (record { processor = q; kind = a }) x.at (subst (λ m. At j m (record { processor = q; kind = a })) is does) in
+        let here = at_same j x.own x.event (event q a) x.at (subst (λ m. At j m (event q a)) is does) in
         absurd (away (ap (λ y. y.processor) here))
     go (inr h) =
-        let c = path_leaves j q h (record { processor = q; kind = a }) x.event does x.at refl away in
+        let c = path_leaves j q h (event q a) x.event does x.at refl away in
         record { close = c.close; from = c.from; closes = c.closes; inside = record { own = x.own; event = x.event; at = x.at; mine = x.mine; reaches = inr c.inside } }
 
 -- the same of an event's past
 pub leaving_at : (j : List Event) (k p q i : ℕ) (a b : Kind) → Does j i q a → Does j k p b → q ≢ p → UpTo j k i → LeavesAt j q i (UpTo j k)
 leaving_at j k p q i a b does at apart (inl is) =
-    let here = at_same j k (record { processor = p; kind = b }) (record { processor = q; kind = a }) at (subst (λ m. At j m (record { processor = q; kind = a })) is does) in
+    let here = at_same j k (event p b) (event q a) at (subst (λ m. At j m (event q a)) is does) in
     absurd (apart (sym (ap (λ y. y.processor) here)))
 leaving_at j k p q i a b does at apart (inr h) =
-    let c = path_leaves j q h (record { processor = q; kind = a }) (record { processor = p; kind = b }) does at refl (λ s. apart (sym s)) in
+    let c = path_leaves j q h (event q a) (event p b) does at refl (λ s. apart (sym s)) in
     record { close = c.close; from = c.from; closes = c.closes; inside = inr c.inside }
 
 -- of a processor's two events the first happens before the second
 pub own_order : (j : List Event) (q i c : ℕ) (a b : Kind) → Does j i q a → Does j c q b → i < c → HappensBefore j i c
-own_order j q i c a b does to lt = edge (record { before = lt; from = record { processor = q; kind = a }; to = record { processor = q; kind = b }; from_at = does; to_at = to; link = same refl })
+own_order j q i c a b does to lt = edge (record { before = lt; from = event q a; to = event q b; from_at = does; to_at = to; link = same refl })
 
 -- a set of places that is closed backwards has, with a processor's event, its events before
 pub back_own : (j : List Event) (among : ℕ → Type 0) (q i c : ℕ) (a b : Kind) → ((m n : ℕ) → HappensBefore j m n → among n → among m) → Does j i q a → Does j c q b → i ≤ c → among c → among i
@@ -89,20 +88,3 @@ back_own j among q i c a b back does to le inside = elim (cases_eq i c) [
   | inl is ↦ subst among (sym is) inside
   | inr isnt ↦ back i c (own_order j q i c a b does to (omega arith)) inside
 ]
-
--- another's event is in a past exactly where the closing event of its interval is
-pub interval_past : (j : List Event) (p i c : ℕ) (x : ClosedAt j i c) → x.event.processor ≢ p → InPast j p i ↔ InPast j p c
-interval_past j p i c x apart = (there, λ y. past_back j p i c first y)
-  where
-    first : HappensBefore j i c
-    first = edge (record { before = x.before; from = x.event; to = x.closer; from_at = x.at; to_at = x.closer_at; link = same (sym x.mine) })
-
-    there : InPast j p i → InPast j p c
-    there y =
-        let l = leaving j p x.event.processor i x.event.kind x.at apart y in
-        let closer = does_at j c x.event.processor x.closer x.closer_at x.mine in
-        let not_before : l.close < c → ⊥ = λ lt. elim (cases_eq i l.close) [
-          | inl is ↦ x.open_at (ap (λ k. is_closing k) (ap (λ y. y.kind) (at_same j i x.event (record { processor = x.event.processor; kind = l.closes.kind }) x.at (subst (λ m. At j m (record { processor = x.event.processor; kind = l.closes.kind })) (sym is) l.closes.does))) ∙ l.closes.closes)
-          | inr isnt ↦ (let from = l.from in x.none_between l.close (record { processor = x.event.processor; kind = l.closes.kind }) (omega arith) lt l.closes.does refl l.closes.closes)
-        ] in
-        back_own j (InPast j p) x.event.processor c l.close x.closer.kind l.closes.kind (λ m n h z. past_back j p m n h z) closer l.closes.does (omega arith) l.inside

@@ -4,6 +4,7 @@ use Rattle.std.proofs.lemmas.Bool.{cases_lt}
 use Rattle.std.proofs.Math.Seq.{take-append_seam}
 use Rattle.journal.specs.declared.event.Event.{Event}
 use Rattle.journal.specs.declared.event.Kind.{Kind}
+use Rattle.journal.specs.Did.{event}
 use Rattle.journal.specs.Events.{At, count_of, interval_at, is_closing, is_taking}
 use Rattle.journal.specs.Order.{HappensBefore}
 use Rattle.journal.specs.WellFormed.{Does}
@@ -12,7 +13,7 @@ use Rattle.journal.specs.Times.{ClosesAt, IsTimeIn, IsTimeOf, IsTimeAt}
 use Rattle.journal.specs.Brings.{Brings}
 use Rattle.lists.proofs.Places.{push_cases}
 use Rattle.journal.proofs.Order.Places.{at_last, does_at, count_of-append, count_of-front, count_of-mono, count_of-past, count_of-within, numbered}
-use Rattle.journal.proofs.Order.Pasts.{past_back, past_push, reaches_push, own_in_past, past_within, others, brings_none, up_to_back, up_to_longer, up_to_shorter, up_to_within}
+use Rattle.journal.proofs.Order.Pasts.{past_back, past_push, reaches_push, own_in_past, past_within, others, brings_none, up_to_back}
 use Rattle.journal.proofs.Times.Leaving.{LeavesAt, leaving, leaving_at, back_own}
 use Rattle.journal.proofs.Times.Times.{time_longer, time_equal, time_none, count_of-one}
 
@@ -23,7 +24,7 @@ own_entry j p t a = elim (cases_lt (t p) (count_of is_closing j p)) [
       (let n = numbered is_closing j p (t p) lt in
       let closes : ClosesAt j p n.place = record { kind = n.kind; does = n.does; closes = n.counts } in
       let number = n.number in
-      let below = (a.covers p n.place closes).0 (own_in_past j p n.place (record { processor = p; kind = n.kind }) n.does refl) in
+      let below = (a.covers p n.place closes).0 (own_in_past j p n.place (event p n.kind) n.does refl) in
       absurd (omega arith))
   | inr le ↦ (let top = a.within p in omega arith)
 ]
@@ -31,10 +32,6 @@ own_entry j p t a = elim (cases_lt (t p) (count_of is_closing j p)) [
 -- others' events leave a processor's timestamp
 pub others_keep : (j es : List Event) (p : ℕ) (t : ℕ → ℕ) → ((m : ℕ) (e : Event) → At es m e → e.processor ≢ p) → IsTimeOf j p t → IsTimeOf (j ++ es) p t
 others_keep j es p t away a = time_longer j es (InPast j p) (InPast (j ++ es) p) t (λ i lt. ((others j es p i away).1, (others j es p i away).0)) (λ i h. past_within j p i ((others j es p i away).0 h)) a
-
--- an event keeps its timestamp
-pub event_keeps : (j es : List Event) (k : ℕ) (t : ℕ → ℕ) → k < length j → IsTimeAt j k t → IsTimeAt (j ++ es) k t
-event_keeps j es k t lt a = time_longer j es (UpTo j k) (UpTo (j ++ es) k) t (λ i h. (up_to_longer j es k i, up_to_shorter j es k i lt)) (λ i h. up_to_within j k i lt (up_to_shorter j es k i lt h)) a
 
 -- what an event does to its processor's timestamp: it joins what the event brings, and counts the event where that closes an interval
 pub time_push : (j : List Event) (e : Event) (t u : ℕ → ℕ) → IsTimeOf j e.processor t → IsTimeIn j (Brings j e.processor e.kind) u → IsTimeOf (j ++ e ∷ []) e.processor (λ q. max (t q) (u q) + count_of is_closing (e ∷ []) q)
@@ -47,7 +44,7 @@ time_push j e t u a b = record { covers = covers; within = within }
         | inl x ↦ (past_push j e i).1 (inr (inr ((b.covers q i c).1 x)))
         | inr no_u ↦ elim (count_of-one is_closing e q) [
           | inl none ↦ absurd (omega arith)
-          | inr one ↦ (past_push j e i).1 (inr (inl (own_in_past j e.processor i (record { processor = q; kind = c.kind }) c.does (sym one.0))))
+          | inr one ↦ (past_push j e i).1 (inr (inl (own_in_past j e.processor i (event q c.kind) c.does (sym one.0))))
         ]
       ]
     ]
@@ -68,7 +65,7 @@ time_push j e t u a b = record { covers = covers; within = within }
         omega arith
 
     covers : (q i : ℕ) → ClosesAt (j ++ e ∷ []) q i → InPast (j ++ e ∷ []) e.processor i ↔ (interval_at (j ++ e ∷ []) q i < max (t q) (u q) + count_of is_closing (e ∷ []) q)
-    covers q i c = elim (push_cases j e i (record { processor = q; kind = c.kind }) c.does) [
+    covers q i c = elim (push_cases j e i (event q c.kind) c.does) [
       | inl old ↦
           (let number = count_of-front is_closing j (e ∷ []) i q (let lt = old.0 in omega arith) in
           let closes : ClosesAt j q i = record { kind = c.kind; does = old.1; closes = c.closes } in

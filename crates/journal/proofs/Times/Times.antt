@@ -4,16 +4,17 @@ use Rattle.std.proofs.lemmas.Bool.{cases_lt, eqb-true, and_parts}
 use Rattle.std.proofs.Math.Seq.{take-append_seam}
 use Rattle.journal.specs.declared.event.Event.{Event}
 use Rattle.journal.specs.declared.event.Kind.{Kind}
+use Rattle.journal.specs.Did.{event}
 use Rattle.journal.specs.Events.{count_of, interval_at, is_closing}
 use Rattle.journal.specs.Times.{ClosesAt, IsTimeIn}
 use Rattle.journal.proofs.Order.Places.{at_longer, at_shorter, count_of-append, count_of-front, count_of-mono, numbered}
 
 -- closing events keep their places
 pub closes_longer : (j es : List Event) (q i : ℕ) → ClosesAt j q i → ClosesAt (j ++ es) q i
-closes_longer j es q i c = record { kind = c.kind; does = at_longer j es i (record { processor = q; kind = c.kind }) c.does; closes = c.closes }
+closes_longer j es q i c = record { kind = c.kind; does = at_longer j es i (event q c.kind) c.does; closes = c.closes }
 
 pub closes_shorter : (j es : List Event) (q i : ℕ) → i < length j → ClosesAt (j ++ es) q i → ClosesAt j q i
-closes_shorter j es q i lt c = record { kind = c.kind; does = at_shorter j es i (record { processor = q; kind = c.kind }) lt c.does; closes = c.closes }
+closes_shorter j es q i lt c = record { kind = c.kind; does = at_shorter j es i (event q c.kind) lt c.does; closes = c.closes }
 
 -- an interval behind a journal has a number past it
 pub interval_behind : (j es : List Event) (q i : ℕ) → length j ≤ i → count_of is_closing j q ≤ interval_at (j ++ es) q i

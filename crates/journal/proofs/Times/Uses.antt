@@ -1,9 +1,9 @@
 -- What timestamps are for: they tell happens-before, and what is new.
 use Rattle.std.proofs.Common.{◌≡◌, ◌≢◌, ℕ, ◌<◌, ◌≤◌, inl, inr, ◌↔◌, List, [], ◌∷◌, ◌++◌, length, take, drop, false, subst, sym, ap, ◌∙◌, take-append-drop, take-take, suc, arith}
-use Rattle.std.proofs.lemmas.Bool.{cases_lt}
 use Rattle.std.proofs.lemmas.List.{length-take-le}
 use Rattle.journal.specs.declared.event.Event.{Event}
 use Rattle.journal.specs.declared.event.Kind.{Kind}
+use Rattle.journal.specs.Did.{event}
 use Rattle.journal.specs.Events.{count_of, interval_at, is_closing, is_taking}
 use Rattle.journal.specs.Order.{HappensBefore}
 use Rattle.journal.specs.WellFormed.{Does}
@@ -26,7 +26,7 @@ ordered_by_time j k p q i a b t time does at apart = ((λ h. (covered_at j k p q
 -- what happens before an event that takes nothing is the past that its processor had
 pub reaches_at : (j : List Event) (k p i : ℕ) (b : Kind) → Does j k p b → is_taking b ≡ false → HappensBefore j i k ↔ InPast (take k j) p i
 reaches_at j k p i b at quiet =
-    let e : Event = record { processor = p; kind = b } in
+    let e : Event = event p b in
     let lt = at_within j k e at in
     let long : length (take k j) ≡ k = length-take-le k j (omega arith) in
     let split : (take k j ++ e ∷ []) ++ drop (suc k) j ≡ j = ap (λ xs. xs ++ drop (suc k) j) (sym (take-suc_at j k e at)) ∙ take-append-drop (suc k) j in
@@ -46,13 +46,3 @@ ordered_before j k p q i a b t time does at quiet apart lt =
     let le : i ≤ k = omega arith in
     let front : interval_at (take k j) q i ≡ interval_at j q i = ap (λ (xs : List Event). count_of is_closing xs q) (take-take i k j le) in
     ((λ h. (let below = counts.0 (past.0 h) in omega arith)), (λ below. past.1 (counts.1 (omega arith))))
-
--- what a processor's past has and an event of it had not is what lies between the two timestamps
-pub new_by_times : (j : List Event) (k p q i : ℕ) (a b : Kind) (t u : ℕ → ℕ) → IsTimeAt j k t → IsTimeOf j p u → Does j i q a → Does j k p b → q ≢ p → (InPast j p i × (HappensBefore j i k → ⊥)) ↔ ((t q ≤ interval_at j q i) × (interval_at j q i < u q))
-new_by_times j k p q i a b t u before now does at apart =
-    let old = ordered_by_time j k p q i a b t before does at apart in
-    let all = covered j p q i a u now does apart in
-    ((λ x. (not_old (λ lt. x.1 (old.1 lt)), all.0 x.0)), (λ y. (all.1 y.1, λ h. (let lt = old.0 h in let le = y.0 in omega arith))))
-  where
-    not_old : (interval_at j q i < t q → ⊥) → t q ≤ interval_at j q i
-    not_old h = elim (cases_lt (interval_at j q i) (t q)) [ inl lt ↦ absurd (h lt) | inr le ↦ le ]

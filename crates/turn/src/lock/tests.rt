@@ -1,14 +1,16 @@
-ghost use Rattle.std.specs.Prelude.{◌≡◌, ◌*◌, ◌^◌, ◌<◌};
-ghost use Rattle.turn.specs.Chairs.{lock, IsOutside, IsSameChair, AreAll};
+ghost use Rattle.std.specs.Prelude.{◌≡◌, ◌*◌, ◌^◌, ◌<◌, IfOk};
+ghost use Rattle.turn.specs.Chairs.{lock, lock_id, IsOutside, IsSameChair, AreAll};
 
-use super::{ArrayLock, Lock, TicketLock};
-use crate::board::Board;
+use super::{ArrayLock, Lock, NEXT, TicketLock};
+use crate::board::{Board, Counter, Row};
 use crate::chair::{Chair, Spent};
 use crate::contract::{Keeper, Outcome, Turn};
-use std::alloc::Global;
+use std::alloc::{AllocError, Global};
 use std::process::Abort;
 use std::sync::{Arc, Wait};
 use std::test::Fail;
+use std::thread::{self, Threads, join};
+use std::time::{Clock, Duration};
 
 // Keeps nothing.
 struct Anything;
@@ -18,7 +20,9 @@ impl<B> Keeper<B> for Anything {
 
     ghost fact = { λ _ _. Unit {0} };
 
-    ghost first = { tt };
+    ghost first = { λ _. tt };
+
+    ghost nobody = { tt };
 }
 
 impl<B> Outcome<B, ()> for Anything {
@@ -42,7 +46,7 @@ fn pass_through<B, T: Turn<B, Anything>, R: Wait>(
 
 // The words after the next number.
 fn shown<B, K: Keeper<B>, W: Board, const ENTRIES: u64>(lock: &Lock<B, K, W, ENTRIES>) -> [u64; 2] {
-    let words = lock.table.word_count();
+    let words = lock.layout.words;
     let first = if 1 < words {
         lock.table.shared.peek(1)
     } else {
@@ -155,6 +159,106 @@ fn drops_its_book<T: Turn<Arc<u8>, Anything> + Drop, R: Abort>(rt: &R, alloc: Gl
 fn a_book_is_dropped_with_its_lock(rt: HostRuntime) {
     drops_its_book::<TicketLock<Arc<u8>, Anything, 3>, _>(&rt, rt.alloc());
     drops_its_book::<ArrayLock<Arc<u8>, Anything, 3>, _>(&rt, rt.alloc());
+}
+
+// A lock over 7 with two chairs, each of which may enter three times.
+fn open_two<W: Board + Sync>(
+    alloc: Global,
+) -> Result<
+    (
+        Lock<u64, Anything, W, 3>,
+        Chair<u64, Anything>,
+        Chair<u64, Anything>,
+    ),
+    AllocError,
+>
+    ensures first { IfOk result (λ r. (lock r.1 ≡ lock_id r.0.table.shared.table_id 3) × IsOutside r.1) }
+    ensures second { IfOk result (λ r. (lock r.2 ≡ lock_id r.0.table.shared.table_id 3) × IsOutside r.2) }
+{
+    let (turn, mut chairs) = Lock::<u64, Anything, W, 3>::new(alloc, 7, 2)?;
+    let Some(second) = chairs.pop() else {
+        unreachable!()
+    };
+    let Some(first) = chairs.pop() else {
+        unreachable!()
+    };
+    Ok((turn, first, second))
+}
+
+// Waits until so many numbers were drawn.
+fn wait_for_draws<W: Board, R: Wait>(rt: &R, turn: &Lock<u64, Anything, W, 3>, draws: u64) {
+    for _ in rt.forever() {
+        if turn.table.shared.peek(NEXT) == draws {
+            return;
+        }
+        thread::yield_now();
+    }
+}
+
+// Enters, stays inside until the other chair has drawn and, most likely, looked, and hands in the next book.
+fn leaves_late<W: Board + Sync, R: Wait + Clock>(
+    rt: &R,
+    turn: &Lock<u64, Anything, W, 3>,
+    mut chair: Chair<u64, Anything>,
+) -> Result<u64, Spent>
+    requires own { lock chair ≡ lock_id turn.now.table.shared.table_id 3 }
+    requires outside { IsOutside chair }
+{
+    let (held, book) = turn.enter(rt, &mut chair)?;
+    wait_for_draws(rt, turn, 2);
+    thread::sleep(rt, Duration::from_millis(20));
+    turn.leave::<Anything>(&mut chair, held, book.wrapping_add(1));
+    Ok(book)
+}
+
+// Enters once the other chair has drawn.
+fn enters_second<W: Board + Sync, R: Wait>(
+    rt: &R,
+    turn: &Lock<u64, Anything, W, 3>,
+    mut chair: Chair<u64, Anything>,
+) -> Result<u64, Spent>
+    requires own { lock chair ≡ lock_id turn.now.table.shared.table_id 3 }
+    requires outside { IsOutside chair }
+{
+    wait_for_draws(rt, turn, 1);
+    let (held, book) = turn.enter(rt, &mut chair)?;
+    turn.leave::<Anything>(&mut chair, held, book);
+    Ok(book)
+}
+
+// The books that two chairs find, of which the second draws while the first is inside. A wait that looks once and never
+// again doesn't end here.
+fn in_turn<W: Board + Sync, R: Threads + Wait + Clock + Sync>(
+    rt: &R,
+    alloc: Global,
+) -> Result<(Result<u64, Spent>, Result<u64, Spent>), AllocError> {
+    let (turn, first, second) = open_two::<W>(alloc)?;
+    let shared = &turn;
+    Ok(join(
+        rt,
+        move || -> Result<u64, Spent>
+            requires { (lock first ≡ lock_id shared.now.table.shared.table_id 3) × IsOutside first }
+        { leaves_late(rt, shared, first) },
+        move || -> Result<u64, Spent>
+            requires { (lock second ≡ lock_id shared.now.table.shared.table_id 3) × IsOutside second }
+        { enters_second(rt, shared, second) },
+    ))
+}
+
+#[test]
+fn a_chair_waits_for_the_one_inside(rt: HostRuntime) -> Result<(), Fail> {
+    for _ in 0..10 {
+        assert_eq!(rt; in_turn::<Counter, _>(&rt, rt.alloc())?, (Ok(7), Ok(8)));
+        assert_eq!(rt; in_turn::<Row, _>(&rt, rt.alloc())?, (Ok(7), Ok(8)));
+    }
+    Ok(())
+}
+
+#[test]
+fn the_text_of_a_spent_chair(rt: HostRuntime) -> Result<(), Fail> {
+    let text = format!(in rt.alloc(); "{Spent}")?;
+    assert!(rt; text.as_str() == "lock entries spent");
+    Ok(())
 }
 
 fn crosses<T: Send + Drop>(_it: &T) {}

@@ -4,6 +4,7 @@ use Rattle.std.proofs.lemmas.List.{length-take-le}
 use Rattle.std.proofs.lemmas.Bool.{cases_lt}
 use Rattle.journal.specs.declared.event.Event.{Event}
 use Rattle.journal.specs.declared.event.Kind.TheVariants.{Load}
+use Rattle.journal.specs.Did.{event}
 use Rattle.journal.specs.Pasts.{InPast}
 use Rattle.journal.specs.Times.{IsTimeOf}
 use Rattle.journal.specs.Races.{Race}
@@ -17,32 +18,32 @@ use Rattle.journal.proofs.race.first_race_of.Goals as goal
 
 -- the event at this place
 abbrev here : List Event → ℕ → Event
-here events place = slice_index_or events place (record { processor = 0; kind = Load 0 0 })
+here events place = slice_index_or events place (event 0 (Load 0 0))
 
 pub of-requires : goal.of-requires
 of-requires c =
-    let at = slice_get-get_or c.args.events.now c.loop-place.place (record { processor = 0; kind = Load 0 0 }) (omega arith) in
+    let at = slice_get-get_or c.args.events.now c.loop-place.place (event 0 (Load 0 0)) (omega arith) in
     let present = c.requires.processors c.loop-place.place (here c.args.events.now c.loop-place.place) at in
     let long = c.loop-place.invariant.0.long in
     omega (arith, c.requires.few_processors)
 
 pub race_at-requires-clause-at : goal.race_at-requires-clause-at
-race_at-requires-clause-at c = slice_get-get_or c.args.events.now c.loop-place.place (record { processor = 0; kind = Load 0 0 }) (omega arith)
+race_at-requires-clause-at c = slice_get-get_or c.args.events.now c.loop-place.place (event 0 (Load 0 0)) (omega arith)
 
 pub race_at-requires-clause-stores : goal.race_at-requires-clause-stores
 race_at-requires-clause-stores c =
-    let at = slice_get-get_or c.args.events.now c.loop-place.place (record { processor = 0; kind = Load 0 0 }) (omega arith) in
+    let at = slice_get-get_or c.args.events.now c.loop-place.place (event 0 (Load 0 0)) (omega arith) in
     subst (λ n. AddressInRange n (here c.args.events.now c.loop-place.place).kind) (sym c.loop-place.invariant.1.stores_long) (c.requires.addresses c.loop-place.place (here c.args.events.now c.loop-place.place) at)
 
 pub race_at-requires-clause-loads : goal.race_at-requires-clause-loads
 race_at-requires-clause-loads c =
-    let at = slice_get-get_or c.args.events.now c.loop-place.place (record { processor = 0; kind = Load 0 0 }) (omega arith) in
+    let at = slice_get-get_or c.args.events.now c.loop-place.place (event 0 (Load 0 0)) (omega arith) in
     subst (λ n. AddressInRange n (here c.args.events.now c.loop-place.place).kind) (sym c.loop-place.invariant.1.loads_long) (c.requires.addresses c.loop-place.place (here c.args.events.now c.loop-place.place) at)
 
 pub race_at-requires-clause-time : goal.race_at-requires-clause-time
 race_at-requires-clause-time c =
     let e = here c.args.events.now c.loop-place.place in
-    let at = slice_get-get_or c.args.events.now c.loop-place.place (record { processor = 0; kind = Load 0 0 }) (omega arith) in
+    let at = slice_get-get_or c.args.events.now c.loop-place.place (event 0 (Load 0 0)) (omega arith) in
     let present = c.requires.processors c.loop-place.place e at in
     let lt : e.processor < 16 = omega (arith, c.requires.few_processors) in
     time_equal (take c.loop-place.place c.args.events.now) (InPast (take c.loop-place.place c.args.events.now) e.processor) (entry c.loop-place.clocks.processors.items e.processor) (slice_index c.of.result.now) (λ q. sym (c.of.ensures q)) (c.loop-place.invariant.0.times e.processor lt)
@@ -56,14 +57,14 @@ returns-in-Some c = record {
 
 pub note-requires-clause-processor : goal.note-requires-clause-processor
 note-requires-clause-processor c =
-    let at = slice_get-get_or c.args.events.now c.loop-place.place (record { processor = 0; kind = Load 0 0 }) (omega arith) in
+    let at = slice_get-get_or c.args.events.now c.loop-place.place (event 0 (Load 0 0)) (omega arith) in
     let present = c.requires.processors c.loop-place.place (here c.args.events.now c.loop-place.place) at in
     omega (arith, c.requires.few_processors)
 
 pub note-requires-clause-interval : goal.note-requires-clause-interval
 note-requires-clause-interval c =
     let e = here c.args.events.now c.loop-place.place in
-    let at = slice_get-get_or c.args.events.now c.loop-place.place (record { processor = 0; kind = Load 0 0 }) (omega arith) in
+    let at = slice_get-get_or c.args.events.now c.loop-place.place (event 0 (Load 0 0)) (omega arith) in
     let present = c.requires.processors c.loop-place.place e at in
     let lt : e.processor < 16 = omega (arith, c.requires.few_processors) in
     let small = time_small (take c.loop-place.place c.args.events.now) (InPast (take c.loop-place.place c.args.events.now) e.processor) (entry c.loop-place.clocks.processors.items e.processor) e.processor (c.loop-place.invariant.0.times e.processor lt) in
@@ -74,18 +75,18 @@ note-requires-clause-interval c =
 
 pub note-requires-clause-stores : goal.note-requires-clause-stores
 note-requires-clause-stores c =
-    let at = slice_get-get_or c.args.events.now c.loop-place.place (record { processor = 0; kind = Load 0 0 }) (omega arith) in
+    let at = slice_get-get_or c.args.events.now c.loop-place.place (event 0 (Load 0 0)) (omega arith) in
     subst (λ n. AddressInRange n (here c.args.events.now c.loop-place.place).kind) (sym c.loop-place.invariant.1.stores_long) (c.requires.addresses c.loop-place.place (here c.args.events.now c.loop-place.place) at)
 
 pub note-requires-clause-loads : goal.note-requires-clause-loads
 note-requires-clause-loads c =
-    let at = slice_get-get_or c.args.events.now c.loop-place.place (record { processor = 0; kind = Load 0 0 }) (omega arith) in
+    let at = slice_get-get_or c.args.events.now c.loop-place.place (event 0 (Load 0 0)) (omega arith) in
     subst (λ n. AddressInRange n (here c.args.events.now c.loop-place.place).kind) (sym c.loop-place.invariant.1.loads_long) (c.requires.addresses c.loop-place.place (here c.args.events.now c.loop-place.place) at)
 
 pub loop-place-preserved : goal.loop-place-preserved
 loop-place-preserved c =
     let e = here c.args.events.now c.loop-place.place in
-    let at = slice_get-get_or c.args.events.now c.loop-place.place (record { processor = 0; kind = Load 0 0 }) (omega arith) in
+    let at = slice_get-get_or c.args.events.now c.loop-place.place (event 0 (Load 0 0)) (omega arith) in
     let present = c.requires.processors c.loop-place.place e at in
     let lt : e.processor < 16 = omega (arith, c.requires.few_processors) in
     let front = take c.loop-place.place c.args.events.now in

@@ -4,6 +4,7 @@ use Rattle.std.proofs.lemmas.Option.{slice_get-get_or, slice_get_within}
 use Rattle.std.proofs.lemmas.Bool.{cases_lt}
 use Rattle.journal.specs.declared.event.Event.{Event}
 use Rattle.journal.specs.declared.event.Kind.TheVariants.{Load}
+use Rattle.journal.specs.Did.{event}
 use Rattle.journal.specs.Events.{count_of, is_closing}
 use Rattle.journal.specs.Races.{Race}
 use Rattle.journal.proofs.Passes.RaceSteps.{race_by_time, race_events, count_next, cond-and_true, cond-and_false}
@@ -12,14 +13,14 @@ use Rattle.journal.proofs.race.first_racing.Goals.{else-is_conflict-via-then-is_
 
 -- the event at this place
 abbrev here : List Event → ℕ → Event
-here events place = slice_index_or events place (record { processor = 0; kind = Load 0 0 })
+here events place = slice_index_or events place (event 0 (Load 0 0))
 
 pub returns-then-time-earlier : goal.returns-then-time-earlier
 returns-then-time-earlier c =
     let e = here c.args.events.now c.loop-i.i in
     let lt = c.loop-i-test.true in
     let within = slice_get_within c.args.events.now c.args.place c.args.event c.requires.at in
-    let at = slice_get-get_or c.args.events.now c.loop-i.i (record { processor = 0; kind = Load 0 0 }) (omega arith) in
+    let at = slice_get-get_or c.args.events.now c.loop-i.i (event 0 (Load 0 0)) (omega arith) in
     let both = c.if-is_conflict.ensures.0 refl in
     let count = c.loop-i.invariant.1 e.processor (c.requires.processors c.loop-i.i e at) in
     let le = c.if-time-earlier.true in (
@@ -32,7 +33,7 @@ loop-i-preserved c =
     let e = here c.args.events.now c.loop-i.i in
     let lt = c.loop-i-test.true in
     let within = slice_get_within c.args.events.now c.args.place c.args.event c.requires.at in
-    let at = slice_get-get_or c.args.events.now c.loop-i.i (record { processor = 0; kind = Load 0 0 }) (omega arith) in
+    let at = slice_get-get_or c.args.events.now c.loop-i.i (event 0 (Load 0 0)) (omega arith) in
     let count = c.loop-i.invariant.1 e.processor (c.requires.processors c.loop-i.i e at) in
     let next = λ (q : ℕ). count_next is_closing c.args.events.now c.loop-i.i q e at in
     let long : length c.if-closes.closings ≡ 16 = elim c.if-closes.branch [

@@ -1,7 +1,7 @@
 use Rattle.std.proofs.lemmas.Result.{err_from_is_err_and, MatchResult-weaker}
 use Rattle.std.proofs.KnownBytes.{Appends-trans}
 use Rattle.lrc.specs.ReportText.{verdict_line, traffic_line}
-use Rattle.lrc.proofs.Written.{front_then, front_longer}
+use Rattle.lrc.proofs.Writing.{front_then, front_longer}
 use Rattle.lrc.proofs.render.render.Goals as goal
 
 pub returns-in_err-write_words : goal.returns-in_err-write_words

@@ -1,4 +1,4 @@
-use Rattle.lrc.proofs.Written.{under_way_more}
+use Rattle.lrc.proofs.Writing.{under_way_more}
 use Rattle.lrc.proofs.render.write_bytes.Goals as goal
 
 pub loop-rest-preserved : goal.loop-rest-preserved

@@ -1,5 +1,5 @@
 use Rattle.std.proofs.Common.{length}
-use Rattle.lrc.proofs.Written.{IsUnderWay}
+use Rattle.lrc.proofs.Writing.{IsUnderWay}
 use Rattle.lrc.proofs.render.write_bytes.Given as goal
 
 abbrev pub invariant-loop-rest : goal.invariant-loop-rest

@@ -1,7 +1,7 @@
 use Rattle.std.proofs.lemmas.Option.{slice_get-get_or}
 use Rattle.std.proofs.lemmas.Result.{err_from_is_err_and}
 use Rattle.lrc.specs.ReportText.{piece_text}
-use Rattle.lrc.proofs.Written.{flat_map_front}
+use Rattle.lrc.proofs.Writing.{flat_map_front}
 use Rattle.lrc.proofs.render.write_line.Goals as goal
 
 pub returns-in_err-write_piece : goal.returns-in_err-write_piece

@@ -1,7 +1,7 @@
 use Rattle.std.proofs.lemmas.Option.{slice_get-get_or}
 use Rattle.std.proofs.lemmas.Result.{err_from_is_err_and}
 use Rattle.lrc.specs.ReportText.{word_line}
-use Rattle.lrc.proofs.Written.{flat_map_front}
+use Rattle.lrc.proofs.Writing.{flat_map_front}
 use Rattle.lrc.proofs.render.write_words.Goals as goal
 
 pub returns-in_err-write_word : goal.returns-in_err-write_word

@@ -1,6 +1,6 @@
 use Rattle.std.proofs.Common.{refl}
 use Rattle.std.proofs.lemmas.Result.{on_ok_weaker}
-use Rattle.lrc.proofs.Calling.{does_add, calls_barrier}
+use Rattle.lrc.proofs.Calls.{does_add, calls_barrier}
 use Rattle.lrc.proofs.run.do_instruction.Goals as goal
 
 pub returns-in_ok-store-in-Add : goal.returns-in_ok-store-in-Add

@@ -1,7 +1,7 @@
 use Rattle.std.proofs.Common.{add-one}
 use Rattle.std.proofs.lemmas.Option.{slice_get-get_or}
 use Rattle.lists.proofs.Places.{take-suc_at}
-use Rattle.lrc.proofs.Calling.{does_more}
+use Rattle.lrc.proofs.Calls.{does_more}
 use Rattle.lrc.proofs.run.do_section.Goals as goal
 
 pub loop-index-preserved : goal.loop-index-preserved

@@ -1,5 +1,5 @@
 use Rattle.std.proofs.Common.{take}
-use Rattle.lrc.specs.Follows.{DoesAll}
+use Rattle.lrc.specs.Alone.{DoesAll}
 use Rattle.lrc.proofs.run.do_section.Given as goal
 
 abbrev pub invariant-loop-index : goal.invariant-loop-index

@@ -2,8 +2,8 @@ use Rattle.std.proofs.Common.{◌∙◌, ap, sym, refl}
 use Rattle.std.proofs.Math.ListN.{get_or-map}
 use Rattle.lrc_script.specs.Plan.{plan_of}
 use Rattle.lrc.specs.Machine.{history}
-use Rattle.lrc.proofs.Calling.{calls_barrier}
-use Rattle.lrc.proofs.Reporting.{first_section, within, report_is, run_history}
+use Rattle.lrc.proofs.Calls.{calls_barrier}
+use Rattle.lrc.proofs.Runs.{first_section, within, report_is, run_history}
 use Rattle.lrc.proofs.run.run_alone.Goals as goal
 
 pub do_section-requires : goal.do_section-requires
@@ -21,4 +21,19 @@ returns-clause-report g c =
     let started = ap history c.in_ok-memory.ensures in
     let all = run_history c.in_ok-memory.memory c.do_section.new.memory c.pass_barrier.new.self c.show.new.memory does.0 c.in_ok-shown.shown.items started does.1 barrier c.in_ok-shown.ensures.calls in
     let addresses = c.in_ok-shown.ensures.calls.same_addresses ∙ barrier.same_addresses ∙ does.1.same_addresses ∙ ap (λ m. m.addresses) c.in_ok-memory.ensures in
-    report_is (plan_of c.args.script.now) c.index.result.now.items does.0 _ c.requires.lawful c.requires.served section.0 (rw (← c.deref.ensures.value) does.2) (c.in_ok-journal.ensures.events ∙ all) (rw (← addresses) c.in_ok-journal.ensures.history) refl (c.in_ok-shown.ensures.addresses ∙ c.deref-2.ensures.value) (c.traffic-traffic.ensures.messages, c.traffic-traffic.ensures.records, c.traffic-traffic.ensures.words)
+    let journal = c.in_ok-journal.ensures.journal in
+    report_is (plan_of c.args.script.now) c.index.result.now.items does.0 _ (record {
+      lawful = c.requires.lawful;
+      served = c.requires.served;
+      section_at = section.0;
+      does = rw (← c.deref.ensures.value) does.2;
+      processors = ap (λ j. j.processors) journal;
+      addresses_are = ap (λ j. j.addresses) journal ∙ addresses;
+      events = ap (λ j. j.events) journal ∙ all;
+      history = rw (← addresses) c.in_ok-journal.ensures.history;
+      quiet = refl;
+      shown = c.in_ok-shown.ensures.addresses ∙ c.deref-2.ensures.value;
+      messages_are = c.traffic-traffic.ensures.messages;
+      records_are = c.traffic-traffic.ensures.records;
+      words_are = c.traffic-traffic.ensures.words;
+    })

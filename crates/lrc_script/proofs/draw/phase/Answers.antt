@@ -2,7 +2,7 @@ use Rattle.std.proofs.Common.{◌++◌, List, arith, ap, ◌∙◌}
 use Rattle.rand_pcg.specs.Lcg.{Lcg}
 use Rattle.lrc_script.specs.declared.script.Instruction.{Instruction}
 use Rattle.lrc_script.specs.Draw.{piece, pieces}
-use Rattle.lrc_script.proofs.Drawing.{ahead_more, ahead_none, pieces_repeated, phase_is}
+use Rattle.lrc_script.proofs.Drawn.Repeated.{ahead_more, ahead_none, pieces_repeated, phase_is}
 use Rattle.lrc_script.proofs.draw.phase.Goals as goal
 
 pub loop-preserved : goal.loop-preserved

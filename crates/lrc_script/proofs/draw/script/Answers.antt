@@ -1,5 +1,5 @@
 use Rattle.lrc_script.specs.Draw.{seeded}
-use Rattle.lrc_script.proofs.Drawing.{drawn_is}
+use Rattle.lrc_script.proofs.Drawn.Repeated.{drawn_is}
 use Rattle.lrc_script.proofs.draw.script.Goals as goal
 
 pub returns : goal.returns

@@ -3,7 +3,7 @@ use Rattle.rand_pcg.specs.Lcg.{Lcg}
 use Rattle.lrc_script.specs.declared.script.Instruction.{Instruction}
 use Rattle.lrc_script.specs.declared.script.Instruction.TheVariants.{Barrier}
 use Rattle.lrc_script.specs.Draw.{phase, more_phases, section}
-use Rattle.lrc_script.proofs.Drawing.{next_phase, ahead_more, ahead_none, phases_repeated}
+use Rattle.lrc_script.proofs.Drawn.Repeated.{next_phase, ahead_more, ahead_none, phases_repeated}
 use Rattle.lrc_script.proofs.draw.section.Goals as goal
 
 pub loop-preserved : goal.loop-preserved

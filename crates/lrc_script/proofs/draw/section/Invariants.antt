@@ -1,6 +1,6 @@
 use Rattle.std.proofs.Common.{◌++◌, ◌-◌}
 use Rattle.lrc_script.specs.Draw.{more_phases}
-use Rattle.lrc_script.proofs.Drawing.{IsAhead}
+use Rattle.lrc_script.proofs.Drawn.Repeated.{IsAhead}
 use Rattle.lrc_script.proofs.draw.section.Given as goal
 
 -- what was drawn before, and what is still drawn

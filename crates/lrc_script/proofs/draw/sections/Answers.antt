@@ -3,7 +3,7 @@ use Rattle.std.specs.Global.{Vec}
 use Rattle.std.proofs.lemmas.List.{map_push}
 use Rattle.lrc_script.specs.declared.script.Instruction.{Instruction}
 use Rattle.lrc_script.specs.Draw.{drawn_sections}
-use Rattle.lrc_script.proofs.Drawing.{one_section, ahead_more, ahead_none, sections_repeated}
+use Rattle.lrc_script.proofs.Drawn.Repeated.{one_section, ahead_more, ahead_none, sections_repeated}
 use Rattle.lrc_script.proofs.draw.sections.Goals as goal
 
 pub loop-preserved : goal.loop-preserved

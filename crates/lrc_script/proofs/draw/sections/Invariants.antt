@@ -1,6 +1,6 @@
 use Rattle.std.proofs.Common.{◌-◌, map}
 use Rattle.lrc_script.specs.Draw.{drawn_sections}
-use Rattle.lrc_script.proofs.Drawing.{IsAhead}
+use Rattle.lrc_script.proofs.Drawn.Repeated.{IsAhead}
 use Rattle.lrc_script.proofs.draw.sections.Given as goal
 
 -- what was drawn before, and what is still drawn

@@ -2,9 +2,9 @@ use Rattle.std.proofs.Common.{◌≡◌, ◌<◌, ◌+◌, ℕ, List, [], ◌≤
 use Rattle.std.specs.Prelude.{All, slice_index_or}
 use Rattle.std.specs.Global.{Vec}
 use Rattle.lrc_script.specs.declared.script.Instruction.{Instruction}
-use Rattle.lrc_script.specs.Plan.{plan_of}
+use Rattle.lrc_script.specs.Plan.{plan_of, items_of}
 use Rattle.lrc_script.specs.Lawful.{barriers}
-use Rattle.lrc_script.proofs.Alike.{IsAlike, items_of, alike_more, alike_all, first_barriers, few_instructions}
+use Rattle.lrc_script.proofs.Faults.Uneven.{IsAlike, alike_more, alike_all, first_barriers, few_instructions}
 use Rattle.lrc_script.proofs.evenness.uneven_line.Goals as goal
 
 pub loop-section-preserved : goal.loop-section-preserved

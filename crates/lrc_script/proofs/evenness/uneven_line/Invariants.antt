@@ -1,4 +1,4 @@
-use Rattle.lrc_script.proofs.Alike.{IsAlike}
+use Rattle.lrc_script.proofs.Faults.Uneven.{IsAlike}
 use Rattle.lrc_script.proofs.evenness.uneven_line.Given as goal
 
 abbrev pub invariant-loop-section : goal.invariant-loop-section

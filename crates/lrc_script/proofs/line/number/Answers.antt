@@ -1,6 +1,6 @@
 use Rattle.std.proofs.Common.{◌≡◌, ◌∙◌, true}
 use Rattle.lrc_script.specs.Reading.{is_decimal}
-use Rattle.lrc_script.proofs.Numbers.{parsed_is, decimal_is_text}
+use Rattle.lrc_script.proofs.Reading.Numbers.{parsed_is, decimal_is_text}
 use Rattle.lrc_script.proofs.line.number.Goals as goal
 
 pub returns-in-Ok : goal.returns-in-Ok

@@ -3,7 +3,7 @@ use borrow.Author.Tests.{tests}
 use Rattle.std.proofs.lemmas.List.{take_rest}
 use Rattle.std.proofs.lemmas.Iterator.{YieldsList-from_slice}
 use Rattle.std.proofs.lemmas.Iterator.Search.{position_from_yields_List}
-use Rattle.lrc_script.proofs.Splits.{split_from_some, split_from_none}
+use Rattle.lrc_script.proofs.Reading.Splits.{split_from_some, split_from_none}
 use Rattle.lrc_script.proofs.line.split_at_byte.Goals as goal
 
 pub returns-in-Some-clause-parts : goal.returns-in-Some-clause-parts

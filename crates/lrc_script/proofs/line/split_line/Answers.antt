@@ -1,4 +1,4 @@
-use Rattle.lrc_script.proofs.Positions.{cut_from_parts, uncut_from_parts}
+use Rattle.lrc_script.proofs.Faults.Places.{cut_from_parts, uncut_from_parts}
 use Rattle.lrc_script.proofs.line.split_line.Goals as goal
 
 pub returns-in-Some : goal.returns-in-Some

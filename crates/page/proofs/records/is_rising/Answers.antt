@@ -1,6 +1,6 @@
 use Rattle.std.proofs.Common.{arith}
 use Rattle.std.proofs.lemmas.Bool.{false≢true}
-use Rattle.page.proofs.Rising.{falls, rises_more}
+use Rattle.page.proofs.Changes.{falls, rises_more}
 use Rattle.page.proofs.records.is_rising.Goals as goal
 
 pub returns-then-words-i : goal.returns-then-words-i

@@ -1,4 +1,4 @@
-use Rattle.page.proofs.Rising.{RisesTo}
+use Rattle.page.proofs.Changes.{RisesTo}
 use Rattle.page.proofs.records.is_rising.Given as goal
 
 abbrev pub invariant-loop-i : goal.invariant-loop-i

@@ -3,6 +3,7 @@ use Rattle.std.proofs.lemmas.Option.{slice_get-get_or}
 use Rattle.std.proofs.lemmas.List.{length-take-le}
 use Rattle.journal.specs.declared.event.Event.{Event}
 use Rattle.journal.specs.declared.event.Kind.TheVariants.{Load}
+use Rattle.journal.specs.Did.{event}
 use Rattle.journal.specs.Events.{is_arrive, is_depart}
 use Rattle.journal.specs.Entries.{entry}
 use Rattle.journal.specs.Clocks.{AreClocks}
@@ -12,17 +13,17 @@ use Rattle.journal.proofs.clocks.Clocks.note.Goals as goal
 
 -- the event at this place
 abbrev here : List Event → ℕ → Event
-here events place = slice_index_or events place (record { processor = 0; kind = Load 0 0 })
+here events place = slice_index_or events place (event 0 (Load 0 0))
 
 pub returns-then-is_plain-clause-clocks : goal.returns-then-is_plain-clause-clocks
 returns-then-is_plain-clause-clocks c =
     let e = here c.args.events.now c.args.place in
-    let at = slice_get-get_or c.args.events.now c.args.place (record { processor = 0; kind = Load 0 0 }) c.requires.place in
+    let at = slice_get-get_or c.args.events.now c.args.place (event 0 (Load 0 0)) c.requires.place in
     subst (λ xs. AreClocks xs c.args.self.now) (sym (front_next c.args.events.now c.args.place e at)) (clocks_plain (take c.args.place c.args.events.now) e c.args.self.now (c.if-is_plain.ensures.takes refl) (c.if-is_plain.ensures.closes refl) c.requires.so_far)
 
 pub own_after-own-requires-clause-processor : goal.own_after-own-requires-clause-processor
 own_after-own-requires-clause-processor c =
-    let at = slice_get-get_or c.args.events.now c.args.place (record { processor = 0; kind = Load 0 0 }) c.requires.place in
+    let at = slice_get-get_or c.args.events.now c.args.place (event 0 (Load 0 0)) c.requires.place in
     let lt = c.requires.processors c.args.place (here c.args.events.now c.args.place) at in
     let few_processors = c.requires.so_far.few in
     omega arith
@@ -30,27 +31,27 @@ own_after-own-requires-clause-processor c =
 pub own_after-own-requires-clause-room : goal.own_after-own-requires-clause-room
 own_after-own-requires-clause-room c =
     let e = here c.args.events.now c.args.place in
-    let at = slice_get-get_or c.args.events.now c.args.place (record { processor = 0; kind = Load 0 0 }) c.requires.place in
+    let at = slice_get-get_or c.args.events.now c.args.place (event 0 (Load 0 0)) c.requires.place in
     let long = length-take-le c.args.place c.args.events.now (omega arith) in
     let few : length (take c.args.place c.args.events.now) < 2 ^ 22 = omega arith in
     own_room (take c.args.place c.args.events.now) c.args.self.now e.processor e.kind e.processor (c.requires.processors c.args.place e at) few c.requires.so_far
 
 pub own_after-own-requires-clause-left : goal.own_after-own-requires-clause-left
 own_after-own-requires-clause-left c =
-    let at = slice_get-get_or c.args.events.now c.args.place (record { processor = 0; kind = Load 0 0 }) c.requires.place in
+    let at = slice_get-get_or c.args.events.now c.args.place (event 0 (Load 0 0)) c.requires.place in
     let e = here c.args.events.now c.args.place in
     c.requires.so_far.left e.processor (c.requires.processors c.args.place e at)
 
 pub keep-requires : goal.keep-requires
 keep-requires c =
-    let at = slice_get-get_or c.args.events.now c.args.place (record { processor = 0; kind = Load 0 0 }) c.requires.place in
+    let at = slice_get-get_or c.args.events.now c.args.place (event 0 (Load 0 0)) c.requires.place in
     let lt = c.requires.processors c.args.place (here c.args.events.now c.args.place) at in
     let few_processors = c.requires.so_far.few in
     omega arith
 
 pub index_mut-requires : goal.index_mut-requires
 index_mut-requires c =
-    let at = slice_get-get_or c.args.events.now c.args.place (record { processor = 0; kind = Load 0 0 }) c.requires.place in
+    let at = slice_get-get_or c.args.events.now c.args.place (event 0 (Load 0 0)) c.requires.place in
     let lt = c.requires.processors c.args.place (here c.args.events.now c.args.place) at in
     let same = ap (λ v. vec_len v) c.keep.ensures.processors in
     let long = c.requires.so_far.long in
@@ -59,14 +60,14 @@ index_mut-requires c =
 
 pub count-requires-clause-processor : goal.count-requires-clause-processor
 count-requires-clause-processor c =
-    let at = slice_get-get_or c.args.events.now c.args.place (record { processor = 0; kind = Load 0 0 }) c.requires.place in
+    let at = slice_get-get_or c.args.events.now c.args.place (event 0 (Load 0 0)) c.requires.place in
     let lt = c.requires.processors c.args.place (here c.args.events.now c.args.place) at in
     let few_processors = c.requires.so_far.few in
     omega arith
 
 pub let_go-requires-clause-present : goal.let_go-requires-clause-present
 let_go-requires-clause-present c =
-    let at = slice_get-get_or c.args.events.now c.args.place (record { processor = 0; kind = Load 0 0 }) c.requires.place in
+    let at = slice_get-get_or c.args.events.now c.args.place (event 0 (Load 0 0)) c.requires.place in
     let lt = c.requires.processors c.args.place (here c.args.events.now c.args.place) at in
     let same = c.count.ensures.present in
     let old = c.keep.ensures.present in
@@ -75,7 +76,7 @@ let_go-requires-clause-present c =
 pub returns-clause-clocks : goal.returns-clause-clocks
 returns-clause-clocks c =
     let e = here c.args.events.now c.args.place in
-    let at = slice_get-get_or c.args.events.now c.args.place (record { processor = 0; kind = Load 0 0 }) c.requires.place in
+    let at = slice_get-get_or c.args.events.now c.args.place (event 0 (Load 0 0)) c.requires.place in
     let lt = c.requires.processors c.args.place e at in
     let own = c.own_after-own.result in
     let old = c.keep.ensures in

@@ -2,6 +2,7 @@ use Rattle.std.proofs.Common.{ℕ, List, Option, Some, None, MatchOption, IfSome
 use Rattle.std.proofs.lemmas.Result.{IfOk-weaker}
 use Rattle.journal.specs.declared.event.Event.{Event}
 use Rattle.journal.specs.declared.event.Kind.TheVariants.{Load}
+use Rattle.journal.specs.Did.{event}
 use Rattle.journal.specs.InRange.{AddressesInRange}
 use Rattle.journal.specs.Flat.{Replays}
 use Rattle.journal.specs.Loads.{Explained}
@@ -15,7 +16,7 @@ returns-clause-first c = rw (← c.self.view_is, ← c.deref.ensures.value) c.fi
 -- up to the second event of the first race an explained journal replays
 flat_before : (addresses : ℕ) (events : List Event) → AddressesInRange addresses events → (o : Option (ℕ × ℕ)) → MatchOption o (RaceFree events) (λ r. IsFirstRace events r.0 r.1) → IfSome o (λ r. Explained events → Replays (replicate addresses 0) (take r.1 events))
 flat_before addresses events in_range None h = tt
-flat_before addresses events in_range (Some r) h = λ explained. flat_before_race addresses events r.0 r.1 (λ i p a v d. in_range i (record { processor = p; kind = Load a v }) d) explained h
+flat_before addresses events in_range (Some r) h = λ explained. flat_before_race addresses events r.0 r.1 (λ i p a v d. in_range i (event p (Load a v)) d) explained h
 
 pub returns-clause-flat : goal.returns-clause-flat
 returns-clause-flat c =

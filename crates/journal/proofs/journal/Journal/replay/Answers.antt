@@ -1,6 +1,7 @@
 use Rattle.std.proofs.Common.{IsSome, replicate, ◌↔◌}
 use Rattle.std.proofs.lemmas.Result.{IfOk-weaker}
 use Rattle.journal.specs.declared.event.Kind.TheVariants.{Load}
+use Rattle.journal.specs.Did.{event}
 use Rattle.journal.specs.InRange.{AddressesInRange}
 use Rattle.journal.specs.Flat.{Replays}
 use Rattle.journal.specs.Loads.{Explained}
@@ -16,5 +17,5 @@ returns-clause-flat c =
     let log = c.args.self.now in
     let in_range : AddressesInRange log.addresses log.events = rw (← c.self.view_is) c.self.invariant.in_range in
     IfOk-weaker c.replay_of.result (λ o. IsSome o ↔ Replays (replicate log.addresses 0) log.events) (λ o. Explained log.events → RaceFree log.events → IsSome o)
-    (λ o same explained free. same.1 (flat_memory log.addresses log.events (λ i p a v d. in_range i (record { processor = p; kind = Load a v }) d) explained free))
+    (λ o same explained free. same.1 (flat_memory log.addresses log.events (λ i p a v d. in_range i (event p (Load a v)) d) explained free))
     (returns-clause-replays c)

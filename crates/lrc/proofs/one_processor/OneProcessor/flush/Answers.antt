@@ -1,4 +1,4 @@
-use Rattle.lrc.proofs.Histories.{all_first, all_in_range}
+use Rattle.lrc.proofs.History.{all_first, all_in_range}
 use Rattle.lrc.proofs.one_processor.OneProcessor.flush.Goals as goal
 
 pub append_all-requires-clause-processor : goal.append_all-requires-clause-processor

@@ -1,7 +1,7 @@
 use Rattle.std.proofs.Common.{◌<◌, arith}
 use Rattle.std.specs.Vec.{vec_len}
 use Rattle.std.proofs.lemmas.Option.{slice_get_read}
-use Rattle.lrc.proofs.Histories.{words_load, words_long}
+use Rattle.lrc.proofs.History.{words_load, words_long}
 use Rattle.lrc.proofs.one_processor.OneProcessor.load.Goals as goal
 
 pub index-value-requires : goal.index-value-requires

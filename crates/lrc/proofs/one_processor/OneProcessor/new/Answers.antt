@@ -1,5 +1,5 @@
 use Rattle.std.proofs.Common.{ap, arith, rules}
-use Rattle.lrc.proofs.Histories.{history_none}
+use Rattle.lrc.proofs.History.{history_none}
 use Rattle.lrc.proofs.one_processor.OneProcessor.new.Goals as goal
 
 pub invariant_of-result : goal.invariant_of-result

@@ -1,5 +1,5 @@
 use Rattle.std.proofs.Common.{arith}
-use Rattle.lrc.proofs.Histories.{all_first, all_in_range, words_barrier}
+use Rattle.lrc.proofs.History.{all_first, all_in_range, words_barrier}
 use Rattle.lrc.proofs.one_processor.OneProcessor.pass_barrier.Goals as goal
 
 pub append_all-requires-clause-processor : goal.append_all-requires-clause-processor

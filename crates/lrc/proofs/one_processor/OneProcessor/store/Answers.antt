@@ -1,5 +1,5 @@
 use Rattle.std.proofs.Common.{◌++◌, arith}
-use Rattle.lrc.proofs.Histories.{words_store, words_long}
+use Rattle.lrc.proofs.History.{words_store, words_long}
 use Rattle.lrc.proofs.one_processor.OneProcessor.store.Goals as goal
 
 pub index_mut-requires : goal.index_mut-requires

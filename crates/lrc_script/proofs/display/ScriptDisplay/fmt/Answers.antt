@@ -4,7 +4,7 @@ use Rattle.std.specs.Fmt.{HasWritten, decimal}
 use Rattle.std.proofs.Output.{has_written_append, has_written_of_eq}
 use Rattle.std.proofs.lemmas.List.{append-nil}
 use Rattle.lrc_script.specs.Text.{line_text, section_line, instruction_line}
-use Rattle.lrc_script.proofs.Printing.{section_texts-more}
+use Rattle.lrc_script.proofs.Text.{section_texts-more}
 use Rattle.lrc_script.proofs.display.ScriptDisplay.fmt.Goals as goal
 
 pub loop-k-preserved : goal.loop-k-preserved

@@ -1,5 +1,5 @@
 use Rattle.std.proofs.Common.{refl}
-use Rattle.lrc_script.proofs.Steps.{step_other}
+use Rattle.lrc_script.proofs.Reading.Steps.{step_other}
 use Rattle.lrc_script.proofs.progress.Progress.step.Goals as goal
 
 pub returns-in-Some : goal.returns-in-Some

@@ -6,7 +6,7 @@ use Rattle.page.specs.Carries.{FitsIn}
 use Rattle.page.specs.Marks.{marks_of}
 use Rattle.lists.proofs.Harvests.{harvest_rises}
 use Rattle.page.proofs.Harvested.{harvest_fits}
-use Rattle.page.proofs.Merged.{carries_record, carries_none}
+use Rattle.page.proofs.Carries.{carries_record, carries_none}
 use Rattle.page.proofs.pages.Page.harvest.Goals as goal
 
 pub returns-then-is_clean-clause-carries : goal.returns-then-is_clean-clause-carries

@@ -2,7 +2,7 @@ use Rattle.std.proofs.Common.{ℕ, length, ap, sym, ◌∙◌, subst}
 use Rattle.std.proofs.lemmas.Bool.{eqb-true, eq-eqb}
 use Rattle.page.specs.Contents.{Contents, IsClean}
 use Rattle.page.specs.Marks.{marks_of}
-use Rattle.page.proofs.MarkLemmas.{marks_of-zero, zero_from_clean}
+use Rattle.page.proofs.Marks.{marks_of-zero, zero_from_clean}
 use Rattle.page.proofs.pages.Page.is_clean.Goals as goal
 
 pub returns : goal.returns

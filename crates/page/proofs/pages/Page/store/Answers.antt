@@ -1,7 +1,7 @@
 use Rattle.std.proofs.Common.{◌<◌, true, length, set, ap, ◌∙◌, arith}
 use Rattle.std.proofs.lemmas.List.{length-set}
 use Rattle.page.specs.Contents.{Contents}
-use Rattle.page.proofs.MarkLemmas.{marks_of-set, IsBelow-set}
+use Rattle.page.proofs.Marks.{marks_of-set, IsBelow-set}
 use Rattle.page.proofs.pages.Page.store.Goals as goal
 
 pub invariant_of-self : goal.invariant_of-self

@@ -1,5 +1,5 @@
 use Rattle.std.proofs.Common.{length}
-use Rattle.page.proofs.MarkLemmas.{marks_of-zero}
+use Rattle.page.proofs.Marks.{marks_of-zero}
 use Rattle.page.proofs.pages.Page.zero.Goals as goal
 
 pub returns-clause-clean : goal.returns-clause-clean

@@ -23,7 +23,7 @@ join_seat-requires g c =
       before.1,
       omega arith,
       gathers (Option g.row.B.Denot) (ChairState g.row.B.Denot g.row.K-View.Denot) lock.table.shared.key.seats (Turns g.K.Keeper.fact (g.W.Board.shows lock.table.shared.key.seats) lock.table.shared.key.entries)
-          c.loop-chair.whole.id c.into_seat.result.id c.loop-chair.whole.me.0 c.into_seat.result.me.0 (chair_run false 0 (fresh g.K.Keeper.first) []) inv.live before.3 refl before.2,
+          c.loop-chair.whole.id c.into_seat.result.id c.loop-chair.whole.me.0 c.into_seat.result.me.0 (chair_run false 0 (fresh g.K.Keeper.nobody) []) inv.live before.3 refl before.2,
     )
 
 pub loop-chair-preserved : goal.loop-chair-preserved

@@ -1,3 +1,0 @@
--- What the tests carry from call to call.
-pub mod Harness
-pub mod Followed

@@ -1,0 +1,4 @@
+pub mod Telling
+pub mod Keeping
+pub mod Records
+pub mod Reading

@@ -1,0 +1,288 @@
+//! Tests of the book, as lists of steps.
+ghost use Rattle.std.specs.Prelude.{◌≡◌, ◌<◌, ◌≤◌, length};
+
+mod limits;
+mod rows;
+
+use crate::Told;
+use Call::{Arrive, Ask, Audit, HandIn, Last, Release, Set, Take, Watch};
+use Step::{Does, Gets, IsDue, Keeps, Refuses};
+use Words::{One, Two};
+use book::Refused;
+use interval::{Notice, Sent};
+use journal::{Event, Journal, Kind};
+use std::alloc::{AllocError, Global};
+use std::process::Abort;
+use std::test::Fail;
+use transit::Message;
+use vtime::VTime;
+
+/// An address and the word that is stored there.
+type Store = (usize, u32);
+
+/// No stores.
+const NONE: &[Store] = &[];
+
+/// A call of the book. A number of loads goes with some, before the stores of the step.
+#[derive(Clone, Copy)]
+enum Call {
+    HandIn(usize),
+    Audit(usize),
+    Last(usize),
+    Ask(usize),
+    Release(usize),
+    Arrive,
+    Set(usize),
+    Watch(usize),
+    Take,
+}
+
+/// What a call answers.
+#[derive(Drop)]
+enum Answer {
+    Done,
+    Copy(Journal),
+    Came(Message),
+}
+
+/// The words of a record, as offsets and values.
+#[derive(Clone, Copy)]
+enum Words {
+    One(usize, u32),
+    Two(usize, u32, usize, u32),
+}
+
+/// A record that comes with a message: its notice, its place, and its words.
+type Comes = (Notice, u64, Words);
+
+/// A step of a test. Each begins with the processor, but for the last.
+#[derive(Clone, Copy)]
+enum Step<'a> {
+    /// The call succeeds, with these stores in its block.
+    Does(usize, Call, &'a [Store]),
+    /// The call is refused.
+    Refuses(usize, Call, Refused),
+    /// A take answers a message of this name, with this timestamp and these records.
+    Gets(usize, &'static str, &'a [u64], &'a [Comes]),
+    /// A take would bring of this page so many notices.
+    IsDue(usize, usize, usize),
+    /// These are the first intervals that are kept of processors 0 and 1.
+    Keeps([u64; 2]),
+}
+
+/// The empty book, also where one growth is refused.
+fn opened(
+    alloc: Global,
+    processors: usize,
+    pages: usize,
+    words: usize,
+    locks: usize,
+    flags: usize,
+) -> Result<Told, AllocError>
+    requires processors { (1 ≤ processors) × (processors ≤ 16) }
+    requires pages { pages ≤ 64 }
+    requires words { (1 ≤ words) × (words ≤ 64) }
+    requires locks { locks ≤ 32 }
+{
+    match Told::new(alloc, processors, pages, words, locks, flags) {
+        Ok(told) => Ok(told),
+        Err(_) => Told::new(alloc, processors, pages, words, locks, flags),
+    }
+}
+
+/// Goes through the steps.
+fn go(told: &mut Told, rt: &(impl Abort + AllocGlobal), steps: &[Step]) -> Result<(), Refused> {
+    for step in steps {
+        go_on(told, rt, *step)?;
+    }
+    Ok(())
+}
+
+fn go_on(told: &mut Told, rt: &(impl Abort + AllocGlobal), step: Step) -> Result<(), Refused> {
+    match step {
+        Does(p, call, stores) => does(told, rt.alloc(), p, call, stores)?,
+        Refuses(p, call, why) => {
+            assert!(rt; does(told, rt.alloc(), p, call, NONE) == Err(why));
+        }
+        Gets(p, name, entries, records) => gets(told, rt, p, name, entries, records)?,
+        IsDue(p, page, count) => assert!(rt; told.due(p, page) == Some(count)),
+        Keeps([first, second]) => {
+            assert!(rt; told.first(0) == Some(first) && told.first(1) == Some(second));
+        }
+    }
+    Ok(())
+}
+
+fn does(
+    told: &mut Told,
+    alloc: Global,
+    p: usize,
+    call: Call,
+    stores: &[Store],
+) -> Result<(), Refused> {
+    make(told, alloc, p, call, stores)?;
+    Ok(())
+}
+
+/// Makes the call, and once more where a growth was refused.
+fn make(
+    told: &mut Told,
+    alloc: Global,
+    p: usize,
+    call: Call,
+    stores: &[Store],
+) -> Result<Answer, Refused> {
+    let answer = make_once(told, alloc, p, call, stores);
+    match answer {
+        Err(Refused::NoMemory) => make_once(told, alloc, p, call, stores),
+        _ => answer,
+    }
+}
+
+fn make_once(
+    told: &mut Told,
+    alloc: Global,
+    p: usize,
+    call: Call,
+    stores: &[Store],
+) -> Result<Answer, Refused> {
+    let block = block_of(alloc, p, loads_of(call), stores)?;
+    match call {
+        HandIn(_) => told.hand_in(p, &block)?,
+        Last(_) => told.last(p, &block)?,
+        Audit(_) => return Ok(Answer::Copy(told.audit(p, &block)?)),
+        Ask(l) => told.ask(p, l, &block)?,
+        Release(l) => told.release(p, l, &block)?,
+        Arrive => told.arrive(p, &block)?,
+        Set(f) => told.set(p, f, &block)?,
+        Watch(f) => told.watch(p, f, &block)?,
+        Take => return Ok(Answer::Came(told.take(p)?)),
+    }
+    Ok(Answer::Done)
+}
+
+fn loads_of(call: Call) -> usize {
+    match call {
+        HandIn(loads) | Audit(loads) | Last(loads) => loads,
+        _ => 0,
+    }
+}
+
+/// A block of so many loads of address 0, and then these stores.
+fn block_of(
+    alloc: Global,
+    p: usize,
+    loads: usize,
+    stores: &[Store],
+) -> Result<Vec<Event>, AllocError> {
+    let mut block = vec![in alloc; did(p, Kind::Load(0, 0)); loads]?;
+    for (address, word) in stores {
+        block.push(did(p, Kind::Store(*address, *word)))?;
+    }
+    Ok(block)
+}
+
+/// Takes a message of this name, with this timestamp and these records.
+fn gets(
+    told: &mut Told,
+    rt: &(impl Abort + AllocGlobal),
+    p: usize,
+    name: &str,
+    entries: &[u64],
+    records: &[Comes],
+) -> Result<(), Refused> {
+    let Answer::Came(message) = make(told, rt.alloc(), p, Take, NONE)? else {
+        return Err(Refused::NotYet);
+    };
+    assert!(rt; name_of(&message) == name);
+    assert!(rt; is_stamp(rt.alloc(), message.time(), entries));
+    assert!(rt; are_sent(message.notices(), records));
+    Ok(())
+}
+
+/// The copy of the journal that `audit` answers.
+fn copy_of(told: &mut Told, alloc: Global, p: usize, loads: usize) -> Result<Journal, Refused> {
+    match make(told, alloc, p, Audit(loads), NONE)? {
+        Answer::Copy(journal) => Ok(journal),
+        _ => Err(Refused::NotYet),
+    }
+}
+
+fn name_of(message: &Message) -> &'static str {
+    match message {
+        Message::Grant { .. } => "grant",
+        Message::Departure { .. } => "departure",
+        Message::Signal { .. } => "signal",
+    }
+}
+
+fn comes(owner: usize, number: u64, place: u64, page: usize, words: Words) -> Comes {
+    let notice = Notice {
+        page,
+        owner,
+        number,
+    };
+    (notice, place, words)
+}
+
+/// Whether just these records were sent.
+fn are_sent(sent: &[Sent], records: &[Comes]) -> bool {
+    if sent.len() != records.len() {
+        return false;
+    }
+    for (sent, (notice, place, words)) in sent.iter().zip(records) {
+        let content = &sent.content;
+        if sent.notice != *notice
+            || sent.place != *place
+            || content.page() != notice.page
+            || !are_words(content.words(), *words)
+        {
+            return false;
+        }
+    }
+    true
+}
+
+fn are_words(found: &[Store], words: Words) -> bool {
+    match words {
+        One(offset, word) => found == [(offset, word)].as_slice(),
+        Two(first, one, second, two) => found == [(first, one), (second, two)].as_slice(),
+    }
+}
+
+fn did(processor: usize, kind: Kind) -> Event {
+    Event { processor, kind }
+}
+
+fn has_events(journal: &Journal, wanted: &[Event]) -> bool {
+    journal.events() == wanted
+}
+
+/// Whether the timestamp has these entries.
+fn is_stamp(alloc: Global, time: &VTime, entries: &[u64]) -> bool {
+    !entries.is_empty() && entries.len() <= 16 && *time == stamp(alloc, entries)
+}
+
+/// The timestamp with these entries, each below 10.
+fn stamp(alloc: Global, entries: &[u64]) -> VTime
+    requires some { 1 ≤ length entries.now }
+    requires most { length entries.now ≤ 16 }
+{
+    let mut time = VTime::zero(alloc, entries.len());
+    for (q, entry) in entries.iter().enumerate() {
+        raise(&mut time, q, *entry);
+    }
+    time
+}
+
+/// Raises the entry, while it is below 9.
+fn raise(time: &mut VTime, q: usize, count: u64)
+    requires { q < length time.old }
+    ensures { length time.new ≡ length time.old }
+{
+    for _ in 0..count.min(9) {
+        if time.entry(q) < 9 {
+            time.tick(q);
+        }
+    }
+}

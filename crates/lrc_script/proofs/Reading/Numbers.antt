@@ -1,0 +1,126 @@
+-- Numbers and their decimal digits.
+use Rattle.std.proofs.Common.{◌≡◌, ℕ, suc, ◌^◌, ◌<◌, ◌≢◌, true, false, not, ◌&&◌, cond, eqb, ltb, List, [], ◌∷◌, ◌++◌, length, get_or, map, subst, append_assoc, Option, Some, None, Result, Ok, Err, refl, sym, ap, ◌∙◌, inl, inr, zero, arith, rules}
+use Rattle.std.specs.Char.{is_ascii_digit}
+use Rattle.std.specs.Prelude.{Contains, is_some, unwrap_or}
+use Rattle.std.specs.List.{list_all, AllByRecursion}
+use Rattle.std.specs.Fmt.{decimal}
+use Rattle.std.specs.Result.{OkIff, result_ok}
+use Rattle.std.specs.Str.{IsUtf8}
+use Rattle.std.specs.Str.Parse.{digits_value, ParsesUnsigned}
+use Rattle.std.proofs.lemmas.Bool.{ltb-true, lt-ltb, le-ltb, cases_lt, and_parts}
+use Rattle.std.proofs.lemmas.Bool.Decides.{nat_tests}
+use Rattle.std.proofs.lemmas.Str.{IsUtf8-from_ascii}
+use Rattle.std.proofs.lemmas.Str.Parse.{IsNumeralModel, numerals_by_value, parse_digits}
+use Rattle.std.proofs.lemmas.Fmt.{decimal-digits_value, digits_decimal, digits_value-decimal, decimal_nonempty, first_decimal, decimal_digit, IsAscii-from_digits}
+use Rattle.std.proofs.lemmas.Option.{cond_some}
+use Rattle.std.proofs.lemmas.List.{append-nil}
+use Rattle.std.proofs.lemmas.List.Elements.{Contains-append_right}
+use Rattle.lrc_script.specs.declared.fault.ScriptFault.{ScriptFault}
+use Rattle.lrc_script.specs.declared.fault.ScriptFault.TheVariants.{BadNumber}
+use Rattle.lrc_script.specs.Reading.{is_decimal, number_of, numbers_after}
+
+-- our test for digits is std's
+pub own : IsNumeralModel (λ ds. list_all is_ascii_digit ds ≡ true) (digits_value 10)
+own = numerals_by_value _ (search rules)
+
+-- what the test for a decimal says
+pub record Decimal (w : List ℕ) : Type 0 where
+  pub digits : list_all is_ascii_digit w ≡ true
+  pub some : 0 < length w
+  pub alone : get_or w 0 0 ≡ 48 → length w ≡ 1
+
+pub decimal_parts : (w : List ℕ) → is_decimal w ≡ true → Decimal w
+decimal_parts w e =
+    let a = and_parts (not (eqb (length w) 0) && not (eqb (get_or w 0 0) 48 && ltb 1 (length w))) (list_all is_ascii_digit w) e in
+    let b = and_parts (not (eqb (length w) 0)) (not (eqb (get_or w 0 0) 48 && ltb 1 (length w))) a.0 in
+    record { digits = a.1; some = grind (arith, nat_tests, b.0); alone = λ z. grind (arith, nat_tests, b.0, b.1, z) }
+
+pub decimal_whole : (w : List ℕ) → Decimal w → is_decimal w ≡ true
+decimal_whole w d =
+    let some = d.some in
+    let front : (not (eqb (length w) 0) && not (eqb (get_or w 0 0) 48 && ltb 1 (length w))) ≡ true = elim (eqb (get_or w 0 0) 48) as (λ b. eqb (get_or w 0 0) 48 ≡ b → (not (eqb (length w) 0) && not (b && ltb 1 (length w))) ≡ true) [
+      | true ↦ λ t. let one = d.alone (grind (arith, nat_tests, t)) in grind (arith, nat_tests, one)
+      | false ↦ λ t. grind (arith, nat_tests, some)
+    ] refl in
+    rw (front, d.digits) refl
+
+-- what is read as a number is its decimal digits
+pub number_takes : (w : List ℕ) (n : ℕ) → number_of w ≡ Some n → (w ≡ decimal n) × (n < 2 ^ 32)
+number_takes w n e =
+    let s = cond_some (is_decimal w && ltb (digits_value 10 w) (2 ^ 32)) (digits_value 10 w) n e in
+    let t = and_parts (is_decimal w) (ltb (digits_value 10 w) (2 ^ 32)) s.0 in
+    let d = decimal_parts w t.0 in
+    let below : digits_value 10 w < 2 ^ 32 = ltb-true _ _ t.1 in
+    (rw (← s.1) (sym (decimal-digits_value own w d.digits d.some d.alone (omega arith))), rw (← s.1) below)
+
+-- decimal digits are read as their number
+pub Decimal-decimal : (n : ℕ) → n < 2 ^ 64 → Decimal (decimal n)
+Decimal-decimal n lt = record {
+  digits = digits_decimal own n lt;
+  some = decimal_nonempty n lt;
+  alone = elim n as (λ k. k < 2 ^ 64 → get_or (decimal k) 0 0 ≡ 48 → length (decimal k) ≡ 1) [
+    | zero ↦ λ l z. ap length (decimal_digit 0 (omega arith))
+    | suc k ↦ λ l z. absurd (omega (arith, first_decimal (suc k) (omega arith) l, z))
+  ] lt;
+}
+
+pub number_again : (n : ℕ) → n < 2 ^ 32 → number_of (decimal n) ≡ Some n
+number_again n lt =
+    let big : n < 2 ^ 64 = omega arith in
+    let same : digits_value 10 (decimal n) ≡ n = digits_value-decimal own n big in
+    let small : ltb n (2 ^ 32) ≡ true = lt-ltb _ _ lt in
+    rw (decimal_whole (decimal n) (Decimal-decimal n big), same, small) refl
+
+-- decimals are text
+pub decimal_is_text : (w : List ℕ) → is_decimal w ≡ true → IsUtf8 w
+decimal_is_text w e = IsUtf8-from_ascii w (IsAscii-from_digits w (own.to w (decimal_parts w e).digits))
+
+-- what std's `parse` answers for a decimal
+pub parsed_is : {E : Type 0} (w : List ℕ) (r : Result ℕ E) → is_decimal w ≡ true → ParsesUnsigned 32 10 w r → result_ok r ≡ number_of w
+parsed_is w r e h = parsed_cases w r (decimal_parts w e) e (parse_digits own 32 w r h (decimal_parts w e).digits)
+  where
+    parsed_cases : {E : Type 0} (w : List ℕ) (r : Result ℕ E) → Decimal w → is_decimal w ≡ true → OkIff r ((0 < length w) × (digits_value 10 w < 2 ^ 32)) (digits_value 10 w) → result_ok r ≡ number_of w
+    parsed_cases w (Ok x) d e h = let small = lt-ltb _ _ h.0.1 in rw (e, small, h.1) refl
+    parsed_cases w (Err x) d e h = let big : ltb (digits_value 10 w) (2 ^ 32) ≡ false = le-ltb _ _ (elim (cases_lt (digits_value 10 w) (2 ^ 32)) [ inl lt ↦ absurd (h (d.some, lt)) | inr le ↦ le ]) in rw (e, big) refl
+
+abbrev pub AreWords : List ℕ → Type 0
+AreWords ns = AllByRecursion (λ n. n < 2 ^ 32) ns
+
+-- the words of a list are decimals
+pub record Reads (front : List ℕ) (words : List (List ℕ)) (all : List ℕ) : Type 0 where
+  pub numbers : List ℕ
+  pub all_is : all ≡ front ++ numbers
+  pub words_are : words ≡ map decimal numbers
+  pub small : AreWords numbers
+
+pub numbers_take : (front : List ℕ) (words : List (List ℕ)) (all : List ℕ) → numbers_after front words ≡ Ok all → Reads front words all
+numbers_take front [] all e = record { numbers = []; all_is = (let same : front ≡ all = cc in sym same ∙ sym (append-nil front)); words_are = refl; small = tt }
+numbers_take front (w ∷ ws) all e = first_taken front w ws all (number_of w) refl e (numbers_take (front ++ unwrap_or (number_of w) 0 ∷ []) ws all)
+  where
+    first_taken : (front w : List ℕ) (ws : List (List ℕ)) (all : List ℕ) (o : Option ℕ) → number_of w ≡ o → cond (is_some o) (numbers_after (front ++ unwrap_or o 0 ∷ []) ws) (Err BadNumber) ≡ Ok all → (numbers_after (front ++ unwrap_or (number_of w) 0 ∷ []) ws ≡ Ok all → Reads (front ++ unwrap_or (number_of w) 0 ∷ []) ws all) → Reads front (w ∷ ws) all
+    first_taken front w ws all None n e rest = absurd cc
+    first_taken front w ws all (Some k) n e rest =
+        let r : Reads (front ++ k ∷ []) ws all = subst (λ (o : Option ℕ). numbers_after (front ++ unwrap_or o 0 ∷ []) ws ≡ Ok all → Reads (front ++ unwrap_or o 0 ∷ []) ws all) n rest e in
+        let t = number_takes w k n in
+        record { numbers = k ∷ r.numbers; all_is = r.all_is ∙ append_assoc front (k ∷ []) r.numbers; words_are = ap (λ (v : List ℕ). v ∷ ws) t.0 ∙ ap (λ (vs : List (List ℕ)). decimal k ∷ vs) r.words_are; small = (t.1, r.small) }
+
+pub numbers_again : (front numbers : List ℕ) → AreWords numbers → numbers_after front (map decimal numbers) ≡ Ok (front ++ numbers)
+numbers_again front [] small = ap (λ (ns : List ℕ). Ok ns) (sym (append-nil front))
+numbers_again front (n ∷ ns) small = rw (number_again n small.0) (numbers_again (front ++ n ∷ []) ns small.1 ∙ ap (λ (ms : List ℕ). Ok ms) (append_assoc front (n ∷ []) ns))
+
+-- a word that is no number
+pub record NotNumber (words : List (List ℕ)) (fault : ScriptFault) : Type 0 where
+  pub fault_is : fault ≡ BadNumber
+  pub word : List ℕ
+  pub within : Contains words word
+  pub none : (n : ℕ) → n < 2 ^ 32 → word ≢ decimal n
+
+pub numbers_refused : (front : List ℕ) (words : List (List ℕ)) (fault : ScriptFault) → numbers_after front words ≡ Err fault → NotNumber words fault
+numbers_refused front [] fault e = absurd cc
+numbers_refused front (w ∷ ws) fault e = first_refused front w ws fault (number_of w) refl e (numbers_refused (front ++ unwrap_or (number_of w) 0 ∷ []) ws fault)
+  where
+    first_refused : (front w : List ℕ) (ws : List (List ℕ)) (fault : ScriptFault) (o : Option ℕ) → number_of w ≡ o → cond (is_some o) (numbers_after (front ++ unwrap_or o 0 ∷ []) ws) (Err BadNumber) ≡ Err fault → (numbers_after (front ++ unwrap_or (number_of w) 0 ∷ []) ws ≡ Err fault → NotNumber ws fault) → NotNumber (w ∷ ws) fault
+    first_refused front w ws fault None n e rest = record { fault_is = cc; word = w; within = (0, omega arith, refl); none = λ k lt same. let again = number_again k lt in absurd (cc) }
+    first_refused front w ws fault (Some k) n e rest =
+        let r : NotNumber ws fault = subst (λ (o : Option ℕ). numbers_after (front ++ unwrap_or o 0 ∷ []) ws ≡ Err fault → NotNumber ws fault) n rest e in
+        record { fault_is = r.fault_is; word = r.word; within = Contains-append_right (w ∷ []) ws r.word r.within; none = r.none }
