@@ -24,7 +24,8 @@ use Rattle.journal.proofs.Missing.Counted.{block_counts_others, counted_block}
 use Rattle.interval.specs.Intervals.{SentRecord}
 use Rattle.page.specs.declared.pages.Access.{Access}
 use Rattle.page.specs.declared.pages.Access.TheVariants.{Valid, Invalid}
-use Rattle.cluster.specs.Copies.{Copied, missing_of, IsReplica}
+use Rattle.book.specs.News.{missing_of}
+use Rattle.cluster.specs.Copies.{Copied, IsReplica}
 use Rattle.cluster.specs.Local.{Local, calls}
 use Rattle.cluster.specs.Sound.{IsSound}
 use Rattle.cluster.specs.Covers.{Allows, IsCovered, Covers}

@@ -35,11 +35,13 @@ use Rattle.interval.specs.Intervals.{SentRecord}
 use Rattle.page.specs.declared.pages.Access.TheVariants.{Valid, Invalid}
 use Rattle.page.specs.Contents.{IsClean}
 use Rattle.cluster.specs.declared.replica.Counts.{Counts}
-use Rattle.cluster.specs.Copies.{Copied, missing_of, words_of, fetched, IsReplica, IsOwner, AreCounts, FitsPage, AllFit}
+use Rattle.book.specs.News.{missing_of}
+use Rattle.cluster.specs.Copies.{Copied, words_of, fetched, IsReplica, IsOwner, AreCounts, FitsPage, AllFit}
 use Rattle.cluster.specs.Local.{Local, noted}
-use Rattle.cluster.specs.Accesses.{fetched_at}
+use Rattle.cluster.specs.Accesses.{AreNewest, fetched_at}
 use Rattle.cluster.specs.Refusals.{fetch_refusal}
 use Rattle.cluster.specs.Sound.{IsSound}
+use Rattle.cluster.proofs.Newest.{newest}
 use Rattle.cluster.proofs.Replicas.{replica_long, replica_pushed}
 use Rattle.cluster.proofs.Refusing.{MayFetch, may_fetch, stale_copy}
 use Rattle.cluster.proofs.Steps.{item_at}
@@ -108,6 +110,10 @@ module _ (m : Local) (sound : IsSound m) (n : ℕ) (c : Copied) (at : slice_get 
 
   abbrev new : List ℕ
   new = records_applied c.page.words (map words_of c.missing)
+
+  -- each word with stores in the gap has the newest of them
+  pub fetched_newest : AreNewest m.sizes m.seen m.number n c.page.words (fetched c).page.words
+  fetched_newest = subst (λ ws. AreNewest m.sizes m.seen m.number n c.page.words (records_applied c.page.words ws)) words_same (newest m.sizes m.seen m.number n (map missing_of c.missing) stale.lacks (sound.copies.each n c at).order c.page.words)
 
   module _ (k : Counts) (counts : AreCounts c.missing k) (free : fetch_refusal m n ≡ None) where
     abbrev e : Event

@@ -2,6 +2,7 @@ pub mod Replicas
 pub mod Refusing
 pub mod Steps
 pub mod Owners
+pub mod Newest
 pub mod Noting
 pub mod Fetching
 pub mod Covering

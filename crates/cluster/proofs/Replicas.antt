@@ -14,7 +14,8 @@ use Rattle.lists.specs.Records.{mark}
 use Rattle.lists.proofs.LastWrites.{length-written}
 use Rattle.page.specs.declared.pages.Access.TheVariants.{Valid, Invalid}
 use Rattle.page.specs.Contents.{IsClean}
-use Rattle.cluster.specs.Copies.{Copied, missing_of, IsReplica}
+use Rattle.book.specs.News.{missing_of}
+use Rattle.cluster.specs.Copies.{Copied, IsReplica}
 
 -- a copy has as many words as its page
 pub replica_long : (s : Sizes) (seen block : List Event) (p n : ℕ) (base : List ℕ) (c : Copied) → IsReplica s seen block p n base c → length c.page.words ≡ s.words

@@ -15,7 +15,7 @@ use Rattle.journal.proofs.Times.Times.{time_none, time_equal}
 use Rattle.journal.proofs.Copies.Pages.{valid_start, answers_start}
 use Rattle.journal.proofs.Intervals.Dirty.{dirty_start}
 use Rattle.journal.proofs.Missing.Counted.{counted_start, block_counts_start}
-use Rattle.journal.proofs.Passes.Entries.{index-zeros}
+use Rattle.lists.proofs.Sets.{index-zeros}
 use Rattle.lists.proofs.Joined.{in_order-nil}
 use Rattle.lists.proofs.Places.{push_cases, slice_get-append_right}
 use Rattle.lists.proofs.Sets.{slice_get-replicate_found, slice_get-replicate}

@@ -12,16 +12,13 @@ use Rattle.page.specs.Carries.{FitsIn}
 use Rattle.page.specs.Contents.{Contents, IsClean}
 use Rattle.page.specs.declared.pages.Access.TheVariants.{Valid, Invalid}
 use Rattle.interval.specs.Intervals.{SentRecord}
+use Rattle.book.specs.News.{missing_of}
 use Rattle.cluster.specs.declared.replica.Counts.{Counts}
 
 -- the copy, and the records that it lacks
 pub record Copied : Type 0 where
   pub page : Contents
   pub missing : List SentRecord
-
--- a record that was sent, as what an interval stored in its page
-abbrev pub missing_of : SentRecord → Missing
-missing_of x = record { owner = x.notice.owner; number = x.notice.number; place = x.place; words = x.content.words }
 
 -- p's copy of page n is valid and lacks nothing, or it lacks what these records have and may not be used;
 -- its dirty bits are p's stores since its last closing event

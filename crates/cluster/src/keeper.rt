@@ -22,7 +22,9 @@ impl Keeper<Book> for Rule {
 
     ghost fact = { Kept };
 
-    ghost first = { record { seen = [] } };
+    ghost first = { λ _. record { seen = [] } };
+
+    ghost nobody = { record { seen = [] } };
 }
 
 /// The lock round the book: an array lock of 2^40 entries a processor.

@@ -1,5 +1,5 @@
 use Rattle.std.proofs.Common.{true, set, ap, ◌∙◌, arith}
-use Rattle.page.proofs.MarkLemmas.{marks_of-set}
+use Rattle.page.proofs.Marks.{marks_of-set}
 use Rattle.cluster.proofs.marks.Marks.add.Goals as goal
 
 pub returns : goal.returns

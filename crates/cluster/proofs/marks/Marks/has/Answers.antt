@@ -2,7 +2,7 @@ use Rattle.std.proofs.Common.{ℕ, ◌<◌, ◌==◌, Some, false, Bool, List, l
 use Rattle.std.proofs.lemmas.Option.{slice_get-get_or}
 use Rattle.std.proofs.lemmas.Nat.Bits.{shr_and_one}
 use Rattle.page.specs.Marks.{marks_of}
-use Rattle.page.proofs.MarkLemmas.{length-marks_of, get_or-marks_of}
+use Rattle.page.proofs.Marks.{length-marks_of, get_or-marks_of}
 use Rattle.cluster.proofs.marks.Marks.has.Goals as goal
 
 pub returns : goal.returns

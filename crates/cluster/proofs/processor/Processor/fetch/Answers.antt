@@ -3,7 +3,7 @@ use Rattle.lists.specs.Limits.{most_in_block}
 use Rattle.cluster.specs.Refusals.{fetch_refusal}
 use Rattle.cluster.specs.Sound.{IsSound}
 use Rattle.cluster.proofs.Covering.{covers}
-use Rattle.cluster.proofs.Fetching.{missing_fit, missing_few, fetched_sound, stale_read, fetch_done}
+use Rattle.cluster.proofs.Fetching.{missing_fit, missing_few, fetched_newest, fetched_sound, stale_read, fetch_done}
 use Rattle.cluster.proofs.processor.Processor.fetch.Goals as goal
 
 pub returns-in_err-admit_fetch-clause-covers : goal.returns-in_err-admit_fetch-clause-covers
@@ -45,6 +45,7 @@ returns-clause-ok g c =
       at = read.0;
       counts = c.counts-counts.result;
       are = c.counts-counts.ensures;
+      newest = fetched_newest c.args.self.now sound c.args.page x read.0 read.1;
       after = fetch_done _ c.args.self.now c.args.page x c.fetch.new.self c.counts-counts.result c.push_reserved.new.self.items c.self.view_is c.fetch.ensures c.push_reserved.ensures.items;
     }
 
