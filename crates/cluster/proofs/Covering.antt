@@ -1,19 +1,17 @@
 -- What holds of a processor by what it has seen holds by every history that goes on without it.
-use Rattle.std.proofs.Common.{ℕ, zero, suc, ◌≡◌, ◌≢◌, ◌<◌, ◌↔◌, Option, Some, None, List, [], ◌∷◌, ◌++◌, map, length, slice_get, slice_index, ne_eqb, refl, sym, ap, subst, ◌∙◌, append-nil}
+use Rattle.std.proofs.Common.{ℕ, zero, suc, ◌≡◌, ◌≢◌, ◌↔◌, Option, Some, None, List, [], ◌∷◌, ◌++◌, map, slice_index, ne_eqb, refl, sym, subst, ◌∙◌, append-nil}
 use Rattle.std.proofs.lemmas.List.Elements.{filter-append}
 use Rattle.std.proofs.lemmas.Option.{none-some}
 use Rattle.journal.specs.declared.event.Event.{Event}
 use Rattle.journal.specs.declared.event.Kind.{Kind}
-use Rattle.journal.specs.Sizes.{Sizes}
 use Rattle.journal.specs.Events.{At, part}
-use Rattle.journal.specs.WellFormed.{WellFormed, LastIs}
-use Rattle.journal.specs.Waits.{awaited, IsIdle}
+use Rattle.journal.specs.WellFormed.{WellFormed}
+use Rattle.journal.specs.Waits.{IsIdle}
 use Rattle.journal.specs.Loads.{Explained}
 use Rattle.journal.specs.Counted.{AreCounted}
-use Rattle.journal.specs.Copies.{Lawful}
 use Rattle.journal.specs.Brought.{NoGap}
 use Rattle.journal.specs.Blocks.{IsBlock}
-use Rattle.journal.specs.Pages.{IsValidCopy, IsStaleCopy}
+use Rattle.journal.specs.Pages.{IsStaleCopy}
 use Rattle.journal.proofs.Journals.Ready.{plain_block}
 use Rattle.journal.proofs.Journals.WellFormed.{last_shorter}
 use Rattle.journal.proofs.Times.Blocks.{block_time}
@@ -26,7 +24,7 @@ use Rattle.page.specs.declared.pages.Access.{Access}
 use Rattle.page.specs.declared.pages.Access.TheVariants.{Valid, Invalid}
 use Rattle.book.specs.News.{missing_of}
 use Rattle.cluster.specs.Copies.{Copied, IsReplica}
-use Rattle.cluster.specs.Local.{Local, calls}
+use Rattle.cluster.specs.Local.{Local}
 use Rattle.cluster.specs.Sound.{IsSound}
 use Rattle.cluster.specs.Covers.{Allows, IsCovered, Covers}
 

@@ -1,30 +1,25 @@
 -- A fetch keeps a processor sound.
-use Rattle.std.proofs.Common.{ℕ, zero, suc, ◌≡◌, ◌≢◌, ◌<◌, ◌≤◌, ◌+◌, ◌↔◌, Bool, true, false, Option, Some, None, List, [], ◌∷◌, ◌++◌, map, length, sum, sum_by, replicate, get_or, slice_get, slice_set, inl, inr, refl, sym, ap, subst, subst₂, ◌∙◌, append_assoc, arith}
+use Rattle.std.proofs.Common.{ℕ, zero, suc, ◌≡◌, ◌<◌, ◌≤◌, ◌+◌, ◌↔◌, Bool, false, Some, None, List, [], ◌∷◌, ◌++◌, map, length, sum, sum_by, replicate, get_or, slice_get, slice_set, inl, inr, refl, sym, ap, subst, subst₂, ◌∙◌, append_assoc, arith}
 use Rattle.std.proofs.lemmas.Bool.{cases_eq}
 use Rattle.std.proofs.lemmas.List.{length_push, length-set, length-map}
 use Rattle.std.proofs.lemmas.List.Sums.{count_by-le-length, sum-map}
 use Rattle.std.proofs.lemmas.Simd.{map-map}
 use Rattle.journal.specs.declared.event.Event.{Event}
-use Rattle.journal.specs.declared.event.Kind.{Kind}
-use Rattle.journal.specs.declared.event.Kind.TheVariants.{Load, Store, Fetch}
-use Rattle.journal.specs.Sizes.{Sizes}
+use Rattle.journal.specs.declared.event.Kind.TheVariants.{Fetch}
 use Rattle.journal.specs.Events.{is_closing}
-use Rattle.journal.specs.WellFormed.{WellFormed}
-use Rattle.journal.specs.Blocks.{write_in, with_page}
-use Rattle.journal.specs.Copies.{HasCount}
+use Rattle.journal.specs.Blocks.{with_page}
 use Rattle.journal.specs.Counted.{BlockCounts}
 use Rattle.journal.specs.Did.{event}
 use Rattle.journal.specs.Dirty.{IsDirty}
 use Rattle.journal.proofs.Missing.Counted.{count_of_same}
 use Rattle.journal.specs.Groups.{IsContent}
-use Rattle.journal.specs.Missing.{Missing, IsPlaced, AreMissing, InClosingOrder, closed_count}
+use Rattle.journal.specs.Missing.{Missing, IsPlaced, closed_count}
 use Rattle.journal.specs.Pages.{IsValidCopy, IsStaleCopy}
-use Rattle.journal.proofs.Order.Places.{at_within}
 use Rattle.journal.proofs.Copies.OpenBlocks.{with_page_same, with_page_other}
 use Rattle.journal.proofs.Copies.Pages.{stale_fetched, stale_counted, answers_fetched}
 use Rattle.journal.proofs.Intervals.Contents.{content_within}
 use Rattle.journal.proofs.Intervals.Dirty.{dirty_push, dirty_replaced}
-use Rattle.lists.specs.Limits.{most_events, most_in_block}
+use Rattle.lists.specs.Limits.{most_events}
 use Rattle.lists.specs.Places.{Has, InOrder}
 use Rattle.lists.specs.Records.{records_applied}
 use Rattle.lists.proofs.Joined.{has-map, in_order_tail, in_order-nil}
@@ -32,12 +27,12 @@ use Rattle.lists.proofs.Places.{count_by-within}
 use Rattle.lists.proofs.Records.{length-records_applied}
 use Rattle.lists.proofs.Sets.{slice_get-set_found, slice_get-set_other}
 use Rattle.interval.specs.Intervals.{SentRecord}
-use Rattle.page.specs.declared.pages.Access.TheVariants.{Valid, Invalid}
+use Rattle.page.specs.declared.pages.Access.TheVariants.{Invalid}
 use Rattle.page.specs.Contents.{IsClean}
 use Rattle.cluster.specs.declared.replica.Counts.{Counts}
 use Rattle.book.specs.News.{missing_of}
-use Rattle.cluster.specs.Copies.{Copied, words_of, fetched, IsReplica, IsOwner, AreCounts, FitsPage, AllFit}
-use Rattle.cluster.specs.Local.{Local, noted}
+use Rattle.cluster.specs.Copies.{Copied, words_of, fetched, IsReplica, IsOwner, AreCounts, AllFit}
+use Rattle.cluster.specs.Local.{Local}
 use Rattle.cluster.specs.Accesses.{AreNewest, fetched_at}
 use Rattle.cluster.specs.Refusals.{fetch_refusal}
 use Rattle.cluster.specs.Sound.{IsSound}
@@ -158,12 +153,12 @@ module _ (m : Local) (sound : IsSound m) (n : ℕ) (c : Copied) (at : slice_get 
           let Q : ℕ → Copied → Type 0 = λ j y. IsReplica m.sizes m.seen (m.block ++ e ∷ []) m.number j (bases j) y in
           subst₂ Q (sym same) is (subst (λ b. IsReplica m.sizes m.seen (m.block ++ e ∷ []) m.number n b (fetched c)) (sym (with_page_same n new sound.bases)) here))
       | inr other ↦ subst (λ b. IsReplica m.sizes m.seen (m.block ++ e ∷ []) m.number i b x) (sym (with_page_other n i new sound.bases other)) (replica_pushed m.sizes m.seen m.block e m.number i (sound.bases i) x x refl refl (record {
-            words = refl;
-            dirty = refl;
-            access = refl;
-            missing = refl;
-            away = λ _. ((λ same. other (sym same)), refl);
-          }) (sound.copies.each i x (sym (slice_get-set_other m.copies n i (fetched c) other) ∙ found)))
+        words = refl;
+        dirty = refl;
+        access = refl;
+        missing = refl;
+        away = λ _. ((λ same. other (sym same)), refl);
+      }) (sound.copies.each i x (sym (slice_get-set_other m.copies n i (fetched c) other) ∙ found)))
     ]
 
     -- a fetch applies the missing records and counts them

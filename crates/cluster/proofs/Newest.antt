@@ -1,5 +1,5 @@
 -- Which store of the gap each word has after a fetch.
-use Rattle.std.proofs.Common.{ℕ, ◌≡◌, ◌≢◌, ◌<◌, ◌≤◌, ◌⊎◌, ◌%◌, inl, inr, Option, Some, List, map, slice_get, refl, sym, ap, subst, ◌∙◌, arith}
+use Rattle.std.proofs.Common.{ℕ, ◌≡◌, ◌≢◌, ◌<◌, ◌≤◌, ◌⊎◌, ◌%◌, inl, inr, Some, List, map, slice_get, sym, ap, subst, ◌∙◌, arith}
 use Rattle.std.specs.List.{concat}
 use Rattle.std.proofs.lemmas.Bool.{cases_lt}
 use Rattle.std.proofs.lemmas.Option.{same_Some}
@@ -9,13 +9,12 @@ use Rattle.journal.specs.Sizes.{Sizes}
 use Rattle.journal.specs.WellFormed.{Does}
 use Rattle.journal.specs.Copies.{InGap, page_write}
 use Rattle.journal.specs.Intervals.{ClosedAt}
-use Rattle.journal.specs.Missing.{Missing, IsPlaced, AreMissing, InClosingOrder}
-use Rattle.journal.proofs.Copies.Stores.{store_same, store_writes}
-use Rattle.journal.proofs.Missing.InGroups.{AreGroups, groups_of, groups_gap, groups_extend, store_closed}
+use Rattle.journal.specs.Missing.{Missing, AreMissing, InClosingOrder}
+use Rattle.journal.proofs.Copies.Stores.{store_writes}
+use Rattle.journal.proofs.Missing.InGroups.{AreGroups, groups_of, groups_gap, store_closed}
 use Rattle.journal.proofs.Missing.Placed.{placed_before}
 use Rattle.journal.proofs.Times.Closing.{closed_once}
 use Rattle.lists.specs.Places.{Has, InOrder}
-use Rattle.lists.specs.Writes.{written, LastWrite, Unwritten}
 use Rattle.lists.specs.Records.{records_applied}
 use Rattle.lists.proofs.Joined.{in_order_concat}
 use Rattle.lists.proofs.LastWrites.{word_written}
@@ -76,13 +75,13 @@ module _ (s : Sizes) (j : List Event) (p n : ℕ) (missing : List Missing) (lack
           elim (cases_lt has.0 k) [
             | inl less ↦ in_order groups of has.0 k m i less has.1 here c d closed closed_too
             | inr le ↦ (elim (cases_lt k has.0) [
-                | inl after ↦ absurd (later has.0 m w after has.1 writes)
-                | inr back ↦
-                    (let P : ℕ → Type 0 = λ y. slice_get (concat groups) y ≡ Some m in
-                    let place : has.0 ≡ k = omega arith in
-                    let same : m ≡ i = same_Some m i (sym (subst P place has.1) ∙ here) in
-                    inr (closed_once j m c d closed (subst (λ (y : ℕ). ClosedAt j y d) (sym same) closed_too), omega arith))
-              ])
+              | inl after ↦ absurd (later has.0 m w after has.1 writes)
+              | inr back ↦
+                  (let P : ℕ → Type 0 = λ y. slice_get (concat groups) y ≡ Some m in
+                  let place : has.0 ≡ k = omega arith in
+                  let same : m ≡ i = same_Some m i (sym (subst P place has.1) ∙ here) in
+                  inr (closed_once j m c d closed (subst (λ (y : ℕ). ClosedAt j y d) (sym same) closed_too), omega arith))
+            ])
           ]
 
   -- the missing records leave each word with the store of the gap that was closed last

@@ -1,37 +1,32 @@
 -- A load or a store keeps a processor sound.
-use Rattle.std.proofs.Common.{ℕ, ◌≡◌, ◌≢◌, ◌<◌, ◌≤◌, ◌/◌, ◌%◌, ◌==◌, Bool, true, false, Option, Some, None, List, [], ◌∷◌, ◌++◌, length, slice_get, slice_set, inl, inr, ne_eqb, refl, sym, ap, subst, subst₂, ◌∙◌, arith}
+use Rattle.std.proofs.Common.{ℕ, ◌≡◌, ◌≢◌, ◌<◌, ◌/◌, ◌%◌, Bool, true, false, Some, None, List, [], ◌∷◌, ◌++◌, length, slice_get, slice_set, inl, inr, ne_eqb, refl, sym, ap, subst, subst₂, ◌∙◌, arith}
 use Rattle.std.proofs.Math.Nat.{mod-lt}
 use Rattle.std.proofs.lemmas.Bool.{cases_eq}
 use Rattle.std.proofs.lemmas.List.{length_push, length-set}
 use Rattle.journal.specs.declared.event.Event.{Event}
 use Rattle.journal.specs.declared.event.Kind.{Kind}
-use Rattle.journal.specs.declared.event.Kind.TheVariants.{Load, Store, Fetch}
-use Rattle.journal.specs.Sizes.{Sizes, addresses}
+use Rattle.journal.specs.declared.event.Kind.TheVariants.{Load, Store}
 use Rattle.journal.specs.Events.{At, is_taking, is_closing}
 use Rattle.journal.specs.WellFormed.{KindInRange}
-use Rattle.journal.specs.Blocks.{write_in, BlockAnswers}
-use Rattle.journal.specs.Counted.{BlockCounts}
+use Rattle.journal.specs.Blocks.{write_in}
 use Rattle.journal.specs.Did.{event}
-use Rattle.journal.specs.Pages.{Touches}
 use Rattle.journal.proofs.Copies.OpenBlocks.{answers_push}
 use Rattle.journal.proofs.Copies.Pages.{valid_load}
 use Rattle.journal.proofs.Intervals.Contents.{store_in}
 use Rattle.journal.proofs.Missing.Counted.{block_counts_push}
-use Rattle.lists.specs.Limits.{most_in_block}
 use Rattle.lists.specs.Writes.{wrote}
 use Rattle.lists.specs.Records.{mark}
 use Rattle.lists.proofs.Places.{push_cases}
-use Rattle.lists.proofs.Sets.{slice_get-set_same, slice_get-set_found, slice_get-set_other}
+use Rattle.lists.proofs.Sets.{slice_get-set_found, slice_get-set_other}
 use Rattle.page.specs.declared.pages.Access.TheVariants.{Valid, Invalid}
 use Rattle.page.specs.Contents.{IsClean}
-use Rattle.book.specs.Stamps.{AreAll}
 use Rattle.book.specs.Laws.{IsInner}
 use Rattle.cluster.specs.Copies.{Copied, IsReplica}
 use Rattle.cluster.specs.Local.{Local, noted}
 use Rattle.cluster.specs.Accesses.{written_at, stored_at}
 use Rattle.cluster.specs.Refusals.{access_refusal}
 use Rattle.cluster.specs.Sound.{IsSound}
-use Rattle.cluster.proofs.Replicas.{replica_long, IsAfterEvent, replica_pushed}
+use Rattle.cluster.proofs.Replicas.{replica_long, replica_pushed}
 use Rattle.cluster.proofs.Refusing.{MayAccess, may_access}
 
 pub valid_is_not_stale : Valid ≢ Invalid
@@ -143,12 +138,12 @@ stored m a v c free at sound = record {
           let Q : ℕ → Copied → Type 0 = λ k y. IsReplica m.sizes m.seen (m.block ++ e ∷ []) m.number k (sound.bases k) y in
           subst₂ Q (sym same) is here)
       | inr other ↦ replica_pushed m.sizes m.seen m.block e m.number i (sound.bases i) x x refl refl (record {
-            words = sym (ap (wrote x.page.words) (elsewhere i other));
-            dirty = sym (ap (mark x.page.dirty) (elsewhere i other));
-            access = refl;
-            missing = refl;
-            away = λ stale. ((λ same. other (sym same)), elsewhere i other);
-          }) (sound.copies.each i x (sym (slice_get-set_other m.copies n i d other) ∙ found))
+        words = sym (ap (wrote x.page.words) (elsewhere i other));
+        dirty = sym (ap (mark x.page.dirty) (elsewhere i other));
+        access = refl;
+        missing = refl;
+        away = λ stale. ((λ same. other (sym same)), elsewhere i other);
+      }) (sound.copies.each i x (sym (slice_get-set_other m.copies n i d other) ∙ found))
     ]
       where
         elsewhere : (i : ℕ) → i ≢ n → write_in m.sizes i (Store a v) ≡ None

@@ -1,5 +1,5 @@
 -- What it means that a call is not refused.
-use Rattle.std.proofs.Common.{ℕ, ◌≡◌, ◌≢◌, ◌<◌, ◌≤◌, ◌/◌, Bool, true, false, not, nat_le, cond, Option, Some, None, List, refl, sym, ap, ◌∙◌, arith, length, slice_get, get_or, subst₂, is_some}
+use Rattle.std.proofs.Common.{ℕ, ◌≡◌, ◌<◌, ◌/◌, Bool, true, false, not, nat_le, cond, Option, Some, None, List, refl, sym, ap, ◌∙◌, arith, length, slice_get, get_or, subst₂, is_some}
 use Rattle.std.proofs.lemmas.Option.{none-some, get_or_from_slice_get}
 use Rattle.std.proofs.lemmas.Bool.Decides.{nat_tests}
 use Rattle.page.specs.declared.pages.Access.{Access}
@@ -9,7 +9,7 @@ use Rattle.journal.specs.Sizes.{addresses}
 use Rattle.lists.specs.Limits.{most_in_block}
 use Rattle.cluster.specs.Copies.{Copied}
 use Rattle.cluster.specs.Local.{Local}
-use Rattle.cluster.specs.Refusals.{first_due, may_use, serves, has_valid, is_waiting, is_full, access_refusal, fetch_refusal}
+use Rattle.cluster.specs.Refusals.{may_use, serves, has_valid, is_waiting, is_full, access_refusal, fetch_refusal}
 
 -- the first doesn't apply, nor do the others
 pub due_none : (b : Bool) (r : Refused) (rest : Option Refused) → cond b (Some r) rest ≡ None → (b ≡ false) × (rest ≡ None)

@@ -1,18 +1,17 @@
 -- What each call does to a copy of a page.
-use Rattle.std.proofs.Common.{ℕ, ◌≡◌, ◌≢◌, ◌<◌, ◌/◌, ◌%◌, Bool, false, List, [], ◌∷◌, ◌++◌, None, map, length, replicate, refl, sym, ap, subst, ◌∙◌, append_assoc}
+use Rattle.std.proofs.Common.{ℕ, ◌≡◌, ◌≢◌, false, List, [], ◌∷◌, ◌++◌, None, map, length, sym, ap, subst, ◌∙◌, append_assoc}
 use Rattle.journal.specs.declared.event.Event.{Event}
 use Rattle.journal.specs.Sizes.{Sizes}
 use Rattle.journal.specs.Events.{is_closing}
 use Rattle.journal.specs.Blocks.{write_in}
 use Rattle.journal.specs.Pages.{Touches, IsValidCopy, IsStaleCopy}
 use Rattle.journal.specs.Groups.{since}
-use Rattle.journal.specs.Dirty.{IsDirty}
 use Rattle.journal.proofs.Copies.Pages.{valid_push, stale_push}
 use Rattle.journal.proofs.Intervals.Dirty.{dirty_push}
 use Rattle.lists.specs.Writes.{wrote}
 use Rattle.lists.specs.Records.{mark}
 use Rattle.lists.proofs.LastWrites.{length-written}
-use Rattle.page.specs.declared.pages.Access.TheVariants.{Valid, Invalid}
+use Rattle.page.specs.declared.pages.Access.TheVariants.{Invalid}
 use Rattle.page.specs.Contents.{IsClean}
 use Rattle.book.specs.News.{missing_of}
 use Rattle.cluster.specs.Copies.{Copied, IsReplica}
@@ -44,8 +43,7 @@ replica_pushed s seen block e p n base c d mine inner after r = record {
         let old = r.stale was in
         let away = after.away was in
         let words : d.page.words ≡ c.page.words = after.words ∙ ap (wrote c.page.words) away.1 in
-        let dirty : d.page.dirty ≡ c.page.dirty = after.dirty ∙ ap (mark c.page.dirty) away.1 in
-        (
+        let dirty : d.page.dirty ≡ c.page.dirty = after.dirty ∙ ap (mark c.page.dirty) away.1 in (
           rw (words, after.missing) (stale_push s seen block e p n c.page.words (map missing_of c.missing) away.0 old.0),
           (λ none. old.1 (sym after.missing ∙ none)),
           rw (words) (dirty ∙ old.2),

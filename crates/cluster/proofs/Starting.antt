@@ -1,9 +1,8 @@
 -- The start: processors before their first calls, and the book.
-use Rattle.std.proofs.Common.{ℕ, ◌≡◌, ◌≢◌, ◌<◌, ◌≤◌, ◌*◌, ◌^◌, ◌↔◌, Bool, true, false, true≢false, Option, Some, None, List, [], ◌∷◌, ◌++◌, length, replicate, slice_get, slice_index, inl, inr, refl, sym, ap, subst, subst₂, ◌∙◌, add-zero, arith}
-use Rattle.std.proofs.lemmas.List.{length-replicate, get_or-replicate}
+use Rattle.std.proofs.Common.{ℕ, ◌≡◌, ◌<◌, ◌↔◌, Bool, true, false, true≢false, Some, None, List, [], ◌∷◌, ◌++◌, length, replicate, slice_get, slice_index, inl, inr, refl, sym, ap, subst, subst₂, add-zero, arith}
+use Rattle.std.proofs.lemmas.List.{length-replicate}
 use Rattle.std.proofs.lemmas.Option.{none-some, slice_get_within}
 use Rattle.journal.specs.declared.event.Event.{Event}
-use Rattle.journal.specs.declared.event.Kind.{Kind}
 use Rattle.journal.specs.declared.event.Kind.TheVariants.{Load, Acquire}
 use Rattle.journal.specs.Sizes.{Sizes}
 use Rattle.journal.specs.Pasts.{InPast}
@@ -19,8 +18,7 @@ use Rattle.lists.proofs.Sets.{index-zeros}
 use Rattle.lists.proofs.Joined.{in_order-nil}
 use Rattle.lists.proofs.Places.{push_cases, slice_get-append_right}
 use Rattle.lists.proofs.Sets.{slice_get-replicate_found, slice_get-replicate}
-use Rattle.lists.specs.Limits.{most_in_block}
-use Rattle.turn.specs.Chairs.{LockId, lock, place, view, entries, IsOutside}
+use Rattle.turn.specs.Chairs.{LockId, lock, view, entries}
 use Rattle.turn.specs.declared.chair.ChairToken.{ChairToken}
 use Rattle.book.specs.State.{State}
 use Rattle.book.specs.Transitions.{new_book}
@@ -31,7 +29,7 @@ use Rattle.cluster.specs.Local.{Local, local, blank, new_local}
 use Rattle.cluster.specs.Clusters.{Shared, IsNewChair, IsSeatedAt, AreNew, AreCovered}
 use Rattle.cluster.proofs.Covering.{covers}
 use Rattle.cluster.specs.Sound.{AreSizes, IsSound}
-use Rattle.cluster.specs.Kept.{GoesOn, IsKept, Kept}
+use Rattle.cluster.specs.Kept.{GoesOn, IsKept}
 use Rattle.cluster.specs.Covers.{Allows}
 use Rattle.cluster.proofs.Noting.{valid_is_not_stale}
 

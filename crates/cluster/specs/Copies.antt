@@ -2,7 +2,7 @@
 use Rattle.std.specs.Prelude.{ℕ, ◌≡◌, ◌≢◌, ◌<◌, ◌≤◌, List, [], ◌++◌, map, length, sum_by}
 use Rattle.journal.specs.declared.event.Event.{Event}
 use Rattle.journal.specs.Sizes.{Sizes}
-use Rattle.journal.specs.Missing.{Missing, InClosingOrder}
+use Rattle.journal.specs.Missing.{InClosingOrder}
 use Rattle.journal.specs.Pages.{IsValidCopy, IsStaleCopy}
 use Rattle.journal.specs.Dirty.{IsDirty}
 use Rattle.journal.specs.Copies.{HasCount}

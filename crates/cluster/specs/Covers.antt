@@ -1,7 +1,6 @@
 -- What each call on a processor promises of every journal that the book may have until its next call.
 use Rattle.std.specs.Prelude.{ℕ, ◌≡◌, ◌↔◌, Some, List, ◌++◌, slice_get, slice_index}
 use Rattle.journal.specs.declared.event.Event.{Event}
-use Rattle.journal.specs.Sizes.{Sizes}
 use Rattle.journal.specs.Events.{part}
 use Rattle.journal.specs.WellFormed.{WellFormed}
 use Rattle.journal.specs.Times.{IsTimeOf}

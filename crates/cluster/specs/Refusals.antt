@@ -1,6 +1,5 @@
 -- Why a call that only the processor answers is refused.
-use Rattle.std.specs.Prelude.{ℕ, ◌/◌, ◌%◌, Bool, true, false, not, nat_le, nat_lt, cond, Option, Some, None, is_some, List, [], ◌∷◌, ◌≡◌, length, slice_get, slice_index_or}
-use Rattle.std.specs.Option.{option_map}
+use Rattle.std.specs.Prelude.{ℕ, ◌/◌, Bool, true, false, not, nat_le, cond, Option, Some, None, is_some, List, [], ◌∷◌, length, slice_get}
 use Rattle.page.specs.declared.pages.Access.{Access}
 use Rattle.page.specs.declared.pages.Access.TheVariants.{Valid, Invalid}
 use Rattle.book.specs.declared.refused.Refused.{Refused}

@@ -1,5 +1,5 @@
 -- What holds of each processor between its calls, by what it has seen and its open block alone.
-use Rattle.std.specs.Prelude.{ℕ, ◌≡◌, ◌≢◌, ◌<◌, ◌≤◌, ◌↔◌, Bool, true, false, Option, Some, None, List, [], length, slice_get}
+use Rattle.std.specs.Prelude.{ℕ, ◌≡◌, ◌≢◌, ◌<◌, ◌≤◌, ◌↔◌, true, false, Some, None, List, [], length, slice_get}
 use Rattle.journal.specs.declared.event.Event.{Event}
 use Rattle.journal.specs.Sizes.{Sizes}
 use Rattle.journal.specs.Events.{At}

@@ -101,7 +101,12 @@ impl<T: Turn<Book, Rule>> Processor<T> {
     ghost use Rattle.cluster.specs.Covers.{Covers};
 
     /// The processor with this number and chair, before its first call.
-    pub(crate) fn seated(number: usize, shape: Shape, chair: Chair<Book, Rule>, parts: Parts) -> Processor<T>
+    pub(crate) fn seated(
+        number: usize,
+        shape: Shape,
+        chair: Chair<Book, Rule>,
+        parts: Parts,
+    ) -> Processor<T>
         requires sizes { AreSizes shape }
         requires number { number < shape.processors }
         requires chair { IsNewChair (lock chair) number chair }

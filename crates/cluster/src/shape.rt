@@ -20,11 +20,19 @@ impl Model for Shape {
     ghost Value = { Sizes };
 
     ghost view = { λ s. record {
-      processors = s.processors; pages = s.pages; words = s.words; locks = s.locks; flags = s.flags;
+      processors = s.processors;
+      pages = s.pages;
+      words = s.words;
+      locks = s.locks;
+      flags = s.flags;
     } };
 
     ghost inverse = { λ s. record {
-      processors = s.processors; pages = s.pages; words = s.words; locks = s.locks; flags = s.flags;
+      processors = s.processors;
+      pages = s.pages;
+      words = s.words;
+      locks = s.locks;
+      flags = s.flags;
     } };
 }
 

@@ -19,7 +19,7 @@ fn fills_a_block<T: Turn<Book, crate::Rule>>(rt: &impl Abort, p: &mut Processor<
     assert_eq!(rt; p.load(1), Err(Refused::OutOfRange));
     assert_eq!(rt; p.store(1, 1), Err(Refused::OutOfRange));
     assert_eq!(rt; p.fetch(1), Err(Refused::OutOfRange));
-    assert_eq!(rt; p.page(0), Some([1].as_slice()));
+    assert!(rt; p.is_valid(0) && !p.is_valid(1));
 }
 
 #[test]

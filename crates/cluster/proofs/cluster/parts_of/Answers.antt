@@ -1,4 +1,4 @@
-use Rattle.std.proofs.Common.{ℕ, ◌≡◌, ◌+◌, List, vec_len, slice_get, Some, inl, inr, subst, arith}
+use Rattle.std.proofs.Common.{◌≡◌, List, slice_get, Some, inl, inr, subst, arith}
 use Rattle.lists.proofs.Places.{push_cases}
 use Rattle.cluster.specs.declared.processor.Parts.{Parts}
 use Rattle.cluster.specs.Clusters.{AreParts}

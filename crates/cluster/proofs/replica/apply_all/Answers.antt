@@ -1,6 +1,5 @@
-use Rattle.std.proofs.Common.{ℕ, ◌≡◌, ◌<◌, ◌+◌, List, Some, [], ◌∷◌, length, map, drop, subst, subst₂, sym, ap, ◌∙◌, arith}
+use Rattle.std.proofs.Common.{ℕ, ◌≡◌, List, Some, length, map, subst₂, sym, ap, ◌∙◌, arith}
 use Rattle.interval.specs.Intervals.{SentRecord}
-use Rattle.lists.specs.Places.{Has}
 use Rattle.lists.specs.Records.{record_applied, records_applied}
 use Rattle.lists.proofs.LastWrites.{length-written}
 use Rattle.page.specs.Changes.{Changes}

@@ -1,9 +1,7 @@
-use Rattle.std.proofs.Common.{ℕ, ◌≡◌, ◌<◌, ◌≤◌, ◌+◌, Bool, true, false, List, Some, take, slice_get, sym, ap, subst₂, ◌∙◌, arith}
+use Rattle.std.proofs.Common.{ℕ, ◌≡◌, Bool, Some, take, slice_get, ap, subst₂, arith}
 use Rattle.interval.specs.Intervals.{SentRecord}
-use Rattle.journal.specs.Copies.{HasCount}
-use Rattle.cluster.specs.Copies.{IsOwner}
 use Rattle.cluster.proofs.Steps.{item_at, item_taken}
-use Rattle.cluster.proofs.Owners.{AreMarked, no_owners, no_marks, owner_again, owner_new}
+use Rattle.cluster.proofs.Owners.{no_owners, no_marks, owner_again, owner_new}
 use Rattle.cluster.proofs.replica.writers_of.Goals as goal
 use Rattle.cluster.proofs.replica.writers_of.Goals.{then-not-has, else-not-has}
 

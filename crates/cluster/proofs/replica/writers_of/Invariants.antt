@@ -1,4 +1,4 @@
-use Rattle.std.proofs.Common.{◌≡◌, ◌≤◌, take}
+use Rattle.std.proofs.Common.{◌≤◌, take}
 use Rattle.journal.specs.Copies.{HasCount}
 use Rattle.cluster.specs.Copies.{IsOwner}
 use Rattle.cluster.proofs.Owners.{AreMarked}

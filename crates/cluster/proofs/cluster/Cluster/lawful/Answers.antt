@@ -1,8 +1,7 @@
-use Rattle.std.proofs.Common.{ℕ, ◌≡◌, [], replicate, refl, sym, subst, ap, ◌∙◌, arith}
+use Rattle.std.proofs.Common.{[], replicate, refl, sym, subst, ap, ◌∙◌, arith}
 use Rattle.journal.specs.Sizes.{Sizes}
 use Rattle.turn.specs.Chairs.{LockId}
 use Rattle.book.specs.State.{State}
-use Rattle.book.specs.Transitions.{new_book}
 use Rattle.cluster.specs.Kept.{IsKept}
 use Rattle.cluster.specs.Local.{new_local}
 use Rattle.cluster.proofs.Starting.{start_kept, new_covered}

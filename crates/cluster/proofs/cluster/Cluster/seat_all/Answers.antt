@@ -1,16 +1,11 @@
-use Rattle.std.proofs.Common.{ℕ, ◌≡◌, ◌+◌, ◌++◌, ◌∷◌, [], List, vec_len, vec_capacity, length, slice_get, Some, append_assoc, subst, sym, ap, ◌∙◌, arith}
+use Rattle.std.proofs.Common.{ℕ, ◌≡◌, ◌++◌, ◌∷◌, [], List, length, slice_get, Some, append_assoc, subst, sym, ap, ◌∙◌, arith}
 use Rattle.std.proofs.lemmas.List.{length_push}
 use Rattle.std.proofs.lemmas.Option.{slice_get_within}
 use Rattle.std.specs.Vec.Iter.{into_iter_items}
 use Rattle.lists.proofs.Places.{slice_get-append_left, slice_get-last}
-use Rattle.journal.specs.declared.event.Event.{Event}
 use Rattle.turn.specs.Chairs.{lock}
-use Rattle.turn.specs.declared.chair.ChairToken.{ChairToken}
-use Rattle.book.specs.State.{State}
-use Rattle.cluster.specs.declared.keeper.View.{View}
-use Rattle.cluster.specs.declared.processor.Parts.{Parts}
 use Rattle.cluster.specs.Local.{Local, new_local}
-use Rattle.cluster.specs.Clusters.{AreParts, IsNewChair}
+use Rattle.cluster.specs.Clusters.{IsNewChair}
 use Rattle.cluster.proofs.Starting.{at_middle, seated_more}
 use Rattle.cluster.proofs.cluster.Cluster.seat_all.Goals as goal
 

@@ -1,6 +1,4 @@
-use Rattle.std.proofs.Common.{ℕ, ◌≡◌, ◌≤◌, None, sym, subst, arith}
-use Rattle.lists.specs.Limits.{most_in_block}
-use Rattle.cluster.specs.Refusals.{fetch_refusal}
+use Rattle.std.proofs.Common.{sym, subst, arith}
 use Rattle.cluster.specs.Sound.{IsSound}
 use Rattle.cluster.proofs.Covering.{covers}
 use Rattle.cluster.proofs.Fetching.{missing_fit, missing_few, fetched_newest, fetched_sound, stale_read, fetch_done}
@@ -55,8 +53,7 @@ invariant_of-self g c =
     let x = c.index_mut-replica.result.now in
     let free = sym c.in_ok-admit_fetch.ensures in
     let read = stale_read _ c.args.self.now c.args.page x c.self.view_is free c.index_mut-replica.ensures.value sound in
-    let after = fetch_done _ c.args.self.now c.args.page x c.fetch.new.self c.counts-counts.result c.push_reserved.new.self.items c.self.view_is c.fetch.ensures c.push_reserved.ensures.items in
-    (
+    let after = fetch_done _ c.args.self.now c.args.page x c.fetch.new.self c.counts-counts.result c.push_reserved.new.self.items c.self.view_is c.fetch.ensures c.push_reserved.ensures.items in (
       subst IsSound (sym after) (fetched_sound c.args.self.now sound c.args.page x read.0 read.1 c.counts-counts.result c.counts-counts.ensures free),
       c.self.invariant.1,
       (let kept = c.self.invariant.2 in let same = c.push_reserved.ensures.capacity in omega arith),

@@ -1,9 +1,6 @@
-use Rattle.std.proofs.Common.{◌≡◌, ◌%◌, ◌<◌, ◌≤◌, ◌∙◌, ℕ, Some, None, length, slice_get, sym, ap, subst, arith}
+use Rattle.std.proofs.Common.{◌≡◌, ◌%◌, Some, slice_get, sym, subst, arith}
 use Rattle.journal.specs.declared.event.Kind.TheVariants.{Load}
-use Rattle.lists.specs.Limits.{most_in_block}
-use Rattle.cluster.specs.Copies.{Copied}
 use Rattle.cluster.specs.Local.{Local, noted}
-use Rattle.cluster.specs.Refusals.{access_refusal}
 use Rattle.cluster.specs.Sound.{IsSound}
 use Rattle.cluster.proofs.Covering.{covers}
 use Rattle.cluster.proofs.Refusing.{copy_read}
@@ -38,8 +35,7 @@ invariant_of-self g c =
     let free = sym c.in_ok-page.ensures.refused in
     let read = copy_read _ m c.args.address c.in_ok-page.page c.index.result.now c.self.view_is free place.0 c.index.ensures in
     let word : slice_get c.index.result.now.page.words (c.args.address % m.sizes.words) ≡ Some c.load-value.result = rw (← place.1) c.load-value.ensures in
-    let sound = loaded m c.args.address c.load-value.result c.index.result.now free read.0 word (subst IsSound c.self.view_is c.self.invariant.0) in
-    (
+    let sound = loaded m c.args.address c.load-value.result c.index.result.now free read.0 word (subst IsSound c.self.view_is c.self.invariant.0) in (
       rw (c.push_reserved.ensures.items) (subst (λ (x : Local). IsSound (noted x (Load c.args.address c.load-value.result))) (sym c.self.view_is) sound),
       c.self.invariant.1,
       (let kept = c.self.invariant.2 in let same = c.push_reserved.ensures.capacity in omega arith),

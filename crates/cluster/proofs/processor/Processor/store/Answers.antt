@@ -1,11 +1,4 @@
-use Rattle.std.proofs.Common.{◌≡◌, ◌/◌, ◌%◌, ◌<◌, ◌≤◌, ◌∙◌, ℕ, List, Bool, true, Some, None, ◌++◌, ◌∷◌, [], length, slice_get, slice_set, sym, ap, subst, arith}
-use Rattle.journal.specs.declared.event.Event.{Event}
-use Rattle.journal.specs.declared.event.Kind.TheVariants.{Store}
-use Rattle.journal.specs.Did.{event}
-use Rattle.lists.specs.Limits.{most_in_block}
-use Rattle.cluster.specs.Accesses.{stored_at, written_at}
-use Rattle.cluster.specs.Copies.{Copied}
-use Rattle.cluster.specs.Local.{Local}
+use Rattle.std.proofs.Common.{sym, subst, arith}
 use Rattle.cluster.specs.Sound.{IsSound}
 use Rattle.cluster.proofs.Covering.{covers}
 use Rattle.cluster.proofs.Refusing.{copy_read}
@@ -44,8 +37,7 @@ invariant_of-self g c =
     let free = sym c.in_ok-page.ensures.refused in
     let read = copy_read _ m c.args.address c.in_ok-page.page c.index_mut.result.now c.self.view_is free place.0 c.index_mut.ensures.value in
     let after = store_done _ m c.args.address c.args.value c.in_ok-page.page c.in_ok-page.offset c.index_mut.result.now c.store.new.self c.push_reserved.new.self.items c.add.new.self c.self.view_is place.0 place.1 c.store.ensures c.push_reserved.ensures.items c.add.ensures in
-    let sound = stored m c.args.address c.args.value c.index_mut.result.now free read.0 (subst IsSound c.self.view_is c.self.invariant.0) in
-    (
+    let sound = stored m c.args.address c.args.value c.index_mut.result.now free read.0 (subst IsSound c.self.view_is c.self.invariant.0) in (
       subst IsSound (sym after) sound,
       c.self.invariant.1,
       (let kept = c.self.invariant.2 in let same = c.push_reserved.ensures.capacity in omega arith),

@@ -1,4 +1,4 @@
-use Rattle.std.proofs.Common.{List, length, sym, ap, subst, ◌∙◌}
+use Rattle.std.proofs.Common.{length, sym, subst}
 use Rattle.cluster.specs.Copies.{Copied, AllFit}
 use Rattle.cluster.proofs.replica.Replica.counts.Goals as goal
 

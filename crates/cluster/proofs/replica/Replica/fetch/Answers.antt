@@ -1,5 +1,4 @@
-use Rattle.std.proofs.Common.{List, length, sym, ap, subst, subst₂, ◌∙◌}
-use Rattle.interval.specs.Intervals.{SentRecord}
+use Rattle.std.proofs.Common.{length, sym, subst}
 use Rattle.cluster.specs.Copies.{Copied, AllFit}
 use Rattle.cluster.proofs.replica.Replica.fetch.Goals as goal
 
