@@ -1,0 +1,9 @@
+pub mod Replicas
+pub mod Refusing
+pub mod Steps
+pub mod Owners
+pub mod Newest
+pub mod Noting
+pub mod Fetching
+pub mod Covering
+pub mod Starting

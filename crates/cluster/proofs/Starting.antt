@@ -1,0 +1,114 @@
+-- The start: processors before their first calls, and the book.
+use Rattle.std.proofs.Common.{ℕ, ◌≡◌, ◌<◌, ◌↔◌, Bool, true, false, true≢false, Some, None, List, [], ◌∷◌, ◌++◌, length, replicate, slice_get, slice_index, inl, inr, refl, sym, ap, subst, subst₂, add-zero, arith}
+use Rattle.std.proofs.lemmas.List.{length-replicate}
+use Rattle.std.proofs.lemmas.Option.{none-some, slice_get_within}
+use Rattle.journal.specs.declared.event.Event.{Event}
+use Rattle.journal.specs.declared.event.Kind.TheVariants.{Load, Acquire}
+use Rattle.journal.specs.Sizes.{Sizes}
+use Rattle.journal.specs.Pasts.{InPast}
+use Rattle.journal.specs.Times.{IsTimeOf}
+use Rattle.journal.specs.WellFormed.{Holds}
+use Rattle.journal.specs.Missing.{Missing}
+use Rattle.journal.proofs.Journals.WellFormed.{well_formed_empty}
+use Rattle.journal.proofs.Times.Times.{time_none, time_equal}
+use Rattle.journal.proofs.Copies.Pages.{valid_start, answers_start}
+use Rattle.journal.proofs.Intervals.Dirty.{dirty_start}
+use Rattle.journal.proofs.Missing.Counted.{counted_start, block_counts_start}
+use Rattle.lists.proofs.Sets.{index-zeros}
+use Rattle.lists.proofs.Joined.{in_order-nil}
+use Rattle.lists.proofs.Places.{push_cases, slice_get-append_right}
+use Rattle.lists.proofs.Sets.{slice_get-replicate_found, slice_get-replicate}
+use Rattle.turn.specs.Chairs.{LockId, lock, view, entries}
+use Rattle.turn.specs.declared.chair.ChairToken.{ChairToken}
+use Rattle.book.specs.State.{State}
+use Rattle.book.specs.Transitions.{new_book}
+use Rattle.book.proofs.Keeps.Whole.{new_law}
+use Rattle.cluster.specs.declared.keeper.View.{View}
+use Rattle.cluster.specs.Copies.{Copied, IsReplica}
+use Rattle.cluster.specs.Local.{Local, local, blank, new_local}
+use Rattle.cluster.specs.Clusters.{Shared, IsNewChair, IsSeatedAt, AreNew, AreCovered}
+use Rattle.cluster.proofs.Covering.{covers}
+use Rattle.cluster.specs.Sound.{AreSizes, IsSound}
+use Rattle.cluster.specs.Kept.{GoesOn, IsKept}
+use Rattle.cluster.specs.Covers.{Allows}
+use Rattle.cluster.proofs.Noting.{valid_is_not_stale}
+
+blank_replica : (s : Sizes) (p n : ℕ) → IsReplica s [] [] p n (replicate s.words 0) (blank s)
+blank_replica s p n = record {
+  valid = λ _. (valid_start s p n, refl);
+  stale = λ h. absurd (valid_is_not_stale h);
+  order = in_order-nil (λ (x y : Missing). x.place < y.place);
+  dirty = dirty_start s p n (replicate s.words 0) (length-replicate s.words 0);
+}
+
+-- what nobody did is in no past
+none_past : (p i : ℕ) → InPast [] p i → ⊥
+none_past p i x = none-some x.event x.at
+
+zero_time : (p n : ℕ) → IsTimeOf [] p (slice_index (replicate n 0))
+zero_time p n = time_equal [] (InPast [] p) (λ _. 0) (slice_index (replicate n 0)) (λ q. sym (index-zeros n q)) (time_none [] (InPast [] p) (none_past p))
+
+-- a processor before its first call
+pub start_sound : (l : LockId) (p : ℕ) (s : Sizes) → AreSizes s → p < s.processors → IsSound (new_local l p s)
+start_sound l p s sizes mine = record {
+  sizes = sizes;
+  mine = mine;
+  few = omega arith;
+  well_formed = well_formed_empty s;
+  inner = λ k e at. absurd (none-some e at);
+  short = omega arith;
+  time = record { long = length-replicate s.processors 0; is = zero_time p s.processors };
+  bases = λ _. replicate s.words 0;
+  answers = answers_start s [] p (λ _. replicate s.words 0);
+  counts = block_counts_start s [] p;
+  copies = record { long = length-replicate s.pages (blank s); each = λ n c at. subst (IsReplica s [] [] p n (replicate s.words 0)) (slice_get-replicate_found s.pages (blank s) c n at) (blank_replica s p n) };
+  marks = refl;
+  clean = λ n c at _. subst (λ (x : Copied). x.page.dirty ≡ replicate (length x.page.words) false) (slice_get-replicate_found s.pages (blank s) c n at) (ap (λ k. replicate k false) (sym (length-replicate s.words 0)));
+  held = record { long = length-replicate s.locks false; each = λ k b at. subst (λ x. (x ≡ true) ↔ Holds [] p k) (slice_get-replicate_found s.locks false b k at) ((λ h. absurd (true≢false (sym h))), λ h. absurd (none-some (record { processor = p; kind = Acquire k }) h.acquires)) };
+  awaits = record { last = λ i a h. absurd (none-some (record { processor = p; kind = a }) h.does); some = λ k h. absurd (none-some k h) };
+  quiet = λ h. absurd (h refl);
+}
+
+-- an empty book with a view of nothing for each processor
+pub start_kept : (s : Sizes) → 0 < s.processors → IsKept s [] (new_book s) (replicate s.processors (record { seen = [] }))
+start_kept s some = record {
+  told = new_law s some;
+  explained = λ k p a v d. absurd (none-some (record { processor = p; kind = Load a v }) d);
+  counted = counted_start s;
+  few = omega arith;
+  all = length-replicate s.processors (record { seen = [] });
+  each = λ p v at. subst (GoesOn [] p) (slice_get-replicate_found s.processors (record { seen = [] }) v p at) (record { rest = []; begins = refl; away = λ k e at. absurd (none-some e at) });
+  owing = refl;
+}
+
+-- each new processor has a place in it
+pub start_allowed : (l : LockId) (p : ℕ) (s : Sizes) → p < s.processors → Allows (new_local l p s) []
+start_allowed l p s mine = record { book = new_book s; views = replicate s.processors (record { seen = [] }); mine = slice_get-replicate s.processors (record { seen = [] }) p mine; kept = start_kept s (omega arith) }
+
+-- the parts of a new processor
+made : (l : LockId) (e p : ℕ) (s : Sizes) (v : View) (block : List Event) (copies : List Copied) (stored : List Bool) (time : List ℕ) (held : List Bool) → e ≡ 0 → v ≡ record { seen = [] } → block ≡ [] → copies ≡ replicate s.pages (blank s) → stored ≡ replicate 64 false → time ≡ replicate s.processors 0 → held ≡ replicate s.locks false → ◌≡◌ {A = Local} (record { lock = l; entries = e; number = p; sizes = s; seen = v.seen; block = block; copies = copies; stored = stored; time = time; held = held; awaits = None }) (new_local l p s)
+made l e p s v block copies stored time held f g a b c d h = rw (f, g, a, b, c, d, h)
+
+pub start_parts : (chair : ChairToken State View) (p : ℕ) (s : Sizes) (block : List Event) (copies : List Copied) (stored : List Bool) (time : List ℕ) (held : List Bool) → IsNewChair (lock chair) p chair → block ≡ [] → copies ≡ replicate s.pages (blank s) → stored ≡ replicate 64 false → time ≡ replicate s.processors 0 → held ≡ replicate s.locks false → local chair p s block copies stored time held None ≡ new_local (lock chair) p s
+start_parts chair p s block copies stored time held new a b c d e = made (lock chair) (entries chair) p s (view chair) block copies stored time held new.entries_are new.view_is a b c d e
+
+-- new processors may have some book, and are covered
+pub new_covered : (c : Shared) (ms : List Local) → AreSizes c.sizes → AreNew c ms → AreCovered ms
+new_covered c ms sizes new = record {
+  allowed = λ p m at. ([], subst (λ (x : Local). Allows x []) (sym (new.each p m at)) (start_allowed c.lock p c.sizes (within p m at)));
+  covers = λ p m at. covers m (subst IsSound (sym (new.each p m at)) (start_sound c.lock p c.sizes sizes (within p m at)));
+}
+  where
+    within : (p : ℕ) (m : Local) → slice_get ms p ≡ Some m → p < c.sizes.processors
+    within p m at = let here = slice_get_within ms p m at in let all = new.all in omega arith
+
+-- the item between two lists
+pub at_middle : {A : Type 0} (xs ys : List A) (x : A) → slice_get (xs ++ x ∷ ys) (length xs) ≡ Some x
+at_middle xs ys x = let P : ℕ → Type 0 = λ k. slice_get (xs ++ x ∷ ys) k ≡ Some x in subst P (add-zero (length xs)) (slice_get-append_right xs (x ∷ ys) 0)
+
+-- one more chair has its processor
+pub seated_more : (s : Sizes) (chairs : List (ChairToken State View)) (ms : List Local) (c : ChairToken State View) (m : Local) → slice_get chairs (length ms) ≡ Some c → m ≡ new_local (lock c) (length ms) s → ((p : ℕ) (x : Local) → slice_get ms p ≡ Some x → IsSeatedAt s chairs p x) → (p : ℕ) (x : Local) → slice_get (ms ++ m ∷ []) p ≡ Some x → IsSeatedAt s chairs p x
+seated_more s chairs ms c m here is each p x at = elim (push_cases ms m p x at) [
+  | inl h ↦ each p x h.1
+  | inr h ↦ (let P : ℕ → Local → Type 0 = λ k y. IsSeatedAt s chairs k y in subst₂ P (sym h.0) h.1 (record { chair = c; at = here; is = is }))
+]

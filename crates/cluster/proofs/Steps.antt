@@ -1,0 +1,15 @@
+-- The item that a loop has reached.
+use Rattle.std.proofs.Common.{ℕ, suc, ◌≡◌, ◌<◌, ◌+◌, List, [], ◌∷◌, ◌++◌, Some, length, get_or, slice_get, take, drop, sym, ap, ◌∙◌, add-one}
+use Rattle.std.proofs.Math.Seq.{drop-cons}
+use Rattle.std.proofs.lemmas.List.{take_more}
+use Rattle.std.proofs.lemmas.Option.{slice_get-get_or}
+
+module _ {A : Type 0} (xs : List A) (k : ℕ) (x : A) (within : k < length xs) (is : x ≡ get_or xs k x) where
+  pub item_at : slice_get xs k ≡ Some x
+  item_at = slice_get-get_or xs k x within ∙ ap (λ (y : A). Some y) (sym is)
+
+  pub item_taken : take (k + 1) xs ≡ take k xs ++ x ∷ []
+  item_taken = take_more xs k x within ∙ ap (λ (y : A). take k xs ++ y ∷ []) (sym is)
+
+  pub item_dropped : drop k xs ≡ x ∷ drop (k + 1) xs
+  item_dropped = drop-cons xs k x within ∙ ap (λ (y : A). y ∷ drop (suc k) xs) (sym is) ∙ ap (λ (n : ℕ). x ∷ drop n xs) (sym (add-one k))

@@ -1,0 +1,30 @@
+use Rattle.std.proofs.Common.{[], replicate, refl, sym, subst, ap, ◌∙◌, arith}
+use Rattle.journal.specs.Sizes.{Sizes}
+use Rattle.turn.specs.Chairs.{LockId}
+use Rattle.book.specs.State.{State}
+use Rattle.cluster.specs.Kept.{IsKept}
+use Rattle.cluster.specs.Local.{new_local}
+use Rattle.cluster.proofs.Starting.{start_kept, new_covered}
+use Rattle.cluster.proofs.cluster.Cluster.lawful.Goals as goal
+
+pub new-requires-2-clause-fact : goal.new-requires-2-clause-fact
+new-requires-2-clause-fact g c =
+    let s : Sizes = record { processors = c.shape.inside.processors; pages = c.shape.inside.pages; words = c.shape.inside.words; locks = c.shape.inside.locks; flags = c.shape.inside.flags } in
+    (s, [], subst (λ (b : State). IsKept s [] b (replicate s.processors (record { seen = [] }))) (sym c.in_ok-book.ensures) (start_kept s (rw (ap (λ (x : Sizes). x.processors) c.shape.view_is) c.requires.sizes.some_processors)))
+
+pub seat_all-all-requires-clause-chairs : goal.seat_all-all-requires-clause-chairs
+seat_all-all-requires-clause-chairs g c κs within =
+    let made = c.in_ok-turn.ensures in
+    (let long = made.1 in let same = ap (λ (x : Sizes). x.processors) c.shape.view_is in omega arith, λ p x at. let f = made.2 p x at in record { lock_is = refl; place_is = f.1; view_is = f.2; entries_are = f.3; outside = f.4 })
+
+pub returns-clause-new : goal.returns-clause-new
+returns-clause-new g c =
+    let made = c.in_ok-turn.ensures in
+    let seated = c.seat_all-all.ensures in
+    record {
+      all = seated.all ∙ made.1 ∙ ap (λ (x : Sizes). x.processors) c.shape.view_is;
+      each = λ p m at. let x = seated.each p m at in x.is ∙ ap (λ (l : LockId). new_local l p c.args.shape) (made.2 p x.chair x.at).0;
+    }
+
+pub returns-clause-covers : goal.returns-clause-covers
+returns-clause-covers g c = new_covered _ _ c.requires.sizes (returns-clause-new g c)

@@ -1,0 +1,66 @@
+-- Loads, stores and fetches.
+use Rattle.std.specs.Prelude.{ℕ, ◌≡◌, ◌<◌, ◌≤◌, ◌⊎◌, ◌/◌, ◌%◌, true, Some, List, slice_get, slice_set}
+use Rattle.journal.specs.declared.event.Kind.TheVariants.{Store, Fetch}
+use Rattle.journal.specs.declared.event.Event.{Event}
+use Rattle.journal.specs.Sizes.{Sizes}
+use Rattle.journal.specs.WellFormed.{Does}
+use Rattle.journal.specs.Copies.{InGap}
+use Rattle.journal.specs.Intervals.{ClosedAt}
+use Rattle.cluster.specs.declared.replica.Counts.{Counts}
+use Rattle.cluster.specs.Copies.{Copied, fetched, AreCounts}
+use Rattle.cluster.specs.Local.{Local, noted}
+
+-- the processor's copy of the address's page has this word there
+pub record HasWord (m : Local) (a v : ℕ) : Type 0 where
+  pub copy : Copied
+  pub at : slice_get m.copies (a / m.sizes.words) ≡ Some copy
+  pub word : slice_get copy.page.words (a % m.sizes.words) ≡ Some v
+
+-- the copy with one word written and marked
+abbrev pub written_at : Copied → ℕ → ℕ → Copied
+written_at c o v = record c { page = record c.page { words = slice_set c.page.words o v; dirty = slice_set c.page.dirty o true } }
+
+-- the processor after a store of v at address a, where c is its copy of the page
+abbrev pub stored_at : Local → ℕ → ℕ → Copied → Local
+stored_at m a v c = record (noted m (Store a v)) {
+  copies = slice_set m.copies (a / m.sizes.words) (written_at c (a % m.sizes.words) v);
+  stored = slice_set m.stored (a / m.sizes.words) true;
+}
+
+-- and it had one
+pub record IsStored (old : Local) (a v : ℕ) (new : Local) : Type 0 where
+  pub copy : Copied
+  pub at : slice_get old.copies (a / old.sizes.words) ≡ Some copy
+  pub after : new ≡ stored_at old a v copy
+
+-- place i stores v at offset o in the gap, and of the gap's stores there its interval was closed last, and it is the
+-- last of them in that interval
+pub record IsLastInGap (s : Sizes) (j : List Event) (p n o v : ℕ) : Type 0 where
+  pub place : ℕ
+  pub by : ℕ
+  pub address : ℕ
+  pub stores : Does j place by (Store address v)
+  pub offset : address % s.words ≡ o
+  pub gap : InGap s j p n place
+  pub last : (i q a w c d : ℕ) → Does j i q (Store a w) → a % s.words ≡ o → InGap s j p n i → ClosedAt j i c → ClosedAt j place d → (c < d) ⊎ ((c ≡ d) × (i ≤ place))
+
+-- no store of the gap is at offset o
+abbrev pub IsOutsideGap : Sizes → List Event → ℕ → ℕ → ℕ → Type 0
+IsOutsideGap s j p n o = (i q a w : ℕ) → Does j i q (Store a w) → a % s.words ≡ o → ¬ InGap s j p n i
+
+-- each word with stores in the gap has the value of the one whose interval was closed last, and the others are as before
+abbrev pub AreNewest : Sizes → List Event → ℕ → ℕ → List ℕ → List ℕ → Type 0
+AreNewest s j p n old new = (o v : ℕ) → slice_get new o ≡ Some v → IsLastInGap s j p n o v ⊎ ((slice_get old o ≡ Some v) × IsOutsideGap s j p n o)
+
+-- the processor after a fetch of page n with these counts, where c is its copy of the page
+abbrev pub fetched_at : Local → ℕ → Copied → Counts → Local
+fetched_at m n c k = record (noted m (Fetch k.writers n k.records k.words)) { copies = slice_set m.copies n (fetched c) }
+
+-- and it had one, whose missing records are so many; each word with stores in the gap has the newest of them
+pub record IsFetched (old : Local) (n : ℕ) (new : Local) : Type 0 where
+  pub copy : Copied
+  pub at : slice_get old.copies n ≡ Some copy
+  pub counts : Counts
+  pub are : AreCounts copy.missing counts
+  pub newest : AreNewest old.sizes old.seen old.number n copy.page.words (fetched copy).page.words
+  pub after : new ≡ fetched_at old n copy counts

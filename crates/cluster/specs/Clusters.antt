@@ -1,0 +1,61 @@
+-- A cluster as contracts see it, and its processors at the start.
+use Rattle.std.specs.Prelude.{ℕ, ◌≡◌, ◌≤◌, Some, List, [], length, replicate, slice_get, vec_capacity, false}
+use Rattle.journal.specs.declared.event.Event.{Event}
+use Rattle.journal.specs.Sizes.{Sizes}
+use Rattle.lists.specs.Limits.{most_in_block}
+use Rattle.turn.specs.Chairs.{LockId, lock, place, view, entries, IsOutside}
+use Rattle.turn.specs.declared.chair.ChairToken.{ChairToken}
+use Rattle.book.specs.State.{State}
+use Rattle.cluster.specs.declared.keeper.View.{View}
+use Rattle.cluster.specs.declared.processor.Parts.{Parts}
+use Rattle.cluster.specs.Local.{Local, blank, new_local}
+use Rattle.cluster.specs.Covers.{Allows, Covers}
+
+-- its lock and its sizes
+pub record Shared : Type 0 where
+  pub lock : LockId
+  pub sizes : Sizes
+
+abbrev pub shared : LockId → Sizes → Shared
+shared l s = record { lock = l; sizes = s }
+
+-- a block with room, blank copies, no lock held and no interval performed
+pub record AreParts (s : Sizes) (x : Parts) : Type 0 where
+  pub block : x.block.items ≡ []
+  pub room : most_in_block ≤ vec_capacity x.block
+  pub replicas : x.replicas.items ≡ replicate s.pages (blank s)
+  pub held : x.held.items ≡ replicate s.locks false
+  pub time : x.time ≡ replicate s.processors 0
+
+-- the chair at place p of this lock, which never entered
+pub record IsNewChair (l : LockId) (p : ℕ) (c : ChairToken State View) : Type 0 where
+  pub lock_is : lock c ≡ l
+  pub place_is : place c ≡ p
+  pub view_is : view c ≡ record { seen = [] }
+  pub entries_are : entries c ≡ 0
+  pub outside : IsOutside c
+
+-- all of them, in the order of their places
+abbrev pub AreNewChairs : List (ChairToken State View) → Type 0
+AreNewChairs cs = (p : ℕ) (c : ChairToken State View) → slice_get cs p ≡ Some c → IsNewChair (lock c) p c
+
+-- the processor at place p of those that these chairs were given to
+pub record IsSeatedAt (s : Sizes) (cs : List (ChairToken State View)) (p : ℕ) (m : Local) : Type 0 where
+  pub chair : ChairToken State View
+  pub at : slice_get cs p ≡ Some chair
+  pub is : m ≡ new_local (lock chair) p s
+
+-- each of them
+pub record AreSeated (s : Sizes) (cs : List (ChairToken State View)) (ms : List Local) : Type 0 where
+  pub all : length ms ≡ length cs
+  pub each : (p : ℕ) (m : Local) → slice_get ms p ≡ Some m → IsSeatedAt s cs p m
+
+-- all processors of the cluster in the order of their numbers, before their first calls
+pub record AreNew (c : Shared) (ms : List Local) : Type 0 where
+  pub all : length ms ≡ c.sizes.processors
+  pub each : (p : ℕ) (m : Local) → slice_get ms p ≡ Some m → m ≡ new_local c.lock p c.sizes
+
+-- the lock may have some book for each processor, and each such book covers it
+pub record AreCovered (ms : List Local) : Type 0 where
+  pub allowed : (p : ℕ) (m : Local) → slice_get ms p ≡ Some m → (h : List Event) × Allows m h
+  pub covers : (p : ℕ) (m : Local) → slice_get ms p ≡ Some m → Covers m

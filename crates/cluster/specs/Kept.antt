@@ -1,0 +1,32 @@
+-- What the book's lock keeps.
+use Rattle.std.specs.Prelude.{ℕ, ◌≡◌, ◌≢◌, ◌*◌, ◌≤◌, Some, List, ◌++◌, length, slice_get}
+use Rattle.journal.specs.declared.event.Event.{Event}
+use Rattle.journal.specs.Sizes.{Sizes}
+use Rattle.journal.specs.Events.{At}
+use Rattle.journal.specs.Loads.{Explained}
+use Rattle.journal.specs.Counted.{AreCounted}
+use Rattle.lists.specs.Limits.{most_events, most_in_block}
+use Rattle.book.specs.State.{State}
+use Rattle.book.specs.Told.{IsTold}
+use Rattle.cluster.specs.declared.keeper.View.{View}
+
+-- the history goes on from what p has seen, without p
+pub record GoesOn (h : List Event) (p : ℕ) (v : View) : Type 0 where
+  pub rest : List Event
+  pub begins : h ≡ v.seen ++ rest
+  pub away : (k : ℕ) (e : Event) → At rest k e → e.processor ≢ p
+
+-- the history tells the book, its loads are explained and its fetches count their gaps, and it goes on from
+-- what each processor has seen
+pub record IsKept (s : Sizes) (h : List Event) (b : State) (views : List View) : Type 0 where
+  pub told : IsTold s h b
+  pub explained : Explained h
+  pub counted : AreCounted s h
+  pub few : length h ≤ most_events
+  pub all : length views ≡ s.processors
+  pub each : (p : ℕ) (v : View) → slice_get views p ≡ Some v → GoesOn h p v
+  pub owing : b.journal.room ≡ most_in_block * s.processors
+
+-- some history is kept so
+abbrev pub Kept : State → List View → Type 0
+Kept b views = (s : Sizes) × (h : List Event) × IsKept s h b views

@@ -1,0 +1,125 @@
+//! Clusters.
+ghost use Rattle.std.specs.Prelude.{◌≡◌, ◌≢◌, ◌⊎◌, ◌↔◌, ◌^◌, ◌≤◌, ◌<◌, Err, IfErr, IfOk, IsTrue, ℕ, List, [], length, vec_len, vec_capacity, slice_get, Some};
+ghost use Rattle.cluster.specs.Sound.{AreSizes};
+ghost use Rattle.cluster.specs.Clusters.{AreParts, AreNewChairs, AreSeated, AreNew, AreCovered};
+
+use crate::keeper::Rule;
+use crate::processor::{Parts, Processor};
+use crate::shape::Shape;
+use book::{Book, Refused};
+use std::alloc::{AllocError, Global};
+use std::marker::Model;
+use turn::{Chair, Turn};
+
+/// A cluster of processors over one book, behind the lock `T`. Its threads share it by reference.
+#[derive(Drop)]
+pub struct Cluster<T: Turn<Book, Rule>> {
+    turn: T,
+    shape: Shape,
+}
+
+impl<T: Turn<Book, Rule>> Model for Cluster<T> {
+    ghost use Rattle.std.specs.Prelude.{◌≡◌};
+    ghost use Rattle.cluster.specs.Sound.{AreSizes};
+    ghost use Rattle.cluster.specs.Clusters.{Shared, shared};
+
+    ghost Value = { Shared };
+
+    ghost view = { λ c. shared (T.id c.turn) c.shape };
+
+    ghost invariant = { λ c. (T.size c.turn ≡ c.shape.processors) × AreSizes c.shape };
+}
+
+impl<T: Turn<Book, Rule>> Cluster<T> {
+    /// A cluster of these sizes, and its processors in the order of their numbers: 1 to 16 processors, 1 to
+    /// 64 pages of 1 to 64 words, and up to 32 locks and flags.
+    ///
+    /// [`BadSize`](Refused::BadSize) exactly where a size is outside these; else the only error is
+    /// [`NoMemory`](Refused::NoMemory).
+    pub fn new(
+        alloc: Global,
+        processors: usize,
+        pages: usize,
+        words: usize,
+        locks: usize,
+        flags: usize,
+    ) -> Result<(Cluster<T>, Vec<Processor<T>>), Refused>
+        requires { T.ENTRIES ≤ 2 ^ 40 }
+        ensures size { result ≢ Err Refused.BadSize ↔ AreSizes (record { processors = processors; pages = pages; words = words; locks = locks; flags = flags }) }
+        ensures only { IfErr result (λ e. (e ≡ Refused.BadSize) ⊎ (e ≡ Refused.NoMemory)) }
+        ensures sizes { IfOk result (λ r. r.0.sizes ≡ record { processors = processors; pages = pages; words = words; locks = locks; flags = flags }) }
+        ensures new { IfOk result (λ r. AreNew r.0 r.1.items) }
+        ensures covers { IfOk result (λ r. AreCovered r.1.items) }
+    {
+        let shape = Shape {
+            processors,
+            pages,
+            words,
+            locks,
+            flags,
+        };
+        if !shape.is_lawful() {
+            return Err(Refused::BadSize);
+        }
+        let (cluster, all) = Cluster::lawful(alloc, shape)?;
+        Ok((cluster, all))
+    }
+
+    /// A cluster of these sizes. All memory but the lock's own is taken first.
+    fn lawful(alloc: Global, shape: Shape) -> Result<(Cluster<T>, Vec<Processor<T>>), AllocError>
+        requires entries { T.ENTRIES ≤ 2 ^ 40 }
+        requires sizes { AreSizes shape }
+        ensures sizes { IfOk result (λ r. r.0.sizes ≡ shape) }
+        ensures new { IfOk result (λ r. AreNew r.0 r.1.items) }
+        ensures covers { IfOk result (λ r. AreCovered r.1.items) }
+    {
+        let Shape {
+            processors,
+            pages,
+            words,
+            locks,
+            flags,
+        } = shape;
+        let all = Vec::with_capacity(alloc, processors)?;
+        let parts = parts_of(alloc, shape)?;
+        let book = Book::new(alloc, processors, pages, words, locks, flags)?;
+        let (turn, chairs) = T::new(alloc, book, processors)?;
+        let all = Self::seat_all(shape, chairs, parts, all);
+        Ok((Cluster { turn, shape }, all))
+    }
+
+    /// Gives each chair its processor.
+    fn seat_all(
+        shape: Shape,
+        chairs: Vec<Chair<Book, Rule>>,
+        mut parts: Vec<Parts>,
+        mut all: Vec<Processor<T>>,
+    ) -> Vec<Processor<T>>
+        requires sizes { AreSizes shape }
+        requires chairs { (vec_len chairs ≡ shape.processors) × AreNewChairs chairs.items }
+        requires parts { (vec_len parts ≡ shape.processors) × ((p : ℕ) (x : Parts) → slice_get parts.items p ≡ Some x → AreParts shape x) }
+        requires room { (all.items ≡ []) × (shape.processors ≤ vec_capacity all) }
+        ensures { AreSeated shape chairs.items result.items }
+    {
+        for chair in chairs {
+            let Some(own) = parts.pop() else {
+                unreachable!("there are as many as chairs")
+            };
+            all.push_reserved(Processor::seated(all.len(), shape, chair, own));
+        }
+        all
+    }
+}
+
+/// What each processor has before it has a chair.
+fn parts_of(alloc: Global, shape: Shape) -> Result<Vec<Parts>, AllocError>
+    requires { AreSizes shape }
+    ensures long { IfOk result (λ all. vec_len all ≡ shape.processors) }
+    ensures each { IfOk result (λ all. (p : ℕ) (x : Parts) → slice_get all.items p ≡ Some x → AreParts shape x) }
+{
+    let mut all = Vec::with_capacity(alloc, shape.processors)?;
+    for _ in 0..shape.processors {
+        all.push(Parts::new(alloc, shape)?)?;
+    }
+    Ok(all)
+}

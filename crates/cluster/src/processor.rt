@@ -1,0 +1,305 @@
+//! Processors.
+ghost use Rattle.std.specs.Prelude.{◌≡◌, ◌<◌, ◌+◌, ◌/◌, ◌%◌, ◌++◌, ◌∷◌, [], OnErr, OnOk, IfOk, false, length, replicate, slice_index_or};
+ghost use Rattle.std.specs.Option.{option_map};
+ghost use Rattle.std.specs.Result.{result_err};
+ghost use Rattle.cluster.specs.Local.{blank};
+ghost use Rattle.cluster.specs.Sound.{AreSizes};
+
+use crate::keeper::Rule;
+use crate::marks::Marks;
+use crate::replica::Replica;
+use crate::shape::Shape;
+use book::{Book, Refused};
+use journal::{Event, Kind};
+use std::alloc::{AllocError, Global};
+use std::marker::{Model, PhantomData};
+use turn::{Chair, Turn};
+use vtime::VTime;
+
+/// Events of an open block at most.
+const MOST_IN_BLOCK: usize = 256;
+
+/// What a processor has before it has a chair.
+#[derive(Drop)]
+pub(crate) struct Parts {
+    pub(crate) block: Vec<Event>,
+    pub(crate) replicas: Vec<Replica>,
+    pub(crate) held: Vec<bool>,
+    pub(crate) time: VTime,
+}
+
+impl Parts {
+    ghost use Rattle.cluster.specs.Clusters.{AreParts};
+
+    /// An open block with room, a zero copy of each page, and a zero timestamp.
+    pub(crate) fn new(alloc: Global, shape: Shape) -> Result<Parts, AllocError>
+        requires { AreSizes shape }
+        ensures { IfOk result (λ x. AreParts shape x) }
+    {
+        Ok(Parts {
+            block: Vec::with_capacity(alloc, MOST_IN_BLOCK)?,
+            replicas: replicas_of(alloc, shape)?,
+            held: vec![in alloc; false; shape.locks]?,
+            time: VTime::zero(alloc, shape.processors),
+        })
+    }
+}
+
+/// A zero copy of each page.
+fn replicas_of(alloc: Global, shape: Shape) -> Result<Vec<Replica>, AllocError>
+    requires { AreSizes shape }
+    ensures { IfOk result (λ all. all.items ≡ replicate shape.pages (blank shape)) }
+{
+    let mut replicas = Vec::with_capacity(alloc, shape.pages)?;
+    for _ in 0..shape.pages {
+        replicas.push(Replica::zero(alloc, shape)?)?;
+    }
+    Ok(replicas)
+}
+
+/// A processor of a cluster, which one thread owns. Loads, stores and fetches are its own business: they
+/// enter no lock and take no memory.
+#[derive(Drop)]
+pub struct Processor<T: Turn<Book, Rule>> {
+    number: usize,
+    shape: Shape,
+    chair: Chair<Book, Rule>,
+    block: Vec<Event>,
+    replicas: Vec<Replica>,
+    stored: Marks,
+    time: VTime,
+    held: Vec<bool>,
+    awaits: Option<Kind>,
+    turn: PhantomData<T>,
+}
+
+impl<T: Turn<Book, Rule>> Model for Processor<T> {
+    ghost use Rattle.std.specs.Prelude.{◌≡◌, ◌≤◌, vec_capacity};
+    ghost use Rattle.turn.specs.Chairs.{lock, view, entries, place, IsOutside};
+    ghost use Rattle.lists.specs.Limits.{most_in_block};
+    ghost use Rattle.cluster.specs.Local.{Local, local};
+    ghost use Rattle.cluster.specs.Sound.{IsSound, IsSeated};
+
+    ghost Value = { Local };
+
+    ghost view = { λ m. local m.chair m.number m.shape m.block.items m.replicas.items m.stored m.time m.held.items m.awaits };
+
+    ghost invariant = { λ m.
+        IsSound (local m.chair m.number m.shape m.block.items m.replicas.items m.stored m.time m.held.items m.awaits)
+        × IsSeated m.chair m.number
+        × (most_in_block ≤ vec_capacity m.block) };
+}
+
+impl<T: Turn<Book, Rule>> Processor<T> {
+    ghost use Rattle.journal.specs.Did.{event};
+    ghost use Rattle.lists.specs.Limits.{most_in_block};
+    ghost use Rattle.turn.specs.Chairs.{lock};
+    ghost use Rattle.cluster.specs.Clusters.{AreParts, IsNewChair};
+    ghost use Rattle.cluster.specs.Local.{calls, noted, new_local};
+    ghost use Rattle.cluster.specs.Refusals.{page_of, has_valid, is_waiting, access_refusal, fetch_refusal, event_refusal};
+    ghost use Rattle.cluster.specs.Accesses.{HasWord, IsStored, IsFetched};
+    ghost use Rattle.cluster.specs.Covers.{Covers};
+
+    /// The processor with this number and chair, before its first call.
+    pub(crate) fn seated(
+        number: usize,
+        shape: Shape,
+        chair: Chair<Book, Rule>,
+        parts: Parts,
+    ) -> Processor<T>
+        requires sizes { AreSizes shape }
+        requires number { number < shape.processors }
+        requires chair { IsNewChair (lock chair) number chair }
+        requires parts { AreParts shape parts }
+        ensures { result ≡ new_local (lock chair) number shape }
+    {
+        let Parts {
+            block,
+            replicas,
+            held,
+            time,
+        } = parts;
+        Processor {
+            number,
+            shape,
+            chair,
+            block,
+            replicas,
+            stored: Marks::none(),
+            time,
+            held,
+            awaits: None,
+            turn: PhantomData,
+        }
+    }
+
+    /// The processor's number, from 0.
+    pub fn number(&self) -> usize
+        ensures { result ≡ self.now.number }
+    {
+        self.number
+    }
+
+    /// Its copy of the page: None where that lacks records, or past the last page.
+    pub fn page(&self, page: usize) -> Option<&[u32]>
+        ensures { option_map (λ words. words.now) result ≡ page_of self.now page }
+    {
+        self.replicas.get(page)?.words()
+    }
+
+    /// Whether its copy of the page lacks nothing; false past the last page.
+    pub fn is_valid(&self, page: usize) -> bool
+        ensures { result ≡ has_valid self.now page }
+    {
+        match self.replicas.get(page) {
+            Some(replica) => replica.is_valid(),
+            None => false,
+        }
+    }
+
+    /// Whether it holds the lock: it acquired it, and has not released it since. False past the last lock.
+    pub fn holds(&self, lock: usize) -> bool
+        ensures { result ≡ slice_index_or self.now.held lock false }
+    {
+        match self.held.get(lock) {
+            Some(held) => *held,
+            None => false,
+        }
+    }
+
+    /// Whether it has asked, arrived or watched, and not yet taken.
+    pub fn waiting(&self) -> bool
+        ensures { result ≡ is_waiting self.now }
+    {
+        self.awaits.is_some()
+    }
+
+    /// Its timestamp: of each processor, how many intervals have been performed here.
+    pub fn timestamp(&self) -> &VTime
+        ensures { result.now ≡ self.now.time }
+    {
+        &self.time
+    }
+
+    /// How many events still fit into its open block, at most 256.
+    pub fn room(&self) -> usize
+        ensures { result + length self.now.block ≡ most_in_block }
+    {
+        MOST_IN_BLOCK - self.block.len()
+    }
+
+    /// The word at the address in the processor's own copy. It costs the address's division, two tests and
+    /// one event of the open block.
+    ///
+    /// The first of these that applies: [`OutOfRange`](Refused::OutOfRange) past the last address,
+    /// [`Invalid`](Refused::Invalid) where the copy of the address's page lacks records,
+    /// [`Waiting`](Refused::Waiting) between a call that waits and its take, and
+    /// [`BlockFull`](Refused::BlockFull) at 256 events.
+    pub fn load(&mut self, address: usize) -> Result<u32, Refused>
+        ensures refused { result_err result ≡ access_refusal self.old address }
+        ensures err { OnErr result (self.new ≡ self.old) }
+        ensures word { IfOk result (λ v. HasWord self.old address v) }
+        ensures ok { IfOk result (λ v. self.new ≡ noted self.old (Kind.Load address v)) }
+        ensures calls { IfOk result (λ v. calls self.new ≡ calls self.old ++ event self.old.number (Kind.Load address v) ∷ []) }
+        ensures covers { Covers self.new }
+    {
+        let (page, offset) = self.admit(address)?;
+        let value = self.replicas[page].load(offset);
+        self.block.push_reserved(Event {
+            processor: self.number,
+            kind: Kind::Load(address, value),
+        });
+        Ok(value)
+    }
+
+    /// Writes the word at the address in the processor's own copy, and marks it as stored to. It costs what a
+    /// load costs, and is refused as a load is.
+    pub fn store(&mut self, address: usize, value: u32) -> Result<(), Refused>
+        ensures refused { result_err result ≡ access_refusal self.old address }
+        ensures err { OnErr result (self.new ≡ self.old) }
+        ensures ok { OnOk result (IsStored self.old address value self.new) }
+        ensures calls { OnOk result (calls self.new ≡ calls self.old ++ event self.old.number (Kind.Store address value) ∷ []) }
+        ensures covers { Covers self.new }
+    {
+        let (page, offset) = self.admit(address)?;
+        self.replicas[page].store(offset, value);
+        self.stored.add(page);
+        self.block.push_reserved(Event {
+            processor: self.number,
+            kind: Kind::Store(address, value),
+        });
+        Ok(())
+    }
+
+    /// Applies the records that the copy of the page lacks, in the order in which their intervals were
+    /// closed, and makes it valid. It costs its records.
+    ///
+    /// The first of these that applies: [`OutOfRange`](Refused::OutOfRange) past the last page,
+    /// [`Waiting`](Refused::Waiting), [`BlockFull`](Refused::BlockFull), and
+    /// [`AlreadyValid`](Refused::AlreadyValid) where the copy lacks nothing.
+    pub fn fetch(&mut self, page: usize) -> Result<(), Refused>
+        ensures refused { result_err result ≡ fetch_refusal self.old page }
+        ensures err { OnErr result (self.new ≡ self.old) }
+        ensures ok { OnOk result (IsFetched self.old page self.new) }
+        ensures covers { Covers self.new }
+    {
+        self.admit_fetch(page)?;
+        let replica = &mut self.replicas[page];
+        let counts = replica.counts();
+        replica.fetch();
+        self.block.push_reserved(Event {
+            processor: self.number,
+            kind: Kind::Fetch {
+                page,
+                writers: counts.writers,
+                records: counts.records,
+                words: counts.words,
+            },
+        });
+        Ok(())
+    }
+
+    /// Whether a fetch of the page may be done.
+    fn admit_fetch(&self, page: usize) -> Result<(), Refused>
+        ensures { result_err result ≡ fetch_refusal self.now page }
+    {
+        let Some(replica) = self.replicas.get(page) else {
+            return Err(Refused::OutOfRange);
+        };
+        self.admit_event()?;
+        if replica.is_valid() {
+            return Err(Refused::AlreadyValid);
+        }
+        Ok(())
+    }
+
+    /// Whether the open block may have one more event.
+    fn admit_event(&self) -> Result<(), Refused>
+        ensures { result_err result ≡ event_refusal self.now }
+    {
+        if self.awaits.is_some() {
+            return Err(Refused::Waiting);
+        }
+        if self.block.len() == MOST_IN_BLOCK {
+            return Err(Refused::BlockFull);
+        }
+        Ok(())
+    }
+
+    /// Where the word at the address is, if a load or a store may use it: its page and its offset there.
+    fn admit(&self, address: usize) -> Result<(usize, usize), Refused>
+        ensures refused { result_err result ≡ access_refusal self.now address }
+        ensures place { IfOk result (λ r. (r.0 ≡ address / self.now.sizes.words) × (r.1 ≡ address % self.now.sizes.words)) }
+    {
+        let words = self.shape.words;
+        let (page, offset) = (address / words, address % words);
+        let Some(replica) = self.replicas.get(page) else {
+            return Err(Refused::OutOfRange);
+        };
+        if !replica.is_valid() {
+            return Err(Refused::Invalid(page));
+        }
+        self.admit_event()?;
+        Ok((page, offset))
+    }
+}
