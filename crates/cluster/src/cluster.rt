@@ -45,9 +45,21 @@ impl<T: Turn<Book, Rule>> Cluster<T> {
         flags: usize,
     ) -> Result<(Cluster<T>, Vec<Processor<T>>), Refused>
         requires { T.ENTRIES ≤ 2 ^ 40 }
-        ensures size { result ≢ Err Refused.BadSize ↔ AreSizes (record { processors = processors; pages = pages; words = words; locks = locks; flags = flags }) }
+        ensures size { result ≢ Err Refused.BadSize ↔ AreSizes (record {
+          processors = processors;
+          pages = pages;
+          words = words;
+          locks = locks;
+          flags = flags;
+        }) }
         ensures only { IfErr result (λ e. (e ≡ Refused.BadSize) ⊎ (e ≡ Refused.NoMemory)) }
-        ensures sizes { IfOk result (λ r. r.0.sizes ≡ record { processors = processors; pages = pages; words = words; locks = locks; flags = flags }) }
+        ensures sizes { IfOk result (λ r. r.0.sizes ≡ record {
+          processors = processors;
+          pages = pages;
+          words = words;
+          locks = locks;
+          flags = flags;
+        }) }
         ensures new { IfOk result (λ r. AreNew r.0 r.1.items) }
         ensures covers { IfOk result (λ r. AreCovered r.1.items) }
     {
@@ -97,7 +109,8 @@ impl<T: Turn<Book, Rule>> Cluster<T> {
     ) -> Vec<Processor<T>>
         requires sizes { AreSizes shape }
         requires chairs { (vec_len chairs ≡ shape.processors) × AreNewChairs chairs.items }
-        requires parts { (vec_len parts ≡ shape.processors) × ((p : ℕ) (x : Parts) → slice_get parts.items p ≡ Some x → AreParts shape x) }
+        requires parts { (vec_len parts ≡ shape.processors)
+            × ((p : ℕ) (x : Parts) → slice_get parts.items p ≡ Some x → AreParts shape x) }
         requires room { (all.items ≡ []) × (shape.processors ≤ vec_capacity all) }
         ensures { AreSeated shape chairs.items result.items }
     {

@@ -200,7 +200,8 @@ impl<T: Turn<Book, Rule>> Processor<T> {
         ensures err { OnErr result (self.new ≡ self.old) }
         ensures word { IfOk result (λ v. HasWord self.old address v) }
         ensures ok { IfOk result (λ v. self.new ≡ noted self.old (Kind.Load address v)) }
-        ensures calls { IfOk result (λ v. calls self.new ≡ calls self.old ++ event self.old.number (Kind.Load address v) ∷ []) }
+        ensures calls { IfOk result (λ v. calls self.new
+            ≡ calls self.old ++ event self.old.number (Kind.Load address v) ∷ []) }
         ensures covers { Covers self.new }
     {
         let (page, offset) = self.admit(address)?;
@@ -218,7 +219,8 @@ impl<T: Turn<Book, Rule>> Processor<T> {
         ensures refused { result_err result ≡ access_refusal self.old address }
         ensures err { OnErr result (self.new ≡ self.old) }
         ensures ok { OnOk result (IsStored self.old address value self.new) }
-        ensures calls { OnOk result (calls self.new ≡ calls self.old ++ event self.old.number (Kind.Store address value) ∷ []) }
+        ensures calls { OnOk result (calls self.new
+            ≡ calls self.old ++ event self.old.number (Kind.Store address value) ∷ []) }
         ensures covers { Covers self.new }
     {
         let (page, offset) = self.admit(address)?;
