@@ -117,33 +117,42 @@ fn thirty_two_locks_and_flags_are_used(rt: HostRuntime) -> Result<(), Fail> {
     Ok(())
 }
 
-#[test]
-fn a_block_has_at_most_256_events(rt: HostRuntime) -> Result<(), Fail> {
-    let mut told = opened(rt.alloc(), 2, 64, 64, 1, 0)?;
-    let stores = four_pages(rt.alloc(), 3)?;
-    let mut fewer = four_pages(rt.alloc(), 3)?;
-    fewer.pop();
+/// Blocks of 255 and 256 events are handed in and one of 257 isn't, by calls that hand in alone and by others.
+fn hands_in(
+    told: &mut Told,
+    rt: &(impl Abort + AllocGlobal),
+    fewer: &[Store],
+    stores: &[Store],
+) -> Result<(), Refused> {
     go(
-        &mut told,
-        &rt,
+        told,
+        rt,
         &[
             Does(0, HandIn(255), NONE),
             Does(0, HandIn(256), NONE),
             Refuses(0, HandIn(257), Refused::BlockFull),
-            Does(0, Ask(0), &fewer),
+        ],
+    )?;
+    does(told, rt.alloc(), 0, Ask(0), fewer)?;
+    go(
+        told,
+        rt,
+        &[
             Does(0, Take, NONE),
-            Does(0, HandIn(0), &stores),
-            Does(0, Release(0), &stores),
+            Does(0, HandIn(0), stores),
+            Does(0, Release(0), stores),
             Does(1, Ask(0), NONE),
             IsDue(1, 15, 2),
             Does(1, Take, NONE),
         ],
-    )?;
-    let copy = copy_of(&mut told, rt.alloc(), 1, 256)?;
-    assert!(rt; copy.len() == 511 + 256 + 1 + 256 + 257 + 2 + 256);
+    )
+}
+
+/// Last blocks have at most 256 events of each processor.
+fn ends(told: &mut Told, rt: &(impl Abort + AllocGlobal)) -> Result<(), Refused> {
     go(
-        &mut told,
-        &rt,
+        told,
+        rt,
         &[
             Does(1, Last(256), NONE),
             Does(0, Last(255), NONE),
@@ -151,7 +160,19 @@ fn a_block_has_at_most_256_events(rt: HostRuntime) -> Result<(), Fail> {
             Does(0, Last(1), NONE),
             Refuses(0, Last(1), Refused::JournalFull),
         ],
-    )?;
+    )
+}
+
+#[test]
+fn a_block_has_at_most_256_events(rt: HostRuntime) -> Result<(), Fail> {
+    let mut told = opened(rt.alloc(), 2, 64, 64, 1, 0)?;
+    let stores = four_pages(rt.alloc(), 3)?;
+    let mut fewer = four_pages(rt.alloc(), 3)?;
+    fewer.pop();
+    hands_in(&mut told, &rt, &fewer, &stores)?;
+    let copy = copy_of(&mut told, rt.alloc(), 1, 256)?;
+    assert!(rt; copy.len() == 511 + 256 + 1 + 256 + 257 + 2 + 256);
+    ends(&mut told, &rt)?;
     Ok(())
 }
 
@@ -190,13 +211,12 @@ fn almost_full(rt: &(impl Abort + AllocGlobal)) -> Result<Told, Refused> {
     Ok(told)
 }
 
-#[test]
-fn a_journal_has_at_most_2_to_the_20_events(rt: HostRuntime) -> Result<(), Fail> {
-    let mut told = almost_full(&rt)?;
-    assert!(rt; does(&mut told, rt.alloc(), 0, Ask(0), &[(0, 1)]) == Err(Refused::JournalFull));
+/// The last event that fits is an ask by processor 0; then every call that has something to add is refused.
+fn refuses_more(told: &mut Told, rt: &(impl Abort + AllocGlobal)) -> Result<(), Refused> {
+    assert!(rt; does(told, rt.alloc(), 0, Ask(0), &[(0, 1)]) == Err(Refused::JournalFull));
     go(
-        &mut told,
-        &rt,
+        told,
+        rt,
         &[
             Refuses(0, HandIn(2), Refused::JournalFull),
             Does(0, Ask(0), NONE),
@@ -211,14 +231,22 @@ fn a_journal_has_at_most_2_to_the_20_events(rt: HostRuntime) -> Result<(), Fail>
             Refuses(1, Audit(1), Refused::JournalFull),
             Does(1, HandIn(0), NONE),
         ],
-    )?;
-    let copy = copy_of(&mut told, rt.alloc(), 1, 0)?;
-    assert!(rt; copy.len() == 1 << 20);
+    )
+}
+
+/// Whether the journal has 2^20 events and a last block of 256, in their order.
+fn is_full(journal: &Journal) -> bool {
+    journal.len() == (1 << 20) + 256
+        && has_event(journal, 0, did(1, Kind::Ask(1)))
+        && has_event(journal, (1 << 20) - 1, did(0, Kind::Ask(0)))
+        && has_event(journal, 1 << 20, did(1, Kind::Load(0, 0)))
+}
+
+#[test]
+fn a_journal_has_at_most_2_to_the_20_events(rt: HostRuntime) -> Result<(), Fail> {
+    let mut told = almost_full(&rt)?;
+    refuses_more(&mut told, &rt)?;
     does(&mut told, rt.alloc(), 1, Last(256), NONE)?;
-    let journal = told.into_journal();
-    assert!(rt; journal.len() == (1 << 20) + 256);
-    assert!(rt; has_event(&journal, 0, did(1, Kind::Ask(1))));
-    assert!(rt; has_event(&journal, (1 << 20) - 1, did(0, Kind::Ask(0))));
-    assert!(rt; has_event(&journal, 1 << 20, did(1, Kind::Load(0, 0))));
+    assert!(rt; is_full(&told.into_journal()));
     Ok(())
 }
