@@ -149,7 +149,24 @@ fn count_between(
     closed.news_of(page, &old, &new)
 }
 
-/// How many notices of pages 0 to 3 lie between the timestamps, counted at once into a used slice.
+/// Counts the notices of each page between the timestamps into the slice, whatever stood there.
+fn count_into(
+    rt: &(impl Abort + AllocGlobal),
+    closed: &Closed,
+    old: [u64; 2],
+    new: [u64; 2],
+    counts: &mut [usize],
+)
+    requires { length closed.now.first ≡ 2 }
+{
+    let old = stamp(rt.alloc(), old);
+    let new = stamp(rt.alloc(), new);
+    assert!(rt; closed.first(0) <= old.entry(0));
+    assert!(rt; closed.first(1) <= old.entry(1));
+    closed.count_news(&old, &new, counts);
+}
+
+/// How many notices of pages 0 to 3 lie between the timestamps, counted at once.
 fn counts_between(
     rt: &(impl Abort + AllocGlobal),
     closed: &Closed,
@@ -158,12 +175,8 @@ fn counts_between(
 ) -> [usize; 4]
     requires { length closed.now.first ≡ 2 }
 {
-    let old = stamp(rt.alloc(), old);
-    let new = stamp(rt.alloc(), new);
-    assert!(rt; closed.first(0) <= old.entry(0));
-    assert!(rt; closed.first(1) <= old.entry(1));
     let mut counts = [9; 4];
-    closed.count_news(&old, &new, &mut counts);
+    count_into(rt, closed, old, new, &mut counts);
     counts
 }
 
@@ -177,10 +190,8 @@ fn counts_the_news_of_all_pages(rt: HostRuntime) -> Result<(), Fail> {
     closed.trim(0, 1);
     assert_eq!(rt; counts_between(&rt, &closed, [1, 1], [2, 2]), [0, 0, 0, 1]);
     assert_eq!(rt; counts_between(&rt, &closed, [9, 0], [0, 1]), [1, 0, 1, 0]);
-    let (old, new) = (stamp(rt.alloc(), [1, 0]), stamp(rt.alloc(), [2, 2]));
     let mut one = [5];
-    assert!(rt; closed.first(0) == 1 && closed.first(1) == 0);
-    closed.count_news(&old, &new, &mut one);
+    count_into(&rt, &closed, [1, 0], [2, 2], &mut one);
     assert_eq!(rt; one, [1]);
     Ok(())
 }
