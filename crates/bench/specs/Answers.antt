@@ -1,8 +1,8 @@
 -- What each work answers.
-use Rattle.std.specs.Prelude.{ℕ, List, codes, ◌≡◌, ◌↔◌, IsTrue, MatchOption, length, replicate}
+use Rattle.std.specs.Prelude.{ℕ, List, codes, ◌≡◌, ◌↔◌, IsTrue, MatchOption, ◌+◌, length}
 use Rattle.journal.specs.Log.{Log}
 use Rattle.journal.specs.Flat.{Replays as replays}
-use Rattle.journal.specs.Races.{RaceFree, IsFirstRace}
+use Rattle.journal.specs.RacesFrom.{RaceFreeFrom, IsFirstRaceFrom}
 use Rattle.journal.specs.Traffic.{messages, records, words}
 use Rattle.bench.specs.declared.work.Work.{Work}
 use Rattle.bench.specs.declared.work.Work.TheVariants as work
@@ -11,9 +11,9 @@ use Rattle.bench.specs.declared.work.Answer.TheVariants.{Events, FirstRace, Repl
 
 -- the answer is of this work on the journal
 abbrev pub IsAnswerOf : Work → Log → Answer → Type 0
-IsAnswerOf work.FirstRace j (FirstRace o) = MatchOption o (RaceFree j.events) (λ r. IsFirstRace j.events r.0 r.1)
-IsAnswerOf work.Replay j (Replays r) = IsTrue r ↔ replays (replicate j.addresses 0) j.events
-IsAnswerOf work.Traffic j (Traffic t) = (t.messages ≡ messages j.events) × (t.records ≡ records j.events) × (t.words ≡ words j.events)
+IsAnswerOf work.FirstRace j (FirstRace o) = MatchOption o (RaceFreeFrom j.base j.events) (λ r. IsFirstRaceFrom j.base j.events r.0 r.1)
+IsAnswerOf work.Replay j (Replays r) = IsTrue r ↔ replays j.base.memory j.events
+IsAnswerOf work.Traffic j (Traffic t) = (t.messages ≡ j.base.spent.messages + messages j.events) × (t.records ≡ j.base.spent.records + records j.events) × (t.words ≡ j.base.spent.words + words j.events)
 IsAnswerOf work.Build j (Events n) = n ≡ length j.events
 IsAnswerOf work.Append j (Events n) = n ≡ length j.events
 IsAnswerOf work.Copy j (Events n) = n ≡ length j.events

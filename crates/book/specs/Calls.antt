@@ -1,5 +1,5 @@
 -- What a call of an idle processor may rest on.
-use Rattle.std.specs.Prelude.{ℕ, ◌≡◌, ◌<◌, ◌≤◌, Option, List, [], Some, None, length, slice_get, slice_index, slice_index_or}
+use Rattle.std.specs.Prelude.{ℕ, ◌≡◌, ◌<◌, ◌≤◌, Option, List, [], Some, None, length, slice_get, slice_index, slice_index_or, slice_set}
 use Rattle.journal.specs.declared.event.Event.{Event}
 use Rattle.journal.specs.declared.event.Kind.{Kind}
 use Rattle.journal.specs.Sizes.{Sizes}
@@ -8,7 +8,8 @@ use Rattle.transit.specs.Letters.{Letter, letter}
 use Rattle.transit.specs.declared.message.Message.{Message}
 use Rattle.book.specs.Transitions.{grant_after, book_took}
 use Rattle.journal.specs.WellFormed.{Holds}
-use Rattle.book.specs.State.{State}
+use Rattle.book.specs.State.{State, time_of}
+use Rattle.book.specs.ClosedIntervals.{AreFromFirst, IsTight}
 use Rattle.book.specs.Told.{IsTold}
 use Rattle.book.specs.Brought.{message_for}
 use Rattle.book.specs.Laws.{MayHandIn, MayGive}
@@ -29,6 +30,11 @@ MayAsk b p l block = (s : Sizes) × (h : List Event) × IsTold s h b × MayHandI
 abbrev pub MayRelease : State → ℕ → ℕ → List Event → Type 0
 MayRelease b p l block = (s : Sizes) × (h : List Event) × IsTold s h b × MayHandIn s b p block × (l < s.locks) × Holds h p l
 
+-- p has a timestamp, with an entry of its own
+pub record IsOpen (b : State) (p : ℕ) : Type 0 where
+  pub within : p < length b.times
+  pub own : p < length (time_of b p)
+
 -- processor r has a timestamp, and no interval is dropped that it doesn't cover
 pub record MayBeSent (c : Closings) (times : List (List ℕ)) (r : ℕ) : Type 0 where
   pub within : r < length times
@@ -41,6 +47,16 @@ pub record MaySignal (c : Closings) (flags : List (Option (List ℕ))) (own : Li
   pub time : (t : List ℕ) → slice_index_or flags f None ≡ Some t → length t ≡ length c.first
   pub long : length own ≡ length c.first
   pub kept : (q : ℕ) → slice_index c.first q ≤ slice_index own q
+
+-- the intervals may be trimmed after p's timestamp has risen from `before`: where p isn't alone, nothing was left
+-- to trim till then
+pub record MayTrim (c : Closings) (times : List (List ℕ)) (p : ℕ) (before : List ℕ) : Type 0 where
+  pub within : p < length times
+  pub owners : length c.first ≡ length times
+  pub long : (i : ℕ) (t : List ℕ) → slice_get times i ≡ Some t → length t ≡ length times
+  pub old_long : length before ≡ length times
+  pub from : AreFromFirst c
+  pub tight : 1 < length times → IsTight c.first (slice_set times p before)
 
 -- a message and who is to have it
 abbrev pub addressed : ℕ × Message → ℕ × Letter

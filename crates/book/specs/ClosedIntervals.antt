@@ -19,12 +19,17 @@ pub record AreContents (s : Sizes) (h : List Event) (owner number : ℕ) (record
   pub all : (n i : ℕ) → StoresIn s h owner number n i → (r : Changes) × Has records r × (r.page ≡ n)
   pub rising : HasRisingPages records
 
+-- no kept interval has a number below its owner's first
+abbrev pub AreFromFirst : Closings → Type 0
+AreFromFirst c = (k : Kept) → Has c.kept k → slice_index c.first k.interval.owner ≤ k.interval.number
+
 -- the intervals closed so far, but for each owner's first ones, are kept in closing order
 pub record AreClosed (s : Sizes) (h : List Event) (c : Closings) : Type 0 where
   pub count : c.pushed ≡ closed_count h
   pub next_long : length c.next ≡ s.processors
   pub next : (q : ℕ) → q < s.processors → slice_index c.next q ≡ count_of is_closing h q
   pub first_long : length c.first ≡ s.processors
+  pub from : AreFromFirst c
   pub each : (k : Kept) → Has c.kept k → IsPlaced h k.interval.owner k.interval.number k.place
   pub all : (q i : ℕ) → ClosesAt h q i → slice_index c.first q ≤ interval_at h q i → (k : Kept) × Has c.kept k × (k.interval.owner ≡ q) × (k.interval.number ≡ interval_at h q i)
   pub contents : (k : Kept) → Has c.kept k → AreContents s h k.interval.owner k.interval.number k.interval.records
@@ -33,3 +38,8 @@ pub record AreClosed (s : Sizes) (h : List Event) (c : Closings) : Type 0 where
 -- no interval is dropped that some processor's timestamp doesn't cover
 abbrev pub IsWithin : List ℕ → List (List ℕ) → Type 0
 IsWithin first times = (p q : ℕ) (t : List ℕ) → slice_get times p ≡ Some t → slice_index first q ≤ slice_index t q
+
+-- of each owner, someone's timestamp covers no more than what is dropped
+abbrev pub IsTight : List ℕ → List (List ℕ) → Type 0
+IsTight first times = (q : ℕ) → q < length first
+    → (r : ℕ) × (t : List ℕ) × (slice_get times r ≡ Some t) × (slice_index t q ≤ slice_index first q)

@@ -1,19 +1,22 @@
 -- How the book holds its value.
-use Rattle.std.specs.Prelude.{◌+◌, ◌^◌, ◌≤◌, length}
+use Rattle.std.specs.Prelude.{◌+◌, ◌^◌, ◌≤◌, length, map}
+use Rattle.std.specs.Option.{option_map}
 use Rattle.lists.specs.Limits.{most_events}
-use Rattle.book.specs.declared.book.Book.TheInside.{Inside}
+use Rattle.book.specs.Awaiting.{kind_of}
+use Rattle.book.specs.declared.protocol.Protocol.TheInside.{Inside}
 use Rattle.book.specs.State.{State}
 
 -- the journal's room, as contracts see it, is that for what is owing to `finish`
 abbrev pub state_of : Inside → State
 state_of b = record {
+  words = b.words;
   journal = record b.journal { room = b.owing };
   closed = b.closed;
   times = b.times.items;
   locks = b.locks;
   barrier = b.barrier;
   flags = b.flags.items;
-  awaits = b.awaits.items;
+  awaits = map (option_map kind_of) b.awaits.items;
   transit = b.transit;
 }
 

@@ -1,4 +1,5 @@
 pub mod Stamps
+pub mod Awaiting
 pub mod Lines
 pub mod Mail
 pub mod Meetings

@@ -7,9 +7,10 @@ use Rattle.lockq.specs.Lock.{Locks}
 use Rattle.barrier.specs.Episodes.{Episodes}
 use Rattle.transit.specs.Letters.{Letter}
 
--- the journal, the closed intervals, each processor's timestamp, the locks, the barrier, the time of
--- each flag that is set, what each processor waits for, and its message
+-- the words a page, the journal, the closed intervals, each processor's timestamp, the locks, the barrier,
+-- the time of each flag that is set, what each processor waits for, and its message
 pub record State : Type 0 where
+  pub words : ℕ
   pub journal : Log
   pub closed : Closings
   pub times : List (List ℕ)

@@ -1,5 +1,5 @@
 -- Everything in the book is what the history says.
-use Rattle.std.specs.Prelude.{ℕ, ◌≡◌, Some, List, slice_get}
+use Rattle.std.specs.Prelude.{ℕ, ◌≡◌, ◌<◌, Some, List, slice_get}
 use Rattle.journal.specs.declared.event.Event.{Event}
 use Rattle.journal.specs.Sizes.{Sizes, addresses}
 use Rattle.journal.specs.WellFormed.{WellFormed}
@@ -11,13 +11,14 @@ use Rattle.book.specs.Lines.{IsLock}
 use Rattle.book.specs.Mail.{IsMail}
 use Rattle.book.specs.Meetings.{IsBarrier}
 use Rattle.book.specs.Flags.{IsFlag}
-use Rattle.book.specs.ClosedIntervals.{AreClosed, IsWithin}
+use Rattle.book.specs.ClosedIntervals.{AreClosed, IsWithin, IsTight}
 use Rattle.journal.specs.Log.{HoldsHistory}
 use Rattle.book.specs.State.{State}
 
 -- the book is one of a cluster of these sizes
 pub record HasSizes (s : Sizes) (b : State) : Type 0 where
   pub processors : b.journal.processors ≡ s.processors
+  pub words : b.words ≡ s.words
   pub addresses : b.journal.addresses ≡ addresses s
   pub lockers : b.locks.processors ≡ s.processors
 
@@ -35,3 +36,4 @@ pub record IsTold (s : Sizes) (h : List Event) (b : State) : Type 0 where
   pub transit : AreAll s.processors (IsMail s h) b.transit
   pub notices : (p : ℕ) (m : Letter) (t : List ℕ) → slice_get b.transit p ≡ Some (Some m) → slice_get b.times p ≡ Some t → m.notices ≡ between b.closed t m.time
   pub within : IsWithin b.closed.first b.times
+  pub tight : 1 < s.processors → IsTight b.closed.first b.times

@@ -3,7 +3,7 @@ use Rattle.std.specs.Prelude.{ℕ, zero, suc, ◌-◌, ◌*◌, min, Bool, true,
 use Rattle.journal.specs.declared.event.Event.{Event}
 use Rattle.journal.specs.declared.event.Kind.{Kind}
 use Rattle.journal.specs.declared.event.Kind.TheVariants.{Ask, Release, Arrive, Depart, Set, Watch}
-use Rattle.journal.specs.Log.{Log}
+use Rattle.journal.specs.Log.{Log, new_log}
 use Rattle.journal.specs.Sizes.{Sizes, addresses}
 use Rattle.journal.specs.Waits.{awaited}
 use Rattle.page.specs.Changes.{Changes}
@@ -20,7 +20,8 @@ use Rattle.book.specs.State.{State, time_of}
 -- an empty book, with room for 256 last events of each processor
 abbrev pub new_book : Sizes → State
 new_book s = record {
-  journal = record { processors = s.processors; addresses = addresses s; events = []; room = 256 * s.processors };
+  words = s.words;
+  journal = record (new_log s.processors (addresses s)) { room = 256 * s.processors };
   closed = record { kept = []; first = replicate s.processors 0; next = replicate s.processors 0; pushed = 0 };
   times = replicate s.processors (replicate s.processors 0);
   locks = record { processors = s.processors; locks = replicate s.locks (unheld s.processors) };

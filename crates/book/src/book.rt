@@ -1,67 +1,46 @@
 //! The book: everything that the processors share.
-ghost use Rattle.std.specs.Prelude.{List, ◌≡◌, ◌≢◌, ℕ, ◌+◌, ◌-◌, ◌*◌, None, replicate, ◌^◌, ◌<◌, ◌≤◌, ◌++◌, ◌↔◌, ◌⊎◌, true, map, OnOk, OnErr, IfErr, IfOk, IfSome, slice_index, slice_index_or, Err, length, slice_get, slice_set, Some};
-ghost use Rattle.lists.specs.Limits.{most_events, most_in_block, most_processors};
+ghost use Rattle.std.specs.Prelude.{◌≡◌, ◌≢◌, ℕ, ◌+◌, ◌*◌, ◌^◌, ◌<◌, ◌≤◌, ◌↔◌, ◌⊎◌, EachIndex, IsTrue, Some, Err, OnOk, OnErr, IfErr, IfOk, List, map, length, count_by, slice_get, slice_index};
 ghost use Rattle.std.specs.Arc.{arc_value};
-ghost use Rattle.journal.specs.Events.{is_closing};
-ghost use Rattle.journal.specs.Waits.{awaited};
-ghost use Rattle.interval.specs.Intervals.{HasRisingPages};
-ghost use Rattle.book.specs.Brought.{brought};
-ghost use Rattle.book.specs.Calls.{MayFlush, MayCall, MayAsk, MayRelease, MayBeSent, MayTakeSome, Takes};
-ghost use Rattle.book.specs.Transitions.{new_book, handed_in, handed_last, closing, due, granted, left, set_at, book_watched, book_set, book_asked, book_released, book_arrived, departures_after};
-ghost use Rattle.book.specs.State.{time_of};
-ghost use Rattle.book.specs.Told.{IsTold};
+ghost use Rattle.lists.specs.Limits.{most_events, most_in_block, most_processors};
+ghost use Rattle.journal.specs.declared.event.Event.{Event as AnEvent};
 ghost use Rattle.journal.specs.Sizes.{Sizes};
 ghost use Rattle.journal.specs.WellFormed.{Ready};
-ghost use Rattle.journal.specs.declared.event.Event.{Event as AnEvent};
-ghost use Rattle.std.specs.Option.{option_map};
-ghost use Rattle.vtime.specs.Times.{tick};
-ghost use Rattle.interval.specs.Closings.{between, pushed};
-ghost use Rattle.lockq.specs.Lock.{lock_at};
+ghost use Rattle.interval.specs.Intervals.{HasRisingPages};
+ghost use Rattle.interval.specs.Closings.{is_of_page};
 ghost use Rattle.transit.specs.Letters.{letter};
-ghost use Rattle.transit.specs.Letters.Kind.{grant};
+ghost use Rattle.book.specs.Brought.{brought};
+ghost use Rattle.book.specs.Calls.{MayFlush, MayCall, MayAsk, MayRelease, MayTakeSome, MayLook, Takes};
+ghost use Rattle.book.specs.Transitions.{new_book, handed_in, handed_last, book_watched, book_set, book_asked, book_released, book_arrived};
+ghost use Rattle.book.specs.Told.{IsTold};
 
-mod pending;
-
-use crate::messages::{departures, grant_to, has_come, post_all, receive};
+use crate::protocol::Protocol;
 use crate::refused::Refused;
-use crate::room::{append_all, make_room};
-use crate::trims::trim;
-use barrier::{Barrier, Stage};
-use interval::{Closed, Interval};
-use journal::{Event, Journal, Kind};
-use lockq::Locks;
+use journal::{Event, Journal};
 use page::Record;
 use std::alloc::{AllocError, Global};
 use std::marker::Model;
+use std::mem::size_of;
 use std::sync::Arc;
-use transit::{Message, Transit};
-use vtime::VTime;
+use transit::Message;
 
 /// The protocol's state: the journal, the closed intervals, the processors' timestamps, the
 /// distributed locks, the barrier, the flags, what each processor waits for, and the messages on
-/// their way (Keleher, Cox and Zwaenepoel 1992, sections 3 and 4).
+/// their way (Keleher, Cox and Zwaenepoel 1992, sections 3 and 4). It moves as a pointer, at each
+/// enter and leave of its lock.
 #[derive(Drop)]
 pub struct Book {
-    journal: Journal,
-    owing: usize,
-    closed: Closed,
-    times: Vec<VTime>,
-    locks: Locks,
-    barrier: Barrier,
-    flags: Vec<Option<VTime>>,
-    awaits: Vec<Option<Kind>>,
-    transit: Transit,
+    protocol: Box<Protocol>,
 }
+
+// A book moves as a pointer.
+const _: () = prove!(size_of::<Book>() == 8);
 
 impl Model for Book {
     ghost use Rattle.book.specs.State.{State};
-    ghost use Rattle.book.specs.Holding.{state_of, IsHeld};
 
     ghost Value = { State };
 
-    ghost view = { state_of };
-
-    ghost invariant = { IsHeld };
+    ghost view = { λ b. b.protocol.value };
 }
 
 impl Book {
@@ -81,25 +60,9 @@ impl Book {
         requires addresses { pages * words < 2 ^ 64 }
         ensures { IfOk result (λ b. b ≡ new_book (record { processors = processors; pages = pages; words = words; locks = locks; flags = flags })) }
     {
-        let owing = 256 * processors;
-        let mut journal = Journal::new(alloc, processors, pages * words)?;
-        journal.reserve(owing)?;
-        let mut times = Vec::with_capacity(alloc, processors)?;
-        let mut awaits = Vec::with_capacity(alloc, processors)?;
-        for _ in 0..processors {
-            times.push(VTime::zero(alloc, processors))?;
-            awaits.push(None)?;
-        }
+        let protocol = Protocol::new(alloc, processors, pages, words, locks, flags)?;
         Ok(Book {
-            journal,
-            owing,
-            closed: Closed::new(alloc, processors)?,
-            times,
-            locks: Locks::new(alloc, locks, processors)?,
-            barrier: Barrier::new(alloc, processors),
-            flags: unset(alloc, flags)?,
-            awaits,
-            transit: Transit::new(alloc, processors)?,
+            protocol: Box::new(alloc, protocol)?,
         })
     }
 
@@ -113,9 +76,7 @@ impl Book {
         ensures full { result ≡ Err Refused.JournalFull ↔ (most_events < length self.old.journal.events + length block.now) }
         ensures only { IfErr result (λ e. (e ≡ Refused.JournalFull) ⊎ (e ≡ Refused.NoMemory)) }
     {
-        make_room(&mut self.journal, self.owing, block.len())?;
-        append_all(&mut self.journal, block);
-        Ok(())
+        self.protocol.hand_in(p, block)
     }
 
     /// Hands in a block as `hand_in` does, and answers a copy of the whole journal after it.
@@ -128,11 +89,7 @@ impl Book {
         ensures full { result ≡ Err Refused.JournalFull ↔ (most_events < length self.old.journal.events + length block.now) }
         ensures only { IfErr result (λ e. (e ≡ Refused.JournalFull) ⊎ (e ≡ Refused.NoMemory)) }
     {
-        make_room(&mut self.journal, self.owing, block.len())?;
-        let mut copy = self.journal.copy_with_room(block.len())?;
-        append_all(&mut self.journal, block);
-        append_all(&mut copy, block);
-        Ok(copy)
+        self.protocol.audit(p, block)
     }
 
     /// Watches a flag: closes the interval, whose records these are, and from then on `p` waits for the
@@ -152,7 +109,7 @@ impl Book {
         ensures full { result ≡ Err Refused.JournalFull ↔ (most_events < length self.old.journal.events + length block.now + 1) }
         ensures only { IfErr result (λ e. (e ≡ Refused.JournalFull) ⊎ (e ≡ Refused.NoMemory)) }
     {
-        self.close(p, Kind::Watch(f), block, records)
+        self.protocol.watch(p, f, block, records)
     }
 
     /// Sets a flag: closes the interval, and joins the timestamp of `p` after that into the flag's.
@@ -173,10 +130,7 @@ impl Book {
         ensures full { result ≡ Err Refused.JournalFull ↔ (most_events < length self.old.journal.events + length block.now + 1) }
         ensures only { IfErr result (λ e. (e ≡ Refused.JournalFull) ⊎ (e ≡ Refused.NoMemory)) }
     {
-        self.close(p, Kind::Set(f), block, records)?;
-        let time = with_set(&self.flags[f], &self.times[p]);
-        self.flags[f] = Some(time);
-        Ok(())
+        self.protocol.set(p, f, block, records)
     }
 
     /// Asks for a lock that `p` doesn't hold: closes the interval, and puts `p` into the lock's line. Where
@@ -197,15 +151,7 @@ impl Book {
         ensures full { result ≡ Err Refused.JournalFull ↔ (most_events < length self.old.journal.events + length block.now + 1) }
         ensures only { IfErr result (λ e. (e ≡ Refused.JournalFull) ⊎ (e ≡ Refused.NoMemory)) }
     {
-        make_room(&mut self.journal, self.owing, block.len() + 1)?;
-        let grant = self.grant_if_free(p, l)?;
-        self.close(p, Kind::Ask(l), block, records)?;
-        self.locks.ask(l, p);
-        match grant {
-            Some(message) => self.transit.post(p, message),
-            None => {}
-        }
-        Ok(())
+        self.protocol.ask(p, l, block, records)
     }
 
     /// Releases a lock that `p` holds: closes the interval, and leaves the timestamp of `p` after that with
@@ -226,23 +172,7 @@ impl Book {
         ensures full { result ≡ Err Refused.JournalFull ↔ (most_events < length self.old.journal.events + length block.now + 1) }
         ensures only { IfErr result (λ e. (e ≡ Refused.JournalFull) ⊎ (e ≡ Refused.NoMemory)) }
     {
-        make_room(&mut self.journal, self.owing, block.len() + 1)?;
-        let mut time = self.times[p].copy();
-        let interval = Interval {
-            owner: p,
-            number: time.entry(p),
-            records,
-        };
-        time.tick(p);
-        let locks = &self.locks;
-        let grant = grant_to(locks.next(l), &self.closed, &self.times, &interval, &time)?;
-        self.close(p, Kind::Release(l), block, interval.records)?;
-        self.locks.release(l, p, time);
-        match grant {
-            Some((next, message)) => self.transit.post(next, message),
-            None => {}
-        }
-        Ok(())
+        self.protocol.release(p, l, block, records)
     }
 
     /// Arrives at the barrier: closes the interval, and joins the timestamp of `p` after that into the
@@ -262,71 +192,7 @@ impl Book {
         ensures full { result ≡ Err Refused.JournalFull ↔ (most_events < length self.old.journal.events + length block.now + 1) }
         ensures only { IfErr result (λ e. (e ≡ Refused.JournalFull) ⊎ (e ≡ Refused.NoMemory)) }
     {
-        make_room(&mut self.journal, self.owing, block.len() + 1)?;
-        let mut time = self.times[p].copy();
-        let interval = Interval {
-            owner: p,
-            number: time.entry(p),
-            records,
-        };
-        time.tick(p);
-        let departures = self.departures_with(&interval, &time)?;
-        self.close(p, Kind::Arrive, block, interval.records)?;
-        self.barrier.arrive(p, &time);
-        match departures {
-            Some(messages) => post_all(&mut self.transit, messages),
-            None => {}
-        }
-        Ok(())
-    }
-
-    /// The departures of all, where the episode is complete with the arrival of the interval's owner, at
-    /// the time `own`.
-    fn departures_with(
-        &self,
-        interval: &Interval,
-        own: &VTime,
-    ) -> Result<Option<Vec<Message>>, AllocError>
-        requires owner { interval.now.owner < length self.now.closed.next }
-        requires processor { interval.now.owner < length self.now.times }
-        requires pages { HasRisingPages interval.now.records }
-        requires away { slice_get self.now.barrier.stages interval.now.owner ≡ Some Stage.Away }
-        requires own_long { length own.now ≡ length self.now.barrier.stages }
-        requires long { length self.now.barrier.stages ≡ length self.now.closed.first }
-        requires all { (r : ℕ) → r < length self.now.times → MayBeSent self.now.closed (slice_set self.now.times interval.now.owner own.now) r }
-        ensures { IfOk result (λ o. option_map (λ ms. map letter ms.items) o ≡ departures_after
-            (pushed self.now.closed interval.now) self.now.barrier (slice_set self.now.times interval.now.owner own.now) interval.now.owner own.now) }
-    {
-        let barrier = &self.barrier;
-        let is_last = barrier.completes(interval.owner);
-        if !is_last {
-            return Ok(None);
-        }
-        let alloc = *self.times.allocator();
-        let time = barrier.time_with(own);
-        let all = departures(alloc, &self.closed, &self.times, interval, own, &time)?;
-        Ok(Some(all))
-    }
-
-    /// The grant to `p` of a lock that nobody holds. That `p` is about to close its interval changes
-    /// nothing in it: the lock's time doesn't cover that interval.
-    fn grant_if_free(&self, p: usize, l: usize) -> Result<Option<Message>, AllocError>
-        requires lock { l < length self.now.locks.locks }
-        requires processor { p < length self.now.times }
-        requires own_long { length (time_of self.now p) ≡ length self.now.closed.first }
-        requires time_long { length (lock_at self.now.locks l).time ≡ length self.now.closed.first }
-        requires kept { (q : ℕ) → slice_index self.now.closed.first q ≤ slice_index (time_of self.now p) q }
-        ensures { IfOk result (λ m. option_map letter m
-            ≡ due (lock_at self.now.locks l).holder (granted self.now p (lock_at self.now.locks l).time)) }
-    {
-        let locks = &self.locks;
-        if locks.holder(l).is_some() {
-            return Ok(None);
-        }
-        let (closed, own) = (&self.closed, &self.times[p]);
-        let time = locks.time(l).copy();
-        let notices = closed.between(own, &time)?;
-        Ok(Some(Message::Grant { time, notices }))
+        self.protocol.arrive(p, block, records)
     }
 
     /// Takes what `p` waits for: its grant, its departure, or the signal of its flag as the flag stands now,
@@ -342,21 +208,7 @@ impl Book {
         ensures full { result ≢ Err Refused.NotYet → result ≡ Err Refused.JournalFull ↔ (most_events < length self.old.journal.events + 1) }
         ensures only { IfErr result (λ e. (e ≡ Refused.NotYet) ⊎ (e ≡ Refused.JournalFull) ⊎ (e ≡ Refused.NoMemory)) }
     {
-        let Some(kind) = self.awaits[p] else {
-            unreachable!("the processor waits")
-        };
-        if !has_come(&self.flags, &self.transit, p, kind) {
-            return Err(Refused::NotYet);
-        }
-        make_room(&mut self.journal, self.owing, 1)?;
-        let (closed, flags) = (&self.closed, &self.flags);
-        let message = receive(&mut self.transit, closed, flags, &self.times[p], p, kind)?;
-        self.journal.append(Event { processor: p, kind });
-        self.times[p].join(message.time());
-        self.awaits[p] = None;
-        leave(&mut self.barrier, kind, p);
-        trim(&mut self.closed, &self.times);
-        Ok(message)
+        self.protocol.take(p)
     }
 
     /// Hands in the last block of `p` at the end, past the limit. It takes no memory.
@@ -365,40 +217,14 @@ impl Book {
         requires room { length block.now ≤ self.old.journal.room }
         ensures { self.new ≡ handed_last self.old block.now }
     {
-        append_all(&mut self.journal, block);
-        self.owing -= block.len();
+        self.protocol.last(p, block)
     }
 
-    /// Hands the block in, closes the interval of `p` and appends the event that closes it. All growths
-    /// come first.
-    fn close(
-        &mut self,
-        p: usize,
-        kind: Kind,
-        block: &[Event],
-        records: Vec<Arc<Record>>,
-    ) -> Result<(), Refused>
-        requires call { MayCall self.old p block.now }
-        requires short { length block.now ≤ most_in_block }
-        requires rising { HasRisingPages (map arc_value records.items) }
-        requires kind { is_closing kind ≡ true }
-        ensures ok { OnOk result (self.new ≡ closing (handed_in self.old block.now) p kind (map arc_value records.items)) }
-        ensures err { OnErr result (self.new ≡ self.old) }
-        ensures full { result ≡ Err Refused.JournalFull ↔ (most_events < length self.old.journal.events + length block.now + 1) }
-        ensures only { IfErr result (λ e. (e ≡ Refused.JournalFull) ⊎ (e ≡ Refused.NoMemory)) }
+    /// Whether the journal has the 2^20 events that it may have, so that a take, which would add one, is refused.
+    pub fn is_full(&self) -> bool
+        ensures { IsTrue result ↔ (most_events ≤ length self.now.journal.events) }
     {
-        make_room(&mut self.journal, self.owing, block.len() + 1)?;
-        let number = self.times[p].entry(p);
-        self.closed.push(Interval {
-            owner: p,
-            number,
-            records,
-        })?;
-        append_all(&mut self.journal, block);
-        self.journal.append(Event { processor: p, kind });
-        self.times[p].tick(p);
-        self.awaits[p] = awaited(kind);
-        Ok(())
+        self.protocol.is_full()
     }
 
     /// The number of the first kept interval of processor `q`.
@@ -406,63 +232,33 @@ impl Book {
         requires { q < length self.now.closed.first }
         ensures { slice_get self.now.closed.first q ≡ Some result }
     {
-        let closed = &self.closed;
-        closed.first(q)
+        self.protocol.first(q)
     }
 
     /// The journal alone, with whatever room it has.
     pub fn into_journal(self) -> Journal
         ensures { result ≡ record self.journal { room = result.room } }
     {
-        self.journal
+        Box::into_inner(self.protocol).into_journal()
     }
-}
 
-/// What comes next after a call that waits.
-fn awaited(kind: Kind) -> Option<Kind>
-    ensures { result ≡ awaited kind }
-{
-    match kind {
-        Kind::Ask(lock) => Some(Kind::Acquire(lock)),
-        Kind::Arrive => Some(Kind::Depart),
-        Kind::Watch(flag) => Some(Kind::Await(flag)),
-        _ => None,
+    /// How many notices of the page a take by `p` would bring now: none where `p` waits for nothing, or
+    /// where what it waits for isn't there. It takes no memory.
+    pub fn due(&self, p: usize, page: usize) -> usize
+        requires call { MayLook self.now p }
+        ensures { result ≡ count_by (is_of_page page) (brought self.now p) }
+    {
+        self.protocol.due(p, page)
     }
-}
 
-/// The time of a flag after one more set.
-fn with_set(kept: &Option<VTime>, time: &VTime) -> VTime
-    requires { IfSome kept.now (λ t. length t ≡ length time.now) }
-    ensures { result ≡ set_at kept.now time.now }
-{
-    match kept {
-        Some(kept) => {
-            let mut joined = kept.copy();
-            joined.join(time);
-            joined
-        }
-        None => time.copy(),
-    }
-}
-
-/// So many flags that are not set.
-fn unset(alloc: Global, flags: usize) -> Result<Vec<Option<VTime>>, AllocError>
-    ensures { IfOk result (λ all. all.items ≡ replicate flags None) }
-{
-    let mut all = Vec::with_capacity(alloc, flags)?;
-    for _ in 0..flags {
-        all.push(None)?;
-    }
-    Ok(all)
-}
-
-/// The barrier's part of a take.
-fn leave(barrier: &mut Barrier, kind: Kind, p: usize)
-    requires { kind ≡ Kind.Depart → slice_get barrier.old.stages p ≡ Some Stage.Free }
-    ensures { barrier.new ≡ left kind barrier.old p }
-{
-    match kind {
-        Kind::Depart => barrier.depart(p),
-        _ => {}
+    /// How many notices of each page a take by `p` would bring now: entry n of the slice, whatever stood
+    /// there, becomes the number for page n, as `due` answers it. Pages past the slice's end are not counted.
+    /// It takes no memory, and costs in the order of the slice and of what a take would bring.
+    pub fn count_due(&self, p: usize, counts: &mut [usize])
+        requires call { MayLook self.now p }
+        ensures each { EachIndex counts.new (λ n. slice_index counts.new n ≡ count_by (is_of_page n) (brought self.now p)) }
+        ensures same_length { length counts.new ≡ length counts.old }
+    {
+        self.protocol.count_due(p, counts)
     }
 }

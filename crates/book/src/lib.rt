@@ -14,12 +14,15 @@
 //! `book_uses`.
 #![tactic(auto)]
 
+mod awaited;
 mod book;
 pub mod laws;
 mod messages;
+mod protocol;
 mod refused;
 mod room;
 mod trims;
 
+pub use awaited::Awaited;
 pub use book::Book;
 pub use refused::Refused;

@@ -5,11 +5,12 @@ ghost use Rattle.interval.specs.Intervals.{HasRisingPages};
 ghost use Rattle.interval.specs.Closings.{pushed};
 ghost use Rattle.transit.specs.Letters.{letter};
 ghost use Rattle.book.specs.Transitions.{departure_to};
+ghost use Rattle.book.specs.Awaiting.{kind_of};
 ghost use Rattle.book.specs.Brought.{has_come, message_among, signal_after};
 ghost use Rattle.book.specs.Calls.{MayBeSent, MaySignal, addressed, grant_for};
 
+use crate::awaited::Awaited;
 use interval::{Closed, Interval};
-use journal::Kind;
 use std::alloc::{AllocError, Global};
 use transit::{Message, Transit};
 use vtime::VTime;
@@ -77,14 +78,14 @@ pub(crate) fn post_all(transit: &mut Transit, messages: Vec<Message>)
 }
 
 /// Whether what `p` waits for has come: the flag is set, or there is mail.
-pub(crate) fn has_come(flags: &[Option<VTime>], mail: &Transit, p: usize, kind: Kind) -> bool
+pub(crate) fn has_come(flags: &[Option<VTime>], mail: &Transit, p: usize, awaited: Awaited) -> bool
     requires processor { p < length mail.now }
-    requires flag { (f : ℕ) → kind ≡ Kind.Await f → f < length flags.now }
-    ensures { result ≡ has_come flags.now mail.now p kind }
+    requires flag { (f : ℕ) → awaited ≡ Awaited.Signal f → f < length flags.now }
+    ensures { result ≡ has_come flags.now mail.now p (kind_of awaited) }
 {
-    match kind {
-        Kind::Await(flag) => flags[flag].is_some(),
-        _ => mail.ready(p),
+    match awaited {
+        Awaited::Grant(_) | Awaited::Departure => mail.ready(p),
+        Awaited::Signal(flag) => flags[flag].is_some(),
     }
 }
 
@@ -96,24 +97,24 @@ pub(crate) fn receive(
     flags: &[Option<VTime>],
     own: &VTime,
     p: usize,
-    kind: Kind,
+    awaited: Awaited,
 ) -> Result<Message, AllocError>
-    requires come { has_come flags.now mail.old p kind ≡ true }
+    requires come { has_come flags.now mail.old p (kind_of awaited) ≡ true }
     requires processor { p < length mail.old }
-    requires flag { (f : ℕ) → kind ≡ Kind.Await f → MaySignal closed.now flags.now own.now f }
-    requires none { (f : ℕ) → kind ≡ Kind.Await f → mail.old ≡ slice_set mail.old p None }
-    ensures ok { IfOk result (λ m. message_among closed.now flags.now mail.old own.now p kind ≡ Some (letter m)) }
+    requires flag { (f : ℕ) → awaited ≡ Awaited.Signal f → MaySignal closed.now flags.now own.now f }
+    requires none { (f : ℕ) → awaited ≡ Awaited.Signal f → mail.old ≡ slice_set mail.old p None }
+    ensures ok { IfOk result (λ m. message_among closed.now flags.now mail.old own.now p (kind_of awaited) ≡ Some (letter m)) }
     ensures after { OnOk result (mail.new ≡ slice_set mail.old p None) }
     ensures err { OnErr result (mail.new ≡ mail.old) }
 {
-    match kind {
-        Kind::Await(flag) => signal(closed, &flags[flag], own),
-        _ => {
+    match awaited {
+        Awaited::Grant(_) | Awaited::Departure => {
             let Some(message) = mail.take(p) else {
                 unreachable!("the mail is there")
             };
             Ok(message)
         }
+        Awaited::Signal(flag) => signal(closed, &flags[flag], own),
     }
 }
 

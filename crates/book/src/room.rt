@@ -7,7 +7,7 @@ use crate::refused::Refused;
 use journal::{Event, Journal};
 
 /// Events that the journal holds at most, but for what `finish` hands in.
-const LIMIT: usize = 1 << 20;
+pub(crate) const LIMIT: usize = 1 << 20;
 
 /// Makes room for `additional` more events and those that are owing.
 pub(crate) fn make_room(

@@ -1,6 +1,7 @@
 //! Trims of the closed intervals.
 ghost use Rattle.std.specs.Prelude.{◌≡◌, ℕ, ◌<◌, List, Some, length, slice_get};
 ghost use Rattle.book.specs.Transitions.{least, trimmed_by};
+ghost use Rattle.book.specs.Calls.{MayTrim};
 
 use interval::Closed;
 use vtime::VTime;
@@ -18,14 +19,16 @@ fn least(times: &[VTime], q: usize) -> u64
     least
 }
 
-/// Drops the intervals that all of these timestamps cover.
-pub(crate) fn trim(closed: &mut Closed, times: &[VTime])
-    requires some { 0 < length times.now }
-    requires long { (i : ℕ) (t : List ℕ) → slice_get times.now i ≡ Some t → length t ≡ length times.now }
-    requires owners { length closed.old.first ≡ length times.now }
+/// Drops the intervals that all of these timestamps cover, after that of `p` has risen from `before`. Of an
+/// owner whose entry hasn't risen nothing is left to drop, but where there is no processor beside `p`.
+pub(crate) fn trim(closed: &mut Closed, times: &[VTime], p: usize, before: &VTime)
+    requires { MayTrim closed.old times.now p before.now }
     ensures { closed.new ≡ trimmed_by closed.old times.now (length times.now) }
 {
     for owner in 0..times.len() {
-        closed.trim(owner, least(times, owner));
+        let has_risen = before.entry(owner) < times[p].entry(owner);
+        if has_risen || owner == p {
+            closed.trim(owner, least(times, owner));
+        }
     }
 }

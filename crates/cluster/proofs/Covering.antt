@@ -23,9 +23,10 @@ use Rattle.interval.specs.Intervals.{SentRecord}
 use Rattle.page.specs.declared.pages.Access.{Access}
 use Rattle.page.specs.declared.pages.Access.TheVariants.{Valid, Invalid}
 use Rattle.book.specs.News.{missing_of}
-use Rattle.cluster.specs.Copies.{Copied, IsReplica}
-use Rattle.cluster.specs.Local.{Local}
-use Rattle.cluster.specs.Sound.{IsSound}
+use Rattle.replicas.specs.Copies.{Copied, IsReplica}
+use Rattle.replicas.specs.Local.{Local}
+use Rattle.replicas.specs.Sound.{IsSound}
+use Rattle.cluster.specs.Kept.{view_of}
 use Rattle.cluster.specs.Covers.{Allows, IsCovered, Covers}
 
 -- events of others have no part of p
@@ -80,7 +81,7 @@ module _ (m : Local) (sound : IsSound m) where
     where
       each : (h : List Event) → Allows m h → IsCovered m h
       each h allows =
-          let goes = allows.kept.each m.number (record { seen = m.seen }) allows.mine in
+          let goes = allows.kept.each m.number (view_of m.sizes m.seen) allows.mine in
           let P : List Event → Type 0 = λ es. WellFormed m.sizes es in
           let Q : List Event → Type 0 = λ es. AreCounted m.sizes es in
           subst (IsCovered m) (sym goes.begins) (covered_on goes.rest goes.away (subst P goes.begins allows.kept.told.well_formed) (subst Explained goes.begins allows.kept.explained) (subst Q goes.begins allows.kept.counted))

@@ -29,17 +29,18 @@ use Rattle.lists.proofs.Sets.{slice_get-set_found, slice_get-set_other}
 use Rattle.interval.specs.Intervals.{SentRecord}
 use Rattle.page.specs.declared.pages.Access.TheVariants.{Invalid}
 use Rattle.page.specs.Contents.{IsClean}
-use Rattle.cluster.specs.declared.replica.Counts.{Counts}
+use Rattle.replicas.specs.declared.replica.Counts.{Counts}
 use Rattle.book.specs.News.{missing_of}
-use Rattle.cluster.specs.Copies.{Copied, words_of, fetched, IsReplica, IsOwner, AreCounts, AllFit}
-use Rattle.cluster.specs.Local.{Local}
+use Rattle.replicas.specs.Copies.{Copied, words_of, fetched, IsReplica, IsOwner, AllFit}
+use Rattle.replicas.specs.Counts.{AreCounts}
+use Rattle.replicas.specs.Local.{Local}
 use Rattle.cluster.specs.Accesses.{AreNewest, fetched_at}
 use Rattle.cluster.specs.Refusals.{fetch_refusal}
-use Rattle.cluster.specs.Sound.{IsSound}
+use Rattle.replicas.specs.Sound.{IsSound}
 use Rattle.cluster.proofs.Newest.{newest}
-use Rattle.cluster.proofs.Replicas.{replica_long, replica_pushed}
+use Rattle.replicas.proofs.Replicas.{replica_long, replica_pushed}
 use Rattle.cluster.proofs.Refusing.{MayFetch, may_fetch, stale_copy}
-use Rattle.cluster.proofs.Steps.{item_at}
+use Rattle.replicas.proofs.Steps.{item_at}
 use Rattle.cluster.proofs.Noting.{inner_pushed, valid_is_not_stale}
 
 -- rising numbers from b on and below n are few
@@ -180,6 +181,7 @@ module _ (m : Local) (sound : IsSound m) (n : ℕ) (c : Copied) (at : slice_get 
       held = sound.held;
       awaits = sound.awaits;
       quiet = λ waits. absurd (waits may.idle);
+      unstored = λ waits. absurd (waits may.idle);
     }
       where
         clean_now : (i : ℕ) (x : Copied) → slice_get (slice_set m.copies n (fetched c)) i ≡ Some x → slice_get m.stored i ≡ Some false → IsClean x.page

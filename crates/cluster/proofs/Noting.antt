@@ -21,12 +21,12 @@ use Rattle.lists.proofs.Sets.{slice_get-set_found, slice_get-set_other}
 use Rattle.page.specs.declared.pages.Access.TheVariants.{Valid, Invalid}
 use Rattle.page.specs.Contents.{IsClean}
 use Rattle.book.specs.Laws.{IsInner}
-use Rattle.cluster.specs.Copies.{Copied, IsReplica}
-use Rattle.cluster.specs.Local.{Local, noted}
-use Rattle.cluster.specs.Accesses.{written_at, stored_at}
+use Rattle.replicas.specs.Copies.{Copied, IsReplica, written_at}
+use Rattle.replicas.specs.Local.{Local, noted}
+use Rattle.cluster.specs.Accesses.{stored_at}
 use Rattle.cluster.specs.Refusals.{access_refusal}
-use Rattle.cluster.specs.Sound.{IsSound}
-use Rattle.cluster.proofs.Replicas.{replica_long, replica_pushed}
+use Rattle.replicas.specs.Sound.{IsSound}
+use Rattle.replicas.proofs.Replicas.{replica_long, replica_pushed}
 use Rattle.cluster.proofs.Refusing.{MayAccess, may_access}
 
 pub valid_is_not_stale : Valid ≢ Invalid
@@ -62,6 +62,7 @@ loaded m a v c free at word sound = record {
   held = sound.held;
   awaits = sound.awaits;
   quiet = λ waits. absurd (waits may.idle);
+  unstored = λ waits. absurd (waits may.idle);
 }
   where
     n : ℕ
@@ -104,6 +105,7 @@ stored m a v c free at sound = record {
   held = sound.held;
   awaits = sound.awaits;
   quiet = λ waits. absurd (waits may.idle);
+  unstored = λ waits. absurd (waits may.idle);
 }
   where
     n : ℕ

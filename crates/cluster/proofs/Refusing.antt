@@ -7,9 +7,9 @@ use Rattle.page.specs.declared.pages.Access.TheVariants.{Valid, Invalid}
 use Rattle.book.specs.declared.refused.Refused.{Refused}
 use Rattle.journal.specs.Sizes.{addresses}
 use Rattle.lists.specs.Limits.{most_in_block}
-use Rattle.cluster.specs.Copies.{Copied}
-use Rattle.cluster.specs.Local.{Local}
-use Rattle.cluster.specs.Refusals.{may_use, serves, has_valid, is_waiting, is_full, access_refusal, fetch_refusal}
+use Rattle.replicas.specs.Copies.{Copied, may_use}
+use Rattle.replicas.specs.Local.{Local}
+use Rattle.cluster.specs.Refusals.{serves, has_valid, is_waiting, is_full, access_refusal, fetch_refusal}
 
 -- the first doesn't apply, nor do the others
 pub due_none : (b : Bool) (r : Refused) (rest : Option Refused) → cond b (Some r) rest ≡ None → (b ≡ false) × (rest ≡ None)

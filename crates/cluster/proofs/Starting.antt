@@ -1,5 +1,6 @@
 -- The start: processors before their first calls, and the book.
-use Rattle.std.proofs.Common.{ℕ, ◌≡◌, ◌<◌, ◌↔◌, Bool, true, false, true≢false, Some, None, List, [], ◌∷◌, ◌++◌, length, replicate, slice_get, slice_index, inl, inr, refl, sym, ap, subst, subst₂, add-zero, arith}
+use Rattle.std.proofs.Common.{ℕ, ◌≡◌, ◌<◌, ◌↔◌, Bool, true, false, true≢false, Option, Some, None, List, [], ◌∷◌, ◌++◌, length, replicate, slice_get, slice_index, inl, inr, refl, sym, ap, subst, subst₂, add-zero, arith}
+use Rattle.std.proofs.Math.Nat.{mul-div_cancel}
 use Rattle.std.proofs.lemmas.List.{length-replicate}
 use Rattle.std.proofs.lemmas.Option.{none-some, slice_get_within}
 use Rattle.journal.specs.declared.event.Event.{Event}
@@ -20,16 +21,18 @@ use Rattle.lists.proofs.Places.{push_cases, slice_get-append_right}
 use Rattle.lists.proofs.Sets.{slice_get-replicate_found, slice_get-replicate}
 use Rattle.turn.specs.Chairs.{LockId, lock, view, entries}
 use Rattle.turn.specs.declared.chair.ChairToken.{ChairToken}
+use Rattle.lockq.specs.Lock.{unheld}
 use Rattle.book.specs.State.{State}
 use Rattle.book.specs.Transitions.{new_book}
 use Rattle.book.proofs.Keeps.Whole.{new_law}
 use Rattle.cluster.specs.declared.keeper.View.{View}
-use Rattle.cluster.specs.Copies.{Copied, IsReplica}
-use Rattle.cluster.specs.Local.{Local, local, blank, new_local}
+use Rattle.replicas.specs.Copies.{Copied, IsReplica}
+use Rattle.replicas.specs.Local.{Local, blank, new_local}
+use Rattle.cluster.specs.Seats.{local}
 use Rattle.cluster.specs.Clusters.{Shared, IsNewChair, IsSeatedAt, AreNew, AreCovered}
 use Rattle.cluster.proofs.Covering.{covers}
-use Rattle.cluster.specs.Sound.{AreSizes, IsSound}
-use Rattle.cluster.specs.Kept.{GoesOn, IsKept}
+use Rattle.replicas.specs.Sound.{AreSizes, IsSound}
+use Rattle.cluster.specs.Kept.{GoesOn, IsKept, nothing_seen, sizes_of}
 use Rattle.cluster.specs.Covers.{Allows}
 use Rattle.cluster.proofs.Noting.{valid_is_not_stale}
 
@@ -67,29 +70,34 @@ start_sound l p s sizes mine = record {
   held = record { long = length-replicate s.locks false; each = λ k b at. subst (λ x. (x ≡ true) ↔ Holds [] p k) (slice_get-replicate_found s.locks false b k at) ((λ h. absurd (true≢false (sym h))), λ h. absurd (none-some (record { processor = p; kind = Acquire k }) h.acquires)) };
   awaits = record { last = λ i a h. absurd (none-some (record { processor = p; kind = a }) h.does); some = λ k h. absurd (none-some k h) };
   quiet = λ h. absurd (h refl);
+  unstored = λ h. absurd (h refl);
 }
 
 -- an empty book with a view of nothing for each processor
-pub start_kept : (s : Sizes) → 0 < s.processors → IsKept s [] (new_book s) (replicate s.processors (record { seen = [] }))
+pub start_kept : (s : Sizes) → 0 < s.processors → IsKept s [] (new_book s) (replicate s.processors (nothing_seen s))
 start_kept s some = record {
   told = new_law s some;
   explained = λ k p a v d. absurd (none-some (record { processor = p; kind = Load a v }) d);
   counted = counted_start s;
   few = omega arith;
-  all = length-replicate s.processors (record { seen = [] });
-  each = λ p v at. subst (GoesOn [] p) (slice_get-replicate_found s.processors (record { seen = [] }) v p at) (record { rest = []; begins = refl; away = λ k e at. absurd (none-some e at) });
+  all = length-replicate s.processors (nothing_seen s);
+  each = λ p v at. subst (GoesOn s [] p) (slice_get-replicate_found s.processors (nothing_seen s) v p at) (record { shape = refl; rest = []; begins = refl; away = λ k e at. absurd (none-some e at) });
   owing = refl;
 }
 
+-- the sizes of an empty book
+pub new_sizes : (s : Sizes) → 0 < s.words → sizes_of (new_book s) ≡ s
+new_sizes s some = rw (length-replicate s.locks (unheld s.processors), length-replicate {A = Option (List ℕ)} s.flags None, mul-div_cancel s.pages some)
+
 -- each new processor has a place in it
 pub start_allowed : (l : LockId) (p : ℕ) (s : Sizes) → p < s.processors → Allows (new_local l p s) []
-start_allowed l p s mine = record { book = new_book s; views = replicate s.processors (record { seen = [] }); mine = slice_get-replicate s.processors (record { seen = [] }) p mine; kept = start_kept s (omega arith) }
+start_allowed l p s mine = record { book = new_book s; views = replicate s.processors (nothing_seen s); mine = slice_get-replicate s.processors (nothing_seen s) p mine; kept = start_kept s (omega arith) }
 
 -- the parts of a new processor
-made : (l : LockId) (e p : ℕ) (s : Sizes) (v : View) (block : List Event) (copies : List Copied) (stored : List Bool) (time : List ℕ) (held : List Bool) → e ≡ 0 → v ≡ record { seen = [] } → block ≡ [] → copies ≡ replicate s.pages (blank s) → stored ≡ replicate 64 false → time ≡ replicate s.processors 0 → held ≡ replicate s.locks false → ◌≡◌ {A = Local} (record { lock = l; entries = e; number = p; sizes = s; seen = v.seen; block = block; copies = copies; stored = stored; time = time; held = held; awaits = None }) (new_local l p s)
+made : (l : LockId) (e p : ℕ) (s : Sizes) (v : View) (block : List Event) (copies : List Copied) (stored : List Bool) (time : List ℕ) (held : List Bool) → e ≡ 0 → v ≡ nothing_seen s → block ≡ [] → copies ≡ replicate s.pages (blank s) → stored ≡ replicate 64 false → time ≡ replicate s.processors 0 → held ≡ replicate s.locks false → ◌≡◌ {A = Local} (record { lock = l; entries = e; number = p; sizes = s; seen = v.seen; block = block; copies = copies; stored = stored; time = time; held = held; awaits = None }) (new_local l p s)
 made l e p s v block copies stored time held f g a b c d h = rw (f, g, a, b, c, d, h)
 
-pub start_parts : (chair : ChairToken State View) (p : ℕ) (s : Sizes) (block : List Event) (copies : List Copied) (stored : List Bool) (time : List ℕ) (held : List Bool) → IsNewChair (lock chair) p chair → block ≡ [] → copies ≡ replicate s.pages (blank s) → stored ≡ replicate 64 false → time ≡ replicate s.processors 0 → held ≡ replicate s.locks false → local chair p s block copies stored time held None ≡ new_local (lock chair) p s
+pub start_parts : (chair : ChairToken State View) (p : ℕ) (s : Sizes) (block : List Event) (copies : List Copied) (stored : List Bool) (time : List ℕ) (held : List Bool) → IsNewChair (lock chair) s p chair → block ≡ [] → copies ≡ replicate s.pages (blank s) → stored ≡ replicate 64 false → time ≡ replicate s.processors 0 → held ≡ replicate s.locks false → local chair p s block copies stored time held None ≡ new_local (lock chair) p s
 start_parts chair p s block copies stored time held new a b c d e = made (lock chair) (entries chair) p s (view chair) block copies stored time held new.entries_are new.view_is a b c d e
 
 -- new processors may have some book, and are covered

@@ -6,19 +6,16 @@ use Rattle.journal.specs.Sizes.{Sizes}
 use Rattle.journal.specs.WellFormed.{Does}
 use Rattle.journal.specs.Copies.{InGap}
 use Rattle.journal.specs.Intervals.{ClosedAt}
-use Rattle.cluster.specs.declared.replica.Counts.{Counts}
-use Rattle.cluster.specs.Copies.{Copied, fetched, AreCounts}
-use Rattle.cluster.specs.Local.{Local, noted}
+use Rattle.replicas.specs.declared.replica.Counts.{Counts}
+use Rattle.replicas.specs.Copies.{Copied, fetched, written_at}
+use Rattle.replicas.specs.Counts.{AreCounts}
+use Rattle.replicas.specs.Local.{Local, noted}
 
 -- the processor's copy of the address's page has this word there
 pub record HasWord (m : Local) (a v : ℕ) : Type 0 where
   pub copy : Copied
   pub at : slice_get m.copies (a / m.sizes.words) ≡ Some copy
   pub word : slice_get copy.page.words (a % m.sizes.words) ≡ Some v
-
--- the copy with one word written and marked
-abbrev pub written_at : Copied → ℕ → ℕ → Copied
-written_at c o v = record c { page = record c.page { words = slice_set c.page.words o v; dirty = slice_set c.page.dirty o true } }
 
 -- the processor after a store of v at address a, where c is its copy of the page
 abbrev pub stored_at : Local → ℕ → ℕ → Copied → Local
@@ -42,7 +39,8 @@ pub record IsLastInGap (s : Sizes) (j : List Event) (p n o v : ℕ) : Type 0 whe
   pub stores : Does j place by (Store address v)
   pub offset : address % s.words ≡ o
   pub gap : InGap s j p n place
-  pub last : (i q a w c d : ℕ) → Does j i q (Store a w) → a % s.words ≡ o → InGap s j p n i → ClosedAt j i c → ClosedAt j place d → (c < d) ⊎ ((c ≡ d) × (i ≤ place))
+  pub last : (i q a w c d : ℕ) → Does j i q (Store a w) → a % s.words ≡ o → InGap s j p n i → ClosedAt j i c → ClosedAt j place d
+      → (c < d) ⊎ ((c ≡ d) × (i ≤ place))
 
 -- no store of the gap is at offset o
 abbrev pub IsOutsideGap : Sizes → List Event → ℕ → ℕ → ℕ → Type 0
@@ -50,7 +48,8 @@ IsOutsideGap s j p n o = (i q a w : ℕ) → Does j i q (Store a w) → a % s.wo
 
 -- each word with stores in the gap has the value of the one whose interval was closed last, and the others are as before
 abbrev pub AreNewest : Sizes → List Event → ℕ → ℕ → List ℕ → List ℕ → Type 0
-AreNewest s j p n old new = (o v : ℕ) → slice_get new o ≡ Some v → IsLastInGap s j p n o v ⊎ ((slice_get old o ≡ Some v) × IsOutsideGap s j p n o)
+AreNewest s j p n old new = (o v : ℕ) → slice_get new o ≡ Some v
+    → IsLastInGap s j p n o v ⊎ ((slice_get old o ≡ Some v) × IsOutsideGap s j p n o)
 
 -- the processor after a fetch of page n with these counts, where c is its copy of the page
 abbrev pub fetched_at : Local → ℕ → Copied → Counts → Local

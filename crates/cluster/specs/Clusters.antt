@@ -1,6 +1,5 @@
 -- A cluster as contracts see it, and its processors at the start.
 use Rattle.std.specs.Prelude.{ℕ, ◌≡◌, ◌≤◌, Some, List, [], length, replicate, slice_get, vec_capacity, false}
-use Rattle.journal.specs.declared.event.Event.{Event}
 use Rattle.journal.specs.Sizes.{Sizes}
 use Rattle.lists.specs.Limits.{most_in_block}
 use Rattle.turn.specs.Chairs.{LockId, lock, place, view, entries, IsOutside}
@@ -8,8 +7,9 @@ use Rattle.turn.specs.declared.chair.ChairToken.{ChairToken}
 use Rattle.book.specs.State.{State}
 use Rattle.cluster.specs.declared.keeper.View.{View}
 use Rattle.cluster.specs.declared.processor.Parts.{Parts}
-use Rattle.cluster.specs.Local.{Local, blank, new_local}
-use Rattle.cluster.specs.Covers.{Allows, Covers}
+use Rattle.replicas.specs.Local.{Local, blank, new_local}
+use Rattle.cluster.specs.Kept.{nothing_seen}
+use Rattle.cluster.specs.Covers.{IsAllowed, Covers}
 
 -- its lock and its sizes
 pub record Shared : Type 0 where
@@ -28,16 +28,16 @@ pub record AreParts (s : Sizes) (x : Parts) : Type 0 where
   pub time : x.time ≡ replicate s.processors 0
 
 -- the chair at place p of this lock, which never entered
-pub record IsNewChair (l : LockId) (p : ℕ) (c : ChairToken State View) : Type 0 where
+pub record IsNewChair (l : LockId) (s : Sizes) (p : ℕ) (c : ChairToken State View) : Type 0 where
   pub lock_is : lock c ≡ l
   pub place_is : place c ≡ p
-  pub view_is : view c ≡ record { seen = [] }
+  pub view_is : view c ≡ nothing_seen s
   pub entries_are : entries c ≡ 0
   pub outside : IsOutside c
 
 -- all of them, in the order of their places
-abbrev pub AreNewChairs : List (ChairToken State View) → Type 0
-AreNewChairs cs = (p : ℕ) (c : ChairToken State View) → slice_get cs p ≡ Some c → IsNewChair (lock c) p c
+abbrev pub AreNewChairs : Sizes → List (ChairToken State View) → Type 0
+AreNewChairs s cs = (p : ℕ) (c : ChairToken State View) → slice_get cs p ≡ Some c → IsNewChair (lock c) s p c
 
 -- the processor at place p of those that these chairs were given to
 pub record IsSeatedAt (s : Sizes) (cs : List (ChairToken State View)) (p : ℕ) (m : Local) : Type 0 where
@@ -57,5 +57,5 @@ pub record AreNew (c : Shared) (ms : List Local) : Type 0 where
 
 -- the lock may have some book for each processor, and each such book covers it
 pub record AreCovered (ms : List Local) : Type 0 where
-  pub allowed : (p : ℕ) (m : Local) → slice_get ms p ≡ Some m → (h : List Event) × Allows m h
+  pub allowed : (p : ℕ) (m : Local) → slice_get ms p ≡ Some m → IsAllowed m
   pub covers : (p : ℕ) (m : Local) → slice_get ms p ≡ Some m → Covers m

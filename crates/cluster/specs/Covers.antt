@@ -11,16 +11,20 @@ use Rattle.journal.specs.Brought.{NoGap}
 use Rattle.page.specs.declared.pages.Access.TheVariants.{Valid}
 use Rattle.book.specs.State.{State}
 use Rattle.cluster.specs.declared.keeper.View.{View}
-use Rattle.cluster.specs.Copies.{Copied}
-use Rattle.cluster.specs.Local.{Local, calls}
-use Rattle.cluster.specs.Kept.{IsKept}
+use Rattle.replicas.specs.Copies.{Copied}
+use Rattle.replicas.specs.Local.{Local, calls}
+use Rattle.cluster.specs.Kept.{IsKept, view_of}
 
 -- the lock may have a book that is told by this history, with what p has seen at p's place
 pub record Allows (m : Local) (h : List Event) : Type 0 where
   pub book : State
   pub views : List View
-  pub mine : slice_get views m.number ≡ Some (record { seen = m.seen })
+  pub mine : slice_get views m.number ≡ Some (view_of m.sizes m.seen)
   pub kept : IsKept m.sizes h book views
+
+-- and there is such a history
+abbrev pub IsAllowed : Local → Type 0
+IsAllowed m = (h : List Event) × Allows m h
 
 -- by this history and p's open block: p's part of it is its calls, its timestamp counts its past, and its copy of a
 -- page is valid exactly where nothing is missing, and then it is what p's past makes of the page
@@ -28,8 +32,10 @@ pub record IsCovered (m : Local) (h : List Event) : Type 0 where
   pub well_formed : WellFormed m.sizes (h ++ m.block)
   pub calls_are : part h m.number ++ m.block ≡ calls m
   pub time : IsTimeOf (h ++ m.block) m.number (slice_index m.time)
-  pub valid : (n : ℕ) (c : Copied) → slice_get m.copies n ≡ Some c → c.page.access ≡ Valid ↔ NoGap m.sizes (h ++ m.block) m.number n
-  pub lawful : (n : ℕ) (c : Copied) → slice_get m.copies n ≡ Some c → c.page.access ≡ Valid → Lawful m.sizes (h ++ m.block) m.number n c.page.words
+  pub valid : (n : ℕ) (c : Copied) → slice_get m.copies n ≡ Some c
+      → c.page.access ≡ Valid ↔ NoGap m.sizes (h ++ m.block) m.number n
+  pub lawful : (n : ℕ) (c : Copied) → slice_get m.copies n ≡ Some c → c.page.access ≡ Valid
+      → Lawful m.sizes (h ++ m.block) m.number n c.page.words
   pub explained : Explained (h ++ m.block)
   pub counted : AreCounted m.sizes (h ++ m.block)
 

@@ -1,17 +1,37 @@
 -- What the book's lock keeps.
-use Rattle.std.specs.Prelude.{ℕ, ◌≡◌, ◌≢◌, ◌*◌, ◌≤◌, Some, List, ◌++◌, length, slice_get}
+use Rattle.std.specs.Prelude.{ℕ, ◌≡◌, ◌≢◌, ◌*◌, ◌/◌, ◌≤◌, Some, List, [], ◌++◌, length, slice_get}
 use Rattle.journal.specs.declared.event.Event.{Event}
 use Rattle.journal.specs.Sizes.{Sizes}
 use Rattle.journal.specs.Events.{At}
 use Rattle.journal.specs.Loads.{Explained}
 use Rattle.journal.specs.Counted.{AreCounted}
+use Rattle.journal.specs.Log.{HoldsHistory}
 use Rattle.lists.specs.Limits.{most_events, most_in_block}
 use Rattle.book.specs.State.{State}
 use Rattle.book.specs.Told.{IsTold}
 use Rattle.cluster.specs.declared.keeper.View.{View}
 
+-- a processor of a cluster of these sizes has seen this
+abbrev pub view_of : Sizes → List Event → View
+view_of s seen = record { shape = s; seen = seen }
+
+-- and before its first call nothing
+abbrev pub nothing_seen : Sizes → View
+nothing_seen s = view_of s []
+
+-- the sizes of the cluster whose book it is
+abbrev pub sizes_of : State → Sizes
+sizes_of b = record {
+  processors = b.journal.processors;
+  pages = b.journal.addresses / b.words;
+  words = b.words;
+  locks = length b.locks.locks;
+  flags = length b.flags;
+}
+
 -- the history goes on from what p has seen, without p
-pub record GoesOn (h : List Event) (p : ℕ) (v : View) : Type 0 where
+pub record GoesOn (s : Sizes) (h : List Event) (p : ℕ) (v : View) : Type 0 where
+  pub shape : v.shape ≡ s
   pub rest : List Event
   pub begins : h ≡ v.seen ++ rest
   pub away : (k : ℕ) (e : Event) → At rest k e → e.processor ≢ p
@@ -24,9 +44,14 @@ pub record IsKept (s : Sizes) (h : List Event) (b : State) (views : List View) :
   pub counted : AreCounted s h
   pub few : length h ≤ most_events
   pub all : length views ≡ s.processors
-  pub each : (p : ℕ) (v : View) → slice_get views p ≡ Some v → GoesOn h p v
+  pub each : (p : ℕ) (v : View) → slice_get views p ≡ Some v → GoesOn s h p v
   pub owing : b.journal.room ≡ most_in_block * s.processors
 
 -- some history is kept so
 abbrev pub Kept : State → List View → Type 0
 Kept b views = (s : Sizes) × (h : List Event) × IsKept s h b views
+
+-- who leaves this book has seen what its journal holds
+pub record Sees (b : State) (old new : View) : Type 0 where
+  pub shape : new.shape ≡ old.shape
+  pub seen : HoldsHistory b.journal new.seen

@@ -1,8 +1,13 @@
-pub mod Copies
-pub mod Local
+pub mod Seats
 pub mod Refusals
 pub mod Accesses
-pub mod Sound
 pub mod Kept
+pub mod Entering
 pub mod Covers
+pub mod Calls
+pub mod Closing
+pub mod Taking
+pub mod Histories
 pub mod Clusters
+pub mod Finishing
+pub mod Laws

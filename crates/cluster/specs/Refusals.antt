@@ -1,32 +1,22 @@
 -- Why a call that only the processor answers is refused.
-use Rattle.std.specs.Prelude.{ℕ, ◌/◌, Bool, true, false, not, nat_le, cond, Option, Some, None, is_some, List, [], ◌∷◌, length, slice_get}
-use Rattle.page.specs.declared.pages.Access.{Access}
-use Rattle.page.specs.declared.pages.Access.TheVariants.{Valid, Invalid}
+use Rattle.std.specs.Prelude.{ℕ, ◌/◌, Bool, false, not, nat_le, cond, Option, Some, None, is_some, List, [], ◌∷◌, length, slice_get, slice_index_or}
 use Rattle.book.specs.declared.refused.Refused.{Refused}
-use Rattle.book.specs.declared.refused.Refused.TheVariants.{OutOfRange, Waiting, BlockFull, AlreadyValid}
+use Rattle.book.specs.declared.refused.Refused.TheVariants.{OutOfRange, Waiting, BlockFull, NotHeld, AlreadyHeld, BadLock, BadFlag, NothingAwaited, AlreadyValid, SeatSpent}
 use Rattle.book.specs.declared.refused.Refused.TheVariants as refused
 use Rattle.journal.specs.Sizes.{addresses}
 use Rattle.lists.specs.Limits.{most_in_block}
-use Rattle.cluster.specs.Copies.{Copied}
-use Rattle.cluster.specs.Local.{Local}
+use Rattle.replicas.specs.Copies.{Copied, may_use, words_if}
+use Rattle.replicas.specs.Local.{Local}
 
 -- the first of these that applies
 abbrev pub first_due : List (Bool × Refused) → Option Refused
 first_due [] = None
 first_due (r ∷ rs) = cond r.0 (Some r.1) (first_due rs)
 
-abbrev pub may_use : Access → Bool
-may_use Valid = true
-may_use Invalid = false
-
 -- the copy may be used, if there is one
 abbrev pub serves : Option Copied → Bool
 serves None = false
 serves (Some c) = may_use c.page.access
-
-abbrev pub words_if : Bool → Copied → Option (List ℕ)
-words_if true c = Some c.page.words
-words_if false c = None
 
 -- the words of the copy, where it may be used
 abbrev pub words_in : Option Copied → Option (List ℕ)
@@ -68,3 +58,46 @@ fetch_refusal m n = first_due (
     ∷ (is_waiting m, Waiting)
     ∷ (is_full m, BlockFull)
     ∷ (has_valid m n, AlreadyValid) ∷ [])
+
+-- p has entered the book as often as it may
+abbrev pub is_spent : Local → Bool
+is_spent m = nat_le m.lock.limit m.entries
+
+-- p holds the lock
+abbrev pub has_lock : Local → ℕ → Bool
+has_lock m l = slice_index_or m.held l false
+
+-- why a flush or an audit doesn't enter the book
+abbrev pub flush_refusal : Local → Option Refused
+flush_refusal m = first_due ((is_spent m, SeatSpent) ∷ [])
+
+-- this reason, or else that the entries are spent
+abbrev pub or_spent : Option Refused → Local → Option Refused
+or_spent None m = flush_refusal m
+or_spent (Some e) m = Some e
+
+-- why a call that closes the interval is refused that names no lock
+abbrev pub arrive_test : Local → Option Refused
+arrive_test m = first_due ((is_waiting m, Waiting) ∷ [])
+
+-- why an ask of this lock is
+abbrev pub ask_test : Local → ℕ → Option Refused
+ask_test m l = first_due (
+    (nat_le m.sizes.locks l, BadLock)
+    ∷ (is_waiting m, Waiting)
+    ∷ (has_lock m l, AlreadyHeld) ∷ [])
+
+-- why a release of this lock is
+abbrev pub release_test : Local → ℕ → Option Refused
+release_test m l = first_due (
+    (nat_le m.sizes.locks l, BadLock)
+    ∷ (is_waiting m, Waiting)
+    ∷ (not (has_lock m l), NotHeld) ∷ [])
+
+-- why a set or a watch of this flag is
+abbrev pub flag_test : Local → ℕ → Option Refused
+flag_test m f = first_due ((nat_le m.sizes.flags f, BadFlag) ∷ (is_waiting m, Waiting) ∷ [])
+
+-- why a take is
+abbrev pub take_test : Local → Option Refused
+take_test m = first_due ((not (is_waiting m), NothingAwaited) ∷ [])

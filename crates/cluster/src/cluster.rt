@@ -1,14 +1,23 @@
 //! Clusters.
 ghost use Rattle.std.specs.Prelude.{◌≡◌, ◌≢◌, ◌⊎◌, ◌↔◌, ◌^◌, ◌≤◌, ◌<◌, Err, IfErr, IfOk, IsTrue, ℕ, List, [], length, vec_len, vec_capacity, slice_get, Some};
-ghost use Rattle.cluster.specs.Sound.{AreSizes};
+ghost use Rattle.replicas.specs.Sound.{AreSizes};
 ghost use Rattle.cluster.specs.Clusters.{AreParts, AreNewChairs, AreSeated, AreNew, AreCovered};
 
+mod calls;
+mod closing;
+mod entering;
+mod finishing;
+mod handing;
+mod taking;
+
+use self::finishing::Spare;
 use crate::keeper::Rule;
 use crate::processor::{Parts, Processor};
 use crate::shape::Shape;
 use book::{Book, Refused};
 use std::alloc::{AllocError, Global};
 use std::marker::Model;
+use std::sync::Mutex;
 use turn::{Chair, Turn};
 
 /// A cluster of processors over one book, behind the lock `T`. Its threads share it by reference.
@@ -16,11 +25,13 @@ use turn::{Chair, Turn};
 pub struct Cluster<T: Turn<Book, Rule>> {
     turn: T,
     shape: Shape,
+    // Behind a mutex since a chair is not `Sync`, though nobody locks it.
+    spare: Mutex<Spare>,
 }
 
 impl<T: Turn<Book, Rule>> Model for Cluster<T> {
     ghost use Rattle.std.specs.Prelude.{◌≡◌};
-    ghost use Rattle.cluster.specs.Sound.{AreSizes};
+    ghost use Rattle.replicas.specs.Sound.{AreSizes};
     ghost use Rattle.cluster.specs.Clusters.{Shared, shared};
 
     ghost Value = { Shared };
@@ -94,10 +105,12 @@ impl<T: Turn<Book, Rule>> Cluster<T> {
         } = shape;
         let all = Vec::with_capacity(alloc, processors)?;
         let parts = parts_of(alloc, shape)?;
+        let spare = Mutex::new(Spare::new(alloc)?);
         let book = Book::new(alloc, processors, pages, words, locks, flags)?;
         let (turn, chairs) = T::new(alloc, book, processors)?;
         let all = Self::seat_all(shape, chairs, parts, all);
-        Ok((Cluster { turn, shape }, all))
+        let cluster = Cluster { turn, shape, spare };
+        Ok((cluster, all))
     }
 
     /// Gives each chair its processor.
@@ -108,7 +121,7 @@ impl<T: Turn<Book, Rule>> Cluster<T> {
         mut all: Vec<Processor<T>>,
     ) -> Vec<Processor<T>>
         requires sizes { AreSizes shape }
-        requires chairs { (vec_len chairs ≡ shape.processors) × AreNewChairs chairs.items }
+        requires chairs { (vec_len chairs ≡ shape.processors) × AreNewChairs shape chairs.items }
         requires parts { (vec_len parts ≡ shape.processors)
             × ((p : ℕ) (x : Parts) → slice_get parts.items p ≡ Some x → AreParts shape x) }
         requires room { (all.items ≡ []) × (shape.processors ≤ vec_capacity all) }

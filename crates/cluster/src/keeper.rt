@@ -1,15 +1,16 @@
 //! What the book's lock keeps.
-ghost use Rattle.std.specs.Prelude.{[]};
-ghost use Rattle.cluster.specs.Kept.{Kept};
+ghost use Rattle.cluster.specs.Kept.{Kept, nothing_seen, sizes_of, Sees};
 
+use crate::shape::Shape;
 use book::Book;
 use journal::Event;
 use std::collections::LinkedList;
-use turn::{ArrayLock, Keeper, TicketLock};
+use turn::{ArrayLock, Keeper, Outcome, TicketLock};
 
-/// What one processor knows of the book while it is outside: the journal as its last call that entered
-/// left it. No value of it is made.
+/// What one processor knows of the book while it is outside: the sizes of its cluster, and the journal as
+/// its last call that entered left it. No value of it is made.
 pub struct View {
+    pub shape: Shape,
     pub seen: LinkedList<Event>,
 }
 
@@ -22,9 +23,16 @@ impl Keeper<Book> for Rule {
 
     ghost fact = { Kept };
 
-    ghost first = { λ _. record { seen = [] } };
+    ghost first = { λ b. nothing_seen (sizes_of b) };
 
-    ghost nobody = { record { seen = [] } };
+    ghost nobody = { nothing_seen (record { processors = 0; pages = 0; words = 0; locks = 0; flags = 0 }) };
+}
+
+/// Of each call that enters: the processor has seen the journal that it leaves.
+pub(crate) struct Looking;
+
+impl Outcome<Book, View> for Looking {
+    ghost then = { Sees };
 }
 
 /// The lock round the book: an array lock of 2^40 entries a processor.

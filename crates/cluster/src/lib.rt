@@ -1,13 +1,22 @@
 //! Processors over one book: each has copies of all pages, an open block of events that no journal has
 //! yet, and a chair at the book's lock (Keleher, Cox and Zwaenepoel, Lazy Release Consistency for
 //! Software Distributed Shared Memory, ISCA 1992).
+//!
+//! **What contracts see.** A `Processor` is a `Local` (crate `replicas`): its lock and entries, number, sizes, what it has
+//! seen of the journal, its open block, copies, marks, timestamp, locks held and what it waits for. A `Cluster` is a
+//! `Shared`: its lock and sizes. What the book's lock keeps is `IsKept`.
+//!
+//! **What is proved.** The accesses: the answer and each refusal exactly. The calls that enter: `IsCall`. After each,
+//! `Covers`: what holds of the processor in every journal that the lock allows; `allowed_law` and `allowed`: there is one.
+//! `audit` and `finish`: faithful histories with each processor's calls.
+//!
+//! **What is only tested** (here and in `cluster_uses`): that no call is refused needlessly, and that threads get on.
 #![tactic(auto)]
 
 mod cluster;
 mod keeper;
-mod marks;
+pub mod laws;
 mod processor;
-mod replica;
 mod shape;
 #[cfg(test)]
 mod tests;

@@ -1,18 +1,21 @@
 //! Processors.
-ghost use Rattle.std.specs.Prelude.{◌≡◌, ◌<◌, ◌+◌, ◌/◌, ◌%◌, ◌++◌, ◌∷◌, [], OnErr, OnOk, IfOk, false, length, replicate, slice_index_or};
+ghost use Rattle.std.specs.Prelude.{◌≡◌, ◌<◌, ◌+◌, ◌/◌, ◌%◌, ◌++◌, ◌∷◌, [], OnErr, OnOk, IfOk, Some, false, length, map, replicate, slice_index_or};
 ghost use Rattle.std.specs.Option.{option_map};
 ghost use Rattle.std.specs.Result.{result_err};
-ghost use Rattle.cluster.specs.Local.{blank};
-ghost use Rattle.cluster.specs.Sound.{AreSizes};
+ghost use Rattle.replicas.specs.Local.{blank};
+ghost use Rattle.replicas.specs.Records.{DirtyAreMarked};
+ghost use Rattle.replicas.specs.Steps.{cleaned};
+ghost use Rattle.replicas.specs.Sound.{AreSizes};
 
 use crate::keeper::Rule;
-use crate::marks::Marks;
-use crate::replica::Replica;
 use crate::shape::Shape;
 use book::{Book, Refused};
 use journal::{Event, Kind};
+use page::Record;
+use replicas::{Marks, Replica};
 use std::alloc::{AllocError, Global};
 use std::marker::{Model, PhantomData};
+use std::sync::Arc;
 use turn::{Chair, Turn};
 use vtime::VTime;
 
@@ -52,7 +55,7 @@ fn replicas_of(alloc: Global, shape: Shape) -> Result<Vec<Replica>, AllocError>
 {
     let mut replicas = Vec::with_capacity(alloc, shape.pages)?;
     for _ in 0..shape.pages {
-        replicas.push(Replica::zero(alloc, shape)?)?;
+        replicas.push(Replica::zero(alloc, shape.words)?)?;
     }
     Ok(replicas)
 }
@@ -61,15 +64,15 @@ fn replicas_of(alloc: Global, shape: Shape) -> Result<Vec<Replica>, AllocError>
 /// enter no lock and take no memory.
 #[derive(Drop)]
 pub struct Processor<T: Turn<Book, Rule>> {
-    number: usize,
-    shape: Shape,
-    chair: Chair<Book, Rule>,
-    block: Vec<Event>,
-    replicas: Vec<Replica>,
-    stored: Marks,
-    time: VTime,
-    held: Vec<bool>,
-    awaits: Option<Kind>,
+    pub(crate) number: usize,
+    pub(crate) shape: Shape,
+    pub(crate) chair: Chair<Book, Rule>,
+    pub(crate) block: Vec<Event>,
+    pub(crate) replicas: Vec<Replica>,
+    pub(crate) stored: Marks,
+    pub(crate) time: VTime,
+    pub(crate) held: Vec<bool>,
+    pub(crate) awaits: Option<Kind>,
     turn: PhantomData<T>,
 }
 
@@ -77,8 +80,10 @@ impl<T: Turn<Book, Rule>> Model for Processor<T> {
     ghost use Rattle.std.specs.Prelude.{◌≡◌, ◌≤◌, vec_capacity};
     ghost use Rattle.turn.specs.Chairs.{lock, view, entries, place, IsOutside};
     ghost use Rattle.lists.specs.Limits.{most_in_block};
-    ghost use Rattle.cluster.specs.Local.{Local, local};
-    ghost use Rattle.cluster.specs.Sound.{IsSound, IsSeated};
+    ghost use Rattle.replicas.specs.Local.{Local};
+    ghost use Rattle.cluster.specs.Seats.{local};
+    ghost use Rattle.replicas.specs.Sound.{IsSound};
+    ghost use Rattle.cluster.specs.Seats.{IsSeated};
 
     ghost Value = { Local };
 
@@ -86,7 +91,7 @@ impl<T: Turn<Book, Rule>> Model for Processor<T> {
 
     ghost invariant = { λ m.
         IsSound (local m.chair m.number m.shape m.block.items m.replicas.items m.stored m.time m.held.items m.awaits)
-        × IsSeated m.chair m.number
+        × IsSeated m.chair m.number m.shape
         × (most_in_block ≤ vec_capacity m.block) };
 }
 
@@ -95,10 +100,13 @@ impl<T: Turn<Book, Rule>> Processor<T> {
     ghost use Rattle.lists.specs.Limits.{most_in_block};
     ghost use Rattle.turn.specs.Chairs.{lock};
     ghost use Rattle.cluster.specs.Clusters.{AreParts, IsNewChair};
-    ghost use Rattle.cluster.specs.Local.{calls, noted, new_local};
-    ghost use Rattle.cluster.specs.Refusals.{page_of, has_valid, is_waiting, access_refusal, fetch_refusal, event_refusal};
+    ghost use Rattle.replicas.specs.Local.{calls, noted, new_local};
+    ghost use Rattle.cluster.specs.Refusals.{page_of, has_valid, is_waiting, access_refusal, fetch_refusal, event_refusal, arrive_test, ask_test, release_test, flag_test, take_test};
     ghost use Rattle.cluster.specs.Accesses.{HasWord, IsStored, IsFetched};
     ghost use Rattle.cluster.specs.Covers.{Covers};
+    ghost use Rattle.cluster.specs.Finishing.{IsApart};
+    ghost use Rattle.replicas.specs.Records.{AreHarvests};
+    ghost use Rattle.std.specs.Arc.{arc_value};
 
     /// The processor with this number and chair, before its first call.
     pub(crate) fn seated(
@@ -109,7 +117,7 @@ impl<T: Turn<Book, Rule>> Processor<T> {
     ) -> Processor<T>
         requires sizes { AreSizes shape }
         requires number { number < shape.processors }
-        requires chair { IsNewChair (lock chair) number chair }
+        requires chair { IsNewChair (lock chair) shape number chair }
         requires parts { AreParts shape parts }
         ensures { result ≡ new_local (lock chair) number shape }
     {
@@ -131,6 +139,13 @@ impl<T: Turn<Book, Rule>> Processor<T> {
             awaits: None,
             turn: PhantomData,
         }
+    }
+
+    /// Its chair and its open block, at the end.
+    pub(crate) fn into_parts(self) -> (Chair<Book, Rule>, Vec<Event>)
+        ensures { IsApart self result.0 result.1.items }
+    {
+        (self.chair, self.block)
     }
 
     /// The processor's number, from 0.
@@ -261,6 +276,17 @@ impl<T: Turn<Book, Rule>> Processor<T> {
         Ok(())
     }
 
+    /// The records of the open interval.
+    pub(crate) fn harvest(&self) -> Result<Vec<Arc<Record>>, AllocError>
+        ensures { IfOk result (λ rs. AreHarvests self.now.copies (map arc_value rs.items)) }
+    {
+        replicas::harvest(
+            *self.block.allocator(),
+            self.replicas.as_slice(),
+            &self.stored,
+        )
+    }
+
     /// Whether a fetch of the page may be done.
     fn admit_fetch(&self, page: usize) -> Result<(), Refused>
         ensures { result_err result ≡ fetch_refusal self.now page }
@@ -288,6 +314,75 @@ impl<T: Turn<Book, Rule>> Processor<T> {
         Ok(())
     }
 
+    /// Whether the processor may arrive at the barrier.
+    pub(crate) fn admit_arrival(&self) -> Result<(), Refused>
+        ensures test { result_err result ≡ arrive_test self.now }
+        ensures covers { Covers self.now }
+    {
+        match self.awaits {
+            Some(_) => Err(Refused::Waiting),
+            None => Ok(()),
+        }
+    }
+
+    /// Whether it may ask for the lock.
+    pub(crate) fn admit_ask(&self, lock: usize) -> Result<(), Refused>
+        ensures test { result_err result ≡ ask_test self.now lock }
+        ensures covers { Covers self.now }
+    {
+        if lock >= self.shape.locks {
+            Err(Refused::BadLock)
+        } else if self.awaits.is_some() {
+            Err(Refused::Waiting)
+        } else if self.holds(lock) {
+            Err(Refused::AlreadyHeld)
+        } else {
+            Ok(())
+        }
+    }
+
+    /// Whether it may release the lock.
+    pub(crate) fn admit_release(&self, lock: usize) -> Result<(), Refused>
+        ensures test { result_err result ≡ release_test self.now lock }
+        ensures covers { Covers self.now }
+    {
+        if lock >= self.shape.locks {
+            Err(Refused::BadLock)
+        } else if self.awaits.is_some() {
+            Err(Refused::Waiting)
+        } else if !self.holds(lock) {
+            Err(Refused::NotHeld)
+        } else {
+            Ok(())
+        }
+    }
+
+    /// Whether it may set the flag, or watch it.
+    pub(crate) fn admit_flag(&self, flag: usize) -> Result<(), Refused>
+        ensures test { result_err result ≡ flag_test self.now flag }
+        ensures covers { Covers self.now }
+    {
+        if flag >= self.shape.flags {
+            Err(Refused::BadFlag)
+        } else if self.awaits.is_some() {
+            Err(Refused::Waiting)
+        } else {
+            Ok(())
+        }
+    }
+
+    /// What it waits for.
+    pub(crate) fn admit_take(&self) -> Result<Kind, Refused>
+        ensures test { result_err result ≡ take_test self.now }
+        ensures kind { IfOk result (λ k. self.now.awaits ≡ Some k) }
+        ensures covers { Covers self.now }
+    {
+        match self.awaits {
+            Some(kind) => Ok(kind),
+            None => Err(Refused::NothingAwaited),
+        }
+    }
+
     /// Where the word at the address is, if a load or a store may use it: its page and its offset there.
     fn admit(&self, address: usize) -> Result<(usize, usize), Refused>
         ensures refused { result_err result ≡ access_refusal self.now address }
@@ -304,4 +399,13 @@ impl<T: Turn<Book, Rule>> Processor<T> {
         self.admit_event()?;
         Ok((page, offset))
     }
+}
+
+/// Cleans the copies, and unmarks all pages.
+pub(crate) fn clean(replicas: &mut Vec<Replica>, stored: &mut Marks)
+    requires { DirtyAreMarked replicas.old.items stored.old }
+    ensures copies { replicas.new.items ≡ map cleaned replicas.old.items }
+    ensures stored { stored.new ≡ replicate 64 false }
+{
+    replicas::clean(replicas.as_mut_slice(), stored);
 }

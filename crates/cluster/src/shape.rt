@@ -37,7 +37,7 @@ impl Model for Shape {
 }
 
 impl Shape {
-    ghost use Rattle.cluster.specs.Sound.{AreSizes};
+    ghost use Rattle.replicas.specs.Sound.{AreSizes};
 
     /// Whether the sizes are within the product's.
     pub(crate) fn is_lawful(&self) -> bool

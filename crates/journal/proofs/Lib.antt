@@ -6,3 +6,4 @@ pub mod Missing
 pub mod Intervals
 pub mod Flat
 pub mod Passes
+pub mod Bases

@@ -27,3 +27,15 @@ pub mod Pages
 pub mod Dirty
 pub mod Counted
 pub mod Reach
+pub mod Base
+pub mod OrderFrom
+pub mod WellFormedFrom
+pub mod LoadsFrom
+pub mod RacesFrom
+pub mod CopiesFrom
+pub mod Cuts
+pub mod BaseLaws
+pub mod Kept
+pub mod Opening
+pub mod Cutting
+pub mod HistoryLaws

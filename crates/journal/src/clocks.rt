@@ -166,7 +166,7 @@ impl Clocks {
     /// Takes note of the event at this place, the next one.
     pub(crate) fn note(&mut self, events: &[Event], place: usize) -> Result<(), AllocError>
         requires place { place < length events.now }
-        requires few { length events.now ≤ most_held }
+        requires few { length events.now ≤ most_held + most_processors }
         requires processors { ProcessorsInRange self.old.present events.now }
         requires so_far { AreClocks (take place events.now) self.old }
         ensures clocks { OnOk result (AreClocks (take (place + 1) events.now) self.new) }

@@ -1,14 +1,21 @@
 //! The journal: a list of events with room for more.
 
-ghost use Rattle.std.specs.Prelude.{◌≡◌, ◌-◌, ◌^◌, ◌<◌, ◌≤◌, ◌++◌, ◌∷◌, [], ◌↔◌, IfOk, OnOk, OnErr, IfSome, IsSome, IsTrue, MatchOption, length, replicate, max, option_copied, slice_get, take};
+ghost use Rattle.std.specs.Prelude.{drop, vec_len, vec_capacity, ◌+◌, ◌≡◌, ◌-◌, ◌^◌, ◌<◌, ◌≤◌, ◌++◌, ◌∷◌, [], ◌↔◌, IfOk, IfErr, OnOk, OnErr, IfSome, IsSome, IsTrue, MatchOption, length, replicate, max, option_copied, slice_get, take};
 ghost use Rattle.lists.specs.Limits.{most_held, most_processors};
 ghost use Rattle.journal.specs.InRange.{AddressInRange, AddressesInRange};
-ghost use Rattle.journal.specs.Loads.{Explained};
+ghost use Rattle.journal.specs.Log.{new_log};
+ghost use Rattle.journal.specs.LoadsFrom.{ExplainedFrom};
 ghost use Rattle.journal.specs.Flat.{Replays, memory_after};
-ghost use Rattle.journal.specs.Races.{RaceFree, IsFirstRace};
+ghost use Rattle.journal.specs.RacesFrom.{RaceFreeFrom, IsFirstRaceFrom};
+ghost use Rattle.journal.specs.Cutting.{WasCut, IsCutFault};
 ghost use Rattle.journal.specs.Traffic.{messages, records, words};
+ghost use Rattle.journal.specs.Opening.{IsOpening};
 
-use crate::event::Event;
+use crate::cut::CutFault;
+use crate::episodes::last_episode;
+use crate::event::{Event, Kind};
+use crate::kept::Kept;
+use crate::limits::MOST_CUT;
 use crate::race::first_race_of;
 use crate::replay::replay_of;
 use crate::traffic::{Traffic, traffic_of};
@@ -23,8 +30,10 @@ use std::marker::Model;
 pub struct Journal {
     processors: usize,
     addresses: usize,
+    /// An arrival of each processor, which stands for what was cut off, and then the events.
     events: Vec<Event>,
     room: usize,
+    kept: Kept,
 }
 
 impl Model for Journal {
@@ -39,44 +48,68 @@ impl Model for Journal {
     ghost invariant = { IsHeld };
 }
 
+/// An arrival of each processor. The only error is want of memory.
+fn opening(alloc: Global, processors: usize) -> Result<Vec<Event>, AllocError>
+    ensures { IfOk result (λ v. IsOpening processors v.items) }
+{
+    let mut events = Vec::new(alloc);
+    for processor in 0..processors {
+        let kind = Kind::Arrive;
+        events.push(Event { processor, kind })?;
+    }
+    Ok(events)
+}
+
+/// Takes `count` events out from this place on.
+fn take_out(events: &mut Vec<Event>, place: usize, count: usize)
+    requires { place + count ≤ vec_len events.old }
+    ensures items { events.new.items ≡ take place events.old.items ++ drop (place + count) events.old.items }
+    ensures len { vec_len events.new + count ≡ vec_len events.old }
+    ensures capacity { vec_capacity events.new ≡ vec_capacity events.old }
+{
+    let rest = &mut events[place..];
+    rest.rotate_left(count);
+    let len = events.len() - count;
+    events.truncate(len);
+}
+
 impl Journal {
     /// An empty journal of a cluster of `processors` processors, at most `MOST_PROCESSORS`, and
     /// `addresses` addresses.
     /// The only error is want of memory.
     pub fn new(alloc: Global, processors: usize, addresses: usize) -> Result<Journal, AllocError>
         requires { processors ≤ most_processors }
-        ensures { IfOk result (λ j. j ≡ record { processors = processors; addresses = addresses; events = []; room = 0 }) }
+        ensures { IfOk result (λ j. j ≡ new_log processors addresses) }
     {
         Ok(Journal {
             processors,
             addresses,
-            events: Vec::new(alloc),
+            events: opening(alloc, processors)?,
             room: 0,
+            kept: Kept::new(alloc, addresses)?,
         })
     }
 
-    /// How many events it has, at most `MOST_HELD`.
+    /// How many events it has, at most `MOST_HELD`. What was cut off doesn't count.
     pub fn len(&self) -> usize
         ensures value { result ≡ length self.now.events }
         ensures limit { result ≤ most_held }
     {
-        let events = &self.events;
-        events.len()
+        self.events.len() - self.processors
     }
 
     /// Whether it has no event.
     pub fn is_empty(&self) -> bool
         ensures { IsTrue result ↔ (length self.now.events ≡ 0) }
     {
-        let events = &self.events;
-        events.is_empty()
+        self.len() == 0
     }
 
     /// The event at place `i`, counted from 0; None past the end.
     pub fn at(&self, i: usize) -> Option<&Event>
         ensures { option_copied result ≡ slice_get self.now.events i }
     {
-        let events = &self.events;
+        let events = self.events();
         events.get(i)
     }
 
@@ -86,7 +119,23 @@ impl Journal {
         ensures in_range { AddressesInRange self.now.addresses result.now }
     {
         let events = &self.events;
-        events.as_slice()
+        &events[self.processors..]
+    }
+
+    /// The words of the memory after the events that were cut off; zeros where nothing was. It takes no
+    /// memory.
+    pub fn base(&self) -> &[u32]
+        ensures { result.now ≡ self.now.base.memory }
+    {
+        let memory = &self.kept.memory;
+        memory.as_slice()
+    }
+
+    /// How many events were cut off, in all cuts together. It takes no memory.
+    pub fn cut_events(&self) -> u64
+        ensures { result ≡ self.now.base.cut }
+    {
+        self.kept.cut
     }
 
     /// Makes room for `additional` more events. Where memory is refused, all is as before; it never is
@@ -117,14 +166,15 @@ impl Journal {
         self.room -= 1;
     }
 
-    /// The same events in a journal of their own, with no room for more. The only error is want of memory.
+    /// The same events in a journal of their own, with no room for more, and with what is kept of those cut
+    /// off. The only error is want of memory.
     pub fn copy(&self) -> Result<Journal, AllocError>
         ensures { IfOk result (λ j. j ≡ record self.now { room = 0 }) }
     {
         self.copy_with_room(0)
     }
 
-    /// The same events in a journal of their own, with room for `additional` more, by one allocation.
+    /// The same in a journal of its own, with room for `additional` more events, by one allocation for them.
     /// The only error is want of memory.
     pub fn copy_with_room(&self, additional: usize) -> Result<Journal, AllocError>
         ensures { IfOk result (λ j. j ≡ record self.now { room = additional }) }
@@ -140,40 +190,94 @@ impl Journal {
             addresses: self.addresses,
             events,
             room: additional,
+            kept: self.kept.copy()?,
         })
     }
 
-    /// Does the events to one flat memory of zeros, in the journal's order: None where some load's reply
-    /// isn't its word at that place, else the words at the end. The only error is want of memory.
+    /// Does the events to one flat memory in the journal's order, from the base: None where some load's
+    /// reply isn't its word at that place, else the words at the end. The only error is want of memory.
     pub fn replay(&self) -> Result<Option<Vec<u32>>, AllocError>
-        ensures replays { IfOk result (λ o. IsSome o ↔ Replays (replicate self.now.addresses 0) self.now.events) }
-        ensures memory { IfOk result (λ o. IfSome o (λ v. v.items ≡ memory_after (replicate self.now.addresses 0) self.now.events)) }
-        ensures flat { IfOk result (λ o. Explained self.now.events → RaceFree self.now.events → IsSome o) }
+        ensures replays { IfOk result (λ o. IsSome o ↔ Replays self.now.base.memory self.now.events) }
+        ensures memory { IfOk result (λ o. IfSome o (λ v. v.items ≡ memory_after self.now.base.memory self.now.events)) }
+        ensures flat { IfOk result (λ o. ExplainedFrom self.now.base self.now.events → RaceFreeFrom self.now.base self.now.events → IsSome o) }
     {
-        let events = &self.events;
-        replay_of(*events.allocator(), self.addresses, events)
+        replay_of(*self.events.allocator(), self.base(), self.events())
     }
 
-    /// The first race: None where there is none, else the pair with the least second place and, among
-    /// these, the least first one. The only error is want of memory.
+    /// The first race of the first `count` events.
+    fn race_before(&self, count: usize) -> Result<Option<(usize, usize)>, AllocError>
+        requires { count ≤ length self.now.events }
+        ensures race { IfOk result (λ o. MatchOption o (RaceFreeFrom self.now.base (take count self.now.events)) (λ r. IsFirstRaceFrom self.now.base (take count self.now.events) r.0 r.1)) }
+        ensures in_range { AddressesInRange (length self.now.base.memory) self.now.events }
+    {
+        // Where nothing was cut off, nobody has arrived before.
+        let first = if self.kept.cut == 0 {
+            self.processors
+        } else {
+            0
+        };
+        let arrived = self.processors - first;
+        let events = &self.events[first..self.processors + count];
+        match first_race_of(
+            *self.events.allocator(),
+            self.processors,
+            self.addresses,
+            events,
+        )? {
+            Some((first, second)) => Ok(Some((first - arrived, second - arrived))),
+            None => Ok(None),
+        }
+    }
+
+    /// The first race of the events that are left: None where there is none, else the pair with the least
+    /// second place and, among these, the least first one. The only error is want of memory.
     ///
     /// Two accesses of one address race where one of them is a store, two processors make them, and
     /// neither happens before the other (Adve and Hill 1990).
     pub fn first_race(&self) -> Result<Option<(usize, usize)>, AllocError>
-        ensures first { IfOk result (λ o. MatchOption o (RaceFree self.now.events) (λ r. IsFirstRace self.now.events r.0 r.1)) }
-        ensures flat { IfOk result (λ o. IfSome o (λ r. Explained self.now.events → Replays (replicate self.now.addresses 0) (take r.1 self.now.events))) }
+        ensures first { IfOk result (λ o. MatchOption o (RaceFreeFrom self.now.base self.now.events) (λ r. IsFirstRaceFrom self.now.base self.now.events r.0 r.1)) }
+        ensures flat { IfOk result (λ o. IfSome o (λ r. ExplainedFrom self.now.base self.now.events → Replays self.now.base.memory (take r.1 self.now.events))) }
     {
-        let events = &self.events;
-        first_race_of(*events.allocator(), self.processors, self.addresses, events)
+        self.race_before(self.len())
     }
 
-    /// What the events cost. It takes no memory.
+    /// What all events cost, those cut off too. It takes no memory.
     pub fn traffic(&self) -> Traffic
-        ensures messages { result.messages ≡ messages self.now.events }
-        ensures records { result.records ≡ records self.now.events }
-        ensures words { result.words ≡ words self.now.events }
+        ensures messages { result.messages ≡ self.now.base.spent.messages + messages self.now.events }
+        ensures records { result.records ≡ self.now.base.spent.records + records self.now.events }
+        ensures words { result.words ≡ self.now.base.spent.words + words self.now.events }
     {
-        let events = &self.events;
-        traffic_of(events)
+        let spent = self.kept.spent;
+        let left = traffic_of(self.events());
+        Traffic {
+            messages: spent.messages + left.messages,
+            records: spent.records + left.records,
+            words: spent.words + left.words,
+        }
+    }
+
+    /// Cuts off the events up to the last arrival of the last complete episode of the barrier, where they
+    /// have no race, and keeps what they leave: the memory, the locks' holders, the flags that are set,
+    /// their number and their cost.
+    ///
+    /// `Racy` names the first race of the part to be cut off. It comes after `NoEpisode` and `BaseFull`, as
+    /// `NoMemory` does. After an error all is as before. What is cut off is gone through once for the race
+    /// and once for what is kept; a lock's event looks through the locks that are held.
+    pub fn cut(&mut self) -> Result<(), CutFault>
+        ensures ok { OnOk result (WasCut self.old self.new) }
+        ensures err { OnErr result (self.new ≡ self.old) }
+        ensures fault { IfErr result (IsCutFault self.old) }
+    {
+        let taken = last_episode(self.processors, self.events()).ok_or(CutFault::NoEpisode)?;
+        if self.kept.cut + taken as u64 > MOST_CUT {
+            return Err(CutFault::BaseFull);
+        }
+        if let Some((first, second)) = self.race_before(taken)? {
+            return Err(CutFault::Racy(first, second));
+        }
+        let kept = self.kept.after(&self.events()[..taken])?;
+        take_out(&mut self.events, self.processors, taken);
+        self.kept = kept;
+        Ok(())
     }
 }

@@ -15,9 +15,13 @@
 
 mod clock;
 mod clocks;
+mod cut;
+mod episodes;
 mod event;
 mod journal;
+mod kept;
 mod kinds;
+mod laws;
 mod limits;
 mod race;
 mod replay;
@@ -26,8 +30,10 @@ mod slow;
 mod tests;
 mod traffic;
 
+pub use cut::CutFault;
 pub use event::{Event, Kind};
 pub use journal::Journal;
-pub use limits::{MOST_EVENTS, MOST_HELD, MOST_IN_BLOCK, MOST_PROCESSORS};
+pub use laws::{copy_law, cut_law, flat_law, history_law, same_law, uncut_law, well_formed_law};
+pub use limits::{MOST_CUT, MOST_EVENTS, MOST_HELD, MOST_IN_BLOCK, MOST_PROCESSORS};
 pub use slow::ReachTable;
 pub use traffic::Traffic;

@@ -91,7 +91,7 @@ pub(crate) fn is_conflict(first: Event, second: Event) -> bool
 /// The first event that races with the event at this place, whose processor has this timestamp before it.
 fn first_racing(events: &[Event], place: usize, event: Event, time: &Clock) -> Option<usize>
     requires at { slice_get events.now place ≡ Some event }
-    requires few { length events.now ≤ most_held }
+    requires few { length events.now ≤ most_held + most_processors }
     requires processors { ProcessorsInRange 16 events.now }
     requires time { IsTimeOf (take place events.now) event.processor (slice_index time.now) }
     ensures { MatchOption result ((i : ℕ) → ¬ Race events.now i place) (λ i. Race events.now i place × ((m : ℕ) → Race events.now m place → i ≤ m)) }
@@ -114,7 +114,7 @@ impl Accesses {
     /// it. The events before are only gone through where one of them may.
     fn race_at(&self, events: &[Event], place: usize, event: Event, time: &Clock) -> Option<usize>
         requires at { slice_get events.now place ≡ Some event }
-        requires few { length events.now ≤ most_held }
+        requires few { length events.now ≤ most_held + most_processors }
         requires processors { ProcessorsInRange 16 events.now }
         requires stores { AddressInRange (vec_len self.now.stores) event.kind }
         requires loads { AddressInRange (vec_len self.now.loads) event.kind }
@@ -144,7 +144,7 @@ pub(crate) fn first_race_of(
     addresses: usize,
     events: &[Event],
 ) -> Result<Option<(usize, usize)>, AllocError>
-    requires few { length events.now ≤ most_held }
+    requires few { length events.now ≤ most_held + most_processors }
     requires few_processors { processors ≤ most_processors }
     requires addresses { AddressesInRange addresses events.now }
     requires processors { ProcessorsInRange processors events.now }

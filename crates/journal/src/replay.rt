@@ -1,6 +1,6 @@
 //! Replay on one flat memory.
 
-ghost use Rattle.std.specs.Prelude.{◌≡◌, ◌↔◌, IfOk, IfSome, IsSome, IsTrue, length, replicate};
+ghost use Rattle.std.specs.Prelude.{◌≡◌, ◌↔◌, IfOk, IfSome, IsSome, IsTrue, length};
 ghost use Rattle.journal.specs.Flat.{Replays, memory_after, flat_write, AnswersWord};
 ghost use Rattle.journal.specs.InRange.{AddressInRange, AddressesInRange};
 ghost use Rattle.lists.specs.Writes.{wrote};
@@ -38,18 +38,18 @@ fn do_events(memory: &mut [u32], events: &[Event]) -> bool
     true
 }
 
-/// The memory of `addresses` words after these events are done to it in their order, from zeros; None
-/// where some load's reply isn't its word at that place.
+/// The memory after these events are done to it in their order, from the base; None where some load's
+/// reply isn't its word at that place. The only error is want of memory.
 pub(crate) fn replay_of(
     alloc: Global,
-    addresses: usize,
+    base: &[u32],
     events: &[Event],
 ) -> Result<Option<Vec<u32>>, AllocError>
-    requires { AddressesInRange addresses events.now }
-    ensures replays { IfOk result (λ o. IsSome o ↔ Replays (replicate addresses 0) events.now) }
-    ensures memory { IfOk result (λ o. IfSome o (λ v. v.items ≡ memory_after (replicate addresses 0) events.now)) }
+    requires { AddressesInRange (length base.now) events.now }
+    ensures replays { IfOk result (λ o. IsSome o ↔ Replays base.now events.now) }
+    ensures memory { IfOk result (λ o. IfSome o (λ v. v.items ≡ memory_after base.now events.now)) }
 {
-    let mut memory = vec![in alloc; 0u32; addresses]?;
+    let mut memory = Vec::from_slice(alloc, base)?;
     if do_events(&mut memory, events) {
         Ok(Some(memory))
     } else {

@@ -3,6 +3,7 @@
 ghost use Rattle.std.specs.Prelude.{◌≡◌, ◌<◌, ◌≤◌, ◌-◌, ◌+◌, ◌^◌, length, IsTrue, OnOk, IfOk};
 ghost use Rattle.journal.specs.InRange.{AddressInRange};
 
+mod cuts;
 mod races;
 mod reach;
 mod worked;
@@ -32,6 +33,28 @@ fn is_taken(event: Event, processors: usize, addresses: usize) -> bool
     in_range && event.processor < processors
 }
 
+/// Puts these events at the end of a journal of these sizes.
+pub(crate) fn go_on<R: Abort>(
+    rt: &R,
+    journal: &mut Journal,
+    sizes: (usize, usize),
+    events: &[Event],
+) -> Result<(), Fail>
+    requires processors { journal.old.processors ≡ sizes.0 }
+    requires addresses { journal.old.addresses ≡ sizes.1 }
+    ensures processors { journal.new.processors ≡ sizes.0 }
+    ensures addresses { journal.new.addresses ≡ sizes.1 }
+{
+    for event in events {
+        let event = *event;
+        assert!(rt; is_taken(event, sizes.0, sizes.1));
+        assert!(rt; journal.len() < MOST_HELD);
+        journal.reserve(1)?;
+        journal.append(event);
+    }
+    Ok(())
+}
+
 /// The journal of a cluster of `processors` processors and `addresses` addresses with these events.
 pub(crate) fn journal_of<R: Abort>(
     rt: &R,
@@ -39,16 +62,13 @@ pub(crate) fn journal_of<R: Abort>(
     processors: usize,
     addresses: usize,
     events: &[Event],
-) -> Result<Journal, Fail> {
+) -> Result<Journal, Fail>
+    ensures processors { IfOk result (λ j. j.processors ≡ processors) }
+    ensures addresses { IfOk result (λ j. j.addresses ≡ addresses) }
+{
     assert!(rt; processors <= MOST_PROCESSORS);
     let mut journal = Journal::new(alloc, processors, addresses)?;
-    for event in events {
-        let event = *event;
-        assert!(rt; is_taken(event, processors, addresses));
-        assert!(rt; journal.len() < MOST_HELD);
-        journal.reserve(1)?;
-        journal.append(event);
-    }
+    go_on(rt, &mut journal, (processors, addresses), events)?;
     Ok(journal)
 }
 

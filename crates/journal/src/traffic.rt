@@ -2,6 +2,7 @@
 
 ghost use Rattle.std.specs.Prelude.{◌≡◌, ◌^◌, ◌<◌, ◌≤◌, length};
 ghost use Rattle.lists.specs.Limits.{most_held};
+ghost use Rattle.journal.specs.Kept.{AreCosts};
 ghost use Rattle.journal.specs.Traffic.{messages, records, words, messages_of, records_of, words_of};
 
 use crate::event::{Event, Kind};
@@ -18,7 +19,7 @@ pub struct Traffic {
 }
 
 /// What one event costs.
-fn cost_of(kind: Kind) -> Traffic
+pub(crate) fn cost_of(kind: Kind) -> Traffic
     ensures messages { result.messages ≡ messages_of kind }
     ensures records { result.records ≡ records_of kind }
     ensures words { result.words ≡ words_of kind }
@@ -50,6 +51,7 @@ pub(crate) fn traffic_of(events: &[Event]) -> Traffic
     ensures messages { result.messages ≡ messages events.now }
     ensures records { result.records ≡ records events.now }
     ensures words { result.words ≡ words events.now }
+    ensures few { AreCosts (length events.now) result }
 {
     let mut traffic = Traffic::default();
     for event in events {

@@ -3,7 +3,9 @@ pub mod Sets
 pub mod LastWrites
 pub mod Records
 pub mod Harvests
+pub mod Unmarked
 pub mod Joined
 pub mod Once
 pub mod Picked
 pub mod Filters
+pub mod Halves

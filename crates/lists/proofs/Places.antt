@@ -1,5 +1,5 @@
 -- Places of lists that are put together of others, and counts of their fronts.
-use Rattle.std.proofs.Common.{◌≡◌, ℕ, zero, suc, ◌+◌, ◌<◌, ◌≤◌, ◌⊎◌, inl, inr, List, [], ◌∷◌, ◌++◌, length, take, Bool, true, false, count_by, Some, slice_get, refl, ap, sym, ◌∙◌, cond, append_assoc, append-nil, take-take, arith}
+use Rattle.std.proofs.Common.{◌≡◌, ℕ, zero, suc, ◌+◌, ◌<◌, ◌≤◌, ◌⊎◌, inl, inr, List, [], ◌∷◌, ◌++◌, length, take, drop, Bool, true, false, count_by, Some, slice_get, refl, ap, sym, ◌∙◌, cond, append_assoc, append-nil, take-take, arith}
 use Rattle.std.proofs.lemmas.Option.{slice_get_within, same_Some, none-some}
 use Rattle.std.proofs.lemmas.List.{take-append-le}
 use Rattle.std.proofs.lemmas.List.Sums.{sum_by-append, sum_by-take-le}
@@ -39,6 +39,12 @@ slice_get-take_within (y ∷ xs) (suc n) (suc k) x h = let lt = slice_get-take_w
 -- an item of a front is the list's
 pub slice_get-from_take : {A : Type 0} (xs : List A) (n k : ℕ) (x : A) → slice_get (take n xs) k ≡ Some x → slice_get xs k ≡ Some x
 slice_get-from_take xs n k x h = sym (slice_get-take xs n k (slice_get-take_within xs n k x h)) ∙ h
+
+-- what is left has the list's items from there on
+pub slice_get-drop : {A : Type 0} (xs : List A) (n k : ℕ) → slice_get (drop n xs) k ≡ slice_get xs (n + k)
+slice_get-drop xs zero k = let e : k ≡ 0 + k = omega arith in ap (slice_get xs) e
+slice_get-drop [] (suc n) k = refl
+slice_get-drop (x ∷ xs) (suc n) k = let e : suc (n + k) ≡ suc n + k = omega arith in slice_get-drop xs n k ∙ ap (slice_get (x ∷ xs)) e
 
 -- an item of two lists is one of the first or one of the second
 pub append_cases : {A : Type 0} (xs ys : List A) (k : ℕ) (x : A) → slice_get (xs ++ ys) k ≡ Some x → ((k < length xs) × (slice_get xs k ≡ Some x)) ⊎ ((m : ℕ) × (k ≡ length xs + m) × (slice_get ys m ≡ Some x))

@@ -16,3 +16,7 @@ most_events = 2 ^ 20
 -- events that a journal can hold: those, what `finish` hands in, and room to spare
 abbrev pub most_held : ℕ
 most_held = 2 ^ 21
+
+-- events that all cuts of a journal together can cut off
+abbrev pub most_cut : ℕ
+most_cut = 2 ^ 30

@@ -1,6 +1,7 @@
 -- What the calls of a run make of its journal.
-use Rattle.std.proofs.Common.{◌≡◌, ◌<◌, ◌*◌, ◌∙◌, ℕ, List, [], ◌∷◌, ◌++◌, length, map, false, refl, sym, ap, subst, arith, append_assoc, get_or}
-use Rattle.std.specs.Prelude.{Some, slice_get, filter, not, cond, ◌==◌}
+use Rattle.std.proofs.Common.{◌≡◌, ◌≢◌, ◌<◌, ◌+◌, ◌*◌, ◌∙◌, ℕ, List, [], ◌∷◌, ◌++◌, length, map, false, refl, sym, ap, subst, arith, append_assoc, get_or}
+use Rattle.std.specs.Prelude.{Some, slice_get, slice_index_or, All, filter, not, cond, ◌==◌}
+use Rattle.std.proofs.lemmas.List.{get_or_default}
 use Rattle.std.proofs.lemmas.List.Elements.{filter-append}
 use Rattle.std.proofs.lemmas.Bool.{false≢true}
 use Rattle.std.proofs.lemmas.Option.{slice_get_within, same_Some, slice_get_read}
@@ -8,8 +9,9 @@ use Rattle.journal.specs.declared.event.Event.{Event}
 use Rattle.journal.specs.declared.event.Kind.{Kind}
 use Rattle.journal.specs.declared.event.Kind.TheVariants as kind
 use Rattle.journal.specs.Events.{part}
+use Rattle.journal.specs.Base.{Base, no_base}
 use Rattle.lrc_script.specs.declared.script.Instruction.{Instruction}
-use Rattle.lrc_script.specs.declared.script.Instruction.TheVariants.{Load, Store, Add, Acquire, Release, Barrier, Set, Await}
+use Rattle.lrc_script.specs.declared.script.Instruction.TheVariants.{Load, Store, Add, Acquire, Release, Barrier, Set, Await, Cut}
 use Rattle.lrc_script.specs.Plan.{Plan}
 use Rattle.lrc_script.specs.Lawful.{IsLawful, IsSection, IsInRange}
 use Rattle.journal.specs.Did.{event}
@@ -40,6 +42,7 @@ no_fetch_one (Release l) kinds are = rw are refl
 no_fetch_one Barrier kinds are = rw are refl
 no_fetch_one (Set f) kinds are = rw are refl
 no_fetch_one (Await f) kinds are = rw are refl
+no_fetch_one Cut kinds are = rw are refl
 
 -- an instruction makes no fetch of its own
 no_fetch_all : (is : List Instruction) (kinds : List Kind) → AreEventsOfAll is kinds → NoFetch kinds
@@ -108,23 +111,25 @@ run_follows s own loads section lawful served at are shown p other at_p =
     subst P (sym p_is) base
 
 -- the section of processor 0
-pub first_section : (s : Plan) (section : List Instruction) → IsLawful s → IsServed s → section ≡ get_or s.sections 0 section → (slice_get s.sections 0 ≡ Some section) × IsSection s section
+pub first_section : (s : Plan) (section : List Instruction) → IsLawful s → IsServed s → section ≡ get_or s.sections 0 section → (slice_get s.sections 0 ≡ Some section) × IsSection s section × All (λ i. i ≢ Cut) section
 first_section s section lawful served is =
     let one = lawful.but_uneven.one_each in
     let alone = served.processors in
     let inside : 0 < length s.sections = omega arith in
-    (slice_get_read s.sections (length s.sections) 0 section refl inside is, rw is (lawful.but_uneven.sections 0 section inside))
+    let any : get_or s.sections 0 section ≡ slice_index_or s.sections 0 [] = get_or_default s.sections 0 section [] inside in
+    (slice_get_read s.sections (length s.sections) 0 section refl inside is, rw is (lawful.but_uneven.sections 0 section inside), subst (λ (is : List Instruction). All (λ i. i ≢ Cut) is) (sym (is ∙ any)) served.cuts)
 
 -- what is in range is within the words
-pub within : (s : Plan) (i : Instruction) → IsServed s → IsInRange s i → IsWithin (s.pages * s.words) i
-within s (Load a) served h = h
-within s (Store a v) served h = h.0
-within s (Add a v) served h = h.0
-within s (Acquire l) served h = let none = served.locks in absurd (omega arith)
-within s (Release l) served h = let none = served.locks in absurd (omega arith)
-within s Barrier served h = tt
-within s (Set f) served h = let none = served.flags in absurd (omega arith)
-within s (Await f) served h = let none = served.flags in absurd (omega arith)
+pub within : (s : Plan) (i : Instruction) → IsServed s → IsInRange s i → i ≢ Cut → IsWithin (s.pages * s.words) i
+within s (Load a) served h uncut = h
+within s (Store a v) served h uncut = h.0
+within s (Add a v) served h uncut = h.0
+within s (Acquire l) served h uncut = let none = served.locks in absurd (omega arith)
+within s (Release l) served h uncut = let none = served.locks in absurd (omega arith)
+within s Barrier served h uncut = tt
+within s (Set f) served h uncut = let none = served.flags in absurd (omega arith)
+within s (Await f) served h uncut = let none = served.flags in absurd (omega arith)
+within s Cut served h uncut = absurd (uncut refl)
 
 -- each event of such a history is processor 0's
 alone : (addresses : ℕ) (h : List Event) → IsHistory addresses h → IsAlone 0 h
@@ -140,13 +145,14 @@ pub record IsRun (s : Plan) (section : List Instruction) (own : List Kind) (r : 
   pub does : AreEventsOfAll section own
   pub processors : r.journal.processors ≡ 1
   pub addresses_are : r.journal.addresses ≡ s.pages * s.words
+  pub base : r.journal.base ≡ no_base r.journal.addresses
   pub events : r.journal.events ≡ map (event 0) (all_calls own r.shown.items)
   pub history : IsHistory (s.pages * s.words) r.journal.events
   pub quiet : r.racy ≡ false
   pub shown : map (λ (x : ℕ × ℕ). x.0) r.shown.items ≡ s.shown
-  pub messages_are : r.traffic.messages ≡ messages r.journal.events
-  pub records_are : r.traffic.records ≡ records r.journal.events
-  pub words_are : r.traffic.words ≡ words r.journal.events
+  pub messages_are : r.traffic.messages ≡ r.journal.base.spent.messages + messages r.journal.events
+  pub records_are : r.traffic.records ≡ r.journal.base.spent.records + records r.journal.events
+  pub words_are : r.traffic.words ≡ r.journal.base.spent.words + words r.journal.events
 
 -- its report
 pub report_is : (s : Plan) (section : List Instruction) (own : List Kind) (r : Report) → IsRun s section own r → IsReportOf s r
@@ -158,7 +164,7 @@ report_is s section own r run =
       processors = run.processors ∙ sym run.served.processors;
       addresses_are = run.addresses_are;
       history = h;
-      holds = refl;
+      holds = record { whole = run.base; history = refl };
       tells = record {
         well_formed = rw (sizes_one s run.served) run.history.well_formed;
         explained = explained_alone (s.pages * s.words) h 0 first run.history.replays;
@@ -169,8 +175,8 @@ report_is s section own r run =
           front = own ++ kind.Arrive ∷ kind.Depart ∷ [];
           ends = calls_run own r.shown.items section run.does ∙ sym (append_assoc own (kind.Arrive ∷ kind.Depart ∷ []) (map load_of r.shown.items));
         });
-        messages_are = run.messages_are;
-        records_are = run.records_are;
-        words_are = run.words_are;
+        messages_are = (let none = ap (λ (b : Base). b.spent.messages) run.base in let are = run.messages_are in omega arith);
+        records_are = (let none = ap (λ (b : Base). b.spent.records) run.base in let are = run.records_are in omega arith);
+        words_are = (let none = ap (λ (b : Base). b.spent.words) run.base in let are = run.words_are in omega arith);
       };
     }

@@ -7,7 +7,7 @@ use Rattle.journal.specs.declared.event.Kind.TheVariants as kind
 use Rattle.journal.specs.Events.{part}
 use Rattle.journal.specs.Sizes.{Sizes}
 use Rattle.lrc_script.specs.declared.script.Instruction.{Instruction}
-use Rattle.lrc_script.specs.declared.script.Instruction.TheVariants.{Load, Store, Add, Acquire, Release, Barrier, Set, Await}
+use Rattle.lrc_script.specs.declared.script.Instruction.TheVariants.{Load, Store, Add, Acquire, Release, Barrier, Set, Await, Cut}
 use Rattle.lrc_script.specs.Plan.{Plan}
 
 -- the sizes that a script asks for
@@ -25,6 +25,7 @@ AreEventsOf (Release l) kinds = kinds ≡ kind.Release l ∷ []
 AreEventsOf Barrier kinds = kinds ≡ kind.Arrive ∷ kind.Depart ∷ []
 AreEventsOf (Set f) kinds = kinds ≡ kind.Set f ∷ []
 AreEventsOf (Await f) kinds = kinds ≡ kind.Watch f ∷ kind.Await f ∷ []
+AreEventsOf Cut kinds = kinds ≡ []
 
 -- these are the events of the instructions, in order
 abbrev pub AreEventsOfAll : List Instruction → List Kind → Type 0

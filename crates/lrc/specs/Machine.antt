@@ -4,7 +4,7 @@ use Rattle.journal.specs.declared.event.Event.{Event}
 use Rattle.journal.specs.declared.event.Kind.{Kind}
 use Rattle.journal.specs.declared.event.Kind.TheVariants.{Arrive, Depart}
 use Rattle.journal.specs.Did.{event, did}
-use Rattle.journal.specs.Log.{Log}
+use Rattle.journal.specs.Log.{Log, new_log}
 use Rattle.journal.specs.Sizes.{Sizes}
 
 -- what contracts see of it: how many words it has, what was handed in, and the open block
@@ -36,7 +36,7 @@ after_barrier m = record m { journal = did (did (history m) 0 Arrive) 0 Depart; 
 
 -- a journal of all that was called, with no room for more
 abbrev pub log_of : Machine → Log
-log_of m = record { processors = 1; addresses = m.addresses; events = history m; room = 0 }
+log_of m = record (new_log 1 m.addresses) { events = history m }
 
 -- one processor and one page
 abbrev pub sizes_of_one : ℕ → Sizes

@@ -4,9 +4,12 @@ use crate::fault::ProgramFault;
 use crate::gate::Open;
 use crate::render::render;
 use crate::run::run;
-use lrc_script::script::parse;
+use lrc_script::script::{MOST_BYTES, parse};
 use std::alloc::Global;
 use std::io::{Read, Write};
+
+/// One byte more than the longest script has: what is longer is refused without its rest.
+const MOST_READ: u64 = MOST_BYTES as u64 + 1;
 
 /// Reads a script, runs it and writes its report.
 fn run_script<R: Read, W: Write>(
@@ -15,7 +18,7 @@ fn run_script<R: Read, W: Write>(
     out: &mut W,
 ) -> Result<(), ProgramFault> {
     let mut bytes = Vec::new(alloc);
-    source.read_to_end(&mut bytes)?;
+    source.by_ref().take(MOST_READ).read_to_end(&mut bytes)?;
     let script = parse(alloc, &bytes)?;
     let report = run(alloc, &script, &Open)?;
     render(&report, out)?;

@@ -62,7 +62,7 @@ fn do_instruction(memory: &mut OneProcessor, instruction: Instruction) -> Result
             Ok(())
         }
         Instruction::Barrier => memory.pass_barrier(),
-        _ => unreachable!("there are no locks and no flags"),
+        _ => unreachable!("there are no locks, no flags and no cuts"),
     }
 }
 
@@ -101,11 +101,25 @@ fn show(
     Ok(words)
 }
 
-/// Whether the stand-in serves the script's cluster.
+/// Whether no instruction of the section is a cut.
+fn is_uncut(section: &[Instruction]) -> bool
+    ensures { IsTrue result ↔ All (λ i. i ≢ Instruction.Cut) section.now }
+{
+    section
+        .iter()
+        .all(|instruction| *instruction != Instruction::Cut)
+}
+
+/// Whether the stand-in serves the script's cluster and instructions.
 fn is_served(script: &Script) -> bool
+    requires { IsLawful (plan_of script.now) }
     ensures { IsTrue result ↔ IsServed (plan_of script.now) }
 {
-    script.processors == 1 && script.pages == 1 && script.locks == 0 && script.flags == 0
+    script.processors == 1
+        && script.pages == 1
+        && script.locks == 0
+        && script.flags == 0
+        && is_uncut(&script.sections[0])
 }
 
 /// Runs the script of one processor.
@@ -137,7 +151,7 @@ fn run_alone<G: Gate>(alloc: Global, script: &Script, gate: &G) -> Result<Report
 /// # Errors
 ///
 /// The fault of processor 0: Unserved where the cluster has more than one processor and one page, or locks
-/// or flags; else where the gate stops it or a call is refused.
+/// or flags, or where the section has a cut; else where the gate stops it or a call is refused.
 pub fn run<G: Gate>(alloc: Global, script: &Script, gate: &G) -> Result<Report, RunFault>
     requires { IsLawful (plan_of script.now) }
     ensures report { IfOk result (IsReportOf (plan_of script.now)) }

@@ -138,10 +138,11 @@ fn barrier_alone(rt: HostRuntime) {
     check(&rt, rt.alloc(), script, 0, out, b"");
 }
 
-/// Clusters of more than one processor and one page, or with locks or flags, aren't served yet.
+/// Clusters of more than one processor and one page, or with locks or flags, and cuts aren't served yet.
 #[test]
 fn not_served(rt: HostRuntime) {
-    let scripts: [&[u8]; 4] = [
+    let scripts: [&[u8]; 5] = [
+        b"cluster 1 1 1 0\np 0\nbarrier\ncut\nshow 0\n",
         b"cluster 2 1 2 0\np 0\nstore 0 5\nbarrier\np 1\nbarrier\nload 0\nshow 0\n",
         b"cluster 1 2 1 0\np 0\nshow 0\n",
         b"cluster 1 1 1 1\np 0\nacquire 0\nshow 0\n",
@@ -195,6 +196,31 @@ fn unreadable(rt: HostRuntime) {
     assert_eq!(rt; status, 5);
     assert_eq!(rt; printed.is_empty(), true);
     assert_eq!(rt; said.as_slice(), b"lrc: file cannot be read\n".as_slice());
+}
+
+/// A reader that gives the same line for ever.
+#[derive(Drop)]
+struct Endless;
+
+impl Read for Endless {
+    fn read(&mut self, buffer: &mut [u8]) -> io::Result<usize> {
+        let mut source = b"y\n".as_slice();
+        source.read(buffer)
+    }
+}
+
+/// What is longer than any script is refused, and not read on for ever.
+#[test]
+fn longer_than_any_script(rt: HostRuntime) {
+    let mut printed = Vec::new(rt.alloc());
+    let mut said = Vec::new(rt.alloc());
+    let status = program(rt.alloc(), &mut Endless, &mut printed, &mut said);
+    assert_eq!(rt; status, 2);
+    assert_eq!(rt; printed.is_empty(), true);
+    assert_eq!(rt;
+        said.as_slice(),
+        b"lrc: line 1: line not understood\n".as_slice()
+    );
 }
 
 /// A writer that takes so many bytes, three at a time, and then fails.
@@ -254,6 +280,44 @@ fn failed_output(rt: HostRuntime) {
     let status = program(rt.alloc(), &mut source, &mut out, &mut said);
     assert_eq!(rt; status, 4);
     assert_eq!(rt; said.as_slice(), b"lrc: output failed\n".as_slice());
+}
+
+/// A writer that takes everything and keeps nothing.
+#[derive(Drop)]
+struct Unflushed;
+
+impl Write for Unflushed {
+    fn write(&mut self, bytes: &[u8]) -> io::Result<usize> {
+        Ok(bytes.len())
+    }
+
+    fn flush(&mut self) -> io::Result<()> {
+        Err(io::Error::from(ErrorKind::StorageFull))
+    }
+}
+
+/// The last flush fails.
+#[test]
+fn failed_flush(rt: HostRuntime) {
+    let mut source = SEVEN;
+    let mut said = Vec::new(rt.alloc());
+    let status = program(rt.alloc(), &mut source, &mut Unflushed, &mut said);
+    assert_eq!(rt; status, 4);
+    assert_eq!(rt; said.as_slice(), b"lrc: output failed\n".as_slice());
+}
+
+/// Where the error output takes nothing, the status still tells.
+#[test]
+fn failed_error_output(rt: HostRuntime) {
+    let mut source = b"".as_slice();
+    let mut printed = Vec::new(rt.alloc());
+    let mut said = Narrow {
+        left: 0,
+        taken: Vec::new(rt.alloc()),
+    };
+    let status = program(rt.alloc(), &mut source, &mut printed, &mut said);
+    assert_eq!(rt; status, 2);
+    assert_eq!(rt; said.taken.is_empty(), true);
 }
 
 #[test]

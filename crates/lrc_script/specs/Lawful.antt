@@ -1,6 +1,6 @@
 use Rattle.std.specs.Prelude.{◌≡◌, ℕ, ◌*◌, ◌^◌, ◌<◌, ◌≤◌, ◌==◌, Bool, true, false, if◌then◌else◌, List, [], ◌∷◌, ◌++◌, length, fold, All, count_by, slice_index_or, Option, Some, None}
 use Rattle.lrc_script.specs.declared.script.Instruction.{Instruction}
-use Rattle.lrc_script.specs.declared.script.Instruction.TheVariants.{Load, Store, Add, Acquire, Release, Barrier, Set, Await}
+use Rattle.lrc_script.specs.declared.script.Instruction.TheVariants.{Load, Store, Add, Acquire, Release, Barrier, Set, Await, Cut}
 use Rattle.lrc_script.specs.Plan.{Plan}
 
 -- how many words the pages have together: addresses are below it
@@ -47,6 +47,7 @@ IsInRange s (Release l) = l < s.locks
 IsInRange s Barrier = Unit {0}
 IsInRange s (Set f) = f < s.flags
 IsInRange s (Await f) = f < s.flags
+IsInRange s Cut = Unit {0}
 
 -- whether a section holds the lock after an instruction, by whether it held it before
 abbrev pub still_holds : ℕ → Bool → Instruction → Bool

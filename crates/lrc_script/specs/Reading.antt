@@ -7,6 +7,8 @@ use Rattle.std.specs.Str.{bytes_eq}
 use Rattle.std.specs.Str.Parse.{digits_value}
 use Rattle.lrc_script.specs.declared.fault.ScriptFault.{ScriptFault}
 use Rattle.lrc_script.specs.declared.fault.ScriptFault.TheVariants.{BadLine, BadNumber, BadSize, OutOfRange, BadLock, BadFlag, AlreadyHeld, NotHeld, TooLong, NoMemory}
+use Rattle.lrc_script.specs.declared.line.Few.{Few}
+use Rattle.lrc_script.specs.declared.line.Few.TheVariants as few
 use Rattle.lrc_script.specs.declared.line.Keyword.{Keyword}
 use Rattle.lrc_script.specs.declared.line.Keyword.TheVariants as keyword
 use Rattle.lrc_script.specs.declared.script.Instruction.{Instruction}
@@ -26,6 +28,10 @@ Fails f read = read ≡ Err f
 abbrev pub Gives : {X Y : Type 0} → (X → Y) → Result X ScriptFault → Result Y ScriptFault → Type 0
 Gives view (Ok x) read = read ≡ Ok (view x)
 Gives view (Err e) read = Fails e read
+
+-- reading leads there
+abbrev pub Goes : {Y : Type 0} → Y → Result Y ScriptFault → Type 0
+Goes y read = read ≡ Ok y
 
 -- what stands between the separators: of a line the words, which stand between its spaces
 abbrev pub parts_of : ℕ → List ℕ → List (List ℕ)
@@ -56,11 +62,16 @@ keyword_of w =
     if bytes_eq w (codes "barrier") then Some keyword.Barrier else
     if bytes_eq w (codes "set") then Some keyword.Set else
     if bytes_eq w (codes "await") then Some keyword.Await else
+    if bytes_eq w (codes "cut") then Some keyword.Cut else
     if bytes_eq w (codes "show") then Some keyword.Show else None
 
 -- digits, with no zero at the front of others
 abbrev pub is_decimal : List ℕ → Bool
 is_decimal w = not (length w == 0) && not ((slice_index w 0 == 48) && nat_lt 1 (length w)) && list_all is_ascii_digit w
+
+-- the number below 2 ^ 32 that digits write
+abbrev pub sum_of_digits : List ℕ → Option ℕ
+sum_of_digits w = if list_all is_ascii_digit w && nat_lt (digits_value 10 w) (2 ^ 32) then Some (digits_value 10 w) else None
 
 -- the number below 2 ^ 32 that is written so
 abbrev pub number_of : List ℕ → Option ℕ
@@ -71,6 +82,12 @@ abbrev pub numbers_after : List ℕ → List (List ℕ) → Result (List ℕ) Sc
 numbers_after ns [] = Ok ns
 numbers_after ns (w ∷ ws) =
     if is_some (number_of w) then numbers_after (ns ++ unwrap_or (number_of w) 0 ∷ []) ws else Err BadNumber
+
+-- the numbers of a line that has few
+abbrev pub few_items : Few → List ℕ
+few_items few.Zero = []
+few_items (few.One ns) = ns
+few_items (few.Two ns) = ns
 
 infixl 10 ◌>>=◌
 abbrev pub ◌>>=◌ : {A B : Type 0} → Result A ScriptFault → (A → Result B ScriptFault) → Result B ScriptFault
@@ -93,6 +110,7 @@ takes keyword.Release n = n == 1
 takes keyword.Barrier n = n == 0
 takes keyword.Set n = n == 1
 takes keyword.Await n = n == 1
+takes keyword.Cut n = n == 0
 takes _ n = false
 
 -- which keywords are allowed at this point, with so many numbers
@@ -146,6 +164,7 @@ instruction_of keyword.Release (l ∷ []) = Some (instruction.Release l)
 instruction_of keyword.Barrier [] = Some instruction.Barrier
 instruction_of keyword.Set (f ∷ []) = Some (instruction.Set f)
 instruction_of keyword.Await (f ∷ []) = Some (instruction.Await f)
+instruction_of keyword.Cut [] = Some instruction.Cut
 instruction_of _ _ = None
 
 abbrev pub takes_held : List Instruction → Instruction → Bool
@@ -187,9 +206,19 @@ step (Within s is) keyword.Show ns = ended s is ns
 step (Within s is) k ns = with_instruction s is (instruction_of k ns)
 step (Whole s) k ns = Err BadLine
 
+-- the line is no instruction of a section
+abbrev pub IsOther : Front → Keyword → List ℕ → Type 0
+IsOther (Within s is) k ns = instruction_of k ns ≡ None
+IsOther _ k ns = Unit {0}
+
 unfoldable pub after_keyword : Front → Option Keyword → List (List ℕ) → Result Front ScriptFault
 after_keyword f None ws = Err BadLine
 after_keyword f (Some k) ws = if is_due f k (length ws) then numbers_after [] ws >>= step f k else Err BadLine
+
+-- what a line of this keyword, if it is one, and these numbers makes of what stands before it
+unfoldable pub after_numbers : Front → Option Keyword → List ℕ → Result Front ScriptFault
+after_numbers f None ns = Err BadLine
+after_numbers f (Some k) ns = if is_due f k (length ns) then step f k ns else Err BadLine
 
 abbrev pub after_words : Front → List (List ℕ) → Result Front ScriptFault
 after_words f [] = Err BadLine

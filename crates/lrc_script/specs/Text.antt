@@ -2,7 +2,7 @@ use Rattle.std.specs.Prelude.{ℕ, ◌==◌, suc, if◌then◌else◌, List, [],
 use Rattle.std.specs.List.{flat_map}
 use Rattle.std.specs.Fmt.{decimal}
 use Rattle.lrc_script.specs.declared.script.Instruction.{Instruction}
-use Rattle.lrc_script.specs.declared.script.Instruction.TheVariants.{Load, Store, Add, Acquire, Release, Barrier, Set, Await}
+use Rattle.lrc_script.specs.declared.script.Instruction.TheVariants.{Load, Store, Add, Acquire, Release, Barrier, Set, Await, Cut}
 use Rattle.lrc_script.specs.Plan.{Plan}
 
 -- a line of a script: its first word, and the numbers after it
@@ -42,6 +42,7 @@ instruction_line (Release l) = record { word = codes "release"; numbers = l ∷ 
 instruction_line Barrier = record { word = codes "barrier"; numbers = [] }
 instruction_line (Set f) = record { word = codes "set"; numbers = f ∷ [] }
 instruction_line (Await f) = record { word = codes "await"; numbers = f ∷ [] }
+instruction_line Cut = record { word = codes "cut"; numbers = [] }
 
 abbrev pub show_line : List ℕ → Line
 show_line shown = record { word = codes "show"; numbers = shown }

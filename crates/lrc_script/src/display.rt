@@ -21,6 +21,7 @@ impl fmt::Display for Instruction {
             Instruction::Barrier => write!(f, "barrier"),
             Instruction::Set(flag) => write!(f, "set {flag}"),
             Instruction::Await(flag) => write!(f, "await {flag}"),
+            Instruction::Cut => write!(f, "cut"),
         }
     }
 }

@@ -1,10 +1,9 @@
 //! One line of a script: a keyword, and numbers with one space before each.
 
-ghost use Rattle.std.specs.Prelude.{◌≡◌, ◌<◌, ◌∷◌, [], length, IfSome, MatchOption};
-ghost use Rattle.std.specs.Char.{is_ascii_digit};
+ghost use Rattle.std.specs.Prelude.{◌≡◌, ℕ, ◌<◌, List, ◌∷◌, [], length, IfSome, IfNone, MatchOption};
 ghost use Rattle.std.specs.List.{list_all};
 ghost use Rattle.lrc_script.specs.Faults.{HasNoLineFeed};
-ghost use Rattle.lrc_script.specs.Reading.{Gives, IsCut, parts_of, parts_left, has_bytes, keyword_of, is_decimal, number_of, numbers_after};
+ghost use Rattle.lrc_script.specs.Reading.{Gives, IsCut, parts_of, parts_left, has_bytes, keyword_of, sum_of_digits, number_of, few_items, numbers_after};
 
 use crate::fault::ScriptFault;
 use smallvec::SmallVec;
@@ -23,6 +22,7 @@ pub enum Keyword {
     Barrier,
     Set,
     Await,
+    Cut,
     Show,
 }
 
@@ -42,6 +42,7 @@ impl Keyword {
             b"barrier" => Some(Keyword::Barrier),
             b"set" => Some(Keyword::Set),
             b"await" => Some(Keyword::Await),
+            b"cut" => Some(Keyword::Cut),
             b"show" => Some(Keyword::Show),
             _ => None,
         }
@@ -91,33 +92,69 @@ pub fn number_count(words: Option<&[u8]>) -> usize
     }
 }
 
-fn are_digits(word: &[u8]) -> bool
-    ensures { result ≡ list_all is_ascii_digit word.now }
+/// The number below 2^32 that digits write, summed as they come.
+fn sum_of_digits(word: &[u8]) -> Option<u32>
+    ensures { result ≡ sum_of_digits word.now }
 {
-    word.iter().all(|byte| byte.is_ascii_digit())
-}
-
-/// Whether the word is digits, with no zero at the front of others.
-fn is_decimal(word: &[u8]) -> bool
-    ensures { result ≡ is_decimal word.now }
-{
-    match word {
-        [] => false,
-        [b'0', _, ..] => false,
-        _ => are_digits(word),
+    let mut sum: u32 = 0;
+    for byte in word {
+        if !byte.is_ascii_digit() {
+            return None;
+        }
+        sum = sum.checked_mul(10)?.checked_add(u32::from(*byte - b'0'))?;
     }
+    Some(sum)
 }
 
 /// The number that is written so: in decimal, with no leading zero, below 2^32.
 fn number(word: &[u8]) -> Option<u32>
     ensures { result ≡ number_of word.now }
 {
-    if !is_decimal(word) {
-        return None;
+    match word {
+        [] => None,
+        [b'0', _, ..] => None,
+        _ => sum_of_digits(word),
     }
-    match str::from_utf8(word) {
-        Ok(text) => text.parse().ok(),
-        Err(_) => None,
+}
+
+/// The numbers of a line that has two at most, as all instructions have.
+#[derive(Clone, Copy)]
+pub enum Few {
+    Zero,
+    One([u32; 1]),
+    Two([u32; 2]),
+}
+
+impl Few {
+    pub fn as_slice(&self) -> &[u32]
+        ensures { result.now ≡ few_items self.now }
+    {
+        match self {
+            Few::Zero => &[],
+            Few::One(numbers) => numbers,
+            Few::Two(numbers) => numbers,
+        }
+    }
+}
+
+/// The numbers that the words are, where they are numbers and two at most.
+pub fn few_numbers(words: Option<&[u8]>) -> Option<Few>
+    ensures numbers { IfSome result (λ few. numbers_after [] (parts_left 32 words.entry) ≡ Ok (few_items few)) }
+    ensures others { IfNone result ((ns : List ℕ) → numbers_after [] (parts_left 32 words.entry) ≡ Ok ns → 2 < length ns) }
+{
+    let Some(line) = words else {
+        return Some(Few::Zero);
+    };
+    let (word, rest) = split_at_byte(line, b' ');
+    let first = number(word)?;
+    let Some(line) = rest else {
+        return Some(Few::One([first]));
+    };
+    let (word, rest) = split_at_byte(line, b' ');
+    let second = number(word)?;
+    match rest {
+        None => Some(Few::Two([first, second])),
+        Some(_) => None,
     }
 }
 

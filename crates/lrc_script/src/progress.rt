@@ -1,17 +1,18 @@
 //! How far a script is read, and what each line adds.
 
-ghost use Rattle.std.specs.Prelude.{◌≡◌, ℕ, ◌≤◌, ◌<◌, nat_le, [], length, Some, IfOk, IfSome, IfNone};
+ghost use Rattle.std.specs.Prelude.{◌≡◌, ℕ, ◌≤◌, ◌<◌, nat_le, [], length, Some, IfOk, IfErr, OnOk, IfSome, IfNone};
 ghost use Rattle.std.specs.List.{list_any};
 ghost use Rattle.lrc_script.specs.Plan.{Plan, plan_of};
 ghost use Rattle.lrc_script.specs.Front.{IsBegun, Headed, Within, Whole};
 ghost use Rattle.lrc_script.specs.Lawful.{addresses};
-ghost use Rattle.lrc_script.specs.Reading.{Gives, front_of, is_due, takes, are_sizes, headed, first_section, next_section, ended, instruction_of, is_past, refusal, with_instruction, step, after};
+ghost use Rattle.lrc_script.specs.Reading.{Gives, Fails, Goes, IsOther, front_of, is_due, takes, are_sizes, headed, first_section, next_section, ended, instruction_of, is_past, refusal, with_instruction, step, after_numbers, after};
 
 use crate::fault::ScriptFault;
-use crate::line::{Keyword, is_separated, number_count, read_numbers, split_at_byte};
+use crate::line::{Keyword, few_numbers, is_separated, number_count, read_numbers, split_at_byte};
 use crate::script::{Instruction, Script};
 use crate::section::Section;
 use std::alloc::{AllocError, Global};
+use std::mem;
 
 /// The most instructions of a section.
 const MOST_INSTRUCTIONS: usize = 10_000;
@@ -39,7 +40,7 @@ fn takes(keyword: Keyword, numbers: usize) -> bool
         Keyword::Store | Keyword::Add => numbers == 2,
         Keyword::Load | Keyword::Acquire | Keyword::Release | Keyword::Set | Keyword::Await =>
             numbers == 1,
-        Keyword::Barrier => numbers == 0,
+        Keyword::Barrier | Keyword::Cut => numbers == 0,
         Keyword::Cluster | Keyword::Section | Keyword::Show => false,
     }
 }
@@ -69,6 +70,7 @@ fn instruction(keyword: Keyword, numbers: &[u32]) -> Option<Instruction>
         (Keyword::Barrier, []) => Some(Instruction::Barrier),
         (Keyword::Set, [f]) => Some(Instruction::Set(*f as usize)),
         (Keyword::Await, [f]) => Some(Instruction::Await(*f as usize)),
+        (Keyword::Cut, []) => Some(Instruction::Cut),
         _ => None,
     }
 }
@@ -185,22 +187,17 @@ fn show(
     Ok(Progress::Whole(script))
 }
 
-fn add(
-    script: Script,
-    mut section: Section,
-    instruction: Instruction,
-) -> Result<Progress, ScriptFault>
-    requires fits { addresses (plan_of script) ≤ 4096 }
-    requires locks { script.locks ≤ 32 }
-    ensures { Gives front_of result
-        (with_instruction (plan_of script) section.instructions.items (Some instruction)) }
+fn add(script: &Script, section: &mut Section, instruction: Instruction) -> Result<(), ScriptFault>
+    requires fits { addresses (plan_of script.now) ≤ 4096 }
+    requires locks { script.now.locks ≤ 32 }
+    ensures ok { OnOk result (Goes (Within (plan_of script.now) section.new.instructions.items)
+        (with_instruction (plan_of script.now) section.old.instructions.items (Some instruction))) }
+    ensures err { IfErr result (λ e. Fails e
+        (with_instruction (plan_of script.now) section.old.instructions.items (Some instruction))) }
 {
-    match refusal(&script, &section, instruction) {
+    match refusal(script, section, instruction) {
         Some(fault) => Err(fault),
-        None => {
-            section.push(instruction)?;
-            Ok(Progress::Within(script, section))
-        }
+        None => section.push(instruction),
     }
 }
 
@@ -220,10 +217,11 @@ impl Progress {
         }
     }
 
-    /// What a line of this keyword and these numbers makes of it.
+    /// What a line of this keyword and these numbers, no instruction of a section, makes of it.
     #[tactic(auto, unfolding(crate::specs::Reading::step))]
-    fn step(self, alloc: Global, keyword: Keyword, numbers: &[u32]) -> Result<Progress, ScriptFault>
-        requires { IsBegun (front_of self) }
+    fn next(self, alloc: Global, keyword: Keyword, numbers: &[u32]) -> Result<Progress, ScriptFault>
+        requires begun { IsBegun (front_of self) }
+        requires other { IsOther (front_of self) keyword numbers.now }
         ensures { Gives front_of result (step (front_of self) keyword numbers.now) }
     {
         match self {
@@ -232,20 +230,64 @@ impl Progress {
             Progress::Within(script, section) => match keyword {
                 Keyword::Section => next_section(alloc, script, section, numbers),
                 Keyword::Show => show(alloc, script, section, numbers),
-                _ => match instruction(keyword, numbers) {
-                    Some(instruction) => add(script, section, instruction),
-                    None => Err(ScriptFault::BadLine),
-                },
+                _ => Err(ScriptFault::BadLine),
             },
             Progress::Whole(_) => Err(ScriptFault::BadLine),
         }
     }
 
-    /// What a line makes of it. The line is handed in without its line feed.
+    /// Goes on by such a line.
+    fn go_on(&mut self, alloc: Global, keyword: Keyword, numbers: &[u32]) -> Result<(), ScriptFault>
+        requires begun { IsBegun (front_of self.old) }
+        requires other { IsOther (front_of self.old) keyword numbers.now }
+        ensures ok { OnOk result (Goes (front_of self.new) (step (front_of self.old) keyword numbers.now)) }
+        ensures err { IfErr result (λ e. Fails e (step (front_of self.old) keyword numbers.now)) }
+    {
+        *self = mem::replace(self, Progress::Start).next(alloc, keyword, numbers)?;
+        Ok(())
+    }
+
+    /// Goes on by a line of this keyword and these numbers. An instruction is added where it belongs.
+    fn step(&mut self, alloc: Global, keyword: Keyword, numbers: &[u32]) -> Result<(), ScriptFault>
+        requires { IsBegun (front_of self.old) }
+        ensures ok { OnOk result (Goes (front_of self.new) (step (front_of self.old) keyword numbers.now)) }
+        ensures err { IfErr result (λ e. Fails e (step (front_of self.old) keyword numbers.now)) }
+    {
+        match self {
+            Progress::Within(script, section) => match instruction(keyword, numbers) {
+                Some(instruction) => add(script, section, instruction),
+                None => self.go_on(alloc, keyword, numbers),
+            },
+            _ => self.go_on(alloc, keyword, numbers),
+        }
+    }
+
+    /// Goes on by a line of this keyword, if it is one, and these numbers.
+    #[tactic(auto, unfolding(crate::specs::Reading::after_numbers))]
+    fn after_numbers(
+        &mut self,
+        alloc: Global,
+        keyword: Option<Keyword>,
+        numbers: &[u32],
+    ) -> Result<(), ScriptFault>
+        requires { IsBegun (front_of self.old) }
+        ensures ok { OnOk result (Goes (front_of self.new) (after_numbers (front_of self.old) keyword numbers.now)) }
+        ensures err { IfErr result (λ e. Fails e (after_numbers (front_of self.old) keyword numbers.now)) }
+    {
+        match keyword {
+            Some(keyword) if self.is_due(keyword, numbers.len()) => {
+                self.step(alloc, keyword, numbers)
+            }
+            _ => Err(ScriptFault::BadLine),
+        }
+    }
+
+    /// Goes on by a line of any form, with one pass for each question.
     #[tactic(auto, unfolding(crate::specs::Reading::after_keyword))]
-    pub fn after(self, alloc: Global, line: &[u8]) -> Result<Progress, ScriptFault>
-        requires { IsBegun (front_of self) }
-        ensures { Gives front_of result (after (front_of self) line.now) }
+    fn after_any(&mut self, alloc: Global, line: &[u8]) -> Result<(), ScriptFault>
+        requires { IsBegun (front_of self.old) }
+        ensures ok { OnOk result (Goes (front_of self.new) (after (front_of self.old) line.now)) }
+        ensures err { IfErr result (λ e. Fails e (after (front_of self.old) line.now)) }
     {
         if !is_separated(line) {
             return Err(ScriptFault::BadLine);
@@ -259,6 +301,20 @@ impl Progress {
         }
         let numbers = read_numbers(alloc, words)?;
         self.step(alloc, keyword, numbers.as_slice())
+    }
+
+    /// Goes on by a line, which is handed in without its line feed. Each word of a line with two numbers at
+    /// most is gone through once. After an error nothing is said of what was read.
+    pub fn after(&mut self, alloc: Global, line: &[u8]) -> Result<(), ScriptFault>
+        requires { IsBegun (front_of self.old) }
+        ensures ok { OnOk result (Goes (front_of self.new) (after (front_of self.old) line.now)) }
+        ensures err { IfErr result (λ e. Fails e (after (front_of self.old) line.now)) }
+    {
+        let (word, words) = split_at_byte(line, b' ');
+        match few_numbers(words) {
+            Some(numbers) => self.after_numbers(alloc, Keyword::of(word), numbers.as_slice()),
+            None => self.after_any(alloc, line),
+        }
     }
 
     /// The script, if all its lines were read and nothing is left.

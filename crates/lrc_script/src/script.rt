@@ -13,6 +13,9 @@ use crate::line::split_line;
 use crate::progress::Progress;
 use std::alloc::Global;
 
+/// The bytes of the longest text of a script.
+pub const MOST_BYTES: usize = 3_520_418;
+
 /// What a processor does at one line of its section. Places are numbered from 0.
 #[derive(Clone, Copy, Debug, PartialEq, Eq)]
 pub enum Instruction {
@@ -32,6 +35,8 @@ pub enum Instruction {
     Set(usize),
     /// Waits until a flag is set.
     Await(usize),
+    /// Lets go of the events up to the last episode of the barrier that is complete.
+    Cut,
 }
 
 impl Instruction {
@@ -108,7 +113,7 @@ pub fn parse(alloc: Global, bytes: &[u8]) -> Result<Script, (usize, ScriptFault)
     let mut number = 1;
     while let Some((line, after)) = split_line(rest) {
         match progress.after(alloc, line) {
-            Ok(next) => progress = next,
+            Ok(()) => {}
             Err(fault) => return Err((number, fault)),
         }
         rest = after;

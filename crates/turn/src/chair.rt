@@ -1,5 +1,5 @@
 //! What a thread enters with: its chair, and what it has while it is inside.
-ghost use Rattle.std.specs.Prelude.{◌≡◌, ◌+◌, ◌^◌, ◌<◌, ◌≤◌, true, []};
+ghost use Rattle.std.specs.Prelude.{◌≡◌, ◌+◌, ◌^◌, ◌<◌, ◌≤◌, nat_le, true, []};
 ghost use Rattle.turn.specs.declared.chair.Stage.TheVariants.{Outside};
 ghost use Rattle.turn.specs.Stages.{carried};
 
@@ -47,7 +47,7 @@ pub struct ChairToken<B, V> {
 }
 
 impl<B, V> ChairToken<B, V> {
-    ghost use Rattle.turn.specs.Chairs.{lock_id, IsFresh};
+    ghost use Rattle.turn.specs.Chairs.{lock_id, lock, entries, IsFresh};
     ghost use Rattle.turn.specs.Moves.{IsAtStage};
 
     // A chair that never entered.
@@ -64,6 +64,13 @@ impl<B, V> ChairToken<B, V> {
             entries: 0,
             limit,
         }
+    }
+
+    /// Whether the chair has entered as often as it may.
+    pub fn is_spent(&self) -> bool
+        ensures { result ≡ nat_le (lock self.now).limit (entries self.now) }
+    {
+        self.entries >= self.limit
     }
 
     pub(crate) fn into_seat(self) -> Seat<Option<B>, ChairRun<ChairState<B, V>>>

@@ -16,6 +16,7 @@ use Rattle.journal.specs.Waits.{IsIdle}
 use Rattle.journal.proofs.Journals.WellFormed.{last_unique}
 use Rattle.page.specs.Changes.{Changes}
 use Rattle.vtime.specs.Times.{tick, join}
+use Rattle.interval.specs.Intervals.{ClosedInterval}
 use Rattle.interval.specs.Closings.{Closings, pushed}
 use Rattle.barrier.specs.Episodes.{Episodes, is_full, joined, arrived}
 use Rattle.barrier.specs.declared.episodes.Stage.TheVariants.{Away, Here}
@@ -200,11 +201,11 @@ none_waits old p c t ms is time made = go (is_full (joined old.barrier p t)) ref
         is.none (ap (λ (u : List ℕ). is_full (joined old.barrier p u)) (sym time) ∙ all) ∙ ap (λ (n : ℕ). replicate n None) (sym same)
 
 -- the departures as they were made, read off the book before the call
-pub departures_made : (old b : State) (p n : ℕ) (records : List Changes) (t : List ℕ) (o : Option (List Letter)) → b ≡ old → n ≡ slice_index (time_of b p) p
-    → o ≡ departures_after (pushed b.closed (record { owner = p; number = n; records = records })) b.barrier (slice_set b.times p t) p t → o ≡ departures_after (pushed old.closed (open_interval old p records)) old.barrier (slice_set old.times p t) p t
-departures_made old b p n records t o same number made =
+pub departures_made : (old b : State) (p : ℕ) (records : List Changes) (i : ClosedInterval) (t : List ℕ) (o : Option (List Letter)) → b ≡ old → i ≡ open_interval b p records
+    → o ≡ departures_after (pushed b.closed i) b.barrier (slice_set b.times i.owner t) i.owner t → o ≡ departures_after (pushed old.closed (open_interval old p records)) old.barrier (slice_set old.times p t) p t
+departures_made old b p records i t o same opened made =
     made
-    ∙ ap (λ (x : ℕ). departures_after (pushed b.closed (record { owner = p; number = x; records = records })) b.barrier (slice_set b.times p t) p t) number
+    ∙ ap (λ (x : ClosedInterval). departures_after (pushed b.closed x) b.barrier (slice_set b.times x.owner t) x.owner t) opened
     ∙ ap (λ (x : State). departures_after (pushed x.closed (open_interval x p records)) x.barrier (slice_set x.times p t) p t) same
 
 -- each one's timestamp once p has closed its interval

@@ -147,3 +147,6 @@ asked_waits old b p l block records locks may is line made =
     let mail : b.transit ≡ slice_set old.transit p (due (lock_at old.locks l).holder (granted (closing (handed_in old block) p (Ask l) records) p (lock_at old.locks l).time)) =
     ap (λ (x : State). x.transit) is ∙ sym (set_back old.transit p None asks.none) ∙ ap (λ (x : Option Letter). slice_set old.transit p x) (made ∙ ap (λ (x : Letter). due (lock_at old.locks l).holder x) (grant_same old p l block records st.times asks)) in
     asked_is old b p l block records locks b.transit is line mail
+
+pub ask_call : (b : State) (p l : ℕ) (block : List Event) → MayAsk b p l block → MayCall b p block
+ask_call b p l block may = (may.0, may.1, may.2, may.3)

@@ -13,11 +13,13 @@ use Rattle.journal.specs.Log.{Log}
 use Rattle.journal.specs.Waits.{awaited}
 use Rattle.page.specs.Changes.{Changes}
 use Rattle.vtime.specs.Times.{tick}
+use Rattle.interval.specs.Intervals.{ClosedInterval}
 use Rattle.interval.specs.Closings.{Closings, pushed}
 use Rattle.journal.specs.Did.{event}
 use Rattle.book.specs.Transitions.{handed_in, open_interval, closing}
 use Rattle.book.specs.State.{State, time_of}
-use Rattle.book.specs.Calls.{MayFlush, MayCall}
+use Rattle.book.specs.Calls.{MayFlush, MayCall, IsOpen}
+use Rattle.book.proofs.Parts.History.{happened, history_long}
 use Rattle.book.proofs.Parts.Told.{is_processor, own_stamp, own_number}
 
 -- numbers of the book that a call of p needs
@@ -28,8 +30,8 @@ pub record IsStanding (b : State) (p : ℕ) : Type 0 where
   pub next : p < length b.closed.next
   pub own : p < length (time_of b p)
   pub number : slice_index (time_of b p) p ≡ slice_index b.closed.next p
-  pub few : slice_index (time_of b p) p ≤ length b.journal.events
-  pub pushed : b.closed.pushed ≤ length b.journal.events
+  pub few : slice_index (time_of b p) p ≤ happened b.journal
+  pub pushed : b.closed.pushed ≤ happened b.journal
 
 pub standing : (b : State) (p : ℕ) (block : List Event) → MayCall b p block → IsStanding b p
 standing b p block (s, h, told, may) =
@@ -41,7 +43,7 @@ standing b p block (s, h, told, may) =
     let stamp = (own_stamp s h b p told lt).long in
     let number = own_number s h b p told lt in
     let next_is = told.closed.next p lt in
-    let long = ap (λ (es : List Event). length es) told.holds in
+    let long = history_long b.journal h told.holds in
     let counted = own_at_most h p in
     let closings = count_by-le-length (λ (e : Event). is_closing e.kind) h in
     let count = told.closed.count in
@@ -99,14 +101,14 @@ logs_are a b c d owing block e first second third =
     ap (λ (l : Log). record l { room = owing }) third ∙ ap (λ (l : Log). record l { events = l.events ++ e ∷ []; room = owing }) second ∙ ap (λ (l : Log). record l { events = (l.events ++ block) ++ e ∷ []; room = owing }) first
 
 -- the book after a block and an event that closes an interval, part by part
-pub closing_is : (b : State) (p : ℕ) (k : Kind) (block : List Event) (records : List Changes) (log : Log) (c : Closings) (t : List ℕ) (w : Option Kind)
-    → log ≡ record b.journal { events = (b.journal.events ++ block) ++ event p k ∷ [] } → c ≡ pushed b.closed (open_interval b p records) → t ≡ tick (time_of b p) p → w ≡ awaited k
-    → record b { journal = log; closed = c; times = slice_set b.times p t; awaits = slice_set b.awaits p w } ≡ closing (handed_in b block) p k records
-closing_is b p k block records log c t w one two three four =
-    ap (λ (l : Log). record b { journal = l; closed = c; times = slice_set b.times p t; awaits = slice_set b.awaits p w }) one
-    ∙ ap (λ (x : Closings). record b { journal = record b.journal { events = (b.journal.events ++ block) ++ event p k ∷ [] }; closed = x; times = slice_set b.times p t; awaits = slice_set b.awaits p w }) two
-    ∙ ap (λ (x : List ℕ). record b { journal = record b.journal { events = (b.journal.events ++ block) ++ event p k ∷ [] }; closed = pushed b.closed (open_interval b p records); times = slice_set b.times p x; awaits = slice_set b.awaits p w }) three
-    ∙ ap (λ (x : Option Kind). record b { journal = record b.journal { events = (b.journal.events ++ block) ++ event p k ∷ [] }; closed = pushed b.closed (open_interval b p records); times = slice_set b.times p (tick (time_of b p) p); awaits = slice_set b.awaits p x }) four
+pub closing_is : (b : State) (p : ℕ) (k : Kind) (block : List Event) (records : List Changes) (log : Log) (c : Closings) (t : List ℕ) (waits : List (Option Kind))
+    → log ≡ record b.journal { events = (b.journal.events ++ block) ++ event p k ∷ [] } → c ≡ pushed b.closed (open_interval b p records) → t ≡ tick (time_of b p) p → waits ≡ slice_set b.awaits p (awaited k)
+    → record b { journal = log; closed = c; times = slice_set b.times p t; awaits = waits } ≡ closing (handed_in b block) p k records
+closing_is b p k block records log c t waits one two three four =
+    ap (λ (l : Log). record b { journal = l; closed = c; times = slice_set b.times p t; awaits = waits }) one
+    ∙ ap (λ (x : Closings). record b { journal = record b.journal { events = (b.journal.events ++ block) ++ event p k ∷ [] }; closed = x; times = slice_set b.times p t; awaits = waits }) two
+    ∙ ap (λ (x : List ℕ). record b { journal = record b.journal { events = (b.journal.events ++ block) ++ event p k ∷ [] }; closed = pushed b.closed (open_interval b p records); times = slice_set b.times p x; awaits = waits }) three
+    ∙ ap (λ (x : List (Option Kind)). record b { journal = record b.journal { events = (b.journal.events ++ block) ++ event p k ∷ [] }; closed = pushed b.closed (open_interval b p records); times = slice_set b.times p (tick (time_of b p) p); awaits = x }) four
 
 pub stands : (b now : State) (p : ℕ) (block : List Event) → b ≡ now → MayCall now p block → IsStanding b p
 stands b now p block same may = subst (λ x. IsStanding x p) (sym same) (standing now p block may)
@@ -117,3 +119,14 @@ own_read times p t lt is = is ∙ same_default times p t [] lt
 
 pub own_entry_read : (t own : List ℕ) (p n : ℕ) → t ≡ own → slice_get t p ≡ Some n → n ≡ slice_index own p
 own_entry_read t own p n is at = sym (get_or_from_slice_get t p n 0 at) ∙ ap (λ (ts : List ℕ). slice_index ts p) is
+
+-- p's interval is open
+pub opens : (b now : State) (p : ℕ) (block : List Event) → b ≡ now → MayCall now p block → IsOpen b p
+opens b now p block same may = let st = stands b now p block same may in record { within = st.times; own = st.own }
+
+-- and closes with its records
+pub closed_records : (b : State) (block : List Event) (p : ℕ) (k : Kind) (i : ClosedInterval) (records : List Changes) → i ≡ open_interval b p records → closing (handed_in b block) p k i.records ≡ closing (handed_in b block) p k records
+closed_records b block p k i records is = ap (λ (x : ClosedInterval). closing (handed_in b block) p k x.records) is
+
+pub still_open : (b : State) (p : ℕ) (i : ClosedInterval) (records : List Changes) → i ≡ open_interval b p records → i ≡ open_interval b p i.records
+still_open b p i records is = is ∙ sym (ap (λ (x : ClosedInterval). open_interval b p x.records) is)

@@ -1,5 +1,5 @@
 -- What a release rests on, and what it makes, read off the book.
-use Rattle.std.proofs.Common.{◌≡◌, ◌≢◌, ℕ, ◌<◌, inl, inr, List, [], ◌∷◌, length, Option, Some, None, IfSome, slice_get, slice_set, slice_index, slice_index_or, subst, sym, refl, ap, ◌∙◌, arith}
+use Rattle.std.proofs.Common.{◌≡◌, ◌≢◌, ℕ, ◌<◌, inl, inr, List, [], ◌∷◌, length, Option, Some, None, IfSome, slice_get, slice_set, slice_index_or, subst, sym, refl, ap, ◌∙◌, arith}
 use Rattle.std.proofs.lemmas.Option.{slice_get-get_or, same_Some, none-some}
 use Rattle.std.proofs.lemmas.List.{get_or-set_other}
 use Rattle.std.specs.Option.{option_map}
@@ -11,6 +11,7 @@ use Rattle.journal.specs.WellFormed.{LastIs, Holds, Allowed}
 use Rattle.journal.proofs.Journals.WellFormed.{last_unique}
 use Rattle.page.specs.Changes.{Changes}
 use Rattle.vtime.specs.Times.{tick}
+use Rattle.interval.specs.Intervals.{ClosedInterval}
 use Rattle.interval.specs.Closings.{Closings, pushed}
 use Rattle.lockq.specs.Lock.{Locks, unheld, lock_at, with_lock, line, released}
 use Rattle.transit.specs.Letters.{Letter}
@@ -172,11 +173,11 @@ grant_to_whom c times t [] r m made = absurd (none-some (r, m) (sym made))
 grant_to_whom c times t (q ∷ queue) r m made = ap (λ (x : ℕ × Letter). Some x.0) (sym (same_Some (r, m) (grant_for c times t q) made))
 
 -- the grant as it was made, read off the book before the call
-pub grant_read : (old b : State) (p l n : ℕ) (records : List Changes) (times : List (List ℕ)) (t : List ℕ) (o : Option ℕ) (g : Option (ℕ × Letter)) → b ≡ old → times ≡ b.times → n ≡ slice_index (time_of b p) p → o ≡ slice_get (lock_at b.locks l).queue 0
-    → g ≡ option_map (grant_for (pushed b.closed (record { owner = p; number = n; records = records })) times t) o → g ≡ option_map (grant_for (pushed old.closed (open_interval old p records)) old.times t) (slice_get (lock_at old.locks l).queue 0)
-grant_read old b p l n records times t o g same all number next made =
+pub grant_read : (old b : State) (p l : ℕ) (records : List Changes) (i : ClosedInterval) (times : List (List ℕ)) (t : List ℕ) (o : Option ℕ) (g : Option (ℕ × Letter)) → b ≡ old → times ≡ b.times → i ≡ open_interval b p records → o ≡ slice_get (lock_at b.locks l).queue 0
+    → g ≡ option_map (grant_for (pushed b.closed i) times t) o → g ≡ option_map (grant_for (pushed old.closed (open_interval old p records)) old.times t) (slice_get (lock_at old.locks l).queue 0)
+grant_read old b p l records i times t o g same all opened next made =
     made
-    ∙ ap (λ (x : List (List ℕ)). option_map (grant_for (pushed b.closed (record { owner = p; number = n; records = records })) x t) o) all
-    ∙ ap (λ (x : ℕ). option_map (grant_for (pushed b.closed (record { owner = p; number = x; records = records })) b.times t) o) number
+    ∙ ap (λ (x : List (List ℕ)). option_map (grant_for (pushed b.closed i) x t) o) all
+    ∙ ap (λ (x : ClosedInterval). option_map (grant_for (pushed b.closed x) b.times t) o) opened
     ∙ ap (λ (x : Option ℕ). option_map (grant_for (pushed b.closed (open_interval b p records)) b.times t) x) next
     ∙ ap (λ (x : State). option_map (grant_for (pushed x.closed (open_interval x p records)) x.times t) (slice_get (lock_at x.locks l).queue 0)) same

@@ -1,9 +1,11 @@
 -- What a take rests on, and what it makes, read off the book.
-use Rattle.std.proofs.Common.{Bool, ◌≡◌, ◌↔◌, ◌-◌, ℕ, ◌<◌, inl, inr, true, IsTrue, List, [], ◌∷◌, ◌++◌, length, Option, Some, None, slice_get, slice_set, slice_index_or, subst, sym, refl, ap, ◌∙◌, arith}
+use Rattle.std.proofs.Common.{Bool, ◌≡◌, ◌↔◌, ◌-◌, ℕ, ◌<◌, ◌≤◌, inl, inr, true, IsTrue, List, [], ◌∷◌, ◌++◌, length, map, Option, Some, None, slice_get, slice_set, slice_index, slice_index_or, subst, subst₂, sym, refl, ap, ◌∙◌, arith}
 use Rattle.std.proofs.lemmas.Bool.{cases_eq}
-use Rattle.std.proofs.lemmas.Option.{get_or_from_slice_get, slice_get-get_or}
+use Rattle.std.proofs.lemmas.Option.{get_or_from_slice_get, slice_get-get_or, same_Some}
+use Rattle.std.proofs.Math.ListN.{get_or-map}
+use Rattle.std.proofs.lemmas.List.{length-set, set-set, set-get_or}
 use Rattle.lists.proofs.Sets.{slice_get-set_found, slice_get-set_other}
-use Rattle.std.specs.Option.{option_and_then}
+use Rattle.std.specs.Option.{option_map, option_and_then}
 use Rattle.journal.specs.declared.event.Event.{Event}
 use Rattle.journal.specs.declared.event.Kind.{Kind}
 use Rattle.journal.specs.declared.event.Kind.TheVariants.{Acquire, Depart, Watch, Await, Load, Store}
@@ -15,23 +17,27 @@ use Rattle.journal.specs.WellFormed.{Allowed, Ready}
 use Rattle.journal.specs.Waits.{awaited}
 use Rattle.journal.proofs.Journals.Balance.{balanced}
 use Rattle.vtime.specs.Times.{join}
-use Rattle.interval.specs.Closings.{Closings}
+use Rattle.interval.specs.Closings.{Closings, between}
 use Rattle.barrier.specs.Episodes.{Episodes}
 use Rattle.barrier.specs.declared.episodes.Stage.{Stage}
 use Rattle.barrier.specs.declared.episodes.Stage.TheVariants.{Away, Free}
 use Rattle.transit.specs.Letters.{Letter}
 use Rattle.journal.specs.Did.{event}
+use Rattle.book.specs.declared.awaited.Awaited.{Awaited}
+use Rattle.book.specs.Awaiting.{kind_of}
 use Rattle.book.specs.Flags.{IsFlag}
+use Rattle.book.specs.ClosedIntervals.{AreFromFirst, IsTight}
 use Rattle.book.specs.Meetings.{IsAtStage}
 use Rattle.book.specs.State.{State, time_of}
-use Rattle.book.specs.Brought.{message_among, message_for, has_come, sent_with, brought}
+use Rattle.book.specs.Brought.{signal_after, message_among, message_for, has_come, sent_with, brought}
 use Rattle.book.specs.Transitions.{trimmed_by, left, book_took}
 use Rattle.book.specs.Told.{IsTold}
-use Rattle.book.specs.Calls.{MaySignal, MayTake, MayTakeSome}
+use Rattle.book.specs.Calls.{MaySignal, MayTake, MayTakeSome, MayTrim}
 use Rattle.book.proofs.Parts.Each.{is_at, item_at}
 use Rattle.book.proofs.Parts.Meetings.{stage_free}
 use Rattle.book.proofs.Keeps.Flags.{last_watch}
 use Rattle.book.proofs.Keeps.Takes.{waits_taking, message_is, message_come, no_mail_waits}
+use Rattle.book.proofs.Calling.Calls.{own_read, same_default}
 use Rattle.book.proofs.Parts.Told.{is_processor, own_stamp}
 
 -- p waits for this
@@ -50,6 +56,8 @@ pub record IsReceiving (b : State) (p : ℕ) (k : Kind) : Type 0 where
   pub takes : IsTrue (is_taking k)
   pub all_long : (i : ℕ) (t : List ℕ) → slice_get b.times i ≡ Some t → length t ≡ length b.times
   pub owners : length b.closed.first ≡ length b.times
+  pub from : AreFromFirst b.closed
+  pub tight : 1 < length b.times → IsTight b.closed.first b.times
 
 pub receiving : (b : State) (p : ℕ) (k : Kind) → MayTake b p k → IsReceiving b p k
 receiving b p k (s, h, told, waits) =
@@ -75,6 +83,8 @@ receiving b p k (s, h, told, waits) =
       takes = waits_taking h p k (told.awaits.each p (Some k) waits);
       all_long = λ i t at. (let stamp = told.times.each i t at in let long = stamp.long in omega arith);
       owners = omega arith;
+      from = told.closed.from;
+      tight = λ more. told.tight (omega arith);
     }
   where
     departing : Allowed s h p Depart → p < s.processors → slice_get b.barrier.stages p ≡ Some Free
@@ -103,12 +113,12 @@ receiving b p k (s, h, told, waits) =
         }
 
 -- what was read is what p waits for
-pub reading : (b now : State) (p : ℕ) (o : Option Kind) → b ≡ now → MayTakeSome now p → o ≡ slice_index_or b.awaits p o → (k : Kind) → o ≡ Some k → IsReceiving b p k
-reading b now p o same may is k some =
+pub reading : (b now : State) (all : List (Option Awaited)) (p : ℕ) (o : Option Awaited) → b.awaits ≡ map (option_map kind_of) all → b ≡ now → MayTakeSome now p → o ≡ slice_index_or all p o → (a : Awaited) → o ≡ Some a → IsReceiving b p (kind_of a)
+reading b now all p o kept same may is a some =
     let r = receiving now p may.0 may.1 in
-    let read = is ∙ get_or_from_slice_get b.awaits p (Some may.0) o (ap (λ (x : State). slice_get x.awaits p) same ∙ r.waits) in
-    let P : Kind → Type 0 = λ a. IsReceiving b p a in
-    subst P (let e = sym read ∙ some in cc) (subst (λ x. IsReceiving x p may.0) (sym same) r)
+    let read = ap (option_map kind_of) is ∙ sym (get_or-map (option_map kind_of) all p o) ∙ ap (λ (ks : List (Option Kind)). slice_index_or ks p (option_map kind_of o)) (sym kept) ∙ get_or_from_slice_get b.awaits p (Some may.0) (option_map kind_of o) (ap (λ (x : State). slice_get x.awaits p) same ∙ r.waits) in
+    let P : Kind → Type 0 = λ k. IsReceiving b p k in
+    subst P (same_Some may.0 (kind_of a) (sym read ∙ ap (option_map kind_of) some)) (subst (λ x. IsReceiving x p may.0) (sym same) r)
 
 -- a list of timestamps with another one of the same length
 pub all_long_set : (times : List (List ℕ)) (p : ℕ) (u : List ℕ) (n : ℕ) → length u ≡ n → ((i : ℕ) (t : List ℕ) → slice_get times i ≡ Some t → length t ≡ n) → (i : ℕ) (t : List ℕ) → slice_get (slice_set times p u) i ≡ Some t → length t ≡ n
@@ -116,6 +126,23 @@ all_long_set times p u n long all i t at = elim (cases_eq i p) [
   | inl is ↦ (let P : ℕ → Type 0 = λ x. slice_get (slice_set times p u) x ≡ Some t in subst (λ (v : List ℕ). length v ≡ n) (slice_get-set_found times p u t (subst P is at)) long)
   | inr isnt ↦ all i t (sym (slice_get-set_other times p i u isnt) ∙ at)
 ]
+
+-- what may be trimmed once p's timestamp has risen
+pub may_trim : (b : State) (p : ℕ) (k : Kind) (times : List (List ℕ)) (before u : List ℕ) → IsReceiving b p k → times ≡ slice_set b.times p u → length u ≡ length b.times → before ≡ time_of b p → MayTrim b.closed times p before
+may_trim b p k times before u w is long old =
+    let same = length-set b.times p u in
+    let owners = w.owners in
+    let within = w.times in
+    let own_long = w.own_long in
+    let back = set-set b.times p u (time_of b p) ∙ set-get_or b.times p [] in
+    subst₂ (λ ts t. MayTrim b.closed ts p t) (sym is) (sym old) (record {
+      within = omega arith;
+      owners = omega arith;
+      long = all_long_set b.times p u (length (slice_set b.times p u)) (long ∙ sym same) (λ i t at. w.all_long i t at ∙ sym same);
+      old_long = omega arith;
+      from = w.from;
+      tight = λ more. subst (λ ts. IsTight b.closed.first ts) (sym back) (w.tight (omega arith));
+    })
 
 -- the journal after one event
 pub log_is : (a b c : Log) (owing : ℕ) (e : Event) → b ≡ record a { room = b.room } → c ≡ record b { events = b.events ++ e ∷ []; room = b.room - 1 } → record c { room = owing } ≡ record a { events = a.events ++ e ∷ []; room = owing }
@@ -128,11 +155,12 @@ taking_address n (Store a v) takes = absurd cc
 taking_address n _ takes = tt
 
 -- the book after the take of a message, part by part
-pub took_is : (b : State) (p : ℕ) (k : Kind) (m : Letter) (u : List ℕ) (log : Log) (c : Closings) (transit : List (Option Letter)) (barrier : Episodes) → log ≡ record b.journal { events = b.journal.events ++ event p k ∷ [] } → u ≡ join (time_of b p) m.time
-    → c ≡ trimmed_by b.closed (slice_set b.times p u) (length (slice_set b.times p u)) → transit ≡ slice_set b.transit p None → barrier ≡ left k b.barrier p → IsTrue (is_taking k)
-    → record b { journal = log; closed = c; times = slice_set b.times p u; awaits = slice_set b.awaits p None; transit = transit; barrier = barrier } ≡ book_took b p k m
-took_is b p k m u log c transit barrier one two three four five six =
-    ap (λ (l : Log). record b { journal = l; closed = c; times = slice_set b.times p u; awaits = slice_set b.awaits p None; transit = transit; barrier = barrier }) one
+pub took_is : (b : State) (p : ℕ) (k : Kind) (m : Letter) (u : List ℕ) (log : Log) (c : Closings) (waits : List (Option Kind)) (transit : List (Option Letter)) (barrier : Episodes) → log ≡ record b.journal { events = b.journal.events ++ event p k ∷ [] } → u ≡ join (time_of b p) m.time
+    → c ≡ trimmed_by b.closed (slice_set b.times p u) (length (slice_set b.times p u)) → waits ≡ slice_set b.awaits p None → transit ≡ slice_set b.transit p None → barrier ≡ left k b.barrier p → IsTrue (is_taking k)
+    → record b { journal = log; closed = c; times = slice_set b.times p u; awaits = waits; transit = transit; barrier = barrier } ≡ book_took b p k m
+took_is b p k m u log c waits transit barrier one two three set four five six =
+    ap (λ (ws : List (Option Kind)). record b { journal = log; closed = c; times = slice_set b.times p u; awaits = ws; transit = transit; barrier = barrier }) set
+    ∙ ap (λ (l : Log). record b { journal = l; closed = c; times = slice_set b.times p u; awaits = slice_set b.awaits p None; transit = transit; barrier = barrier }) one
     ∙ ap (λ (x : Closings). record b { journal = record b.journal { events = b.journal.events ++ event p k ∷ [] }; closed = x; times = slice_set b.times p u; awaits = slice_set b.awaits p None; transit = transit; barrier = barrier }) three
     ∙ ap (λ (v : List ℕ). record b { journal = record b.journal { events = b.journal.events ++ event p k ∷ [] }; closed = trimmed_by b.closed (slice_set b.times p v) (length (slice_set b.times p v)); times = slice_set b.times p v; awaits = slice_set b.awaits p None; transit = transit; barrier = barrier }) two
     ∙ ap (λ (x : List (Option Letter)). record (book_took b p k m) { awaits = slice_set b.awaits p None; transit = x; barrier = barrier }) four
@@ -164,6 +192,28 @@ received_is b now p k flags own m same flags_are own_is is =
 pub brings_is : (b : State) (p : ℕ) (k : Kind) (m : Letter) → slice_get b.awaits p ≡ Some (Some k) → message_for b p k ≡ Some m → m.notices ≡ brought b p
 brings_is b p k m waits is = sym (ap (λ (w : Option Kind). sent_with (option_and_then (message_for b p) w)) (get_or_from_slice_get b.awaits p (Some k) None waits) ∙ ap sent_with is)
 
+-- of one who waits for a flag that is set: what was read tells what a take would bring
+pub record IsSignalled (b now : State) (p f : ℕ) (own time : List ℕ) : Type 0 where
+  pub old_long : length own ≡ length b.closed.first
+  pub new_long : length time ≡ length b.closed.first
+  pub kept : (q : ℕ) → slice_index b.closed.first q ≤ slice_index own q
+  pub brings : between b.closed own time ≡ sent_with (message_for now p (Await f))
+
 -- what stands in the book of one who waits for a flag
 pub waits_flag : (b now : State) (p f : ℕ) → b ≡ now → MayTake now p (Await f) → IsReceiving b p (Await f)
 waits_flag b now p f same may = subst (λ x. IsReceiving x p (Await f)) (sym same) (receiving now p (Await f) may)
+
+pub signalled : (b now : State) (p f : ℕ) (own time : List ℕ) (o : Option (List ℕ)) → b ≡ now → MayTake now p (Await f) → own ≡ slice_index_or b.times p own → o ≡ slice_index_or b.flags f o → o ≡ Some time → IsSignalled b now p f own time
+signalled b now p f own time o same may own_is flag_is set =
+    let w = waits_flag b now p f same may in
+    let flag = w.flag f refl in
+    let read = own_read b.times p own w.times own_is in
+    let at : slice_index_or b.flags f None ≡ Some time = sym (same_default b.flags f o None flag.within) ∙ sym flag_is ∙ set in
+    record {
+      old_long = ap (λ (t : List ℕ). length t) read ∙ flag.long;
+      new_long = flag.time time at;
+      kept = subst (λ (t : List ℕ). (q : ℕ) → slice_index b.closed.first q ≤ slice_index t q) (sym read) flag.kept;
+      brings = ap (λ (t : List ℕ). between b.closed t time) read
+          ∙ ap (λ (x : Option (List ℕ)). sent_with (option_map (signal_after b.closed (time_of b p)) x)) (sym at)
+          ∙ ap (λ (x : State). sent_with (message_for x p (Await f))) same;
+    }

@@ -33,7 +33,8 @@ use Rattle.book.proofs.Parts.Lines.{idle_no_ask}
 use Rattle.book.proofs.Parts.Mail.{News, lets_posted, allowed_on, brings_on, mail_unless, idle_mail}
 use Rattle.book.proofs.Parts.Flags.{flag_kept}
 use Rattle.book.proofs.Parts.Meetings.{barrier_waits, barrier_completes, completes_all, idle_counts}
-use Rattle.book.proofs.Parts.Told.{history_on, is_idle, is_processor, own_stamp, follows, still_formed, awaits_set, times_closing, closed_now, within_closing, old_notices}
+use Rattle.book.proofs.Parts.History.{history_on}
+use Rattle.book.proofs.Parts.Told.{is_idle, is_processor, own_stamp, follows, still_formed, awaits_set, times_closing, closed_now, within_closing, tight_closing, old_notices}
 use Rattle.book.proofs.Keeps.Locks.{lock_kept}
 
 -- in an open episode only those may depart that might before
@@ -126,7 +127,7 @@ met_notices true c u r m t at time old =
 pub told_arrive : (s : Sizes) (h : List Event) (b : State) (p : ℕ) (records : List Changes) → IsTold s h b → slice_get b.awaits p ≡ Some None → AreContents s h p (count_of is_closing h p) records → IsTold s (did h p Arrive) (book_arrived b p records)
 told_arrive s h b p records told idle stored = record {
   well_formed = well;
-  sizes = record { processors = told.sizes.processors; addresses = told.sizes.addresses; lockers = told.sizes.lockers };
+  sizes = record { processors = told.sizes.processors; words = told.sizes.words; addresses = told.sizes.addresses; lockers = told.sizes.lockers };
   holds = history_on b.journal h (event p Arrive ∷ []) told.holds;
   closed = closed_now s h b p Arrive records told lt refl stored;
   times = times;
@@ -137,6 +138,7 @@ told_arrive s h b p records told idle stored = record {
   transit = arrived_mail s h b (closing b p Arrive records) p (tick (time_of b p) p) (is_full (joined b.barrier p (tick (time_of b p) p))) told refl times.long idle may well lt time refl;
   notices = λ r m t at now. met_notices (is_full (joined b.barrier p (tick (time_of b p) p))) (closing b p Arrive records) (join b.barrier.gathered (tick (time_of b p) p)) r m t at now (λ there. old_notices s h b p records r m t told lt (apart r m there) there now);
   within = within_closing s h b p told lt;
+  tight = tight_closing s h b p told lt;
 }
   where
     lt : p < s.processors

@@ -30,7 +30,9 @@ use Rattle.book.proofs.Parts.Mail.{mail_kept, idle_mail, own_idle, own_none, let
 use Rattle.book.proofs.Parts.Flags.{flag_kept, flag_set}
 use Rattle.book.proofs.Parts.Meetings.{barrier_kept}
 use Rattle.book.proofs.Parts.ClosedIntervals.{closed_quiet}
-use Rattle.book.proofs.Parts.Told.{history_on, is_idle, is_processor, own_stamp, follows, still_formed, awaits_set, times_closing, times_taking, closed_now, within_closing, within_taking, old_notices}
+use Rattle.book.proofs.Parts.Loose.{IsLoose}
+use Rattle.book.proofs.Parts.History.{history_on}
+use Rattle.book.proofs.Parts.Told.{is_idle, is_processor, own_stamp, follows, still_formed, awaits_set, times_closing, times_taking, closed_now, within_closing, tight_closing, within_taking, old_notices}
 use Rattle.book.proofs.Keeps.Locks.{lock_kept}
 
 -- the event closes its interval, and neither locks nor the barrier know of it
@@ -48,7 +50,7 @@ told_closing : (s : Sizes) (h : List Event) (b : State) (p : ℕ) (k : Kind) (re
     → AreAll s.flags (IsFlag s.processors (did h p k)) flags → AreContents s h p (count_of is_closing h p) records → IsTold s (did h p k) (record (closing b p k records) { flags = flags })
 told_closing s h b p k records flags told idle may plain all stored = record {
   well_formed = still_formed s h b p k told may;
-  sizes = record { processors = told.sizes.processors; addresses = told.sizes.addresses; lockers = told.sizes.lockers };
+  sizes = record { processors = told.sizes.processors; words = told.sizes.words; addresses = told.sizes.addresses; lockers = told.sizes.lockers };
   holds = history_on b.journal h (event p k ∷ []) told.holds;
   closed = closed_now s h b p k records told lt plain.closes stored;
   times = times_closing s h b p k told lt plain.takes plain.closes;
@@ -59,6 +61,7 @@ told_closing s h b p k records flags told idle may plain all stored = record {
   transit = each_own s.processors (IsMail s h) (IsMail s (did h p k)) b.transit p told.transit (λ r o isnt at is. mail_kept s h p k r o may isnt plain.release plain.arrive is) (λ o at is. own_idle s h p k o free plain.ask plain.arrive is);
   notices = λ r m t at now. old_notices s h b p records r m t told lt (apart r m at) at now;
   within = within_closing s h b p told lt;
+  tight = tight_closing s h b p told lt;
 }
   where
     lt : p < s.processors
@@ -108,10 +111,10 @@ watching_mail s h p i f (Some m) last mail = absurd (go mail.kind (lets_posted m
     go _ posted allowed = absurd posted
 
 -- p awaits a flag that is set
-pub told_signal : (s : Sizes) (h : List Event) (b : State) (p f : ℕ) (t : List ℕ) → IsTold s h b → slice_get b.awaits p ≡ Some (Some (Await f)) → slice_get b.flags f ≡ Some (Some t) → IsTold s (did h p (Await f)) (taken b p (Await f) t)
+pub told_signal : (s : Sizes) (h : List Event) (b : State) (p f : ℕ) (t : List ℕ) → IsTold s h b → slice_get b.awaits p ≡ Some (Some (Await f)) → slice_get b.flags f ≡ Some (Some t) → IsLoose s (did h p (Await f)) (taken b p (Await f) t)
 told_signal s h b p f t told waits set = record {
   well_formed = still_formed s h b p (Await f) told may;
-  sizes = record { processors = told.sizes.processors; addresses = told.sizes.addresses; lockers = told.sizes.lockers };
+  sizes = record { processors = told.sizes.processors; words = told.sizes.words; addresses = told.sizes.addresses; lockers = told.sizes.lockers };
   holds = history_on b.journal h (event p (Await f) ∷ []) told.holds;
   closed = closed_quiet s h p (Await f) b.closed refl told.closed;
   times = times_taking s h b p (Await f) t told lt refl flag.1;

@@ -38,7 +38,8 @@ use Rattle.book.proofs.Parts.Lines.{NoAsk, idle_no_ask, not_in_line, line_kept, 
 use Rattle.book.proofs.Parts.Mail.{News, other_kind, mail_unless, mail_kept, idle_mail, own_idle}
 use Rattle.book.proofs.Parts.Flags.{flag_kept}
 use Rattle.book.proofs.Parts.Meetings.{barrier_kept}
-use Rattle.book.proofs.Parts.Told.{history_on, is_idle, is_processor, own_stamp, follows, still_formed, awaits_set, times_closing, closed_now, within_closing, old_notices}
+use Rattle.book.proofs.Parts.History.{history_on}
+use Rattle.book.proofs.Parts.Told.{is_idle, is_processor, own_stamp, follows, still_formed, awaits_set, times_closing, closed_now, within_closing, tight_closing, old_notices}
 
 -- locks
 
@@ -126,7 +127,7 @@ granted_notices c r u t m at is = subst (λ x. x.notices ≡ between c.closed t 
 pub told_ask : (s : Sizes) (h : List Event) (b : State) (p l : ℕ) (records : List Changes) → IsTold s h b → l < s.locks → slice_get b.awaits p ≡ Some None → ¬ Holds h p l → AreContents s h p (count_of is_closing h p) records → IsTold s (did h p (Ask l)) (book_asked b p l records)
 told_ask s h b p l records told range idle free stored = record {
   well_formed = still_formed s h b p (Ask l) told may;
-  sizes = record { processors = told.sizes.processors; addresses = told.sizes.addresses; lockers = told.sizes.lockers };
+  sizes = record { processors = told.sizes.processors; words = told.sizes.words; addresses = told.sizes.addresses; lockers = told.sizes.lockers };
   holds = history_on b.journal h (event p (Ask l) ∷ []) told.holds;
   closed = closed_now s h b p (Ask l) records told lt refl stored;
   times = times_closing s h b p (Ask l) told lt refl refl;
@@ -141,6 +142,7 @@ told_ask s h b p l records told range idle free stored = record {
       (asked_mail s h p l (lock_at b.locks l).holder (lock_at b.locks l).queue (lock_at b.locks l).time (granted c p (lock_at b.locks l).time).notices none free lock);
   notices = notices;
   within = within_closing s h b p told lt;
+  tight = tight_closing s h b p told lt;
 }
   where
     c : State
@@ -217,7 +219,7 @@ passed_notices c (q ∷ xs) u r m t at time old = elim (cases_eq r q) [
 pub told_release : (s : Sizes) (h : List Event) (b : State) (p l : ℕ) (records : List Changes) → IsTold s h b → l < s.locks → slice_get b.awaits p ≡ Some None → Holds h p l → AreContents s h p (count_of is_closing h p) records → IsTold s (did h p (Release l)) (book_released b p l records)
 told_release s h b p l records told range idle held stored = record {
   well_formed = well;
-  sizes = record { processors = told.sizes.processors; addresses = told.sizes.addresses; lockers = told.sizes.lockers };
+  sizes = record { processors = told.sizes.processors; words = told.sizes.words; addresses = told.sizes.addresses; lockers = told.sizes.lockers };
   holds = history_on b.journal h (event p (Release l) ∷ []) told.holds;
   closed = closed_now s h b p (Release l) records told lt refl stored;
   times = times_closing s h b p (Release l) told lt refl refl;
@@ -230,6 +232,7 @@ told_release s h b p l records told range idle held stored = record {
   transit = mail_released s h (closing b p (Release l) records) p l (lock_at b.locks l).queue (tick (time_of b p) p) told.well_formed may free held line_now time told.transit;
   notices = λ r m t at now. passed_notices (closing b p (Release l) records) (lock_at b.locks l).queue (tick (time_of b p) p) r m t at now (λ there. old_notices s h b p records r m t told lt (apart r m there) there now);
   within = within_closing s h b p told lt;
+  tight = tight_closing s h b p told lt;
 }
   where
     lt : p < s.processors

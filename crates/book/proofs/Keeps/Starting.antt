@@ -1,10 +1,10 @@
 -- The empty book, blocks, and trims.
-use Rattle.std.proofs.Common.{◌≡◌, ◌≢◌, ℕ, zero, suc, ◌<◌, ◌≤◌, List, [], ◌∷◌, ◌++◌, length, replicate, false, Some, None, slice_get, slice_index, subst, sym, refl, ap, ◌∙◌, append_assoc, append-nil, arith}
+use Rattle.std.proofs.Common.{◌≡◌, ◌≢◌, ℕ, zero, suc, ◌<◌, ◌≤◌, List, [], ◌∷◌, ◌++◌, length, replicate, false, Some, None, slice_get, slice_index, subst, subst₂, sym, refl, ap, ◌∙◌, append_assoc, append-nil, arith}
 use Rattle.std.proofs.lemmas.Option.{same_Some, none-some}
 use Rattle.std.proofs.lemmas.List.{length-replicate}
 use Rattle.lists.proofs.Places.{push_induction}
 use Rattle.lists.proofs.Joined.{has-nil, in_order-nil}
-use Rattle.lists.proofs.Sets.{slice_get-replicate_found}
+use Rattle.lists.proofs.Sets.{index-zeros, slice_get-replicate, slice_get-replicate_found}
 use Rattle.journal.specs.declared.event.Event.{Event}
 use Rattle.journal.specs.declared.event.Kind.{Kind}
 use Rattle.journal.specs.declared.event.Kind.TheVariants.{Load, Store, Fetch, Ask, Acquire, Release, Arrive, Depart, Set}
@@ -17,7 +17,6 @@ use Rattle.journal.specs.Pasts.{InPast, UpToSome}
 use Rattle.journal.specs.Brings.{SomeDoes, SomeArrives}
 use Rattle.journal.proofs.Order.Places.{at_longer, at_last}
 use Rattle.journal.proofs.Journals.WellFormed.{well_formed_empty}
-use Rattle.journal.proofs.Journals.Ready.{IsPlainAt}
 use Rattle.interval.specs.declared.kept.Kept.{Kept}
 use Rattle.interval.specs.Closings.{Closings, trimmed}
 use Rattle.lockq.specs.Lock.{unheld}
@@ -29,18 +28,21 @@ use Rattle.book.specs.Lines.{IsLock}
 use Rattle.book.specs.Mail.{IsPosted, IsMail}
 use Rattle.book.specs.Flags.{IsFlag}
 use Rattle.book.specs.State.{State}
-use Rattle.book.specs.Transitions.{new_book, handed_in, least, trimmed_by}
+use Rattle.book.specs.Transitions.{new_book, appended, handed_in, least, trimmed_by}
 use Rattle.book.specs.Told.{IsTold}
+use Rattle.book.specs.Laws.{IsInner}
 use Rattle.book.proofs.Parts.Each.{each_kept, each_own, each_replicate}
 use Rattle.book.proofs.Parts.Doings.{awaited_on, awaited_now}
-use Rattle.book.proofs.Parts.Stamps.{index-zeros, stamp_none, stamp_others, stamp_quiet}
+use Rattle.book.proofs.Parts.Stamps.{stamp_none, stamp_others, stamp_quiet}
 use Rattle.book.proofs.Parts.Lines.{idle_no_ask}
 use Rattle.book.proofs.Parts.Mail.{mail_kept, own_idle}
 use Rattle.book.proofs.Parts.Flags.{flag_kept}
 use Rattle.book.proofs.Parts.Meetings.{barrier_kept}
 use Rattle.book.proofs.Parts.ClosedIntervals.{closed_quiet, closed_trimmed, within_trimmed, least_le}
 use Rattle.interval.proofs.News.Unchanged.{between-trimmed}
-use Rattle.book.proofs.Parts.Told.{history_on, is_idle, follows, still_formed}
+use Rattle.book.proofs.Parts.Loose.{IsLoose}
+use Rattle.book.proofs.Parts.History.{history_new, history_on}
+use Rattle.book.proofs.Parts.Told.{is_idle, follows, still_formed}
 use Rattle.book.proofs.Keeps.Locks.{lock_kept}
 
 -- nothing has happened in an empty history
@@ -51,13 +53,14 @@ nothing i e at = none-some e at
 pub told_new : (s : Sizes) → 0 < s.processors → IsTold s [] (new_book s)
 told_new s some = record {
   well_formed = well_formed_empty s;
-  sizes = record { processors = refl; addresses = refl; lockers = refl };
-  holds = refl;
+  sizes = record { processors = refl; words = refl; addresses = refl; lockers = refl };
+  holds = history_new s;
   closed = record {
     count = refl;
     next_long = length-replicate {A = ℕ} s.processors 0;
-    next = λ q lt. sym (index-zeros s.processors q);
+    next = λ q lt. index-zeros s.processors q;
     first_long = length-replicate {A = ℕ} s.processors 0;
+    from = λ k has. absurd (has-nil k has);
     each = λ k has. absurd (has-nil k has);
     all = λ q i closes from. absurd (nothing i (event q closes.kind) closes.does);
     contents = λ k has. absurd (has-nil k has);
@@ -85,6 +88,7 @@ told_new s some = record {
   transit = each_replicate s.processors (IsMail s []) None none;
   notices = λ p m t at now. absurd (none-some m (slice_get-replicate_found s.processors None (Some m) p at));
   within = λ p q t at. subst (λ u. slice_index (replicate s.processors 0) q ≤ slice_index u q) (slice_get-replicate_found s.processors (replicate s.processors 0) t p at) (omega arith);
+  tight = λ more q less. (0, replicate s.processors 0, slice_get-replicate s.processors (replicate s.processors 0) 0 some, omega arith);
 }
   where
     none : (p : ℕ) (a : Kind) → IsPosted a → ¬ Allowed s [] p a
@@ -114,7 +118,7 @@ plain_kind _ t c = absurd cc
 pub told_journal : (s : Sizes) (h : List Event) (b : State) (log : Log) → (log.processors ≡ b.journal.processors) × (log.addresses ≡ b.journal.addresses) → HoldsHistory log h → IsTold s h b → IsTold s h (record b { journal = log })
 told_journal s h b log same holds told = record {
   well_formed = told.well_formed;
-  sizes = record { processors = same.0 ∙ told.sizes.processors; addresses = same.1 ∙ told.sizes.addresses; lockers = told.sizes.lockers };
+  sizes = record { processors = same.0 ∙ told.sizes.processors; words = told.sizes.words; addresses = same.1 ∙ told.sizes.addresses; lockers = told.sizes.lockers };
   holds = holds;
   closed = told.closed;
   times = told.times;
@@ -125,13 +129,14 @@ told_journal s h b log same holds told = record {
   transit = told.transit;
   notices = told.notices;
   within = told.within;
+  tight = told.tight;
 }
 
 -- one load, store or fetch
 told_quiet : (s : Sizes) (h : List Event) (b : State) (p : ℕ) (k : Kind) (log : Log) → (log.processors ≡ b.journal.processors) × (log.addresses ≡ b.journal.addresses) → IsTold s h b → slice_get b.awaits p ≡ Some None → is_taking k ≡ false → is_closing k ≡ false → KindInRange s k → HoldsHistory log (did h p k) → IsTold s (did h p k) (record b { journal = log })
 told_quiet s h b p k log same told idle takes closes range holds = record {
   well_formed = still_formed s h b p k told may;
-  sizes = record { processors = same.0 ∙ told.sizes.processors; addresses = same.1 ∙ told.sizes.addresses; lockers = told.sizes.lockers };
+  sizes = record { processors = same.0 ∙ told.sizes.processors; words = told.sizes.words; addresses = same.1 ∙ told.sizes.addresses; lockers = told.sizes.lockers };
   holds = holds;
   closed = closed_quiet s h p k b.closed closes told.closed;
   times = each_own s.processors (λ q t. IsStamp s.processors h (InPast h q) t) (λ q t. IsStamp s.processors (did h p k) (InPast (did h p k) q) t) b.times p told.times (λ q t isnt at is. stamp_others s.processors h p k q t isnt is) (λ t at is. stamp_quiet s.processors h p k t takes closes is);
@@ -142,6 +147,7 @@ told_quiet s h b p k log same told idle takes closes range holds = record {
   transit = each_own s.processors (IsMail s h) (IsMail s (did h p k)) b.transit p told.transit (λ r o isnt at is. mail_kept s h p k r o may isnt plain.release plain.arrive is) (λ o at is. own_idle s h p k o free plain.ask plain.arrive is);
   notices = told.notices;
   within = told.within;
+  tight = told.tight;
 }
   where
     plain : IsPlain k
@@ -154,28 +160,27 @@ told_quiet s h b p k log same told idle takes closes range holds = record {
     may = follows s h b p k told idle range (plain.allowed s h p)
 
 -- p hands in a block of loads, stores and fetches
-pub told_block : (s : Sizes) (h block : List Event) (b : State) (p : ℕ) → IsTold s h b → slice_get b.awaits p ≡ Some None → ((k : ℕ) (e : Event) → At block k e → IsPlainAt s p e) → IsTold s (h ++ block) (handed_in b block)
-told_block s h block b p told idle all = told_journal s (h ++ block) (with (h ++ block)) (handed_in b block).journal (refl, refl) (history_on b.journal h block told.holds) (push_induction (λ es. ((k : ℕ) (e : Event) → At es k e → IsPlainAt s p e) → IsTold s (h ++ es) (with (h ++ es))) start step block all)
+pub told_block : (s : Sizes) (h block : List Event) (b : State) (p : ℕ) → IsTold s h b → slice_get b.awaits p ≡ Some None → ((k : ℕ) (e : Event) → At block k e → IsInner s p e) → IsTold s (h ++ block) (handed_in b block)
+told_block s h block b p told idle all = push_induction (λ es. ((k : ℕ) (e : Event) → At es k e → IsInner s p e) → IsTold s (h ++ es) (handed_in b es)) start step block all
   where
-    with : List Event → State
-    with es = record b { journal = record b.journal { events = es } }
+    start : ((k : ℕ) (e : Event) → At [] k e → IsInner s p e) → IsTold s (h ++ []) (handed_in b [])
+    start plain = told_journal s (h ++ []) b (appended b.journal []) (refl, refl) (history_on b.journal h [] told.holds) (rw append-nil told)
 
-    start : ((k : ℕ) (e : Event) → At [] k e → IsPlainAt s p e) → IsTold s (h ++ []) (with (h ++ []))
-    start plain = rw append-nil (told_journal s h b (record b.journal { events = h }) (refl, refl) refl told)
-
-    pushed : (es : List Event) (e : Event) → IsPlainAt s p e → IsTold s es (with es) → IsTold s (es ++ e ∷ []) (with (es ++ e ∷ []))
+    pushed : (es : List Event) (e : Event) → IsInner s p e → IsTold s (h ++ es) (handed_in b es) → IsTold s (h ++ (es ++ e ∷ [])) (handed_in b (es ++ e ∷ []))
     pushed es e x now =
         let same : event p e.kind ≡ e = ap (λ q. event q e.kind) (sym x.mine) in
-        subst (λ f. IsTold s (es ++ f ∷ []) (with (es ++ f ∷ []))) same (told_quiet s es (with es) p e.kind (record b.journal { events = did es p e.kind }) (refl, refl) now idle x.takes x.closes x.in_range refl)
+        let one = told_quiet s (h ++ es) (handed_in b es) p e.kind (appended (handed_in b es).journal (event p e.kind ∷ [])) (refl, refl) now idle x.takes x.closes x.in_range (history_on (handed_in b es).journal (h ++ es) (event p e.kind ∷ []) now.holds) in
+        let read = subst (λ f. IsTold s ((h ++ es) ++ f ∷ []) (record b { journal = record b.journal { events = (b.journal.events ++ es) ++ f ∷ [] } })) same one in
+        subst₂ (λ xs ys. IsTold s xs (record b { journal = record b.journal { events = ys } })) (append_assoc h es (e ∷ [])) (append_assoc b.journal.events es (e ∷ [])) read
 
-    step : (es : List Event) (e : Event) → (((k : ℕ) (f : Event) → At es k f → IsPlainAt s p f) → IsTold s (h ++ es) (with (h ++ es))) → ((k : ℕ) (f : Event) → At (es ++ e ∷ []) k f → IsPlainAt s p f) → IsTold s (h ++ (es ++ e ∷ [])) (with (h ++ (es ++ e ∷ [])))
-    step es e ih plain = rw append_assoc at (pushed (h ++ es) e (plain (length es) e (at_last es e)) (ih (λ k f at. plain k f (at_longer es (e ∷ []) k f at))))
+    step : (es : List Event) (e : Event) → (((k : ℕ) (f : Event) → At es k f → IsInner s p f) → IsTold s (h ++ es) (handed_in b es)) → ((k : ℕ) (f : Event) → At (es ++ e ∷ []) k f → IsInner s p f) → IsTold s (h ++ (es ++ e ∷ [])) (handed_in b (es ++ e ∷ []))
+    step es e ih plain = pushed es e (plain (length es) e (at_last es e)) (ih (λ k f at. plain k f (at_longer es (e ∷ []) k f at)))
 
 -- one owner's intervals that everyone's timestamp covers are trimmed
-trimmed_once : (s : Sizes) (h : List Event) (b : State) (c : Closings) (owner to : ℕ) → ((p : ℕ) (t : List ℕ) → slice_get b.times p ≡ Some t → to ≤ slice_index t owner) → owner < s.processors → IsTold s h (record b { closed = c }) → IsTold s h (record b { closed = trimmed c owner to })
+trimmed_once : (s : Sizes) (h : List Event) (b : State) (c : Closings) (owner to : ℕ) → ((p : ℕ) (t : List ℕ) → slice_get b.times p ≡ Some t → to ≤ slice_index t owner) → owner < s.processors → IsLoose s h (record b { closed = c }) → IsLoose s h (record b { closed = trimmed c owner to })
 trimmed_once s h b c owner to covered lt told = record {
   well_formed = told.well_formed;
-  sizes = record { processors = told.sizes.processors; addresses = told.sizes.addresses; lockers = told.sizes.lockers };
+  sizes = record { processors = told.sizes.processors; words = told.sizes.words; addresses = told.sizes.addresses; lockers = told.sizes.lockers };
   holds = told.holds;
   closed = closed_trimmed s h c owner to lt told.closed;
   times = told.times;
@@ -189,6 +194,6 @@ trimmed_once s h b c owner to covered lt told = record {
 }
 
 -- the intervals that everyone's timestamp covers are trimmed
-pub told_trimmed : (s : Sizes) (h : List Event) (b : State) (n : ℕ) → n ≤ s.processors → IsTold s h b → IsTold s h (record b { closed = trimmed_by b.closed b.times n })
+pub told_trimmed : (s : Sizes) (h : List Event) (b : State) (n : ℕ) → n ≤ s.processors → IsLoose s h b → IsLoose s h (record b { closed = trimmed_by b.closed b.times n })
 told_trimmed s h b zero le told = told
 told_trimmed s h b (suc n) le told = trimmed_once s h b (trimmed_by b.closed b.times n) n (least b.times n) (λ p t at. least_le b.times n p t at) (omega arith) (told_trimmed s h b n (omega arith) told)

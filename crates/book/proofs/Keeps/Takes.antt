@@ -38,7 +38,9 @@ use Rattle.book.proofs.Parts.Mail.{lets_posted, mail_kept, own_none}
 use Rattle.book.proofs.Parts.Flags.{flag_kept}
 use Rattle.book.proofs.Parts.Meetings.{barrier_kept, barrier_departed}
 use Rattle.book.proofs.Parts.ClosedIntervals.{closed_quiet}
-use Rattle.book.proofs.Parts.Told.{history_on, is_processor, still_formed, awaits_set, times_taking, within_taking}
+use Rattle.book.proofs.Parts.Loose.{IsLoose}
+use Rattle.book.proofs.Parts.History.{history_on}
+use Rattle.book.proofs.Parts.Told.{is_processor, still_formed, awaits_set, times_taking, within_taking}
 use Rattle.book.proofs.Keeps.Locks.{lock_kept, lock_taken}
 
 posted_taking : (k : Kind) → IsPosted k → IsTrue (is_taking k)
@@ -86,10 +88,10 @@ takes_posted Depart posted = record { takes = refl; closes = refl; ask = λ m e.
 takes_posted _ posted = absurd posted
 
 -- p takes its mail
-pub told_take : (s : Sizes) (h : List Event) (b : State) (p : ℕ) (k : Kind) (m : Letter) → IsTold s h b → slice_get b.awaits p ≡ Some (Some k) → slice_get b.transit p ≡ Some (Some m) → IsTold s (did h p k) (took b p k m)
+pub told_take : (s : Sizes) (h : List Event) (b : State) (p : ℕ) (k : Kind) (m : Letter) → IsTold s h b → slice_get b.awaits p ≡ Some (Some k) → slice_get b.transit p ≡ Some (Some m) → IsLoose s (did h p k) (took b p k m)
 told_take s h b p k m told waits mail = record {
   well_formed = still_formed s h b p k told may;
-  sizes = record { processors = told.sizes.processors; addresses = told.sizes.addresses; lockers = told.sizes.lockers };
+  sizes = record { processors = told.sizes.processors; words = told.sizes.words; addresses = told.sizes.addresses; lockers = told.sizes.lockers };
   holds = history_on b.journal h (event p k ∷ []) told.holds;
   closed = closed_quiet s h p k b.closed kind.closes told.closed;
   times = times_taking s h b p k m.time told lt kind.closes lets.2;
@@ -187,14 +189,14 @@ no_mail_waits s h b p f told waits =
     let none = watching_mail s h p last.0 f (slice_index_or b.transit p None) last.1 (is_at s.processors (IsMail s h) b.transit p None told.transit lt) in
     sym (set-get_or b.transit p None) ∙ ap (λ (o : Option Letter). slice_set b.transit p o) (sym none)
 
-signal_took : (s : Sizes) (h : List Event) (b : State) (p f : ℕ) (m : Letter) (o : Option (List ℕ)) → IsTold s h b → slice_get b.awaits p ≡ Some (Some (Await f)) → slice_get b.flags f ≡ Some o → option_map (signal_after b.closed (time_of b p)) o ≡ Some m → IsTold s (did h p (Await f)) (took b p (Await f) m)
+signal_took : (s : Sizes) (h : List Event) (b : State) (p f : ℕ) (m : Letter) (o : Option (List ℕ)) → IsTold s h b → slice_get b.awaits p ≡ Some (Some (Await f)) → slice_get b.flags f ≡ Some o → option_map (signal_after b.closed (time_of b p)) o ≡ Some m → IsLoose s (did h p (Await f)) (took b p (Await f) m)
 signal_took s h b p f m None told waits at is = absurd (none-some m is)
 signal_took s h b p f m (Some t) told waits at is =
-    subst (λ x. IsTold s (did h p (Await f)) (took b p (Await f) x)) (same_Some (signal_after b.closed (time_of b p) t) m is)
-    (subst (λ ts. IsTold s (did h p (Await f)) (record (taken b p (Await f) t) { transit = ts })) (no_mail_waits s h b p f told waits) (told_signal s h b p f t told waits at))
+    subst (λ x. IsLoose s (did h p (Await f)) (took b p (Await f) x)) (same_Some (signal_after b.closed (time_of b p) t) m is)
+    (subst (λ ts. IsLoose s (did h p (Await f)) (record (taken b p (Await f) t) { transit = ts })) (no_mail_waits s h b p f told waits) (told_signal s h b p f t told waits at))
 
 -- p takes its message
-pub told_took : (s : Sizes) (h : List Event) (b : State) (p : ℕ) (k : Kind) (m : Letter) → IsTold s h b → slice_get b.awaits p ≡ Some (Some k) → message_for b p k ≡ Some m → IsTold s (did h p k) (took b p k m)
+pub told_took : (s : Sizes) (h : List Event) (b : State) (p : ℕ) (k : Kind) (m : Letter) → IsTold s h b → slice_get b.awaits p ≡ Some (Some k) → message_for b p k ≡ Some m → IsLoose s (did h p k) (took b p k m)
 told_took s h b p (Await f) m told waits is = signal_took s h b p f m (slice_index_or b.flags f None) told waits (flag_at s h b p f told waits) is
 told_took s h b p _ m told waits is = told_take s h b p _ m told waits (mail_at s h b p m told (is_processor s h b p (Some _) told waits) is)
 

@@ -12,9 +12,13 @@ use Rattle.journal.specs.WellFormed.{Holds}
 use Rattle.journal.proofs.Order.Places.{at_longer, at_last}
 use Rattle.journal.specs.Did.{did}
 use Rattle.book.specs.State.{State}
-use Rattle.book.specs.Transitions.{handed_in, handed_last, took}
+use Rattle.book.specs.Transitions.{handed_in, handed_last, took, book_took}
 use Rattle.book.specs.Told.{IsTold}
 use Rattle.book.specs.Laws.{IsInner, MayHandIn, NewLaw, HandInLaw, LastLaw, AskLaw, ReleaseLaw, ArriveLaw, SetLaw, WatchLaw, TakeLaw, MessageLaw, NewsLaw, NewsOrderLaw}
+use Rattle.book.proofs.Parts.History.{history_room}
+use Rattle.book.proofs.Parts.Loose.{tightened, least_few}
+use Rattle.book.proofs.Parts.Tight.{tight_trimmed}
+use Rattle.book.proofs.Parts.Told.{is_processor}
 use Rattle.book.proofs.Parts.News.{news_are, sent_in_order}
 use Rattle.book.proofs.Parts.Doings.{holds_on, holds_back}
 use Rattle.book.proofs.Keeps.Starting.{told_new, told_journal, told_block, told_trimmed}
@@ -37,7 +41,7 @@ holds_block s h block p l = push_induction (λ es. ((k : ℕ) (e : Event) → At
         rw append_assoc at pushed
 
 block_told : (s : Sizes) (h block : List Event) (b : State) (p : ℕ) → IsTold s h b → MayHandIn s b p block → IsTold s (h ++ block) (handed_in b block)
-block_told s h block b p told may = told_block s h block b p told may.idle (λ k e at. (let x = may.inner k e at in record { mine = x.mine; takes = x.takes; closes = x.closes; in_range = x.in_range }))
+block_told s h block b p told may = told_block s h block b p told may.idle may.inner
 
 pub new_law : NewLaw
 new_law s some = told_new s some
@@ -55,7 +59,7 @@ hand_in_law s h block b p told may = given_told s h block b p may.waits.0 told m
 pub last_law : LastLaw
 last_law s h block b p told may =
     let given = hand_in_law s h block b p told may in
-    told_journal s (h ++ block) (handed_in b block) (handed_last b block).journal (refl, refl) given.holds given
+    told_journal s (h ++ block) (handed_in b block) (handed_last b block).journal (refl, refl) (history_room (handed_in b block).journal (h ++ block) (handed_last b block).journal.room given.holds) given
 
 pub ask_law : AskLaw
 ask_law s h block b p l records told may are range free = told_ask s (h ++ block) (handed_in b block) p l records (block_told s h block b p told may) range may.idle (λ held. free ((holds_block s h block p l may.inner).0 held)) are
@@ -75,7 +79,11 @@ watch_law s h block b p f records told may are range = told_watch s (h ++ block)
 pub take_law : TakeLaw
 take_law s h b p k m told waits is =
     let next = told_took s h b p k m told waits is in
-    told_trimmed s (did h p k) (took b p k m) (length (took b p k m).times) (let long = next.times.long in omega arith) next
+    let long = next.times.long in
+    let lt = is_processor s h b p (Some k) told waits in
+    let first = next.closed.first_long in
+    let trimmed = told_trimmed s (did h p k) (took b p k m) (length (took b p k m).times) (omega arith) next in
+    tightened s (did h p k) (book_took b p k m) trimmed (tight_trimmed b.closed (took b p k m).times (length (took b p k m).times) (omega arith) (omega arith) (λ q less. least_few s (did h p k) (took b p k m) q next (omega arith)))
 
 pub message_law : MessageLaw
 message_law s h b p k m told waits is = message_is s h b p k m told waits is

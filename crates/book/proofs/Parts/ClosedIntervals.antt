@@ -1,7 +1,7 @@
 -- The closed intervals under one more event, and under trimming.
 use Rattle.std.proofs.Common.{◌≡◌, ◌≢◌, ◌&&◌, nat_le, nat_lt, ℕ, zero, suc, ◌+◌, ◌<◌, ◌≤◌, min, max, ◌⊎◌, inl, inr, List, [], ◌∷◌, ◌++◌, length, filter, Bool, cond, not, true, false, Some, IsTrue, slice_get, slice_set, slice_index, slice_index_or, fold, subst, subst₂, sym, refl, ap, ◌∙◌, arith}
 use Rattle.std.specs.List.{flat_map}
-use Rattle.std.proofs.lemmas.Bool.{cases_eq, cases_lt, ne_eqb, not_from_false, and_parts, and_left, and_right, false_from_ne_true, ltb-true, le-ltb, leb-true, true≢false}
+use Rattle.std.proofs.lemmas.Bool.{cases_eq, cases_lt, ne_eqb, not_from_false, and_parts, and_left, and_right, false_from_ne_true, ltb-true, lt-ltb, le-ltb, leb-true, true≢false, not-true, both_ways, eq-eqb}
 use Rattle.std.proofs.lemmas.Option.{none-some, same_Some, slice_get_within}
 use Rattle.std.proofs.lemmas.List.{length-set, get_or-set_same, get_or-set_other}
 use Rattle.std.proofs.Math.Seq.{take-append_seam}
@@ -25,7 +25,7 @@ use Rattle.interval.specs.declared.kept.Kept.{Kept}
 use Rattle.interval.specs.Closings.{Closings, pushed, trimmed, is_trimmed, is_news, between, sent_interval}
 use Rattle.lists.proofs.Filters.{filter_same}
 use Rattle.journal.specs.Did.{event, did}
-use Rattle.book.specs.ClosedIntervals.{AreContents, AreClosed, IsWithin}
+use Rattle.book.specs.ClosedIntervals.{AreContents, AreFromFirst, AreClosed, IsWithin}
 use Rattle.book.specs.Transitions.{lesser, least, trimmed_by}
 use Rattle.book.proofs.Parts.Doings.{count_did, count_others, count_kept}
 
@@ -81,6 +81,7 @@ closed_quiet s h p k c quiet x = record {
   next_long = x.next_long;
   next = λ q lt. x.next q lt ∙ sym (count_kept is_closing h p k q quiet);
   first_long = x.first_long;
+  from = x.from;
   each = λ j has. placed_longer h (event p k ∷ []) j.interval.owner j.interval.number j.place (x.each j has);
   all = all;
   contents = λ j has. contents_on s h (event p k ∷ []) j.interval.owner j.interval.number j.interval.records (kept_number h j (x.each j has)) (x.contents j has);
@@ -98,13 +99,14 @@ closed_quiet s h p k c quiet x = record {
     ]
 
 -- a closing event closes its processor's interval
-pub closed_closing : (s : Sizes) (h : List Event) (p : ℕ) (k : Kind) (c : Closings) (n : ℕ) (records : List Changes) → is_closing k ≡ true → p < s.processors → n ≡ count_of is_closing h p → AreContents s h p n records → AreClosed s h c
+pub closed_closing : (s : Sizes) (h : List Event) (p : ℕ) (k : Kind) (c : Closings) (n : ℕ) (records : List Changes) → is_closing k ≡ true → p < s.processors → n ≡ count_of is_closing h p → slice_index c.first p ≤ n → AreContents s h p n records → AreClosed s h c
     → AreClosed s (did h p k) (pushed c (record { owner = p; number = n; records = records }))
-closed_closing s h p k c n records closes lt number stored x = record {
+closed_closing s h p k c n records closes lt number covered stored x = record {
   count = let sum = closings_did h p k in let one = ap (λ (b : Bool). cond {A = ℕ} b 1 0) closes in let was = x.count in omega arith;
   next_long = length-set c.next p (n + 1) ∙ x.next_long;
   next = next;
   first_long = x.first_long;
+  from = from;
   each = each;
   all = all;
   contents = contents;
@@ -131,6 +133,12 @@ closed_closing s h p k c n records closes lt number stored x = record {
 
     is_new : IsPlaced (did h p k) p n c.pushed
     is_new = subst₂ (IsPlaced (did h p k) p) (sym number) (sym x.count) (placed_now h (event p k) closes)
+
+    from : (j : Kept) → Has (c.kept ++ new ∷ []) j → slice_index c.first j.interval.owner ≤ j.interval.number
+    from j has = elim (push_cases c.kept new has.0 j has.1) [
+      | inl old ↦ x.from j (has.0, old.1)
+      | inr last ↦ subst (λ (y : Kept). slice_index c.first y.interval.owner ≤ y.interval.number) last.1 covered
+    ]
 
     each : (j : Kept) → Has (c.kept ++ new ∷ []) j → IsPlaced (did h p k) j.interval.owner j.interval.number j.place
     each j has = elim (push_cases c.kept new has.0 j has.1) [
@@ -196,6 +204,37 @@ between_same c one other new p same here there = ap (λ (ks : List Kept). flat_m
       | inr apart ↦ ap (λ (n : ℕ). nat_le n k.interval.number && nat_lt k.interval.number (slice_index new k.interval.owner)) (same k.interval.owner apart)
     ]
 
+-- what is from its owner's first on isn't trimmed below that
+pub stays_from : (c : Closings) (owner to : ℕ) (k : Kept) → to ≤ slice_index c.first owner → slice_index c.first k.interval.owner ≤ k.interval.number → not (is_trimmed owner to k) ≡ true
+stays_from c owner to k le from = elim (cases_eq k.interval.owner owner) [
+  | inl is ↦ (
+      let P : ℕ → Type 0 = λ q. slice_index c.first q ≤ k.interval.number in
+      let here = subst P is from in
+      not_from_false (is_trimmed owner to k) (and_right _ _ (le-ltb k.interval.number to (omega arith))))
+  | inr isnt ↦ not_from_false (is_trimmed owner to k) (and_left _ _ (ne_eqb k.interval.owner owner isnt))
+]
+
+-- a trim leaves nothing below what it says is dropped
+pub from_trimmed : (c : Closings) (owner to : ℕ) → owner < length c.first → AreFromFirst c → AreFromFirst (trimmed c owner to)
+from_trimmed c owner to lt from k has =
+    let was = (has-filter (λ k. not (is_trimmed owner to k)) c.kept k).0 has in
+    let old = from k was.0 in
+    elim (cases_eq k.interval.owner owner) [
+      | inl is ↦ (
+          let P : ℕ → Type 0 = λ q. slice_index (slice_set c.first owner (max (slice_index c.first owner) (min to (slice_index c.next owner)))) q ≤ k.interval.number in
+          let Q : ℕ → Type 0 = λ q. slice_index c.first q ≤ k.interval.number in
+          let here = get_or-set_same c.first owner (max (slice_index c.first owner) (min to (slice_index c.next owner))) 0 lt in
+          let from_here = subst Q is old in
+          let stays : to ≤ k.interval.number = elim (cases_lt k.interval.number to) [
+            | inl less ↦ absurd (both_ways (is_trimmed owner to k) (not-true (is_trimmed owner to k) was.1) (ap (λ b. b && nat_lt k.interval.number to) (eq-eqb k.interval.owner owner is) ∙ lt-ltb k.interval.number to less))
+            | inr most ↦ most
+          ] in
+          subst P (sym is) (omega arith))
+      | inr isnt ↦ (
+          let same = get_or-set_other c.first owner k.interval.owner (max (slice_index c.first owner) (min to (slice_index c.next owner))) 0 isnt in
+          omega arith)
+    ]
+
 -- a trim keeps what the intervals are
 pub closed_trimmed : (s : Sizes) (h : List Event) (c : Closings) (owner to : ℕ) → owner < s.processors → AreClosed s h c → AreClosed s h (trimmed c owner to)
 closed_trimmed s h c owner to lt x = record {
@@ -203,6 +242,7 @@ closed_trimmed s h c owner to lt x = record {
   next_long = x.next_long;
   next = x.next;
   first_long = length-set c.first owner (max (slice_index c.first owner) (min to (slice_index c.next owner))) ∙ x.first_long;
+  from = from_trimmed c owner to (subst (λ n. owner < n) (sym x.first_long) lt) x.from;
   each = λ k has. x.each k (old k has);
   all = all;
   contents = λ k has. x.contents k (old k has);

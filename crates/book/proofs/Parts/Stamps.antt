@@ -1,7 +1,8 @@
 -- Timestamps under one more event.
-use Rattle.std.proofs.Common.{◌≡◌, ◌≢◌, ◌↔◌, ℕ, zero, suc, ◌+◌, ◌<◌, max, inl, inr, List, [], ◌∷◌, length, replicate, Bool, cond, false, true, slice_index, subst, sym, refl, ap, ◌∙◌, arith}
+use Rattle.std.proofs.Common.{◌≡◌, ◌≢◌, ◌↔◌, ℕ, ◌+◌, ◌<◌, max, inl, inr, List, [], ◌∷◌, length, replicate, Bool, cond, false, true, slice_index, subst, sym, refl, ap, ◌∙◌, arith}
 use Rattle.std.proofs.lemmas.Bool.{cases_eq}
 use Rattle.std.proofs.lemmas.List.{length-set, length-replicate, get_or-set_same, get_or-set_other}
+use Rattle.lists.proofs.Sets.{index-zeros}
 use Rattle.journal.specs.declared.event.Event.{Event}
 use Rattle.journal.specs.declared.event.Kind.{Kind}
 use Rattle.journal.specs.declared.event.Kind.TheVariants.{Release}
@@ -41,13 +42,8 @@ pub stamp_same : (n : ℕ) (h : List Event) (some others : ℕ → Type 0) (t : 
 stamp_same n h some others t same x = record { long = x.long; is = time_same h some others (slice_index t) same x.is }
 
 -- zeros where nothing is counted
-pub index-zeros : (n q : ℕ) → 0 ≡ slice_index (replicate n 0) q
-index-zeros zero q = refl
-index-zeros (suc n) zero = refl
-index-zeros (suc n) (suc q) = index-zeros n q
-
 pub stamp_none : (n : ℕ) (h : List Event) (some : ℕ → Type 0) → ((i : ℕ) → some i → ⊥) → IsStamp n h some (replicate n 0)
-stamp_none n h some none = stamp_equal n h some (replicate n 0) (λ _. 0) (length-replicate {A = ℕ} n 0) (index-zeros n) (time_none h some none)
+stamp_none n h some none = stamp_equal n h some (replicate n 0) (λ _. 0) (length-replicate {A = ℕ} n 0) (λ q. sym (index-zeros n q)) (time_none h some none)
 
 -- others' timestamps stay
 pub stamp_others : (n : ℕ) (h : List Event) (p : ℕ) (k : Kind) (q : ℕ) (t : List ℕ) → q ≢ p → IsStamp n h (InPast h q) t → IsStamp n (did h p k) (InPast (did h p k) q) t

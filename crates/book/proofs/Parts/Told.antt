@@ -1,18 +1,17 @@
 -- The book stays what the history says: each part under one event.
-use Rattle.std.proofs.Common.{ap, ◌≡◌, ◌≢◌, ℕ, ◌+◌, ◌<◌, ◌≤◌, ◌++◌, inl, inr, List, [], length, true, false, Option, Some, None, slice_get, slice_set, slice_index, slice_index_or, subst, sym, ◌∙◌, arith}
+use Rattle.std.proofs.Common.{◌≡◌, ◌≢◌, ℕ, ◌+◌, ◌<◌, ◌≤◌, zero, suc, inl, inr, List, [], length, true, false, Option, Some, None, slice_get, slice_set, slice_index, slice_index_or, subst, sym, ◌∙◌, arith}
 use Rattle.std.proofs.lemmas.Bool.{cases_eq, cases_lt}
-use Rattle.std.proofs.lemmas.Option.{slice_get_within, slice_get-get_or}
+use Rattle.std.proofs.lemmas.Option.{slice_get_within, slice_get-get_or, get_or_from_slice_get}
 use Rattle.std.proofs.lemmas.List.{get_or-set_same, get_or-set_other, get_or_past}
 use Rattle.journal.specs.declared.event.Event.{Event}
 use Rattle.journal.specs.declared.event.Kind.{Kind}
-use Rattle.journal.specs.Log.{Log, HoldsHistory}
 use Rattle.journal.specs.Sizes.{Sizes}
 use Rattle.journal.specs.Events.{count_of, is_closing, is_taking}
 use Rattle.journal.specs.WellFormed.{KindInRange, Allowed, MayFollow, WellFormed}
 use Rattle.journal.specs.Waits.{awaited, IsIdle}
 use Rattle.journal.specs.Pasts.{InPast}
 use Rattle.journal.specs.Brings.{Brings}
-use Rattle.lists.proofs.Sets.{slice_get-set_found, slice_get-set_other}
+use Rattle.lists.proofs.Sets.{slice_get-set_found, slice_get-set_other, slice_get-set_same}
 use Rattle.journal.proofs.Journals.WellFormed.{each_push}
 use Rattle.journal.proofs.Times.Pushes.{own_entry}
 use Rattle.journal.proofs.Journals.Ready.{idle_follows}
@@ -24,19 +23,15 @@ use Rattle.transit.specs.Letters.{Letter}
 use Rattle.journal.specs.Did.{event, did}
 use Rattle.book.specs.Stamps.{AreAll, IsStamp, IsAwaited}
 use Rattle.book.specs.Mail.{Carries}
-use Rattle.book.specs.ClosedIntervals.{AreContents, AreClosed, IsWithin}
+use Rattle.book.specs.ClosedIntervals.{AreContents, AreClosed, IsWithin, IsTight}
 use Rattle.book.specs.State.{State, time_of}
-use Rattle.book.specs.Transitions.{appended, open_interval}
+use Rattle.book.specs.Transitions.{open_interval}
 use Rattle.book.specs.Told.{IsTold}
 use Rattle.book.proofs.Parts.Each.{each_set, is_at}
 use Rattle.book.proofs.Parts.Doings.{awaits_idle, awaited_on, awaited_now}
 use Rattle.book.proofs.Parts.Stamps.{stamp_others, stamp_closing, stamp_taking}
 use Rattle.book.proofs.Parts.ClosedIntervals.{closed_closing}
 use Rattle.interval.proofs.News.Unchanged.{between-pushed}
-
--- a journal that goes on holds the history that goes on
-pub history_on : (log : Log) (h es : List Event) → HoldsHistory log h → HoldsHistory (appended log es) (h ++ es)
-history_on log h es holds = ap (λ (xs : List Event). xs ++ es) holds
 
 -- who awaits nothing is idle
 pub is_idle : (s : Sizes) (h : List Event) (b : State) (p : ℕ) → IsTold s h b → slice_get b.awaits p ≡ Some None → IsIdle h p
@@ -77,7 +72,7 @@ own_number s h b p told lt = own_entry h p (slice_index (time_of b p)) (own_stam
 
 -- the closed intervals after a closing event
 pub closed_now : (s : Sizes) (h : List Event) (b : State) (p : ℕ) (k : Kind) (records : List Changes) → IsTold s h b → p < s.processors → is_closing k ≡ true → AreContents s h p (count_of is_closing h p) records → AreClosed s (did h p k) (pushed b.closed (open_interval b p records))
-closed_now s h b p k records told lt closes stored = closed_closing s h p k b.closed (slice_index (time_of b p) p) records closes lt (own_number s h b p told lt) (subst (λ n. AreContents s h p n records) (sym (own_number s h b p told lt)) stored) told.closed
+closed_now s h b p k records told lt closes stored = closed_closing s h p k b.closed (slice_index (time_of b p) p) records closes lt (own_number s h b p told lt) (told.within p p (time_of b p) (slice_get-get_or b.times p [] (subst (λ n. p < n) (sym told.times.long) lt))) (subst (λ n. AreContents s h p n records) (sym (own_number s h b p told lt)) stored) told.closed
 
 -- a timestamp that grows covers what it covered
 within_set : (first : List ℕ) (times : List (List ℕ)) (p : ℕ) (u : List ℕ) → p < length times → ((q : ℕ) → slice_index (slice_index_or times p []) q ≤ slice_index u q) → IsWithin first times → IsWithin first (slice_set times p u)
@@ -112,6 +107,38 @@ within_closing s h b p told lt = within_set b.closed.first b.times p (tick (time
 
 pub within_taking : (s : Sizes) (h : List Event) (b : State) (p : ℕ) (u : List ℕ) → IsTold s h b → p < s.processors → IsWithin b.closed.first (slice_set b.times p (join (time_of b p) u))
 within_taking s h b p u told lt = within_set b.closed.first b.times p (join (time_of b p) u) (subst (λ n. p < n) (sym told.times.long) lt) (join_grows (time_of b p) u) told.within
+
+-- with two processors or more, a tick leaves what everyone covers
+pub tight_closing : (s : Sizes) (h : List Event) (b : State) (p : ℕ) → IsTold s h b → p < s.processors → 1 < s.processors → IsTight b.closed.first (slice_set b.times p (tick (time_of b p) p))
+tight_closing s h b p told lt more q less =
+    let found = told.tight more q less in
+    let long = told.times.long in
+    elim (cases_eq found.0 p) [
+      | inr isnt ↦ (found.0, found.1, slice_get-set_other b.times p found.0 (tick (time_of b p) p) isnt ∙ found.2, found.3)
+      | inl is ↦ elim (cases_eq q p) [
+        | inr apart ↦ (
+            let P : ℕ → Type 0 = λ x. slice_get b.times x ≡ Some found.1 in
+            let own = sym (get_or_from_slice_get b.times p found.1 [] (subst P is found.2)) in
+            let same = get_or-set_other (time_of b p) p q (slice_index (time_of b p) p + 1) 0 apart in
+            let entry = subst (λ (t : List ℕ). slice_index t q ≤ slice_index b.closed.first q) own found.3 in
+            (p, tick (time_of b p) p, slice_get-set_same b.times p (tick (time_of b p) p) (omega arith), omega arith))
+        | inl own ↦ (
+            let P : ℕ → Type 0 = λ x. slice_get b.times x ≡ Some found.1 in
+            let mine = sym (get_or_from_slice_get b.times p found.1 [] (subst P is found.2)) in
+            let Q : ℕ → Type 0 = λ x. slice_index found.1 x ≤ slice_index b.closed.first x in
+            let entry = subst (λ (t : List ℕ). slice_index t p ≤ slice_index b.closed.first p) mine (subst Q own found.3) in
+            let number = own_number s h b p told lt in
+            let r = another p s.processors more in
+            let at = slice_get-get_or b.times r.0 [] (omega (arith, r.1)) in
+            let most = (told.times.each r.0 (time_of b r.0) at).is.within p in
+            let R : ℕ → Type 0 = λ x. slice_index (time_of b r.0) x ≤ slice_index b.closed.first x in
+            (r.0, time_of b r.0, slice_get-set_other b.times p r.0 (tick (time_of b p) p) r.2 ∙ at, subst R (sym own) (omega arith)))
+      ]
+    ]
+  where
+    another : (p n : ℕ) → 1 < n → (r : ℕ) × (r < n) × (r ≢ p)
+    another zero n more = (1, more, λ e. absurd (omega arith))
+    another (suc p) n more = (0, omega arith, λ e. absurd (omega arith))
 
 -- the notices of a message posted before a closing event
 pub old_notices : (s : Sizes) (h : List Event) (b : State) (p : ℕ) (records : List Changes) (r : ℕ) (m : Letter) (t : List ℕ) → IsTold s h b → p < s.processors → r ≢ p

@@ -1,5 +1,5 @@
 -- The queues after a trim.
-use Rattle.std.proofs.Common.{◌≡◌, ◌≢◌, ℕ, zero, suc, ◌<◌, ◌≤◌, ◌+◌, ◌-◌, min, max, Bool, true, not, ◌⊎◌, inl, inr, Some, List, [], ◌∷◌, map, filter, drop, slice_get, slice_index, set, length, refl, sym, ap, arith, ◌∙◌}
+use Rattle.std.proofs.Common.{◌≡◌, ◌≢◌, ℕ, ◌<◌, ◌≤◌, ◌+◌, ◌-◌, min, max, Bool, true, not, ◌⊎◌, inl, inr, Some, List, map, filter, drop, slice_get, slice_index, set, length, refl, sym, ap, arith, ◌∙◌}
 use Rattle.std.proofs.lemmas.Bool.{cases_eq, cases_lt, and_left, and_right, and_from, eq-eqb, ne_eqb, lt-ltb, le-ltb, not_from_false, not-true, both_ways}
 use Rattle.std.proofs.lemmas.List.{map-set, set-get_or, length-drop}
 use Rattle.std.proofs.lemmas.Option.{slice_get_within, get_or_from_slice_get}
@@ -10,14 +10,9 @@ use Rattle.interval.specs.Queues.{Queue, merged, closings, without, IsQueue, Are
 use Rattle.lists.proofs.Picked.{has-filter, in_order-filter}
 use Rattle.interval.proofs.Order.ByPlace.{IsBefore, same_rising}
 use Rattle.interval.proofs.Queues.Merged.{Lies, merged_lies, lies_merged, rises-merged}
+use Rattle.lists.proofs.Places.{slice_get-drop}
 use Rattle.lists.proofs.Sets.{slice_get-set_same, slice_get-set_other}
 use Rattle.interval.proofs.Queues.Pushed.{entry_of}
-
-slice_get-drop : {A : Type 0} → (n : ℕ) (xs : List A) (i : ℕ) → slice_get (drop n xs) i ≡ slice_get xs (n + i)
-slice_get-drop zero xs i = let e : i ≡ 0 + i = omega arith in ap (slice_get xs) e
-slice_get-drop (suc n) [] i = refl
-slice_get-drop (suc n) (x ∷ xs) i =
-    let e : suc (n + i) ≡ suc n + i = omega arith in slice_get-drop n xs i ∙ ap (slice_get (x ∷ xs)) e
 
 abbrev with_trim : List Queue → ℕ → Queue → ℕ → List Queue
 with_trim queues owner queue to = set queues owner (without queue to)
@@ -34,7 +29,7 @@ module _ (queues : List Queue) (count owner : ℕ) (queue : Queue) (to : ℕ) (a
 
   -- an interval that stays, where it was
   stayed : (i : ℕ) (k : Kept) → slice_get (drop gone queue.kept) i ≡ Some k → slice_get queue.kept (gone + i) ≡ Some k
-  stayed i k at = sym (slice_get-drop gone queue.kept i) ∙ at
+  stayed i k at = sym (slice_get-drop queue.kept gone i) ∙ at
 
   is_queue : IsQueue owner count (without queue to)
   is_queue = record {
@@ -118,7 +113,7 @@ module _ (queues : List Queue) (count owner : ℕ) (queue : Queue) (to : ℕ) (a
           queue = without queue to;
           index = l.index - gone;
           owned = slice_get-set_same queues owner (without queue to) inside;
-          at = slice_get-drop gone queue.kept (l.index - gone) ∙ ap (slice_get queue.kept) index ∙ at;
+          at = slice_get-drop queue.kept gone (l.index - gone) ∙ ap (slice_get queue.kept) index ∙ at;
         }
     | inr other ↦ record { owner = l.owner; queue = l.queue; index = l.index; owned = slice_get-set_other queues owner l.owner (without queue to) other ∙ l.owned; at = l.at }
   ]

@@ -221,5 +221,7 @@ command_adds (Within s is) keyword.Set (f ∷ []) g h due small e = entered_adds
 command_adds (Within s is) keyword.Set _ g h due small e = absurd cc
 command_adds (Within s is) keyword.Await (f ∷ []) g h due small e = entered_adds s is (instruction.Await f) g _ refl h (λ p. leb-false s.flags f p.flag) e
 command_adds (Within s is) keyword.Await _ g h due small e = absurd cc
+command_adds (Within s is) keyword.Cut [] g h due small e = entered_adds s is instruction.Cut g _ refl h (λ p. tt) e
+command_adds (Within s is) keyword.Cut _ g h due small e = absurd cc
 command_adds (Within s is) keyword.Cluster ns g h due small e = absurd cc
 command_adds (Whole s) k ns g h due small e = absurd cc

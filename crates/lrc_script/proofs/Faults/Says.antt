@@ -167,6 +167,8 @@ command_says (Within s is) keyword.Set (a ∷ b ∷ ns) g due e = absurd (grind 
 command_says (Within s is) keyword.Await (f ∷ []) g due e = within_says g s is _ (entered_says s is (instruction.Await f) g _ refl e)
 command_says (Within s is) keyword.Await [] g due e = absurd cc
 command_says (Within s is) keyword.Await (a ∷ b ∷ ns) g due e = absurd (grind (arith, nat_tests, due))
+command_says (Within s is) keyword.Cut [] g due e = within_says g s is _ (entered_says s is instruction.Cut g _ refl e)
+command_says (Within s is) keyword.Cut (a ∷ ns) g due e = absurd (grind (arith, nat_tests, due))
 command_says (Within s is) keyword.Cluster ns g due e = absurd cc
 command_says (Whole s) k ns g due e = absurd cc
 

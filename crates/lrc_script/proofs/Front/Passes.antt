@@ -75,6 +75,9 @@ refusal_none s before (instruction.Await f) range may room =
     let below : leb s.flags f ≡ false = grind (arith, nat_tests, range) in
     let fits : leb 10000 (length before) ≡ false = grind (arith, nat_tests, room) in
     rw (below, fits) refl
+refusal_none s before instruction.Cut range may room =
+    let fits : leb 10000 (length before) ≡ false = grind (arith, nat_tests, room) in
+    rw fits refl
 
 -- an instruction that may stand behind these
 pub instruction_goes : (s : Plan) (before : List Instruction) (i : Instruction) → AreSizes s → IsInRange s i → MayStandAfter before i → length before < 10000 → Goes (Within s before) (instruction_line i) (Within s (before ++ i ∷ []))
@@ -103,6 +106,9 @@ instruction_goes s before (instruction.Set f) sizes range may room =
 instruction_goes s before (instruction.Await f) sizes range may room =
     let small = sizes_small s sizes in
     goes (Within s before) _ keyword.Await (codes "await") (f ∷ []) refl refl (omega (arith, small.flags, range), tt) refl (rw (refusal_none s before (instruction.Await f) range may room) refl)
+instruction_goes s before instruction.Cut sizes range may room =
+    let small = sizes_small s sizes in
+    goes (Within s before) _ keyword.Cut (codes "cut") ([]) refl refl tt refl (rw (refusal_none s before instruction.Cut range may room) refl)
 
 section_goes : (s : Plan) (is : List Instruction) → AreSizes s → suc (length s.sections) < s.processors → Goes (Within s is) (section_line (suc (length s.sections))) (Within (closed s is) [])
 unfolding step

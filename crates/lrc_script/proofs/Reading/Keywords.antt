@@ -26,6 +26,7 @@ spelled keyword.Release = codes "release"
 spelled keyword.Barrier = codes "barrier"
 spelled keyword.Set = codes "set"
 spelled keyword.Await = codes "await"
+spelled keyword.Cut = codes "cut"
 spelled keyword.Show = codes "show"
 
 spelled_if : (w : List ℕ) (k : Keyword) (rest : Option Keyword) (found : Keyword) → (rest ≡ Some found → w ≡ spelled found) → cond (bytes_eq w (spelled k)) (Some k) rest ≡ Some found → w ≡ spelled found
@@ -39,7 +40,7 @@ pub keyword_spelled : (w : List ℕ) (k : Keyword) → keyword_of w ≡ Some k �
 keyword_spelled w k e =
     spelled_if w keyword.Cluster _ k (spelled_if w keyword.Section _ k (spelled_if w keyword.Load _ k (spelled_if w keyword.Store _ k (
     spelled_if w keyword.Add _ k (spelled_if w keyword.Acquire _ k (spelled_if w keyword.Release _ k (spelled_if w keyword.Barrier _ k (
-    spelled_if w keyword.Set _ k (spelled_if w keyword.Await _ k (spelled_if w keyword.Show _ k (λ h. absurd cc))))))))))) e
+    spelled_if w keyword.Set _ k (spelled_if w keyword.Await _ k (spelled_if w keyword.Cut _ k (spelled_if w keyword.Show _ k (λ h. absurd cc)))))))))))) e
 
 -- what is due is allowed
 pub due_allows : (f : Front) (k : Keyword) (n : ℕ) → is_due f k n ≡ true → Allows f (spelled k) n
@@ -61,6 +62,7 @@ due_allows (Within s is) keyword.Release n e = inr (inr (instruction.Release 0, 
 due_allows (Within s is) keyword.Barrier n e = inr (inr (instruction.Barrier, refl, grind (arith, nat_tests, e)))
 due_allows (Within s is) keyword.Set n e = inr (inr (instruction.Set 0, refl, grind (arith, nat_tests, e)))
 due_allows (Within s is) keyword.Await n e = inr (inr (instruction.Await 0, refl, grind (arith, nat_tests, e)))
+due_allows (Within s is) keyword.Cut n e = inr (inr (instruction.Cut, refl, grind (arith, nat_tests, e)))
 due_allows (Within s is) keyword.Cluster n e = absurd cc
 due_allows (Whole s) k n e = absurd cc
 
@@ -77,6 +79,7 @@ allowed_instruction s is w n (instruction.Release l) word count = (keyword.Relea
 allowed_instruction s is w n instruction.Barrier word count = (keyword.Barrier, ap keyword_of word, ap (λ m. eqb m 0) count)
 allowed_instruction s is w n (instruction.Set f) word count = (keyword.Set, ap keyword_of word, ap (λ m. eqb m 1) count)
 allowed_instruction s is w n (instruction.Await f) word count = (keyword.Await, ap keyword_of word, ap (λ m. eqb m 1) count)
+allowed_instruction s is w n instruction.Cut word count = (keyword.Cut, ap keyword_of word, ap (λ m. eqb m 0) count)
 
 -- what is allowed is due
 pub allows_due : (f : Front) (w : List ℕ) (n : ℕ) → Allows f w n → Due f w n

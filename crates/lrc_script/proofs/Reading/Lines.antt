@@ -37,7 +37,7 @@ digits_have_no c (b ∷ w) lt h =
 pub decimal_has_no : (c n : ℕ) → c < 48 → n < 2 ^ 32 → HasNo c (decimal n)
 decimal_has_no c n lt small = digits_have_no c (decimal n) lt (Decimal-decimal n (omega arith)).digits
 
-decimals_words : (ns : List ℕ) → AreWords ns → AllByRecursion IsWord (map decimal ns)
+pub decimals_words : (ns : List ℕ) → AreWords ns → AllByRecursion IsWord (map decimal ns)
 decimals_words [] small = tt
 decimals_words (n ∷ ns) small = (record { some = (Decimal-decimal n (omega (arith, small.0))).some; no_space = decimal_has_no 32 n (omega arith) small.0 }, decimals_words ns small.1)
 

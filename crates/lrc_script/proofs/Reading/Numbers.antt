@@ -1,17 +1,14 @@
 -- Numbers and their decimal digits.
-use Rattle.std.proofs.Common.{◌≡◌, ℕ, suc, ◌^◌, ◌<◌, ◌≢◌, true, false, not, ◌&&◌, cond, eqb, ltb, List, [], ◌∷◌, ◌++◌, length, get_or, map, subst, append_assoc, Option, Some, None, Result, Ok, Err, refl, sym, ap, ◌∙◌, inl, inr, zero, arith, rules}
+use Rattle.std.proofs.Common.{◌≡◌, ℕ, suc, ◌^◌, ◌<◌, ◌≢◌, true, false, not, ◌&&◌, cond, eqb, ltb, List, [], ◌∷◌, ◌++◌, length, get_or, map, subst, append_assoc, Option, Some, None, Ok, Err, refl, sym, ap, ◌∙◌, zero, arith, rules}
 use Rattle.std.specs.Char.{is_ascii_digit}
 use Rattle.std.specs.Prelude.{Contains, is_some, unwrap_or}
 use Rattle.std.specs.List.{list_all, AllByRecursion}
 use Rattle.std.specs.Fmt.{decimal}
-use Rattle.std.specs.Result.{OkIff, result_ok}
-use Rattle.std.specs.Str.{IsUtf8}
-use Rattle.std.specs.Str.Parse.{digits_value, ParsesUnsigned}
-use Rattle.std.proofs.lemmas.Bool.{ltb-true, lt-ltb, le-ltb, cases_lt, and_parts}
+use Rattle.std.specs.Str.Parse.{digits_value}
+use Rattle.std.proofs.lemmas.Bool.{ltb-true, lt-ltb, and_parts}
 use Rattle.std.proofs.lemmas.Bool.Decides.{nat_tests}
-use Rattle.std.proofs.lemmas.Str.{IsUtf8-from_ascii}
-use Rattle.std.proofs.lemmas.Str.Parse.{IsNumeralModel, numerals_by_value, parse_digits}
-use Rattle.std.proofs.lemmas.Fmt.{decimal-digits_value, digits_decimal, digits_value-decimal, decimal_nonempty, first_decimal, decimal_digit, IsAscii-from_digits}
+use Rattle.std.proofs.lemmas.Str.Parse.{IsNumeralModel, numerals_by_value}
+use Rattle.std.proofs.lemmas.Fmt.{decimal-digits_value, digits_decimal, digits_value-decimal, decimal_nonempty, first_decimal, decimal_digit}
 use Rattle.std.proofs.lemmas.Option.{cond_some}
 use Rattle.std.proofs.lemmas.List.{append-nil}
 use Rattle.std.proofs.lemmas.List.Elements.{Contains-append_right}
@@ -70,18 +67,6 @@ number_again n lt =
     let same : digits_value 10 (decimal n) ≡ n = digits_value-decimal own n big in
     let small : ltb n (2 ^ 32) ≡ true = lt-ltb _ _ lt in
     rw (decimal_whole (decimal n) (Decimal-decimal n big), same, small) refl
-
--- decimals are text
-pub decimal_is_text : (w : List ℕ) → is_decimal w ≡ true → IsUtf8 w
-decimal_is_text w e = IsUtf8-from_ascii w (IsAscii-from_digits w (own.to w (decimal_parts w e).digits))
-
--- what std's `parse` answers for a decimal
-pub parsed_is : {E : Type 0} (w : List ℕ) (r : Result ℕ E) → is_decimal w ≡ true → ParsesUnsigned 32 10 w r → result_ok r ≡ number_of w
-parsed_is w r e h = parsed_cases w r (decimal_parts w e) e (parse_digits own 32 w r h (decimal_parts w e).digits)
-  where
-    parsed_cases : {E : Type 0} (w : List ℕ) (r : Result ℕ E) → Decimal w → is_decimal w ≡ true → OkIff r ((0 < length w) × (digits_value 10 w < 2 ^ 32)) (digits_value 10 w) → result_ok r ≡ number_of w
-    parsed_cases w (Ok x) d e h = let small = lt-ltb _ _ h.0.1 in rw (e, small, h.1) refl
-    parsed_cases w (Err x) d e h = let big : ltb (digits_value 10 w) (2 ^ 32) ≡ false = le-ltb _ _ (elim (cases_lt (digits_value 10 w) (2 ^ 32)) [ inl lt ↦ absurd (h (d.some, lt)) | inr le ↦ le ]) in rw (e, big) refl
 
 abbrev pub AreWords : List ℕ → Type 0
 AreWords ns = AllByRecursion (λ n. n < 2 ^ 32) ns

@@ -1,5 +1,5 @@
 -- A line's keyword, by cases.
-use Rattle.std.proofs.Common.{◌≡◌, ◌≢◌, ℕ, List, refl}
+use Rattle.std.proofs.Common.{◌≡◌, ℕ, List, Some, ap}
 use Rattle.lrc_script.specs.declared.script.Instruction.{Instruction}
 use Rattle.lrc_script.specs.declared.line.Keyword.{Keyword}
 use Rattle.lrc_script.specs.declared.line.Keyword.TheVariants as keyword
@@ -7,17 +7,18 @@ use Rattle.lrc_script.specs.Plan.{Plan}
 use Rattle.lrc_script.specs.Front.{Within}
 use Rattle.lrc_script.specs.Reading.{step, with_instruction, instruction_of}
 
--- within a section each other keyword is read as an instruction
-pub step_other : (s : Plan) (is : List Instruction) (k : Keyword) (ns : List ℕ) → k ≢ keyword.Section → k ≢ keyword.Show → step (Within s is) k ns ≡ with_instruction s is (instruction_of k ns)
+-- within a section an instruction's keyword and numbers are read as that instruction
+pub step_instruction : (s : Plan) (is : List Instruction) (k : Keyword) (ns : List ℕ) (i : Instruction) → instruction_of k ns ≡ Some i → step (Within s is) k ns ≡ with_instruction s is (Some i)
 unfolding step
-step_other s is keyword.Section ns a b = absurd (a refl)
-step_other s is keyword.Show ns a b = absurd (b refl)
-step_other s is keyword.Cluster ns a b = refl
-step_other s is keyword.Load ns a b = refl
-step_other s is keyword.Store ns a b = refl
-step_other s is keyword.Add ns a b = refl
-step_other s is keyword.Acquire ns a b = refl
-step_other s is keyword.Release ns a b = refl
-step_other s is keyword.Barrier ns a b = refl
-step_other s is keyword.Set ns a b = refl
-step_other s is keyword.Await ns a b = refl
+step_instruction s is keyword.Section ns i e = absurd cc
+step_instruction s is keyword.Show ns i e = absurd cc
+step_instruction s is keyword.Cluster ns i e = ap (with_instruction s is) e
+step_instruction s is keyword.Load ns i e = ap (with_instruction s is) e
+step_instruction s is keyword.Store ns i e = ap (with_instruction s is) e
+step_instruction s is keyword.Add ns i e = ap (with_instruction s is) e
+step_instruction s is keyword.Acquire ns i e = ap (with_instruction s is) e
+step_instruction s is keyword.Release ns i e = ap (with_instruction s is) e
+step_instruction s is keyword.Barrier ns i e = ap (with_instruction s is) e
+step_instruction s is keyword.Set ns i e = ap (with_instruction s is) e
+step_instruction s is keyword.Await ns i e = ap (with_instruction s is) e
+step_instruction s is keyword.Cut ns i e = ap (with_instruction s is) e

@@ -65,7 +65,7 @@ words_from (w ∷ ws) h clean =
     let both = and_parts (has_bytes w) (list_all has_bytes ws) h in
     (record { some = ltb-true _ _ both.0; no_space = clean.0 }, words_from ws both.1 clean.1)
 
-words_have : (ws : List (List ℕ)) → AllByRecursion IsWord ws → list_all has_bytes ws ≡ true
+pub words_have : (ws : List (List ℕ)) → AllByRecursion IsWord ws → list_all has_bytes ws ≡ true
 words_have [] h = refl
 words_have (w ∷ ws) h = let some = lt-ltb _ _ h.0.some in rw (some, words_have ws h.1) refl
 

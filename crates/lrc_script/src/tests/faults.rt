@@ -11,7 +11,7 @@ use std::alloc::{AllocError, Global};
 use std::test::Fail;
 
 /// Scripts whose lines are wrong in themselves, with the line and the fault.
-const MALFORMED: [(&str, usize, ScriptFault); 45] = [
+const MALFORMED: [(&str, usize, ScriptFault); 46] = [
     ("", 1, Truncated),
     ("cluster 1 1 1 0", 1, Truncated),
     ("cluster 1 1 1 0/", 2, Truncated),
@@ -37,6 +37,7 @@ const MALFORMED: [(&str, usize, ScriptFault); 45] = [
     ("cluster 2 1 1 0/p 0/show 0/", 3, BadLine),
     ("cluster 1 1 1 0/p 0/store 0/show 0/", 3, BadLine),
     ("cluster 1 1 1 0/p 0/barrier 0/show 0/", 3, BadLine),
+    ("cluster 1 1 1 0/p 0/cut 0/show 0/", 3, BadLine),
     ("cluster 1 1 1 0/p 0/add 0  1/show 0/", 3, BadLine),
     ("cluster 1 1 1 0/p 0/show/", 3, BadLine),
     ("cluster 1 1 1 0/p 0/show 0/show 0/", 4, BadLine),

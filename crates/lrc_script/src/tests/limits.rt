@@ -4,7 +4,7 @@
 use super::bytes_of;
 use crate::fault::ScriptFault;
 use crate::fault::ScriptFault::{BadLine, BadNumber, OutOfRange, TooLong};
-use crate::script::{Instruction, Script, parse};
+use crate::script::{Instruction, MOST_BYTES, Script, parse};
 use std::alloc::{AllocError, Global};
 use std::test::Fail;
 
@@ -131,6 +131,21 @@ fn the_greatest_script_is_read_and_printed(rt: HostRuntime) -> Result<(), Fail> 
     // Their texts are too long to be shown where they differ.
     assert!(rt; script.to_string(rt.alloc())?.as_bytes() == text.as_slice());
     assert!(rt; parse(rt.alloc(), &text).ok() == Some(script));
+    Ok(())
+}
+
+/// No text is longer: each line is the longest of its kind, and there are as many as may be.
+#[test]
+fn the_longest_text_is_read(rt: HostRuntime) -> Result<(), Fail> {
+    let mut text = bytes_of(rt.alloc(), "cluster 16 64 64 32 32/")?;
+    for k in 0..16 {
+        let head = format!(in rt.alloc(); "p {k}/")?;
+        let section = repeated(rt.alloc(), &head, "store 4095 4294967295/", 10_000, "")?;
+        text.extend_from_slice(&section)?;
+    }
+    text.extend_from_slice(&repeated(rt.alloc(), "show", " 4095", 64, "/")?)?;
+    assert_eq!(rt; text.len(), MOST_BYTES);
+    assert!(rt; parse(rt.alloc(), &text).is_ok());
     Ok(())
 }
 

@@ -58,7 +58,7 @@ fn a_script_is_read_and_printed(rt: HostRuntime) -> Result<(), Fail> {
 }
 
 const FLAGS: &str =
-    "cluster 2 1 2 1 3/p 0/load 1/store 1 4294967295/barrier/set 2/acquire 0/p 1/await 2/barrier/show 1 0 1/";
+    "cluster 2 1 2 1 3/p 0/load 1/store 1 4294967295/barrier/set 2/acquire 0/p 1/await 2/barrier/cut/show 1 0 1/";
 
 #[test]
 fn all_instructions_are_read(rt: HostRuntime) -> Result<(), Fail> {
@@ -77,7 +77,11 @@ fn all_instructions_are_read(rt: HostRuntime) -> Result<(), Fail> {
                 Instruction::Set(2),
                 Instruction::Acquire(0)
             ]?,
-            vec![in rt.alloc(); Instruction::Await(2), Instruction::Barrier]?,
+            vec![in rt.alloc();
+                Instruction::Await(2),
+                Instruction::Barrier,
+                Instruction::Cut
+            ]?,
         ]?,
         shown: vec![in rt.alloc(); 1, 0, 1]?,
     };

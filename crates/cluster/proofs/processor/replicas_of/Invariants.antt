@@ -1,6 +1,6 @@
 use Rattle.std.proofs.Common.{◌≡◌, replicate}
-use Rattle.cluster.specs.Local.{blank}
+use Rattle.replicas.specs.Local.{blank}
 use Rattle.cluster.proofs.processor.replicas_of.Given as goal
 
 abbrev pub invariant-loop : goal.invariant-loop
-invariant-loop l = l.replicas.items ≡ replicate l.counter (blank l.shape)
+invariant-loop l = l.replicas.items ≡ replicate l.counter (blank l.fn.shape)

@@ -1,5 +1,6 @@
 use Rattle.std.proofs.Common.{◌∙◌, ap, sym, refl}
 use Rattle.std.proofs.Math.ListN.{get_or-map}
+use Rattle.journal.specs.Base.{no_base}
 use Rattle.lrc_script.specs.Plan.{plan_of}
 use Rattle.lrc.specs.Machine.{history}
 use Rattle.lrc.proofs.Calls.{calls_barrier}
@@ -10,7 +11,7 @@ pub do_section-requires : goal.do_section-requires
 do_section-requires g c =
     let here = ap (λ v. v.items) c.index.ensures ∙ sym (get_or-map (λ v. v.items) c.args.script.now.sections.items 0 c.index.result.now) in
     let section = first_section (plan_of c.args.script.now) c.index.result.now.items c.requires.lawful c.requires.served here in
-    rw (c.deref.ensures.value, c.in_ok-memory.ensures) (λ k d below. within (plan_of c.args.script.now) _ c.requires.served (section.1.in_range k d below))
+    rw (c.deref.ensures.value, c.in_ok-memory.ensures) (λ k d below. within (plan_of c.args.script.now) _ c.requires.served (section.1.in_range k d below) (section.2 k d below))
 
 pub returns-clause-report : goal.returns-clause-report
 returns-clause-report g c =
@@ -29,6 +30,7 @@ returns-clause-report g c =
       does = rw (← c.deref.ensures.value) does.2;
       processors = ap (λ j. j.processors) journal;
       addresses_are = ap (λ j. j.addresses) journal ∙ addresses;
+      base = ap (λ j. j.base) journal ∙ ap (λ j. no_base j.addresses) (sym journal);
       events = ap (λ j. j.events) journal ∙ all;
       history = rw (← addresses) c.in_ok-journal.ensures.history;
       quiet = refl;

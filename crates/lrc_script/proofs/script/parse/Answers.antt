@@ -16,13 +16,13 @@ pub loop-line-smaller : goal.loop-line-smaller
 loop-line-smaller c = cut_shorter _ _ _ c.in-Some.ensures
 
 pub loop-line-preserved : goal.loop-line-preserved
-loop-line-preserved c = at_next _ _ _ _ _ _ _ c.loop-line.invariant c.in-Some.ensures c.in-Ok.ensures
+loop-line-preserved c = at_next _ _ _ _ _ _ _ c.loop-line.invariant c.in-Some.ensures c.in-Ok.ensures.ok
 
 pub returns-in-Err-clause-only : goal.returns-in-Err-clause-only
-returns-in-Err-clause-only c = (failed_fault _ _ _ _ _ _ c.in-Err.fault c.loop-line.invariant c.in-Some.ensures c.in-Err.ensures).1
+returns-in-Err-clause-only c = (failed_fault _ _ _ _ _ _ c.in-Err.fault c.loop-line.invariant c.in-Some.ensures c.in-Err.ensures.err).1
 
 pub returns-in-Err-clause-fault : goal.returns-in-Err-clause-fault
-returns-in-Err-clause-fault c = (failed_fault _ _ _ _ _ _ c.in-Err.fault c.loop-line.invariant c.in-Some.ensures c.in-Err.ensures).0
+returns-in-Err-clause-fault c = (failed_fault _ _ _ _ _ _ c.in-Err.fault c.loop-line.invariant c.in-Some.ensures c.in-Err.ensures.err).0
 
 pub returns-in_default-whole-clause-only : goal.returns-in_default-whole-clause-only
 returns-in_default-whole-clause-only c = λ ne. (truncated_fault c.args.bytes.now c.loop-line.number _ c.loop-line.rest.now c.loop-line.invariant c.in_default.ensures c.in_default-whole.ensures.none).1

@@ -4,7 +4,7 @@ use Rattle.std.proofs.lemmas.Option.{slice_get_within}
 use Rattle.std.specs.Vec.Iter.{into_iter_items}
 use Rattle.lists.proofs.Places.{slice_get-append_left, slice_get-last}
 use Rattle.turn.specs.Chairs.{lock}
-use Rattle.cluster.specs.Local.{Local, new_local}
+use Rattle.replicas.specs.Local.{Local, new_local}
 use Rattle.cluster.specs.Clusters.{IsNewChair}
 use Rattle.cluster.proofs.Starting.{at_middle, seated_more}
 use Rattle.cluster.proofs.cluster.Cluster.seat_all.Goals as goal
@@ -14,7 +14,7 @@ seated-requires-clause-chair g c κs within =
     let inv = c.loop-chair.invariant in
     let here : slice_get c.args.chairs.items (length c.loop-chair.yielded) ≡ Some c.in-Some.chair = rw (← inv.came, c.in-Some.ensures.steps.0) (at_middle c.loop-chair.yielded (into_iter_items c.next.new.self) c.in-Some.chair) in
     let place : length c.loop-chair.yielded ≡ c.len.result = let n = c.len.ensures in let made = inv.made in omega arith in
-    let P : ℕ → Type 0 = λ k. IsNewChair (lock c.in-Some.chair) k c.in-Some.chair in
+    let P : ℕ → Type 0 = λ k. IsNewChair (lock c.in-Some.chair) c.args.shape k c.in-Some.chair in
     subst P place (c.requires.chairs.1 (length c.loop-chair.yielded) c.in-Some.chair here)
 
 pub seated-requires-clause-parts : goal.seated-requires-clause-parts

@@ -1,5 +1,5 @@
 use Rattle.std.proofs.Common.{sym, subst, arith}
-use Rattle.cluster.specs.Sound.{IsSound}
+use Rattle.replicas.specs.Sound.{IsSound}
 use Rattle.cluster.proofs.Covering.{covers}
 use Rattle.cluster.proofs.Fetching.{missing_fit, missing_few, fetched_newest, fetched_sound, stale_read, fetch_done}
 use Rattle.cluster.proofs.processor.Processor.fetch.Goals as goal

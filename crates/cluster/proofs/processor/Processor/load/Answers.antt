@@ -1,7 +1,7 @@
 use Rattle.std.proofs.Common.{◌≡◌, ◌%◌, Some, slice_get, sym, subst, arith}
 use Rattle.journal.specs.declared.event.Kind.TheVariants.{Load}
-use Rattle.cluster.specs.Local.{Local, noted}
-use Rattle.cluster.specs.Sound.{IsSound}
+use Rattle.replicas.specs.Local.{Local, noted}
+use Rattle.replicas.specs.Sound.{IsSound}
 use Rattle.cluster.proofs.Covering.{covers}
 use Rattle.cluster.proofs.Refusing.{copy_read}
 use Rattle.cluster.proofs.Noting.{offset_within, loaded}

@@ -1,6 +1,7 @@
-use Rattle.std.proofs.Common.{sym, subst}
+use Rattle.std.proofs.Common.{sym, ap, subst}
+use Rattle.cluster.specs.declared.keeper.View.{View}
 use Rattle.turn.specs.Chairs.{lock}
-use Rattle.cluster.specs.Sound.{IsSound}
+use Rattle.replicas.specs.Sound.{IsSound}
 use Rattle.cluster.proofs.Starting.{start_sound, start_parts}
 use Rattle.cluster.proofs.processor.Processor.seated.Goals as goal
 
@@ -10,6 +11,6 @@ invariant_of-result g c =
     let are = c.requires.parts in
     let same = start_parts c.args.chair c.args.number c.args.shape x.block.items x.replicas.items c.none.result x.time x.held.items c.requires.chair are.block are.replicas c.none.ensures are.time are.held in (
       subst IsSound (sym same) (start_sound (lock c.args.chair) c.args.number c.args.shape c.requires.sizes c.requires.number),
-      (c.requires.chair.place_is, c.requires.chair.outside),
+      record { place_is = c.requires.chair.place_is; shape_is = ap (λ (v : View). v.shape) c.requires.chair.view_is; outside = c.requires.chair.outside },
       are.room,
     )

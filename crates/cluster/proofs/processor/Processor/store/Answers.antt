@@ -1,5 +1,5 @@
 use Rattle.std.proofs.Common.{sym, subst, arith}
-use Rattle.cluster.specs.Sound.{IsSound}
+use Rattle.replicas.specs.Sound.{IsSound}
 use Rattle.cluster.proofs.Covering.{covers}
 use Rattle.cluster.proofs.Refusing.{copy_read}
 use Rattle.cluster.proofs.Noting.{offset_within, stored, store_done}

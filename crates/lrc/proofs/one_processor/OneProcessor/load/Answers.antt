@@ -21,6 +21,7 @@ invariant_of-self c =
     record {
       words = rw c.push_call.ensures.items (words_load _ _ _ _ c.args.address c.index-value.result.now below found c.self.invariant.words);
       alone = c.self.invariant.alone;
+      whole = c.self.invariant.whole;
       short = let l = c.push_call.ensures.length in let s = c.self.invariant.short in let n = c.len.ensures in let f = c.if-len-eq-BLOCK.false in omega arith;
       reserved = let l = c.push_call.ensures.capacity in let s = c.self.invariant.reserved in omega arith;
     }

@@ -13,6 +13,7 @@ invariant_of-self-2 c =
     record {
       words = rw (c.append-2.ensures, c.append.ensures, c.append_all.ensures, c.in_ok-reserve.ensures.ok, c.deref.ensures.value, c.clear.ensures.items) (words_barrier _ _ c.self.inside.journal.events c.self.inside.block.items c.self.invariant.words);
       alone = rw (c.append-2.ensures, c.append.ensures, c.append_all.ensures, c.in_ok-reserve.ensures.ok) c.self.invariant.alone;
+      whole = rw (c.append-2.ensures, c.append.ensures, c.append_all.ensures, c.in_ok-reserve.ensures.ok) c.self.invariant.whole;
       short = let l = c.clear.ensures.len in omega arith;
       reserved = let l = c.clear.ensures.capacity in let s = c.self.invariant.reserved in omega arith;
     }

@@ -14,6 +14,7 @@ invariant_of-self c =
     record {
       words = rw c.push_call.ensures.items (words_store _ _ _ _ c.args.address c.args.value (rw (← c.self.view_is) at c.requires) c.self.invariant.words);
       alone = c.self.invariant.alone;
+      whole = c.self.invariant.whole;
       short = let l = c.push_call.ensures.length in let s = c.self.invariant.short in let n = c.len.ensures in let f = c.if-len-eq-BLOCK.false in omega arith;
       reserved = let l = c.push_call.ensures.capacity in let s = c.self.invariant.reserved in omega arith;
     }

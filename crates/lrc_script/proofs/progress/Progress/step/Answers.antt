@@ -1,9 +1,9 @@
-use Rattle.std.proofs.Common.{refl}
-use Rattle.lrc_script.proofs.Reading.Steps.{step_other}
+use Rattle.std.proofs.Common.{sym, ◌∙◌}
+use Rattle.lrc_script.proofs.Reading.Steps.{step_instruction}
 use Rattle.lrc_script.proofs.progress.Progress.step.Goals as goal
 
-pub returns-in-Some : goal.returns-in-Some
-returns-in-Some c = rw (c.in-Within.is) (rw (step_other _ _ c.args.keyword c.args.numbers.now c.in_default.not-Section c.in_default.not-Show) (rw (← c.instruction.ensures, c.in-Some.is) c.add.ensures))
+pub returns-in-Some-clause-ok : goal.returns-in-Some-clause-ok
+returns-in-Some-clause-ok c = rw (c.in-Within.is) (rw (step_instruction _ _ c.args.keyword c.args.numbers.now c.in-Some.instruction (sym c.instruction.ensures ∙ c.in-Some.is)) c.add.ensures.ok)
 
-pub returns-in-Within : goal.returns-in-Within
-returns-in-Within c = rw (c.in-Within.is) (rw (step_other _ _ c.args.keyword c.args.numbers.now c.in_default.not-Section c.in_default.not-Show) (rw (← c.instruction.ensures, c.in-None.is) refl))
+pub returns-in-Some-clause-err : goal.returns-in-Some-clause-err
+returns-in-Some-clause-err c = rw (c.in-Within.is) (rw (step_instruction _ _ c.args.keyword c.args.numbers.now c.in-Some.instruction (sym c.instruction.ensures ∙ c.in-Some.is)) c.add.ensures.err)

@@ -1,0 +1,111 @@
+//! How much a take would bring.
+ghost use Rattle.std.specs.Prelude.{◌≡◌, ◌<◌, EachIndex, None, count_by, length, slice_index, slice_index_or};
+ghost use Rattle.journal.specs.declared.event.Kind.TheVariants.{Await};
+ghost use Rattle.interval.specs.Closings.{is_of_page};
+ghost use Rattle.book.specs.Brought.{brought, message_for, sent_with};
+ghost use Rattle.book.specs.Calls.{MayLook, MayTake};
+
+use super::Protocol;
+use crate::awaited::Awaited;
+use interval::Sent;
+
+impl Protocol {
+    /// What `Book::due` says.
+    pub(crate) fn due(&self, p: usize, page: usize) -> usize
+        requires call { MayLook self.now p }
+        ensures { result ≡ count_by (is_of_page page) (brought self.now p) }
+    {
+        match self.awaits[p] {
+            Some(Awaited::Grant(_) | Awaited::Departure) => self.due_by_message(p, page),
+            Some(Awaited::Signal(flag)) => self.due_by_flag(p, flag, page),
+            None => 0,
+        }
+    }
+
+    /// What `Book::count_due` says.
+    pub(crate) fn count_due(&self, p: usize, counts: &mut [usize])
+        requires call { MayLook self.now p }
+        ensures each { EachIndex counts.new (λ n. slice_index counts.new n ≡ count_by (is_of_page n) (brought self.now p)) }
+        ensures same_length { length counts.new ≡ length counts.old }
+    {
+        match self.awaits[p] {
+            Some(Awaited::Grant(_) | Awaited::Departure) => self.count_by_message(p, counts),
+            Some(Awaited::Signal(flag)) => self.count_by_flag(p, flag, counts),
+            None => counts.fill(0),
+        }
+    }
+
+    /// The same where `p` waits for the flag.
+    fn count_by_flag(&self, p: usize, f: usize, counts: &mut [usize])
+        requires call { MayTake self.now p (Await f) }
+        ensures each { EachIndex counts.new (λ n. slice_index counts.new n ≡ count_by (is_of_page n) (sent_with (message_for self.now p (Await f)))) }
+        ensures same_length { length counts.new ≡ length counts.old }
+    {
+        let closed = &self.closed;
+        match &self.flags[f] {
+            Some(time) => closed.count_news(&self.times[p], time, counts),
+            None => counts.fill(0),
+        }
+    }
+
+    /// The same where `p` waits for a grant or a departure.
+    fn count_by_message(&self, p: usize, counts: &mut [usize])
+        requires processor { p < length self.now.transit }
+        ensures each { EachIndex counts.new (λ n. slice_index counts.new n ≡ count_by (is_of_page n) (sent_with (slice_index_or self.now.transit p None))) }
+        ensures same_length { length counts.new ≡ length counts.old }
+    {
+        let transit = &self.transit;
+        match transit.peek(p) {
+            Some(message) => count_pages(message.notices(), counts),
+            None => counts.fill(0),
+        }
+    }
+
+    /// How many notices of the page, where `p` waits for the flag.
+    fn due_by_flag(&self, p: usize, f: usize, page: usize) -> usize
+        requires call { MayTake self.now p (Await f) }
+        ensures { result ≡ count_by (is_of_page page) (sent_with (message_for self.now p (Await f))) }
+    {
+        let closed = &self.closed;
+        match &self.flags[f] {
+            Some(time) => closed.news_of(page, &self.times[p], time),
+            None => 0,
+        }
+    }
+
+    /// The same where `p` waits for a grant or a departure.
+    fn due_by_message(&self, p: usize, page: usize) -> usize
+        requires processor { p < length self.now.transit }
+        ensures { result ≡ count_by (is_of_page page) (sent_with (slice_index_or self.now.transit p None)) }
+    {
+        let transit = &self.transit;
+        let Some(message) = transit.peek(p) else {
+            return 0;
+        };
+        count_of_page(message.notices(), page)
+    }
+}
+
+/// How many of the notices are of the page.
+fn count_of_page(notices: &[Sent], page: usize) -> usize
+    ensures { result ≡ count_by (is_of_page page) notices.now }
+{
+    notices
+        .iter()
+        .filter(|sent| sent.notice.page == page)
+        .count()
+}
+
+/// Entry n becomes how many of the notices are of page n.
+fn count_pages(notices: &[Sent], counts: &mut [usize])
+    ensures each { EachIndex counts.new (λ n. slice_index counts.new n ≡ count_by (is_of_page n) notices.now) }
+    ensures same_length { length counts.new ≡ length counts.old }
+{
+    counts.fill(0);
+    for sent in notices {
+        let page = sent.notice.page;
+        if page < counts.len() {
+            counts[page] += 1;
+        }
+    }
+}

@@ -1,0 +1,16 @@
+use Rattle.std.proofs.Common.{subst}
+use Rattle.replicas.specs.Sound.{IsSound}
+use Rattle.cluster.proofs.Covering.{covers}
+use Rattle.cluster.proofs.processor.Processor.admit_release.Goals as goal
+
+pub returns-then-lock-self-clause-covers : goal.returns-then-lock-self-clause-covers
+returns-then-lock-self-clause-covers g c = covers c.args.self.now (subst IsSound c.self.view_is c.self.invariant.0)
+
+pub returns-then-is_some-clause-covers : goal.returns-then-is_some-clause-covers
+returns-then-is_some-clause-covers g c = covers c.args.self.now (subst IsSound c.self.view_is c.self.invariant.0)
+
+pub returns-then-not-holds-clause-covers : goal.returns-then-not-holds-clause-covers
+returns-then-not-holds-clause-covers g c = covers c.args.self.now (subst IsSound c.self.view_is c.self.invariant.0)
+
+pub returns-else-not-holds-clause-covers : goal.returns-else-not-holds-clause-covers
+returns-else-not-holds-clause-covers g c = covers c.args.self.now (subst IsSound c.self.view_is c.self.invariant.0)

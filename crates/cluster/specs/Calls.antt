@@ -1,0 +1,56 @@
+-- What a call that enters the book does to its processor.
+use Rattle.std.specs.Prelude.{ℕ, ◌≡◌, ◌≢◌, ◌⊎◌, ◌↔◌, ◌+◌, ◌<◌, ◌≤◌, Option, Some, None, List, [], ◌++◌, length}
+use Rattle.journal.specs.declared.event.Event.{Event}
+use Rattle.lists.specs.Limits.{most_events}
+use Rattle.book.specs.declared.refused.Refused.{Refused}
+use Rattle.book.specs.declared.refused.Refused.TheVariants.{NotYet, JournalFull, NoMemory}
+use Rattle.replicas.specs.Local.{Local, calls}
+use Rattle.replicas.specs.Steps.{AreSameCopies, handed}
+use Rattle.cluster.specs.Refusals.{flush_refusal}
+use Rattle.cluster.specs.Entering.{IsAfter}
+use Rattle.cluster.specs.Covers.{Covers, IsAllowed}
+
+-- all is the same, but that lists of missing records may have memory for more
+pub record IsSame (m n : Local) : Type 0 where
+  pub copies : AreSameCopies m.copies n.copies
+  pub same : n ≡ record m { copies = n.copies }
+
+-- the block was handed in
+abbrev pub IsHanded : Local → Local → Type 0
+IsHanded m n = n ≡ handed m
+
+-- the call entered, and left all as it found it: what it waits for is absent, or the journal has no room for so many
+-- events, or no memory was to be had
+pub record IsRefusedInside (many : ℕ) (absent : Local → Type 0) (old new : Local) (e : Refused) : Type 0 where
+  pub entered : IsAfter IsSame old new
+  pub why : (e ≡ NotYet) ⊎ (e ≡ JournalFull) ⊎ (e ≡ NoMemory)
+  pub not_yet : e ≡ NotYet ↔ absent new
+  pub full : ¬ absent new → e ≡ JournalFull ↔ (most_events < length new.seen + many)
+
+-- it is the same processor of the same cluster
+pub record IsSameProcessor (old new : Local) : Type 0 where
+  pub lock : new.lock ≡ old.lock
+  pub number : new.number ≡ old.number
+  pub sizes : new.sizes ≡ old.sizes
+
+-- A call that enters the book: it is refused before it enters where there is a reason for it, which the processor
+-- knows by itself; else it enters, and is done or refused, or memory was refused before it could enter.
+pub record IsCall (first : Option Refused) (many : ℕ) (absent : Local → Type 0) (done : Local → Local → Type 0)
+    (added : List Event) (old new : Local) (refused : Option Refused) : Type 0 where
+  pub same : IsSameProcessor old new
+  pub outside : (e : Refused) → first ≡ Some e → (refused ≡ Some e) × (new ≡ old)
+  pub ok : refused ≡ None
+      → IsAfter done old new × (length new.seen ≤ most_events) × (calls new ≡ calls old ++ added)
+  pub err : (e : Refused) → first ≡ None → refused ≡ Some e
+      → IsRefusedInside many absent old new e ⊎ ((e ≡ NoMemory) × (new ≡ old))
+  pub kept : refused ≢ None → calls new ≡ calls old
+  pub covers : Covers new
+  pub allowed : IsAllowed old → IsAllowed new
+
+-- nothing is waited for
+abbrev pub Nothing : Local → Type 0
+Nothing m = ⊥
+
+-- a call that hands the block in
+abbrev pub IsHandingCall : Local → Local → Option Refused → Type 0
+IsHandingCall old new refused = IsCall (flush_refusal old) (length old.block) Nothing IsHanded [] old new refused

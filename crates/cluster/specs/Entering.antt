@@ -1,0 +1,60 @@
+-- What a call that enters the book finds there, and what it may leave.
+use Rattle.std.specs.Prelude.{ℕ, ◌≡◌, ◌≢◌, ◌+◌, ◌<◌, ◌≤◌, Some, List, ◌++◌, length, slice_get}
+use Rattle.journal.specs.declared.event.Event.{Event}
+use Rattle.journal.specs.Events.{At}
+use Rattle.journal.specs.Loads.{Explained}
+use Rattle.journal.specs.Counted.{AreCounted}
+use Rattle.lists.specs.Limits.{most_events}
+use Rattle.turn.specs.Chairs.{lock, place, view, entries, IsSameChair, IsInside, Stands}
+use Rattle.turn.specs.declared.chair.Held.{Held}
+use Rattle.turn.specs.declared.chair.ChairToken.{ChairToken}
+use Rattle.book.specs.State.{State}
+use Rattle.book.specs.Told.{IsTold}
+use Rattle.replicas.specs.Local.{Local}
+use Rattle.replicas.specs.Steps.{found}
+use Rattle.cluster.specs.declared.keeper.View.{View}
+use Rattle.cluster.specs.Kept.{IsKept, Kept, view_of}
+
+-- p finds this book: a history of it that is kept goes on from what p has seen
+pub record Finds (m : Local) (b : State) : Type 0 where
+  pub rest : List Event
+  pub views : List View
+  pub away : (k : ℕ) (e : Event) → At rest k e → e.processor ≢ m.number
+  pub at : slice_get views m.number ≡ Some (view_of m.sizes m.seen)
+  pub kept : IsKept m.sizes (m.seen ++ rest) b views
+
+-- and leaves the new book, which its events make of the old one
+pub record IsCallOf (m : Local) (old : State) (es : List Event) (new : State) : Type 0 where
+  pub mine : (k : ℕ) (e : Event) → At es k e → e.processor ≡ m.number
+  pub room : new.journal.room ≡ old.journal.room
+  pub told : (f : Finds m old) → IsTold m.sizes ((m.seen ++ f.rest) ++ es) new
+  pub explained : (f : Finds m old) → Explained ((m.seen ++ f.rest) ++ es)
+  pub counted : (f : Finds m old) → AreCounted m.sizes ((m.seen ++ f.rest) ++ es)
+  pub few : (f : Finds m old) → length ((m.seen ++ f.rest) ++ es) ≤ most_events
+
+-- the chair is that of processor m
+pub record IsChairOf (m : Local) (c : ChairToken State View) : Type 0 where
+  pub place_is : place c ≡ m.number
+  pub view_is : view c ≡ view_of m.sizes m.seen
+
+-- the chair has entered once more, and is inside with the book
+pub record HasEntered (old new : ChairToken State View) (held : Held) (b : State) : Type 0 where
+  pub some_left : entries old < (lock old).limit
+  pub once_more : entries new ≡ entries old + 1
+  pub same : IsSameChair old new
+  pub view_is : view new ≡ view old
+  pub inside : IsInside new held b
+
+-- the lock keeps this book, with the chair's view at its place
+abbrev pub FindsBook : ChairToken State View → State → Type 0
+FindsBook c b = Stands Kept b (place c) (view c)
+
+-- the processor after it entered, and others' events had come
+abbrev pub entered : Local → List Event → Local
+entered m rest = record (found m rest) { entries = m.entries + 1 }
+
+-- the call entered, and did this
+pub record IsAfter (done : Local → Local → Type 0) (old new : Local) : Type 0 where
+  pub rest : List Event
+  pub away : (k : ℕ) (e : Event) → At rest k e → e.processor ≢ old.number
+  pub after : done (entered old rest) new

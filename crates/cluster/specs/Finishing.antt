@@ -1,0 +1,82 @@
+-- The end of a cluster.
+use Rattle.std.specs.Prelude.{ℕ, ◌≡◌, ◌≢◌, ◌*◌, ◌+◌, ◌<◌, ◌≤◌, Some, List, ◌++◌, length, slice_get, take}
+use Rattle.std.specs.List.{flat_map}
+use Rattle.journal.specs.declared.event.Event.{Event}
+use Rattle.journal.specs.Sizes.{Sizes}
+use Rattle.journal.specs.Events.{At, part}
+use Rattle.journal.specs.Loads.{Explained}
+use Rattle.journal.specs.Counted.{AreCounted}
+use Rattle.journal.specs.Log.{Log}
+use Rattle.lists.specs.Limits.{most_in_block}
+use Rattle.turn.specs.Chairs.{lock, IsOutside}
+use Rattle.turn.specs.declared.chair.ChairToken.{ChairToken}
+use Rattle.book.specs.State.{State}
+use Rattle.book.specs.Told.{IsTold}
+use Rattle.replicas.specs.Local.{Local, calls}
+use Rattle.replicas.specs.Sound.{IsSound}
+use Rattle.cluster.specs.declared.keeper.View.{View}
+use Rattle.cluster.specs.Clusters.{Shared}
+use Rattle.cluster.specs.Entering.{IsChairOf}
+use Rattle.cluster.specs.Histories.{IsFaithful, IsJournalOf}
+
+-- the processor is the one with this number of this cluster
+pub record IsProcessorOf (c : Shared) (p : ℕ) (m : Local) : Type 0 where
+  pub lock : m.lock ≡ c.lock
+  pub number : m.number ≡ p
+  pub sizes : m.sizes ≡ c.sizes
+
+-- all processors of the cluster, by rising number
+pub record AreAllOf (c : Shared) (ms : List Local) : Type 0 where
+  pub all : length ms ≡ c.sizes.processors
+  pub each : (p : ℕ) (m : Local) → slice_get ms p ≡ Some m → IsProcessorOf c p m
+
+-- the history goes on from what the processor had seen, and has its calls
+pub record HasCallsOf (h : List Event) (m : Local) : Type 0 where
+  pub begins : (rest : List Event) × (h ≡ m.seen ++ rest)
+  pub calls_are : part h m.number ≡ calls m
+
+-- the journal holds a faithful history with the calls of all processors, and at its end their open blocks in turn
+pub record IsFinished (s : Sizes) (ms : List Local) (j : Log) : Type 0 where
+  pub history : List Event
+  pub journal : IsJournalOf s history j
+  pub faithful : IsFaithful s history
+  pub each : (p : ℕ) (m : Local) → slice_get ms p ≡ Some m → HasCallsOf history m
+  pub in_turn : (front : List Event) × (history ≡ front ++ flat_map (λ m. m.block) ms)
+
+-- a sound processor was taken apart into its chair and its open block
+pub record IsApart (m : Local) (c : ChairToken State View) (block : List Event) : Type 0 where
+  pub sound : IsSound m
+  pub chair : IsChairOf m c
+  pub lock_is : lock c ≡ m.lock
+  pub outside : IsOutside c
+  pub block_is : block ≡ m.block
+
+-- all of them
+pub record AreApart (ms : List Local) (cs : List (ChairToken State View)) (blocks : List (List Event)) : Type 0 where
+  pub chairs : length cs ≡ length ms
+  pub blocks_are : length blocks ≡ length ms
+  pub each : (p : ℕ) (m : Local) (c : ChairToken State View) (block : List Event) → slice_get ms p ≡ Some m
+      → slice_get cs p ≡ Some c → slice_get blocks p ≡ Some block → IsApart m c block
+
+-- the history goes on without the processor, whose block is to come
+pub record IsToCome (h : List Event) (m : Local) : Type 0 where
+  pub rest : List Event
+  pub begins : h ≡ m.seen ++ rest
+  pub away : (k : ℕ) (e : Event) → At rest k e → e.processor ≢ m.number
+
+-- the blocks of the first k processors are handed in
+pub record IsFinishing (s : Sizes) (ms : List Local) (k : ℕ) (h : List Event) (b : State) : Type 0 where
+  pub told : IsTold s h b
+  pub explained : Explained h
+  pub counted : AreCounted s h
+  pub room : most_in_block * length ms ≤ b.journal.room + most_in_block * k
+  pub sound : (p : ℕ) (m : Local) → slice_get ms p ≡ Some m → IsSound m × (m.number ≡ p) × (m.sizes ≡ s)
+  pub done : (p : ℕ) (m : Local) → p < k → slice_get ms p ≡ Some m → HasCallsOf h m
+  pub to_come : (p : ℕ) (m : Local) → k ≤ p → slice_get ms p ≡ Some m → IsToCome h m
+  pub in_turn : (front : List Event) × (h ≡ front ++ flat_map (λ m. m.block) (take k ms))
+
+-- these are the processors' blocks
+pub record AreBlocksOf (ms : List Local) (blocks : List (List Event)) : Type 0 where
+  pub all : length blocks ≡ length ms
+  pub each : (p : ℕ) (m : Local) (block : List Event) → slice_get ms p ≡ Some m → slice_get blocks p ≡ Some block
+      → block ≡ m.block

@@ -1,0 +1,34 @@
+-- The histories that a cluster gives out.
+use Rattle.std.specs.Prelude.{ℕ, ◌≡◌, ◌<◌, List, ◌++◌, replicate, take}
+use Rattle.journal.specs.declared.event.Event.{Event}
+use Rattle.journal.specs.Sizes.{Sizes, addresses}
+use Rattle.journal.specs.Events.{part}
+use Rattle.journal.specs.WellFormed.{WellFormed}
+use Rattle.journal.specs.Loads.{Explained}
+use Rattle.journal.specs.Counted.{AreCounted}
+use Rattle.journal.specs.Races.{Race}
+use Rattle.journal.specs.Flat.{Replays}
+use Rattle.journal.specs.Log.{Log, HoldsHistory}
+use Rattle.replicas.specs.Local.{Local, calls}
+
+-- some cluster of these sizes may do this: each load answers a latest store of its past, each fetch counts its gap, and
+-- up to the first race the replies are those of one flat memory
+pub record IsFaithful (s : Sizes) (h : List Event) : Type 0 where
+  pub well_formed : WellFormed s h
+  pub explained : Explained h
+  pub counted : AreCounted s h
+  pub flat : (k : ℕ) → ((i j : ℕ) → j < k → ¬ Race h i j) → Replays (replicate (addresses s) 0) (take k h)
+
+-- the journal is of a cluster of these sizes and holds this history
+pub record IsJournalOf (s : Sizes) (h : List Event) (j : Log) : Type 0 where
+  pub processors : j.processors ≡ s.processors
+  pub addresses_are : j.addresses ≡ addresses s
+  pub holds : HoldsHistory j h
+
+-- an audit answers what the processor has seen then, which goes on from what it had seen, and where its own events are
+-- its calls
+pub record IsAudit (old new : Local) (j : Log) : Type 0 where
+  pub journal : IsJournalOf new.sizes new.seen j
+  pub faithful : IsFaithful new.sizes new.seen
+  pub begins : (rest : List Event) × (new.seen ≡ old.seen ++ rest)
+  pub calls_are : part new.seen new.number ≡ calls new

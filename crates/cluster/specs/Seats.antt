@@ -1,0 +1,33 @@
+-- A processor on its chair.
+use Rattle.std.specs.Prelude.{ℕ, ◌≡◌, Bool, Option, List}
+use Rattle.journal.specs.declared.event.Event.{Event}
+use Rattle.journal.specs.declared.event.Kind.{Kind}
+use Rattle.journal.specs.Sizes.{Sizes}
+use Rattle.turn.specs.Chairs.{lock, place, view, entries, IsOutside}
+use Rattle.turn.specs.declared.chair.ChairToken.{ChairToken}
+use Rattle.book.specs.State.{State}
+use Rattle.cluster.specs.declared.keeper.View.{View}
+use Rattle.replicas.specs.Copies.{Copied}
+use Rattle.replicas.specs.Local.{Local}
+
+-- the processor with these parts
+abbrev pub local : ChairToken State View → ℕ → Sizes → List Event → List Copied → List Bool → List ℕ → List Bool → Option Kind → Local
+local chair p s block copies stored time held awaits = record {
+  lock = lock chair;
+  entries = entries chair;
+  number = p;
+  sizes = s;
+  seen = (view chair).seen;
+  block = block;
+  copies = copies;
+  stored = stored;
+  time = time;
+  held = held;
+  awaits = awaits;
+}
+
+-- the chair of processor p of a cluster of these sizes, which is outside
+pub record IsSeated (chair : ChairToken State View) (p : ℕ) (s : Sizes) : Type 0 where
+  pub place_is : place chair ≡ p
+  pub shape_is : (view chair).shape ≡ s
+  pub outside : IsOutside chair

@@ -1,0 +1,58 @@
+-- What a take does to its processor.
+use Rattle.std.specs.Prelude.{ℕ, ◌≡◌, Option, Some, None, List, [], ◌∷◌, ◌<◌, ◌≤◌, count_by, slice_get, slice_index}
+use Rattle.journal.specs.declared.event.Event.{Event}
+use Rattle.journal.specs.declared.event.Kind.{Kind}
+use Rattle.journal.specs.declared.event.Kind.TheVariants.{Acquire}
+use Rattle.journal.specs.Did.{event}
+use Rattle.journal.specs.Brings.{Brings}
+use Rattle.journal.specs.Missing.{AreNews}
+use Rattle.journal.specs.WellFormed.{Allowed, Ready}
+use Rattle.vtime.specs.Times.{join}
+use Rattle.interval.specs.Intervals.{SentRecord}
+use Rattle.interval.specs.Closings.{is_of_page}
+use Rattle.book.specs.News.{missing_in}
+use Rattle.book.specs.Stamps.{IsStamp}
+use Rattle.book.specs.declared.refused.Refused.{Refused}
+use Rattle.replicas.specs.Copies.{Copied}
+use Rattle.replicas.specs.Local.{Local}
+use Rattle.replicas.specs.Steps.{AreAfterNews, took}
+use Rattle.cluster.specs.Refusals.{or_spent, take_test}
+use Rattle.cluster.specs.Calls.{IsCall}
+
+-- what p waits for hasn't come, by what it has seen
+abbrev pub IsLate : Local → Type 0
+IsLate m = ¬ Ready m.sizes m.seen m.number
+
+-- the event that ends p's wait
+abbrev pub awaited_event : ℕ → Option Kind → List Event
+awaited_event p None = []
+awaited_event p (Some k) = event p k ∷ []
+
+-- p took what it waited for, which had come: it takes over the time of what that brings, and of each page the news, and
+-- a copy with news is stale
+pub record IsTaken (m n : Local) : Type 0 where
+  pub kind : Kind
+  pub waits : m.awaits ≡ Some kind
+  pub allowed : Allowed m.sizes m.seen m.number kind
+  pub time : List ℕ
+  pub stamp : IsStamp m.sizes.processors m.seen (Brings m.seen m.number kind) time
+  pub sent : List SentRecord
+  pub news : (page : ℕ)
+      → AreNews m.sizes m.seen m.number page (slice_index m.time) (slice_index (join m.time time)) (missing_in page sent)
+  pub told : AreAfterNews m.copies sent n.copies
+  pub after : n ≡ took m kind time n.copies
+
+-- the lock that this acquires is one of n
+abbrev pub MayHoldOne : ℕ → Kind → Type 0
+MayHoldOne n (Acquire l) = l < n
+MayHoldOne n _ = Unit {0}
+
+-- each copy has room for what these bring of its page
+abbrev pub HasRoomFor : List SentRecord → List Copied → Type 0
+HasRoomFor sent copies =
+    (n : ℕ) (c : Copied) → slice_get copies n ≡ Some c → count_by (is_of_page n) sent ≤ c.room
+
+-- a call that takes what is awaited
+abbrev pub IsTakingCall : Local → Local → Option Refused → Type 0
+IsTakingCall old new refused =
+    IsCall (or_spent (take_test old) old) 1 IsLate IsTaken (awaited_event old.number old.awaits) old new refused

@@ -1,0 +1,106 @@
+//! What a program calls: asks, releases, arrivals, sets and watches.
+ghost use Rattle.std.specs.Prelude.{◌≡◌};
+ghost use Rattle.std.specs.Result.{result_err};
+ghost use Rattle.cluster.specs.Refusals.{arrive_test, ask_test, release_test, flag_test};
+ghost use Rattle.cluster.specs.Closing.{IsClosingCall};
+
+use super::Cluster;
+use crate::keeper::Rule;
+use crate::processor::Processor;
+use book::{Book, Refused};
+use journal::Kind;
+use std::sync::Wait;
+use turn::Turn;
+
+impl<T: Turn<Book, Rule>> Cluster<T> {
+    /// Asks for a lock that the processor doesn't hold: hands its open block in and closes its interval, and
+    /// from then on it waits for the lock until a [`take`](Cluster::take) succeeds.
+    ///
+    /// The first of these that applies: [`BadLock`](Refused::BadLock) past the last lock,
+    /// [`Waiting`](Refused::Waiting) where it waits already, [`AlreadyHeld`](Refused::AlreadyHeld),
+    /// [`SeatSpent`](Refused::SeatSpent) where it has entered the book as often as it may; else
+    /// [`JournalFull`](Refused::JournalFull) exactly where the journal would have more than 2^20 events, or
+    /// [`NoMemory`](Refused::NoMemory). A refused call leaves the processor as it was, but that it may have seen
+    /// more of the journal.
+    pub fn ask<R: Wait>(
+        &self,
+        rt: &R,
+        processor: &mut Processor<T>,
+        lock: usize,
+    ) -> Result<(), Refused>
+        requires own { processor.old.lock ≡ self.now.lock }
+        ensures { IsClosingCall (ask_test processor.old lock) (Kind.Ask lock)
+            processor.old processor.new (result_err result) }
+    {
+        processor.admit_ask(lock)?;
+        self.close(rt, processor, Kind::Ask(lock))
+    }
+
+    /// Releases a lock that the processor holds: hands its open block in and closes its interval, which the next
+    /// one to acquire the lock gets to know of.
+    ///
+    /// Refused as [`ask`](Cluster::ask) is, with [`NotHeld`](Refused::NotHeld) in the place of `AlreadyHeld`.
+    pub fn release<R: Wait>(
+        &self,
+        rt: &R,
+        processor: &mut Processor<T>,
+        lock: usize,
+    ) -> Result<(), Refused>
+        requires own { processor.old.lock ≡ self.now.lock }
+        ensures { IsClosingCall (release_test processor.old lock) (Kind.Release lock)
+            processor.old processor.new (result_err result) }
+    {
+        processor.admit_release(lock)?;
+        self.close(rt, processor, Kind::Release(lock))
+    }
+
+    /// Arrives at the barrier: hands the open block in and closes the interval, and from then on the processor
+    /// waits until all have arrived and a [`take`](Cluster::take) succeeds.
+    ///
+    /// Refused as [`ask`](Cluster::ask) is, with none of the reasons that name the lock.
+    pub fn arrive<R: Wait>(&self, rt: &R, processor: &mut Processor<T>) -> Result<(), Refused>
+        requires own { processor.old.lock ≡ self.now.lock }
+        ensures { IsClosingCall (arrive_test processor.old) Kind.Arrive
+            processor.old processor.new (result_err result) }
+    {
+        processor.admit_arrival()?;
+        self.close(rt, processor, Kind::Arrive)
+    }
+
+    /// Sets a flag, which stays set: hands the open block in and closes the interval, which whoever awaits the
+    /// flag from then on gets to know of.
+    ///
+    /// The first of these that applies: [`BadFlag`](Refused::BadFlag) past the last flag,
+    /// [`Waiting`](Refused::Waiting), and then as for [`ask`](Cluster::ask).
+    pub fn set<R: Wait>(
+        &self,
+        rt: &R,
+        processor: &mut Processor<T>,
+        flag: usize,
+    ) -> Result<(), Refused>
+        requires own { processor.old.lock ≡ self.now.lock }
+        ensures { IsClosingCall (flag_test processor.old flag) (Kind.Set flag)
+            processor.old processor.new (result_err result) }
+    {
+        processor.admit_flag(flag)?;
+        self.close(rt, processor, Kind::Set(flag))
+    }
+
+    /// Watches a flag: hands the open block in and closes the interval, and from then on the processor waits
+    /// until the flag is set and a [`take`](Cluster::take) succeeds.
+    ///
+    /// Refused as [`set`](Cluster::set) is.
+    pub fn watch<R: Wait>(
+        &self,
+        rt: &R,
+        processor: &mut Processor<T>,
+        flag: usize,
+    ) -> Result<(), Refused>
+        requires own { processor.old.lock ≡ self.now.lock }
+        ensures { IsClosingCall (flag_test processor.old flag) (Kind.Watch flag)
+            processor.old processor.new (result_err result) }
+    {
+        processor.admit_flag(flag)?;
+        self.close(rt, processor, Kind::Watch(flag))
+    }
+}

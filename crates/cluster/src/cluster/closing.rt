@@ -1,0 +1,122 @@
+//! Calls that close the open interval.
+ghost use Rattle.std.specs.Prelude.{◌≡◌, ◌↔◌, ◌⊎◌, ◌<◌, ◌≤◌, ◌+◌, None, true, Err, IfErr, IfOk, OnOk, OnErr, length, map};
+ghost use Rattle.std.specs.Arc.{arc_value};
+ghost use Rattle.std.specs.Result.{result_err};
+ghost use Rattle.journal.specs.Events.{is_closing};
+ghost use Rattle.journal.specs.Waits.{awaited};
+ghost use Rattle.lists.specs.Limits.{most_events, most_in_block};
+ghost use Rattle.interval.specs.Intervals.{HasRisingPages};
+ghost use Rattle.book.specs.Transitions.{handed_in};
+ghost use Rattle.replicas.specs.Records.{AreHarvests};
+ghost use Rattle.replicas.specs.Steps.{held_after};
+ghost use Rattle.cluster.specs.Closing.{MayClose, MayMake, MayHold, IsClosingCall, book_closed};
+
+use super::Cluster;
+use crate::keeper::Rule;
+use crate::processor::{Processor, clean};
+use book::{Book, Refused};
+use journal::{Event, Kind};
+use page::Record;
+use std::sync::{Arc, Wait};
+use turn::Turn;
+
+impl<T: Turn<Book, Rule>> Cluster<T> {
+    /// Hands the block in, closes the interval by this event, and from then on waits for what comes after it.
+    /// The records are harvested before the book is entered.
+    pub(super) fn close<R: Wait>(
+        &self,
+        rt: &R,
+        processor: &mut Processor<T>,
+        kind: Kind,
+    ) -> Result<(), Refused>
+        requires own { processor.old.lock ≡ self.now.lock }
+        requires may { MayMake processor.old kind }
+        ensures { IsClosingCall None kind
+            processor.old processor.new (result_err result) }
+    {
+        if processor.chair.is_spent() {
+            return Err(Refused::SeatSpent);
+        }
+        let records = processor.harvest()?;
+        self.close_with(rt, processor, kind, records)
+    }
+
+    /// The same with these records.
+    fn close_with<R: Wait>(
+        &self,
+        rt: &R,
+        processor: &mut Processor<T>,
+        kind: Kind,
+        records: Vec<Arc<Record>>,
+    ) -> Result<(), Refused>
+        requires own { processor.old.lock ≡ self.now.lock }
+        requires may { MayMake processor.old kind }
+        requires records { AreHarvests processor.old.copies (map arc_value records.items) }
+        ensures { IsClosingCall None kind
+            processor.old processor.new (result_err result) }
+    {
+        let (held, mut book) = self.take_book(rt, &mut processor.chair)?;
+        let block = processor.block.as_slice();
+        let result = close_in(&mut book, processor.number, kind, block, records);
+        self.give_book(&mut processor.chair, held, book);
+        result?;
+        processor.block.clear();
+        clean(&mut processor.replicas, &mut processor.stored);
+        processor.time.tick(processor.number);
+        mark_held(&mut processor.held, kind);
+        processor.awaits = awaited(kind);
+        Ok(())
+    }
+}
+
+/// The book's part of a call that closes the interval of `p` with this event.
+fn close_in(
+    book: &mut Book,
+    p: usize,
+    kind: Kind,
+    block: &[Event],
+    records: Vec<Arc<Record>>,
+) -> Result<(), Refused>
+    requires closes { is_closing kind ≡ true }
+    requires call { MayClose kind book.old p block.now }
+    requires short { length block.now ≤ most_in_block }
+    requires rising { HasRisingPages (map arc_value records.items) }
+    ensures ok { OnOk result (book.new
+        ≡ book_closed kind (handed_in book.old block.now) p (map arc_value records.items)) }
+    ensures err { OnErr result (book.new ≡ book.old) }
+    ensures full { result ≡ Err Refused.JournalFull
+        ↔ (most_events < length book.old.journal.events + length block.now + 1) }
+    ensures only { IfErr result (λ e. (e ≡ Refused.JournalFull) ⊎ (e ≡ Refused.NoMemory)) }
+{
+    match kind {
+        Kind::Ask(lock) => book.ask(p, lock, block, records),
+        Kind::Release(lock) => book.release(p, lock, block, records),
+        Kind::Arrive => book.arrive(p, block, records),
+        Kind::Set(flag) => book.set(p, flag, block, records),
+        Kind::Watch(flag) => book.watch(p, flag, block, records),
+        _ => unreachable!("the event closes an interval"),
+    }
+}
+
+/// What comes next after a call that closes the interval, if it waits.
+fn awaited(kind: Kind) -> Option<Kind>
+    ensures { result ≡ awaited kind }
+{
+    match kind {
+        Kind::Ask(lock) => Some(Kind::Acquire(lock)),
+        Kind::Arrive => Some(Kind::Depart),
+        Kind::Watch(flag) => Some(Kind::Await(flag)),
+        _ => None,
+    }
+}
+
+/// The locks held after the event: a release gives one away.
+fn mark_held(held: &mut Vec<bool>, kind: Kind)
+    requires closes { is_closing kind ≡ true }
+    requires may { MayHold held.old.items kind }
+    ensures { held.new.items ≡ held_after kind held.old.items }
+{
+    if let Kind::Release(lock) = kind {
+        held[lock] = false;
+    }
+}

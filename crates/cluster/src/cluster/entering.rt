@@ -1,0 +1,51 @@
+//! How a call enters the book, and leaves it.
+ghost use Rattle.std.specs.Prelude.{◌≡◌, ◌+◌, ◌<◌, IfOk, IfErr, List};
+ghost use Rattle.turn.specs.Chairs.{lock, place, view, entries, IsOutside, IsInside, IsSameChair};
+ghost use Rattle.journal.specs.declared.event.Event.{Event};
+ghost use Rattle.replicas.specs.Local.{Local};
+ghost use Rattle.book.specs.State.{State};
+ghost use Rattle.cluster.specs.Kept.{Sees};
+ghost use Rattle.cluster.specs.Entering.{IsChairOf, IsCallOf, FindsBook, HasEntered};
+
+use super::Cluster;
+use crate::keeper::{Looking, Rule};
+use book::{Book, Refused};
+use std::sync::Wait;
+use turn::{Chair, Held, Spent, Turn};
+
+impl<T: Turn<Book, Rule>> Cluster<T> {
+    /// Waits for the chair's turn, and takes the book.
+    ///
+    /// [`SeatSpent`](Refused::SeatSpent) exactly where the chair has entered as often as it may.
+    pub(super) fn take_book<R: Wait>(
+        &self,
+        rt: &R,
+        chair: &mut Chair<Book, Rule>,
+    ) -> Result<(Held, Book), Refused>
+        requires own { lock chair.old ≡ self.now.lock }
+        requires outside { IsOutside chair.old }
+        ensures entered { IfOk result (λ r. HasEntered chair.old chair.new r.0 r.1) }
+        ensures finds { IfOk result (λ r. FindsBook chair.old r.1) }
+        ensures spent { IfErr result (λ e. (e ≡ Refused.SeatSpent)
+            × (entries chair.old ≡ (lock chair.old).limit) × (chair.new ≡ chair.old)) }
+    {
+        let turn = &self.turn;
+        match turn.enter(rt, chair) {
+            Ok(entered) => Ok(entered),
+            Err(Spent) => Err(Refused::SeatSpent),
+        }
+    }
+
+    /// Gives the book back, which the processor's call left so.
+    pub(super) fn give_book(&self, chair: &mut Chair<Book, Rule>, held: Held, book: Book)
+        requires own { lock chair.old ≡ self.now.lock }
+        requires call { (m : Local) × (found : State) × (es : List Event)
+            × IsChairOf m chair.old × IsInside chair.old held found × IsCallOf m found es book }
+        ensures left { IsSameChair chair.old chair.new × (entries chair.new ≡ entries chair.old)
+            × IsOutside chair.new }
+        ensures seen { Sees book (view chair.old) (view chair.new) }
+    {
+        let turn = &self.turn;
+        turn.leave::<Looking>(chair, held, book);
+    }
+}

@@ -1,0 +1,123 @@
+//! Calls that take what a processor waits for.
+ghost use Rattle.std.specs.Prelude.{◌≡◌, ◌≢◌, ◌↔◌, ◌⊎◌, ◌<◌, ◌≤◌, ◌+◌, Err, IfErr, EachIndex, IfOk, IsOk, OnOk, OnErr, List, [], length, slice_index, vec_len, true};
+ghost use Rattle.std.specs.Result.{result_err};
+ghost use Rattle.journal.specs.declared.event.Event.{Event};
+ghost use Rattle.journal.specs.Events.{is_taking};
+ghost use Rattle.journal.specs.Sizes.{Sizes};
+ghost use Rattle.journal.specs.WellFormed.{Ready};
+ghost use Rattle.lists.specs.Limits.{most_events};
+ghost use Rattle.transit.specs.Letters.{letter};
+ghost use Rattle.book.specs.Brought.{brought};
+ghost use Rattle.book.specs.Calls.{MayLook, MayTakeSome, Takes};
+ghost use Rattle.book.specs.Told.{IsTold};
+ghost use Rattle.replicas.specs.Steps.{AreAfterNews, AreSameCopies, HaveRoom, MayLearn, held_after};
+ghost use Rattle.cluster.specs.Taking.{IsTakingCall, MayHoldOne, HasRoomFor};
+
+use super::Cluster;
+use crate::keeper::Rule;
+use crate::processor::Processor;
+use book::{Book, Refused};
+use interval::Sent;
+use journal::Kind;
+use replicas::Replica;
+use std::alloc::AllocError;
+use std::sync::Wait;
+use transit::Message;
+use turn::Turn;
+
+/// Pages of a cluster at most.
+const MOST_PAGES: usize = 64;
+
+impl<T: Turn<Book, Rule>> Cluster<T> {
+    /// Takes what the processor waits for, the lock, the end of the barrier's episode or the flag's signal: it gets to
+    /// know of all that happened before that, and its copies of the pages that others stored to there are invalid.
+    /// It costs what it is sent.
+    ///
+    /// The first of these that applies: [`NothingAwaited`](Refused::NothingAwaited),
+    /// [`SeatSpent`](Refused::SeatSpent), [`NotYet`](Refused::NotYet) exactly where that hasn't come yet;
+    /// else [`JournalFull`](Refused::JournalFull) exactly where the journal has 2^20 events, or
+    /// [`NoMemory`](Refused::NoMemory). A refused call leaves the processor as it was, but that it may have seen
+    /// more of the journal.
+    pub fn take<R: Wait>(&self, rt: &R, processor: &mut Processor<T>) -> Result<(), Refused>
+        requires own { processor.old.lock ≡ self.now.lock }
+        ensures { IsTakingCall processor.old processor.new (result_err result) }
+    {
+        let kind = processor.admit_take()?;
+        let (held, mut book) = self.take_book(rt, &mut processor.chair)?;
+        let result = receive(&mut book, processor.number, &mut processor.replicas);
+        self.give_book(&mut processor.chair, held, book);
+        let (time, notices) = result?.into_parts();
+        learn(&mut processor.replicas, notices);
+        processor.time.join(&time);
+        mark_held(&mut processor.held, kind);
+        processor.awaits = None;
+        Ok(())
+    }
+}
+
+/// Makes room in the copies' lists for what is to come, and takes it from the book. Where the journal is full the
+/// book refuses, so no growth is tried.
+fn receive(book: &mut Book, p: usize, replicas: &mut Vec<Replica>) -> Result<Message, Refused>
+    requires call { MayTakeSome book.old p }
+    requires few { vec_len replicas.old ≤ 64 }
+    ensures same { AreSameCopies replicas.old.items replicas.new.items }
+    ensures room { IfOk result (λ m. HasRoomFor (letter m).notices replicas.new.items) }
+    ensures ok { IfOk result (λ m. Takes book.old p (letter m) book.new) }
+    ensures err { OnErr result (book.new ≡ book.old) }
+    ensures absent { (s : Sizes) (h : List Event) → IsTold s h book.old
+        → result ≡ Err Refused.NotYet ↔ (¬ Ready s h p) }
+    ensures full { result ≢ Err Refused.NotYet
+        → result ≡ Err Refused.JournalFull ↔ (most_events < length book.old.journal.events + 1) }
+    ensures only { IfErr result (λ e.
+        (e ≡ Refused.NotYet) ⊎ (e ≡ Refused.JournalFull) ⊎ (e ≡ Refused.NoMemory)) }
+{
+    if book.is_full() {
+        return book.take(p);
+    }
+    prepare(book, p, replicas)?;
+    book.take(p)
+}
+
+/// Makes room in the copies' lists for what a take by `p` would bring now.
+fn prepare(book: &Book, p: usize, replicas: &mut Vec<Replica>) -> Result<(), AllocError>
+    requires call { MayLook book.now p }
+    requires few { vec_len replicas.old ≤ 64 }
+    ensures same { AreSameCopies replicas.old.items replicas.new.items }
+    ensures room { OnOk result (HasRoomFor (brought book.now p) replicas.new.items) }
+    ensures none { brought book.now p ≡ [] → IsOk result }
+{
+    let mut counts = [0; MOST_PAGES];
+    let counts = &mut counts[..replicas.len()];
+    book.count_due(p, counts);
+    make_room(replicas, counts)
+}
+
+/// Makes room for as many more records of each page as its count says.
+fn make_room(replicas: &mut Vec<Replica>, counts: &[usize]) -> Result<(), AllocError>
+    requires { length counts.now ≡ vec_len replicas.old }
+    ensures same { AreSameCopies replicas.old.items replicas.new.items }
+    ensures long { length counts.now ≡ length replicas.new.items }
+    ensures ok { OnOk result (HaveRoom counts.now replicas.new.items) }
+    ensures zeros { EachIndex counts.now (λ n. slice_index counts.now n ≡ 0) → IsOk result }
+{
+    replicas::make_room(replicas.as_mut_slice(), counts)
+}
+
+/// Puts what came among the records that the copies lack.
+fn learn(replicas: &mut Vec<Replica>, notices: Vec<Sent>)
+    requires { MayLearn replicas.old.items notices.items }
+    ensures { AreAfterNews replicas.old.items notices.items replicas.new.items }
+{
+    replicas::learn(replicas.as_mut_slice(), notices);
+}
+
+/// The locks held after what was taken: a grant gives one.
+fn mark_held(held: &mut Vec<bool>, kind: Kind)
+    requires takes { is_taking kind ≡ true }
+    requires lock { MayHoldOne (length held.old.items) kind }
+    ensures { held.new.items ≡ held_after kind held.old.items }
+{
+    if let Kind::Acquire(lock) = kind {
+        held[lock] = true;
+    }
+}

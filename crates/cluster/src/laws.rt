@@ -1,0 +1,8 @@
+//! Laws, as contracts of functions that do nothing: the check proves each by its name.
+ghost use Rattle.cluster.specs.Laws.{AllowedLaw};
+
+/// An access changes nothing of which journals the book may have: so by `allowed` of each call that enters, from the
+/// start on there is always one, and what `covers` says of all of them is said of something.
+pub fn allowed_law()
+    ensures { AllowedLaw }
+{}

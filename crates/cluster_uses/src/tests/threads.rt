@@ -1,0 +1,169 @@
+//! Processors on threads of their own.
+ghost use Rattle.std.specs.Prelude.{◌≡◌, ◌^◌, ◌≤◌, length};
+ghost use Rattle.journal.specs.Reach.{IsTable};
+
+use super::*;
+use crate::{Task, run};
+use journal::ReachTable;
+use std::thread::Threads;
+
+/// The word at the address, of a copy that is fetched where it is stale.
+fn loads_fresh<T: Turn<Book, Rule>>(
+    crew: &mut Crew<T>,
+    rt: &(impl Abort + Wait + AllocGlobal),
+    p: usize,
+    address: usize,
+) -> Result<u32, Refused> {
+    if let Err(Refused::Invalid(page)) = loads(crew, rt, p, address) {
+        does(crew, rt, p, Fetch(page))?;
+    }
+    loads(crew, rt, p, address)
+}
+
+/// Each of two threads adds one a hundred times, under a lock.
+fn counts<T: Turn<Book, Rule> + Send + Drop, R: Abort + Threads + Wait + Sync + AllocGlobal>(
+    rt: &R,
+) -> Result<(), Refused>
+    requires { T.ENTRIES ≤ 2 ^ 40 }
+{
+    let crew = opened::<T>(rt.alloc(), [2, 1, 1, 1, 0])?;
+    let tasks = [Task::Add {
+        lock: 0,
+        address: 0,
+    }; 100];
+    let (mut crew, outcome) = run(rt, rt.alloc(), crew, &tasks)?;
+    outcome?;
+    go(&mut crew, rt, &[Does(0, Ask(0)), Does(0, Take)])?;
+    assert!(rt; loads_fresh(&mut crew, rt, 0, 0)? == 200);
+    does(&mut crew, rt, 0, Release(0))?;
+    assert!(rt; replays_to(&audits(&mut crew, rt, 0)?, &[200]));
+    Ok(())
+}
+
+#[test]
+fn two_threads_count_with_a_row(rt: HostRuntime) -> Result<(), Fail> {
+    counts::<BookLock, _>(&rt)?;
+    Ok(())
+}
+
+#[test]
+fn two_threads_count_with_tickets(rt: HostRuntime) -> Result<(), Fail> {
+    counts::<TicketBookLock, _>(&rt)?;
+    Ok(())
+}
+
+/// Adds one to the words of four pages, each under its own lock.
+const ADDS: [Task; 4] = [
+    Task::Add {
+        lock: 0,
+        address: 1,
+    },
+    Task::Add {
+        lock: 1,
+        address: 6,
+    },
+    Task::Add {
+        lock: 2,
+        address: 11,
+    },
+    Task::Add {
+        lock: 3,
+        address: 12,
+    },
+];
+
+/// The words after each of sixteen has added one to each twice.
+const SUMS: [u32; 16] = [0, 32, 0, 0, 0, 0, 32, 0, 0, 0, 0, 32, 32, 0, 0, 0];
+
+/// Sixteen threads add under four locks in turn, and meet, twice.
+fn meets_twice<T: Turn<Book, Rule> + Send + Drop, R: Abort + Threads + Wait + Sync + AllocGlobal>(
+    rt: &R,
+) -> Result<(), Refused>
+    requires { T.ENTRIES ≤ 2 ^ 40 }
+{
+    let [first, second, third, fourth] = ADDS;
+    let crew = opened::<T>(rt.alloc(), [16, 4, 4, 4, 0])?;
+    let round = [first, second, third, fourth, Task::Meet];
+    let (crew, outcome) = run(rt, rt.alloc(), crew, &round)?;
+    outcome?;
+    let round = [fourth, third, second, first, Task::Meet];
+    let (mut crew, outcome) = run(rt, rt.alloc(), crew, &round)?;
+    outcome?;
+    for p in 0..16 {
+        sees_all(&mut crew, rt, p)?;
+    }
+    is_in_order(rt, &crew.finish())
+}
+
+/// The processor loads all words.
+fn sees_all<T: Turn<Book, Rule>>(
+    crew: &mut Crew<T>,
+    rt: &(impl Abort + Wait + AllocGlobal),
+    p: usize,
+) -> Result<(), Refused> {
+    for (address, word) in SUMS.iter().enumerate() {
+        assert!(rt; loads_fresh(crew, rt, p, address)? == *word);
+    }
+    Ok(())
+}
+
+/// The journal has no race, and it replays; the first events agree with the slow program.
+fn is_in_order(rt: &(impl Abort + AllocGlobal), journal: &Journal) -> Result<(), Refused> {
+    assert!(rt; journal.first_race()?.is_none());
+    assert!(rt; replays_to(journal, &SUMS));
+    let events = journal.events();
+    let events = &events[..events.len().min(400)];
+    let table = ReachTable::new(rt.alloc(), events)?;
+    assert!(rt; agrees(&table, events));
+    Ok(())
+}
+
+/// Whether no two of the events race, and each load answers the last store that happens before it.
+fn agrees(table: &ReachTable, events: &[Event]) -> bool
+    requires { IsTable events.now table.now }
+{
+    for place in 0..events.len() {
+        if races_before(table, events, place) || !is_explained(table, events, place) {
+            return false;
+        }
+    }
+    true
+}
+
+/// Whether an earlier event races with the one at this place.
+fn races_before(table: &ReachTable, events: &[Event], place: usize) -> bool
+    requires { IsTable events.now table.now }
+{
+    (0..place).any(|earlier| table.is_race(events, earlier, place))
+}
+
+/// Whether the event at this place is no load, or answers the last store that happens before it.
+fn is_explained(table: &ReachTable, events: &[Event], place: usize) -> bool {
+    let Some(event) = events.get(place) else {
+        return false;
+    };
+    let Kind::Load(address, word) = event.kind else {
+        return true;
+    };
+    let mut last = 0;
+    for (earlier, event) in events.iter().enumerate() {
+        if let Kind::Store(stored, value) = event.kind {
+            if stored == address && table.happens_before(earlier, place) {
+                last = value;
+            }
+        }
+    }
+    word == last
+}
+
+#[test]
+fn sixteen_threads_meet_with_a_row(rt: HostRuntime) -> Result<(), Fail> {
+    meets_twice::<BookLock, _>(&rt)?;
+    Ok(())
+}
+
+#[test]
+fn sixteen_threads_meet_with_tickets(rt: HostRuntime) -> Result<(), Fail> {
+    meets_twice::<TicketBookLock, _>(&rt)?;
+    Ok(())
+}

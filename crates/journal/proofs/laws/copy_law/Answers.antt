@@ -1,0 +1,5 @@
+use Rattle.journal.proofs.Bases.Whole.{copy_law}
+use Rattle.journal.proofs.laws.copy_law.Goals as goal
+
+pub returns : goal.returns
+returns c = copy_law

@@ -1,0 +1,5 @@
+use Rattle.journal.proofs.Bases.Whole.{cut_law}
+use Rattle.journal.proofs.laws.cut_law.Goals as goal
+
+pub returns : goal.returns
+returns c = cut_law

@@ -1,0 +1,5 @@
+use Rattle.journal.proofs.Bases.Whole.{same_law}
+use Rattle.journal.proofs.laws.same_law.Goals as goal
+
+pub returns : goal.returns
+returns c = same_law

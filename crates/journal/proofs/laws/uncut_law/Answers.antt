@@ -1,0 +1,5 @@
+use Rattle.journal.proofs.Bases.Whole.{uncut_law}
+use Rattle.journal.proofs.laws.uncut_law.Goals as goal
+
+pub returns : goal.returns
+returns c = uncut_law

@@ -1,0 +1,5 @@
+use Rattle.journal.proofs.Bases.Whole.{well_formed_law}
+use Rattle.journal.proofs.laws.well_formed_law.Goals as goal
+
+pub returns : goal.returns
+returns c = well_formed_law

@@ -1,0 +1,45 @@
+//! The laws of what is left after a cut, as contracts of functions that do nothing: the check proves
+//! each by its name.
+
+ghost use Rattle.journal.specs.BaseLaws.{SameLaw, WellFormedLaw, FlatLaw, CopyLaw, CutLaw, UncutLaw};
+ghost use Rattle.journal.specs.HistoryLaws.{WholeLaw, HistoryLaw};
+
+/// What was cut off happens before all that is left, of which order, pasts, races and explained loads are
+/// the same, read from the history or from the base.
+pub fn same_law()
+    ensures { SameLaw }
+{}
+
+/// A history is well formed exactly where what was cut off is, and what is left is from the base.
+pub fn well_formed_law()
+    ensures { WellFormedLaw }
+{}
+
+/// What was cut off of an explained history replays, and what is left replays from the base up to its
+/// first race.
+pub fn flat_law()
+    ensures { FlatLaw }
+{}
+
+/// A lawful copy of a processor that has departed since the cut is the base's page after the stores of its
+/// past that are left.
+pub fn copy_law()
+    ensures { CopyLaw }
+{}
+
+/// Cuts add up: the base after one more cut is that of all events cut off.
+pub fn cut_law()
+    ensures { CutLaw }
+{}
+
+/// Where nothing was cut off, a journal says from the base what it says without one.
+pub fn uncut_law()
+    ensures { UncutLaw }
+{}
+
+/// A journal of which nothing was cut off holds all of its history, and a cut leaves the history as it
+/// was.
+pub fn history_law()
+    ensures whole { WholeLaw }
+    ensures cut { HistoryLaw }
+{}

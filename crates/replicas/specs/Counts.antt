@@ -1,0 +1,12 @@
+-- What a fetch counts.
+use Rattle.std.specs.Prelude.{◌≡◌, List, length, sum_by}
+use Rattle.journal.specs.Copies.{HasCount}
+use Rattle.interval.specs.Intervals.{SentRecord}
+use Rattle.replicas.specs.declared.replica.Counts.{Counts}
+use Rattle.replicas.specs.Copies.{words_of, IsOwner}
+
+-- how many owners, records and words these are
+pub record AreCounts (missing : List SentRecord) (c : Counts) : Type 0 where
+  pub writers : HasCount (IsOwner missing) c.writers
+  pub records : c.records ≡ length missing
+  pub words : c.words ≡ sum_by (λ x. length (words_of x)) missing

@@ -1,0 +1,7 @@
+pub mod Copies
+pub mod Counts
+pub mod Local
+pub mod Sound
+pub mod Steps
+pub mod Records
+pub mod Testing

@@ -1,0 +1,230 @@
+//! A processor's copy of a page, with the records that it lacks.
+ghost use Rattle.std.specs.Prelude.{◌≡◌, ◌<◌, ◌≤◌, ◌^◌, Some, None, Ok, IfOk, IfSome, IfNone, OnOk, [], ◌∷◌, ◌+◌, length, map, slice_get, sum_by};
+ghost use Rattle.page.specs.declared.pages.Access.TheVariants.{Valid, Invalid};
+ghost use Rattle.journal.specs.Copies.{HasCount};
+ghost use Rattle.journal.specs.Missing.{InClosingOrder};
+ghost use Rattle.book.specs.News.{missing_of};
+ghost use Rattle.lists.specs.Records.{records_applied};
+ghost use Rattle.lists.specs.Limits.{most_events};
+ghost use Rattle.interval.specs.Intervals.{SentRecord};
+ghost use Rattle.lists.specs.Places.{Has};
+ghost use Rattle.replicas.specs.Copies.{AllFit, IsOwner, IsPlaceAmong, may_use, words_if, words_of};
+ghost use Rattle.std.specs.Option.{option_map};
+
+use crate::marks::Marks;
+use interval::Sent;
+use page::{Access, Page, Record};
+use std::alloc::{AllocError, Global};
+use std::marker::Model;
+
+/// What a fetch applies: of how many owners, how many records, and how many words.
+#[derive(Clone, Copy, Debug, PartialEq, Eq)]
+pub struct Counts {
+    /// Owners of records.
+    pub writers: u32,
+    /// Records.
+    pub records: u32,
+    /// Words of all records, each as often as it is sent.
+    pub words: u32,
+}
+
+/// A processor's copy of a page, and the records that came for it since it was last valid, in the
+/// order in which their intervals were closed.
+#[derive(Debug, Drop)]
+pub struct Replica {
+    page: Page,
+    missing: Vec<Sent>,
+}
+
+impl Model for Replica {
+    ghost use Rattle.std.specs.Prelude.{◌-◌, length, vec_capacity};
+    ghost use Rattle.replicas.specs.Copies.{Copied};
+
+    ghost Value = { Copied };
+
+    ghost view = { λ r. record {
+      page = r.page;
+      missing = r.missing.items;
+      room = vec_capacity r.missing - length r.missing.items;
+    } };
+}
+
+impl Replica {
+    ghost use Rattle.page.specs.Carries.{IsHarvest};
+    ghost use Rattle.page.specs.Contents.{IsClean};
+    ghost use Rattle.replicas.specs.Copies.{fetched, written_at, zeros};
+    ghost use Rattle.replicas.specs.Steps.{IsAfterNews, IsSameCopy, MayLack, cleaned};
+    ghost use Rattle.replicas.specs.Counts.{AreCounts};
+
+    /// A valid copy of `words` zeros (1 to 64). Answers `AllocError` where memory for them is refused.
+    pub fn zero(alloc: Global, words: usize) -> Result<Replica, AllocError>
+        requires some { 0 < words }
+        requires few { words ≤ 64 }
+        ensures { IfOk result (λ r. r ≡ zeros words) }
+    {
+        Ok(Replica {
+            page: Page::zero(alloc, words)?,
+            missing: Vec::new(alloc),
+        })
+    }
+
+    /// Whether the copy lacks nothing.
+    pub fn is_valid(&self) -> bool
+        ensures { result ≡ may_use self.now.page.access }
+    {
+        self.page.access() == Access::Valid
+    }
+
+    /// Its words, where it lacks nothing.
+    pub fn words(&self) -> Option<&[u32]>
+        ensures { option_map (λ words. words.now) result ≡ words_if (may_use self.now.page.access) self.now }
+    {
+        if !self.is_valid() {
+            return None;
+        }
+        Some(self.page.words())
+    }
+
+    /// The word at `offset`.
+    pub fn load(&self, offset: usize) -> u32
+        requires valid { self.now.page.access ≡ Valid }
+        requires in_range { offset < length self.now.page.words }
+        ensures { slice_get self.now.page.words offset ≡ Some result }
+    {
+        self.page.load(offset)
+    }
+
+    /// Writes the word at `offset`, and marks it dirty.
+    pub fn store(&mut self, offset: usize, value: u32)
+        requires valid { self.old.page.access ≡ Valid }
+        requires in_range { offset < length self.old.page.words }
+        ensures { self.new ≡ written_at self.old offset value }
+    {
+        self.page.store(offset, value);
+    }
+
+    /// What a fetch applies now: of how many owners, how many records, and how many words.
+    pub fn counts(&self) -> Counts
+        requires few { length self.now.missing ≤ most_events }
+        requires fit { AllFit (length self.now.page.words) self.now.missing }
+        ensures { AreCounts self.now.missing result }
+    {
+        let missing = self.missing.as_slice();
+        Counts {
+            writers: writers_of(missing),
+            records: missing.len() as u32,
+            words: words_in(missing),
+        }
+    }
+
+    /// The record of its dirty words, as words of page `page`, where there are some. Takes memory only then.
+    pub(crate) fn harvest(&self, page: usize) -> Result<Option<Record>, AllocError>
+        ensures clean { IsClean self.now.page → result ≡ Ok None }
+        ensures none { IfOk result (λ r. IfNone r (IsClean self.now.page)) }
+        ensures some { IfOk result (λ r. IfSome r (IsHarvest page self.now.page)) }
+    {
+        self.page.harvest(page)
+    }
+
+    /// Cleans its words.
+    pub(crate) fn clean(&mut self)
+        ensures { self.new ≡ cleaned self.old }
+    {
+        self.page.clean();
+    }
+
+    /// Makes room for `count` more records. Answers `AllocError` where memory for them is refused.
+    pub(crate) fn reserve(&mut self, count: usize) -> Result<(), AllocError>
+        ensures same { IsSameCopy self.old self.new }
+        ensures ok { OnOk result (count ≤ self.new.room) }
+    {
+        self.missing.reserve(count)
+    }
+
+    /// Puts a record among those that are missing, at its place in closing order, and closes the copy to loads
+    /// and stores. Takes no memory.
+    pub(crate) fn learn(&mut self, sent: Sent)
+        requires { MayLack self.old (sent ∷ []) }
+        ensures news { IsAfterNews self.old (sent ∷ []) self.new }
+        ensures room { self.new.room + 1 ≡ self.old.room }
+    {
+        let at = place_among(&self.missing, sent.place);
+        let Ok(()) = self.missing.insert(at, sent) else {
+            unreachable!("there is room");
+        };
+        self.page.set_invalid();
+    }
+
+    /// Applies the missing records, in the order in which their intervals were closed, and makes the copy
+    /// valid. What was missing is room again.
+    pub fn fetch(&mut self)
+        requires invalid { self.old.page.access ≡ Invalid }
+        requires fit { AllFit (length self.old.page.words) self.old.missing }
+        ensures { self.new ≡ fetched self.old }
+    {
+        apply_all(&mut self.page, self.missing.as_slice());
+        self.page.set_valid();
+        self.missing.clear();
+    }
+}
+
+/// Applies the records in their order.
+fn apply_all(page: &mut Page, missing: &[Sent])
+    requires invalid { page.old.access ≡ Invalid }
+    requires fit { AllFit (length page.old.words) missing.now }
+    ensures { page.new ≡ record page.old { words = records_applied page.old.words (map words_of missing.now) } }
+{
+    for sent in missing {
+        let content: &Record = &sent.content;
+        page.apply(content);
+    }
+}
+
+/// How many of these records were closed no later than `place`, where they are in closing order. What comes is
+/// mostly closed last, so it looks from the back.
+fn place_among(missing: &[Sent], place: u64) -> usize
+    requires { InClosingOrder (map missing_of missing.now) }
+    ensures { IsPlaceAmong missing.now place result }
+{
+    let mut at = missing.len();
+    while at > 0 {
+        let last = &missing[at - 1];
+        if last.place <= place {
+            break;
+        }
+        at -= 1;
+    }
+    at
+}
+
+/// How many owners the records have.
+fn writers_of(missing: &[Sent]) -> u32
+    requires few { length missing.now ≤ most_events }
+    requires fit { (x : SentRecord) → Has missing.now x → x.notice.owner < 64 }
+    ensures { HasCount (IsOwner missing.now) result }
+{
+    let mut owners = Marks::none();
+    let mut count = 0;
+    for sent in missing {
+        let owner = sent.notice.owner;
+        if !owners.has(owner) {
+            owners.add(owner);
+            count += 1;
+        }
+    }
+    count
+}
+
+/// How many words the records have.
+fn words_in(missing: &[Sent]) -> u32
+    requires few { length missing.now ≤ most_events }
+    requires fit { (x : SentRecord) → Has missing.now x → length (words_of x) ≤ 64 }
+    ensures { result ≡ sum_by (λ x. length (words_of x)) missing.now }
+{
+    let mut count = 0;
+    for sent in missing {
+        let content: &Record = &sent.content;
+        count += content.words().len() as u32;
+    }
+    count
+}
