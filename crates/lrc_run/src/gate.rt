@@ -1,0 +1,21 @@
+//! A gate that each instruction of a script passes before it is done.
+
+/// The gate's answer that a processor is to go no further.
+#[derive(Clone, Copy, Debug, PartialEq, Eq)]
+pub struct Stopped;
+
+/// Is asked before each instruction of a section, and may stop its processor there.
+pub trait Gate {
+    /// Lets `processor` go on to its instruction number `instruction`, counted from 1 in its section.
+    fn pass(&self, processor: usize, instruction: usize) -> Result<(), Stopped>;
+}
+
+/// The gate that never stops.
+#[derive(Clone, Copy, Debug)]
+pub struct Open;
+
+impl Gate for Open {
+    fn pass(&self, _processor: usize, _instruction: usize) -> Result<(), Stopped> {
+        Ok(())
+    }
+}

@@ -1,0 +1,8 @@
+//! Runs of scripts on a cluster: each processor on a thread of its own, or all by turns on one.
+#![tactic(auto)]
+
+mod gate;
+mod report;
+
+pub use gate::{Gate, Open, Stopped};
+pub use report::{Cause, Report, RunFault};
