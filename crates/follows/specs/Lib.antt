@@ -1,2 +1,5 @@
 pub mod Instructions
 pub mod Follows
+pub mod Like
+pub mod Recomputed
+pub mod Laws

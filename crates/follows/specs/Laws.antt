@@ -1,0 +1,21 @@
+-- What is promised of histories that follow a script.
+use Rattle.std.specs.Prelude.{List, replicate}
+use Rattle.journal.specs.declared.event.Event.{Event}
+use Rattle.journal.specs.WellFormed.{WellFormed}
+use Rattle.journal.specs.Loads.{Explained}
+use Rattle.journal.specs.Races.{RaceFree}
+use Rattle.journal.specs.Flat.{Replays}
+use Rattle.lrc_script.specs.Plan.{Plan}
+use Rattle.lrc_script.specs.Lawful.{addresses}
+use Rattle.follows.specs.Follows.{sizes_of, Follows}
+use Rattle.follows.specs.Recomputed.{IsRecomputed, NeverRaces}
+
+-- each history that follows a script can be recomputed
+abbrev pub RecomputedLaw : Type 0
+RecomputedLaw = (s : Plan) (h : List Event) → WellFormed (sizes_of s) h → Follows s h
+    → (g : List Event) × IsRecomputed s h g
+
+-- a script that never races on one flat memory never races, and what its loads answer is what one flat memory answers
+abbrev pub RaceFreeLaw : Type 0
+RaceFreeLaw = (s : Plan) (h : List Event) → WellFormed (sizes_of s) h → Explained h → Follows s h → NeverRaces s
+    → RaceFree h × Replays (replicate (addresses s) 0) h

@@ -1,0 +1,26 @@
+-- A history with each load's reply, and each value that an add stores, computed again on one flat memory.
+use Rattle.std.specs.Prelude.{ℕ, ◌↔◌, List, replicate}
+use Rattle.journal.specs.declared.event.Event.{Event}
+use Rattle.journal.specs.WellFormed.{WellFormed}
+use Rattle.journal.specs.Races.{Race, RaceFree}
+use Rattle.journal.specs.Flat.{Replays}
+use Rattle.lrc_script.specs.Plan.{Plan}
+use Rattle.lrc_script.specs.Lawful.{addresses}
+use Rattle.follows.specs.Follows.{sizes_of, Follows}
+use Rattle.follows.specs.Like.{IsLike}
+
+-- the history is one of this script's on one flat memory
+pub record IsFlatRun (s : Plan) (g : List Event) : Type 0 where
+  pub well_formed : WellFormed (sizes_of s) g
+  pub follows : Follows s g
+  pub replays : Replays (replicate (addresses s) 0) g
+
+-- g is such a history, and is h but for values; so it has the same races
+pub record IsRecomputed (s : Plan) (h g : List Event) : Type 0 where
+  pub like : IsLike h g
+  pub flat : IsFlatRun s g
+  pub races : (i k : ℕ) → Race h i k ↔ Race g i k
+
+-- whatever its order, the script doesn't race on one flat memory
+abbrev pub NeverRaces : Plan → Type 0
+NeverRaces s = (g : List Event) → IsFlatRun s g → RaceFree g
