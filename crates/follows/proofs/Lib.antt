@@ -1,3 +1,4 @@
 pub mod Calls
 pub mod Instructions
 pub mod Like
+pub mod Script
