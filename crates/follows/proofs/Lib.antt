@@ -2,3 +2,4 @@ pub mod Calls
 pub mod Instructions
 pub mod Like
 pub mod Script
+pub mod Recomputing

@@ -15,7 +15,7 @@ abbrev pub RecomputedLaw : Type 0
 RecomputedLaw = (s : Plan) (h : List Event) → WellFormed (sizes_of s) h → Follows s h
     → (g : List Event) × IsRecomputed s h g
 
--- a script that never races on one flat memory never races, and what its loads answer is what one flat memory answers
+-- a script that never races on one flat memory never races, and its explained histories replay on one
 abbrev pub RaceFreeLaw : Type 0
 RaceFreeLaw = (s : Plan) (h : List Event) → WellFormed (sizes_of s) h → Explained h → Follows s h → NeverRaces s
     → RaceFree h × Replays (replicate (addresses s) 0) h

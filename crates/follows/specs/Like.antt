@@ -1,5 +1,5 @@
 -- Histories that are the same but for the values that loads answer and that stores store.
-use Rattle.std.specs.Prelude.{ℕ, ◌≡◌, List, map}
+use Rattle.std.specs.Prelude.{◌≡◌, List, map}
 use Rattle.journal.specs.declared.event.Event.{Event}
 use Rattle.journal.specs.declared.event.Kind.{Kind}
 use Rattle.journal.specs.declared.event.Kind.TheVariants.{Load, Store}

@@ -1,5 +1,12 @@
 //! What it means that a history of events follows a script. Definitions and lemmas, and laws of them.
 //!
 //! **What contracts see.** A history follows a script's plan (`Follows`) where each processor's calls, its fetches
-//! aside, are what its section says, the closing barrier, and at processor 0 the loads of the shown addresses.
+//! aside, are what its section says, the closing barrier, and at processor 0 the loads of the shown addresses. It is a
+//! flat run of the script (`IsFlatRun`) where it is well formed besides, and replays on one flat memory.
+//!
+//! **What is proved** (module `laws`). Each well formed history that follows a script is a flat run of it but for values,
+//! with the same races (`IsRecomputed`). So where no flat run of a script has a race, no history that follows it has one,
+//! and one whose loads are explained replays.
 #![tactic(auto)]
+
+pub mod laws;

@@ -48,8 +48,8 @@ pub record LikeAt (g : List Event) (i : ℕ) (e : Event) : Type 0 where
 pub like_at : (h g : List Event) (i : ℕ) (e : Event) → IsLike h g → At h i e → LikeAt g i e
 like_at h g i e like at =
     let there : option_map without_value (slice_get g i) ≡ Some (without_value e) =
-        sym (slice_get-map without_value g i) ∙ ap (λ es. slice_get es i) (sym like)
-            ∙ slice_get-map without_value h i ∙ ap (option_map without_value) at in
+    sym (slice_get-map without_value g i) ∙ ap (λ es. slice_get es i) (sym like)
+    ∙ slice_get-map without_value h i ∙ ap (option_map without_value) at in
     found (slice_get g i) refl there
   where
     found : (o : Option Event) → slice_get g i ≡ o → option_map without_value o ≡ Some (without_value e) → LikeAt g i e
@@ -84,8 +84,8 @@ count_like is h g p same like = sym (valueless_count h) ∙ ap (λ (es : List Ev
     valueless_count (e ∷ es) =
         let one : Bool → ℕ = λ b. 0 + cond ((e.processor == p) && b) 1 0 in
         count_of-append is (without_value e ∷ []) (map without_value es) p
-            ∙ ap (λ (n : ℕ). one (is (valueless e.kind)) + n) (valueless_count es)
-            ∙ ap (λ b. one b + count_of is es p) (same e.kind) ∙ sym (count_of-append is (e ∷ []) es p)
+        ∙ ap (λ (n : ℕ). one (is (valueless e.kind)) + n) (valueless_count es)
+        ∙ ap (λ b. one b + count_of is es p) (same e.kind) ∙ sym (count_of-append is (e ∷ []) es p)
 
 pub arrive_valueless : (k : Kind) → is_arrive (valueless k) ≡ is_arrive k
 arrive_valueless (Load a v) = refl

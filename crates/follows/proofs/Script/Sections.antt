@@ -50,7 +50,9 @@ all_steps : (is : List Instruction) (kinds : List Kind) (reply : ℕ) → AreEve
     → AreSteps reply (steps_of_all is) kinds
 all_steps [] kinds reply are = rw are tt
 all_steps (i ∷ is) kinds reply are =
-    rw are.2 (steps-append reply (steps_of i) (steps_of_all is) are.0 are.1 (instruction_steps i are.0 reply are.3) (λ last. all_steps is are.1 last are.4))
+    let first = instruction_steps i are.0 reply are.3 in
+    let more : (last : ℕ) → AreSteps last (steps_of_all is) are.1 = λ last. all_steps is are.1 last are.4 in
+    rw are.2 (steps-append reply (steps_of i) (steps_of_all is) are.0 are.1 first more)
 
 loads_steps : (loads : List (ℕ × ℕ)) (reply : ℕ) → AreSteps reply (loads_of (map (λ (x : ℕ × ℕ). x.0) loads)) (map load_of loads)
 loads_steps [] reply = tt
@@ -62,8 +64,10 @@ pub section_steps : (section : List Instruction) (shown : List ℕ) (kinds : Lis
 section_steps section shown kinds reply f =
     let rest : List ℕ → List Step = λ addresses. plain kind.Arrive ∷ plain kind.Depart ∷ loads_of addresses in
     let ends : List Kind = kind.Arrive ∷ kind.Depart ∷ map load_of f.loads in
-    let end : (last : ℕ) → AreSteps last (rest shown) ends = λ last. rw (← f.addresses_are) (refl, (refl, loads_steps f.loads last)) in
-    rw f.kinds_are (steps-append reply (steps_of_all section) (rest shown) f.own ends (all_steps section f.own reply f.follows) end)
+    let end : (last : ℕ) → AreSteps last (rest shown) ends =
+    λ last. rw (← f.addresses_are) (refl, (refl, loads_steps f.loads last)) in
+    let own = all_steps section f.own reply f.follows in
+    rw f.kinds_are (steps-append reply (steps_of_all section) (rest shown) f.own ends own end)
 
 abbrev is_load : Kind → Bool
 is_load (kind.Load a v) = true
