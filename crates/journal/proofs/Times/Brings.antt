@@ -24,14 +24,17 @@ source_closes j p i Depart h = (h.0, record { kind = Arrive; does = h.1.does; cl
 source_closes j p i _ h = absurd h
 
 -- an event that is up to some closing events has a closing event of its processor from it on that is too
-pub leaving_some : (j : List Event) (some : ℕ → Type 0) (q i : ℕ) (a : Kind) → ((k : ℕ) → some k → (x : ℕ) × ClosesAt j x k) → Does j i q a → UpToSome j some i → LeavesAt j q i (UpToSome j some)
+pub leaving_some : (j : List Event) (some : ℕ → Type 0) (q i : ℕ) (a : Kind)
+    → ((k : ℕ) → some k → (x : ℕ) × ClosesAt j x k) → Does j i q a → UpToSome j some i
+    → LeavesAt j q i (UpToSome j some)
 leaving_some j some q i a closes does u = go u.2
   where
     c : ClosesAt j (closes u.0 u.1).0 u.0
     c = (closes u.0 u.1).1
 
     at_end : (closes u.0 u.1).0 ≡ q → i ≤ u.0 → LeavesAt j q i (UpToSome j some)
-    at_end is le = record { close = u.0; from = le; closes = subst (λ y. ClosesAt j y u.0) is c; inside = (u.0, u.1, inl refl) }
+    at_end is le =
+        record { close = u.0; from = le; closes = subst (λ y. ClosesAt j y u.0) is c; inside = (u.0, u.1, inl refl) }
 
     go : UpTo j u.0 i → LeavesAt j q i (UpToSome j some)
     go (inl is) =
@@ -44,5 +47,8 @@ leaving_some j some q i a closes does u = go u.2
     ]
 
 -- an event is among what is brought exactly where the kept timestamp counts its interval
-pub brings_covered : (j : List Event) (p q i : ℕ) (k a : Kind) (u : ℕ → ℕ) → IsTimeIn j (Brings j p k) u → Does j i q a → Brings j p k i ↔ (interval_at j q i < u q)
-brings_covered j p q i k a u time does = covered_in j (Brings j p k) u q i a time (λ m n h x. some_back j (Sources j p k) m n h x) does (λ x. leaving_some j (Sources j p k) q i a (λ m s. source_closes j p m k s) does x)
+pub brings_covered : (j : List Event) (p q i : ℕ) (k a : Kind) (u : ℕ → ℕ) → IsTimeIn j (Brings j p k) u
+    → Does j i q a → Brings j p k i ↔ (interval_at j q i < u q)
+brings_covered j p q i k a u time does =
+    covered_in j (Brings j p k) u q i a time (λ m n h x. some_back j (Sources j p k) m n h x) does
+        (λ x. leaving_some j (Sources j p k) q i a (λ m s. source_closes j p m k s) does x)
