@@ -1,8 +1,5 @@
 -- A list of numbers that reaches a number once: what it has below, and then what it has from there on.
-use Rattle.std.proofs.Common.{
-    ℕ, zero, suc, ◌≡◌, ◌+◌, ◌-◌, ◌<◌, ◌≤◌, inl, inr, List, [], ◌∷◌, ◌++◌, Some, slice_get, map, refl, ap, ap₂, subst,
-    arith
-}
+use Rattle.std.proofs.Common.{ℕ, zero, suc, ◌≡◌, ◌+◌, ◌-◌, ◌<◌, ◌≤◌, inl, inr, List, [], ◌∷◌, ◌++◌, Some, slice_get, map, refl, ap, ap₂, arith}
 use Rattle.std.proofs.lemmas.Bool.{cases_lt}
 use Rattle.std.proofs.lemmas.Option.{none-some, same_Some}
 use Rattle.lists.specs.Places.{Has, InOrder}

@@ -8,10 +8,9 @@ use Rattle.std.proofs.lemmas.List.{length-replicate}
 use Rattle.std.proofs.lemmas.Option.{slice_get_within, same_Some, none-some, some_pair_parts}
 use Rattle.lists.specs.Places.{Has, InOrder}
 use Rattle.lists.specs.Writes.{written, LastWrite}
-use Rattle.lists.specs.Records.{record_applied, IsRecordOf, mark, marked, harvest}
+use Rattle.lists.specs.Records.{IsRecordOf, mark, marked, harvest}
 use Rattle.lists.proofs.Sets.{slice_get-set_same, slice_get-set_other, slice_get-replicate_found}
 use Rattle.lists.proofs.LastWrites.{word_written, last_word}
-use Rattle.lists.proofs.Records.{record_same}
 
 -- place o is marked at the beginning, or is written
 abbrev MarkedFrom : {A : Type 0} → (A → Option (ℕ × ℕ)) → List Bool → List A → ℕ → Type 0
@@ -147,15 +146,6 @@ harvest_is_record {A} f words xs within =
         harvest_has 0 (written f words xs) marks o o v (sym (zero-add o)) (last_word f words xs o v inside l)
             (marked_written f (replicate (length words) false) xs o l.place v l.item (rw length-replicate inside)
                 l.at l.writes)
-
--- the harvest of dirty words does to a page what the writes do
-pub harvest_applies : {A : Type 0} (f : A → Option (ℕ × ℕ)) (words page : List ℕ) (xs : List A)
-    → ((x : A) (o v : ℕ) → f x ≡ Some (o, v) → o < length words)
-    → record_applied page (harvest 0 (written f words xs) (marked f (replicate (length words) false) xs))
-        ≡ written f page xs
-harvest_applies f words page xs within =
-    record_same f page xs (harvest 0 (written f words xs) (marked f (replicate (length words) false) xs))
-        (harvest_is_record f words xs within)
 
 -- items that write nothing mark nothing
 pub marked_nothing : {A : Type 0} (f : A → Option (ℕ × ℕ)) (marks : List Bool) (xs : List A)

@@ -1,7 +1,5 @@
 -- Lists in which nothing stands twice, and how long they can be.
-use Rattle.std.proofs.Common.{
-    ℕ, zero, suc, ◌≡◌, ◌≢◌, ◌≤◌, ◌↔◌, List, [], ◌∷◌, ◌++◌, Some, slice_get, length, arith, refl, sym, ap, ◌∙◌, subst
-}
+use Rattle.std.proofs.Common.{ℕ, zero, suc, ◌≡◌, ◌≢◌, ◌≤◌, List, [], ◌∷◌, ◌++◌, Some, slice_get, length, arith, refl, sym, ap, ◌∙◌, subst}
 use Rattle.std.proofs.lemmas.Option.{same_Some, none-some}
 use Rattle.lists.specs.Places.{Has, IsOnce}
 use Rattle.lists.proofs.Joined.{in_order_tail, in_order-append}
@@ -39,14 +37,6 @@ once_le {A} (x ∷ xs) ys once all =
                 (all y (suc h.0, h.1)).0 x y here.1 (all y (suc h.0, h.1)).1
                 (λ e. once 0 (suc h.0) x y (omega arith) refl h.1 (sym e)))
             in
-    omega arith
-
--- two lists that have the same items once are equally long
-pub once_same : {A : Type 0} (xs ys : List A) → IsOnce xs → IsOnce ys → ((x : A) → Has xs x ↔ Has ys x)
-    → length xs ≡ length ys
-once_same xs ys once other same =
-    let there = once_le xs ys once (λ x. (same x).0) in
-    let back = once_le ys xs other (λ x. (same x).1) in
     omega arith
 
 -- two lists with nothing in common

@@ -1,10 +1,7 @@
 -- Behind an arrival of each processor, a journal says what it says from a base.
-use Rattle.std.proofs.Common.{
-    ◌≡◌, ◌≢◌, ℕ, ◌+◌, ◌-◌, ◌<◌, ◌≤◌, ◌⊎◌, inl, inr, ◌↔◌, List, [], ◌∷◌, ◌++◌, length, take, drop, subst, subst₂, sym,
-    refl, ap, ◌∙◌, length-append, arith
-}
+use Rattle.std.proofs.Common.{◌≡◌, ◌≢◌, ℕ, ◌+◌, ◌-◌, ◌<◌, ◌≤◌, ◌⊎◌, inl, inr, List, [], ◌++◌, length, take, drop, subst, subst₂, sym, refl, ap, ◌∙◌, arith}
 use Rattle.std.proofs.Math.Seq.{take-add}
-use Rattle.std.proofs.lemmas.Bool.{cases_eq, cases_lt}
+use Rattle.std.proofs.lemmas.Bool.{cases_lt}
 use Rattle.std.proofs.lemmas.Option.{none-some}
 use Rattle.journal.specs.declared.event.Event.{Event}
 use Rattle.journal.specs.declared.event.Kind.{Kind}
@@ -18,25 +15,13 @@ use Rattle.journal.specs.Base.{Base, arrived}
 use Rattle.journal.specs.RacesFrom.{IsFirstRaceFrom, RaceFreeFrom}
 use Rattle.journal.specs.Opening.{IsOpening}
 use Rattle.lists.proofs.Places.{append_cases, slice_get-drop, slice_get-from_take}
-use Rattle.journal.proofs.Order.Places.{at_within, at_longer, at_last, does_same, count_of-within, numbered}
+use Rattle.journal.proofs.Order.Places.{at_within, does_same, count_of-within, numbered}
 use Rattle.journal.proofs.Bases.Order.{IsEven}
 use Rattle.journal.proofs.Bases.Races.{race_split, race_free, first_race}
 
 -- the events of a part stand in the whole
 pub behind : (n m : ℕ) (xs : List Event) (i : ℕ) (e : Event) → At (take m (drop n xs)) i e → At xs (n + i) e
 behind n m xs i e at = sym (slice_get-drop xs n i) ∙ slice_get-from_take (drop n xs) m i e at
-
--- an opening of one more processor
-pub opening_push : (n : ℕ) (xs : List Event) → IsOpening n xs → IsOpening (n + 1) (xs ++ event n Arrive ∷ [])
-opening_push n xs x = record {
-  long = (let long = x.long in let more = length-append xs (event n Arrive ∷ []) in omega arith);
-  each = λ p lt. elim (cases_lt p n) [
-    | inl old ↦ at_longer xs (event n Arrive ∷ []) p (event p Arrive) (x.each p old)
-    | inr new ↦ (let is : n ≡ p = omega arith in let at : length xs ≡ p = x.long ∙ is in
-            subst₂ (λ (i q : ℕ). At (xs ++ event n Arrive ∷ []) i (event q Arrive)) at is
-                (at_last xs (event n Arrive)))
-  ];
-}
 
 module _ (processors : ℕ) (xs : List Event) (x : IsOpening processors xs) where
   -- where a processor does something, it is its arrival

@@ -1,7 +1,5 @@
 -- Copies that lack nothing: what keeps them so, and what a block changes.
-use Rattle.std.proofs.Common.{
-    ℕ, ◌≡◌, ◌≢◌, ◌≤◌, ◌+◌, ◌↔◌, inl, inr, List, ◌++◌, None, slice_get, length, arith, sym, subst
-}
+use Rattle.std.proofs.Common.{ℕ, ◌≢◌, ◌≤◌, ◌+◌, ◌↔◌, inl, inr, List, ◌++◌, slice_get, length, arith, sym, subst}
 use Rattle.std.specs.List.{concat}
 use Rattle.journal.specs.declared.event.Event.{Event}
 use Rattle.journal.specs.declared.event.Kind.TheVariants.{Store, Fetch}
@@ -13,11 +11,10 @@ use Rattle.journal.specs.Pasts.{InPast}
 use Rattle.journal.specs.WellFormed.{Does}
 use Rattle.journal.specs.Copies.{StoresTo, page_write, Mine, InGap, Lawful}
 use Rattle.journal.specs.Brought.{Brought, IsCopy, NoGap, Complete}
-use Rattle.journal.specs.Blocks.{write_in, IsBlock, OpenLawful}
+use Rattle.journal.specs.Blocks.{IsBlock}
 use Rattle.lists.specs.Places.{Has, InOrder, IsOnce}
 use Rattle.lists.specs.Records.{records_applied, AreRecordsOf}
 use Rattle.lists.proofs.Places.{append_cases}
-use Rattle.lists.proofs.LastWrites.{written_nothing}
 use Rattle.lists.proofs.Records.{records_same}
 use Rattle.journal.proofs.Order.Places.{at_within, at_shorter, at_behind}
 use Rattle.journal.proofs.Order.HappensBefore.{shorter}
@@ -120,17 +117,3 @@ fetched_gap s j p n page groups records are each once extends copy =
             (Brought j p n) n page (concat groups) (λ i x. brought_past j p n i) copy.closed
             (λ i. (λ h. (gap_is s j p n i).0 ((each i).0 h), λ x. (each i).1 ((gap_is s j p n i).1 x))) once extends
             copy.image)
-
--- so under a block that stores nothing in the page
-pub open_fetch : (s : Sizes) (j block : List Event) (p n : ℕ) (page : List ℕ) (groups : List (List ℕ))
-        (records : List (List (ℕ × ℕ)))
-    → AreRecordsOf (λ (i : ℕ). page_write s (slice_get j i)) groups records
-    → ((i : ℕ) → Has (concat groups) i ↔ InGap s j p n i) → IsOnce (concat groups)
-    → InOrder (λ i k. ¬ HappensBefore j k i) (concat groups)
-    → ((k : ℕ) (e : Event) → At block k e → write_in s n e.kind ≡ None) → IsCopy s j p n page
-    → OpenLawful s j block p n (records_applied page records)
-open_fetch s j block p n page groups records are each once extends none copy = record {
-  base = records_applied page records;
-  lawful = fetched_gap s j p n page groups records are each once extends copy;
-  gives = sym (written_nothing (λ (e : Event). write_in s n e.kind) (records_applied page records) block none);
-}

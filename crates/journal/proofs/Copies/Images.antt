@@ -4,7 +4,6 @@ use Rattle.std.proofs.Common.{
     slice_set, length, Bool, true, false, ◌==◌, cond, None, eqb-true, eq-eqb, true≢false, arith, refl, sym, ap, subst,
     ◌∙◌
 }
-use Rattle.std.proofs.lemmas.List.{length-replicate}
 use Rattle.journal.specs.declared.event.Event.{Event}
 use Rattle.journal.specs.declared.event.Kind.{Kind}
 use Rattle.journal.specs.declared.event.Kind.TheVariants.{Store}
@@ -19,7 +18,7 @@ use Rattle.lists.specs.Writes.{wrote}
 use Rattle.lists.specs.Places.{Has, InOrder, IsOnce}
 use Rattle.lists.proofs.Joined.{has-nil, has-cons, has-append, in_order-append, in_order_single, has_or_not}
 use Rattle.lists.proofs.Once.{once-append}
-use Rattle.lists.proofs.LastWrites.{written-append, length-written}
+use Rattle.lists.proofs.LastWrites.{written-append}
 use Rattle.journal.proofs.Order.Places.{at_last}
 use Rattle.journal.proofs.Order.HappensBefore.{shorter}
 use Rattle.journal.proofs.Order.Pasts.{past_back, past_within, past_longer, own_past, others}
@@ -174,10 +173,3 @@ lawful_event s j p n page (Store a v) quiet lawful = go (a / s.words == n) refl
         let here : (a / s.words == n) ≡ true = eq-eqb (a / s.words) n (ap (λ x. x / s.words) same ∙ in_page) in
         absurd (true≢false (sym here ∙ e))) lawful
 lawful_event s j p n page k quiet lawful = lawful_quiet s j (event p k) n page quiet (λ a v is. absurd (cc)) lawful
-
--- an image has the words of a page
-pub image_long : (s : Sizes) (j : List Event) (among : ℕ → Type 0) (n : ℕ) (page : List ℕ) → IsImage s j among n page
-    → length page ≡ s.words
-image_long s j among n page image =
-    ap length image.gives ∙ length-written (λ (i : ℕ). page_write s (slice_get j i)) (replicate s.words 0) image.order
-        ∙ length-replicate s.words 0

@@ -1,8 +1,5 @@
 -- A load of a lawful copy answers what it may.
-use Rattle.std.proofs.Common.{
-    ℕ, ◌≡◌, ◌<◌, ◌⊎◌, ◌/◌, ◌%◌, inl, inr, List, [], ◌∷◌, ◌++◌, Option, Some, replicate, slice_get, length, arith,
-    refl, sym, ap, subst, subst₂, ◌∙◌
-}
+use Rattle.std.proofs.Common.{ℕ, ◌≡◌, ◌<◌, ◌⊎◌, ◌/◌, ◌%◌, inl, inr, List, [], ◌∷◌, ◌++◌, Option, Some, replicate, slice_get, length, arith, refl, sym, ap, subst, ◌∙◌}
 use Rattle.std.proofs.lemmas.Bool.{cases_order}
 use Rattle.std.proofs.lemmas.Option.{same_Some}
 use Rattle.journal.specs.declared.event.Event.{Event}
@@ -127,18 +124,3 @@ explained_push j e explained new k p a v d = elim (push_cases j e k (event p (Lo
   | inl x ↦ answer_on j (e ∷ []) k a v x.0 (explained k p a v x.1)
   | inr x ↦ (let P : ℕ → Type 0 = λ m. IsAnswer (j ++ e ∷ []) m a v in subst P (sym x.0) (new p a v x.1))
 ]
-
--- and by a load of a lawful copy
-pub explained_load : (s : Sizes) (j : List Event) (p n : ℕ) (page : List ℕ) (a v : ℕ) → Explained j
-    → Lawful s j p n page → a / s.words ≡ n → slice_get page (a % s.words) ≡ Some v
-    → Explained (j ++ event p (Load a v) ∷ [])
-explained_load s j p n page a v explained lawful in_page h = explained_push j (event p (Load a v)) explained again
-  where
-    again : (q b w : ℕ) → ◌≡◌ {A = Event} (event p (Load a v)) (event q (Load b w))
-        → IsAnswer (j ++ event p (Load a v) ∷ []) (length j) b w
-    again q b w e =
-        let kinds : Load a v ≡ Load b w = ap (λ (x : Event). x.kind) e in
-        let same_address : a ≡ b = cc in
-        let same_value : v ≡ w = cc in
-        subst₂ (IsAnswer (j ++ event p (Load a v) ∷ []) (length j)) same_address same_value
-            (load_answers s j p n page a v lawful in_page h)

@@ -1,20 +1,16 @@
 -- Copies and loads under a processor's open block.
-use Rattle.std.proofs.Common.{
-    ℕ, ◌≡◌, ◌≢◌, ◌<◌, ◌/◌, ◌%◌, List, [], ◌∷◌, ◌++◌, Some, false, inl, inr, take, length, slice_get, eq-eqb, ne_eqb,
-    arith, refl, sym, ap, subst, ◌∙◌, append_assoc, append-nil
-}
-use Rattle.std.proofs.lemmas.Option.{none-some}
+use Rattle.std.proofs.Common.{ℕ, ◌≡◌, ◌≢◌, ◌<◌, ◌/◌, ◌%◌, List, [], ◌∷◌, ◌++◌, Some, inl, inr, take, length, slice_get, eq-eqb, ne_eqb, arith, refl, sym, ap, subst, ◌∙◌, append_assoc, append-nil}
 use Rattle.std.proofs.lemmas.List.{take-append-le}
 use Rattle.std.proofs.Math.Seq.{take-append_seam}
 use Rattle.journal.specs.declared.event.Event.{Event}
 use Rattle.journal.specs.declared.event.Kind.TheVariants.{Load}
 use Rattle.journal.specs.Did.{event}
 use Rattle.journal.specs.Sizes.{Sizes}
-use Rattle.journal.specs.Events.{At, is_taking}
+use Rattle.journal.specs.Events.{At}
 use Rattle.journal.specs.WellFormed.{Does}
 use Rattle.journal.specs.Loads.{IsAnswer, Explained}
 use Rattle.journal.specs.Copies.{Lawful}
-use Rattle.journal.specs.Blocks.{write_in, block_done, IsBlock, OpenLawful, BlockAnswers, with_page}
+use Rattle.journal.specs.Blocks.{write_in, block_done, IsBlock, BlockAnswers, with_page}
 use Rattle.lists.specs.Writes.{wrote}
 use Rattle.lists.proofs.Places.{push_cases, push_induction}
 use Rattle.lists.proofs.LastWrites.{written-append}
@@ -23,38 +19,10 @@ use Rattle.journal.proofs.Order.BlockPasts.{block_front, block_last}
 use Rattle.journal.proofs.Copies.Images.{lawful_others, lawful_event}
 use Rattle.journal.proofs.Copies.Loads.{load_answers, explained_push}
 
--- no event is a block
-pub block_start : (p : ℕ) → IsBlock p []
-block_start p k e at = absurd (none-some e at)
-
--- a block with one more own event that takes nothing is one
-pub block_push : (p : ℕ) (block : List Event) (e : Event) → e.processor ≡ p → is_taking e.kind ≡ false
-    → IsBlock p block → IsBlock p (block ++ e ∷ [])
-block_push p block e mine quiet is k f at = elim (push_cases block e k f at) [
-  | inl h ↦ is k f h.1
-  | inr h ↦
-      (let P : Event → Type 0 = λ g. (g.processor ≡ p) × (is_taking g.kind ≡ false) in subst P h.1 (mine, quiet))
-]
-
 -- a block with one more event does that event's store besides
 pub block_done-push : (s : Sizes) (n : ℕ) (page : List ℕ) (block : List Event) (e : Event)
     → block_done s n page (block ++ e ∷ []) ≡ wrote (block_done s n page block) (write_in s n e.kind)
 block_done-push s n page block e = written-append (λ (x : Event). write_in s n x.kind) page block (e ∷ [])
-
--- others' events keep a copy under a block
-pub open_others : (s : Sizes) (j es block : List Event) (p n : ℕ) (page : List ℕ)
-    → ((k : ℕ) (e : Event) → At es k e → e.processor ≢ p) → OpenLawful s j block p n page
-    → OpenLawful s (j ++ es) block p n page
-open_others s j es block p n page away x =
-    record { base = x.base; lawful = lawful_others s j es p n x.base away x.lawful; gives = x.gives }
-
--- a further event of the block, done to the copy, keeps it
-pub open_push : (s : Sizes) (j block : List Event) (e : Event) (p n : ℕ) (page : List ℕ)
-    → OpenLawful s j block p n page → OpenLawful s j (block ++ e ∷ []) p n (wrote page (write_in s n e.kind))
-open_push s j block e p n page x =
-    record { base = x.base; lawful = x.lawful;
-            gives = ap (λ (ws : List ℕ). wrote ws (write_in s n e.kind)) x.gives
-                ∙ sym (block_done-push s n x.base block e) }
 
 -- a lawful copy with a block's stores done to it is lawful after the block
 pub lawful_block : (s : Sizes) (j block : List Event) (p n : ℕ) (base : List ℕ) → IsBlock p block
@@ -72,17 +40,6 @@ lawful_block s j block p n base is lawful =
                 (wrote (block_done s n base es) (write_in s n e.kind)) in
         rw (block_done-push s n base es e, ← append_assoc j es (e ∷ [])) (subst P (sym last.0) (lawful_event s
                     (j ++ es) p n (block_done s n base es) e.kind last.1 (ih (block_front p es (e ∷ []) more))))
-
--- the copy under a block is lawful after the block
-pub open_lawful : (s : Sizes) (j block : List Event) (p n : ℕ) (page : List ℕ) → IsBlock p block
-    → OpenLawful s j block p n page → Lawful s (j ++ block) p n page
-open_lawful s j block p n page is x = rw (x.gives) (lawful_block s j block p n x.base is x.lawful)
-
--- and stays so when the block is handed in
-pub open_handed : (s : Sizes) (j block : List Event) (p n : ℕ) (page : List ℕ) → IsBlock p block
-    → OpenLawful s j block p n page → OpenLawful s (j ++ block) [] p n page
-open_handed s j block p n page is x =
-    record { base = page; lawful = open_lawful s j block p n page is x; gives = refl }
 
 -- what the loads of a block answer, its front's do
 pub answers_front : (s : Sizes) (j block es : List Event) (p : ℕ) (base : ℕ → List ℕ)

@@ -13,7 +13,7 @@ use Rattle.journal.specs.Did.{event}
 use Rattle.journal.specs.Events.{address_of}
 use Rattle.journal.specs.WellFormed.{Does}
 use Rattle.journal.specs.Loads.{Explained}
-use Rattle.journal.specs.Races.{Race, IsFirstRace, RaceFree}
+use Rattle.journal.specs.Races.{Race, RaceFree}
 use Rattle.journal.specs.Flat.{flat_write, memory_after, Replays}
 use Rattle.journal.specs.Base.{Base, no_base}
 use Rattle.journal.specs.OrderFrom.{HappensBeforeFrom}
@@ -127,13 +127,6 @@ pub flat_up_to : (size : ℕ) (j : List Event) (k : ℕ) → ((i p a v : ℕ) �
 flat_up_to size j k ranges explained free =
     flat_up_to_from (no_base size) j k (λ m p a v does. rw length-replicate (ranges m p a v does))
         ((uncut_explained size j).0 explained) (λ m n h r. free m n h ((uncut_race size j m n).1 r))
-
--- up to the second event of its first race
-pub flat_before_race : (size : ℕ) (j : List Event) (i k : ℕ) → ((m p a v : ℕ) → Does j m p (Load a v) → a < size)
-    → Explained j → IsFirstRace j i k → Replays (replicate size 0) (take k j)
-flat_before_race size j i k ranges explained first =
-    flat_up_to size j k ranges explained
-        (λ m n h r. let least : k ≤ n = first.least_second m n r in absurd (omega arith))
 
 -- without a race it replays whole
 pub flat_memory : (size : ℕ) (j : List Event) → ((i p a v : ℕ) → Does j i p (Load a v) → a < size) → Explained j

@@ -1,8 +1,5 @@
 -- The record of the events of an interval is the record of their places, and stays so.
-use Rattle.std.proofs.Common.{
-    ℕ, ◌≡◌, ◌≢◌, ◌<◌, ◌≤◌, ◌/◌, ◌%◌, ◌==◌, List, [], ◌∷◌, ◌++◌, Bool, true, false, cond, Option, Some, None, is_some,
-    filter, slice_get, length, arith, refl, sym, ap, subst, ◌∙◌, eqb-true, eq-eqb, mod-lt, inl, inr, true≢false
-}
+use Rattle.std.proofs.Common.{ℕ, ◌≡◌, ◌<◌, ◌≤◌, ◌/◌, ◌%◌, ◌==◌, List, [], ◌∷◌, ◌++◌, Bool, true, false, cond, Option, Some, None, is_some, filter, slice_get, length, arith, refl, sym, ap, subst, ◌∙◌, eqb-true, eq-eqb, mod-lt, inl, inr, true≢false}
 use Rattle.std.proofs.lemmas.Bool.{cases_lt}
 use Rattle.std.proofs.Math.Seq.{take-append_seam}
 use Rattle.std.proofs.lemmas.Option.{some_pair_parts}
@@ -19,7 +16,7 @@ use Rattle.journal.specs.Groups.{since, StoresIn, IsContent}
 use Rattle.lists.specs.Places.{Has}
 use Rattle.lists.specs.Writes.{written}
 use Rattle.lists.specs.Records.{IsRecordOf}
-use Rattle.lists.proofs.Places.{append_cases, push_cases}
+use Rattle.lists.proofs.Places.{push_cases}
 use Rattle.lists.proofs.Joined.{has-nil}
 use Rattle.lists.proofs.Picked.{has-filter, in_order-filter}
 use Rattle.lists.proofs.LastWrites.{written_map, written_filter, written_same, last_exists}
@@ -159,14 +156,6 @@ content_on s j es q k n words within content = record {
   where
     inside : (i : ℕ) → Has content.places i → i < length j
     inside i h = let x = (content.each i).0 h in at_within j i (event q (Store x.0 x.1)) x.2
-
--- so through others' events
-pub content_others : (s : Sizes) (j es : List Event) (q k n : ℕ) (words : List (ℕ × ℕ))
-    → ((m : ℕ) (e : Event) → At es m e → e.processor ≢ q) → IsContent s j q k n words
-    → IsContent s (j ++ es) q k n words
-content_others s j es q k n words away = content_on s j es q k n words (λ i x.
-    let e : Event = event q (Store x.0 x.1) in
-    elim (append_cases j es i e x.2) [ inl h ↦ h.0 | inr h ↦ absurd (away h.0 e h.2 refl) ])
 
 -- through the closing event
 pub content_closing : (s : Sizes) (j : List Event) (e : Event) (q k n : ℕ) (words : List (ℕ × ℕ))

@@ -6,7 +6,6 @@ use Rattle.std.proofs.Common.{
 use Rattle.std.proofs.Math.Seq.{take-append_seam, drop-append_seam}
 use Rattle.std.proofs.lemmas.List.{take-append-le, length-take, drop-drop}
 use Rattle.journal.specs.declared.event.Event.{Event}
-use Rattle.journal.specs.Events.{At}
 use Rattle.journal.specs.InRange.{AddressInRange, AddressesInRange, ProcessorsInRange}
 use Rattle.journal.specs.Opening.{IsOpening}
 use Rattle.journal.specs.declared.journal.Journal.TheInside.{Inside}

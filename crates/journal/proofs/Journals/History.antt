@@ -1,17 +1,13 @@
 -- The history that a journal holds.
-use Rattle.std.proofs.Common.{
-    ◌≡◌, ℕ, ◌+◌, ◌≤◌, List, [], ◌++◌, length, take, drop, subst, subst₂, sym, refl, ap, ◌∙◌, append_assoc,
-    length-append, arith
-}
+use Rattle.std.proofs.Common.{ℕ, List, [], ◌++◌, take, drop, subst, subst₂, sym, ap, ◌∙◌, append_assoc, arith}
 use Rattle.std.proofs.lemmas.List.{take-append-drop, length-take-le}
 use Rattle.journal.specs.declared.event.Event.{Event}
-use Rattle.journal.specs.Sizes.{Sizes, addresses}
+use Rattle.journal.specs.Sizes.{addresses}
 use Rattle.journal.specs.WellFormed.{WellFormed}
-use Rattle.journal.specs.Base.{Base, no_base}
+use Rattle.journal.specs.Base.{Base}
 use Rattle.journal.specs.Cuts.{EndsEpisode, IsBaseOf}
-use Rattle.journal.specs.Log.{Log, HoldsHistory, HoldsRest}
-use Rattle.journal.specs.Cutting.{WasCut}
-use Rattle.journal.specs.HistoryLaws.{IsOf, WholeLaw, HistoryLaw}
+use Rattle.journal.specs.Log.{Log, HoldsRest}
+use Rattle.journal.specs.HistoryLaws.{WholeLaw, HistoryLaw}
 use Rattle.journal.proofs.Journals.WellFormed.{well_formed_front}
 use Rattle.journal.proofs.Bases.Uncut.{uncut_base}
 use Rattle.journal.proofs.Bases.Cutting.{base_after}

@@ -1,8 +1,5 @@
 -- When a waiting processor may go on, and what else keeps a journal well formed.
-use Rattle.std.proofs.Common.{
-    ◌≡◌, ℕ, ◌<◌, ◌↔◌, List, [], ◌∷◌, ◌++◌, length, false, IsTrue, Some, None, subst, sym, refl, ap, ◌∙◌, append_assoc,
-    append-nil
-}
+use Rattle.std.proofs.Common.{◌≡◌, ℕ, ◌<◌, ◌↔◌, List, [], ◌∷◌, ◌++◌, length, false, IsTrue, Some, None, subst, sym, refl, ap, append_assoc, append-nil}
 use Rattle.std.proofs.lemmas.Option.{same_Some}
 use Rattle.journal.specs.declared.event.Event.{Event}
 use Rattle.journal.specs.declared.event.Kind.{Kind}
@@ -24,12 +21,6 @@ awaited_answers (Ask l) k h = sym (same_Some (Acquire l) k h)
 awaited_answers Arrive k h = sym (same_Some Depart k h)
 awaited_answers (Watch f) k h = sym (same_Some (Await f) k h)
 awaited_answers _ k h = tt
-
-pub answers_awaited : (a b k : Kind) → awaited a ≡ Some b → Answers a k → k ≡ b
-answers_awaited (Ask l) b k h x = x ∙ same_Some (Acquire l) b h
-answers_awaited Arrive b k h x = x ∙ same_Some Depart b h
-answers_awaited (Watch f) b k h x = x ∙ same_Some (Await f) b h
-answers_awaited _ b k h x = cc
 
 -- after a call that doesn't wait comes anything
 pub idle_answers : (a k : Kind) → awaited a ≡ None → Answers a k
@@ -53,12 +44,6 @@ waits_for s j p (Acquire l) h a = record { place = a.0; call = Ask l; last = a.1
 waits_for s j p Depart h a = record { place = a.0; call = Arrive; last = a.1; awaits = refl; in_range = λ r. tt }
 waits_for s j p (Await f) h a = record { place = a.0; call = Watch f; last = a.3; awaits = refl; in_range = λ r. r }
 waits_for s j p _ h a = absurd cc
-
--- a processor waits for one thing
-pub waits_for_one : (s : Sizes) (j : List Event) (p : ℕ) (k m : Kind) → WaitsFor s j p k → WaitsFor s j p m → k ≡ m
-waits_for_one s j p k m x y =
-    let is = (last_unique j p x.place y.place x.call y.call x.last y.last).1 in
-    same_Some k m (sym x.awaits ∙ ap (λ a. awaited a) is ∙ y.awaits)
 
 -- what a processor is allowed to take may follow
 pub taking_follows : (s : Sizes) (j : List Event) (p : ℕ) (k : Kind) → WellFormed s j → IsTrue (is_taking k)

@@ -16,19 +16,10 @@ use Rattle.journal.specs.Copies.{InGap, HasCount, StoredInGap, GapCounts}
 use Rattle.journal.specs.Blocks.{IsBlock}
 use Rattle.journal.specs.Counted.{AreCounted, BlockCounts}
 use Rattle.lists.proofs.Places.{push_cases, push_induction}
-use Rattle.lists.proofs.Once.{once_same}
 use Rattle.journal.proofs.Order.Places.{at_within, at_longer, at_shorter, at_last}
 use Rattle.journal.proofs.Order.BlockPasts.{block_front, block_last}
 use Rattle.journal.proofs.Copies.Complete.{gap_block}
 use Rattle.journal.proofs.Missing.Gaps.{gap_others, stored_on}
-
--- two counts of the same values are equal
-pub count_same : {A : Type 0} {values : A → Type 0} {n m : ℕ} → HasCount values n → HasCount values m → n ≡ m
-count_same c d =
-    sym c.length_is
-        ∙ once_same c.list d.list c.once d.once
-            (λ x. (λ h. (d.each x).1 ((c.each x).0 h), λ h. (c.each x).1 ((d.each x).0 h)))
-        ∙ d.length_is
 
 -- a count of other values that are the same
 pub count_of_same : {A : Type 0} (values others : A → Type 0) (n : ℕ) → ((x : A) → values x ↔ others x)

@@ -3,7 +3,7 @@ use Rattle.std.proofs.Common.{
     ℕ, ◌≡◌, ◌≢◌, ◌<◌, ◌≤◌, ◌⊎◌, ◌↔◌, ◌/◌, inl, inr, List, [], ◌∷◌, ◌++◌, true, length, arith, refl, sym, ap, subst,
     ◌∙◌, true≢false, le_of_lt
 }
-use Rattle.std.proofs.lemmas.Bool.{cases_eq, cases_lt, cases_order}
+use Rattle.std.proofs.lemmas.Bool.{cases_eq, cases_lt}
 use Rattle.journal.specs.declared.event.Event.{Event}
 use Rattle.journal.specs.declared.event.Kind.{Kind}
 use Rattle.journal.specs.declared.event.Kind.TheVariants.{Store, Fetch}
@@ -13,17 +13,16 @@ use Rattle.journal.specs.Events.{At, is_closing, is_taking, interval_at}
 use Rattle.journal.specs.Order.{HappensBefore}
 use Rattle.journal.specs.WellFormed.{Does}
 use Rattle.journal.specs.Pasts.{UpTo, InPast}
-use Rattle.journal.specs.Times.{ClosesAt, IsTimeOf, IsTimeAt}
+use Rattle.journal.specs.Times.{ClosesAt, IsTimeOf}
 use Rattle.journal.specs.Intervals.{ClosedAt}
 use Rattle.journal.specs.Copies.{StoresTo, Fetches, Mine, InGap, StoredInGap}
 use Rattle.journal.specs.Brought.{Brought}
 use Rattle.lists.proofs.Places.{append_cases, push_cases}
 use Rattle.journal.proofs.Order.Places.{at_within, at_longer, at_shorter, at_same, does_same, count_of-front}
-use Rattle.journal.proofs.Order.HappensBefore.{transitive, shorter}
+use Rattle.journal.proofs.Order.HappensBefore.{shorter}
 use Rattle.journal.proofs.Order.Pasts.{up_to_back, past_within, past_longer, own_in_past, others}
 use Rattle.journal.proofs.Times.Leaving.{LeavesAt, leaving_at, own_order}
 use Rattle.journal.proofs.Times.Pushes.{covered}
-use Rattle.journal.proofs.Times.Uses.{ordered_by_time}
 use Rattle.journal.proofs.Copies.Stores.{stores_to, stores_within, stores_longer, stores_shorter}
 use Rattle.journal.proofs.Copies.Brought.{brought_longer, brought_past, brought_push, gap_is}
 use Rattle.journal.proofs.Times.Closing.{closes_first, closed_past}
@@ -36,45 +35,6 @@ not_mine j p q i a does apart m = apart (ap (λ (e : Event). e.processor) (at_sa
 -- a store in the gap is another processor's
 pub gap_apart : (s : Sizes) (j : List Event) (p n q i a v : ℕ) → InGap s j p n i → Does j i q (Store a v) → q ≢ p
 gap_apart s j p n q i a v g does mine = g.others (event q (Store a v), does, mine)
-
--- while p has not fetched the page, the gap is what p's timestamp counts
-pub gap_unfetched : (s : Sizes) (j : List Event) (p n q i a v : ℕ) (t : ℕ → ℕ) → IsTimeOf j p t
-    → ((m : ℕ) → ¬ Fetches j m p n) → Does j i q (Store a v) → a / s.words ≡ n → q ≢ p
-    → InGap s j p n i ↔ (interval_at j q i < t q)
-gap_unfetched s j p n q i a v t time none does page apart = (
-  λ g. (covered j p q i (Store a v) t time does apart).0 g.past,
-  λ less. record { store = stores_to s j n i q a v does page; others = not_mine j p q i (Store a v) does apart;
-          past = (covered j p q i (Store a v) t time does apart).1 less; new = λ m f. absurd (none m f) },
-)
-
--- and after p's last fetch of it, what lies between that fetch's timestamp and p's
-pub gap_between : (s : Sizes) (j : List Event) (p n q i a v f : ℕ) (t u : ℕ → ℕ) → IsTimeOf j p t → IsTimeAt j f u
-    → Fetches j f p n → ((m : ℕ) → Fetches j m p n → m ≤ f) → Does j i q (Store a v) → a / s.words ≡ n → q ≢ p
-    → InGap s j p n i ↔ ((u q ≤ interval_at j q i) × (interval_at j q i < t q))
-gap_between s j p n q i a v f t u time before fetch last does page apart = (
-  λ g. (elim (cases_lt (interval_at j q i) (u q))
-          [ inl less ↦ absurd (g.new f fetch (at_fetch.1 less)) | inr le ↦ le ], past.0 g.past),
-  λ x. record { store = stores_to s j n i q a v does page; others = not_mine j p q i (Store a v) does apart;
-          past = past.1 x.1; new = λ m other h. late x.0 (at_fetch.0 (on m other (cases_order m f) h)) },
-)
-  where
-    kind : Kind
-    kind = Fetch fetch.0 n fetch.1 fetch.2
-
-    past : InPast j p i ↔ (interval_at j q i < t q)
-    past = covered j p q i (Store a v) t time does apart
-
-    at_fetch : HappensBefore j i f ↔ (interval_at j q i < u q)
-    at_fetch = ordered_by_time j f p q i (Store a v) kind u before does fetch.3 apart
-
-    late : u q ≤ interval_at j q i → interval_at j q i < u q → ⊥
-    late le less = omega arith
-
-    on : (m : ℕ) → Fetches j m p n → (m ≡ f) ⊎ ((m < f) ⊎ (f < m)) → HappensBefore j i m → HappensBefore j i f
-    on m other (inl e) h = subst (HappensBefore j i) e h
-    on m other (inr (inl less)) h =
-        transitive j h (own_order j p m f (Fetch other.0 n other.1 other.2) kind other.3 fetch.3 less)
-    on m other (inr (inr less)) h = let le = last m other in absurd (omega arith)
 
 -- others' events leave the gap
 pub gap_others : (s : Sizes) (j es : List Event) (p n i : ℕ) → ((k : ℕ) (e : Event) → At es k e → e.processor ≢ p)

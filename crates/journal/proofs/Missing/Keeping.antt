@@ -32,12 +32,6 @@ none_missing s j p n none =
     record { each = λ q k. (λ x. absurd (has-nil x.0 x.1), λ x. absurd (none x.1.0 x.1.3));
             placed = λ x h. absurd (has-nil x h); contents = λ x h. absurd (has-nil x h) }
 
--- and there is no gap where nothing is missing
-pub missing_none : (s : Sizes) (j : List Event) (p n : ℕ) → AreMissing s j p n [] → NoGap s j p n
-missing_none s j p n are i g =
-    let w = g.store in let x = (are.each w.by (interval_at j w.by i)).1 (w.address, (i, w.value, w.does, g, refl)) in
-        has-nil x.0 x.1
-
 -- and there is one where something is
 pub missing_some : (s : Sizes) (j : List Event) (p n : ℕ) (x : Missing) (missing : List Missing)
     → AreMissing s j p n (x ∷ missing) → (i : ℕ) × InGap s j p n i

@@ -1,24 +1,15 @@
 -- Intervals by their closing numbers.
-use Rattle.std.proofs.Common.{
-    ℕ, ◌≡◌, ◌+◌, ◌<◌, ◌≤◌, cond, inl, inr, List, [], ◌∷◌, ◌++◌, true, length, take, arith, sym, ap, ◌∙◌, le_of_lt
-}
+use Rattle.std.proofs.Common.{ℕ, ◌≡◌, ◌<◌, ◌≤◌, inl, inr, List, [], ◌∷◌, ◌++◌, true, length, take, arith, sym, ap, ◌∙◌, le_of_lt}
 use Rattle.std.proofs.Math.Seq.{take-append_seam}
 use Rattle.std.proofs.lemmas.Bool.{cases_lt}
 use Rattle.std.proofs.lemmas.List.{take-append-le}
 use Rattle.journal.specs.declared.event.Event.{Event}
-use Rattle.journal.specs.declared.event.Kind.{Kind}
-use Rattle.journal.specs.Did.{event, did}
+use Rattle.journal.specs.Did.{event}
 use Rattle.journal.specs.Events.{is_closing, count_of}
 use Rattle.journal.specs.Missing.{closed_count, IsPlaced}
-use Rattle.lists.proofs.Places.{count_by-append, count_by-mono}
+use Rattle.lists.proofs.Places.{count_by-mono}
 use Rattle.journal.proofs.Order.Places.{at_within, at_longer, at_last, count_of-front}
 use Rattle.journal.proofs.Times.IntervalNumbers.{same_closer}
-
--- one more event, which closes an interval or doesn't
-pub closed_count_did : (j : List Event) (p : ℕ) (k : Kind)
-    → closed_count (did j p k) ≡ closed_count j + cond (is_closing k) 1 0
-closed_count_did j p k =
-    let sum = count_by-append (λ (e : Event). is_closing e.kind) j (event p k ∷ []) in omega arith
 
 -- what comes later changes no front
 pub closed_count_front : (j es : List Event) (i : ℕ) → i ≤ length j

@@ -12,7 +12,7 @@ use Rattle.journal.specs.Order.{LetsThrough, Link, Edge, HappensBefore}
 use Rattle.journal.specs.Order.Link.{same, lets, meets}
 use Rattle.journal.specs.Order.HappensBefore.{edge, on}
 use Rattle.journal.specs.WellFormed.{Does}
-use Rattle.journal.specs.Pasts.{UpTo, InPast, UpToSome}
+use Rattle.journal.specs.Pasts.{UpTo, InPast}
 use Rattle.journal.specs.Brings.{ArrivesAt, Sources, Brings}
 use Rattle.lists.proofs.Places.{push_cases, append_cases}
 use Rattle.journal.proofs.Order.Places.{at_within, at_same, at_longer, at_shorter, at_last, count_of-front}
@@ -26,10 +26,6 @@ up_to_back j i k m h (inr g) = inr (transitive j h g)
 pub past_back : (j : List Event) (p i k : ℕ) → HappensBefore j i k → InPast j p k → InPast j p i
 past_back j p i k h x =
     record { own = x.own; event = x.event; at = x.at; mine = x.mine; reaches = up_to_back j i k x.own h x.reaches }
-
-pub some_back : (j : List Event) (some : ℕ → Type 0) (i k : ℕ) → HappensBefore j i k → UpToSome j some k
-    → UpToSome j some i
-some_back j some i k h x = (x.0, x.1, up_to_back j i k x.0 h x.2)
 
 -- what is up to the start of an edge happens before its end
 pub edge_on : (j : List Event) (i m k : ℕ) → UpTo j m i → Edge j m k → HappensBefore j i k

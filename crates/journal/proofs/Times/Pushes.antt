@@ -18,10 +18,8 @@ use Rattle.lists.proofs.Places.{push_cases}
 use Rattle.journal.proofs.Order.Places.{
     at_last, does_at, count_of-append, count_of-front, count_of-mono, count_of-past, count_of-within, numbered
 }
-use Rattle.journal.proofs.Order.Pasts.{
-    past_back, past_push, reaches_push, own_in_past, past_within, others, brings_none, up_to_back
-}
-use Rattle.journal.proofs.Times.Leaving.{LeavesAt, leaving, leaving_at, back_own}
+use Rattle.journal.proofs.Order.Pasts.{past_back, past_push, reaches_push, own_in_past, past_within, others, brings_none}
+use Rattle.journal.proofs.Times.Leaving.{LeavesAt, leaving, back_own}
 use Rattle.journal.proofs.Times.Times.{time_longer, time_equal, time_none, count_of-one}
 
 -- a processor's own entry counts its closing events
@@ -179,10 +177,3 @@ pub covered : (j : List Event) (p q i : ℕ) (a : Kind) (t : ℕ → ℕ) → Is
 covered j p q i a t time does apart =
     covered_in j (InPast j p) t q i a time (λ m n h x. past_back j p m n h x) does
         (λ x. leaving j p q i a does apart x)
-
--- and in an event's past exactly where the event's timestamp does
-pub covered_at : (j : List Event) (k p q i : ℕ) (a b : Kind) (t : ℕ → ℕ) → IsTimeAt j k t → Does j i q a
-    → Does j k p b → q ≢ p → UpTo j k i ↔ (interval_at j q i < t q)
-covered_at j k p q i a b t time does at apart =
-    covered_in j (UpTo j k) t q i a time (λ m n h x. up_to_back j m n k h x) does
-        (λ x. leaving_at j k p q i a b does at apart x)

@@ -10,14 +10,7 @@ use Rattle.journal.specs.declared.event.Kind.{Kind}
 use Rattle.journal.specs.Did.{event}
 use Rattle.journal.specs.Events.{count_of, interval_at, is_closing}
 use Rattle.journal.specs.Times.{ClosesAt, IsTimeIn}
-use Rattle.journal.proofs.Order.Places.{
-    at_longer, at_shorter, count_of-append, count_of-front, count_of-mono, numbered
-}
-
--- closing events keep their places
-pub closes_longer : (j es : List Event) (q i : ℕ) → ClosesAt j q i → ClosesAt (j ++ es) q i
-closes_longer j es q i c =
-    record { kind = c.kind; does = at_longer j es i (event q c.kind) c.does; closes = c.closes }
+use Rattle.journal.proofs.Order.Places.{at_shorter, count_of-append, count_of-front, count_of-mono, numbered}
 
 pub closes_shorter : (j es : List Event) (q i : ℕ) → i < length j → ClosesAt (j ++ es) q i → ClosesAt j q i
 closes_shorter j es q i lt c =

@@ -1,8 +1,5 @@
 -- What timestamps are for: they tell happens-before, and what is new.
-use Rattle.std.proofs.Common.{
-    ◌≡◌, ◌≢◌, ℕ, ◌<◌, ◌≤◌, inl, inr, ◌↔◌, List, [], ◌∷◌, ◌++◌, length, take, drop, false, subst, sym, ap, ◌∙◌,
-    take-append-drop, take-take, suc, arith
-}
+use Rattle.std.proofs.Common.{◌≡◌, ◌≢◌, ℕ, ◌<◌, ◌≤◌, ◌↔◌, List, [], ◌∷◌, ◌++◌, length, take, drop, false, subst, sym, ap, ◌∙◌, take-append-drop, take-take, suc, arith}
 use Rattle.std.proofs.lemmas.List.{length-take-le}
 use Rattle.journal.specs.declared.event.Event.{Event}
 use Rattle.journal.specs.declared.event.Kind.{Kind}
@@ -10,24 +7,13 @@ use Rattle.journal.specs.Did.{event}
 use Rattle.journal.specs.Events.{count_of, interval_at, is_closing, is_taking}
 use Rattle.journal.specs.Order.{HappensBefore}
 use Rattle.journal.specs.WellFormed.{Does}
-use Rattle.journal.specs.Pasts.{UpTo, InPast}
-use Rattle.journal.specs.Times.{IsTimeOf, IsTimeAt}
+use Rattle.journal.specs.Pasts.{InPast}
+use Rattle.journal.specs.Times.{IsTimeOf}
 use Rattle.lists.proofs.Places.{slice_get-take, take-suc_at}
-use Rattle.journal.proofs.Order.Places.{at_within, at_last, does_same}
+use Rattle.journal.proofs.Order.Places.{at_within, at_last}
 use Rattle.journal.proofs.Order.HappensBefore.{extension}
 use Rattle.journal.proofs.Order.Pasts.{reaches_new}
-use Rattle.journal.proofs.Times.Pushes.{covered, covered_at}
-
--- an event happens before another processor's exactly where that one's timestamp counts its interval
-pub ordered_by_time : (j : List Event) (k p q i : ℕ) (a b : Kind) (t : ℕ → ℕ) → IsTimeAt j k t → Does j i q a
-    → Does j k p b → q ≢ p → HappensBefore j i k ↔ (interval_at j q i < t q)
-ordered_by_time j k p q i a b t time does at apart =
-    ((λ h. (covered_at j k p q i a b t time does at apart).0 (inr h)),
-            (λ lt. later ((covered_at j k p q i a b t time does at apart).1 lt)))
-  where
-    later : UpTo j k i → HappensBefore j i k
-    later (inl is) = absurd (apart (does_same j k q p a b (subst (λ m. Does j m q a) is does) at).0)
-    later (inr h) = h
+use Rattle.journal.proofs.Times.Pushes.{covered}
 
 -- what happens before an event that takes nothing is the past that its processor had
 pub reaches_at : (j : List Event) (k p i : ℕ) (b : Kind) → Does j k p b → is_taking b ≡ false

@@ -1,8 +1,5 @@
 -- Looking for the first section with another number of barriers.
-use Rattle.std.proofs.Common.{
-    ◌≡◌, ◌≢◌, ℕ, suc, ◌+◌, ◌*◌, ◌<◌, ◌≤◌, List, [], ◌∷◌, ◌++◌, length, map, take, get_or, refl, sym, ap, subst, ◌∙◌,
-    below_more, arith
-}
+use Rattle.std.proofs.Common.{◌≡◌, ℕ, suc, ◌+◌, ◌*◌, ◌<◌, ◌≤◌, List, [], ◌∷◌, ◌++◌, length, map, take, get_or, sym, ap, subst, ◌∙◌, below_more, arith}
 use Rattle.std.specs.Prelude.{All, Some, slice_get}
 use Rattle.std.specs.Global.{Vec}
 use Rattle.std.proofs.lemmas.List.{take_more, length-map, length-append, get_or-map, get_or_default}
@@ -10,7 +7,6 @@ use Rattle.lrc_script.specs.declared.script.Instruction.{Instruction}
 use Rattle.lrc_script.specs.Plan.{Plan, items_of}
 use Rattle.lrc_script.specs.Lawful.{barriers, IsEven}
 use Rattle.lrc_script.specs.Text.{Line, section_line, instruction_line, section_lines}
-use Rattle.lrc_script.specs.Faults.{IsUneven}
 use Rattle.lrc_script.proofs.Text.{section_lines-append}
 
 -- the first sections have as many barriers, and the next one's head is this line
@@ -18,10 +14,6 @@ pub record IsAlike (sections : List (Vec Instruction)) (count expected line : �
   pub same : (k : ℕ) → k < count → barriers (get_or (items_of sections) k []) ≡ expected
   pub line_is : line ≡ suc (suc (length (section_lines 0 (take count (items_of sections)))))
   pub small : line ≤ 2 + 10001 * count
-
-pub alike_none : (sections : List (Vec Instruction)) (expected : ℕ) → IsAlike sections 0 expected 2
-alike_none sections expected =
-    record { same = λ k lt. absurd (omega (arith, lt)); line_is = refl; small = omega arith }
 
 section_lines-one : (k : ℕ) (is : List Instruction) → length (section_lines k (is ∷ [])) ≡ suc (length is)
 section_lines-one k is =
@@ -65,28 +57,6 @@ alike_all s sections count expected line e h all first = λ k d lt.
             in
     ap barriers (get_or_default s.sections k d [] lt)
         ∙ ap (λ (xs : List (List Instruction)). barriers (get_or xs k [])) e ∙ same ∙ first
-
-pub alike_differs : (s : Plan) (sections : List (Vec Instruction)) (count expected line : ℕ)
-        (section : Vec Instruction)
-    → s.sections ≡ items_of sections → IsAlike sections count expected line → count < length sections
-    → section ≡ get_or sections count section → expected ≡ barriers (get_or s.sections 0 [])
-    → barriers section.items ≢ expected → IsUneven s line
-alike_differs s sections count expected line section e h lt read first other =
-    let here : get_or s.sections count [] ≡ section.items =
-        ap (λ (xs : List (List Instruction)). get_or xs count []) e
-            ∙ get_or-map (λ section. section.items) sections count section [] lt
-            ∙ ap (λ (v : Vec Instruction). v.items) (sym read) in
-    record {
-      section = count;
-      within =
-          omega (arith, lt, ap (λ (xs : List (List Instruction)). length xs) e, length-map sections
-                  (λ (section : Vec Instruction). section.items));
-      differs = λ same. other (sym (ap barriers here) ∙ same ∙ sym first);
-      first = λ k below. ap (λ (xs : List (List Instruction)). barriers (get_or xs k [])) e ∙ h.same k below ∙ first;
-      line =
-          h.line_is
-              ∙ ap (λ (xs : List (List Instruction)). suc (suc (length (section_lines 0 (take count xs))))) (sym e);
-    }
 
 pub first_barriers : (sections : List (Vec Instruction)) (first : Vec Instruction) → Some first ≡ slice_get sections 0
     → barriers first.items ≡ barriers (get_or (items_of sections) 0 [])

@@ -1,6 +1,4 @@
-use Rattle.std.proofs.Common.{
-    List, ◌≡◌, ◌≤◌, ◌<◌, ◌+◌, ◌∷◌, [], ◌++◌, length, take, drop, vec_len, subst, sym, ap, length-drop, arith
-}
+use Rattle.std.proofs.Common.{List, ◌≡◌, ◌≤◌, ◌<◌, ◌∷◌, [], ◌++◌, length, take, subst, sym, ap, length-drop, arith}
 use Rattle.journal.specs.declared.event.Event.{Event}
 use Rattle.journal.specs.Log.{Log}
 use Rattle.journal.specs.InRange.{AddressInRange, AddressesInRange, ProcessorsInRange}

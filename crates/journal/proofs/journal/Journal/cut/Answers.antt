@@ -1,15 +1,11 @@
-use Rattle.std.proofs.Common.{
-    ◌≡◌, ℕ, ◌+◌, ◌≤◌, List, Option, MatchOption, length, take, drop, subst, sym, ap, ◌∙◌, arith
-}
-use Rattle.lists.specs.Limits.{most_cut}
+use Rattle.std.proofs.Common.{◌≡◌, List, length, take, drop, subst, sym, ap, ◌∙◌, arith}
 use Rattle.journal.specs.declared.event.Event.{Event}
 use Rattle.journal.specs.Log.{Log}
 use Rattle.journal.specs.InRange.{AddressesInRange, ProcessorsInRange}
 use Rattle.journal.specs.Opening.{IsOpening}
-use Rattle.journal.specs.Cuts.{IsCut, NoCut, IsBaseAfter}
+use Rattle.journal.specs.Cuts.{IsCut, IsBaseAfter}
 use Rattle.journal.specs.Kept.{base_of, IsKept}
 use Rattle.journal.specs.Holding.{log_of}
-use Rattle.journal.specs.Cutting.{WasCut}
 use Rattle.journal.proofs.Journals.Held.{addresses_part, processors_cut, addresses_cut, opening_cut, events_cut}
 use Rattle.journal.proofs.journal.Journal.cut.Goals as goal
 
