@@ -1,5 +1,8 @@
 -- An episode is full exactly where as many are here as there are processors.
-use Rattle.std.proofs.Common.{ℕ, ◌≡◌, ◌+◌, ◌↔◌, true, cond, nat_eq, inl, inr, Some, List, [], ◌∷◌, ◌++◌, length, set, drop, replicate, count_by, slice_get, refl, sym, ap, ◌∙◌, arith}
+use Rattle.std.proofs.Common.{
+    ℕ, ◌≡◌, ◌+◌, ◌↔◌, true, cond, nat_eq, inl, inr, Some, List, [], ◌∷◌, ◌++◌, length, set, drop, replicate, count_by,
+    slice_get, refl, sym, ap, ◌∙◌, arith
+}
 use Rattle.std.specs.List.{list_all, refill}
 use Rattle.std.proofs.lemmas.Bool.{false≢true, cases_Bool, both_ways, eq-eqb, ne_eqb}
 use Rattle.std.proofs.lemmas.List.{length-set, length_push, take_at}
@@ -16,27 +19,33 @@ one_here stage = cond (is_here stage) 1 0
 
 pub all_counted : (stages : List Stage) → list_all is_here stages ≡ true → count_by is_here stages ≡ length stages
 all_counted [] all = refl
-all_counted (Here ∷ stages) all = let rest = all_counted stages all in let e = sum_by-cons one_here Here stages in omega arith
+all_counted (Here ∷ stages) all =
+    let rest = all_counted stages all in let e = sum_by-cons one_here Here stages in omega arith
 all_counted (Away ∷ stages) all = absurd (false≢true all)
 all_counted (Free ∷ stages) all = absurd (false≢true all)
 
 pub counted_all : (stages : List Stage) → count_by is_here stages ≡ length stages → list_all is_here stages ≡ true
 counted_all [] full = refl
 counted_all (Here ∷ stages) full = counted_all stages (let e = sum_by-cons one_here Here stages in omega arith)
-counted_all (Away ∷ stages) full = let most = count_by-le-length is_here stages in let e = sum_by-cons one_here Away stages in absurd (omega arith)
-counted_all (Free ∷ stages) full = let most = count_by-le-length is_here stages in let e = sum_by-cons one_here Free stages in absurd (omega arith)
+counted_all (Away ∷ stages) full =
+    let most = count_by-le-length is_here stages in let e = sum_by-cons one_here Away stages in absurd (omega arith)
+counted_all (Free ∷ stages) full =
+    let most = count_by-le-length is_here stages in let e = sum_by-cons one_here Free stages in absurd (omega arith)
 
 -- the arrival of one who was away is the last exactly where all others are here
-pub last_arrival : (stages : List Stage) (p : ℕ) → slice_get stages p ≡ Some Away → (list_all is_here (set stages p Here) ≡ true) ↔ (count_by is_here stages + 1 ≡ length stages)
+pub last_arrival : (stages : List Stage) (p : ℕ) → slice_get stages p ≡ Some Away
+    → (list_all is_here (set stages p Here) ≡ true) ↔ (count_by is_here stages + 1 ≡ length stages)
 last_arrival stages p away =
     let within = slice_get_within stages p Away away in
     let more = sum_by-set one_here stages p Here Here within in
     let was = ap one_here (get_or_from_slice_get stages p Away Here away) in
     let long = length-set stages p Here in
-    (λ all. let full = all_counted (set stages p Here) all in omega arith, λ count. counted_all (set stages p Here) (omega arith))
+    (λ all. let full = all_counted (set stages p Here) all in
+            omega arith, λ count. counted_all (set stages p Here) (omega arith))
 
 -- the test of the count is the test of all, once p is here
-pub last_arrival_test : (stages : List Stage) (p n m : ℕ) → slice_get stages p ≡ Some Away → n ≡ count_by is_here stages → m ≡ length stages
+pub last_arrival_test : (stages : List Stage) (p n m : ℕ) → slice_get stages p ≡ Some Away
+    → n ≡ count_by is_here stages → m ≡ length stages
     → nat_eq (n + 1) m ≡ list_all is_here (set stages p Here)
 last_arrival_test stages p n m away count long =
     let law = last_arrival stages p away in
@@ -46,13 +55,16 @@ last_arrival_test stages p n m away count long =
     ]
 
 -- a slice that is written back with another stage of p
-pub read_set : (p : ℕ) (stage : Stage) (stages read old : List Stage) → read ≡ stages → stages ≡ old → refill (length stages) stages (set read p stage) ≡ set old p stage
+pub read_set : (p : ℕ) (stage : Stage) (stages read old : List Stage) → read ≡ stages → stages ≡ old
+    → refill (length stages) stages (set read p stage) ≡ set old p stage
 read_set p stage stages read old same is =
-    take_at (set read p stage) (drop (length (set read p stage)) stages) (length stages) (length-set read p stage ∙ ap (λ (ss : List Stage). length ss) same)
+    take_at (set read p stage) (drop (length (set read p stage)) stages) (length stages)
+        (length-set read p stage ∙ ap (λ (ss : List Stage). length ss) same)
     ∙ ap (λ (ss : List Stage). set ss p stage) (same ∙ is)
 
 -- an arrival is gathered
-pub gathered-more : (b : Episodes) (p : ℕ) (time : List ℕ) (times : List (List ℕ)) → slice_get b.stages p ≡ Some Away → HasGathered b times → HasGathered (joined b p time) (times ++ time ∷ [])
+pub gathered-more : (b : Episodes) (p : ℕ) (time : List ℕ) (times : List (List ℕ)) → slice_get b.stages p ≡ Some Away
+    → HasGathered b times → HasGathered (joined b p time) (times ++ time ∷ [])
 gathered-more b p time times away has =
     let within = slice_get_within b.stages p Away away in
     let more = sum_by-set one_here b.stages p Here Here within in
@@ -60,12 +72,15 @@ gathered-more b p time times away has =
     let long = length-set b.stages p Here in
     let n = length b.stages in
     record {
-      joined_are = ap (λ (t : List ℕ). join t time) has.joined_are ∙ sym (fold_push join (replicate n 0) times time) ∙ ap (λ (m : ℕ). joins m (times ++ time ∷ [])) (sym long);
+      joined_are =
+          ap (λ (t : List ℕ). join t time) has.joined_are ∙ sym (fold_push join (replicate n 0) times time)
+              ∙ ap (λ (m : ℕ). joins m (times ++ time ∷ [])) (sym long);
       count_is = let count = has.count_is in let one = length_push times time in omega arith;
     }
 
 -- a departure gathers nothing
-pub gathered-departed : (b : Episodes) (p : ℕ) (times : List (List ℕ)) → slice_get b.stages p ≡ Some Free → HasGathered b times → HasGathered (departed b p) times
+pub gathered-departed : (b : Episodes) (p : ℕ) (times : List (List ℕ)) → slice_get b.stages p ≡ Some Free
+    → HasGathered b times → HasGathered (departed b p) times
 gathered-departed b p times free has =
     let within = slice_get_within b.stages p Free free in
     let more = sum_by-set one_here b.stages p Away Away within in

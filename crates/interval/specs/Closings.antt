@@ -1,5 +1,8 @@
 -- The closed intervals that are kept, as one list in closing order.
-use Rattle.std.specs.Prelude.{ℕ, ◌+◌, ◌==◌, ◌&&◌, nat_lt, nat_le, not, min, max, Bool, Option, List, [], ◌∷◌, ◌++◌, map, filter, find, slice_index, slice_set}
+use Rattle.std.specs.Prelude.{
+    ℕ, ◌+◌, ◌==◌, ◌&&◌, nat_lt, nat_le, not, min, max, Bool, Option, List, [], ◌∷◌, ◌++◌, map, filter, find,
+    slice_index, slice_set
+}
 use Rattle.std.specs.List.{flat_map}
 use Rattle.std.specs.Option.{option_and_then}
 use Rattle.page.specs.Changes.{Changes}
@@ -40,7 +43,8 @@ trimmed c owner to = record {
 -- the timestamp `new` covers the interval and `old` doesn't
 abbrev pub is_news : List ℕ → List ℕ → Kept → Bool
 is_news old new k =
-    nat_le (slice_index old k.interval.owner) k.interval.number && nat_lt k.interval.number (slice_index new k.interval.owner)
+    nat_le (slice_index old k.interval.owner) k.interval.number && nat_lt k.interval.number
+        (slice_index new k.interval.owner)
 
 -- a record of the interval, under its notice
 abbrev pub sent_record : Kept → Changes → SentRecord

@@ -15,8 +15,10 @@ pages_of ks = flat_map (λ (k : Kept). pages_of_records k.interval.records) ks
 -- each count has grown by how often its page is among these
 pub record AreCounted (base : ℕ) (pages old new : List ℕ) : Type 0 where
   pub long : length new ≡ length old
-  pub each : (i : ℕ) → i < length old → slice_index new i ≡ slice_index old i + count_by (λ (p : ℕ). p == base + i) pages
+  pub each : (i : ℕ) → i < length old
+      → slice_index new i ≡ slice_index old i + count_by (λ (p : ℕ). p == base + i) pages
 
 -- no count passes the greatest number when these pages are counted too
 abbrev pub HasRoom : ℕ → List ℕ → List ℕ → Type 0
-HasRoom base pages counts = (i : ℕ) → i < length counts → slice_index counts i + count_by (λ (p : ℕ). p == base + i) pages < 2 ^ 64
+HasRoom base pages counts =
+    (i : ℕ) → i < length counts → slice_index counts i + count_by (λ (p : ℕ). p == base + i) pages < 2 ^ 64

@@ -5,6 +5,5 @@ pub mod Leaving
 pub mod Closing
 pub mod IntervalNumbers
 pub mod Kept
-pub mod Brings
 pub mod Uses
 pub mod Blocks

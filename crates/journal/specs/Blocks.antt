@@ -31,7 +31,8 @@ pub record OpenLawful (s : Sizes) (j block : List Event) (p n : ℕ) (page : Lis
 -- each load of the block answers the word of its page, which is lawful, after the block's earlier stores
 pub record BlockAnswers (s : Sizes) (j block : List Event) (p : ℕ) (base : ℕ → List ℕ) : Type 0 where
   pub lawful : (k a v : ℕ) → Does block k p (Load a v) → Lawful s j p (a / s.words) (base (a / s.words))
-  pub answers : (k a v : ℕ) → Does block k p (Load a v) → slice_get (block_done s (a / s.words) (base (a / s.words)) (take k block)) (a % s.words) ≡ Some v
+  pub answers : (k a v : ℕ) → Does block k p (Load a v)
+      → slice_get (block_done s (a / s.words) (base (a / s.words)) (take k block)) (a % s.words) ≡ Some v
 
 -- these pages, with another one at n
 abbrev pub with_page : ℕ → List ℕ → (ℕ → List ℕ) → ℕ → List ℕ

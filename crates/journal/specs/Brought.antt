@@ -13,7 +13,8 @@ Brought j p n i = Mine j p i ⊎ ((k : ℕ) × Fetches j k p n × HappensBefore 
 -- p's copy of page n has what was brought, and with each store of it those that happen before it
 pub record IsCopy (s : Sizes) (j : List Event) (p n : ℕ) (page : List ℕ) : Type 0 where
   pub image : IsImage s j (Brought j p n) n page
-  pub closed : (i k : ℕ) → StoresTo s j n i → StoresTo s j n k → Brought j p n i → HappensBefore j k i → Brought j p n k
+  pub closed : (i k : ℕ) → StoresTo s j n i → StoresTo s j n k → Brought j p n i → HappensBefore j k i
+      → Brought j p n k
 
 -- the copy lacks nothing
 abbrev pub NoGap : Sizes → List Event → ℕ → ℕ → Type 0

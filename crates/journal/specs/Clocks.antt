@@ -21,9 +21,15 @@ brought_entry c p _ q = 0
 
 -- what locks, flags and episodes keep, after an event of p of this kind that left p at this timestamp
 abbrev pub Keeps : Clocks → BTreeMap ℕ (List ℕ) → BTreeMap ℕ (List ℕ) → List (List ℕ) → ℕ → (ℕ → ℕ) → Kind → Type 0
-Keeps c locks flags episodes p own (Release l) = IsJoinedAt (kept_entry c.locks) (kept_entry locks) l own × (flags ≡ c.flags) × (episodes ≡ c.episodes.items)
-Keeps c locks flags episodes p own (Set f) = (locks ≡ c.locks) × IsJoinedAt (kept_entry c.flags) (kept_entry flags) f own × (episodes ≡ c.episodes.items)
-Keeps c locks flags episodes p own Arrive = (locks ≡ c.locks) × (flags ≡ c.flags) × (c.gone ≤ slice_index c.arrivals p → IsJoinedAt (entry c.episodes.items) (entry episodes) (slice_index c.arrivals p - c.gone) own) × (slice_index c.arrivals p < c.gone → episodes ≡ c.episodes.items)
+Keeps c locks flags episodes p own (Release l) =
+    IsJoinedAt (kept_entry c.locks) (kept_entry locks) l own × (flags ≡ c.flags) × (episodes ≡ c.episodes.items)
+Keeps c locks flags episodes p own (Set f) =
+    (locks ≡ c.locks) × IsJoinedAt (kept_entry c.flags) (kept_entry flags) f own × (episodes ≡ c.episodes.items)
+Keeps c locks flags episodes p own Arrive =
+    (locks ≡ c.locks) × (flags ≡ c.flags)
+        × (c.gone ≤ slice_index c.arrivals p
+                → IsJoinedAt (entry c.episodes.items) (entry episodes) (slice_index c.arrivals p - c.gone) own)
+        × (slice_index c.arrivals p < c.gone → episodes ≡ c.episodes.items)
 Keeps c locks flags episodes p own _ = (locks ≡ c.locks) × (flags ≡ c.flags) × (episodes ≡ c.episodes.items)
 
 -- the timestamps of the processors, locks, flags and episodes, and the counts of arrivals and departures, are those of the journal
@@ -33,7 +39,8 @@ pub record AreClocks (j : List Event) (c : Clocks) : Type 0 where
   pub times : (p : ℕ) → p < 16 → IsTimeOf j p (entry c.processors.items p)
   pub locks : (l : ℕ) → IsTimeIn j (UpToSome j (SomeDoes j (Release l))) (kept_entry c.locks l)
   pub flags : (f : ℕ) → IsTimeIn j (UpToSome j (SomeDoes j (Set f))) (kept_entry c.flags f)
-  pub episodes : (n : ℕ) → c.gone ≤ n → IsTimeIn j (UpToSome j (SomeArrives j n)) (entry c.episodes.items (n - c.gone))
+  pub episodes : (n : ℕ) → c.gone ≤ n
+      → IsTimeIn j (UpToSome j (SomeArrives j n)) (entry c.episodes.items (n - c.gone))
   pub left : (p : ℕ) → p < c.present → c.gone ≤ slice_index c.departures p
   pub arrivals : (p : ℕ) → p < 16 → slice_index c.arrivals p ≡ count_of is_arrive j p
   pub departures : (p : ℕ) → p < 16 → slice_index c.departures p ≡ count_of is_depart j p

@@ -8,9 +8,13 @@ use Rattle.journal.specs.Copies.{GapCounts}
 
 -- each fetch counts its gap
 abbrev pub AreCounted : Sizes → List Event → Type 0
-AreCounted s j = (k p n writers records words : ℕ) → Does j k p (Fetch writers n records words) → GapCounts s (take k j) p n writers records words
+AreCounted s j =
+    (k p n writers records words : ℕ) → Does j k p (Fetch writers n records words)
+        → GapCounts s (take k j) p n writers records words
 
 -- each fetch of p's open block counts the gap before the block, and is the block's first of its page
 pub record BlockCounts (s : Sizes) (j block : List Event) (p : ℕ) : Type 0 where
-  pub counts : (k n writers records words : ℕ) → Does block k p (Fetch writers n records words) → GapCounts s j p n writers records words
-  pub first : (i k n w r d w' r' d' : ℕ) → i < k → Does block k p (Fetch w n r d) → ¬ Does block i p (Fetch w' n r' d')
+  pub counts : (k n writers records words : ℕ) → Does block k p (Fetch writers n records words)
+      → GapCounts s j p n writers records words
+  pub first : (i k n w r d w' r' d' : ℕ) → i < k → Does block k p (Fetch w n r d)
+      → ¬ Does block i p (Fetch w' n r' d')

@@ -1,5 +1,5 @@
 -- A cut leaves the history as it was.
-use Rattle.std.specs.Prelude.{ℕ, ◌≡◌, List, [], ◌++◌, take}
+use Rattle.std.specs.Prelude.{◌≡◌, List, [], ◌++◌, take}
 use Rattle.journal.specs.declared.event.Event.{Event}
 use Rattle.journal.specs.Sizes.{Sizes, addresses}
 use Rattle.journal.specs.WellFormed.{WellFormed}

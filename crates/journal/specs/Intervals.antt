@@ -13,4 +13,5 @@ pub record ClosedAt (j : List Event) (i c : ℕ) : Type 0 where
   pub mine : closer.processor ≡ event.processor
   pub open_at : is_closing event.kind ≢ true
   pub closes : is_closing closer.kind ≡ true
-  pub none_between : (m : ℕ) (f : Event) → i < m → m < c → At j m f → f.processor ≡ event.processor → is_closing f.kind ≢ true
+  pub none_between : (m : ℕ) (f : Event) → i < m → m < c → At j m f → f.processor ≡ event.processor
+      → is_closing f.kind ≢ true

@@ -15,7 +15,8 @@ pub record Log : Type 0 where
 
 -- an empty journal, of which nothing was cut off
 abbrev pub new_log : ℕ → ℕ → Log
-new_log processors addresses = record { processors = processors; addresses = addresses; events = []; room = 0; base = no_base addresses }
+new_log processors addresses =
+    record { processors = processors; addresses = addresses; events = []; room = 0; base = no_base addresses }
 
 -- the journal holds this history, of which nothing was cut off
 pub record HoldsHistory (log : Log) (h : List Event) : Type 0 where

@@ -40,12 +40,15 @@ InClosingOrder missing = InOrder (λ (x y : Missing). x.place < y.place) missing
 
 -- these are the intervals that store in the gap, with what they come to
 pub record AreMissing (s : Sizes) (j : List Event) (p n : ℕ) (missing : List Missing) : Type 0 where
-  pub each : (q k : ℕ) → ((x : Missing) × Has missing x × (x.owner ≡ q) × (x.number ≡ k)) ↔ ((a : ℕ) × StoredInGap s j p n (q, k, a))
+  pub each : (q k : ℕ)
+      → ((x : Missing) × Has missing x × (x.owner ≡ q) × (x.number ≡ k)) ↔ ((a : ℕ) × StoredInGap s j p n (q, k, a))
   pub placed : (x : Missing) → Has missing x → IsPlaced j x.owner x.number x.place
   pub contents : (x : Missing) → Has missing x → IsContent s j x.owner x.number n x.words
 
 -- these are others' intervals that store in the page and that the time t' counts and t doesn't
 pub record AreNews (s : Sizes) (j : List Event) (p n : ℕ) (t t' : ℕ → ℕ) (new : List Missing) : Type 0 where
-  pub each : (q m : ℕ) → ((x : Missing) × Has new x × (x.owner ≡ q) × (x.number ≡ m)) ↔ ((i : ℕ) × StoresIn s j q m n i × (q ≢ p) × (t q ≤ m) × (m < t' q))
+  pub each : (q m : ℕ)
+      → ((x : Missing) × Has new x × (x.owner ≡ q) × (x.number ≡ m))
+          ↔ ((i : ℕ) × StoresIn s j q m n i × (q ≢ p) × (t q ≤ m) × (m < t' q))
   pub placed : (x : Missing) → Has new x → IsPlaced j x.owner x.number x.place
   pub contents : (x : Missing) → Has new x → IsContent s j x.owner x.number n x.words

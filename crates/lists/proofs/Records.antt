@@ -8,7 +8,8 @@ use Rattle.lists.specs.Records.{record_applied, records_applied, IsRecordOf, Are
 use Rattle.lists.proofs.LastWrites.{length-written, same_written, written-append, last_same}
 
 -- each word of a record is its own last write
-pub last_of_record : {A : Type 0} (f : A → Option (ℕ × ℕ)) (xs : List A) (words : List (ℕ × ℕ)) (o v : ℕ) → IsRecordOf f xs words → LastWrite (λ (x : ℕ × ℕ). Some x) words o v ↔ LastWrite f xs o v
+pub last_of_record : {A : Type 0} (f : A → Option (ℕ × ℕ)) (xs : List A) (words : List (ℕ × ℕ)) (o v : ℕ)
+    → IsRecordOf f xs words → LastWrite (λ (x : ℕ × ℕ). Some x) words o v ↔ LastWrite f xs o v
 last_of_record f xs words o v r = (there, back)
   where
     there : LastWrite (λ (x : ℕ × ℕ). Some x) words o v → LastWrite f xs o v
@@ -29,23 +30,34 @@ last_of_record f xs words o v r = (there, back)
         }
 
 -- last values do what all writes do
-pub record_same : {A : Type 0} (f : A → Option (ℕ × ℕ)) (page : List ℕ) (xs : List A) (words : List (ℕ × ℕ)) → IsRecordOf f xs words → record_applied page words ≡ written f page xs
-record_same f page xs words r = same_written (λ (x : ℕ × ℕ). Some x) f page words xs (λ o v. last_of_record f xs words o v r)
+pub record_same : {A : Type 0} (f : A → Option (ℕ × ℕ)) (page : List ℕ) (xs : List A) (words : List (ℕ × ℕ))
+    → IsRecordOf f xs words → record_applied page words ≡ written f page xs
+record_same f page xs words r =
+    same_written (λ (x : ℕ × ℕ). Some x) f page words xs (λ o v. last_of_record f xs words o v r)
 
 -- records in turn do what all writes of their groups do
-pub records_same : (f : ℕ → Option (ℕ × ℕ)) (page : List ℕ) {gs : List (List ℕ)} {rs : List (List (ℕ × ℕ))} → AreRecordsOf f gs rs → records_applied page rs ≡ written f page (concat gs)
+pub records_same : (f : ℕ → Option (ℕ × ℕ)) (page : List ℕ) {gs : List (List ℕ)} {rs : List (List (ℕ × ℕ))}
+    → AreRecordsOf f gs rs → records_applied page rs ≡ written f page (concat gs)
 records_same f page none = refl
 records_same f page (more {g = g} {r = r} {gs = gs} {rs = rs} here rest) =
-    records_same f (record_applied page r) rest ∙ ap (λ (p : List ℕ). written f p (concat gs)) (record_same f page g r here) ∙ sym (written-append f page g (concat gs))
+    records_same f (record_applied page r) rest
+        ∙ ap (λ (p : List ℕ). written f p (concat gs)) (record_same f page g r here)
+        ∙ sym (written-append f page g (concat gs))
 
 -- a record of one list is a record of each list that does the same to all words
-pub record_moved : {A B : Type 0} (f : A → Option (ℕ × ℕ)) (g : B → Option (ℕ × ℕ)) (xs : List A) (ys : List B) (words : List (ℕ × ℕ)) → ((page : List ℕ) → written f page xs ≡ written g page ys) → IsRecordOf f xs words → IsRecordOf g ys words
+pub record_moved : {A B : Type 0} (f : A → Option (ℕ × ℕ)) (g : B → Option (ℕ × ℕ)) (xs : List A) (ys : List B)
+        (words : List (ℕ × ℕ))
+    → ((page : List ℕ) → written f page xs ≡ written g page ys) → IsRecordOf f xs words → IsRecordOf g ys words
 record_moved f g xs ys words same r = record {
-  each = λ o v. (λ h. last_same f g xs ys o v same ((r.each o v).0 h), λ l. (r.each o v).1 (last_same g f ys xs o v (λ page. sym (same page)) l));
+  each =
+      λ o v. (λ h. last_same f g xs ys o v same ((r.each o v).0 h), λ l. (r.each o v).1
+              (last_same g f ys xs o v (λ page. sym (same page)) l));
   rising = r.rising;
 }
 
 -- records keep the number of words
-pub length-records_applied : (page : List ℕ) (rs : List (List (ℕ × ℕ))) → length (records_applied page rs) ≡ length page
+pub length-records_applied : (page : List ℕ) (rs : List (List (ℕ × ℕ)))
+    → length (records_applied page rs) ≡ length page
 length-records_applied page [] = refl
-length-records_applied page (r ∷ rs) = length-records_applied (record_applied page r) rs ∙ length-written (λ (x : ℕ × ℕ). Some x) page r
+length-records_applied page (r ∷ rs) =
+    length-records_applied (record_applied page r) rs ∙ length-written (λ (x : ℕ × ℕ). Some x) page r

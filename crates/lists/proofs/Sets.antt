@@ -1,21 +1,27 @@
 -- The item at a place after a write to a place, and lists that agree at every place.
-use Rattle.std.proofs.Common.{ℕ, zero, suc, ◌≡◌, ◌≢◌, ◌<◌, List, [], ◌∷◌, Some, slice_get, slice_set, slice_index, length, replicate, arith, refl, sym, ap}
+use Rattle.std.proofs.Common.{
+    ℕ, zero, suc, ◌≡◌, ◌≢◌, ◌<◌, List, [], ◌∷◌, Some, slice_get, slice_set, slice_index, length, replicate, arith,
+    refl, sym, ap
+}
 use Rattle.std.proofs.lemmas.Option.{same_Some, none-some}
 
 -- a write within the list is found where it was written
-pub slice_get-set_same : {A : Type 0} (xs : List A) (i : ℕ) (v : A) → i < length xs → slice_get (slice_set xs i v) i ≡ Some v
+pub slice_get-set_same : {A : Type 0} (xs : List A) (i : ℕ) (v : A) → i < length xs
+    → slice_get (slice_set xs i v) i ≡ Some v
 slice_get-set_same [] i v h = absurd (omega arith)
 slice_get-set_same (x ∷ xs) zero v h = refl
 slice_get-set_same (x ∷ xs) (suc i) v h = slice_get-set_same xs i v (omega arith)
 
 -- what is found where v was written is v
-pub slice_get-set_found : {A : Type 0} (xs : List A) (i : ℕ) (v w : A) → slice_get (slice_set xs i v) i ≡ Some w → v ≡ w
+pub slice_get-set_found : {A : Type 0} (xs : List A) (i : ℕ) (v w : A) → slice_get (slice_set xs i v) i ≡ Some w
+    → v ≡ w
 slice_get-set_found [] i v w h = absurd (none-some w h)
 slice_get-set_found (x ∷ xs) zero v w h = same_Some v w h
 slice_get-set_found (x ∷ xs) (suc i) v w h = slice_get-set_found xs i v w h
 
 -- a write leaves the other places
-pub slice_get-set_other : {A : Type 0} (xs : List A) (i k : ℕ) (v : A) → k ≢ i → slice_get (slice_set xs i v) k ≡ slice_get xs k
+pub slice_get-set_other : {A : Type 0} (xs : List A) (i k : ℕ) (v : A) → k ≢ i
+    → slice_get (slice_set xs i v) k ≡ slice_get xs k
 slice_get-set_other [] i k v h = refl
 slice_get-set_other (x ∷ xs) zero zero v h = absurd (h refl)
 slice_get-set_other (x ∷ xs) zero (suc k) v h = refl

@@ -20,7 +20,8 @@ pub record IsRecordOf {A : Type 0} (f : A → Option (ℕ × ℕ)) (xs : List A)
 -- a record for each group
 pub data AreRecordsOf (f : ℕ → Option (ℕ × ℕ)) : List (List ℕ) → List (List (ℕ × ℕ)) → Type 0 where
   none : AreRecordsOf f [] []
-  more : {g : List ℕ} {r : List (ℕ × ℕ)} {gs : List (List ℕ)} {rs : List (List (ℕ × ℕ))} → IsRecordOf f g r → AreRecordsOf f gs rs → AreRecordsOf f (g ∷ gs) (r ∷ rs)
+  more : {g : List ℕ} {r : List (ℕ × ℕ)} {gs : List (List ℕ)} {rs : List (List (ℕ × ℕ))} → IsRecordOf f g r
+      → AreRecordsOf f gs rs → AreRecordsOf f (g ∷ gs) (r ∷ rs)
 
 abbrev pub mark : List Bool → Option (ℕ × ℕ) → List Bool
 mark marks None = marks

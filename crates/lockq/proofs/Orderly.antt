@@ -1,5 +1,8 @@
 -- Lines at a lock stay orderly: whoever joins one was not in it, and whoever leaves one stood at its head.
-use Rattle.std.proofs.Common.{ℕ, ◌≡◌, ◌≢◌, ◌<◌, ◌≤◌, Option, Some, None, List, [], ◌∷◌, ◌++◌, length, sym, ap, ◌∙◌, subst, append_assoc, arith, inl, inr}
+use Rattle.std.proofs.Common.{
+    ℕ, ◌≡◌, ◌≢◌, ◌<◌, ◌≤◌, Option, Some, None, List, [], ◌∷◌, ◌++◌, length, sym, ap, ◌∙◌, subst, append_assoc, arith,
+    inl, inr
+}
 use Rattle.std.specs.Option.{option_to_list}
 use Rattle.std.specs.List.{range_with_len}
 use Rattle.std.proofs.lemmas.List.{length-append, get_or-set_same}
@@ -12,7 +15,8 @@ use Rattle.lockq.specs.Lock.{Lock, Locks, lock_at, with_lock, unheld, line, aske
 
 -- a list of one item
 once-one : (p : ℕ) → IsOnce (p ∷ [])
-once-one p = in_order-cons (λ (a b : ℕ). a ≢ b) p [] (λ b has. absurd (has-nil b has)) (in_order-nil (λ (a b : ℕ). a ≢ b))
+once-one p =
+    in_order-cons (λ (a b : ℕ). a ≢ b) p [] (λ b has. absurd (has-nil b has)) (in_order-nil (λ (a b : ℕ). a ≢ b))
 
 pub has-one : (p x : ℕ) → Has (p ∷ []) x → p ≡ x
 has-one p x has = elim ((has-cons p [] x).0 has) [ inl same ↦ same | inr none ↦ absurd (has-nil x none) ]
@@ -20,18 +24,25 @@ has-one p x has = elim ((has-cons p [] x).0 has) [ inl same ↦ same | inr none 
 -- one more, who was not among them
 pub once-push : (xs : List ℕ) (p : ℕ) → IsOnce xs → ¬ Has xs p → IsOnce (xs ++ p ∷ [])
 once-push xs p once apart =
-    once-append xs (p ∷ []) once (once-one p) (λ x has one. let P : ℕ → Type 0 = λ y. Has xs y in apart (subst P (sym (has-one p x one)) has))
+    once-append xs (p ∷ []) once (once-one p)
+        (λ x has one. let P : ℕ → Type 0 = λ y. Has xs y in apart (subst P (sym (has-one p x one)) has))
 
-pub within-push : (n : ℕ) (xs : List ℕ) (p : ℕ) → ((q : ℕ) → Has xs q → q < n) → p < n → (q : ℕ) → Has (xs ++ p ∷ []) q → q < n
+pub within-push : (n : ℕ) (xs : List ℕ) (p : ℕ) → ((q : ℕ) → Has xs q → q < n) → p < n → (q : ℕ)
+    → Has (xs ++ p ∷ []) q → q < n
 within-push n xs p within fits q has =
-    elim ((has-append xs (p ∷ []) q).0 has) [ inl before ↦ within q before | inr last ↦ let same = has-one p q last in omega arith ]
+    elim ((has-append xs (p ∷ []) q).0 has)
+        [ inl before ↦ within q before | inr last ↦ let same = has-one p q last in omega arith ]
 
 -- numbers below n that stand once each are at most n
 pub length-once : (n : ℕ) (xs : List ℕ) → IsOnce xs → ((q : ℕ) → Has xs q → q < n) → length xs ≤ n
 length-once n xs once within =
     let all = range_with_len 0 n in
     let long = length-range_with_len 0 n in
-    let le = once_le xs all once (λ q has. let lt = within q has in (q, slice_get-get_or all q 0 (omega arith) ∙ ap (λ (x : ℕ). Some x) (get_or-range_with_len 0 n q 0 lt ∙ omega arith))) in
+    let le =
+        once_le xs all once (λ q has. let lt = within q has in
+                (q, slice_get-get_or all q 0 (omega arith)
+                        ∙ ap (λ (x : ℕ). Some x) (get_or-range_with_len 0 n q 0 lt ∙ omega arith)))
+            in
     omega arith
 
 -- what stands behind the holder
@@ -40,7 +51,8 @@ once-queue None queue once = once
 once-queue (Some q) queue once = in_order_tail (λ (a b : ℕ). a ≢ b) q queue once
 
 -- who asks while the lock is held waits last
-pub orderly-queued : (n : ℕ) (k : Lock) (p : ℕ) → IsOrderly n k → k.holder ≢ None → ¬ Has (line k) p → p < n → IsOrderly n (record k { queue = k.queue ++ p ∷ [] })
+pub orderly-queued : (n : ℕ) (k : Lock) (p : ℕ) → IsOrderly n k → k.holder ≢ None → ¬ Has (line k) p → p < n
+    → IsOrderly n (record k { queue = k.queue ++ p ∷ [] })
 orderly-queued n k p orderly held apart fits =
     let front = option_to_list k.holder in
     let same : line k ++ p ∷ [] ≡ front ++ (k.queue ++ p ∷ []) = append_assoc front k.queue (p ∷ []) in
@@ -56,18 +68,25 @@ orderly-queued n k p orderly held apart fits =
 -- there is room for who asks while the lock is held
 pub room : (n : ℕ) (k : Lock) (p : ℕ) → IsOrderly n k → ¬ Has (line k) p → p < n → length k.queue < n
 room n k p orderly apart fits =
-    let most = length-once n (line k ++ p ∷ []) (once-push (line k) p orderly.once apart) (within-push n (line k) p orderly.within fits) in
+    let most =
+        length-once n (line k ++ p ∷ []) (once-push (line k) p orderly.once apart)
+            (within-push n (line k) p orderly.within fits) in
     let longer = length-append (line k) (p ∷ []) in
     let long = length-append (option_to_list k.holder) k.queue in
     omega arith
 
 -- the lock passes to the first of the queue, if there is one
-pub orderly-passed : (n : ℕ) (k : Lock) (next : Option ℕ) (queue time : List ℕ) → IsOrderly n k → k.queue ≡ option_to_list next ++ queue → (next ≡ None → queue ≡ []) → length time ≡ n → IsOrderly n (record { holder = next; queue = queue; time = time })
+pub orderly-passed : (n : ℕ) (k : Lock) (next : Option ℕ) (queue time : List ℕ) → IsOrderly n k
+    → k.queue ≡ option_to_list next ++ queue → (next ≡ None → queue ≡ []) → length time ≡ n
+    → IsOrderly n (record { holder = next; queue = queue; time = time })
 orderly-passed n k next queue time orderly is held long =
     let Once : List ℕ → Type 0 = λ xs. IsOnce xs in
     record {
       once = subst Once is (once-queue k.holder k.queue orderly.once);
-      within = λ p has. let P : List ℕ → Type 0 = λ xs. Has xs p in orderly.within p ((has-append (option_to_list k.holder) k.queue p).1 (inr (subst P (sym is) has)));
+      within =
+          λ p has. let P : List ℕ
+              → Type 0 = λ xs. Has xs p in orderly.within p
+                  ((has-append (option_to_list k.holder) k.queue p).1 (inr (subst P (sym is) has)));
       held = held;
       long = long;
     }

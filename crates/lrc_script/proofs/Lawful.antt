@@ -12,14 +12,26 @@ use Rattle.lrc_script.specs.Reading.{are_sizes}
 
 -- the test for sizes
 pub sizes_test : (s : Plan) → AreSizes s → are_sizes s ≡ true
-sizes_test s h = grind (arith, nat_tests, h.some_processors, h.most_processors, h.some_pages, h.most_pages, h.some_words, h.most_words, h.locks, h.flags)
+sizes_test s h =
+    grind (arith, nat_tests, h.some_processors, h.most_processors, h.some_pages, h.most_pages, h.some_words,
+            h.most_words, h.locks, h.flags)
 
 pub sizes_from_test : (s : Plan) → are_sizes s ≡ true → AreSizes s
 sizes_from_test s e =
-    let h = and_parts (leb 1 s.processors && leb s.processors 16 && leb 1 s.pages && leb s.pages 64 && leb 1 s.words && leb s.words 64 && leb s.locks 32) (leb s.flags 32) e in
-    let g = and_parts (leb 1 s.processors && leb s.processors 16 && leb 1 s.pages && leb s.pages 64 && leb 1 s.words && leb s.words 64) (leb s.locks 32) h.0 in
-    let f = and_parts (leb 1 s.processors && leb s.processors 16 && leb 1 s.pages && leb s.pages 64 && leb 1 s.words) (leb s.words 64) g.0 in
-    let d = and_parts (leb 1 s.processors && leb s.processors 16 && leb 1 s.pages && leb s.pages 64) (leb 1 s.words) f.0 in
+    let h =
+        and_parts (leb 1 s.processors && leb s.processors 16 && leb 1 s.pages && leb s.pages 64 && leb 1 s.words &&
+                leb s.words 64 && leb s.locks 32)
+            (leb s.flags 32) e in
+    let g =
+        and_parts (leb 1 s.processors && leb s.processors 16 && leb 1 s.pages && leb s.pages 64 && leb 1 s.words &&
+                leb s.words 64)
+            (leb s.locks 32) h.0 in
+    let f =
+        and_parts (leb 1 s.processors && leb s.processors 16 && leb 1 s.pages && leb s.pages 64 && leb 1 s.words)
+            (leb s.words 64) g.0 in
+    let d =
+        and_parts (leb 1 s.processors && leb s.processors 16 && leb 1 s.pages && leb s.pages 64) (leb 1 s.words) f.0
+            in
     let c = and_parts (leb 1 s.processors && leb s.processors 16 && leb 1 s.pages) (leb s.pages 64) d.0 in
     let b = and_parts (leb 1 s.processors && leb s.processors 16) (leb 1 s.pages) c.0 in
     let a = and_parts (leb 1 s.processors) (leb s.processors 16) b.0 in
@@ -63,7 +75,8 @@ sizes_small s h =
     }
 
 -- sections and shown addresses don't change what sizes and sections need
-pub sizes_over : (s : Plan) (sections : List (List Instruction)) (shown : List ℕ) → AreSizes s → AreSizes (record s { sections = sections; shown = shown })
+pub sizes_over : (s : Plan) (sections : List (List Instruction)) (shown : List ℕ) → AreSizes s
+    → AreSizes (record s { sections = sections; shown = shown })
 sizes_over s sections shown h = record {
   some_processors = h.some_processors;
   most_processors = h.most_processors;
@@ -75,14 +88,16 @@ sizes_over s sections shown h = record {
   flags = h.flags;
 }
 
-pub section_over : (s : Plan) (sections : List (List Instruction)) (shown : List ℕ) (is : List Instruction) → IsSection s is → IsSection (record s { sections = sections; shown = shown }) is
+pub section_over : (s : Plan) (sections : List (List Instruction)) (shown : List ℕ) (is : List Instruction)
+    → IsSection s is → IsSection (record s { sections = sections; shown = shown }) is
 section_over s sections shown is h = record { most = h.most; in_range = h.in_range; holding = h.holding }
 
 -- the same sizes, with other sections
 abbrev pub with_sections : Plan → List (List Instruction) → Plan
 with_sections s sections = record s { sections = sections }
 
-pub section_with : (s : Plan) (sections : List (List Instruction)) (is : List Instruction) → IsSection s is → IsSection (with_sections s sections) is
+pub section_with : (s : Plan) (sections : List (List Instruction)) (is : List Instruction) → IsSection s is
+    → IsSection (with_sections s sections) is
 section_with s sections is h = section_over s sections s.shown is h
 
 pub sizes_with : (s : Plan) (sections : List (List Instruction)) → AreSizes s → AreSizes (with_sections s sections)
@@ -93,5 +108,7 @@ pub nothing_stands : (s : Plan) → IsSection s []
 nothing_stands s = record {
   most = omega arith;
   in_range = All-nil (IsInRange s);
-  holding = λ before i after e. absurd (omega (arith, ap (λ (is : List Instruction). length is) e, length-append before (i ∷ after)));
+  holding =
+      λ before i after e. absurd
+          (omega (arith, ap (λ (is : List Instruction). length is) e, length-append before (i ∷ after)));
 }

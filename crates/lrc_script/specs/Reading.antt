@@ -1,12 +1,17 @@
 -- What reading a line does, as a function of its bytes.
-use Rattle.std.specs.Prelude.{◌≡◌, ℕ, ◌+◌, ◌^◌, ◌==◌, nat_lt, nat_le, Bool, false, not, ◌&&◌, ◌||◌, if◌then◌else◌, List, [], ◌∷◌, ◌++◌, length, slice_index, codes, Option, Some, None, is_some, unwrap_or, Result, Ok, Err}
+use Rattle.std.specs.Prelude.{
+    ◌≡◌, ℕ, ◌+◌, ◌^◌, ◌==◌, nat_lt, nat_le, Bool, false, not, ◌&&◌, ◌||◌, if◌then◌else◌, List, [], ◌∷◌, ◌++◌, length,
+    slice_index, codes, Option, Some, None, is_some, unwrap_or, Result, Ok, Err
+}
 use Rattle.std.specs.Borrow.{Bor}
 use Rattle.std.specs.Char.{is_ascii_digit}
 use Rattle.std.specs.List.{slice_split, list_all, list_any}
 use Rattle.std.specs.Str.{bytes_eq}
 use Rattle.std.specs.Str.Parse.{digits_value}
 use Rattle.lrc_script.specs.declared.fault.ScriptFault.{ScriptFault}
-use Rattle.lrc_script.specs.declared.fault.ScriptFault.TheVariants.{BadLine, BadNumber, BadSize, OutOfRange, BadLock, BadFlag, AlreadyHeld, NotHeld, TooLong, NoMemory}
+use Rattle.lrc_script.specs.declared.fault.ScriptFault.TheVariants.{
+    BadLine, BadNumber, BadSize, OutOfRange, BadLock, BadFlag, AlreadyHeld, NotHeld, TooLong, NoMemory
+}
 use Rattle.lrc_script.specs.declared.line.Few.{Few}
 use Rattle.lrc_script.specs.declared.line.Few.TheVariants as few
 use Rattle.lrc_script.specs.declared.line.Keyword.{Keyword}
@@ -67,11 +72,13 @@ keyword_of w =
 
 -- digits, with no zero at the front of others
 abbrev pub is_decimal : List ℕ → Bool
-is_decimal w = not (length w == 0) && not ((slice_index w 0 == 48) && nat_lt 1 (length w)) && list_all is_ascii_digit w
+is_decimal w =
+    not (length w == 0) && not ((slice_index w 0 == 48) && nat_lt 1 (length w)) && list_all is_ascii_digit w
 
 -- the number below 2 ^ 32 that digits write
 abbrev pub sum_of_digits : List ℕ → Option ℕ
-sum_of_digits w = if list_all is_ascii_digit w && nat_lt (digits_value 10 w) (2 ^ 32) then Some (digits_value 10 w) else None
+sum_of_digits w =
+    if list_all is_ascii_digit w && nat_lt (digits_value 10 w) (2 ^ 32) then Some (digits_value 10 w) else None
 
 -- the number below 2 ^ 32 that is written so
 abbrev pub number_of : List ℕ → Option ℕ

@@ -1,5 +1,8 @@
 -- No page has more notices among what is sent than intervals were closed.
-use Rattle.std.proofs.Common.{◌≡◌, ℕ, ◌+◌, ◌<◌, ◌≤◌, suc, Bool, true, false, ◌==◌, cond, inl, inr, List, [], ◌∷◌, map, filter, length, count_by, refl, ap, arith}
+use Rattle.std.proofs.Common.{
+    ◌≡◌, ℕ, ◌+◌, ◌<◌, ◌≤◌, suc, Bool, true, false, ◌==◌, cond, inl, inr, List, [], ◌∷◌, map, filter, length, count_by,
+    refl, ap, arith
+}
 use Rattle.std.specs.List.{flat_map}
 use Rattle.std.proofs.lemmas.Bool.{cases_Bool, eqb-true, ne_eqb}
 use Rattle.std.proofs.lemmas.List.Sums.{sum_by-cons, length-filter, count_by-le-length}
@@ -16,14 +19,17 @@ use Rattle.interval.proofs.Order.ByPlace.{Rises, rises_first, rises_rest}
 use Rattle.interval.proofs.Queues.Merged.{merged_lies, queued, rises-merged}
 
 counted_more : (page : ℕ) (k : Kept) (r : Changes) (rs : List Changes) (same : Bool) → (r.page == page) ≡ same
-    → count_by (is_of_page page) (map (sent_record k) (r ∷ rs)) ≡ cond same 1 0 + count_by (is_of_page page) (map (sent_record k) rs)
+    → count_by (is_of_page page) (map (sent_record k) (r ∷ rs))
+        ≡ cond same 1 0 + count_by (is_of_page page) (map (sent_record k) rs)
 counted_more page k r rs same is =
-    let one = sum_by-cons (λ (s : SentRecord). cond (is_of_page page s) 1 0) (sent_record k r) (map (sent_record k) rs) in
+    let one =
+        sum_by-cons (λ (s : SentRecord). cond (is_of_page page s) 1 0) (sent_record k r) (map (sent_record k) rs) in
     let here = ap (λ (b : Bool). cond {A = ℕ} b 1 0) is in
     omega arith
 
 -- later pages are other pages
-none_above : (page : ℕ) (k : Kept) (rs : List Changes) → ((r : Changes) → Has rs r → page < r.page) → count_by (is_of_page page) (map (sent_record k) rs) ≡ 0
+none_above : (page : ℕ) (k : Kept) (rs : List Changes) → ((r : Changes) → Has rs r → page < r.page)
+    → count_by (is_of_page page) (map (sent_record k) rs) ≡ 0
 none_above page k [] above = refl
 none_above page k (r ∷ rs) above =
     let rest = none_above page k rs (λ s h. above s (suc h.0, h.1)) in
@@ -32,13 +38,15 @@ none_above page k (r ∷ rs) above =
     omega arith
 
 -- an interval has one record of the page at most
-one_record : (page : ℕ) (k : Kept) (rs : List Changes) → HasRisingPages rs → count_by (is_of_page page) (map (sent_record k) rs) ≤ 1
+one_record : (page : ℕ) (k : Kept) (rs : List Changes) → HasRisingPages rs
+    → count_by (is_of_page page) (map (sent_record k) rs) ≤ 1
 one_record page k [] rises = omega arith
 one_record page k (r ∷ rs) rises =
     elim (cases_Bool (r.page == page)) [
       | inl same ↦ (
           let is : r.page ≡ page = eqb-true _ _ same in
-          let rest = none_above page k rs (λ s h. let lt = rises 0 (suc h.0) r s (omega arith) refl h.1 in omega arith) in
+          let rest =
+              none_above page k rs (λ s h. let lt = rises 0 (suc h.0) r s (omega arith) refl h.1 in omega arith) in
           let step = counted_more page k r rs true same in
           omega arith)
       | inr other ↦ (
@@ -48,7 +56,8 @@ one_record page k (r ∷ rs) rises =
     ]
 
 -- no more than there are intervals
-of_intervals : (page : ℕ) (ks : List Kept) → ((k : Kept) → Has ks k → HasRisingPages k.interval.records) → count_by (is_of_page page) (flat_map sent_interval ks) ≤ length ks
+of_intervals : (page : ℕ) (ks : List Kept) → ((k : Kept) → Has ks k → HasRisingPages k.interval.records)
+    → count_by (is_of_page page) (flat_map sent_interval ks) ≤ length ks
 of_intervals page [] pages = omega arith
 of_intervals page (k ∷ ks) pages =
     let rest = of_intervals page ks (λ j h. pages j (suc h.0, h.1)) in
@@ -57,22 +66,32 @@ of_intervals page (k ∷ ks) pages =
     omega arith
 
 -- no more intervals than closing numbers
-few_places : (m n : ℕ) (ks : List Kept) → Rises ks → ((k : Kept) → Has ks k → m ≤ k.place) → ((k : Kept) → Has ks k → k.place < n) → m ≤ n → length ks + m ≤ n
+few_places : (m n : ℕ) (ks : List Kept) → Rises ks → ((k : Kept) → Has ks k → m ≤ k.place)
+    → ((k : Kept) → Has ks k → k.place < n) → m ≤ n → length ks + m ≤ n
 few_places m n [] rises from below le = omega arith
 few_places m n (k ∷ ks) rises from below le =
     let first = from k (0, refl) in
     let last = below k (0, refl) in
-    let rest = few_places (k.place + 1) n ks (rises_rest k ks rises) (λ j h. let lt = rises_first k ks rises j h in omega arith) (λ j h. below j (suc h.0, h.1)) (omega arith) in
+    let rest =
+        few_places (k.place + 1) n ks (rises_rest k ks rises)
+            (λ j h. let lt = rises_first k ks rises j h in omega arith) (λ j h. below j (suc h.0, h.1)) (omega arith)
+            in
     omega arith
 
 -- so the count fits where the number of closed intervals does
-pub count_fits : (queues : List Queue) (count : ℕ) (value : Closings) (page : ℕ) (old new : List ℕ) → closings queues count ≡ value → AreQueues queues count
+pub count_fits : (queues : List Queue) (count : ℕ) (value : Closings) (page : ℕ) (old new : List ℕ)
+    → closings queues count ≡ value → AreQueues queues count
     → count_by (is_of_page page) (between value old new) ≤ count
 count_fits queues count value page old new is are =
     let news : List Kept = filter (is_news old new) (merged queues) in
-    let places = few_places 0 count (merged queues) (rises-merged queues) (λ k h. omega arith) (λ k h. (queued queues count are k (merged_lies queues k h)).closed) (omega arith) in
+    let places =
+        few_places 0 count (merged queues) (rises-merged queues) (λ k h. omega arith)
+            (λ k h. (queued queues count are k (merged_lies queues k h)).closed) (omega arith) in
     let fewer = count_by-le-length (is_news old new) (merged queues) in
     let long = length-filter (is_news old new) (merged queues) in
-    let most = of_intervals page news (λ k h. (queued queues count are k (merged_lies queues k ((has-filter (is_news old new) (merged queues) k).0 h).0)).pages) in
+    let most =
+        of_intervals page news (λ k h. (queued queues count are k
+                    (merged_lies queues k ((has-filter (is_news old new) (merged queues) k).0 h).0)).pages)
+            in
     let same = ap (λ (c : Closings). count_by (is_of_page page) (between c old new)) is in
     omega arith

@@ -1,5 +1,7 @@
 -- What is sent doesn't change by what nobody is to perform, or has performed already.
-use Rattle.std.proofs.Common.{◌≡◌, ℕ, ◌<◌, ◌≤◌, true, false, not, inl, inr, List, [], ◌∷◌, ◌++◌, filter, slice_index, ap, arith, ◌∙◌}
+use Rattle.std.proofs.Common.{
+    ◌≡◌, ℕ, ◌<◌, ◌≤◌, true, false, not, inl, inr, List, [], ◌∷◌, ◌++◌, filter, slice_index, ap, arith, ◌∙◌
+}
 use Rattle.std.specs.List.{flat_map}
 use Rattle.std.proofs.lemmas.Bool.{cases_Bool, cond-false, and_parts, and_right, leb-true, ltb-true, eqb-true, le-ltb}
 use Rattle.std.proofs.lemmas.List.{append-nil}
@@ -10,7 +12,8 @@ use Rattle.interval.specs.Intervals.{ClosedInterval}
 use Rattle.interval.specs.Closings.{Closings, pushed, trimmed, is_trimmed, is_news, sent_interval, between}
 
 -- intervals that the receiver has performed are not sent to it
-pub between-trimmed : (c : Closings) (owner to : ℕ) (old new : List ℕ) → to ≤ slice_index old owner → between (trimmed c owner to) old new ≡ between c old new
+pub between-trimmed : (c : Closings) (owner to : ℕ) (old new : List ℕ) → to ≤ slice_index old owner
+    → between (trimmed c owner to) old new ≡ between c old new
 between-trimmed c owner to old new performed =
     let stays : (k : Kept) → is_news old new k ≡ true → not (is_trimmed owner to k) ≡ true = λ k news.
     elim (cases_Bool (is_trimmed owner to k)) [
@@ -26,9 +29,12 @@ between-trimmed c owner to old new performed =
     ap (flat_map sent_interval) (filter_passed (is_news old new) (λ k. not (is_trimmed owner to k)) c.kept stays)
 
 -- an interval that the receiver is not to perform is not sent to it
-pub between-pushed : (c : Closings) (i : ClosedInterval) (old new : List ℕ) → slice_index new i.owner ≤ i.number → between (pushed c i) old new ≡ between c old new
+pub between-pushed : (c : Closings) (i : ClosedInterval) (old new : List ℕ) → slice_index new i.owner ≤ i.number
+    → between (pushed c i) old new ≡ between c old new
 between-pushed c i old new uncovered =
     let k : Kept = record { place = c.pushed; interval = i } in
     let no_news : is_news old new k ≡ false = and_right _ _ (le-ltb _ _ uncovered) in
     let last : filter (is_news old new) (k ∷ []) ≡ [] = cond-false (is_news old new k) (k ∷ []) [] no_news in
-    ap (flat_map sent_interval) (filter-append (is_news old new) c.kept (k ∷ []) ∙ ap (λ (ys : List Kept). filter (is_news old new) c.kept ++ ys) last ∙ append-nil (filter (is_news old new) c.kept))
+    ap (flat_map sent_interval) (filter-append (is_news old new) c.kept (k ∷ [])
+            ∙ ap (λ (ys : List Kept). filter (is_news old new) c.kept ++ ys) last
+            ∙ append-nil (filter (is_news old new) c.kept))

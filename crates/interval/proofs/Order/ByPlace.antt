@@ -1,8 +1,12 @@
 -- Lists of intervals by rising closing number.
-use Rattle.std.proofs.Common.{◌≡◌, ◌<◌, suc, true, cond, nat_lt, Some, ◌⊎◌, inl, inr, List, [], ◌∷◌, ◌++◌, refl, sym, ap, subst, arith, ◌∙◌}
+use Rattle.std.proofs.Common.{
+    ◌≡◌, ◌<◌, suc, true, cond, nat_lt, Some, ◌⊎◌, inl, inr, List, [], ◌∷◌, ◌++◌, refl, sym, ap, subst, arith, ◌∙◌
+}
 use Rattle.std.proofs.lemmas.Bool.{cond_both, ltb-true, ltb-false}
 use Rattle.lists.specs.Places.{Has, InOrder}
-use Rattle.lists.proofs.Joined.{has-nil, has-cons, in_order-nil, in_order-cons, in_order_single, in_order_tail, in_order-append}
+use Rattle.lists.proofs.Joined.{
+    has-nil, has-cons, in_order-nil, in_order-cons, in_order_single, in_order_tail, in_order-append
+}
 use Rattle.interval.specs.declared.kept.Kept.{Kept}
 use Rattle.interval.specs.Queues.{placed, by_place}
 
@@ -30,7 +34,8 @@ has-placed k (x ∷ xs) j h =
       | inl same ↦ inr (0, ap Some same)
       | inr rest ↦ elim (has-placed k xs j rest) [ inl same ↦ inl same | inr old ↦ inr (suc old.0, old.1) ]
     ] in
-    cond_both (nat_lt k.place x.place) (k ∷ x ∷ xs) (cond (nat_lt x.place k.place) (x ∷ placed k xs) (x ∷ xs)) P (λ e. (has-cons k (x ∷ xs) j).0)
+    cond_both (nat_lt k.place x.place) (k ∷ x ∷ xs) (cond (nat_lt x.place k.place) (x ∷ placed k xs) (x ∷ xs)) P
+        (λ e. (has-cons k (x ∷ xs) j).0)
     (λ e. cond_both (nat_lt x.place k.place) (x ∷ placed k xs) (x ∷ xs) P (λ f. later) (λ f g. inr g)) h
 
 pub has-placed_old : (k : Kept) (xs : List Kept) (j : Kept) → Has xs j → Has (placed k xs) j
@@ -41,15 +46,18 @@ has-placed_old k (x ∷ xs) j h =
       | inl same ↦ (0, ap Some same)
       | inr old ↦ (let there = has-placed_old k xs j old in (suc there.0, there.1))
     ] in
-    cond_both (nat_lt k.place x.place) (k ∷ x ∷ xs) (cond (nat_lt x.place k.place) (x ∷ placed k xs) (x ∷ xs)) P (λ e. (suc h.0, h.1))
+    cond_both (nat_lt k.place x.place) (k ∷ x ∷ xs) (cond (nat_lt x.place k.place) (x ∷ placed k xs) (x ∷ xs)) P
+        (λ e. (suc h.0, h.1))
     (λ e. cond_both (nat_lt x.place k.place) (x ∷ placed k xs) (x ∷ xs) P (λ f. later) (λ f. h))
 
-pub has-placed_new : (k : Kept) (xs : List Kept) → ((x : Kept) → Has xs x → k.place ≡ x.place → k ≡ x) → Has (placed k xs) k
+pub has-placed_new : (k : Kept) (xs : List Kept) → ((x : Kept) → Has xs x → k.place ≡ x.place → k ≡ x)
+    → Has (placed k xs) k
 has-placed_new k [] apart = (0, refl)
 has-placed_new k (x ∷ xs) apart =
     let P : List Kept → Type 0 = λ ys. Has ys k in
     let rest = has-placed_new k xs (λ y h e. apart y (suc h.0, h.1) e) in
-    cond_both (nat_lt k.place x.place) (k ∷ x ∷ xs) (cond (nat_lt x.place k.place) (x ∷ placed k xs) (x ∷ xs)) P (λ e. (0, refl))
+    cond_both (nat_lt k.place x.place) (k ∷ x ∷ xs) (cond (nat_lt x.place k.place) (x ∷ placed k xs) (x ∷ xs)) P
+        (λ e. (0, refl))
     (λ e. cond_both (nat_lt x.place k.place) (x ∷ placed k xs) (x ∷ xs) P (λ f. (suc rest.0, rest.1))
     (λ f. let a = ltb-false _ _ e in let b = ltb-false _ _ f in (0, ap Some (sym (apart x (0, refl) (omega arith))))))
 
@@ -68,7 +76,8 @@ rises-placed k (x ∷ xs) rises =
       | inl same ↦ (let place = ap (λ (z : Kept). z.place) same in omega arith)
       | inr old ↦ rises_first x xs rises j old
     ]) (rises-placed k xs (rises_rest x xs rises)) in
-    cond_both (nat_lt k.place x.place) (k ∷ x ∷ xs) (cond (nat_lt x.place k.place) (x ∷ placed k xs) (x ∷ xs)) Rises front
+    cond_both (nat_lt k.place x.place) (k ∷ x ∷ xs) (cond (nat_lt x.place k.place) (x ∷ placed k xs) (x ∷ xs)) Rises
+        front
     (λ e. cond_both (nat_lt x.place k.place) (x ∷ placed k xs) (x ∷ xs) Rises later (λ f. rises))
 
 -- `by_place`
@@ -88,10 +97,13 @@ pub has-by_place_from : (xs : List Kept) → IsApart xs → (j : Kept) → Has x
 has-by_place_from [] apart j h = absurd (has-nil j h)
 has-by_place_from (x ∷ xs) apart j h = elim ((has-cons x xs j).0 h) [
   | inl same ↦ (
-      let new = has-placed_new x (by_place xs) (λ y g e. let old = has-by_place xs y g in apart x y (0, refl) (suc old.0, old.1) e) in
+      let new =
+          has-placed_new x (by_place xs)
+              (λ y g e. let old = has-by_place xs y g in apart x y (0, refl) (suc old.0, old.1) e) in
       let P : Kept → Type 0 = λ z. Has (placed x (by_place xs)) z in
       subst P same new)
-  | inr later ↦ has-placed_old x (by_place xs) j (has-by_place_from xs (λ i k a b e. apart i k (suc a.0, a.1) (suc b.0, b.1) e) j later)
+  | inr later ↦ has-placed_old x (by_place xs) j
+      (has-by_place_from xs (λ i k a b e. apart i k (suc a.0, a.1) (suc b.0, b.1) e) j later)
 ]
 
 pub rises-by_place : (xs : List Kept) → Rises (by_place xs)
@@ -99,7 +111,8 @@ rises-by_place [] = in_order-nil IsBefore
 rises-by_place (x ∷ xs) = rises-placed x (by_place xs) (rises-by_place xs)
 
 -- a rising list is known by what stands in it
-pub same_rising : (xs ys : List Kept) → Rises xs → Rises ys → ((k : Kept) → Has xs k → Has ys k) → ((k : Kept) → Has ys k → Has xs k) → xs ≡ ys
+pub same_rising : (xs ys : List Kept) → Rises xs → Rises ys → ((k : Kept) → Has xs k → Has ys k)
+    → ((k : Kept) → Has ys k → Has xs k) → xs ≡ ys
 same_rising [] [] r s to from = refl
 same_rising [] (y ∷ ys) r s to from = absurd (has-nil y (from y (0, refl)))
 same_rising (x ∷ xs) [] r s to from = absurd (has-nil x (to x (0, refl)))
@@ -108,21 +121,25 @@ same_rising (x ∷ xs) (y ∷ ys) r s to from =
       | inl e ↦ sym e
       | inr above ↦ elim ((has-cons x xs y).0 (from y (0, refl))) [
         | inl e ↦ e
-        | inr below ↦ (let a = rises_first y ys s x above in let b = rises_first x xs r y below in absurd (omega arith))
+        | inr below ↦
+            (let a = rises_first y ys s x above in let b = rises_first x xs r y below in absurd (omega arith))
       ]
     ] in
     let tail_to : (k : Kept) → Has xs k → Has ys k = λ k h. elim ((has-cons y ys k).0 (to k (suc h.0, h.1))) [
-      | inl e ↦ (let after = rises_first x xs r k h in let place : x.place ≡ k.place = ap (λ (z : Kept). z.place) (same ∙ e) in absurd (omega arith))
+      | inl e ↦ (let after = rises_first x xs r k h in
+              let place : x.place ≡ k.place = ap (λ (z : Kept). z.place) (same ∙ e) in absurd (omega arith))
       | inr t ↦ t
     ] in
     let tail_from : (k : Kept) → Has ys k → Has xs k = λ k h. elim ((has-cons x xs k).0 (from k (suc h.0, h.1))) [
-      | inl e ↦ (let after = rises_first y ys s k h in let place : y.place ≡ k.place = ap (λ (z : Kept). z.place) (sym same ∙ e) in absurd (omega arith))
+      | inl e ↦ (let after = rises_first y ys s k h in
+              let place : y.place ≡ k.place = ap (λ (z : Kept). z.place) (sym same ∙ e) in absurd (omega arith))
       | inr t ↦ t
     ] in
     let tails = same_rising xs ys (rises_rest x xs r) (rises_rest y ys s) tail_to tail_from in cc
 
 -- one more, closed after all others
-pub rises-push : (xs : List Kept) (k : Kept) → Rises xs → ((j : Kept) → Has xs j → j.place < k.place) → Rises (xs ++ k ∷ [])
+pub rises-push : (xs : List Kept) (k : Kept) → Rises xs → ((j : Kept) → Has xs j → j.place < k.place)
+    → Rises (xs ++ k ∷ [])
 rises-push xs k rises below = in_order-append IsBefore xs (k ∷ []) rises (in_order_single IsBefore k)
     (λ j l here last. elim ((has-cons k [] l).0 last) [
       | inl same ↦ (let lt = below j here in let place = ap (λ (z : Kept). z.place) same in omega arith)

@@ -14,11 +14,13 @@ pub record AreEmpty (n : ℕ) (queues : List Queue) : Type 0 where
   pub first : map (λ (q : Queue). q.first) queues ≡ replicate n 0
   pub next : map (λ (q : Queue). q.first + length q.kept) queues ≡ replicate n 0
 
-flat_map-push : (f : Queue → List Kept) (xs : List Queue) (x : Queue) → f x ≡ [] → flat_map f (xs ++ x ∷ []) ≡ flat_map f xs
+flat_map-push : (f : Queue → List Kept) (xs : List Queue) (x : Queue) → f x ≡ []
+    → flat_map f (xs ++ x ∷ []) ≡ flat_map f xs
 flat_map-push f [] x none = ap (λ ys. ys ++ []) none
 flat_map-push f (y ∷ ys) x none = ap (λ zs. f y ++ zs) (flat_map-push f ys x none)
 
-pub one_more_empty : (n : ℕ) (queues : List Queue) (queue : Queue) → queue.first ≡ 0 → queue.kept ≡ [] → AreEmpty n queues → AreEmpty (n + 1) (queues ++ queue ∷ [])
+pub one_more_empty : (n : ℕ) (queues : List Queue) (queue : Queue) → queue.first ≡ 0 → queue.kept ≡ []
+    → AreEmpty n queues → AreEmpty (n + 1) (queues ++ queue ∷ [])
 one_more_empty n queues queue first kept are =
     let long : queue.first + length queue.kept ≡ 0 = let l = ap (λ (ks : List Kept). length ks) kept in omega arith in
     record {
@@ -27,14 +29,23 @@ one_more_empty n queues queue first kept are =
       next = rw (map-append, are.next, long, replicate_more) refl;
     }
 
-pub nothing_lies : (queues : List Queue) → flat_map (λ (q : Queue). q.kept) queues ≡ [] → (k : Kept) → Lies queues k → ⊥
-nothing_lies queues none k l = let P : List Kept → Type 0 = λ ks. Has ks k in has-nil k (subst P none (lies_in queues k l))
+pub nothing_lies : (queues : List Queue) → flat_map (λ (q : Queue). q.kept) queues ≡ [] → (k : Kept) → Lies queues k
+    → ⊥
+nothing_lies queues none k l =
+    let P : List Kept → Type 0 = λ ks. Has ks k in has-nil k (subst P none (lies_in queues k l))
 
-pub are_none : (queues : List Queue) (count : ℕ) → flat_map (λ (q : Queue). q.kept) queues ≡ [] → AreQueues queues count
+pub are_none : (queues : List Queue) (count : ℕ) → flat_map (λ (q : Queue). q.kept) queues ≡ []
+    → AreQueues queues count
 are_none queues count none = record {
   each = λ q queue at. record {
-    each = λ i k at_i. absurd (nothing_lies queues none k (record { owner = q; queue = queue; index = i; owned = at; at = at_i }));
-    rising = λ x y a b lt at_x at_y. absurd (nothing_lies queues none a (record { owner = q; queue = queue; index = x; owned = at; at = at_x }));
+    each =
+        λ i k at_i. absurd
+            (nothing_lies queues none k (record { owner = q; queue = queue; index = i; owned = at; at = at_i }));
+    rising =
+        λ x y a b lt at_x at_y. absurd
+            (nothing_lies queues none a (record { owner = q; queue = queue; index = x; owned = at; at = at_x }));
   };
-  apart = λ q r a b j k at_q at_r has_j has_k same. absurd (nothing_lies queues none j (record { owner = q; queue = a; index = has_j.0; owned = at_q; at = has_j.1 }));
+  apart =
+      λ q r a b j k at_q at_r has_j has_k same. absurd
+          (nothing_lies queues none j (record { owner = q; queue = a; index = has_j.0; owned = at_q; at = has_j.1 }));
 }

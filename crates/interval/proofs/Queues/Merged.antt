@@ -39,11 +39,14 @@ one_place owner count queue is i m j k at_i at_m same = elim (cases_order i m) [
 ]
 
 -- in all queues
-pub one_interval : (queues : List Queue) (count : ℕ) → AreQueues queues count → (j k : Kept) → Lies queues j → Lies queues k → j.place ≡ k.place → j ≡ k
+pub one_interval : (queues : List Queue) (count : ℕ) → AreQueues queues count → (j k : Kept) → Lies queues j
+    → Lies queues k → j.place ≡ k.place → j ≡ k
 one_interval queues count are j k a b same =
     let owner = are.apart a.owner b.owner a.queue b.queue j k a.owned b.owned (a.index, a.at) (b.index, b.at) same in
-    let queue : b.queue ≡ a.queue = let swap : slice_get queues a.owner ≡ Some b.queue = ap (slice_get queues) owner ∙ b.owned in cc in
-    let at : slice_get a.queue.kept b.index ≡ Some k = ap (λ (q : Queue). slice_get q.kept b.index) (sym queue) ∙ b.at in
+    let queue : b.queue ≡ a.queue =
+        let swap : slice_get queues a.owner ≡ Some b.queue = ap (slice_get queues) owner ∙ b.owned in cc in
+    let at : slice_get a.queue.kept b.index ≡ Some k =
+        ap (λ (q : Queue). slice_get q.kept b.index) (sym queue) ∙ b.at in
     one_place a.owner count a.queue (are.each a.owner a.queue a.owned) a.index b.index j k a.at at same
 
 apart : (queues : List Queue) (count : ℕ) → AreQueues queues count → IsApart (flat_map items_of queues)
@@ -53,28 +56,35 @@ apart queues count are j k h g same = one_interval queues count are j k (lies qu
 pub merged_lies : (queues : List Queue) (k : Kept) → Has (merged queues) k → Lies queues k
 merged_lies queues k h = lies queues k (has-by_place (flat_map items_of queues) k h)
 
-pub lies_merged : (queues : List Queue) (count : ℕ) → AreQueues queues count → (k : Kept) → Lies queues k → Has (merged queues) k
-lies_merged queues count are k l = has-by_place_from (flat_map items_of queues) (apart queues count are) k (lies_in queues k l)
+pub lies_merged : (queues : List Queue) (count : ℕ) → AreQueues queues count → (k : Kept) → Lies queues k
+    → Has (merged queues) k
+lies_merged queues count are k l =
+    has-by_place_from (flat_map items_of queues) (apart queues count are) k (lies_in queues k l)
 
 pub rises-merged : (queues : List Queue) → Rises (merged queues)
 rises-merged queues = rises-by_place (flat_map items_of queues)
 
 -- what is known of an interval where it lies
-pub queued : (queues : List Queue) (count : ℕ) → AreQueues queues count → (k : Kept) (l : Lies queues k) → IsQueued l.owner count l.queue l.index k
+pub queued : (queues : List Queue) (count : ℕ) → AreQueues queues count → (k : Kept) (l : Lies queues k)
+    → IsQueued l.owner count l.queue l.index k
 queued queues count are k l = (are.each l.owner l.queue l.owned).each l.index k l.at
 
 -- an owner's intervals are known by their numbers
-pub one_number : (queues : List Queue) (count : ℕ) → AreQueues queues count → (j k : Kept) → Lies queues j → Lies queues k
+pub one_number : (queues : List Queue) (count : ℕ) → AreQueues queues count → (j k : Kept) → Lies queues j
+    → Lies queues k
     → j.interval.owner ≡ k.interval.owner → j.interval.number ≡ k.interval.number → j ≡ k
 one_number queues count are j k a b owners numbers =
     let ja = queued queues count are j a in
     let kb = queued queues count are k b in
     let owner : a.owner ≡ b.owner = sym ja.owner_is ∙ owners ∙ kb.owner_is in
-    let queue : b.queue ≡ a.queue = let swap : slice_get queues a.owner ≡ Some b.queue = ap (slice_get queues) owner ∙ b.owned in cc in
+    let queue : b.queue ≡ a.queue =
+        let swap : slice_get queues a.owner ≡ Some b.queue = ap (slice_get queues) owner ∙ b.owned in cc in
     let firsts : b.queue.first ≡ a.queue.first = ap (λ (q : Queue). q.first) queue in
     let ja_number = ja.number_is in
     let kb_number = kb.number_is in
     let index : a.index ≡ b.index = omega arith in
-    let at : slice_get a.queue.kept a.index ≡ Some k = ap (λ (i : ℕ). slice_get a.queue.kept i) index ∙ ap (λ (q : Queue). slice_get q.kept b.index) (sym queue) ∙ b.at in
+    let at : slice_get a.queue.kept a.index ≡ Some k =
+        ap (λ (i : ℕ). slice_get a.queue.kept i) index ∙ ap (λ (q : Queue). slice_get q.kept b.index) (sym queue)
+            ∙ b.at in
     let at_a = a.at in
     cc

@@ -1,5 +1,8 @@
 -- One cut after another: what is left of what is left.
-use Rattle.std.proofs.Common.{◌≡◌, ℕ, ◌+◌, ◌<◌, ◌≤◌, inl, inr, ◌↔◌, List, [], ◌∷◌, ◌++◌, length, take, Some, slice_get, subst, sym, ap, ◌∙◌, append_assoc, arith}
+use Rattle.std.proofs.Common.{
+    ◌≡◌, ℕ, ◌+◌, ◌<◌, ◌≤◌, inl, inr, ◌↔◌, List, [], ◌∷◌, ◌++◌, length, take, Some, slice_get, subst, sym, ap, ◌∙◌,
+    append_assoc, arith
+}
 use Rattle.std.proofs.Math.Seq.{take-append-add}
 use Rattle.std.proofs.lemmas.List.{take-append-le}
 use Rattle.journal.specs.declared.event.Event.{Event}
@@ -36,19 +39,28 @@ replays_append start c j = ((λ all. (front all, left all)), (λ both. back both
     behind i = ap (memory_after start) (take-append-add c j i) ∙ memory_after-append start c (take i j)
 
     front : Replays start (c ++ j) → Replays start c
-    front all i p a v does = word (memory_after start (take i (c ++ j))) (memory_after start (take i c)) a v (within i (at_within c i (event p (Load a v)) does)) (all i p a v (at_longer c j i (event p (Load a v)) does))
+    front all i p a v does =
+        word (memory_after start (take i (c ++ j))) (memory_after start (take i c)) a v
+            (within i (at_within c i (event p (Load a v)) does))
+            (all i p a v (at_longer c j i (event p (Load a v)) does))
 
     left : Replays start (c ++ j) → Replays (memory_after start c) j
-    left all i p a v does = word (memory_after start (take (length c + i) (c ++ j))) (memory_after (memory_after start c) (take i j)) a v (behind i) (all (length c + i) p a v (at_behind c j i (event p (Load a v)) does))
+    left all i p a v does =
+        word (memory_after start (take (length c + i) (c ++ j))) (memory_after (memory_after start c) (take i j)) a v
+            (behind i) (all (length c + i) p a v (at_behind c j i (event p (Load a v)) does))
 
     back : Replays start c → Replays (memory_after start c) j → Replays start (c ++ j)
     back cut rest i p a v does = elim (append_cases c j i (event p (Load a v)) does) [
-      | inl old ↦ word (memory_after start (take i c)) (memory_after start (take i (c ++ j))) a v (sym (within i old.0)) (cut i p a v old.1)
-      | inr new ↦ word (memory_after (memory_after start c) (take new.0 j)) (memory_after start (take i (c ++ j))) a v (sym (ap (λ n. memory_after start (take n (c ++ j))) new.1 ∙ behind new.0)) (rest new.0 p a v new.2)
+      | inl old ↦ word (memory_after start (take i c)) (memory_after start (take i (c ++ j))) a v
+          (sym (within i old.0)) (cut i p a v old.1)
+      | inr new ↦ word (memory_after (memory_after start c) (take new.0 j)) (memory_after start (take i (c ++ j))) a v
+          (sym (ap (λ n. memory_after start (take n (c ++ j))) new.1 ∙ behind new.0)) (rest new.0 p a v new.2)
     ]
 
 -- what follows what was cut off, d, is cut off in turn
-module _ (s : Sizes) (c d : List Event) (b after : Base) (well : WellFormed s (c ++ d)) (base : IsBaseOf s.processors (addresses s) c b) (ends : EndsEpisode s.processors d) (free : RaceFreeFrom b d) (kept : IsBaseAfter b d after) where
+module _ (s : Sizes) (c d : List Event) (b after : Base) (well : WellFormed s (c ++ d))
+    (base : IsBaseOf s.processors (addresses s) c b) (ends : EndsEpisode s.processors d) (free : RaceFreeFrom b d)
+    (kept : IsBaseAfter b d after) where
   well_c : WellFormed s c
   well_c = well_formed_front s c d well
 
@@ -56,7 +68,11 @@ module _ (s : Sizes) (c d : List Event) (b after : Base) (well : WellFormed s (c
   here = sort s c b well_c base
 
   by_within : ends.by < s.processors
-  by_within = ((each_push s (c ++ ends.front) (event ends.by Arrive)).0 (subst (WellFormed s) (ap (λ (xs : List Event). c ++ xs) ends.arrives ∙ sym (append_assoc c ends.front (event ends.by Arrive ∷ []))) well)).1.processor
+  by_within =
+      ((each_push s (c ++ ends.front) (event ends.by Arrive)).0 (subst (WellFormed s) (ap
+                          (λ (xs : List Event). c ++ xs) ends.arrives
+                      ∙ sym (append_assoc c ends.front (event ends.by Arrive ∷ [])))
+                  well)).1.processor
 
   all : (q : ℕ) → q < s.processors → count_of is_arrive (c ++ d) ends.by ≤ count_of is_arrive (c ++ d) q
   all q within =
@@ -67,12 +83,18 @@ module _ (s : Sizes) (c d : List Event) (b after : Base) (well : WellFormed s (c
       omega (arith, (n.1 q within).0, (n.1 ends.by by_within).0)
 
   both_free : RaceFree (c ++ d)
-  both_free = let e = even s.processors c d b here (present_left s c d well) in (race_free b c d e.0 e.1 (none_begins c d (cut_before s c d b well here) base.race_free)).1 free
+  both_free =
+      let e = even s.processors c d b here (present_left s c d well) in
+          (race_free b c d e.0 e.1 (none_begins c d (cut_before s c d b well here) base.race_free)).1 free
 
   -- and what is kept after it is what the two leave
   pub base_after : IsBaseOf s.processors (addresses s) (c ++ d) after
   base_after = record {
     after = base_append (no_base (addresses s)) b after c d base.after kept;
-    ends = inr (record { front = c ++ ends.front; by = ends.by; arrives = ap (λ (xs : List Event). c ++ xs) ends.arrives ∙ sym (append_assoc c ends.front (event ends.by Arrive ∷ [])); all = all });
+    ends =
+        inr (record { front = c ++ ends.front; by = ends.by;
+                    arrives = ap (λ (xs : List Event). c ++ xs) ends.arrives
+                        ∙ sym (append_assoc c ends.front (event ends.by Arrive ∷ []));
+                    all = all });
     race_free = both_free;
   }

@@ -1,7 +1,7 @@
 -- Behind an arrival of each processor, a journal says what it says from a base.
-use Rattle.std.proofs.Common.{◌≡◌, ◌≢◌, ℕ, ◌+◌, ◌-◌, ◌<◌, ◌≤◌, ◌⊎◌, inl, inr, ◌↔◌, List, [], ◌∷◌, ◌++◌, length, take, drop, subst, subst₂, sym, refl, ap, ◌∙◌, length-append, arith}
+use Rattle.std.proofs.Common.{◌≡◌, ◌≢◌, ℕ, ◌+◌, ◌-◌, ◌<◌, ◌≤◌, ◌⊎◌, inl, inr, List, [], ◌++◌, length, take, drop, subst, subst₂, sym, refl, ap, ◌∙◌, arith}
 use Rattle.std.proofs.Math.Seq.{take-add}
-use Rattle.std.proofs.lemmas.Bool.{cases_eq, cases_lt}
+use Rattle.std.proofs.lemmas.Bool.{cases_lt}
 use Rattle.std.proofs.lemmas.Option.{none-some}
 use Rattle.journal.specs.declared.event.Event.{Event}
 use Rattle.journal.specs.declared.event.Kind.{Kind}
@@ -15,23 +15,13 @@ use Rattle.journal.specs.Base.{Base, arrived}
 use Rattle.journal.specs.RacesFrom.{IsFirstRaceFrom, RaceFreeFrom}
 use Rattle.journal.specs.Opening.{IsOpening}
 use Rattle.lists.proofs.Places.{append_cases, slice_get-drop, slice_get-from_take}
-use Rattle.journal.proofs.Order.Places.{at_within, at_longer, at_last, does_same, count_of-within, numbered}
+use Rattle.journal.proofs.Order.Places.{at_within, does_same, count_of-within, numbered}
 use Rattle.journal.proofs.Bases.Order.{IsEven}
 use Rattle.journal.proofs.Bases.Races.{race_split, race_free, first_race}
 
 -- the events of a part stand in the whole
 pub behind : (n m : ℕ) (xs : List Event) (i : ℕ) (e : Event) → At (take m (drop n xs)) i e → At xs (n + i) e
 behind n m xs i e at = sym (slice_get-drop xs n i) ∙ slice_get-from_take (drop n xs) m i e at
-
--- an opening of one more processor
-pub opening_push : (n : ℕ) (xs : List Event) → IsOpening n xs → IsOpening (n + 1) (xs ++ event n Arrive ∷ [])
-opening_push n xs x = record {
-  long = (let long = x.long in let more = length-append xs (event n Arrive ∷ []) in omega arith);
-  each = λ p lt. elim (cases_lt p n) [
-    | inl old ↦ at_longer xs (event n Arrive ∷ []) p (event p Arrive) (x.each p old)
-    | inr new ↦ (let is : n ≡ p = omega arith in let at : length xs ≡ p = x.long ∙ is in subst₂ (λ (i q : ℕ). At (xs ++ event n Arrive ∷ []) i (event q Arrive)) at is (at_last xs (event n Arrive)))
-  ];
-}
 
 module _ (processors : ℕ) (xs : List Event) (x : IsOpening processors xs) where
   -- where a processor does something, it is its arrival
@@ -48,7 +38,8 @@ module _ (processors : ℕ) (xs : List Event) (x : IsOpening processors xs) wher
     | inl more ↦
         (let first = numbered is_arrive xs q 0 (omega arith) in
         let second = numbered is_arrive xs q 1 more in
-        let same : first.place ≡ second.place = (here first.place q first.kind first.does).0 ∙ sym (here second.place q second.kind second.does).0 in
+        let same : first.place ≡ second.place =
+            (here first.place q first.kind first.does).0 ∙ sym (here second.place q second.kind second.does).0 in
         let number = first.number in
         let other = second.number in
         let alike = ap (λ n. count_of is_arrive (take n xs) q) same in
@@ -58,7 +49,8 @@ module _ (processors : ℕ) (xs : List Event) (x : IsOpening processors xs) wher
   departs_never : (q : ℕ) → count_of is_depart xs q ≡ 0
   departs_never q = elim (cases_lt 0 (count_of is_depart xs q)) [
     | inr le ↦ omega arith
-    | inl more ↦ (let n = numbered is_depart xs q 0 more in let counts = n.counts in absurd (cc (counts, ap (λ k. is_depart k) (here n.place q n.kind n.does).1)))
+    | inl more ↦ (let n = numbered is_depart xs q 0 more in let counts = n.counts in
+            absurd (cc (counts, ap (λ k. is_depart k) (here n.place q n.kind n.does).1)))
   ]
 
   pub opening_even : (b : Base) (j : List Event) → arrived b ≡ 1 → ProcessorsInRange processors j → IsEven b xs j 1
@@ -71,7 +63,8 @@ module _ (processors : ℕ) (xs : List Event) (x : IsOpening processors xs) wher
   pub opening_races : (j : List Event) (i k : ℕ) → i < length xs → ¬ Race (xs ++ j) i k
   opening_races j i k lt r = elim (append_cases xs j i r.first r.first_at) [
     | inr left ↦ absurd (omega (arith, left.1))
-    | inl first ↦ (let is = (here i r.first.processor r.first.kind first.1).1 in none-some r.conflict.address (sym (ap (λ a. address_of a) is) ∙ r.conflict.first))
+    | inl first ↦ (let is = (here i r.first.processor r.first.kind first.1).1 in
+            none-some r.conflict.address (sym (ap (λ a. address_of a) is) ∙ r.conflict.first))
   ]
 
 -- what stands before a journal for the race checker: arrivals of all where something was cut off, and else nothing
@@ -84,11 +77,18 @@ pub record IsOpened (b : Base) (checked j : List Event) (size : ℕ) : Type 0 wh
   pub none : (i k : ℕ) → i < length opening → ¬ Race (opening ++ j) i k
 
 -- what is checked of events behind an opening: from its end on where nothing was cut off, and else with it
-pub opened : (b : Base) (processors first count : ℕ) (items : List Event) → IsOpening processors (take processors items) → ProcessorsInRange processors items → ((b.cut ≡ 0) × (first ≡ processors)) ⊎ ((b.cut ≢ 0) × (first ≡ 0)) → IsOpened b (take (processors + count - first) (drop first items)) (take count (drop processors items)) (processors - first)
+pub opened : (b : Base) (processors first count : ℕ) (items : List Event)
+    → IsOpening processors (take processors items) → ProcessorsInRange processors items
+    → ((b.cut ≡ 0) × (first ≡ processors)) ⊎ ((b.cut ≢ 0) × (first ≡ 0))
+    → IsOpened b (take (processors + count - first) (drop first items)) (take count (drop processors items))
+        (processors - first)
 opened b processors first count items opening present (inl none) = record {
   opening = [];
   number = 0;
-  is = (let all : processors + count - first ≡ count = let x = none.1 in omega arith in subst₂ (λ (m n : ℕ). take m (drop n items) ≡ take count (drop processors items)) (sym all) (sym none.1) refl);
+  is =
+      (let all : processors + count - first ≡ count = let x = none.1 in omega arith in
+              subst₂ (λ (m n : ℕ). take m (drop n items) ≡ take count (drop processors items)) (sym all) (sym none.1)
+                  refl);
   long = (let x = none.1 in omega arith);
   even = record { arrivals = λ m e at. refl; departures = λ m e at. (let x = none.0 in omega arith) };
   none = λ i k lt. absurd (omega arith);
@@ -96,9 +96,16 @@ opened b processors first count items opening present (inl none) = record {
 opened b processors first count items opening present (inr some) = record {
   opening = take processors items;
   number = 1;
-  is = (let all : processors + count - first ≡ processors + count = let x = some.1 in omega arith in subst₂ (λ (m n : ℕ). take m (drop n items) ≡ take processors items ++ take count (drop processors items)) (sym all) (sym some.1) (take-add processors count items));
+  is =
+      (let all : processors + count - first ≡ processors + count = let x = some.1 in omega arith in
+              subst₂
+                  (λ (m n : ℕ). take m (drop n items) ≡ take processors items ++ take count (drop processors items))
+                  (sym all) (sym some.1) (take-add processors count items));
   long = (let x = some.1 in opening.long ∙ omega arith);
-  even = opening_even processors (take processors items) opening b (take count (drop processors items)) (let x = some.0 in omega arith) (λ i e at. present (processors + i) e (behind processors count items i e at));
+  even =
+      opening_even processors (take processors items) opening b (take count (drop processors items))
+          (let x = some.0 in omega arith)
+          (λ i e at. present (processors + i) e (behind processors count items i e at));
   none = opening_races processors (take processors items) opening (take count (drop processors items));
 }
 
@@ -107,11 +114,14 @@ module _ (b : Base) (checked j : List Event) (size : ℕ) (x : IsOpened b checke
   pub free_from : RaceFree checked → RaceFreeFrom b j
   free_from free = (race_free b x.opening j x.number x.even x.none).0 (subst RaceFree x.is free)
 
-  pub first_from : (i k : ℕ) → IsFirstRace checked i k → (size ≤ i) × (size ≤ k) × IsFirstRaceFrom b j (i - size) (k - size)
+  pub first_from : (i k : ℕ) → IsFirstRace checked i k
+      → (size ≤ i) × (size ≤ k) × IsFirstRaceFrom b j (i - size) (k - size)
   first_from i k first =
       let here = subst (λ xs. IsFirstRace xs i k) x.is first in
       let split = race_split b x.opening j x.number x.even x.none i k here.race in
       let long = x.long in
       let from : i ≡ length x.opening + (i - size) = omega (arith, split.2) in
       let to : k ≡ length x.opening + (k - size) = omega (arith, split.3) in
-      (omega (arith, split.2), omega (arith, split.3), (first_race b x.opening j x.number x.even x.none (i - size) (k - size)).0 (subst₂ (IsFirstRace (x.opening ++ j)) from to here))
+      (omega (arith, split.2), omega (arith, split.3),
+              (first_race b x.opening j x.number x.even x.none (i - size) (k - size)).0
+              (subst₂ (IsFirstRace (x.opening ++ j)) from to here))

@@ -1,5 +1,7 @@
 -- Happens-before and pasts of what is left, read from the history or from the base.
-use Rattle.std.proofs.Common.{◌≡◌, ℕ, ◌+◌, ◌-◌, ◌<◌, inl, inr, ◌↔◌, List, ◌++◌, length, take, Bool, sym, ap, subst, subst₂, ◌∙◌, refl, arith}
+use Rattle.std.proofs.Common.{
+    ◌≡◌, ℕ, ◌+◌, ◌-◌, ◌<◌, inl, inr, ◌↔◌, List, ◌++◌, length, take, Bool, sym, ap, subst, subst₂, ◌∙◌, refl, arith
+}
 use Rattle.std.proofs.Math.Seq.{take-append-add}
 use Rattle.journal.specs.declared.event.Event.{Event}
 use Rattle.journal.specs.declared.event.Kind.{Kind}
@@ -23,7 +25,8 @@ at_left c j m e h = sym (slice_get-append_right c j m) ∙ h
 -- a count up to a place of what is left
 pub count_left : (is : Kind → Bool) (c j : List Event) (i q : ℕ)
     → count_of is (take (length c + i) (c ++ j)) q ≡ count_of is c q + count_of is (take i j) q
-count_left is c j i q = ap (λ (xs : List Event). count_of is xs q) (take-append-add c j i) ∙ count_of-append is c (take i j) q
+count_left is c j i q =
+    ap (λ (xs : List Event). count_of is xs q) (take-append-add c j i) ∙ count_of-append is c (take i j) q
 
 -- whoever did what is left has arrived so often in what was cut off, and departed as often but for the base's arrival
 pub record IsEven (b : Base) (c j : List Event) (n : ℕ) : Type 0 where
@@ -65,12 +68,14 @@ module _ (b : Base) (c j : List Event) (n : ℕ) (even : IsEven b c j n) where
       let at = at_left c j i e.from e.from_at in
       let to = at_left c j k e.to e.to_at in
       let before = e.before in
-      record { before = omega arith; from = e.from; to = e.to; from_at = at; to_at = to; link = link_from i k e.from e.to at to e.link }
+      record { before = omega arith; from = e.from; to = e.to; from_at = at; to_at = to;
+              link = link_from i k e.from e.to at to e.link }
 
   edge_back : (i k : ℕ) → EdgeFrom b j i k → Edge (c ++ j) (length c + i) (length c + k)
   edge_back i k e =
       let before = e.before in
-      record { before = omega arith; from = e.from; to = e.to; from_at = at_behind c j i e.from e.from_at; to_at = at_behind c j k e.to e.to_at; link = link_back i k e.from e.to e.from_at e.to_at e.link }
+      record { before = omega arith; from = e.from; to = e.to; from_at = at_behind c j i e.from e.from_at;
+              to_at = at_behind c j k e.to e.to_at; link = link_back i k e.from e.to e.from_at e.to_at e.link }
 
   before_at : {x y : ℕ} → HappensBefore (c ++ j) x y → (i k : ℕ) → x ≡ length c + i → y ≡ length c + k
       → HappensBeforeFrom b j i k
@@ -78,7 +83,8 @@ module _ (b : Base) (c j : List Event) (n : ℕ) (even : IsEven b c j n) where
   before_at (on {m = m} h e) i k is to =
       let lt = goes_forward (c ++ j) h in
       let between : m ≡ length c + (m - length c) = omega arith in
-      on_base (before_at h i (m - length c) is between) (edge_from (m - length c) k (subst₂ (Edge (c ++ j)) between to e))
+      on_base (before_at h i (m - length c) is between)
+          (edge_from (m - length c) k (subst₂ (Edge (c ++ j)) between to e))
 
   -- the order of what is left is the same, read from the history or from the base
   pub before_from : (i k : ℕ) → HappensBefore (c ++ j) (length c + i) (length c + k) → HappensBeforeFrom b j i k
@@ -103,7 +109,8 @@ module _ (b : Base) (c j : List Event) (n : ℕ) (even : IsEven b c j n) where
   pub past_from : (p i : ℕ) → InPast (c ++ j) p (length c + i) → InPastFrom b j p i
   past_from p i x = elim (append_cases c j x.own x.event x.at) [
     | inl cut ↦ absurd (too_early cut.0 x.reaches)
-    | inr left ↦ record { own = left.0; event = x.event; at = left.2; mine = x.mine; reaches = up_from i left.0 (subst (λ m. UpTo (c ++ j) m (length c + i)) left.1 x.reaches) }
+    | inr left ↦ record { own = left.0; event = x.event; at = left.2; mine = x.mine;
+            reaches = up_from i left.0 (subst (λ m. UpTo (c ++ j) m (length c + i)) left.1 x.reaches) }
   ]
     where
       too_early : x.own < length c → UpTo (c ++ j) x.own (length c + i) → ⊥
@@ -111,4 +118,6 @@ module _ (b : Base) (c j : List Event) (n : ℕ) (even : IsEven b c j n) where
       too_early lt (inr h) = let before = goes_forward (c ++ j) h in omega arith
 
   pub past_back : (p i : ℕ) → InPastFrom b j p i → InPast (c ++ j) p (length c + i)
-  past_back p i x = record { own = length c + x.own; event = x.event; at = at_behind c j x.own x.event x.at; mine = x.mine; reaches = up_back i x.own x.reaches }
+  past_back p i x =
+      record { own = length c + x.own; event = x.event; at = at_behind c j x.own x.event x.at; mine = x.mine;
+              reaches = up_back i x.own x.reaches }

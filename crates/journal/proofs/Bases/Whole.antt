@@ -17,7 +17,9 @@ use Rattle.journal.specs.WellFormedFrom.{IsAway}
 use Rattle.journal.specs.LoadsFrom.{ExplainedFrom}
 use Rattle.journal.specs.CopiesFrom.{LawfulFrom}
 use Rattle.journal.specs.Cuts.{IsBaseOf}
-use Rattle.journal.specs.BaseLaws.{SaysTheSame, SameLaw, WellFormedLaw, ReplaysFrom, FlatLaw, CopyLaw, CutLaw, UncutLaw}
+use Rattle.journal.specs.BaseLaws.{
+    SaysTheSame, SameLaw, WellFormedLaw, ReplaysFrom, FlatLaw, CopyLaw, CutLaw, UncutLaw
+}
 use Rattle.lists.proofs.LastWrites.{length-written}
 use Rattle.journal.proofs.Order.Places.{at_within, at_behind}
 use Rattle.journal.proofs.Journals.WellFormed.{well_formed_front, last_or_none}
@@ -29,9 +31,12 @@ use Rattle.journal.proofs.Bases.Races.{race_from, race_back, none_begins, race_f
 use Rattle.journal.proofs.Bases.Loads.{same_explained}
 use Rattle.journal.proofs.Bases.Copies.{lawful_from}
 use Rattle.journal.proofs.Bases.Cutting.{replays_append, base_after}
-use Rattle.journal.proofs.Bases.Uncut.{uncut_base, uncut_order, uncut_past, uncut_race, uncut_explained, uncut_well_formed, uncut_lawful}
+use Rattle.journal.proofs.Bases.Uncut.{
+    uncut_base, uncut_order, uncut_past, uncut_race, uncut_explained, uncut_well_formed, uncut_lawful
+}
 
-module _ (s : Sizes) (b : Base) (c j : List Event) (well : WellFormed s (c ++ j)) (base : IsBaseOf s.processors (addresses s) c b) where
+module _ (s : Sizes) (b : Base) (c j : List Event) (well : WellFormed s (c ++ j))
+    (base : IsBaseOf s.processors (addresses s) c b) where
   well_c : WellFormed s c
   well_c = well_formed_front s c j well
 
@@ -48,9 +53,12 @@ module _ (s : Sizes) (b : Base) (c j : List Event) (well : WellFormed s (c ++ j)
   explained = same_explained s c j b alike.0 well_c base alike.1 before
 
   memory : Replays (memory_after (replicate (addresses s) 0) c) j ↔ Replays b.memory j
-  memory = ((λ h. subst (λ ws. Replays ws j) (sym base.after.memory) h), (λ h. subst (λ ws. Replays ws j) base.after.memory h))
+  memory =
+      ((λ h. subst (λ ws. Replays ws j) (sym base.after.memory) h),
+              (λ h. subst (λ ws. Replays ws j) base.after.memory h))
 
-  replays : Replays (replicate (addresses s) 0) (c ++ j) ↔ (Replays (replicate (addresses s) 0) c × Replays b.memory j)
+  replays : Replays (replicate (addresses s) 0) (c ++ j)
+      ↔ (Replays (replicate (addresses s) 0) c × Replays b.memory j)
   replays =
       let parts = replays_append (replicate (addresses s) 0) c j in
       ((λ h. let both = parts.0 h in (both.0, memory.0 both.1)), (λ both. parts.1 (both.0, memory.1 both.1)))
@@ -74,19 +82,24 @@ module _ (s : Sizes) (b : Base) (c j : List Event) (well : WellFormed s (c ++ j)
 
   pub replays_from : Explained (c ++ j) → ReplaysFrom s b c j
   replays_from all = let parts = explained.0 all in record {
-    cut = flat_memory (addresses s) c (λ i p a v does. (well_c i (event p (Load a v)) does).in_range) parts.0 base.race_free;
+    cut =
+        flat_memory (addresses s) c (λ i p a v does. (well_c i (event p (Load a v)) does).in_range) parts.0
+            base.race_free;
     left = λ free. flat_memory_from b j in_range parts.1 free;
     up_to = λ i k first. flat_before_race_from b j i k in_range parts.1 first;
   }
 
   known : (p m : ℕ) (e : Event) → At j m e → e.processor ≡ p → (i : ℕ) → i < length c → InPast (c ++ j) p i
-  known p m e at mine i lt = record { own = length c + m; event = e; at = at_behind c j m e at; mine = mine; reaches = inr (before i m lt (at_within j m e at)) }
+  known p m e at mine i lt =
+      record { own = length c + m; event = e; at = at_behind c j m e at; mine = mine;
+              reaches = inr (before i m lt (at_within j m e at)) }
 
   pub copy_from : (p n : ℕ) (page : List ℕ) → ¬ IsAway j p → n < s.pages → Lawful s (c ++ j) p n page
       → LawfulFrom s b j p n page
   copy_from p n page present lt lawful = elim (last_or_none j p) [
     | inr away ↦ absurd (present away)
-    | inl x ↦ lawful_from s c j b alike.0 alike.1 base.race_free base.after.memory before p (known p x.0 (event p x.1) x.2.does refl) n page lawful lt
+    | inl x ↦ lawful_from s c j b alike.0 alike.1 base.race_free base.after.memory before p
+        (known p x.0 (event p x.1) x.2.does refl) n page lawful lt
   ]
 
 pub same_law : SameLaw
@@ -94,7 +107,8 @@ same_law s b c j well base = says_the_same s b c j well base
 
 pub well_formed_law : WellFormedLaw
 well_formed_law s b c j base = (
-  (λ well. let cut = well_formed_front s c j well in (cut, well_formed_from s c b cut (sort s c b cut base) base j well)),
+  (λ well. let cut = well_formed_front s c j well in
+          (cut, well_formed_from s c b cut (sort s c b cut base) base j well)),
   (λ both. well_formed_back s c b both.0 (sort s c b both.0 base) base j both.1),
 )
 

@@ -1,5 +1,7 @@
 -- One fact for all copies of a page, valid or stale, and what each event does to it.
-use Rattle.std.proofs.Common.{ℕ, ◌≡◌, ◌≢◌, ◌⊎◌, ◌↔◌, ◌/◌, inl, inr, List, [], ◌∷◌, ◌++◌, replicate, length, refl, sym, ap, subst, ◌∙◌}
+use Rattle.std.proofs.Common.{
+    ℕ, ◌≡◌, ◌≢◌, ◌⊎◌, ◌↔◌, ◌/◌, inl, inr, List, [], ◌∷◌, ◌++◌, replicate, length, refl, sym, ap, subst, ◌∙◌
+}
 use Rattle.std.proofs.lemmas.Option.{none-some}
 use Rattle.journal.specs.declared.event.Event.{Event}
 use Rattle.journal.specs.declared.event.Kind.TheVariants.{Store, Fetch}
@@ -33,7 +35,9 @@ brought_past j p n i (inr x) =
     past_back j p i x.0 x.2 (own_in_past j p x.0 (event p (Fetch f.0 n f.1 f.2)) f.3 refl)
 
 -- what was brought to a store of the page by one more event
-pub brought_push : (s : Sizes) (j : List Event) (e : Event) (p n i : ℕ) → ((w r d : ℕ) → e ≢ (event p (Fetch w n r d))) → StoresTo s (j ++ e ∷ []) n i → Brought (j ++ e ∷ []) p n i → Brought j p n i ⊎ ((i ≡ length j) × (e.processor ≡ p))
+pub brought_push : (s : Sizes) (j : List Event) (e : Event) (p n i : ℕ)
+    → ((w r d : ℕ) → e ≢ (event p (Fetch w n r d))) → StoresTo s (j ++ e ∷ []) n i → Brought (j ++ e ∷ []) p n i
+    → Brought j p n i ⊎ ((i ≡ length j) × (e.processor ≡ p))
 brought_push s j e p n i no_fetch x (inl m) = elim (push_cases j e i m.0 m.1) [
   | inl h ↦ inl (inl (m.0, h.1, m.2))
   | inr h ↦ inr (h.0, ap (λ (f : Event). f.processor) h.1 ∙ m.2)
@@ -46,11 +50,15 @@ brought_push s j e p n i no_fetch x (inr m) =
     ]
 
 -- the gap is the stores of the past that were not brought
-pub gap_is : (s : Sizes) (j : List Event) (p n i : ℕ) → InGap s j p n i ↔ (InPast j p i × StoresTo s j n i × (Brought j p n i → ⊥))
-gap_is s j p n i = (λ g. (g.past, g.store, λ b. elim b [ inl m ↦ g.others m | inr f ↦ g.new f.0 f.1 f.2 ]), λ x. record { store = x.1; others = λ m. x.2 (inl m); past = x.0; new = λ k f before. x.2 (inr (k, f, before)) })
+pub gap_is : (s : Sizes) (j : List Event) (p n i : ℕ)
+    → InGap s j p n i ↔ (InPast j p i × StoresTo s j n i × (Brought j p n i → ⊥))
+gap_is s j p n i =
+    (λ g. (g.past, g.store, λ b. elim b [ inl m ↦ g.others m | inr f ↦ g.new f.0 f.1 f.2 ]), λ x. record
+            { store = x.1; others = λ m. x.2 (inl m); past = x.0; new = λ k f before. x.2 (inr (k, f, before)) })
 
 -- a copy that lacks nothing has each store of the past
-pub gapless : (s : Sizes) (j : List Event) (p n : ℕ) (page : List ℕ) → NoGap s j p n → IsCopy s j p n page → (i : ℕ) → StoresTo s j n i → InPast j p i → Brought j p n i
+pub gapless : (s : Sizes) (j : List Event) (p n : ℕ) (page : List ℕ) → NoGap s j p n → IsCopy s j p n page → (i : ℕ)
+    → StoresTo s j n i → InPast j p i → Brought j p n i
 gapless s j p n page none copy i x past = elim (has_or_not copy.image.order i) [
   | inl h ↦ ((copy.image.each i).0 h).0
   | inr away ↦ absurd (none i ((gap_is s j p n i).1 (past, x, λ b. away ((copy.image.each i).1 (b, x)))))
@@ -61,7 +69,8 @@ pub copy_start : (s : Sizes) (p n : ℕ) → IsCopy s [] p n (replicate s.words 
 copy_start s p n = record {
   image = record {
     order = [];
-    each = λ i. (λ h. absurd (has-nil i h), λ x. absurd (none-some (event x.1.by (Store x.1.address x.1.value)) x.1.does));
+    each =
+        λ i. (λ h. absurd (has-nil i h), λ x. absurd (none-some (event x.1.by (Store x.1.address x.1.value)) x.1.does));
     once = in_order-nil (λ (a b : ℕ). a ≢ b);
     extends = in_order-nil (λ i k. ¬ HappensBefore [] k i);
     gives = refl;
@@ -70,14 +79,20 @@ copy_start s p n = record {
 }
 
 -- an event that is neither p's store to the page nor p's fetch of it keeps p's copy
-pub copy_kept : (s : Sizes) (j : List Event) (e : Event) (p n : ℕ) (page : List ℕ) → ((a v : ℕ) → a / s.words ≡ n → e ≢ (event p (Store a v))) → ((w r d : ℕ) → e ≢ (event p (Fetch w n r d))) → IsCopy s j p n page → IsCopy s (j ++ e ∷ []) p n page
+pub copy_kept : (s : Sizes) (j : List Event) (e : Event) (p n : ℕ) (page : List ℕ)
+    → ((a v : ℕ) → a / s.words ≡ n → e ≢ (event p (Store a v))) → ((w r d : ℕ) → e ≢ (event p (Fetch w n r d)))
+    → IsCopy s j p n page → IsCopy s (j ++ e ∷ []) p n page
 copy_kept s j e p n page no_store no_fetch copy = record {
-  image = image_kept s j (e ∷ []) (Brought j p n) (Brought (j ++ e ∷ []) p n) n page (λ i x. brought_longer j (e ∷ []) p n i) (λ i x b. (old i x b, past_within j p i (brought_past j p n i (old i x b)))) copy.image;
+  image =
+      image_kept s j (e ∷ []) (Brought j p n) (Brought (j ++ e ∷ []) p n) n page
+          (λ i x. brought_longer j (e ∷ []) p n i)
+          (λ i x b. (old i x b, past_within j p i (brought_past j p n i (old i x b)))) copy.image;
   closed = λ i k x y b before.
       let o = old i x b in
       let within = past_within j p i (brought_past j p n i o) in
       let h = shorter j (e ∷ []) within before in
-      brought_longer j (e ∷ []) p n k (copy.closed i k (stores_shorter s j (e ∷ []) n i within x) (stores_shorter s j (e ∷ []) n k (begins_within j h) y) o h);
+      brought_longer j (e ∷ []) p n k (copy.closed i k (stores_shorter s j (e ∷ []) n i within x)
+              (stores_shorter s j (e ∷ []) n k (begins_within j h) y) o h);
 }
   where
     old : (i : ℕ) → StoresTo s (j ++ e ∷ []) n i → Brought (j ++ e ∷ []) p n i → Brought j p n i

@@ -1,5 +1,5 @@
 -- A load of a lawful copy answers what it may.
-use Rattle.std.proofs.Common.{ℕ, ◌≡◌, ◌<◌, ◌⊎◌, ◌/◌, ◌%◌, inl, inr, List, [], ◌∷◌, ◌++◌, Option, Some, replicate, slice_get, length, arith, refl, sym, ap, subst, subst₂, ◌∙◌}
+use Rattle.std.proofs.Common.{ℕ, ◌≡◌, ◌<◌, ◌⊎◌, ◌/◌, ◌%◌, inl, inr, List, [], ◌∷◌, ◌++◌, Option, Some, replicate, slice_get, length, arith, refl, sym, ap, subst, ◌∙◌}
 use Rattle.std.proofs.lemmas.Bool.{cases_order}
 use Rattle.std.proofs.lemmas.Option.{same_Some}
 use Rattle.journal.specs.declared.event.Event.{Event}
@@ -30,13 +30,18 @@ pub record LatestAmong (j : List Event) (among : ℕ → Type 0) (a v : ℕ) : T
   pub latest : (i q w : ℕ) → Does j i q (Store a w) → among i → ¬ HappensBefore j place i
 
 -- a word of an image is 0 where nothing is stored, or a latest store
-pub image_word : (s : Sizes) (j : List Event) (among : ℕ → Type 0) (n : ℕ) (page : List ℕ) (a v : ℕ) → IsImage s j among n page → a / s.words ≡ n → slice_get page (a % s.words) ≡ Some v → ((v ≡ 0) × ((i q w : ℕ) → Does j i q (Store a w) → ¬ among i)) ⊎ LatestAmong j among a v
-image_word s j among n page a v image in_page h = go (word_written f (replicate s.words 0) image.order (a % s.words) v (ap (λ (ws : List ℕ). slice_get ws (a % s.words)) (sym image.gives) ∙ h))
+pub image_word : (s : Sizes) (j : List Event) (among : ℕ → Type 0) (n : ℕ) (page : List ℕ) (a v : ℕ)
+    → IsImage s j among n page → a / s.words ≡ n → slice_get page (a % s.words) ≡ Some v
+    → ((v ≡ 0) × ((i q w : ℕ) → Does j i q (Store a w) → ¬ among i)) ⊎ LatestAmong j among a v
+image_word s j among n page a v image in_page h =
+    go (word_written f (replicate s.words 0) image.order (a % s.words) v
+            (ap (λ (ws : List ℕ). slice_get ws (a % s.words)) (sym image.gives) ∙ h))
   where
     f : ℕ → Option (ℕ × ℕ)
     f i = page_write s (slice_get j i)
 
-    last : (l : LastWrite f image.order (a % s.words) v) (i q w : ℕ) → Does j i q (Store a w) → (x : Has image.order i) → (l.place ≡ x.0) ⊎ ((l.place < x.0) ⊎ (x.0 < l.place)) → ¬ HappensBefore j l.item i
+    last : (l : LastWrite f image.order (a % s.words) v) (i q w : ℕ) → Does j i q (Store a w)
+        → (x : Has image.order i) → (l.place ≡ x.0) ⊎ ((l.place < x.0) ⊎ (x.0 < l.place)) → ¬ HappensBefore j l.item i
     last l i q w does x (inl e) before =
         let same : l.item ≡ i = same_Some l.item i (sym l.at ∙ ap (slice_get image.order) e ∙ x.1) in
         let less : l.item < i = goes_forward j before in
@@ -44,7 +49,9 @@ image_word s j among n page a v image in_page h = go (word_written f (replicate 
     last l i q w does x (inr (inl less)) before = l.last x.0 i w less x.1 (store_writes s j i q a w does)
     last l i q w does x (inr (inr less)) before = image.extends x.0 l.place i l.item less x.1 l.at before
 
-    go : LastWrite f image.order (a % s.words) v ⊎ ((slice_get (replicate s.words 0) (a % s.words) ≡ Some v) × Unwritten f image.order (a % s.words)) → ((v ≡ 0) × ((i q w : ℕ) → Does j i q (Store a w) → ¬ among i)) ⊎ LatestAmong j among a v
+    go : LastWrite f image.order (a % s.words) v
+            ⊎ ((slice_get (replicate s.words 0) (a % s.words) ≡ Some v) × Unwritten f image.order (a % s.words))
+        → ((v ≡ 0) × ((i q w : ℕ) → Does j i q (Store a w) → ¬ among i)) ⊎ LatestAmong j among a v
     go (inl l) =
         let x = (image.each l.item).0 (l.place, l.at) in
         inr (record {
@@ -52,12 +59,18 @@ image_word s j among n page a v image in_page h = go (word_written f (replicate 
           by = x.1.by;
           stores = store_at s j n l.item a v x.1 in_page l.writes;
           here = x.0;
-          latest = λ i q w does some. let y = (image.each i).1 (some, stores_to s j n i q a w does in_page) in last l i q w does y (cases_order l.place y.0);
+          latest =
+              λ i q w does some. let y = (image.each i).1 (some, stores_to s j n i q a w does in_page) in
+                  last l i q w does y (cases_order l.place y.0);
         })
-    go (inr r) = inl (sym (slice_get-replicate_found s.words 0 v (a % s.words) r.0), λ i q w does some. let y = (image.each i).1 (some, stores_to s j n i q a w does in_page) in r.1 y.0 i w y.1 (store_writes s j i q a w does))
+    go (inr r) =
+        inl (sym (slice_get-replicate_found s.words 0 v (a % s.words) r.0), λ i q w does some. let y =
+                (image.each i).1 (some, stores_to s j n i q a w does in_page) in r.1 y.0 i w y.1
+                (store_writes s j i q a w does))
 
 -- a load of a lawful copy answers what it may
-pub load_answers : (s : Sizes) (j : List Event) (p n : ℕ) (page : List ℕ) (a v : ℕ) → Lawful s j p n page → a / s.words ≡ n → slice_get page (a % s.words) ≡ Some v → IsAnswer (j ++ event p (Load a v) ∷ []) (length j) a v
+pub load_answers : (s : Sizes) (j : List Event) (p n : ℕ) (page : List ℕ) (a v : ℕ) → Lawful s j p n page
+    → a / s.words ≡ n → slice_get page (a % s.words) ≡ Some v → IsAnswer (j ++ event p (Load a v) ∷ []) (length j) a v
 load_answers s j p n page a v lawful in_page h = go (image_word s j (InPast j p) n page a v lawful in_page h)
   where
     e : Event
@@ -69,14 +82,17 @@ load_answers s j p n page a v lawful in_page h = go (image_word s j (InPast j p)
     old : (i q w : ℕ) → InPast j p i → Does (j ++ e ∷ []) i q (Store a w) → Does j i q (Store a w)
     old i q w x d = at_shorter j (e ∷ []) i (event q (Store a w)) (past_within j p i x) d
 
-    go : ((v ≡ 0) × ((i q w : ℕ) → Does j i q (Store a w) → ¬ InPast j p i)) ⊎ LatestAmong j (InPast j p) a v → IsAnswer (j ++ e ∷ []) (length j) a v
+    go : ((v ≡ 0) × ((i q w : ℕ) → Does j i q (Store a w) → ¬ InPast j p i)) ⊎ LatestAmong j (InPast j p) a v
+        → IsAnswer (j ++ e ∷ []) (length j) a v
     go (inl n) = inl (n.0, λ i q w d before. n.1 i q w (old i q w (past i before) d) (past i before))
     go (inr l) = inr (record {
       place = l.place;
       by = l.by;
       stores = at_longer j (e ∷ []) l.place (event l.by (Store a v)) l.stores;
       before = (reaches_new j e l.place refl).1 l.here;
-      latest = λ i q w d before on. l.latest i q w (old i q w (past i before) d) (past i before) (shorter j (e ∷ []) (past_within j p i (past i before)) on);
+      latest =
+          λ i q w d before on. l.latest i q w (old i q w (past i before) d) (past i before)
+              (shorter j (e ∷ []) (past_within j p i (past i before)) on);
     })
 
 -- an answer stays one as the journal goes on
@@ -96,23 +112,15 @@ answer_on j es k a v within answer = go answer
       by = l.by;
       stores = at_longer j es l.place (event l.by (Store a v)) l.stores;
       before = longer j es l.before;
-      latest = λ i q w d before on. l.latest i q w (old i q w (past i before) d) (past i before) (shorter j es (begins_within j (past i before)) on);
+      latest =
+          λ i q w d before on. l.latest i q w (old i q w (past i before) d) (past i before)
+              (shorter j es (begins_within j (past i before)) on);
     })
 
 -- an explained journal stays so by an event that is no load, or a load that answers what it may
-pub explained_push : (j : List Event) (e : Event) → Explained j → ((p a v : ℕ) → e ≡ event p (Load a v) → IsAnswer (j ++ e ∷ []) (length j) a v) → Explained (j ++ e ∷ [])
+pub explained_push : (j : List Event) (e : Event) → Explained j
+    → ((p a v : ℕ) → e ≡ event p (Load a v) → IsAnswer (j ++ e ∷ []) (length j) a v) → Explained (j ++ e ∷ [])
 explained_push j e explained new k p a v d = elim (push_cases j e k (event p (Load a v)) d) [
   | inl x ↦ answer_on j (e ∷ []) k a v x.0 (explained k p a v x.1)
   | inr x ↦ (let P : ℕ → Type 0 = λ m. IsAnswer (j ++ e ∷ []) m a v in subst P (sym x.0) (new p a v x.1))
 ]
-
--- and by a load of a lawful copy
-pub explained_load : (s : Sizes) (j : List Event) (p n : ℕ) (page : List ℕ) (a v : ℕ) → Explained j → Lawful s j p n page → a / s.words ≡ n → slice_get page (a % s.words) ≡ Some v → Explained (j ++ event p (Load a v) ∷ [])
-explained_load s j p n page a v explained lawful in_page h = explained_push j (event p (Load a v)) explained again
-  where
-    again : (q b w : ℕ) → ◌≡◌ {A = Event} (event p (Load a v)) (event q (Load b w)) → IsAnswer (j ++ event p (Load a v) ∷ []) (length j) b w
-    again q b w e =
-        let kinds : Load a v ≡ Load b w = ap (λ (x : Event). x.kind) e in
-        let same_address : a ≡ b = cc in
-        let same_value : v ≡ w = cc in
-        subst₂ (IsAnswer (j ++ event p (Load a v) ∷ []) (length j)) same_address same_value (load_answers s j p n page a v lawful in_page h)

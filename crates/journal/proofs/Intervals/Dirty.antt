@@ -1,5 +1,8 @@
 -- What each call does to a page's dirty bits, and what they are harvested for.
-use Rattle.std.proofs.Common.{ℕ, ◌≡◌, ◌≢◌, ◌<◌, ◌%◌, List, [], ◌∷◌, ◌++◌, Bool, true, false, cond, Option, Some, None, length, replicate, slice_get, ◌/◌, ◌==◌, mod-lt, true≢false, arith, refl, sym, ap, subst, ◌∙◌}
+use Rattle.std.proofs.Common.{
+    ℕ, ◌≡◌, ◌≢◌, ◌<◌, ◌%◌, List, [], ◌∷◌, ◌++◌, Bool, true, false, cond, Option, Some, None, length, replicate,
+    slice_get, ◌/◌, ◌==◌, mod-lt, true≢false, arith, refl, sym, ap, subst, ◌∙◌
+}
 use Rattle.std.proofs.lemmas.Option.{none-some, some_pair_parts}
 use Rattle.std.proofs.lemmas.List.{length-replicate}
 use Rattle.journal.specs.declared.event.Event.{Event}
@@ -19,39 +22,56 @@ use Rattle.journal.proofs.Intervals.Since.{since_under, since_closing, since_inn
 use Rattle.journal.proofs.Intervals.Contents.{since_content}
 
 -- at the start no word is dirty
-pub dirty_start : (s : Sizes) (p n : ℕ) (page : List ℕ) → length page ≡ s.words → IsDirty s [] p n page (replicate s.words false)
+pub dirty_start : (s : Sizes) (p n : ℕ) (page : List ℕ) → length page ≡ s.words
+    → IsDirty s [] p n page (replicate s.words false)
 dirty_start s p n page long = record { clean = page; long = long; page_is = refl; marks_are = refl }
 
 -- others' events change no dirty bit, also under an open block
-pub dirty_others : (s : Sizes) (j es block : List Event) (p n : ℕ) (page : List ℕ) (marks : List Bool) → ((k : ℕ) (e : Event) → At es k e → e.processor ≢ p) → IsDirty s (j ++ block) p n page marks → IsDirty s ((j ++ es) ++ block) p n page marks
+pub dirty_others : (s : Sizes) (j es block : List Event) (p n : ℕ) (page : List ℕ) (marks : List Bool)
+    → ((k : ℕ) (e : Event) → At es k e → e.processor ≢ p) → IsDirty s (j ++ block) p n page marks
+    → IsDirty s ((j ++ es) ++ block) p n page marks
 dirty_others s j es block p n page marks away dirty =
     let same = since_under j es block p away in
-    record { clean = dirty.clean; long = dirty.long; page_is = rw same (dirty.page_is); marks_are = rw same (dirty.marks_are) }
+    record { clean = dirty.clean; long = dirty.long; page_is = rw same (dirty.page_is);
+            marks_are = rw same (dirty.marks_are) }
 
 -- an own event that closes no interval does what it stores, and marks it
-pub dirty_push : (s : Sizes) (j : List Event) (e : Event) (p n : ℕ) (page : List ℕ) (marks : List Bool) → e.processor ≡ p → is_closing e.kind ≡ false → IsDirty s j p n page marks → IsDirty s (j ++ e ∷ []) p n (wrote page (write_in s n e.kind)) (mark marks (write_in s n e.kind))
+pub dirty_push : (s : Sizes) (j : List Event) (e : Event) (p n : ℕ) (page : List ℕ) (marks : List Bool)
+    → e.processor ≡ p → is_closing e.kind ≡ false → IsDirty s j p n page marks
+    → IsDirty s (j ++ e ∷ []) p n (wrote page (write_in s n e.kind)) (mark marks (write_in s n e.kind))
 dirty_push s j e p n page marks mine inner dirty =
     let same = since_inner j e p mine inner in
     record {
       clean = dirty.clean;
       long = dirty.long;
-      page_is = rw same (ap (λ (ws : List ℕ). wrote ws (write_in s n e.kind)) dirty.page_is ∙ sym (written-append (λ (f : Event). write_in s n f.kind) dirty.clean (since j p) (e ∷ [])));
-      marks_are = rw same (ap (λ (ms : List Bool). mark ms (write_in s n e.kind)) dirty.marks_are ∙ sym (marked-append (λ (f : Event). write_in s n f.kind) (replicate s.words false) (since j p) (e ∷ [])));
+      page_is =
+          rw same (ap (λ (ws : List ℕ). wrote ws (write_in s n e.kind)) dirty.page_is
+                  ∙ sym (written-append (λ (f : Event). write_in s n f.kind) dirty.clean (since j p) (e ∷ [])));
+      marks_are =
+          rw same (ap (λ (ms : List Bool). mark ms (write_in s n e.kind)) dirty.marks_are
+                  ∙ sym (marked-append (λ (f : Event). write_in s n f.kind) (replicate s.words false) (since j p)
+                          (e ∷ [])));
     }
 
 -- a closing event clears the marks
-pub dirty_closing : (s : Sizes) (j : List Event) (e : Event) (p n : ℕ) (page : List ℕ) (marks : List Bool) → e.processor ≡ p → is_closing e.kind ≡ true → IsDirty s j p n page marks → IsDirty s (j ++ e ∷ []) p n page (replicate s.words false)
+pub dirty_closing : (s : Sizes) (j : List Event) (e : Event) (p n : ℕ) (page : List ℕ) (marks : List Bool)
+    → e.processor ≡ p → is_closing e.kind ≡ true → IsDirty s j p n page marks
+    → IsDirty s (j ++ e ∷ []) p n page (replicate s.words false)
 dirty_closing s j e p n page marks mine closes dirty =
     let same = since_closing j e p mine closes in
     record {
       clean = page;
-      long = ap length dirty.page_is ∙ length-written (λ (f : Event). write_in s n f.kind) dirty.clean (since j p) ∙ dirty.long;
+      long =
+          ap length dirty.page_is ∙ length-written (λ (f : Event). write_in s n f.kind) dirty.clean (since j p)
+              ∙ dirty.long;
       page_is = rw same;
       marks_are = rw same;
     }
 
 -- another page in place of one that nothing was stored in since
-dirty_fetched : (s : Sizes) (j : List Event) (p n : ℕ) (page : List ℕ) → length page ≡ s.words → ((k : ℕ) (e : Event) → At (since j p) k e → write_in s n e.kind ≡ None) → IsDirty s j p n page (replicate s.words false)
+dirty_fetched : (s : Sizes) (j : List Event) (p n : ℕ) (page : List ℕ) → length page ≡ s.words
+    → ((k : ℕ) (e : Event) → At (since j p) k e → write_in s n e.kind ≡ None)
+    → IsDirty s j p n page (replicate s.words false)
 dirty_fetched s j p n page long nothing = record {
   clean = page;
   long = long;
@@ -69,7 +89,9 @@ write_within s n (Store a w) o v some h = go (a / s.words == n) h
 write_within s n _ o v some h = absurd (none-some (o, v) h)
 
 -- a page without a dirty word had no store since
-pub nothing_since : (s : Sizes) (j : List Event) (p n : ℕ) (page : List ℕ) → 0 < s.words → IsDirty s j p n page (replicate s.words false) → (k : ℕ) (e : Event) → At (since j p) k e → write_in s n e.kind ≡ None
+pub nothing_since : (s : Sizes) (j : List Event) (p n : ℕ) (page : List ℕ) → 0 < s.words
+    → IsDirty s j p n page (replicate s.words false) → (k : ℕ) (e : Event) → At (since j p) k e
+    → write_in s n e.kind ≡ None
 nothing_since s j p n page some dirty k e at = go (write_in s n e.kind) refl
   where
     f : Event → Option (ℕ × ℕ)
@@ -78,18 +100,28 @@ nothing_since s j p n page some dirty k e at = go (write_in s n e.kind) refl
     go : (o : Option (ℕ × ℕ)) → write_in s n e.kind ≡ o → write_in s n e.kind ≡ None
     go None h = h
     go (Some w) h =
-        let inside : w.0 < length (replicate s.words false) = rw length-replicate (write_within s n e.kind w.0 w.1 some h) in
+        let inside : w.0 < length (replicate s.words false) =
+            rw length-replicate (write_within s n e.kind w.0 w.1 some h) in
         let marked_there = marked_written f (replicate s.words false) (since j p) w.0 k w.1 e inside at h in
-        absurd (true≢false (sym (slice_get-replicate_found s.words false true w.0 (ap (λ (ms : List Bool). slice_get ms w.0) dirty.marks_are ∙ marked_there))))
+        absurd (true≢false (sym (slice_get-replicate_found s.words false true w.0
+                        (ap (λ (ms : List Bool). slice_get ms w.0) dirty.marks_are ∙ marked_there))))
 
 -- so it may be replaced by another, as by a fetch
-pub dirty_replaced : (s : Sizes) (j : List Event) (p n : ℕ) (page new : List ℕ) → 0 < s.words → length new ≡ s.words → IsDirty s j p n page (replicate s.words false) → IsDirty s j p n new (replicate s.words false)
-dirty_replaced s j p n page new some long dirty = dirty_fetched s j p n new long (nothing_since s j p n page some dirty)
+pub dirty_replaced : (s : Sizes) (j : List Event) (p n : ℕ) (page new : List ℕ) → 0 < s.words → length new ≡ s.words
+    → IsDirty s j p n page (replicate s.words false) → IsDirty s j p n new (replicate s.words false)
+dirty_replaced s j p n page new some long dirty =
+    dirty_fetched s j p n new long (nothing_since s j p n page some dirty)
 
 -- the harvest of the dirty words is what the open interval comes to in the page
-pub dirty_content : (s : Sizes) (j : List Event) (p n : ℕ) (page : List ℕ) (marks : List Bool) → 0 < s.words → IsDirty s j p n page marks → IsContent s j p (count_of is_closing j p) n (harvest 0 page marks)
+pub dirty_content : (s : Sizes) (j : List Event) (p n : ℕ) (page : List ℕ) (marks : List Bool) → 0 < s.words
+    → IsDirty s j p n page marks → IsContent s j p (count_of is_closing j p) n (harvest 0 page marks)
 dirty_content s j p n page marks some dirty =
     let f : Event → Option (ℕ × ℕ) = λ e. write_in s n e.kind in
-    let P : ℕ → Type 0 = λ words. IsRecordOf f (since j p) (harvest 0 (written f dirty.clean (since j p)) (marked f (replicate words false) (since j p))) in
-    let record_of = subst P dirty.long (harvest_is_record f dirty.clean (since j p) (λ e o v h. rw (dirty.long) (write_within s n e.kind o v some h))) in
+    let P : ℕ → Type 0 =
+        λ words. IsRecordOf f (since j p)
+            (harvest 0 (written f dirty.clean (since j p)) (marked f (replicate words false) (since j p))) in
+    let record_of =
+        subst P dirty.long (harvest_is_record f dirty.clean (since j p)
+                (λ e o v h. rw (dirty.long) (write_within s n e.kind o v some h)))
+            in
     since_content s j p n (harvest 0 page marks) (rw (dirty.page_is, dirty.marks_are) record_of)

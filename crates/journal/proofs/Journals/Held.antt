@@ -1,9 +1,11 @@
 -- What a journal's memory holds, as the journal goes on and as it is cut.
-use Rattle.std.proofs.Common.{◌≡◌, ◌≢◌, ℕ, ◌+◌, ◌-◌, ◌<◌, ◌≤◌, ◌⊎◌, inl, inr, List, [], ◌∷◌, ◌++◌, length, take, drop, subst, sym, ap, ◌∙◌, arith}
+use Rattle.std.proofs.Common.{
+    ◌≡◌, ◌≢◌, ℕ, ◌+◌, ◌-◌, ◌<◌, ◌≤◌, ◌⊎◌, inl, inr, List, [], ◌∷◌, ◌++◌, length, take, drop, subst, sym, ap, ◌∙◌,
+    arith
+}
 use Rattle.std.proofs.Math.Seq.{take-append_seam, drop-append_seam}
 use Rattle.std.proofs.lemmas.List.{take-append-le, length-take, drop-drop}
 use Rattle.journal.specs.declared.event.Event.{Event}
-use Rattle.journal.specs.Events.{At}
 use Rattle.journal.specs.InRange.{AddressInRange, AddressesInRange, ProcessorsInRange}
 use Rattle.journal.specs.Opening.{IsOpening}
 use Rattle.journal.specs.declared.journal.Journal.TheInside.{Inside}
@@ -14,13 +16,20 @@ use Rattle.journal.proofs.Bases.Opening.{IsOpened, opened}
 use Rattle.lists.proofs.Places.{push_cases, append_cases, slice_get-drop, slice_get-from_take}
 
 -- one more event keeps all in range, and the opening
-pub processors_push : (n : ℕ) (xs : List Event) (e : Event) → ProcessorsInRange n xs → e.processor < n → ProcessorsInRange n (xs ++ e ∷ [])
-processors_push n xs e all lt i f at = elim (push_cases xs e i f at) [ inl old ↦ all i f old.1 | inr new ↦ subst (λ (x : Event). x.processor < n) new.1 lt ]
+pub processors_push : (n : ℕ) (xs : List Event) (e : Event) → ProcessorsInRange n xs → e.processor < n
+    → ProcessorsInRange n (xs ++ e ∷ [])
+processors_push n xs e all lt i f at =
+    elim (push_cases xs e i f at)
+        [ inl old ↦ all i f old.1 | inr new ↦ subst (λ (x : Event). x.processor < n) new.1 lt ]
 
-pub addresses_push : (n : ℕ) (xs : List Event) (e : Event) → AddressesInRange n xs → AddressInRange n e.kind → AddressesInRange n (xs ++ e ∷ [])
-addresses_push n xs e all lt i f at = elim (push_cases xs e i f at) [ inl old ↦ all i f old.1 | inr new ↦ subst (λ (x : Event). AddressInRange n x.kind) new.1 lt ]
+pub addresses_push : (n : ℕ) (xs : List Event) (e : Event) → AddressesInRange n xs → AddressInRange n e.kind
+    → AddressesInRange n (xs ++ e ∷ [])
+addresses_push n xs e all lt i f at =
+    elim (push_cases xs e i f at)
+        [ inl old ↦ all i f old.1 | inr new ↦ subst (λ (x : Event). AddressInRange n x.kind) new.1 lt ]
 
-pub opening_longer : (n : ℕ) (xs es : List Event) → n ≤ length xs → IsOpening n (take n xs) → IsOpening n (take n (xs ++ es))
+pub opening_longer : (n : ℕ) (xs es : List Event) → n ≤ length xs → IsOpening n (take n xs)
+    → IsOpening n (take n (xs ++ es))
 opening_longer n xs es le x = subst (IsOpening n) (sym (take-append-le n xs es le)) x
 
 -- whose opening stands in front has as many events at least
@@ -35,7 +44,8 @@ pub addresses_behind : (n m : ℕ) (xs : List Event) → AddressesInRange n xs �
 addresses_behind n m xs all i e at = all (m + i) e (sym (slice_get-drop xs m i) ∙ at)
 
 -- and of a part of it
-pub processors_part : (n m k : ℕ) (xs : List Event) → ProcessorsInRange n xs → ProcessorsInRange n (take k (drop m xs))
+pub processors_part : (n m k : ℕ) (xs : List Event) → ProcessorsInRange n xs
+    → ProcessorsInRange n (take k (drop m xs))
 processors_part n m k xs all i e at = processors_behind n m xs all i e (slice_get-from_take (drop m xs) k i e at)
 
 pub addresses_part : (n m k : ℕ) (xs : List Event) → AddressesInRange n xs → AddressesInRange n (take k (drop m xs))
@@ -47,23 +57,43 @@ module _ (n count : ℕ) (xs : List Event) where
   rest = take n xs ++ drop (n + count) xs
 
   pub processors_cut : (m : ℕ) → ProcessorsInRange m xs → ProcessorsInRange m rest
-  processors_cut m all i e at = elim (append_cases (take n xs) (drop (n + count) xs) i e at) [ inl front ↦ all i e (slice_get-from_take xs n i e front.1) | inr behind ↦ processors_behind m (n + count) xs all behind.0 e behind.2 ]
+  processors_cut m all i e at =
+      elim (append_cases (take n xs) (drop (n + count) xs) i e at) [ inl front ↦ all i e
+                  (slice_get-from_take xs n i e front.1)
+              | inr behind ↦ processors_behind m (n + count) xs all behind.0 e behind.2 ]
 
   pub addresses_cut : (m : ℕ) → AddressesInRange m xs → AddressesInRange m rest
-  addresses_cut m all i e at = elim (append_cases (take n xs) (drop (n + count) xs) i e at) [ inl front ↦ all i e (slice_get-from_take xs n i e front.1) | inr behind ↦ addresses_behind m (n + count) xs all behind.0 e behind.2 ]
+  addresses_cut m all i e at =
+      elim (append_cases (take n xs) (drop (n + count) xs) i e at) [ inl front ↦ all i e
+                  (slice_get-from_take xs n i e front.1)
+              | inr behind ↦ addresses_behind m (n + count) xs all behind.0 e behind.2 ]
 
   pub opening_cut : IsOpening n (take n xs) → IsOpening n (take n rest)
-  opening_cut x = subst (IsOpening n) (sym (ap (λ m. take m rest) (sym x.long) ∙ take-append_seam (take n xs) (drop (n + count) xs))) x
+  opening_cut x =
+      subst (IsOpening n)
+          (sym (ap (λ m. take m rest) (sym x.long) ∙ take-append_seam (take n xs) (drop (n + count) xs))) x
 
   pub events_cut : IsOpening n (take n xs) → drop n rest ≡ drop count (drop n xs)
-  events_cut x = ap (λ m. drop m rest) (sym x.long) ∙ drop-append_seam (take n xs) (drop (n + count) xs) ∙ sym (drop-drop count n xs)
+  events_cut x =
+      ap (λ m. drop m rest) (sym x.long) ∙ drop-append_seam (take n xs) (drop (n + count) xs)
+          ∙ sym (drop-drop count n xs)
 
 -- of what a journal holds
 module _ (j : Inside) (held : IsHeld j) where
   -- each address lies in the base
   pub in_base : (log : Log) → log_of j ≡ log → AddressesInRange (length log.base.memory) log.events
-  in_base log is = subst (λ (l : Log). AddressesInRange (length l.base.memory) l.events) is (subst (λ n. AddressesInRange n (drop j.processors j.events.items)) (sym held.kept.long) (addresses_behind j.addresses j.processors j.events.items held.in_range))
+  in_base log is =
+      subst (λ (l : Log). AddressesInRange (length l.base.memory) l.events) is (subst
+              (λ n. AddressesInRange n (drop j.processors j.events.items)) (sym held.kept.long)
+              (addresses_behind j.addresses j.processors j.events.items held.in_range))
 
   -- what is checked for races is what is to be checked, behind an opening or not
-  pub checked : (first count : ℕ) (all : List Event) → all ≡ j.events.items → ((j.kept.cut ≡ 0) × (first ≡ j.processors)) ⊎ ((j.kept.cut ≢ 0) × (first ≡ 0)) → IsOpened (base_of j.kept) (take (j.processors + count - first) (drop first all)) (take count (drop j.processors j.events.items)) (j.processors - first)
-  checked first count all is cases = subst (λ (xs : List Event). IsOpened (base_of j.kept) (take (j.processors + count - first) (drop first xs)) (take count (drop j.processors j.events.items)) (j.processors - first)) (sym is) (opened (base_of j.kept) j.processors first count j.events.items held.opening held.by_processors cases)
+  pub checked : (first count : ℕ) (all : List Event) → all ≡ j.events.items
+      → ((j.kept.cut ≡ 0) × (first ≡ j.processors)) ⊎ ((j.kept.cut ≢ 0) × (first ≡ 0))
+      → IsOpened (base_of j.kept) (take (j.processors + count - first) (drop first all))
+          (take count (drop j.processors j.events.items)) (j.processors - first)
+  checked first count all is cases =
+      subst (λ (xs : List Event). IsOpened (base_of j.kept) (take (j.processors + count - first) (drop first xs))
+              (take count (drop j.processors j.events.items)) (j.processors - first))
+          (sym is)
+          (opened (base_of j.kept) j.processors first count j.events.items held.opening held.by_processors cases)

@@ -1,14 +1,13 @@
 -- The history that a journal holds.
-use Rattle.std.proofs.Common.{◌≡◌, ℕ, ◌+◌, ◌≤◌, List, [], ◌++◌, length, take, drop, subst, subst₂, sym, refl, ap, ◌∙◌, append_assoc, length-append, arith}
+use Rattle.std.proofs.Common.{ℕ, List, [], ◌++◌, take, drop, subst, subst₂, sym, ap, ◌∙◌, append_assoc, arith}
 use Rattle.std.proofs.lemmas.List.{take-append-drop, length-take-le}
 use Rattle.journal.specs.declared.event.Event.{Event}
-use Rattle.journal.specs.Sizes.{Sizes, addresses}
+use Rattle.journal.specs.Sizes.{addresses}
 use Rattle.journal.specs.WellFormed.{WellFormed}
-use Rattle.journal.specs.Base.{Base, no_base}
+use Rattle.journal.specs.Base.{Base}
 use Rattle.journal.specs.Cuts.{EndsEpisode, IsBaseOf}
-use Rattle.journal.specs.Log.{Log, HoldsHistory, HoldsRest}
-use Rattle.journal.specs.Cutting.{WasCut}
-use Rattle.journal.specs.HistoryLaws.{IsOf, WholeLaw, HistoryLaw}
+use Rattle.journal.specs.Log.{Log, HoldsRest}
+use Rattle.journal.specs.HistoryLaws.{WholeLaw, HistoryLaw}
 use Rattle.journal.proofs.Journals.WellFormed.{well_formed_front}
 use Rattle.journal.proofs.Bases.Uncut.{uncut_base}
 use Rattle.journal.proofs.Bases.Cutting.{base_after}
@@ -24,9 +23,15 @@ whole_law log h x = record {
 -- a cut leaves the history as it was
 pub history_law : HistoryLaw
 history_law s old new c h of well x was = subst (λ (l : Log). HoldsRest l (c ++ taken) h) (sym was.left) (record {
-  history = x.history ∙ ap (λ (xs : List Event). c ++ xs) (sym (take-append-drop was.taken old.events)) ∙ sym (append_assoc c taken (drop was.taken old.events));
-  base = subst₂ (λ (p n : ℕ). IsBaseOf p n (c ++ taken) new.base) (sym of.processors) (sym of.addresses_are) (base_after s c taken old.base new.base well_taken base ends was.race_free was.base);
-  few = (let cut = was.base.cut in let few = was.may.few in let long = length-take-le was.taken old.events was.may.place.within in omega arith);
+  history =
+      x.history ∙ ap (λ (xs : List Event). c ++ xs) (sym (take-append-drop was.taken old.events))
+          ∙ sym (append_assoc c taken (drop was.taken old.events));
+  base =
+      subst₂ (λ (p n : ℕ). IsBaseOf p n (c ++ taken) new.base) (sym of.processors) (sym of.addresses_are)
+          (base_after s c taken old.base new.base well_taken base ends was.race_free was.base);
+  few =
+      (let cut = was.base.cut in let few = was.may.few in
+              let long = length-take-le was.taken old.events was.may.place.within in omega arith);
 })
   where
     taken : List Event
@@ -39,4 +44,8 @@ history_law s old new c h of well x was = subst (λ (l : Log). HoldsRest l (c ++
     ends = subst (λ p. EndsEpisode p taken) of.processors was.may.place.ends
 
     well_taken : WellFormed s (c ++ taken)
-    well_taken = well_formed_front s (c ++ taken) (drop was.taken old.events) (subst (WellFormed s) (x.history ∙ ap (λ (xs : List Event). c ++ xs) (sym (take-append-drop was.taken old.events)) ∙ sym (append_assoc c taken (drop was.taken old.events))) well)
+    well_taken =
+        well_formed_front s (c ++ taken) (drop was.taken old.events) (subst (WellFormed s) (x.history
+                    ∙ ap (λ (xs : List Event). c ++ xs) (sym (take-append-drop was.taken old.events))
+                    ∙ sym (append_assoc c taken (drop was.taken old.events)))
+                well)

@@ -27,20 +27,26 @@ holds_take j n p l h lt = record {
   keeps = λ k after does. h.keeps k after (slice_get-from_take j n k (event p (Release l)) does);
 }
 
-not_before : (s : Sizes) (j : List Event) → WellFormed s j → (p q l : ℕ) (a : Holds j p l) (b : Holds j q l) → a.place < b.place → ⊥
-not_before s j well p q l a b lt = (well b.place (event q (Acquire l)) b.acquires).allowed.2.free p (holds_take j b.place p l a lt)
+not_before : (s : Sizes) (j : List Event) → WellFormed s j → (p q l : ℕ) (a : Holds j p l) (b : Holds j q l)
+    → a.place < b.place → ⊥
+not_before s j well p q l a b lt =
+    (well b.place (event q (Acquire l)) b.acquires).allowed.2.free p (holds_take j b.place p l a lt)
 
 -- a lock has at most one holder
 pub holder_alone : (s : Sizes) (j : List Event) → WellFormed s j → (p q l : ℕ) → Holds j p l → Holds j q l → p ≡ q
 holder_alone s j well p q l a b = elim (cases_order a.place b.place) [
-  | inl is ↦ (does_same j b.place p q (Acquire l) (Acquire l) (subst (λ m. Does j m p (Acquire l)) is a.acquires) b.acquires).0
-  | inr apart ↦ elim apart [ inl lt ↦ absurd (not_before s j well p q l a b lt) | inr lt ↦ absurd (not_before s j well q p l b a lt) ]
+  | inl is ↦ (does_same j b.place p q (Acquire l) (Acquire l) (subst (λ m. Does j m p (Acquire l)) is a.acquires)
+          b.acquires).0
+  | inr apart ↦ elim apart
+      [ inl lt ↦ absurd (not_before s j well p q l a b lt) | inr lt ↦ absurd (not_before s j well q p l b a lt) ]
 ]
 
 -- two releases of a lock are ordered
-pub releases_ordered : (s : Sizes) (j : List Event) → WellFormed s j → (m k p q l : ℕ) → m < k → Does j m p (Release l) → Does j k q (Release l) → HappensBefore j m k
+pub releases_ordered : (s : Sizes) (j : List Event) → WellFormed s j → (m k p q l : ℕ) → m < k
+    → Does j m p (Release l) → Does j k q (Release l) → HappensBefore j m k
 releases_ordered s j well m k p q l lt first second = elim (cases_order m h.place) [
-  | inl is ↦ absurd (cc ((does_same j h.place p q (Release l) (Acquire l) (subst (λ x. Does j x p (Release l)) is first) taken).1))
+  | inl is ↦ absurd
+      (cc ((does_same j h.place p q (Release l) (Acquire l) (subst (λ x. Does j x p (Release l)) is first) taken).1))
   | inr apart ↦ elim apart [ inl before ↦ between before | inr after ↦ absurd (held after) ]
 ]
   where
@@ -54,22 +60,35 @@ releases_ordered s j well m k p q l lt first second = elim (cases_order m h.plac
     within = slice_get-take_within j k h.place (event q (Acquire l)) h.acquires
 
     between : m < h.place → HappensBefore j m k
-    between before = on (edge (record { before = before; from = event p (Release l); to = event q (Acquire l); from_at = first; to_at = taken; link = lets refl }))
-        (record { before = within; from = event q (Acquire l); to = event q (Release l); from_at = taken; to_at = second; link = same refl })
+    between before =
+        on (edge (record { before = before; from = event p (Release l); to = event q (Acquire l); from_at = first;
+                        to_at = taken; link = lets refl }))
+        (record { before = within; from = event q (Acquire l); to = event q (Release l); from_at = taken;
+                    to_at = second; link = same refl })
 
     held : h.place < m → ⊥
     held after =
         let mine : Holds (take m j) q l = record {
           place = h.place;
           acquires = slice_get-take j m h.place after ∙ taken;
-          keeps = λ x lt_x does. (let in_m = slice_get-take_within j m x (event q (Release l)) does in h.keeps x lt_x (slice_get-take j k x (omega arith) ∙ slice_get-from_take j m x (event q (Release l)) does));
+          keeps =
+              λ x lt_x does. (let in_m = slice_get-take_within j m x (event q (Release l)) does in
+                      h.keeps x lt_x
+                          (slice_get-take j k x (omega arith) ∙ slice_get-from_take j m x (event q (Release l)) does));
         } in
-        let is = holder_alone s (take m j) (well_formed_take s j m well) q p l mine (well m (event p (Release l)) first).allowed in
+        let is =
+            holder_alone s (take m j) (well_formed_take s j m well) q p l mine
+                (well m (event p (Release l)) first).allowed in
         h.keeps m after (slice_get-take j k m lt ∙ subst (λ x. Does j m x (Release l)) (sym is) first)
 
 -- after a release, what the lock keeps is the releaser's timestamp
-pub release_time : (s : Sizes) (j : List Event) (e : Event) (l : ℕ) (t : ℕ → ℕ) → e.kind ≡ Release l → WellFormed s (j ++ e ∷ []) → IsTimeOf (j ++ e ∷ []) e.processor t → IsTimeIn (j ++ e ∷ []) (UpToSome (j ++ e ∷ []) (SomeDoes (j ++ e ∷ []) (Release l))) t
-release_time s j e l t is well time = time_same (j ++ e ∷ []) (UpTo (j ++ e ∷ []) (length j)) (UpToSome (j ++ e ∷ []) (SomeDoes (j ++ e ∷ []) (Release l))) t (λ i. (there i, back i)) (time_at_last j e t time)
+pub release_time : (s : Sizes) (j : List Event) (e : Event) (l : ℕ) (t : ℕ → ℕ) → e.kind ≡ Release l
+    → WellFormed s (j ++ e ∷ []) → IsTimeOf (j ++ e ∷ []) e.processor t
+    → IsTimeIn (j ++ e ∷ []) (UpToSome (j ++ e ∷ []) (SomeDoes (j ++ e ∷ []) (Release l))) t
+release_time s j e l t is well time =
+    time_same (j ++ e ∷ []) (UpTo (j ++ e ∷ []) (length j))
+        (UpToSome (j ++ e ∷ []) (SomeDoes (j ++ e ∷ []) (Release l))) t (λ i. (there i, back i))
+        (time_at_last j e t time)
   where
     releases : Does (j ++ e ∷ []) (length j) e.processor (Release l)
     releases = subst (λ k. Does (j ++ e ∷ []) (length j) e.processor k) is (at_last j e)

@@ -1,5 +1,8 @@
 -- What keeps a journal well formed, event by event.
-use Rattle.std.proofs.Common.{◌≡◌, ◌≢◌, ℕ, ◌≤◌, ◌⊎◌, inl, inr, ◌↔◌, List, [], ◌∷◌, ◌++◌, length, take, subst, sym, refl, ap, ◌∙◌, take-take, arith}
+use Rattle.std.proofs.Common.{
+    ◌≡◌, ◌≢◌, ℕ, ◌≤◌, ◌⊎◌, inl, inr, ◌↔◌, List, [], ◌∷◌, ◌++◌, length, take, subst, sym, refl, ap, ◌∙◌, take-take,
+    arith
+}
 use Rattle.std.proofs.lemmas.Option.{none-some}
 use Rattle.std.proofs.lemmas.Bool.{cases_eq, cases_order}
 use Rattle.std.proofs.lemmas.List.{take-append-le}
@@ -32,7 +35,8 @@ well_formed_front s j es well k e at =
     subst (λ xs. MayFollow s xs e) (take-append-le k j es (omega arith)) (well k e (at_longer j es k e at))
 
 -- a journal with one more event is well formed exactly where the journal is, and the event may follow
-pub each_push : (s : Sizes) (j : List Event) (e : Event) → WellFormed s (j ++ e ∷ []) ↔ (WellFormed s j × MayFollow s j e)
+pub each_push : (s : Sizes) (j : List Event) (e : Event)
+    → WellFormed s (j ++ e ∷ []) ↔ (WellFormed s j × MayFollow s j e)
 each_push s j e = ((λ well. (well_formed_front s j (e ∷ []) well, last well)), (λ both. back both.0 both.1))
   where
     last : WellFormed s (j ++ e ∷ []) → MayFollow s j e
@@ -40,8 +44,10 @@ each_push s j e = ((λ well. (well_formed_front s j (e ∷ []) well, last well))
 
     back : WellFormed s j → MayFollow s j e → WellFormed s (j ++ e ∷ [])
     back well may k f at = elim (push_cases j e k f at) [
-      | inl old ↦ (let lt = old.0 in subst (λ xs. MayFollow s xs f) (sym (take-append-le k j (e ∷ []) (omega arith))) (well k f old.1))
-      | inr new ↦ subst (λ g. MayFollow s (take k (j ++ e ∷ [])) g) new.1 (subst (λ xs. MayFollow s xs e) (sym (take-append_seam j (e ∷ [])) ∙ ap (λ m. take m (j ++ e ∷ [])) (sym new.0)) may)
+      | inl old ↦ (let lt = old.0 in
+              subst (λ xs. MayFollow s xs f) (sym (take-append-le k j (e ∷ []) (omega arith))) (well k f old.1))
+      | inr new ↦ subst (λ g. MayFollow s (take k (j ++ e ∷ [])) g) new.1 (subst (λ xs. MayFollow s xs e)
+              (sym (take-append_seam j (e ∷ [])) ∙ ap (λ m. take m (j ++ e ∷ [])) (sym new.0)) may)
     ]
 
 -- a processor has one last event
@@ -56,34 +62,51 @@ last_unique j p i k a b x y = elim (cases_order i k) [
 
 -- the event that is pushed is its processor's last
 pub last_now : (j : List Event) (e : Event) → LastIs (j ++ e ∷ []) e.processor (length j) e.kind
-last_now j e = record { does = at_last j e; last = λ m f lt at. (let within = at_within (j ++ e ∷ []) m f at in elim (push_cases j e m f at) [ inl old ↦ absurd (omega (arith, old.0)) | inr new ↦ absurd (omega (arith, new.0)) ]) }
+last_now j e =
+    record { does = at_last j e;
+            last = λ m f lt at. (let within = at_within (j ++ e ∷ []) m f at in
+                    elim (push_cases j e m f at)
+                        [ inl old ↦ absurd (omega (arith, old.0)) | inr new ↦ absurd (omega (arith, new.0)) ]) }
 
 -- others' events leave a processor's last one
-pub last_longer : (j es : List Event) (p i : ℕ) (a : Kind) → ((m : ℕ) (f : Event) → At es m f → f.processor ≢ p) → LastIs j p i a → LastIs (j ++ es) p i a
+pub last_longer : (j es : List Event) (p i : ℕ) (a : Kind) → ((m : ℕ) (f : Event) → At es m f → f.processor ≢ p)
+    → LastIs j p i a → LastIs (j ++ es) p i a
 last_longer j es p i a away x = record {
   does = at_longer j es i (event p a) x.does;
-  last = λ m f lt at. elim (append_cases j es m f at) [ inl old ↦ x.last m f lt old.1 | inr new ↦ away new.0 f new.2 ];
+  last =
+      λ m f lt at. elim (append_cases j es m f at) [ inl old ↦ x.last m f lt old.1 | inr new ↦ away new.0 f new.2 ];
 }
 
-pub last_shorter : (j es : List Event) (p i : ℕ) (a : Kind) → ((m : ℕ) (f : Event) → At es m f → f.processor ≢ p) → LastIs (j ++ es) p i a → LastIs j p i a
+pub last_shorter : (j es : List Event) (p i : ℕ) (a : Kind) → ((m : ℕ) (f : Event) → At es m f → f.processor ≢ p)
+    → LastIs (j ++ es) p i a → LastIs j p i a
 last_shorter j es p i a away x = elim (append_cases j es i (event p a) x.does) [
   | inl old ↦ record { does = old.1; last = λ m f lt at. x.last m f lt (at_longer j es m f at) }
   | inr new ↦ absurd (away new.0 (event p a) new.2 refl)
 ]
 
 -- a processor has a last event, or none
-pub last_or_none : (j : List Event) (p : ℕ) → ((i : ℕ) × (a : Kind) × LastIs j p i a) ⊎ ((m : ℕ) (f : Event) → At j m f → f.processor ≢ p)
-last_or_none j p = push_induction (λ xs. ((i : ℕ) × (a : Kind) × LastIs xs p i a) ⊎ ((m : ℕ) (f : Event) → At xs m f → f.processor ≢ p)) (inr (λ m f at. absurd (none-some f at))) step j
+pub last_or_none : (j : List Event) (p : ℕ)
+    → ((i : ℕ) × (a : Kind) × LastIs j p i a) ⊎ ((m : ℕ) (f : Event) → At j m f → f.processor ≢ p)
+last_or_none j p =
+    push_induction
+        (λ xs. ((i : ℕ) × (a : Kind) × LastIs xs p i a) ⊎ ((m : ℕ) (f : Event) → At xs m f → f.processor ≢ p))
+        (inr (λ m f at. absurd (none-some f at))) step j
   where
     away : (e : Event) → e.processor ≢ p → (m : ℕ) (f : Event) → At (e ∷ []) m f → f.processor ≢ p
-    away e isnt m f at same = elim (push_cases [] e m f at) [ inl old ↦ absurd (none-some f old.1) | inr new ↦ isnt (ap (λ x. x.processor) new.1 ∙ same) ]
+    away e isnt m f at same =
+        elim (push_cases [] e m f at)
+            [ inl old ↦ absurd (none-some f old.1) | inr new ↦ isnt (ap (λ x. x.processor) new.1 ∙ same) ]
 
-    step : (xs : List Event) (e : Event) → ((i : ℕ) × (a : Kind) × LastIs xs p i a) ⊎ ((m : ℕ) (f : Event) → At xs m f → f.processor ≢ p) → ((i : ℕ) × (a : Kind) × LastIs (xs ++ e ∷ []) p i a) ⊎ ((m : ℕ) (f : Event) → At (xs ++ e ∷ []) m f → f.processor ≢ p)
+    step : (xs : List Event) (e : Event)
+        → ((i : ℕ) × (a : Kind) × LastIs xs p i a) ⊎ ((m : ℕ) (f : Event) → At xs m f → f.processor ≢ p)
+        → ((i : ℕ) × (a : Kind) × LastIs (xs ++ e ∷ []) p i a)
+            ⊎ ((m : ℕ) (f : Event) → At (xs ++ e ∷ []) m f → f.processor ≢ p)
     step xs e ih = elim (cases_eq e.processor p) [
       | inl is ↦ inl (length xs, e.kind, subst (λ q. LastIs (xs ++ e ∷ []) q (length xs) e.kind) is (last_now xs e))
       | inr isnt ↦ elim ih [
         | inl x ↦ inl (x.0, x.1, last_longer xs (e ∷ []) p x.0 x.1 (away e isnt) x.2)
-        | inr none ↦ inr (λ m f at same. elim (push_cases xs e m f at) [ inl old ↦ none m f old.1 same | inr new ↦ isnt (ap (λ x. x.processor) new.1 ∙ same) ])
+        | inr none ↦ inr (λ m f at same. elim (push_cases xs e m f at)
+                [ inl old ↦ none m f old.1 same | inr new ↦ isnt (ap (λ x. x.processor) new.1 ∙ same) ])
       ]
     ]
 
@@ -92,30 +115,42 @@ pub holds_now : (j : List Event) (p l : ℕ) → Holds (j ++ event p (Acquire l)
 holds_now j p l = record {
   place = length j;
   acquires = at_last j (event p (Acquire l));
-  keeps = λ k lt does. elim (push_cases j (event p (Acquire l)) k (event p (Release l)) does) [ inl old ↦ omega (arith, old.0) | inr new ↦ omega (arith, new.0) ];
+  keeps =
+      λ k lt does. elim (push_cases j (event p (Acquire l)) k (event p (Release l)) does)
+          [ inl old ↦ omega (arith, old.0) | inr new ↦ omega (arith, new.0) ];
 }
 
 -- and holds it until its release
-pub holds_longer : (j : List Event) (e : Event) (p l : ℕ) → e ≢ (event p (Release l)) → Holds j p l → Holds (j ++ e ∷ []) p l
+pub holds_longer : (j : List Event) (e : Event) (p l : ℕ) → e ≢ (event p (Release l)) → Holds j p l
+    → Holds (j ++ e ∷ []) p l
 holds_longer j e p l isnt h = record {
   place = h.place;
   acquires = at_longer j (e ∷ []) h.place (event p (Acquire l)) h.acquires;
-  keeps = λ k lt does. elim (push_cases j e k (event p (Release l)) does) [ inl old ↦ h.keeps k lt old.1 | inr new ↦ isnt new.1 ];
+  keeps =
+      λ k lt does. elim (push_cases j e k (event p (Release l)) does)
+          [ inl old ↦ h.keeps k lt old.1 | inr new ↦ isnt new.1 ];
 }
 
 -- who holds a lock after an event held it before, and does not release it, or acquires it
-pub holds_cases : (j : List Event) (e : Event) (p l : ℕ) → Holds (j ++ e ∷ []) p l → (Holds j p l × (e ≢ (event p (Release l)))) ⊎ (e ≡ event p (Acquire l))
+pub holds_cases : (j : List Event) (e : Event) (p l : ℕ) → Holds (j ++ e ∷ []) p l
+    → (Holds j p l × (e ≢ (event p (Release l)))) ⊎ (e ≡ event p (Acquire l))
 holds_cases j e p l h = elim (push_cases j e h.place (event p (Acquire l)) h.acquires) [
   | inl old ↦ inl (
-    record { place = h.place; acquires = old.1; keeps = λ k lt does. h.keeps k lt (at_longer j (e ∷ []) k (event p (Release l)) does) },
+    record { place = h.place; acquires = old.1;
+            keeps = λ k lt does. h.keeps k lt (at_longer j (e ∷ []) k (event p (Release l)) does) },
     λ is. h.keeps (length j) old.0 (subst (λ f. At (j ++ e ∷ []) (length j) f) is (at_last j e)),
   )
   | inr new ↦ inr new.1
 ]
 
 -- a processor's last event after one more: that one, or another processor's before it
-pub last_cases : (j : List Event) (e : Event) (p i : ℕ) (a : Kind) → LastIs (j ++ e ∷ []) p i a → ((e.processor ≡ p) × (i ≡ length j) × (a ≡ e.kind)) ⊎ ((e.processor ≢ p) × LastIs j p i a)
+pub last_cases : (j : List Event) (e : Event) (p i : ℕ) (a : Kind) → LastIs (j ++ e ∷ []) p i a
+    → ((e.processor ≡ p) × (i ≡ length j) × (a ≡ e.kind)) ⊎ ((e.processor ≢ p) × LastIs j p i a)
 last_cases j e p i a x = elim (cases_eq e.processor p) [
-  | inl is ↦ (let same = last_unique (j ++ e ∷ []) p i (length j) a e.kind x (subst (λ q. LastIs (j ++ e ∷ []) q (length j) e.kind) is (last_now j e)) in inl (is, same.0, same.1))
-  | inr isnt ↦ inr (isnt, last_shorter j (e ∷ []) p i a (λ m f at same. elim (push_cases [] e m f at) [ inl old ↦ absurd (none-some f old.1) | inr new ↦ isnt (ap (λ y. y.processor) new.1 ∙ same) ]) x)
+  | inl is ↦ (let same = last_unique (j ++ e ∷ []) p i (length j) a e.kind x
+              (subst (λ q. LastIs (j ++ e ∷ []) q (length j) e.kind) is (last_now j e)) in
+          inl (is, same.0, same.1))
+  | inr isnt ↦ inr (isnt, last_shorter j (e ∷ []) p i a (λ m f at same. elim (push_cases [] e m f at)
+              [ inl old ↦ absurd (none-some f old.1) | inr new ↦ isnt (ap (λ y. y.processor) new.1 ∙ same) ])
+          x)
 ]

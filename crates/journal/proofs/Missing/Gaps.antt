@@ -1,6 +1,9 @@
 -- The gap is what lies between two timestamps, and has intervals whole.
-use Rattle.std.proofs.Common.{ℕ, ◌≡◌, ◌≢◌, ◌<◌, ◌≤◌, ◌⊎◌, ◌↔◌, ◌/◌, inl, inr, List, [], ◌∷◌, ◌++◌, true, length, arith, refl, sym, ap, subst, ◌∙◌, true≢false, le_of_lt}
-use Rattle.std.proofs.lemmas.Bool.{cases_eq, cases_lt, cases_order}
+use Rattle.std.proofs.Common.{
+    ℕ, ◌≡◌, ◌≢◌, ◌<◌, ◌≤◌, ◌⊎◌, ◌↔◌, ◌/◌, inl, inr, List, [], ◌∷◌, ◌++◌, true, length, arith, refl, sym, ap, subst,
+    ◌∙◌, true≢false, le_of_lt
+}
+use Rattle.std.proofs.lemmas.Bool.{cases_eq, cases_lt}
 use Rattle.journal.specs.declared.event.Event.{Event}
 use Rattle.journal.specs.declared.event.Kind.{Kind}
 use Rattle.journal.specs.declared.event.Kind.TheVariants.{Store, Fetch}
@@ -10,17 +13,16 @@ use Rattle.journal.specs.Events.{At, is_closing, is_taking, interval_at}
 use Rattle.journal.specs.Order.{HappensBefore}
 use Rattle.journal.specs.WellFormed.{Does}
 use Rattle.journal.specs.Pasts.{UpTo, InPast}
-use Rattle.journal.specs.Times.{ClosesAt, IsTimeOf, IsTimeAt}
+use Rattle.journal.specs.Times.{ClosesAt, IsTimeOf}
 use Rattle.journal.specs.Intervals.{ClosedAt}
 use Rattle.journal.specs.Copies.{StoresTo, Fetches, Mine, InGap, StoredInGap}
 use Rattle.journal.specs.Brought.{Brought}
 use Rattle.lists.proofs.Places.{append_cases, push_cases}
 use Rattle.journal.proofs.Order.Places.{at_within, at_longer, at_shorter, at_same, does_same, count_of-front}
-use Rattle.journal.proofs.Order.HappensBefore.{transitive, shorter}
+use Rattle.journal.proofs.Order.HappensBefore.{shorter}
 use Rattle.journal.proofs.Order.Pasts.{up_to_back, past_within, past_longer, own_in_past, others}
 use Rattle.journal.proofs.Times.Leaving.{LeavesAt, leaving_at, own_order}
 use Rattle.journal.proofs.Times.Pushes.{covered}
-use Rattle.journal.proofs.Times.Uses.{ordered_by_time}
 use Rattle.journal.proofs.Copies.Stores.{stores_to, stores_within, stores_longer, stores_shorter}
 use Rattle.journal.proofs.Copies.Brought.{brought_longer, brought_past, brought_push, gap_is}
 use Rattle.journal.proofs.Times.Closing.{closes_first, closed_past}
@@ -34,45 +36,16 @@ not_mine j p q i a does apart m = apart (ap (λ (e : Event). e.processor) (at_sa
 pub gap_apart : (s : Sizes) (j : List Event) (p n q i a v : ℕ) → InGap s j p n i → Does j i q (Store a v) → q ≢ p
 gap_apart s j p n q i a v g does mine = g.others (event q (Store a v), does, mine)
 
--- while p has not fetched the page, the gap is what p's timestamp counts
-pub gap_unfetched : (s : Sizes) (j : List Event) (p n q i a v : ℕ) (t : ℕ → ℕ) → IsTimeOf j p t → ((m : ℕ) → ¬ Fetches j m p n) → Does j i q (Store a v) → a / s.words ≡ n → q ≢ p → InGap s j p n i ↔ (interval_at j q i < t q)
-gap_unfetched s j p n q i a v t time none does page apart = (
-  λ g. (covered j p q i (Store a v) t time does apart).0 g.past,
-  λ less. record { store = stores_to s j n i q a v does page; others = not_mine j p q i (Store a v) does apart; past = (covered j p q i (Store a v) t time does apart).1 less; new = λ m f. absurd (none m f) },
-)
-
--- and after p's last fetch of it, what lies between that fetch's timestamp and p's
-pub gap_between : (s : Sizes) (j : List Event) (p n q i a v f : ℕ) (t u : ℕ → ℕ) → IsTimeOf j p t → IsTimeAt j f u → Fetches j f p n → ((m : ℕ) → Fetches j m p n → m ≤ f) → Does j i q (Store a v) → a / s.words ≡ n → q ≢ p → InGap s j p n i ↔ ((u q ≤ interval_at j q i) × (interval_at j q i < t q))
-gap_between s j p n q i a v f t u time before fetch last does page apart = (
-  λ g. (elim (cases_lt (interval_at j q i) (u q)) [ inl less ↦ absurd (g.new f fetch (at_fetch.1 less)) | inr le ↦ le ], past.0 g.past),
-  λ x. record { store = stores_to s j n i q a v does page; others = not_mine j p q i (Store a v) does apart; past = past.1 x.1; new = λ m other h. late x.0 (at_fetch.0 (on m other (cases_order m f) h)) },
-)
-  where
-    kind : Kind
-    kind = Fetch fetch.0 n fetch.1 fetch.2
-
-    past : InPast j p i ↔ (interval_at j q i < t q)
-    past = covered j p q i (Store a v) t time does apart
-
-    at_fetch : HappensBefore j i f ↔ (interval_at j q i < u q)
-    at_fetch = ordered_by_time j f p q i (Store a v) kind u before does fetch.3 apart
-
-    late : u q ≤ interval_at j q i → interval_at j q i < u q → ⊥
-    late le less = omega arith
-
-    on : (m : ℕ) → Fetches j m p n → (m ≡ f) ⊎ ((m < f) ⊎ (f < m)) → HappensBefore j i m → HappensBefore j i f
-    on m other (inl e) h = subst (HappensBefore j i) e h
-    on m other (inr (inl less)) h = transitive j h (own_order j p m f (Fetch other.0 n other.1 other.2) kind other.3 fetch.3 less)
-    on m other (inr (inr less)) h = let le = last m other in absurd (omega arith)
-
 -- others' events leave the gap
-pub gap_others : (s : Sizes) (j es : List Event) (p n i : ℕ) → ((k : ℕ) (e : Event) → At es k e → e.processor ≢ p) → InGap s (j ++ es) p n i ↔ InGap s j p n i
+pub gap_others : (s : Sizes) (j es : List Event) (p n i : ℕ) → ((k : ℕ) (e : Event) → At es k e → e.processor ≢ p)
+    → InGap s (j ++ es) p n i ↔ InGap s j p n i
 gap_others s j es p n i away = (there, back)
   where
     there : InGap s (j ++ es) p n i → InGap s j p n i
     there g =
         let past = (others j es p i away).0 g.past in
-        (gap_is s j p n i).1 (past, stores_shorter s j es n i (past_within j p i past) g.store, λ b. ((gap_is s (j ++ es) p n i).0 g).2 (brought_longer j es p n i b))
+        (gap_is s j p n i).1 (past, stores_shorter s j es n i (past_within j p i past) g.store, λ b.
+                ((gap_is s (j ++ es) p n i).0 g).2 (brought_longer j es p n i b))
 
     old : InGap s j p n i → Brought (j ++ es) p n i → ⊥
     old g (inl m) = g.others (m.0, at_shorter j es i m.0 (past_within j p i g.past) m.1, m.2)
@@ -88,7 +61,10 @@ gap_others s j es p n i away = (there, back)
     back g = (gap_is s (j ++ es) p n i).1 ((others j es p i away).1 g.past, stores_longer s j es n i g.store, old g)
 
 -- an event by which p gets to know of others' adds what lies between p's timestamps before and after it
-pub gap_taken : (s : Sizes) (j : List Event) (p n q i a v : ℕ) (k : Kind) (t t' : ℕ → ℕ) → is_taking k ≡ true → IsTimeOf j p t → IsTimeOf (j ++ event p k ∷ []) p t' → Does j i q (Store a v) → a / s.words ≡ n → q ≢ p → InGap s (j ++ event p k ∷ []) p n i ↔ (InGap s j p n i ⊎ ((t q ≤ interval_at j q i) × (interval_at j q i < t' q)))
+pub gap_taken : (s : Sizes) (j : List Event) (p n q i a v : ℕ) (k : Kind) (t t' : ℕ → ℕ) → is_taking k ≡ true
+    → IsTimeOf j p t → IsTimeOf (j ++ event p k ∷ []) p t' → Does j i q (Store a v) → a / s.words ≡ n → q ≢ p
+    → InGap s (j ++ event p k ∷ []) p n i
+        ↔ (InGap s j p n i ⊎ ((t q ≤ interval_at j q i) × (interval_at j q i < t' q)))
 gap_taken s j p n q i a v k t t' takes time after does page apart = (there, back)
   where
     e : Event
@@ -113,23 +89,35 @@ gap_taken s j p n q i a v k t t' takes time after does page apart = (there, back
     not_fetch w r d is = true≢false (sym takes ∙ ap (λ (f : Event). is_taking f.kind) is)
 
     brought_old : Brought (j ++ e ∷ []) p n i → Brought j p n i
-    brought_old b = elim (brought_push s j e p n i not_fetch store b) [ inl o ↦ o | inr m ↦ (let same = m.0 in absurd (omega (arith, within, same))) ]
+    brought_old b =
+        elim (brought_push s j e p n i not_fetch store b)
+            [ inl o ↦ o | inr m ↦ (let same = m.0 in absurd (omega (arith, within, same))) ]
 
     there : InGap s (j ++ e ∷ []) p n i → InGap s j p n i ⊎ ((t q ≤ interval_at j q i) × (interval_at j q i < t' q))
     there g =
         let less = new.0 g.past in
         elim (cases_lt (interval_at j q i) (t q)) [
-          | inl known ↦ inl ((gap_is s j p n i).1 (old.1 known, stores_to s j n i q a v does page, λ b. ((gap_is s (j ++ e ∷ []) p n i).0 g).2 (brought_longer j (e ∷ []) p n i b)))
+          | inl known ↦ inl ((gap_is s j p n i).1 (old.1 known, stores_to s j n i q a v does page, λ b.
+                      ((gap_is s (j ++ e ∷ []) p n i).0 g).2 (brought_longer j (e ∷ []) p n i b)))
           | inr from ↦ inr (from, omega (arith, less, number))
         ]
 
     back : InGap s j p n i ⊎ ((t q ≤ interval_at j q i) × (interval_at j q i < t' q)) → InGap s (j ++ e ∷ []) p n i
-    back (inl g) = (gap_is s (j ++ e ∷ []) p n i).1 (past_longer j (e ∷ []) p i g.past, store, λ b. ((gap_is s j p n i).0 g).2 (brought_old b))
-    back (inr x) = (gap_is s (j ++ e ∷ []) p n i).1 (new.1 (omega (arith, x.1, number)), store, λ b. let less = old.0 (brought_past j p n i (brought_old b)) in let le = x.0 in omega arith)
+    back (inl g) =
+        (gap_is s (j ++ e ∷ []) p n i).1
+            (past_longer j (e ∷ []) p i g.past, store, λ b. ((gap_is s j p n i).0 g).2 (brought_old b))
+    back (inr x) =
+        (gap_is s (j ++ e ∷ []) p n i).1 (new.1 (omega (arith, x.1, number)), store, λ b. let less = old.0
+                (brought_past j p n i (brought_old b)) in let le = x.0 in omega arith)
 
 -- no store to the page between the timestamps: nothing comes to the past
-pub nothing_taken : (s : Sizes) (j : List Event) (p n : ℕ) (k : Kind) (t t' : ℕ → ℕ) → is_taking k ≡ true → IsTimeOf j p t → IsTimeOf (j ++ event p k ∷ []) p t' → ((q i a v : ℕ) → q ≢ p → Does j i q (Store a v) → a / s.words ≡ n → t q ≤ interval_at j q i → interval_at j q i < t' q → ⊥) → (i : ℕ) → StoresTo s (j ++ event p k ∷ []) n i → InPast (j ++ event p k ∷ []) p i → InPast j p i
-nothing_taken s j p n k t t' takes time after none i x past = elim (cases_lt i (length j)) [ inl within ↦ old within (cases_eq x.by p) | inr from ↦ absurd (last from) ]
+pub nothing_taken : (s : Sizes) (j : List Event) (p n : ℕ) (k : Kind) (t t' : ℕ → ℕ) → is_taking k ≡ true
+    → IsTimeOf j p t → IsTimeOf (j ++ event p k ∷ []) p t'
+    → ((q i a v : ℕ) → q ≢ p → Does j i q (Store a v) → a / s.words ≡ n → t q ≤ interval_at j q i
+            → interval_at j q i < t' q → ⊥)
+    → (i : ℕ) → StoresTo s (j ++ event p k ∷ []) n i → InPast (j ++ event p k ∷ []) p i → InPast j p i
+nothing_taken s j p n k t t' takes time after none i x past =
+    elim (cases_lt i (length j)) [ inl within ↦ old within (cases_eq x.by p) | inr from ↦ absurd (last from) ]
   where
     e : Event
     e = event p k
@@ -138,13 +126,16 @@ nothing_taken s j p n k t t' takes time after none i x past = elim (cases_lt i (
     f = event x.by (Store x.address x.value)
 
     last : length j ≤ i → ⊥
-    last from = elim (push_cases j e i f x.does) [ inl h ↦ (let less = h.0 in omega arith) | inr h ↦ true≢false (sym takes ∙ ap (λ (g : Event). is_taking g.kind) h.1) ]
+    last from =
+        elim (push_cases j e i f x.does) [ inl h ↦ (let less = h.0 in omega arith)
+                | inr h ↦ true≢false (sym takes ∙ ap (λ (g : Event). is_taking g.kind) h.1) ]
 
     old : i < length j → (x.by ≡ p) ⊎ (x.by ≢ p) → InPast j p i
     old within (inl mine) = own_in_past j p i f (at_shorter j (e ∷ []) i f within x.does) mine
     old within (inr apart) =
         let does : Does j i x.by (Store x.address x.value) = at_shorter j (e ∷ []) i f within x.does in
-        let number : interval_at (j ++ e ∷ []) x.by i ≡ interval_at j x.by i = count_of-front is_closing j (e ∷ []) i x.by (le_of_lt within) in
+        let number : interval_at (j ++ e ∷ []) x.by i ≡ interval_at j x.by i =
+            count_of-front is_closing j (e ∷ []) i x.by (le_of_lt within) in
         let less = (covered (j ++ e ∷ []) p x.by i (Store x.address x.value) t' after x.does apart).0 past in
         elim (cases_lt (interval_at j x.by i) (t x.by)) [
           | inl known ↦ (covered j p x.by i (Store x.address x.value) t time does apart).1 known
@@ -152,12 +143,17 @@ nothing_taken s j p n k t t' takes time after none i x past = elim (cases_lt i (
         ]
 
 -- with one store of an interval the gap has all of them
-pub gap_whole : (s : Sizes) (j : List Event) (p n q i m a b v w : ℕ) → InGap s j p n i → Does j i q (Store a v) → Does j m q (Store b w) → b / s.words ≡ n → interval_at j q m ≡ interval_at j q i → InGap s j p n m
+pub gap_whole : (s : Sizes) (j : List Event) (p n q i m a b v w : ℕ) → InGap s j p n i → Does j i q (Store a v)
+    → Does j m q (Store b w) → b / s.words ≡ n → interval_at j q m ≡ interval_at j q i → InGap s j p n m
 gap_whole s j p n q i m a b v w g does other page same = record {
   store = stores_to s j n m q b w other page;
   others = not_mine j p q m (Store b w) other apart;
-  past = (closed_past j p q m c.0 (Store b w) second other apart).1 ((closed_past j p q i c.0 (Store a v) first does apart).0 g.past);
-  new = λ f fetch h. g.new f fetch (before f fetch (leaving_at j f p q m (Store b w) (Fetch fetch.0 n fetch.1 fetch.2) other fetch.3 apart (inr h)));
+  past =
+      (closed_past j p q m c.0 (Store b w) second other apart).1
+          ((closed_past j p q i c.0 (Store a v) first does apart).0 g.past);
+  new =
+      λ f fetch h. g.new f fetch (before f fetch
+              (leaving_at j f p q m (Store b w) (Fetch fetch.0 n fetch.1 fetch.2) other fetch.3 apart (inr h)));
 }
   where
     apart : q ≢ p
@@ -176,13 +172,18 @@ gap_whole s j p n q i m a b v w g does other page same = record {
     before f fetch l =
         let least = closes_first j q m c.0 l.close (Store b w) second other l.from l.closes in
         let less = first.before in
-        elim (up_to_back j i l.close f (own_order j q i l.close (Store a v) l.closes.kind does l.closes.does (omega arith)) l.inside) [
-          | inl is ↦ (let P : ℕ → Type 0 = λ x. Does j x q (Store a v) in absurd (apart (does_same j f q p (Store a v) (Fetch fetch.0 n fetch.1 fetch.2) (subst P is does) fetch.3).0))
+        elim (up_to_back j i l.close f
+                (own_order j q i l.close (Store a v) l.closes.kind does l.closes.does (omega arith)) l.inside)
+            [
+          | inl is ↦ (let P : ℕ
+                  → Type 0 = λ x. Does j x q (Store a v) in absurd (apart (does_same j f q p (Store a v)
+                              (Fetch fetch.0 n fetch.1 fetch.2) (subst P is does) fetch.3).0))
           | inr h ↦ h
         ]
 
 -- where the gap is the same, so are the stores in it
-pub stored_on : (s : Sizes) (j es : List Event) (p n : ℕ) → ((i : ℕ) → InGap s (j ++ es) p n i ↔ InGap s j p n i) → (z : ℕ × ℕ × ℕ) → StoredInGap s (j ++ es) p n z ↔ StoredInGap s j p n z
+pub stored_on : (s : Sizes) (j es : List Event) (p n : ℕ) → ((i : ℕ) → InGap s (j ++ es) p n i ↔ InGap s j p n i)
+    → (z : ℕ × ℕ × ℕ) → StoredInGap s (j ++ es) p n z ↔ StoredInGap s j p n z
 stored_on s j es p n same z = (there, back)
   where
     number : (i : ℕ) → i < length j → interval_at (j ++ es) z.0 i ≡ interval_at j z.0 i

@@ -1,5 +1,8 @@
 -- The missing intervals as groups of places: they are the gap, in an order that extends happens-before.
-use Rattle.std.proofs.Common.{ℕ, ◌≡◌, ◌≢◌, ◌<◌, ◌↔◌, inl, List, [], ◌∷◌, Some, zero, suc, map, slice_get, arith, refl, sym, subst, subst₂, ◌∙◌, true≢false}
+use Rattle.std.proofs.Common.{
+    ℕ, ◌≡◌, ◌≢◌, ◌<◌, ◌↔◌, inl, List, [], ◌∷◌, Some, zero, suc, map, slice_get, arith, refl, sym, subst, subst₂, ◌∙◌,
+    true≢false
+}
 use Rattle.std.specs.List.{concat}
 use Rattle.std.proofs.lemmas.Option.{none-some, same_Some}
 use Rattle.journal.specs.declared.event.Event.{Event}
@@ -22,32 +25,49 @@ use Rattle.journal.proofs.Missing.Placed.{placed_before}
 use Rattle.journal.proofs.Missing.Gaps.{gap_whole}
 
 -- these are the places of each interval's stores
-pub record AreGroups (s : Sizes) (j : List Event) (n : ℕ) (missing : List Missing) (groups : List (List ℕ)) : Type 0 where
-  pub records_of : AreRecordsOf (λ (i : ℕ). page_write s (slice_get j i)) groups (map (λ (x : Missing). x.words) missing)
+pub record AreGroups (s : Sizes) (j : List Event) (n : ℕ) (missing : List Missing) (groups : List (List ℕ)) : Type 0
+    where
+  pub records_of : AreRecordsOf (λ (i : ℕ). page_write s (slice_get j i)) groups
+      (map (λ (x : Missing). x.words) missing)
   pub group_of : (m : ℕ) (x : Missing) → slice_get missing m ≡ Some x → (g : List ℕ) × (slice_get groups m ≡ Some g)
-  pub of : (m : ℕ) (g : List ℕ) → slice_get groups m ≡ Some g → (x : Missing) × (slice_get missing m ≡ Some x) × ((i : ℕ) → Has g i ↔ StoresIn s j x.owner x.number n i) × InOrder (λ i k. i < k) g
+  pub of : (m : ℕ) (g : List ℕ) → slice_get groups m ≡ Some g
+      → (x : Missing) × (slice_get missing m ≡ Some x) × ((i : ℕ) → Has g i ↔ StoresIn s j x.owner x.number n i)
+          × InOrder (λ i k. i < k) g
 
 -- each list of contents has its groups
-pub groups_of : (s : Sizes) (j : List Event) (n : ℕ) (missing : List Missing) → ((x : Missing) → Has missing x → IsContent s j x.owner x.number n x.words) → (groups : List (List ℕ)) × AreGroups s j n missing groups
-groups_of s j n [] contents = ([], record { records_of = none; group_of = λ m x h. absurd (none-some x h); of = λ m g h. absurd (none-some g h) })
-groups_of s j n (y ∷ missing) contents = go (contents y (0, refl)) (groups_of s j n missing (λ x h. contents x (suc h.0, h.1)))
+pub groups_of : (s : Sizes) (j : List Event) (n : ℕ) (missing : List Missing)
+    → ((x : Missing) → Has missing x → IsContent s j x.owner x.number n x.words)
+    → (groups : List (List ℕ)) × AreGroups s j n missing groups
+groups_of s j n [] contents =
+    ([], record
+            { records_of = none; group_of = λ m x h. absurd (none-some x h); of = λ m g h. absurd (none-some g h) })
+groups_of s j n (y ∷ missing) contents =
+    go (contents y (0, refl)) (groups_of s j n missing (λ x h. contents x (suc h.0, h.1)))
   where
-    go : IsContent s j y.owner y.number n y.words → ((groups : List (List ℕ)) × AreGroups s j n missing groups) → (groups : List (List ℕ)) × AreGroups s j n (y ∷ missing) groups
-    go content rest = (content.places ∷ rest.0, record { records_of = more content.sums rest.1.records_of; group_of = group_of; of = of })
+    go : IsContent s j y.owner y.number n y.words → ((groups : List (List ℕ)) × AreGroups s j n missing groups)
+        → (groups : List (List ℕ)) × AreGroups s j n (y ∷ missing) groups
+    go content rest =
+        (content.places
+                ∷ rest.0, record { records_of = more content.sums rest.1.records_of; group_of = group_of; of = of })
       where
-        group_of : (m : ℕ) (x : Missing) → slice_get (y ∷ missing) m ≡ Some x → (g : List ℕ) × (slice_get (content.places ∷ rest.0) m ≡ Some g)
+        group_of : (m : ℕ) (x : Missing) → slice_get (y ∷ missing) m ≡ Some x
+            → (g : List ℕ) × (slice_get (content.places ∷ rest.0) m ≡ Some g)
         group_of zero x h = (content.places, refl)
         group_of (suc m) x h = rest.1.group_of m x h
 
-        of : (m : ℕ) (g : List ℕ) → slice_get (content.places ∷ rest.0) m ≡ Some g → (x : Missing) × (slice_get (y ∷ missing) m ≡ Some x) × ((i : ℕ) → Has g i ↔ StoresIn s j x.owner x.number n i) × InOrder (λ i k. i < k) g
+        of : (m : ℕ) (g : List ℕ) → slice_get (content.places ∷ rest.0) m ≡ Some g
+            → (x : Missing) × (slice_get (y ∷ missing) m ≡ Some x)
+                × ((i : ℕ) → Has g i ↔ StoresIn s j x.owner x.number n i) × InOrder (λ i k. i < k) g
         of zero g h =
-            let P : List ℕ → Type 0 = λ f. ((i : ℕ) → Has f i ↔ StoresIn s j y.owner y.number n i) × InOrder (λ i k. i < k) f in
+            let P : List ℕ → Type 0 =
+                λ f. ((i : ℕ) → Has f i ↔ StoresIn s j y.owner y.number n i) × InOrder (λ i k. i < k) f in
             let r = subst P (same_Some content.places g h) (content.each, content.rising) in
             (y, refl, r.0, r.1)
         of (suc m) g h = rest.1.of m g h
 
 -- the places of all groups are the gap
-pub groups_gap : (s : Sizes) (j : List Event) (p n : ℕ) (missing : List Missing) (groups : List (List ℕ)) → AreMissing s j p n missing → AreGroups s j n missing groups → (i : ℕ) → Has (concat groups) i ↔ InGap s j p n i
+pub groups_gap : (s : Sizes) (j : List Event) (p n : ℕ) (missing : List Missing) (groups : List (List ℕ))
+    → AreMissing s j p n missing → AreGroups s j n missing groups → (i : ℕ) → Has (concat groups) i ↔ InGap s j p n i
 groups_gap s j p n missing groups are of i = (λ h. there ((has_concat groups i).0 h), back)
   where
     there : ((g : List ℕ) × Has groups g × Has g i) → InGap s j p n i
@@ -55,7 +75,8 @@ groups_gap s j p n missing groups are of i = (λ h. there ((has_concat groups i)
         let r = of.of h.1.0 h.0 h.1.1 in
         let x = (r.2 i).0 h.2 in
         let stored = (are.each r.0.owner r.0.number).0 (r.0, (h.1.0, r.1), refl, refl) in
-        gap_whole s j p n r.0.owner stored.1.0 i stored.0 x.0 stored.1.1 x.1 stored.1.3 stored.1.2 x.2 x.3 (x.4 ∙ sym stored.1.4)
+        gap_whole s j p n r.0.owner stored.1.0 i stored.0 x.0 stored.1.1 x.1 stored.1.3 stored.1.2 x.2 x.3
+            (x.4 ∙ sym stored.1.4)
 
     back : InGap s j p n i → Has (concat groups) i
     back g =
@@ -66,27 +87,39 @@ groups_gap s j p n missing groups are of i = (λ h. there ((has_concat groups i)
         let same : r.0 ≡ m.0 = same_Some r.0 m.0 (sym r.1 ∙ m.1.1) in
         let P : Missing → Type 0 = λ x. StoresIn s j x.owner x.number n i in
         let Q : ℕ → ℕ → Type 0 = λ q k. StoresIn s j q k n i in
-        let here : StoresIn s j m.0.owner m.0.number n i = subst₂ Q (sym m.2) (sym m.3) (w.address, w.value, w.does, w.in_page, refl) in
+        let here : StoresIn s j m.0.owner m.0.number n i =
+            subst₂ Q (sym m.2) (sym m.3) (w.address, w.value, w.does, w.in_page, refl) in
         (has_concat groups i).1 (f.0, (m.1.0, f.1), (r.2 i).1 (subst P (sym same) here))
 
 -- a store of a closed interval, with its closing event
-pub store_closed : (s : Sizes) (j : List Event) (q k n i c : ℕ) → StoresIn s j q k n i → ClosesAt j q c → interval_at j q c ≡ k → ClosedAt j i c
-store_closed s j q k n i c x closes number = closed_by j q i c (Store x.0 x.1) x.2 (λ h. true≢false (sym h)) closes (x.4 ∙ sym number)
+pub store_closed : (s : Sizes) (j : List Event) (q k n i c : ℕ) → StoresIn s j q k n i → ClosesAt j q c
+    → interval_at j q c ≡ k → ClosedAt j i c
+store_closed s j q k n i c x closes number =
+    closed_by j q i c (Store x.0 x.1) x.2 (λ h. true≢false (sym h)) closes (x.4 ∙ sym number)
 
 -- of two intervals in closing order, the stores of the second don't happen before those of the first
-pub groups_extend : (s : Sizes) (j : List Event) (n : ℕ) (missing : List Missing) (groups : List (List ℕ)) → ((x : Missing) → Has missing x → IsPlaced j x.owner x.number x.place) → InClosingOrder missing → AreGroups s j n missing groups → IsOnce (concat groups) × InOrder (λ i k. ¬ HappensBefore j k i) (concat groups)
+pub groups_extend : (s : Sizes) (j : List Event) (n : ℕ) (missing : List Missing) (groups : List (List ℕ))
+    → ((x : Missing) → Has missing x → IsPlaced j x.owner x.number x.place) → InClosingOrder missing
+    → AreGroups s j n missing groups → IsOnce (concat groups) × InOrder (λ i k. ¬ HappensBefore j k i) (concat groups)
 groups_extend s j n missing groups placed order of = (
-  in_order_concat (λ (i k : ℕ). i ≢ k) groups (λ g h x y a b less at to same. let r = of.of h.0 g h.1 in let up = r.3 x y a b less at to in omega arith) apart,
-  in_order_concat (λ i k. ¬ HappensBefore j k i) groups (λ g h x y a b less at to before. let r = of.of h.0 g h.1 in let up = r.3 x y a b less at to in let down = goes_forward j before in omega arith) extends,
+  in_order_concat (λ (i k : ℕ). i ≢ k) groups
+      (λ g h x y a b less at to same. let r = of.of h.0 g h.1 in let up = r.3 x y a b less at to in omega arith)
+      apart,
+  in_order_concat (λ i k. ¬ HappensBefore j k i) groups (λ g h x y a b less at to before. let r = of.of h.0 g h.1 in
+          let up = r.3 x y a b less at to in let down = goes_forward j before in omega arith)
+      extends,
 )
   where
-    pair : (x y : ℕ) (g h : List ℕ) → x < y → slice_get groups x ≡ Some g → slice_get groups y ≡ Some h → (a b : ℕ) → Has g a → Has h b → (c : ℕ) × (d : ℕ) × ClosedAt j a c × ClosedAt j b d × (c < d)
+    pair : (x y : ℕ) (g h : List ℕ) → x < y → slice_get groups x ≡ Some g → slice_get groups y ≡ Some h → (a b : ℕ)
+        → Has g a → Has h b → (c : ℕ) × (d : ℕ) × ClosedAt j a c × ClosedAt j b d × (c < d)
     pair x y g h less at to a b in_g in_h =
         let r = of.of x g at in
         let t = of.of y h to in
         let c = placed r.0 (x, r.1) in
         let d = placed t.0 (y, t.1) in
-        (c.at, d.at, store_closed s j r.0.owner r.0.number n a c.at ((r.2 a).0 in_g) c.closes c.number, store_closed s j t.0.owner t.0.number n b d.at ((t.2 b).0 in_h) d.closes d.number, placed_before j r.0.owner r.0.number r.0.place t.0.owner t.0.number t.0.place c d (order x y r.0 t.0 less r.1 t.1))
+        (c.at, d.at, store_closed s j r.0.owner r.0.number n a c.at ((r.2 a).0 in_g) c.closes c.number, store_closed s
+                j t.0.owner t.0.number n b d.at ((t.2 b).0 in_h) d.closes d.number, placed_before j r.0.owner
+                r.0.number r.0.place t.0.owner t.0.number t.0.place c d (order x y r.0 t.0 less r.1 t.1))
 
     apart : InOrder (λ (g h : List ℕ). (a b : ℕ) → Has g a → Has h b → a ≢ b) groups
     apart x y g h less at to a b in_g in_h same =
@@ -96,4 +129,5 @@ groups_extend s j n missing groups placed order of = (
         omega arith
 
     extends : InOrder (λ (g h : List ℕ). (a b : ℕ) → Has g a → Has h b → ¬ HappensBefore j b a) groups
-    extends x y g h less at to a b in_g in_h = let z = pair x y g h less at to a b in_g in_h in closing_extends j a b z.0 z.1 z.2 z.3 (inl z.4)
+    extends x y g h less at to a b in_g in_h =
+        let z = pair x y g h less at to a b in_g in_h in closing_extends j a b z.0 z.1 z.2 z.3 (inl z.4)

@@ -1,5 +1,8 @@
 -- What each kind of event does to the missing intervals.
-use Rattle.std.proofs.Common.{ℕ, ◌≡◌, ◌≢◌, ◌<◌, ◌≤◌, ◌⊎◌, ◌↔◌, ◌/◌, inl, inr, List, [], ◌∷◌, ◌++◌, true, arith, refl, sym, ap, ◌∙◌, le_of_lt, true≢false}
+use Rattle.std.proofs.Common.{
+    ℕ, ◌≡◌, ◌≢◌, ◌<◌, ◌≤◌, ◌⊎◌, ◌↔◌, ◌/◌, inl, inr, List, [], ◌∷◌, ◌++◌, true, arith, refl, sym, ap, ◌∙◌, le_of_lt,
+    true≢false
+}
 use Rattle.lists.proofs.Places.{push_cases}
 use Rattle.journal.specs.declared.event.Event.{Event}
 use Rattle.journal.specs.declared.event.Kind.{Kind}
@@ -25,26 +28,30 @@ use Rattle.journal.proofs.Intervals.Contents.{content_on, content_closed}
 
 -- nothing is missing where there is no gap
 pub none_missing : (s : Sizes) (j : List Event) (p n : ℕ) → NoGap s j p n → AreMissing s j p n []
-none_missing s j p n none = record { each = λ q k. (λ x. absurd (has-nil x.0 x.1), λ x. absurd (none x.1.0 x.1.3)); placed = λ x h. absurd (has-nil x h); contents = λ x h. absurd (has-nil x h) }
-
--- and there is no gap where nothing is missing
-pub missing_none : (s : Sizes) (j : List Event) (p n : ℕ) → AreMissing s j p n [] → NoGap s j p n
-missing_none s j p n are i g = let w = g.store in let x = (are.each w.by (interval_at j w.by i)).1 (w.address, (i, w.value, w.does, g, refl)) in has-nil x.0 x.1
+none_missing s j p n none =
+    record { each = λ q k. (λ x. absurd (has-nil x.0 x.1), λ x. absurd (none x.1.0 x.1.3));
+            placed = λ x h. absurd (has-nil x h); contents = λ x h. absurd (has-nil x h) }
 
 -- and there is one where something is
-pub missing_some : (s : Sizes) (j : List Event) (p n : ℕ) (x : Missing) (missing : List Missing) → AreMissing s j p n (x ∷ missing) → (i : ℕ) × InGap s j p n i
-missing_some s j p n x missing are = let g = (are.each x.owner x.number).0 (x, (0, refl), refl, refl) in (g.1.0, g.1.3)
+pub missing_some : (s : Sizes) (j : List Event) (p n : ℕ) (x : Missing) (missing : List Missing)
+    → AreMissing s j p n (x ∷ missing) → (i : ℕ) × InGap s j p n i
+missing_some s j p n x missing are =
+    let g = (are.each x.owner x.number).0 (x, (0, refl), refl, refl) in (g.1.0, g.1.3)
 
 -- another list of the same intervals
-pub missing_same : (s : Sizes) (j : List Event) (p n : ℕ) (missing other : List Missing) → ((x : Missing) → Has missing x ↔ Has other x) → AreMissing s j p n missing → AreMissing s j p n other
+pub missing_same : (s : Sizes) (j : List Event) (p n : ℕ) (missing other : List Missing)
+    → ((x : Missing) → Has missing x ↔ Has other x) → AreMissing s j p n missing → AreMissing s j p n other
 missing_same s j p n missing other same are = record {
-  each = λ q k. (λ x. (are.each q k).0 (x.0, (same x.0).1 x.1, x.2, x.3), λ g. let x = (are.each q k).1 g in (x.0, (same x.0).0 x.1, x.2, x.3));
+  each =
+      λ q k. (λ x. (are.each q k).0 (x.0, (same x.0).1 x.1, x.2, x.3), λ g. let x = (are.each q k).1 g in
+              (x.0, (same x.0).0 x.1, x.2, x.3));
   placed = λ x h. are.placed x ((same x).1 h);
   contents = λ x h. are.contents x ((same x).1 h);
 }
 
 -- what the missing intervals come to stays
-contents_on : (s : Sizes) (j es : List Event) (p n : ℕ) (missing : List Missing) → AreMissing s j p n missing → (x : Missing) → Has missing x → IsContent s (j ++ es) x.owner x.number n x.words
+contents_on : (s : Sizes) (j es : List Event) (p n : ℕ) (missing : List Missing) → AreMissing s j p n missing
+    → (x : Missing) → Has missing x → IsContent s (j ++ es) x.owner x.number n x.words
 contents_on s j es p n missing are x h =
     let c = are.placed x h in
     let inside = count_of-within is_closing j c.at x.owner c.closes.kind c.closes.does c.closes.closes in
@@ -52,24 +59,41 @@ contents_on s j es p n missing are x h =
     content_closed s j es x.owner x.number n x.words (omega arith) (are.contents x h)
 
 -- events that leave the gap leave the missing intervals
-pub missing_on : (s : Sizes) (j es : List Event) (p n : ℕ) (missing : List Missing) → ((i : ℕ) → InGap s (j ++ es) p n i ↔ InGap s j p n i) → AreMissing s j p n missing → AreMissing s (j ++ es) p n missing
+pub missing_on : (s : Sizes) (j es : List Event) (p n : ℕ) (missing : List Missing)
+    → ((i : ℕ) → InGap s (j ++ es) p n i ↔ InGap s j p n i) → AreMissing s j p n missing
+    → AreMissing s (j ++ es) p n missing
 missing_on s j es p n missing same are = record {
-  each = λ q k. (λ x. let g = (are.each q k).0 x in (g.0, (stored_on s j es p n same (q, k, g.0)).1 g.1), λ g. (are.each q k).1 (g.0, (stored_on s j es p n same (q, k, g.0)).0 g.1));
+  each =
+      λ q k. (λ x. let g = (are.each q k).0 x in
+              (g.0, (stored_on s j es p n same (q, k, g.0)).1 g.1), λ g. (are.each q k).1
+                  (g.0, (stored_on s j es p n same (q, k, g.0)).0 g.1));
   placed = λ x h. placed_longer j es x.owner x.number x.place (are.placed x h);
   contents = contents_on s j es p n missing are;
 }
 
 -- so others' events
-pub missing_others : (s : Sizes) (j es : List Event) (p n : ℕ) (missing : List Missing) → ((k : ℕ) (e : Event) → At es k e → e.processor ≢ p) → AreMissing s j p n missing → AreMissing s (j ++ es) p n missing
+pub missing_others : (s : Sizes) (j es : List Event) (p n : ℕ) (missing : List Missing)
+    → ((k : ℕ) (e : Event) → At es k e → e.processor ≢ p) → AreMissing s j p n missing
+    → AreMissing s (j ++ es) p n missing
 missing_others s j es p n missing away = missing_on s j es p n missing (λ i. gap_others s j es p n i away)
 
 -- and a block that doesn't fetch the page
-pub missing_block : (s : Sizes) (j block : List Event) (p n : ℕ) (missing : List Missing) → IsBlock p block → ((k w r d : ℕ) → ¬ Does block k p (Fetch w n r d)) → AreMissing s j p n missing → AreMissing s (j ++ block) p n missing
-missing_block s j block p n missing is none = missing_on s j block p n missing (λ i. gap_block s j block p n i is none)
+pub missing_block : (s : Sizes) (j block : List Event) (p n : ℕ) (missing : List Missing) → IsBlock p block
+    → ((k w r d : ℕ) → ¬ Does block k p (Fetch w n r d)) → AreMissing s j p n missing
+    → AreMissing s (j ++ block) p n missing
+missing_block s j block p n missing is none =
+    missing_on s j block p n missing (λ i. gap_block s j block p n i is none)
 
 -- an event by which p gets to know of others' adds the intervals between its timestamps that store in the page
-pub missing_taken : (s : Sizes) (j : List Event) (p n : ℕ) (k : Kind) (t t' : ℕ → ℕ) (missing new : List Missing) → is_taking k ≡ true → IsTimeOf j p t → IsTimeOf (j ++ event p k ∷ []) p t' → AreNews s j p n t t' new → AreMissing s j p n missing → AreMissing s (j ++ event p k ∷ []) p n (missing ++ new)
-missing_taken s j p n k t t' missing new takes time after news are = record { each = λ q m. (λ x. there q m x.0 x.2 x.3 ((has-append missing new x.0).0 x.1), back q m); placed = λ x h. placed_longer j (e ∷ []) x.owner x.number x.place (elim ((has-append missing new x).0 h) [ inl old ↦ are.placed x old | inr now ↦ news.placed x now ]); contents = λ x h. elim ((has-append missing new x).0 h) [ inl old ↦ contents_on s j (e ∷ []) p n missing are x old | inr now ↦ now_on x now ] }
+pub missing_taken : (s : Sizes) (j : List Event) (p n : ℕ) (k : Kind) (t t' : ℕ → ℕ) (missing new : List Missing)
+    → is_taking k ≡ true → IsTimeOf j p t → IsTimeOf (j ++ event p k ∷ []) p t' → AreNews s j p n t t' new
+    → AreMissing s j p n missing → AreMissing s (j ++ event p k ∷ []) p n (missing ++ new)
+missing_taken s j p n k t t' missing new takes time after news are =
+    record { each = λ q m. (λ x. there q m x.0 x.2 x.3 ((has-append missing new x.0).0 x.1), back q m);
+            placed = λ x h. placed_longer j (e ∷ []) x.owner x.number x.place
+                (elim ((has-append missing new x).0 h) [ inl old ↦ are.placed x old | inr now ↦ news.placed x now ]);
+            contents = λ x h. elim ((has-append missing new x).0 h)
+                [ inl old ↦ contents_on s j (e ∷ []) p n missing are x old | inr now ↦ now_on x now ] }
   where
     e : Event
     e = event p k
@@ -78,46 +102,72 @@ missing_taken s j p n k t t' missing new takes time after news are = record { ea
     at_e q i a v = at_longer j (e ∷ []) i (event q (Store a v))
 
     number : (q i a v : ℕ) → Does j i q (Store a v) → interval_at (j ++ e ∷ []) q i ≡ interval_at j q i
-    number q i a v does = count_of-front is_closing j (e ∷ []) i q (le_of_lt (at_within j i (event q (Store a v)) does))
+    number q i a v does =
+        count_of-front is_closing j (e ∷ []) i q (le_of_lt (at_within j i (event q (Store a v)) does))
 
     old : (q i a v : ℕ) → Does (j ++ e ∷ []) i q (Store a v) → Does j i q (Store a v)
-    old q i a v does = elim (push_cases j e i (event q (Store a v)) does) [ inl h ↦ h.1 | inr h ↦ absurd (true≢false (sym takes ∙ ap (λ (f : Event). is_taking f.kind) h.1)) ]
+    old q i a v does =
+        elim (push_cases j e i (event q (Store a v)) does)
+            [ inl h ↦ h.1 | inr h ↦ absurd (true≢false (sym takes ∙ ap (λ (f : Event). is_taking f.kind) h.1)) ]
 
     now_on : (x : Missing) → Has new x → IsContent s (j ++ e ∷ []) x.owner x.number n x.words
-    now_on x h = content_on s j (e ∷ []) x.owner x.number n x.words (λ i y. at_within j i (event x.owner (Store y.0 y.1)) (old x.owner i y.0 y.1 y.2)) (news.contents x h)
+    now_on x h =
+        content_on s j (e ∷ []) x.owner x.number n x.words
+            (λ i y. at_within j i (event x.owner (Store y.0 y.1)) (old x.owner i y.0 y.1 y.2)) (news.contents x h)
 
-    from_gap : (q m : ℕ) → ((a : ℕ) × StoredInGap s j p n (q, m, a)) → (a : ℕ) × StoredInGap s (j ++ e ∷ []) p n (q, m, a)
+    from_gap : (q m : ℕ) → ((a : ℕ) × StoredInGap s j p n (q, m, a))
+        → (a : ℕ) × StoredInGap s (j ++ e ∷ []) p n (q, m, a)
     from_gap q m x =
         let g = x.1 in
         let apart = gap_apart s j p n q g.0 x.0 g.1 g.3 g.2 in
-        let page : x.0 / s.words ≡ n = ap (λ (a : ℕ). a / s.words) (sym (store_same j g.0 g.3.store.by q g.3.store.address x.0 g.3.store.value g.1 g.3.store.does g.2).1) ∙ g.3.store.in_page in
-        (x.0, (g.0, g.1, at_e q g.0 x.0 g.1 g.2, (gap_taken s j p n q g.0 x.0 g.1 k t t' takes time after g.2 page apart).1 (inl g.3), number q g.0 x.0 g.1 g.2 ∙ g.4))
+        let page : x.0 / s.words ≡ n =
+            ap (λ (a : ℕ). a / s.words) (sym (store_same j g.0 g.3.store.by q g.3.store.address x.0 g.3.store.value
+                            g.1 g.3.store.does g.2).1)
+                ∙ g.3.store.in_page in
+        (x.0, (g.0, g.1, at_e q g.0 x.0 g.1 g.2,
+                        (gap_taken s j p n q g.0 x.0 g.1 k t t' takes time after g.2 page apart).1 (inl g.3), number q
+                        g.0 x.0 g.1 g.2
+                    ∙ g.4))
 
-    from_new : (q m : ℕ) → ((i : ℕ) × StoresIn s j q m n i × (q ≢ p) × (t q ≤ m) × (m < t' q)) → (a : ℕ) × StoredInGap s (j ++ e ∷ []) p n (q, m, a)
+    from_new : (q m : ℕ) → ((i : ℕ) × StoresIn s j q m n i × (q ≢ p) × (t q ≤ m) × (m < t' q))
+        → (a : ℕ) × StoredInGap s (j ++ e ∷ []) p n (q, m, a)
     from_new q m x =
         let w = x.1 in
         let same = w.4 in
         let le = x.3 in
         let less = x.4 in
-        (w.0, (x.0, w.1, at_e q x.0 w.0 w.1 w.2, (gap_taken s j p n q x.0 w.0 w.1 k t t' takes time after w.2 w.3 x.2).1 (inr (omega arith, omega arith)), number q x.0 w.0 w.1 w.2 ∙ w.4))
+        (w.0, (x.0, w.1, at_e q x.0 w.0 w.1 w.2,
+                        (gap_taken s j p n q x.0 w.0 w.1 k t t' takes time after w.2 w.3 x.2).1
+                        (inr (omega arith, omega arith)), number q x.0 w.0 w.1 w.2
+                    ∙ w.4))
 
-    there : (q m : ℕ) (x : Missing) → x.owner ≡ q → x.number ≡ m → Has missing x ⊎ Has new x → (a : ℕ) × StoredInGap s (j ++ e ∷ []) p n (q, m, a)
+    there : (q m : ℕ) (x : Missing) → x.owner ≡ q → x.number ≡ m → Has missing x ⊎ Has new x
+        → (a : ℕ) × StoredInGap s (j ++ e ∷ []) p n (q, m, a)
     there q m x mine is (inl h) = from_gap q m ((are.each q m).0 (x, h, mine, is))
     there q m x mine is (inr h) = from_new q m ((news.each q m).0 (x, h, mine, is))
 
-    add : (q m : ℕ) → ((x : Missing) × Has missing x × (x.owner ≡ q) × (x.number ≡ m)) ⊎ ((x : Missing) × Has new x × (x.owner ≡ q) × (x.number ≡ m)) → (x : Missing) × Has (missing ++ new) x × (x.owner ≡ q) × (x.number ≡ m)
+    add : (q m : ℕ)
+        → ((x : Missing) × Has missing x × (x.owner ≡ q) × (x.number ≡ m))
+            ⊎ ((x : Missing) × Has new x × (x.owner ≡ q) × (x.number ≡ m))
+        → (x : Missing) × Has (missing ++ new) x × (x.owner ≡ q) × (x.number ≡ m)
     add q m (inl x) = (x.0, (has-append missing new x.0).1 (inl x.1), x.2, x.3)
     add q m (inr x) = (x.0, (has-append missing new x.0).1 (inr x.1), x.2, x.3)
 
-    back : (q m : ℕ) → ((a : ℕ) × StoredInGap s (j ++ e ∷ []) p n (q, m, a)) → (x : Missing) × Has (missing ++ new) x × (x.owner ≡ q) × (x.number ≡ m)
+    back : (q m : ℕ) → ((a : ℕ) × StoredInGap s (j ++ e ∷ []) p n (q, m, a))
+        → (x : Missing) × Has (missing ++ new) x × (x.owner ≡ q) × (x.number ≡ m)
     back q m x =
         let g = x.1 in
         let w = g.3.store in
         let does : Does j g.0 q (Store x.0 g.1) = old q g.0 x.0 g.1 g.2 in
         let apart = gap_apart s (j ++ e ∷ []) p n q g.0 x.0 g.1 g.3 g.2 in
-        let page : x.0 / s.words ≡ n = ap (λ (a : ℕ). a / s.words) (sym (store_same (j ++ e ∷ []) g.0 w.by q w.address x.0 w.value g.1 w.does g.2).1) ∙ w.in_page in
+        let page : x.0 / s.words ≡ n =
+            ap (λ (a : ℕ). a / s.words)
+                    (sym (store_same (j ++ e ∷ []) g.0 w.by q w.address x.0 w.value g.1 w.does g.2).1)
+                ∙ w.in_page in
         let same : interval_at j q g.0 ≡ m = sym (number q g.0 x.0 g.1 does) ∙ g.4 in
         elim ((gap_taken s j p n q g.0 x.0 g.1 k t t' takes time after does page apart).0 g.3) [
           | inl h ↦ add q m (inl ((are.each q m).1 (x.0, (g.0, g.1, does, h, same))))
-          | inr h ↦ (let le = h.0 in let less = h.1 in add q m (inr ((news.each q m).1 (g.0, (x.0, g.1, does, page, same), apart, omega arith, omega arith))))
+          | inr h ↦ (let le = h.0 in let less = h.1 in
+                  add q m
+                      (inr ((news.each q m).1 (g.0, (x.0, g.1, does, page, same), apart, omega arith, omega arith))))
         ]

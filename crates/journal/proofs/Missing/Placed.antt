@@ -1,35 +1,37 @@
 -- Intervals by their closing numbers.
-use Rattle.std.proofs.Common.{ℕ, ◌≡◌, ◌+◌, ◌<◌, ◌≤◌, cond, inl, inr, List, [], ◌∷◌, ◌++◌, true, length, take, arith, sym, ap, ◌∙◌, le_of_lt}
+use Rattle.std.proofs.Common.{ℕ, ◌≡◌, ◌<◌, ◌≤◌, inl, inr, List, [], ◌∷◌, ◌++◌, true, length, take, arith, sym, ap, ◌∙◌, le_of_lt}
 use Rattle.std.proofs.Math.Seq.{take-append_seam}
 use Rattle.std.proofs.lemmas.Bool.{cases_lt}
 use Rattle.std.proofs.lemmas.List.{take-append-le}
 use Rattle.journal.specs.declared.event.Event.{Event}
-use Rattle.journal.specs.declared.event.Kind.{Kind}
-use Rattle.journal.specs.Did.{event, did}
+use Rattle.journal.specs.Did.{event}
 use Rattle.journal.specs.Events.{is_closing, count_of}
 use Rattle.journal.specs.Missing.{closed_count, IsPlaced}
-use Rattle.lists.proofs.Places.{count_by-append, count_by-mono}
+use Rattle.lists.proofs.Places.{count_by-mono}
 use Rattle.journal.proofs.Order.Places.{at_within, at_longer, at_last, count_of-front}
 use Rattle.journal.proofs.Times.IntervalNumbers.{same_closer}
 
--- one more event, which closes an interval or doesn't
-pub closed_count_did : (j : List Event) (p : ℕ) (k : Kind) → closed_count (did j p k) ≡ closed_count j + cond (is_closing k) 1 0
-closed_count_did j p k = let sum = count_by-append (λ (e : Event). is_closing e.kind) j (event p k ∷ []) in omega arith
-
 -- what comes later changes no front
-pub closed_count_front : (j es : List Event) (i : ℕ) → i ≤ length j → closed_count (take i (j ++ es)) ≡ closed_count (take i j)
+pub closed_count_front : (j es : List Event) (i : ℕ) → i ≤ length j
+    → closed_count (take i (j ++ es)) ≡ closed_count (take i j)
 closed_count_front j es i le = ap closed_count (take-append-le i j es le)
 
 -- a lower closing number is closed earlier
-pub placed_before : (j : List Event) (q k a r m b : ℕ) (x : IsPlaced j q k a) (y : IsPlaced j r m b) → a < b → x.at < y.at
+pub placed_before : (j : List Event) (q k a r m b : ℕ) (x : IsPlaced j q k a) (y : IsPlaced j r m b) → a < b
+    → x.at < y.at
 placed_before j q k a r m b x y less = elim (cases_lt x.at y.at) [
   | inl h ↦ h
-  | inr le ↦ (let up = count_by-mono (λ (e : Event). is_closing e.kind) j y.at x.at le in let here = x.before in let there = y.before in absurd (omega arith))
+  | inr le ↦ (let up = count_by-mono (λ (e : Event). is_closing e.kind) j y.at x.at le in let here = x.before in
+          let there = y.before in absurd (omega arith))
 ]
 
 -- an interval has one closing number
 pub placed_once : (j : List Event) (q k a b : ℕ) → IsPlaced j q k a → IsPlaced j q k b → a ≡ b
-placed_once j q k a b x y = sym x.before ∙ ap (λ (m : ℕ). closed_count (take m j)) (same_closer j q x.at y.at x.closes y.closes (x.number ∙ sym y.number)) ∙ y.before
+placed_once j q k a b x y =
+    sym x.before
+        ∙ ap (λ (m : ℕ). closed_count (take m j))
+            (same_closer j q x.at y.at x.closes y.closes (x.number ∙ sym y.number))
+        ∙ y.before
 
 -- it keeps it as the journal goes on
 pub placed_longer : (j es : List Event) (q k a : ℕ) → IsPlaced j q k a → IsPlaced (j ++ es) q k a
@@ -44,7 +46,8 @@ placed_longer j es q k a x =
     }
 
 -- a closing event closes its processor's open interval, after all that were closed before
-pub placed_now : (j : List Event) (e : Event) → is_closing e.kind ≡ true → IsPlaced (j ++ e ∷ []) e.processor (count_of is_closing j e.processor) (closed_count j)
+pub placed_now : (j : List Event) (e : Event) → is_closing e.kind ≡ true
+    → IsPlaced (j ++ e ∷ []) e.processor (count_of is_closing j e.processor) (closed_count j)
 placed_now j e closes = record {
   at = length j;
   closes = record { kind = e.kind; does = at_last j e; closes = closes };

@@ -1,5 +1,8 @@
 -- How a row of what happens before a place grows, a source at a time.
-use Rattle.std.proofs.Common.{◌≡◌, ◌↔◌, ◌⊎◌, ◌∙◌, ℕ, ◌+◌, ◌<◌, inl, inr, zero, suc, List, [], ◌∷◌, length, slice_index_or, Bool, true, false, IsTrue, ◌||◌, ◌==◌, refl, sym, subst, arith}
+use Rattle.std.proofs.Common.{
+    ◌≡◌, ◌↔◌, ◌⊎◌, ◌∙◌, ℕ, ◌+◌, ◌<◌, inl, inr, zero, suc, List, [], ◌∷◌, length, slice_index_or, Bool, true, false,
+    IsTrue, ◌||◌, ◌==◌, refl, sym, subst, arith
+}
 use Rattle.std.proofs.lemmas.Bool.{cases_lt, eq-eqb, eqb-true}
 use Rattle.journal.specs.declared.event.Event.{Event}
 use Rattle.journal.specs.Order.{Edge, HappensBefore}
@@ -14,14 +17,17 @@ pub record Reaches (j : List Event) (place n i : ℕ) : Type 0 where
   pub edge : Edge j source place
 
 pub reaches_longer : (j : List Event) (place n i : ℕ) → Reaches j place n i → Reaches j place (n + 1) i
-reaches_longer j place n i r = record { source = r.source; below = (let lt = r.below in omega arith); up_to = r.up_to; edge = r.edge }
+reaches_longer j place n i r =
+    record { source = r.source; below = (let lt = r.below in omega arith); up_to = r.up_to; edge = r.edge }
 
 -- one place on, with no edge from it
-pub reaches_past : (j : List Event) (place n i : ℕ) → ¬ Edge j n place → Reaches j place (n + 1) i ↔ Reaches j place n i
+pub reaches_past : (j : List Event) (place n i : ℕ) → ¬ Edge j n place
+    → Reaches j place (n + 1) i ↔ Reaches j place n i
 reaches_past j place n i isnt = (
   λ r. elim (cases_lt r.source n) [
     | inl lt ↦ record { source = r.source; below = lt; up_to = r.up_to; edge = r.edge }
-    | inr le ↦ (let is : r.source ≡ n = (let lt = r.below in omega arith) in absurd (isnt (subst (λ m. Edge j m place) is r.edge)))
+    | inr le ↦ (let is : r.source ≡ n = (let lt = r.below in omega arith) in
+            absurd (isnt (subst (λ m. Edge j m place) is r.edge)))
   ],
   reaches_longer j place n i,
 )
@@ -45,18 +51,23 @@ or_third false true c h = refl
 or_third false false c h = h
 
 -- one place on, with an edge from it
-pub reaches_next : (j : List Event) (place n i : ℕ) (old there new : Bool) → Edge j n place → IsTrue old ↔ Reaches j place n i → IsTrue there ↔ HappensBefore j i n → new ≡ (old || (there || (i == n))) → IsTrue new ↔ Reaches j place (n + 1) i
+pub reaches_next : (j : List Event) (place n i : ℕ) (old there new : Bool) → Edge j n place
+    → IsTrue old ↔ Reaches j place n i → IsTrue there ↔ HappensBefore j i n → new ≡ (old || (there || (i == n)))
+    → IsTrue new ↔ Reaches j place (n + 1) i
 reaches_next j place n i old there new edge before here is = (to, from)
   where
     to : new ≡ true → Reaches j place (n + 1) i
     to t = elim (or_cases old there (i == n) (sym is ∙ t)) [
       | inl o ↦ reaches_longer j place n i (before.0 o)
-      | inr rest ↦ record { source = n; below = omega arith; up_to = elim rest [ inl h ↦ inr (here.0 h) | inr same ↦ inl (eqb-true i n same) ]; edge = edge }
+      | inr rest ↦ record { source = n; below = omega arith;
+              up_to = elim rest [ inl h ↦ inr (here.0 h) | inr same ↦ inl (eqb-true i n same) ]; edge = edge }
     ]
 
     from : Reaches j place (n + 1) i → new ≡ true
     from r = elim (cases_lt r.source n) [
-      | inl lt ↦ is ∙ or_first old (there || (i == n)) (before.1 (record { source = r.source; below = lt; up_to = r.up_to; edge = r.edge }))
+      | inl lt ↦ is
+          ∙ or_first old (there || (i == n))
+              (before.1 (record { source = r.source; below = lt; up_to = r.up_to; edge = r.edge }))
       | inr le ↦ (let same : r.source ≡ n = (let lt = r.below in omega arith) in elim r.up_to [
         | inl eq ↦ is ∙ or_third old there (i == n) (eq-eqb i n (eq ∙ same))
         | inr h ↦ is ∙ or_second old there (i == n) (here.1 (subst (λ m. HappensBefore j i m) same h))

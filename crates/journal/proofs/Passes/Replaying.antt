@@ -15,15 +15,21 @@ use Rattle.journal.specs.Flat.{memory_after, flat_write, AnswersWord}
 -- the memory is that after the first n events, and their loads answer its words
 pub record ReplaysSoFar (start memory : List ℕ) (events : List Event) (n : ℕ) : Type 0 where
   pub memory_is : memory ≡ memory_after start (take n events)
-  pub loads : (i : ℕ) → i < n → (p a v : ℕ) → Does events i p (Load a v) → slice_get (memory_after start (take i events)) a ≡ Some v
+  pub loads : (i : ℕ) → i < n → (p a v : ℕ) → Does events i p (Load a v)
+      → slice_get (memory_after start (take i events)) a ≡ Some v
 
 -- the memory after one more event
-pub memory_after-suc : (start : List ℕ) (events : List Event) (n : ℕ) (e : Event) → slice_get events n ≡ Some e → memory_after start (take (n + 1) events) ≡ wrote (memory_after start (take n events)) (flat_write e.kind)
+pub memory_after-suc : (start : List ℕ) (events : List Event) (n : ℕ) (e : Event) → slice_get events n ≡ Some e
+    → memory_after start (take (n + 1) events) ≡ wrote (memory_after start (take n events)) (flat_write e.kind)
 memory_after-suc start events n e at =
-    rw (add-one, take-suc_at events n e at, written-append (λ (x : Event). flat_write x.kind) start (take n events) (e ∷ [])) refl
+    rw (add-one, take-suc_at events n e at, written-append (λ (x : Event). flat_write x.kind) start (take n events)
+            (e ∷ []))
+        refl
 
 -- one more event that answers
-pub replays-suc : (start memory : List ℕ) (events : List Event) (n : ℕ) (e : Event) → slice_get events n ≡ Some e → ReplaysSoFar start memory events n → AnswersWord memory e.kind → ReplaysSoFar start (wrote memory (flat_write e.kind)) events (n + 1)
+pub replays-suc : (start memory : List ℕ) (events : List Event) (n : ℕ) (e : Event) → slice_get events n ≡ Some e
+    → ReplaysSoFar start memory events n → AnswersWord memory e.kind
+    → ReplaysSoFar start (wrote memory (flat_write e.kind)) events (n + 1)
 replays-suc start memory events n e at so answers = record {
   memory_is = rw (memory_after-suc start events n e at, so.memory_is) refl;
   loads = below_more _ _ so.loads (λ p a v does. rw (← so.memory_is) (answers_load p a v does));

@@ -17,7 +17,8 @@ use Rattle.journal.proofs.Times.Leaving.{LeavesAt, path_leaves, leaving, own_ord
 
 -- no earlier closing event of the processor closes the interval
 pub closer_least : (j : List Event) (i c m : ℕ) (x : ClosedAt j i c) → i ≤ m → ClosesAt j x.event.processor m → c ≤ m
-closer_least j i c m x from closes = elim (cases_lt m c) [ inl less ↦ absurd (go less (cases_order i m)) | inr le ↦ le ]
+closer_least j i c m x from closes =
+    elim (cases_lt m c) [ inl less ↦ absurd (go less (cases_order i m)) | inr le ↦ le ]
   where
     f : Event
     f = event x.event.processor closes.kind
@@ -25,16 +26,20 @@ closer_least j i c m x from closes = elim (cases_lt m c) [ inl less ↦ absurd (
     go : m < c → (i ≡ m) ⊎ ((i < m) ⊎ (m < i)) → ⊥
     go less (inl e) =
         let P : ℕ → Type 0 = λ k. At j k x.event in
-        x.open_at (ap (λ (g : Event). is_closing g.kind) (at_same j m x.event f (subst P e x.at) closes.does) ∙ closes.closes)
+        x.open_at (ap (λ (g : Event). is_closing g.kind) (at_same j m x.event f (subst P e x.at) closes.does)
+                ∙ closes.closes)
     go less (inr (inl after)) = x.none_between m f after less closes.does refl closes.closes
     go less (inr (inr before)) = omega arith
 
 -- the closing event as one
 pub closer_closes : (j : List Event) (i c : ℕ) (x : ClosedAt j i c) → ClosesAt j x.event.processor c
-closer_closes j i c x = record { kind = x.closer.kind; does = does_at j c x.event.processor x.closer x.closer_at x.mine; closes = x.closes }
+closer_closes j i c x =
+    record
+        { kind = x.closer.kind; does = does_at j c x.event.processor x.closer x.closer_at x.mine; closes = x.closes }
 
 -- closing order extends happens-before
-pub closing_extends : (j : List Event) (i k c d : ℕ) → ClosedAt j i c → ClosedAt j k d → (c < d) ⊎ ((c ≡ d) × (i < k)) → ¬ HappensBefore j k i
+pub closing_extends : (j : List Event) (i k c d : ℕ) → ClosedAt j i c → ClosedAt j k d → (c < d) ⊎ ((c ≡ d) × (i < k))
+    → ¬ HappensBefore j k i
 closing_extends j i k c d x y order before = go (cases_eq y.event.processor x.event.processor)
   where
     forward : k < i
@@ -44,7 +49,11 @@ closing_extends j i k c d x y order before = go (cases_eq y.event.processor x.ev
     late le = omega (arith, order, le, forward)
 
     go : (y.event.processor ≡ x.event.processor) ⊎ (y.event.processor ≢ x.event.processor) → ⊥
-    go (inl mine) = let P : ℕ → Type 0 = λ q. ClosesAt j q c in late (closer_least j k d c y (let less = x.before in omega (arith, forward, less)) (subst P (sym mine) (closer_closes j i c x)))
+    go (inl mine) =
+        let P : ℕ
+            → Type 0 = λ q. ClosesAt j q c in late (closer_least j k d c y
+                    (let less = x.before in omega (arith, forward, less))
+                        (subst P (sym mine) (closer_closes j i c x)))
     go (inr apart) =
         let l = path_leaves j y.event.processor before y.event x.event y.at x.at refl (λ s. apart (sym s)) in
         let least = closer_least j k d l.close y l.from l.closes in
@@ -53,8 +62,12 @@ closing_extends j i k c d x y order before = go (cases_eq y.event.processor x.ev
         late (omega (arith, least, up, less))
 
 -- another processor's event is in a past exactly where the closing event of its interval is
-pub interval_past : (j : List Event) (p i c : ℕ) (x : ClosedAt j i c) → x.event.processor ≢ p → InPast j p i ↔ InPast j p c
-interval_past j p i c x apart = (there, λ h. past_back j p i c (own_order j x.event.processor i c x.event.kind (closer_closes j i c x).kind x.at (closer_closes j i c x).does x.before) h)
+pub interval_past : (j : List Event) (p i c : ℕ) (x : ClosedAt j i c) → x.event.processor ≢ p
+    → InPast j p i ↔ InPast j p c
+interval_past j p i c x apart =
+    (there, λ h. past_back j p i c (own_order j x.event.processor i c x.event.kind (closer_closes j i c x).kind x.at
+                (closer_closes j i c x).does x.before)
+            h)
   where
     there : InPast j p i → InPast j p c
     there h = go (cases_order c l.close)
@@ -64,7 +77,10 @@ interval_past j p i c x apart = (there, λ h. past_back j p i c (own_order j x.e
 
         go : (c ≡ l.close) ⊎ ((c < l.close) ⊎ (l.close < c)) → InPast j p c
         go (inl e) = subst (InPast j p) (sym e) l.inside
-        go (inr (inl less)) = past_back j p c l.close (own_order j x.event.processor c l.close (closer_closes j i c x).kind l.closes.kind (closer_closes j i c x).does l.closes.does less) l.inside
+        go (inr (inl less)) =
+            past_back j p c l.close (own_order j x.event.processor c l.close (closer_closes j i c x).kind
+                    l.closes.kind (closer_closes j i c x).does l.closes.does less)
+                l.inside
         go (inr (inr less)) = let least = closer_least j i c l.close x l.from l.closes in absurd (omega arith)
 
 -- whose interval is closed
@@ -72,11 +88,16 @@ pub closed_of : (j : List Event) (q i c : ℕ) (a : Kind) (x : ClosedAt j i c) �
 closed_of j q i c a x does = ap (λ (e : Event). e.processor) (at_same j i x.event (event q a) x.at does)
 
 -- the closing event is the processor's first from the event on
-pub closes_first : (j : List Event) (q i c m : ℕ) (a : Kind) → ClosedAt j i c → Does j i q a → i ≤ m → ClosesAt j q m → c ≤ m
-closes_first j q i c m a x does from closes = let P : ℕ → Type 0 = λ r. ClosesAt j r m in closer_least j i c m x from (subst P (sym (closed_of j q i c a x does)) closes)
+pub closes_first : (j : List Event) (q i c m : ℕ) (a : Kind) → ClosedAt j i c → Does j i q a → i ≤ m → ClosesAt j q m
+    → c ≤ m
+closes_first j q i c m a x does from closes =
+    let P : ℕ
+        → Type 0 = λ r. ClosesAt j r m in closer_least j i c m x from
+            (subst P (sym (closed_of j q i c a x does)) closes)
 
 -- q's event is in another's past exactly where the closing event of its interval is
-pub closed_past : (j : List Event) (p q i c : ℕ) (a : Kind) → ClosedAt j i c → Does j i q a → q ≢ p → InPast j p i ↔ InPast j p c
+pub closed_past : (j : List Event) (p q i c : ℕ) (a : Kind) → ClosedAt j i c → Does j i q a → q ≢ p
+    → InPast j p i ↔ InPast j p c
 closed_past j p q i c a x does apart = interval_past j p i c x (λ e. apart (sym (closed_of j q i c a x does) ∙ e))
 
 -- an interval is closed at one place

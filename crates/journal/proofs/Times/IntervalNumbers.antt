@@ -13,7 +13,8 @@ use Rattle.journal.specs.declared.event.Kind.{Kind}
 use Rattle.journal.specs.Did.{event}
 
 -- closing events of one processor with one number are one
-pub same_closer : (j : List Event) (q c d : ℕ) → ClosesAt j q c → ClosesAt j q d → interval_at j q c ≡ interval_at j q d → c ≡ d
+pub same_closer : (j : List Event) (q c d : ℕ) → ClosesAt j q c → ClosesAt j q d
+    → interval_at j q c ≡ interval_at j q d → c ≡ d
 same_closer j q c d x y same = elim (cases_order c d) [
   | inl e ↦ e
   | inr apart ↦ elim apart [
@@ -23,15 +24,21 @@ same_closer j q c d x y same = elim (cases_order c d) [
 ]
 
 -- a closing event with an event's number closes that event's interval
-pub closed_by : (j : List Event) (q i c : ℕ) (a : Kind) → Does j i q a → is_closing a ≢ true → ClosesAt j q c → interval_at j q i ≡ interval_at j q c → ClosedAt j i c
-closed_by j q i c a does open_at closes same = record { event = event q a; closer = event q closes.kind; at = does; closer_at = closes.does; before = before (cases_order i c); mine = refl; open_at = open_at; closes = closes.closes; none_between = none }
+pub closed_by : (j : List Event) (q i c : ℕ) (a : Kind) → Does j i q a → is_closing a ≢ true → ClosesAt j q c
+    → interval_at j q i ≡ interval_at j q c → ClosedAt j i c
+closed_by j q i c a does open_at closes same =
+    record { event = event q a; closer = event q closes.kind; at = does; closer_at = closes.does;
+            before = before (cases_order i c); mine = refl; open_at = open_at; closes = closes.closes;
+            none_between = none }
   where
     before : (i ≡ c) ⊎ ((i < c) ⊎ (c < i)) → i < c
     before (inl e) =
         let P : ℕ → Type 0 = λ m. Does j m q a in
-        absurd (open_at (ap is_closing (does_same j c q q a closes.kind (subst P e does) closes.does).1 ∙ closes.closes))
+        absurd
+            (open_at (ap is_closing (does_same j c q q a closes.kind (subst P e does) closes.does).1 ∙ closes.closes))
     before (inr (inl less)) = less
-    before (inr (inr less)) = let past = count_of-past is_closing j c i q closes.kind closes.does closes.closes less in absurd (omega arith)
+    before (inr (inr less)) =
+        let past = count_of-past is_closing j c i q closes.kind closes.does closes.closes less in absurd (omega arith)
 
     none : (m : ℕ) (f : Event) → i < m → m < c → At j m f → f.processor ≡ q → is_closing f.kind ≢ true
     none m f after less at mine is =
@@ -40,7 +47,8 @@ closed_by j q i c a does open_at closes same = record { event = event q a; close
         omega arith
 
 -- another processor's event in a past has a closing event with its number
-pub number_closed : (j : List Event) (p q i : ℕ) (a : Kind) → Does j i q a → q ≢ p → InPast j p i → (c : ℕ) × ClosesAt j q c × (interval_at j q c ≡ interval_at j q i)
+pub number_closed : (j : List Event) (p q i : ℕ) (a : Kind) → Does j i q a → q ≢ p → InPast j p i
+    → (c : ℕ) × ClosesAt j q c × (interval_at j q c ≡ interval_at j q i)
 number_closed j p q i a does apart past =
     let l = leaving j p q i a does apart past in
     let up = count_of-mono is_closing j i l.close q l.from in

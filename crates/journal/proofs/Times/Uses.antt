@@ -1,5 +1,5 @@
 -- What timestamps are for: they tell happens-before, and what is new.
-use Rattle.std.proofs.Common.{◌≡◌, ◌≢◌, ℕ, ◌<◌, ◌≤◌, inl, inr, ◌↔◌, List, [], ◌∷◌, ◌++◌, length, take, drop, false, subst, sym, ap, ◌∙◌, take-append-drop, take-take, suc, arith}
+use Rattle.std.proofs.Common.{◌≡◌, ◌≢◌, ℕ, ◌<◌, ◌≤◌, ◌↔◌, List, [], ◌∷◌, ◌++◌, length, take, drop, false, subst, sym, ap, ◌∙◌, take-append-drop, take-take, suc, arith}
 use Rattle.std.proofs.lemmas.List.{length-take-le}
 use Rattle.journal.specs.declared.event.Event.{Event}
 use Rattle.journal.specs.declared.event.Kind.{Kind}
@@ -7,42 +7,41 @@ use Rattle.journal.specs.Did.{event}
 use Rattle.journal.specs.Events.{count_of, interval_at, is_closing, is_taking}
 use Rattle.journal.specs.Order.{HappensBefore}
 use Rattle.journal.specs.WellFormed.{Does}
-use Rattle.journal.specs.Pasts.{UpTo, InPast}
-use Rattle.journal.specs.Times.{IsTimeOf, IsTimeAt}
+use Rattle.journal.specs.Pasts.{InPast}
+use Rattle.journal.specs.Times.{IsTimeOf}
 use Rattle.lists.proofs.Places.{slice_get-take, take-suc_at}
-use Rattle.journal.proofs.Order.Places.{at_within, at_last, does_same}
+use Rattle.journal.proofs.Order.Places.{at_within, at_last}
 use Rattle.journal.proofs.Order.HappensBefore.{extension}
 use Rattle.journal.proofs.Order.Pasts.{reaches_new}
-use Rattle.journal.proofs.Times.Pushes.{covered, covered_at}
-
--- an event happens before another processor's exactly where that one's timestamp counts its interval
-pub ordered_by_time : (j : List Event) (k p q i : ℕ) (a b : Kind) (t : ℕ → ℕ) → IsTimeAt j k t → Does j i q a → Does j k p b → q ≢ p → HappensBefore j i k ↔ (interval_at j q i < t q)
-ordered_by_time j k p q i a b t time does at apart = ((λ h. (covered_at j k p q i a b t time does at apart).0 (inr h)), (λ lt. later ((covered_at j k p q i a b t time does at apart).1 lt)))
-  where
-    later : UpTo j k i → HappensBefore j i k
-    later (inl is) = absurd (apart (does_same j k q p a b (subst (λ m. Does j m q a) is does) at).0)
-    later (inr h) = h
+use Rattle.journal.proofs.Times.Pushes.{covered}
 
 -- what happens before an event that takes nothing is the past that its processor had
-pub reaches_at : (j : List Event) (k p i : ℕ) (b : Kind) → Does j k p b → is_taking b ≡ false → HappensBefore j i k ↔ InPast (take k j) p i
+pub reaches_at : (j : List Event) (k p i : ℕ) (b : Kind) → Does j k p b → is_taking b ≡ false
+    → HappensBefore j i k ↔ InPast (take k j) p i
 reaches_at j k p i b at quiet =
     let e : Event = event p b in
     let lt = at_within j k e at in
     let long : length (take k j) ≡ k = length-take-le k j (omega arith) in
-    let split : (take k j ++ e ∷ []) ++ drop (suc k) j ≡ j = ap (λ xs. xs ++ drop (suc k) j) (sym (take-suc_at j k e at)) ∙ take-append-drop (suc k) j in
+    let split : (take k j ++ e ∷ []) ++ drop (suc k) j ≡ j =
+        ap (λ xs. xs ++ drop (suc k) j) (sym (take-suc_at j k e at)) ∙ take-append-drop (suc k) j in
     let new = reaches_new (take k j) e i quiet in
-    let within : length (take k j) < length (take k j ++ e ∷ []) = at_within (take k j ++ e ∷ []) (length (take k j)) e (at_last (take k j) e) in
+    let within : length (take k j) < length (take k j ++ e ∷ []) =
+        at_within (take k j ++ e ∷ []) (length (take k j)) e (at_last (take k j) e) in
     let same = extension (take k j ++ e ∷ []) (drop (suc k) j) i (length (take k j)) within in
     let P : List Event → ℕ → Type 0 = λ xs m. HappensBefore xs i m in
-    let there : HappensBefore ((take k j ++ e ∷ []) ++ drop (suc k) j) i (length (take k j)) → HappensBefore j i k = λ h. subst (λ xs. P xs k) split (subst (λ m. P ((take k j ++ e ∷ []) ++ drop (suc k) j) m) long h) in
-    let back : HappensBefore j i k → HappensBefore ((take k j ++ e ∷ []) ++ drop (suc k) j) i (length (take k j)) = λ h. subst (λ xs. P xs (length (take k j))) (sym split) (subst (λ m. P j m) (sym long) h) in
+    let there : HappensBefore ((take k j ++ e ∷ []) ++ drop (suc k) j) i (length (take k j)) → HappensBefore j i k =
+        λ h. subst (λ xs. P xs k) split (subst (λ m. P ((take k j ++ e ∷ []) ++ drop (suc k) j) m) long h) in
+    let back : HappensBefore j i k → HappensBefore ((take k j ++ e ∷ []) ++ drop (suc k) j) i (length (take k j)) =
+        λ h. subst (λ xs. P xs (length (take k j))) (sym split) (subst (λ m. P j m) (sym long) h) in
     ((λ h. new.0 (same.0 (back h))), (λ x. there (same.1 (new.1 x))))
 
 -- an earlier event happens before another processor's that takes nothing exactly where its timestamp before that counts the event's interval
-pub ordered_before : (j : List Event) (k p q i : ℕ) (a b : Kind) (t : ℕ → ℕ) → IsTimeOf (take k j) p t → Does j i q a → Does j k p b → is_taking b ≡ false → q ≢ p → i < k → HappensBefore j i k ↔ (interval_at j q i < t q)
+pub ordered_before : (j : List Event) (k p q i : ℕ) (a b : Kind) (t : ℕ → ℕ) → IsTimeOf (take k j) p t → Does j i q a
+    → Does j k p b → is_taking b ≡ false → q ≢ p → i < k → HappensBefore j i k ↔ (interval_at j q i < t q)
 ordered_before j k p q i a b t time does at quiet apart lt =
     let past = reaches_at j k p i b at quiet in
     let counts = covered (take k j) p q i a t time (slice_get-take j k i lt ∙ does) apart in
     let le : i ≤ k = omega arith in
-    let front : interval_at (take k j) q i ≡ interval_at j q i = ap (λ (xs : List Event). count_of is_closing xs q) (take-take i k j le) in
+    let front : interval_at (take k j) q i ≡ interval_at j q i =
+        ap (λ (xs : List Event). count_of is_closing xs q) (take-take i k j le) in
     ((λ h. (let below = counts.0 (past.0 h) in omega arith)), (λ below. past.1 (counts.1 (omega arith))))

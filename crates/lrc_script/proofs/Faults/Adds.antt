@@ -1,5 +1,8 @@
 -- What a line that is read adds to the lines before it.
-use Rattle.std.proofs.Common.{◌≡◌, ℕ, ◌+◌, ◌<◌, Bool, true, false, ◌&&◌, ◌||◌, cond, eqb, ltb, leb, List, [], ◌∷◌, ◌++◌, length, map, Option, Some, None, Result, Ok, Err, refl, sym, ap, subst, ◌∙◌, append_assoc, arith, inl, inr, ◌⊎◌}
+use Rattle.std.proofs.Common.{
+    ◌≡◌, ℕ, ◌+◌, ◌<◌, Bool, true, false, ◌&&◌, ◌||◌, cond, eqb, ltb, leb, List, [], ◌∷◌, ◌++◌, length, map, Option,
+    Some, None, Result, Ok, Err, refl, sym, ap, subst, ◌∙◌, append_assoc, arith, inl, inr, ◌⊎◌
+}
 use Rattle.std.specs.Prelude.{All, codes}
 use Rattle.std.specs.List.{AllByRecursion, list_any}
 use Rattle.std.proofs.lemmas.Bool.{and_parts, not-false, leb-false}
@@ -12,20 +15,29 @@ use Rattle.lrc_script.specs.declared.script.Instruction.TheVariants as instructi
 use Rattle.lrc_script.specs.declared.line.Keyword.{Keyword}
 use Rattle.lrc_script.specs.declared.line.Keyword.TheVariants as keyword
 use Rattle.lrc_script.specs.Plan.{Plan, head_plan}
-use Rattle.lrc_script.specs.Lawful.{addresses, AreSizes, IsInRange, MayStandAfter, IsSection, address_of, lock_of, flag_of}
+use Rattle.lrc_script.specs.Lawful.{
+    addresses, AreSizes, IsInRange, MayStandAfter, IsSection, address_of, lock_of, flag_of
+}
 use Rattle.lrc_script.specs.Text.{Line, cluster_line, section_line, instruction_line, show_line, section_lines}
 use Rattle.lrc_script.specs.Front.{Front, Nothing, Headed, Within, Whole, IsBegun, IsHeaded, IsWithin, lines_before}
-use Rattle.lrc_script.specs.Reading.{are_sizes, is_due, sized, headed, first_section, next_section, ended, is_past, takes_held, gives_unheld, refusal, entered, closed, step}
+use Rattle.lrc_script.specs.Reading.{
+    are_sizes, is_due, sized, headed, first_section, next_section, ended, is_past, takes_held, gives_unheld, refusal,
+    entered, closed, step
+}
 use Rattle.lrc_script.proofs.Reading.Numbers.{AreWords}
-use Rattle.lrc_script.proofs.Lawful.{sizes_from_test, sizes_small, section_with, sizes_with, section_over, sizes_over, nothing_stands}
+use Rattle.lrc_script.proofs.Lawful.{
+    sizes_from_test, sizes_small, section_with, sizes_with, section_over, sizes_over, nothing_stands
+}
 use Rattle.lrc_script.proofs.Text.{section_lines-append}
 use Rattle.lrc_script.proofs.Reading.Keywords.{spelled}
 
-guard_ok : {A : Type 0} (b : Bool) (x y : A) (fault : ScriptFault) → cond b (Ok x) (Err fault) ≡ Ok y → (b ≡ true) × (x ≡ y)
+guard_ok : {A : Type 0} (b : Bool) (x y : A) (fault : ScriptFault) → cond b (Ok x) (Err fault) ≡ Ok y
+    → (b ≡ true) × (x ≡ y)
 guard_ok true x y fault e = (refl, cc)
 guard_ok false x y fault e = absurd cc
 
-refuse_ok : {A : Type 0} (b : Bool) (r : Result A ScriptFault) (y : A) (fault : ScriptFault) → cond b (Err fault) r ≡ Ok y → (b ≡ false) × (r ≡ Ok y)
+refuse_ok : {A : Type 0} (b : Bool) (r : Result A ScriptFault) (y : A) (fault : ScriptFault)
+    → cond b (Err fault) r ≡ Ok y → (b ≡ false) × (r ≡ Ok y)
 refuse_ok true r y fault e = absurd cc
 refuse_ok false r y fault e = (refl, e)
 
@@ -36,56 +48,79 @@ pub record Adds (f : Front) (l : Line) (g : Front) : Type 0 where
 
 -- ---- the cluster line
 
-sized_adds : (s : Plan) (are : Bool) (l : Line) (g : Front) → (are ≡ true → AreSizes s) → s.sections ≡ [] → s.shown ≡ [] → cluster_line s ≡ l → sized are s ≡ Ok g → Adds Nothing l g
+sized_adds : (s : Plan) (are : Bool) (l : Line) (g : Front) → (are ≡ true → AreSizes s) → s.sections ≡ []
+    → s.shown ≡ [] → cluster_line s ≡ l → sized are s ≡ Ok g → Adds Nothing l g
 sized_adds s are l g sizes none unshown line e =
     let t = guard_ok are (Headed s) g _ e in
-    subst (λ (x : Front). Adds Nothing l x) t.1 (record { lines_are = ap (λ (x : Line). x ∷ []) line; begun = record { sizes = sizes t.0; no_sections = none; none_shown = unshown } })
+    subst (λ (x : Front). Adds Nothing l x) t.1 (record { lines_are = ap (λ (x : Line). x ∷ []) line;
+                begun = record { sizes = sizes t.0; no_sections = none; none_shown = unshown } })
 
-cluster_of_five : (p n w l g : ℕ) → eqb g 0 ≡ false → cluster_line (head_plan p n w l g) ≡ record { word = codes "cluster"; numbers = p ∷ n ∷ w ∷ l ∷ g ∷ [] }
-cluster_of_five p n w l g e = ap (λ (b : Bool). record { word = codes "cluster"; numbers = p ∷ n ∷ w ∷ l ∷ cond b [] (g ∷ []) }) e
+cluster_of_five : (p n w l g : ℕ) → eqb g 0 ≡ false
+    → cluster_line (head_plan p n w l g) ≡ record { word = codes "cluster"; numbers = p ∷ n ∷ w ∷ l ∷ g ∷ [] }
+cluster_of_five p n w l g e =
+    ap (λ (b : Bool). record { word = codes "cluster"; numbers = p ∷ n ∷ w ∷ l ∷ cond b [] (g ∷ []) }) e
 
-headed_adds : (ns : List ℕ) (g : Front) → headed ns ≡ Ok g → Adds Nothing (record { word = codes "cluster"; numbers = ns }) g
+headed_adds : (ns : List ℕ) (g : Front) → headed ns ≡ Ok g
+    → Adds Nothing (record { word = codes "cluster"; numbers = ns }) g
 headed_adds [] g e = absurd cc
 headed_adds (p ∷ []) g e = absurd cc
 headed_adds (p ∷ n ∷ []) g e = absurd cc
 headed_adds (p ∷ n ∷ w ∷ []) g e = absurd cc
-headed_adds (p ∷ n ∷ w ∷ l ∷ []) g e = sized_adds (head_plan p n w l 0) (are_sizes (head_plan p n w l 0)) _ g (sizes_from_test (head_plan p n w l 0)) refl refl refl e
+headed_adds (p ∷ n ∷ w ∷ l ∷ []) g e =
+    sized_adds (head_plan p n w l 0) (are_sizes (head_plan p n w l 0)) _ g (sizes_from_test (head_plan p n w l 0))
+        refl refl refl e
 headed_adds (p ∷ n ∷ w ∷ l ∷ k ∷ []) g e =
     let s = head_plan p n w l k in
     let both = guard_ok (ltb 0 k && are_sizes s) (Headed s) g _ e in
     let parts = and_parts (ltb 0 k) (are_sizes s) both.0 in
     let some = parts.0 in
     let other : eqb k 0 ≡ false = grind (arith, nat_tests, some) in
-    sized_adds s (ltb 0 k && are_sizes s) _ g (λ t. sizes_from_test s (and_parts (ltb 0 k) (are_sizes s) t).1) refl refl (cluster_of_five p n w l k other) e
+    sized_adds s (ltb 0 k && are_sizes s) _ g (λ t. sizes_from_test s (and_parts (ltb 0 k) (are_sizes s) t).1) refl
+        refl (cluster_of_five p n w l k other) e
 headed_adds (p ∷ n ∷ w ∷ l ∷ k ∷ m ∷ ns) g e = absurd cc
 
 -- ---- a section line
 
-first_adds : (s : Plan) (ns : List ℕ) (g : Front) → IsHeaded s → first_section s ns ≡ Ok g → Adds (Headed s) (record { word = codes "p"; numbers = ns }) g
+first_adds : (s : Plan) (ns : List ℕ) (g : Front) → IsHeaded s → first_section s ns ≡ Ok g
+    → Adds (Headed s) (record { word = codes "p"; numbers = ns }) g
 first_adds s [] g h e = absurd cc
 first_adds s (k ∷ []) g h e =
     let t = guard_ok (eqb k 0) (Within s []) g _ e in
     let test = t.0 in
     let zero-is : 0 ≡ k = grind (arith, nat_tests, test) in
-    let lines : lines_before (Within s []) ≡ cluster_line s ∷ section_line k ∷ [] = ap (λ (xs : List (List Instruction)). cluster_line s ∷ section_lines 0 (xs ++ [] ∷ [])) h.no_sections ∙ ap (λ (n : ℕ). cluster_line s ∷ section_line n ∷ []) zero-is in
-    subst (λ (x : Front). Adds (Headed s) (section_line k) x) t.1 (record { lines_are = lines; begun = record { sizes = h.sizes; sections = subst (All (IsSection s)) (sym h.no_sections) (All-nil (IsSection s)); last = nothing_stands s; one_each = omega (arith, ap (λ (xs : List (List Instruction)). length xs) h.no_sections, (sizes_small s h.sizes).some); none_shown = h.none_shown } })
+    let lines : lines_before (Within s []) ≡ cluster_line s ∷ section_line k ∷ [] =
+        ap (λ (xs : List (List Instruction)). cluster_line s ∷ section_lines 0 (xs ++ [] ∷ [])) h.no_sections
+            ∙ ap (λ (n : ℕ). cluster_line s ∷ section_line n ∷ []) zero-is in
+    subst (λ (x : Front). Adds (Headed s) (section_line k) x) t.1 (record { lines_are = lines;
+                begun = record { sizes = h.sizes;
+                        sections = subst (All (IsSection s)) (sym h.no_sections) (All-nil (IsSection s));
+                        last = nothing_stands s;
+                        one_each = omega (arith, ap (λ (xs : List (List Instruction)). length xs) h.no_sections,
+                                (sizes_small s h.sizes).some);
+                        none_shown = h.none_shown } })
 first_adds s (k ∷ m ∷ ns) g h e = absurd cc
 
-next_adds : (s : Plan) (is : List Instruction) (ns : List ℕ) (g : Front) → IsWithin s is → next_section s is ns ≡ Ok g → Adds (Within s is) (record { word = codes "p"; numbers = ns }) g
+next_adds : (s : Plan) (is : List Instruction) (ns : List ℕ) (g : Front) → IsWithin s is → next_section s is ns ≡ Ok g
+    → Adds (Within s is) (record { word = codes "p"; numbers = ns }) g
 next_adds s is [] g h e = absurd cc
 next_adds s is (k ∷ []) g h e =
     let t = guard_ok (eqb k (length s.sections + 1) && ltb k s.processors) (Within (closed s is) []) g _ e in
     let both = and_parts (eqb k (length s.sections + 1)) (ltb k s.processors) t.0 in
     let test = both.0 in
     let room = both.1 in
-    let count : 0 + length (s.sections ++ is ∷ []) ≡ k = grind (arith, nat_tests, test, length-append s.sections (is ∷ [])) in
+    let count : 0 + length (s.sections ++ is ∷ []) ≡ k =
+        grind (arith, nat_tests, test, length-append s.sections (is ∷ [])) in
     let sections = s.sections ++ is ∷ [] in
-    let lines : section_lines 0 (sections ++ [] ∷ []) ≡ section_lines 0 sections ++ section_line k ∷ [] = section_lines-append 0 sections ([] ∷ []) ∙ ap (λ (n : ℕ). section_lines 0 sections ++ section_line n ∷ []) count in
+    let lines : section_lines 0 (sections ++ [] ∷ []) ≡ section_lines 0 sections ++ section_line k ∷ [] =
+        section_lines-append 0 sections ([] ∷ [])
+            ∙ ap (λ (n : ℕ). section_lines 0 sections ++ section_line n ∷ []) count in
     subst (λ (x : Front). Adds (Within s is) (section_line k) x) t.1 (record {
       lines_are = ap (λ (ls : List Line). cluster_line s ∷ ls) lines;
       begun = record {
         sizes = sizes_with s sections h.sizes;
-        sections = All-weaker (IsSection s) (IsSection (closed s is)) (section_with s sections) sections (All-push (IsSection s) s.sections is h.sections h.last);
+        sections =
+            All-weaker (IsSection s) (IsSection (closed s is)) (section_with s sections) sections
+                (All-push (IsSection s) s.sections is h.sections h.last);
         last = nothing_stands (closed s is);
         one_each = grind (arith, nat_tests, test, room, length-append s.sections (is ∷ []));
         none_shown = h.none_shown;
@@ -99,11 +134,15 @@ none_past : (n : ℕ) (xs : List ℕ) → list_any (λ a. leb n a) xs ≡ false 
 none_past n [] e = tt
 none_past n (x ∷ xs) e = past_cases n x xs (leb n x) refl e (none_past n xs)
   where
-    past_cases : (n x : ℕ) (xs : List ℕ) (b : Bool) → leb n x ≡ b → (b || list_any (λ a. leb n a) xs) ≡ false → (list_any (λ a. leb n a) xs ≡ false → AllByRecursion (λ a. a < n) xs) → (x < n) × AllByRecursion (λ a. a < n) xs
+    past_cases : (n x : ℕ) (xs : List ℕ) (b : Bool) → leb n x ≡ b → (b || list_any (λ a. leb n a) xs) ≡ false
+        → (list_any (λ a. leb n a) xs ≡ false → AllByRecursion (λ a. a < n) xs)
+        → (x < n) × AllByRecursion (λ a. a < n) xs
     past_cases n x xs true t e rest = absurd cc
     past_cases n x xs false t e rest = (grind (arith, nat_tests, t), rest e)
 
-show_adds : (s : Plan) (is : List Instruction) (ns : List ℕ) (g : Front) → IsWithin s is → (leb 1 (length ns) && eqb (length s.sections + 1) s.processors) ≡ true → ended s is ns ≡ Ok g → Adds (Within s is) (show_line ns) g
+show_adds : (s : Plan) (is : List Instruction) (ns : List ℕ) (g : Front) → IsWithin s is
+    → (leb 1 (length ns) && eqb (length s.sections + 1) s.processors) ≡ true → ended s is ns ≡ Ok g
+    → Adds (Within s is) (show_line ns) g
 show_adds s is ns g h due e =
     let whole = record (closed s is) { shown = ns } in
     let near = refuse_ok (list_any (λ a. leb (addresses s) a) ns) _ g _ e in
@@ -114,13 +153,16 @@ show_adds s is ns g h due e =
     let all = both.1 in
     let short = few.0 in
     let sections = s.sections ++ is ∷ [] in
-    let as_whole : (is : List Instruction) → IsSection s is → IsSection whole is = λ js k. section_over s sections ns js k in
+    let as_whole : (is : List Instruction) → IsSection s is → IsSection whole is =
+        λ js k. section_over s sections ns js k in
     subst (λ (x : Front). Adds (Within s is) (show_line ns) x) same (record {
       lines_are = refl;
       begun = record {
         sizes = sizes_over s sections ns h.sizes;
         one_each = grind (arith, nat_tests, all, length-append s.sections (is ∷ []));
-        sections = All-weaker (IsSection s) (IsSection whole) as_whole sections (All-push (IsSection s) s.sections is h.sections h.last);
+        sections =
+            All-weaker (IsSection s) (IsSection whole) as_whole sections
+                (All-push (IsSection s) s.sections is h.sections h.last);
         some_shown = grind (arith, nat_tests, some);
         most_shown = grind (arith, nat_tests, short);
         shown = All-from_recursion (λ a. a < addresses s) ns (none_past (addresses s) ns near.0);
@@ -129,9 +171,12 @@ show_adds s is ns g h due e =
 
 -- ---- an instruction line
 
-snoc_cases : (is before : List Instruction) (i j : Instruction) (after : List Instruction) → is ++ i ∷ [] ≡ before ++ j ∷ after → ((before ≡ is) × (j ≡ i)) ⊎ ((rest : List Instruction) × (is ≡ before ++ j ∷ rest))
+snoc_cases : (is before : List Instruction) (i j : Instruction) (after : List Instruction)
+    → is ++ i ∷ [] ≡ before ++ j ∷ after
+    → ((before ≡ is) × (j ≡ i)) ⊎ ((rest : List Instruction) × (is ≡ before ++ j ∷ rest))
 snoc_cases [] [] i j after e = inl (refl, cc)
-snoc_cases [] (b ∷ bs) i j after e = absurd (omega (arith, ap (λ (is : List Instruction). length is) e, length-append bs (j ∷ after)))
+snoc_cases [] (b ∷ bs) i j after e =
+    absurd (omega (arith, ap (λ (is : List Instruction). length is) e, length-append bs (j ∷ after)))
 snoc_cases (x ∷ xs) [] i j after e = inr (xs, let head : x ≡ j = cc in ap (λ (y : Instruction). y ∷ xs) head)
 snoc_cases (x ∷ xs) (b ∷ bs) i j after e =
     let head : x ≡ b = cc in
@@ -150,7 +195,8 @@ pub record Passed (s : Plan) (is : List Instruction) (i : Instruction) : Type 0 
   pub unheld : gives_unheld is i ≡ false
   pub room : leb 10000 (length is) ≡ false
 
-none_if : {A : Type 0} (b : Bool) (x : A) (rest : Option A) → cond b (Some x) rest ≡ None → (b ≡ false) × (rest ≡ None)
+none_if : {A : Type 0} (b : Bool) (x : A) (rest : Option A) → cond b (Some x) rest ≡ None
+    → (b ≡ false) × (rest ≡ None)
 none_if true x rest e = absurd cc
 none_if false x rest e = (refl, e)
 
@@ -169,7 +215,9 @@ may_from s is (instruction.Acquire l) p = p.held
 may_from s is (instruction.Release l) p = not-false _ p.unheld
 may_from s is _ p = tt
 
-entered_adds : (s : Plan) (is : List Instruction) (i : Instruction) (g : Front) (o : Option ScriptFault) → refusal s is i ≡ o → IsWithin s is → (Passed s is i → IsInRange s i) → entered s is i o ≡ Ok g → Adds (Within s is) (instruction_line i) g
+entered_adds : (s : Plan) (is : List Instruction) (i : Instruction) (g : Front) (o : Option ScriptFault)
+    → refusal s is i ≡ o → IsWithin s is → (Passed s is i → IsInRange s i) → entered s is i o ≡ Ok g
+    → Adds (Within s is) (instruction_line i) g
 entered_adds s is i g (Some fault) refused h ranges e = absurd cc
 entered_adds s is i g None refused h ranges e =
     let p = passed s is i refused in
@@ -177,27 +225,36 @@ entered_adds s is i g None refused h ranges e =
     let same : Within s (is ++ i ∷ []) ≡ g = cc in
     let start = section_lines-append 0 s.sections (is ∷ []) in
     let n = 0 + length s.sections in
-    let lines : section_lines 0 (s.sections ++ (is ++ i ∷ []) ∷ []) ≡ section_lines 0 (s.sections ++ is ∷ []) ++ instruction_line i ∷ [] =
+    let lines : section_lines 0 (s.sections ++ (is ++ i ∷ []) ∷ [])
+        ≡ section_lines 0 (s.sections ++ is ∷ []) ++ instruction_line i ∷ [] =
     section_lines-append 0 s.sections ((is ++ i ∷ []) ∷ [])
-    ∙ ap (λ (ls : List Line). section_lines 0 s.sections ++ (section_line n ∷ ls)) (append-nil (map instruction_line (is ++ i ∷ [])) ∙ map_push instruction_line is i ∙ ap (λ (ls : List Line). ls ++ instruction_line i ∷ []) (sym (append-nil (map instruction_line is))))
-    ∙ sym (append_assoc (section_lines 0 s.sections) (section_line n ∷ map instruction_line is ++ []) (instruction_line i ∷ []))
+    ∙ ap (λ (ls : List Line). section_lines 0 s.sections ++ (section_line n ∷ ls)) (append-nil
+                (map instruction_line (is ++ i ∷ []))
+            ∙ map_push instruction_line is i
+            ∙ ap (λ (ls : List Line). ls ++ instruction_line i ∷ []) (sym (append-nil (map instruction_line is))))
+    ∙ sym (append_assoc (section_lines 0 s.sections) (section_line n ∷ map instruction_line is ++ [])
+            (instruction_line i ∷ []))
     ∙ ap (λ (ls : List Line). ls ++ instruction_line i ∷ []) (sym start) in
     let may = may_from s is i p in
     let section : IsSection s (is ++ i ∷ []) = record {
       most = grind (arith, nat_tests, room, length-append is (i ∷ []));
       in_range = All-push (IsInRange s) is i h.last.in_range (ranges p);
       holding = λ before j after e. elim (snoc_cases is before i j after e) [
-        | inl q ↦ subst (λ (k : Instruction). MayStandAfter before k) (sym q.1) (subst (λ (ks : List Instruction). MayStandAfter ks i) (sym q.0) may)
+        | inl q ↦ subst (λ (k : Instruction). MayStandAfter before k) (sym q.1)
+            (subst (λ (ks : List Instruction). MayStandAfter ks i) (sym q.0) may)
         | inr q ↦ h.last.holding before j q.0 q.1
       ];
     } in
     subst (λ (x : Front). Adds (Within s is) (instruction_line i) x) same (record {
       lines_are = ap (λ (ls : List Line). cluster_line s ∷ ls) lines;
-      begun = record { sizes = h.sizes; sections = h.sections; last = section; one_each = h.one_each; none_shown = h.none_shown };
+      begun =
+          record { sizes = h.sizes; sections = h.sections; last = section; one_each = h.one_each;
+                  none_shown = h.none_shown };
     })
 
 -- what a keyword and its numbers add
-pub command_adds : (f : Front) (k : Keyword) (ns : List ℕ) (g : Front) → IsBegun f → is_due f k (length ns) ≡ true → AreWords ns → step f k ns ≡ Ok g → Adds f (record { word = spelled k; numbers = ns }) g
+pub command_adds : (f : Front) (k : Keyword) (ns : List ℕ) (g : Front) → IsBegun f → is_due f k (length ns) ≡ true
+    → AreWords ns → step f k ns ≡ Ok g → Adds f (record { word = spelled k; numbers = ns }) g
 unfolding step
 command_adds Nothing keyword.Cluster ns g h due small e = headed_adds ns g e
 command_adds Nothing _ ns g h due small e = absurd cc
@@ -205,21 +262,29 @@ command_adds (Headed s) keyword.Section ns g h due small e = first_adds s ns g h
 command_adds (Headed s) _ ns g h due small e = absurd cc
 command_adds (Within s is) keyword.Section ns g h due small e = next_adds s is ns g h e
 command_adds (Within s is) keyword.Show ns g h due small e = show_adds s is ns g h due e
-command_adds (Within s is) keyword.Load (a ∷ []) g h due small e = entered_adds s is (instruction.Load a) g _ refl h (λ p. leb-false (addresses s) a p.address) e
+command_adds (Within s is) keyword.Load (a ∷ []) g h due small e =
+    entered_adds s is (instruction.Load a) g _ refl h (λ p. leb-false (addresses s) a p.address) e
 command_adds (Within s is) keyword.Load _ g h due small e = absurd cc
-command_adds (Within s is) keyword.Store (a ∷ v ∷ []) g h due small e = entered_adds s is (instruction.Store a v) g _ refl h (λ p. (leb-false (addresses s) a p.address, small.1.0)) e
+command_adds (Within s is) keyword.Store (a ∷ v ∷ []) g h due small e =
+    entered_adds s is (instruction.Store a v) g _ refl h (λ p. (leb-false (addresses s) a p.address, small.1.0)) e
 command_adds (Within s is) keyword.Store _ g h due small e = absurd cc
-command_adds (Within s is) keyword.Add (a ∷ v ∷ []) g h due small e = entered_adds s is (instruction.Add a v) g _ refl h (λ p. (leb-false (addresses s) a p.address, small.1.0)) e
+command_adds (Within s is) keyword.Add (a ∷ v ∷ []) g h due small e =
+    entered_adds s is (instruction.Add a v) g _ refl h (λ p. (leb-false (addresses s) a p.address, small.1.0)) e
 command_adds (Within s is) keyword.Add _ g h due small e = absurd cc
-command_adds (Within s is) keyword.Acquire (l ∷ []) g h due small e = entered_adds s is (instruction.Acquire l) g _ refl h (λ p. leb-false s.locks l p.lock) e
+command_adds (Within s is) keyword.Acquire (l ∷ []) g h due small e =
+    entered_adds s is (instruction.Acquire l) g _ refl h (λ p. leb-false s.locks l p.lock) e
 command_adds (Within s is) keyword.Acquire _ g h due small e = absurd cc
-command_adds (Within s is) keyword.Release (l ∷ []) g h due small e = entered_adds s is (instruction.Release l) g _ refl h (λ p. leb-false s.locks l p.lock) e
+command_adds (Within s is) keyword.Release (l ∷ []) g h due small e =
+    entered_adds s is (instruction.Release l) g _ refl h (λ p. leb-false s.locks l p.lock) e
 command_adds (Within s is) keyword.Release _ g h due small e = absurd cc
-command_adds (Within s is) keyword.Barrier [] g h due small e = entered_adds s is instruction.Barrier g _ refl h (λ p. tt) e
+command_adds (Within s is) keyword.Barrier [] g h due small e =
+    entered_adds s is instruction.Barrier g _ refl h (λ p. tt) e
 command_adds (Within s is) keyword.Barrier _ g h due small e = absurd cc
-command_adds (Within s is) keyword.Set (f ∷ []) g h due small e = entered_adds s is (instruction.Set f) g _ refl h (λ p. leb-false s.flags f p.flag) e
+command_adds (Within s is) keyword.Set (f ∷ []) g h due small e =
+    entered_adds s is (instruction.Set f) g _ refl h (λ p. leb-false s.flags f p.flag) e
 command_adds (Within s is) keyword.Set _ g h due small e = absurd cc
-command_adds (Within s is) keyword.Await (f ∷ []) g h due small e = entered_adds s is (instruction.Await f) g _ refl h (λ p. leb-false s.flags f p.flag) e
+command_adds (Within s is) keyword.Await (f ∷ []) g h due small e =
+    entered_adds s is (instruction.Await f) g _ refl h (λ p. leb-false s.flags f p.flag) e
 command_adds (Within s is) keyword.Await _ g h due small e = absurd cc
 command_adds (Within s is) keyword.Cut [] g h due small e = entered_adds s is instruction.Cut g _ refl h (λ p. tt) e
 command_adds (Within s is) keyword.Cut _ g h due small e = absurd cc

@@ -1,5 +1,8 @@
 -- What a fault says of the line that is refused.
-use Rattle.std.proofs.Common.{◌≡◌, ◌≢◌, ℕ, suc, ◌+◌, ◌≤◌, Bool, true, false, ◌&&◌, ◌||◌, cond, eqb, ltb, leb, List, [], ◌∷◌, length, Option, Some, None, Result, Ok, Err, refl, sym, ap, subst, ◌∙◌, arith, inl, inr, ◌⊎◌}
+use Rattle.std.proofs.Common.{
+    ◌≡◌, ◌≢◌, ℕ, suc, ◌+◌, ◌≤◌, Bool, true, false, ◌&&◌, ◌||◌, cond, eqb, ltb, leb, List, [], ◌∷◌, length, Option,
+    Some, None, Result, Ok, Err, refl, sym, ap, subst, ◌∙◌, arith, inl, inr, ◌⊎◌
+}
 use Rattle.std.specs.Prelude.{Any, IsSomeAnd, codes}
 use Rattle.std.specs.List.{list_any}
 use Rattle.std.proofs.lemmas.Bool.{and_cases, both_ways, not-true}
@@ -14,20 +17,27 @@ use Rattle.lrc_script.specs.Plan.{Plan, head_plan}
 use Rattle.lrc_script.specs.Lawful.{addresses, AreSizes, address_of, lock_of, flag_of, holds}
 use Rattle.lrc_script.specs.Text.{Line, line_bytes, section_line, instruction_line, show_line}
 use Rattle.lrc_script.specs.Front.{Front, Nothing, Headed, Within, Whole, IsBegun}
-use Rattle.lrc_script.specs.Faults.{Allows, IsOutOfTurn, AreNoSizes, SaysWithin, Says, IsLineFault, IsFaultBehind, IsFaultAt, IsFault}
-use Rattle.lrc_script.specs.Reading.{are_sizes, is_due, headed, first_section, next_section, ended, is_past, takes_held, gives_unheld, refusal, entered, closed, step, after}
+use Rattle.lrc_script.specs.Faults.{
+    Allows, IsOutOfTurn, AreNoSizes, SaysWithin, Says, IsLineFault, IsFaultBehind, IsFaultAt, IsFault
+}
+use Rattle.lrc_script.specs.Reading.{
+    are_sizes, is_due, headed, first_section, next_section, ended, is_past, takes_held, gives_unheld, refusal,
+    entered, closed, step, after
+}
 use Rattle.lrc_script.proofs.Lawful.{sizes_test}
 use Rattle.lrc_script.proofs.Reading.Keywords.{spelled, keyword_spelled, due_allows, allows_due}
 use Rattle.lrc_script.proofs.Reading.Cases.{Reading, Shapeless, NoNumber, Reached, reading}
 use Rattle.lrc_script.proofs.Faults.Adds.{Adds, command_adds}
 
 -- a refused test
-refused_unless : {A : Type 0} (b : Bool) (x : A) (f g : ScriptFault) → cond b (Ok x) (Err f) ≡ Err g → (b ≡ false) × (f ≡ g)
+refused_unless : {A : Type 0} (b : Bool) (x : A) (f g : ScriptFault) → cond b (Ok x) (Err f) ≡ Err g
+    → (b ≡ false) × (f ≡ g)
 refused_unless true x f g e = absurd cc
 refused_unless false x f g e = (refl, cc)
 
 -- the first of two tests refuses, or the second
-refused_if : {A : Type 0} (b : Bool) (r : Result A ScriptFault) (f g : ScriptFault) → cond b (Err f) r ≡ Err g → ((b ≡ true) × (f ≡ g)) ⊎ ((b ≡ false) × (r ≡ Err g))
+refused_if : {A : Type 0} (b : Bool) (r : Result A ScriptFault) (f g : ScriptFault) → cond b (Err f) r ≡ Err g
+    → ((b ≡ true) × (f ≡ g)) ⊎ ((b ≡ false) × (r ≡ Err g))
 refused_if true r f g e = inl (refl, cc)
 refused_if false r f g e = inr (refl, e)
 
@@ -36,7 +46,8 @@ refused_if false r f g e = inr (refl, e)
 no_sizes : (s : Plan) → are_sizes s ≡ false → AreSizes s → ⊥
 no_sizes s e h = both_ways (are_sizes s) e (sizes_test s h)
 
-headed_says : (ns : List ℕ) (g : ScriptFault) → (eqb (length ns) 4 || eqb (length ns) 5) ≡ true → headed ns ≡ Err g → (fault.BadSize ≡ g) × AreNoSizes ns
+headed_says : (ns : List ℕ) (g : ScriptFault) → (eqb (length ns) 4 || eqb (length ns) 5) ≡ true → headed ns ≡ Err g
+    → (fault.BadSize ≡ g) × AreNoSizes ns
 headed_says [] g due e = absurd cc
 headed_says (p ∷ []) g due e = absurd cc
 headed_says (p ∷ n ∷ []) g due e = absurd cc
@@ -48,21 +59,31 @@ headed_says (p ∷ n ∷ w ∷ l ∷ []) g due e =
 headed_says (p ∷ n ∷ w ∷ l ∷ k ∷ []) g due e =
     let s = head_plan p n w l k in
     let t = refused_unless (ltb 0 k && are_sizes s) (Headed s) _ g e in
-    (t.1, elim (and_cases (ltb 0 k) (are_sizes s) t.0) [ inl z ↦ inl (grind (arith, nat_tests, z)) | inr z ↦ inr (no_sizes s z) ])
+    (t.1, elim (and_cases (ltb 0 k) (are_sizes s) t.0)
+            [ inl z ↦ inl (grind (arith, nat_tests, z)) | inr z ↦ inr (no_sizes s z) ])
 headed_says (p ∷ n ∷ w ∷ l ∷ k ∷ m ∷ ns) g due e = absurd (grind (arith, nat_tests, due))
 
 -- ---- a section line
 
-first_says : (s : Plan) (ns : List ℕ) (g : ScriptFault) → eqb (length ns) 1 ≡ true → first_section s ns ≡ Err g → (fault.BadLine ≡ g) × (k : ℕ) × (line_bytes (record { word = codes "p"; numbers = ns }) ≡ line_bytes (section_line k)) × (k ≢ 0)
+first_says : (s : Plan) (ns : List ℕ) (g : ScriptFault) → eqb (length ns) 1 ≡ true → first_section s ns ≡ Err g
+    → (fault.BadLine ≡ g) × (k : ℕ)
+        × (line_bytes (record { word = codes "p"; numbers = ns }) ≡ line_bytes (section_line k)) × (k ≢ 0)
 first_says s [] g due e = absurd cc
-first_says s (k ∷ []) g due e = let t = refused_unless (eqb k 0) (Within s []) _ g e in let test = t.0 in (t.1, k, refl, λ z. grind (arith, nat_tests, test, z))
+first_says s (k ∷ []) g due e =
+    let t = refused_unless (eqb k 0) (Within s []) _ g e in let test = t.0 in
+        (t.1, k, refl, λ z. grind (arith, nat_tests, test, z))
 first_says s (k ∷ m ∷ ns) g due e = absurd (grind (arith, nat_tests, due))
 
-next_says : (s : Plan) (is : List Instruction) (ns : List ℕ) (g : ScriptFault) → eqb (length ns) 1 ≡ true → next_section s is ns ≡ Err g → (fault.BadLine ≡ g) × (k : ℕ) × (line_bytes (record { word = codes "p"; numbers = ns }) ≡ line_bytes (section_line k)) × IsOutOfTurn (Within s is) k
+next_says : (s : Plan) (is : List Instruction) (ns : List ℕ) (g : ScriptFault) → eqb (length ns) 1 ≡ true
+    → next_section s is ns ≡ Err g
+    → (fault.BadLine ≡ g) × (k : ℕ)
+        × (line_bytes (record { word = codes "p"; numbers = ns }) ≡ line_bytes (section_line k))
+        × IsOutOfTurn (Within s is) k
 next_says s is [] g due e = absurd cc
 next_says s is (k ∷ []) g due e =
     let t = refused_unless (eqb k (length s.sections + 1) && ltb k s.processors) (Within (closed s is) []) _ g e in
-    (t.1, k, refl, elim (and_cases (eqb k (length s.sections + 1)) (ltb k s.processors) t.0) [ inl z ↦ inl (λ same. grind (arith, nat_tests, z, same)) | inr z ↦ inr (grind (arith, nat_tests, z)) ])
+    (t.1, k, refl, elim (and_cases (eqb k (length s.sections + 1)) (ltb k s.processors) t.0)
+            [ inl z ↦ inl (λ same. grind (arith, nat_tests, z, same)) | inr z ↦ inr (grind (arith, nat_tests, z)) ])
 next_says s is (k ∷ m ∷ ns) g due e = absurd (grind (arith, nat_tests, due))
 
 -- ---- the show line
@@ -71,15 +92,20 @@ some_past : (n : ℕ) (xs : List ℕ) → list_any (λ a. leb n a) xs ≡ true �
 some_past n [] e = absurd cc
 some_past n (x ∷ xs) e = past_cases n x xs (leb n x) refl e (some_past n xs)
   where
-    past_cases : (n x : ℕ) (xs : List ℕ) (b : Bool) → leb n x ≡ b → (b || list_any (λ a. leb n a) xs) ≡ true → (list_any (λ a. leb n a) xs ≡ true → Any (λ a. n ≤ a) xs) → Any (λ a. n ≤ a) (x ∷ xs)
+    past_cases : (n x : ℕ) (xs : List ℕ) (b : Bool) → leb n x ≡ b → (b || list_any (λ a. leb n a) xs) ≡ true
+        → (list_any (λ a. leb n a) xs ≡ true → Any (λ a. n ≤ a) xs) → Any (λ a. n ≤ a) (x ∷ xs)
     past_cases n x xs true t e rest = (0, x, omega arith, refl, grind (arith, nat_tests, t))
     past_cases n x xs false t e rest = let r = rest e in (suc r.0, r.1, omega (arith, r.2), r.3, r.4)
 
-ended_says : (s : Plan) (is : List Instruction) (ns : List ℕ) (g : ScriptFault) → ended s is ns ≡ Err g → SaysWithin g s is (line_bytes (show_line ns))
+ended_says : (s : Plan) (is : List Instruction) (ns : List ℕ) (g : ScriptFault) → ended s is ns ≡ Err g
+    → SaysWithin g s is (line_bytes (show_line ns))
 ended_says s is ns g e = elim (refused_if (list_any (λ a. leb (addresses s) a) ns) _ _ g e) [
-  | inl t ↦ subst (λ (x : ScriptFault). SaysWithin x s is (line_bytes (show_line ns))) t.1 (inr (ns, refl, some_past (addresses s) ns t.0))
+  | inl t ↦ subst (λ (x : ScriptFault). SaysWithin x s is (line_bytes (show_line ns))) t.1
+      (inr (ns, refl, some_past (addresses s) ns t.0))
   | inr t ↦ elim (refused_if (ltb 64 (length ns)) _ _ g t.1) [
-    | inl u ↦ let long = u.0 in subst (λ (x : ScriptFault). SaysWithin x s is (line_bytes (show_line ns))) u.1 (inr (ns, refl, grind (arith, nat_tests, long)))
+    | inl u ↦ let long = u.0 in
+        subst (λ (x : ScriptFault). SaysWithin x s is (line_bytes (show_line ns))) u.1
+            (inr (ns, refl, grind (arith, nat_tests, long)))
     | inr u ↦ absurd (let none = u.1 in cc)
   ]
 ]
@@ -90,19 +116,23 @@ past_says : (o : Option ℕ) (n : ℕ) → is_past o n ≡ true → IsSomeAnd o 
 past_says None n e = absurd cc
 past_says (Some a) n e = grind (arith, nat_tests, e)
 
-held_says : (is : List Instruction) (i : Instruction) → takes_held is i ≡ true → (l : ℕ) × (i ≡ instruction.Acquire l) × (holds is l ≡ true)
+held_says : (is : List Instruction) (i : Instruction) → takes_held is i ≡ true
+    → (l : ℕ) × (i ≡ instruction.Acquire l) × (holds is l ≡ true)
 held_says is (instruction.Acquire l) e = (l, refl, e)
 held_says is _ e = absurd cc
 
-unheld_says : (is : List Instruction) (i : Instruction) → gives_unheld is i ≡ true → (l : ℕ) × (i ≡ instruction.Release l) × (holds is l ≡ false)
+unheld_says : (is : List Instruction) (i : Instruction) → gives_unheld is i ≡ true
+    → (l : ℕ) × (i ≡ instruction.Release l) × (holds is l ≡ false)
 unheld_says is (instruction.Release l) e = (l, refl, not-true _ e)
 unheld_says is _ e = absurd cc
 
-some_if : (b : Bool) (f g : ScriptFault) (rest : Option ScriptFault) → cond b (Some f) rest ≡ Some g → ((b ≡ true) × (f ≡ g)) ⊎ ((b ≡ false) × (rest ≡ Some g))
+some_if : (b : Bool) (f g : ScriptFault) (rest : Option ScriptFault) → cond b (Some f) rest ≡ Some g
+    → ((b ≡ true) × (f ≡ g)) ⊎ ((b ≡ false) × (rest ≡ Some g))
 some_if true f g rest e = inl (refl, cc)
 some_if false f g rest e = inr (refl, e)
 
-refusal_says : (s : Plan) (is : List Instruction) (i : Instruction) (g : ScriptFault) → refusal s is i ≡ Some g → SaysWithin g s is (line_bytes (instruction_line i))
+refusal_says : (s : Plan) (is : List Instruction) (i : Instruction) (g : ScriptFault) → refusal s is i ≡ Some g
+    → SaysWithin g s is (line_bytes (instruction_line i))
 refusal_says s is i g e = let P : ScriptFault → Type 0 = λ x. SaysWithin x s is (line_bytes (instruction_line i)) in
     elim (some_if (is_past (address_of i) (addresses s)) _ g _ e) [
       | inl t ↦ subst P t.1 (inl (i, refl, past_says (address_of i) (addresses s) t.0))
@@ -124,50 +154,72 @@ refusal_says s is i g e = let P : ScriptFault → Type 0 = λ x. SaysWithin x s 
       ]
     ]
 
-entered_says : (s : Plan) (is : List Instruction) (i : Instruction) (g : ScriptFault) (o : Option ScriptFault) → refusal s is i ≡ o → entered s is i o ≡ Err g → SaysWithin g s is (line_bytes (instruction_line i))
+entered_says : (s : Plan) (is : List Instruction) (i : Instruction) (g : ScriptFault) (o : Option ScriptFault)
+    → refusal s is i ≡ o → entered s is i o ≡ Err g → SaysWithin g s is (line_bytes (instruction_line i))
 entered_says s is i g None refused e = absurd cc
-entered_says s is i g (Some f) refused e = let same : f ≡ g = cc in refusal_says s is i g (refused ∙ ap (λ (x : ScriptFault). Some x) same)
+entered_says s is i g (Some f) refused e =
+    let same : f ≡ g = cc in refusal_says s is i g (refused ∙ ap (λ (x : ScriptFault). Some x) same)
 
 -- what stands within a section's faults stands in the table
-within_says : (g : ScriptFault) (s : Plan) (is : List Instruction) (line : List ℕ) → SaysWithin g s is line → Says g (Within s is) line
+within_says : (g : ScriptFault) (s : Plan) (is : List Instruction) (line : List ℕ) → SaysWithin g s is line
+    → Says g (Within s is) line
 within_says fault.BadLine s is line h = absurd h
 within_says fault.BadNumber s is line h = absurd h
 within_says _ s is line h = h
 
-pub command_says : (f : Front) (k : Keyword) (ns : List ℕ) (g : ScriptFault) → is_due f k (length ns) ≡ true → step f k ns ≡ Err g → Says g f (line_bytes (record { word = spelled k; numbers = ns }))
+pub command_says : (f : Front) (k : Keyword) (ns : List ℕ) (g : ScriptFault) → is_due f k (length ns) ≡ true
+    → step f k ns ≡ Err g → Says g f (line_bytes (record { word = spelled k; numbers = ns }))
 unfolding step
-command_says Nothing keyword.Cluster ns g due e = let t = headed_says ns g due e in subst (λ (x : ScriptFault). Says x Nothing (line_bytes (record { word = codes "cluster"; numbers = ns }))) t.0 (ns, refl, t.1)
+command_says Nothing keyword.Cluster ns g due e =
+    let t = headed_says ns g due e in
+        subst (λ (x : ScriptFault). Says x Nothing (line_bytes (record { word = codes "cluster"; numbers = ns }))) t.0
+            (ns, refl, t.1)
 command_says Nothing _ ns g due e = absurd cc
-command_says (Headed s) keyword.Section ns g due e = let t = first_says s ns g due e in subst (λ (x : ScriptFault). Says x (Headed s) (line_bytes (record { word = codes "p"; numbers = ns }))) t.0 (inr (t.1, t.2, t.3))
+command_says (Headed s) keyword.Section ns g due e =
+    let t = first_says s ns g due e in
+        subst (λ (x : ScriptFault). Says x (Headed s) (line_bytes (record { word = codes "p"; numbers = ns }))) t.0
+            (inr (t.1, t.2, t.3))
 command_says (Headed s) _ ns g due e = absurd cc
-command_says (Within s is) keyword.Section ns g due e = let t = next_says s is ns g due e in subst (λ (x : ScriptFault). Says x (Within s is) (line_bytes (record { word = codes "p"; numbers = ns }))) t.0 (inr (t.1, t.2, t.3))
+command_says (Within s is) keyword.Section ns g due e =
+    let t = next_says s is ns g due e in
+        subst (λ (x : ScriptFault). Says x (Within s is) (line_bytes (record { word = codes "p"; numbers = ns }))) t.0
+            (inr (t.1, t.2, t.3))
 command_says (Within s is) keyword.Show ns g due e = within_says g s is _ (ended_says s is ns g e)
-command_says (Within s is) keyword.Load (a ∷ []) g due e = within_says g s is _ (entered_says s is (instruction.Load a) g _ refl e)
+command_says (Within s is) keyword.Load (a ∷ []) g due e =
+    within_says g s is _ (entered_says s is (instruction.Load a) g _ refl e)
 command_says (Within s is) keyword.Load [] g due e = absurd cc
 command_says (Within s is) keyword.Load (a ∷ b ∷ ns) g due e = absurd (grind (arith, nat_tests, due))
-command_says (Within s is) keyword.Store (a ∷ v ∷ []) g due e = within_says g s is _ (entered_says s is (instruction.Store a v) g _ refl e)
+command_says (Within s is) keyword.Store (a ∷ v ∷ []) g due e =
+    within_says g s is _ (entered_says s is (instruction.Store a v) g _ refl e)
 command_says (Within s is) keyword.Store [] g due e = absurd cc
 command_says (Within s is) keyword.Store (a ∷ []) g due e = absurd cc
 command_says (Within s is) keyword.Store (a ∷ b ∷ c ∷ ns) g due e = absurd (grind (arith, nat_tests, due))
-command_says (Within s is) keyword.Add (a ∷ v ∷ []) g due e = within_says g s is _ (entered_says s is (instruction.Add a v) g _ refl e)
+command_says (Within s is) keyword.Add (a ∷ v ∷ []) g due e =
+    within_says g s is _ (entered_says s is (instruction.Add a v) g _ refl e)
 command_says (Within s is) keyword.Add [] g due e = absurd cc
 command_says (Within s is) keyword.Add (a ∷ []) g due e = absurd cc
 command_says (Within s is) keyword.Add (a ∷ b ∷ c ∷ ns) g due e = absurd (grind (arith, nat_tests, due))
-command_says (Within s is) keyword.Acquire (l ∷ []) g due e = within_says g s is _ (entered_says s is (instruction.Acquire l) g _ refl e)
+command_says (Within s is) keyword.Acquire (l ∷ []) g due e =
+    within_says g s is _ (entered_says s is (instruction.Acquire l) g _ refl e)
 command_says (Within s is) keyword.Acquire [] g due e = absurd cc
 command_says (Within s is) keyword.Acquire (a ∷ b ∷ ns) g due e = absurd (grind (arith, nat_tests, due))
-command_says (Within s is) keyword.Release (l ∷ []) g due e = within_says g s is _ (entered_says s is (instruction.Release l) g _ refl e)
+command_says (Within s is) keyword.Release (l ∷ []) g due e =
+    within_says g s is _ (entered_says s is (instruction.Release l) g _ refl e)
 command_says (Within s is) keyword.Release [] g due e = absurd cc
 command_says (Within s is) keyword.Release (a ∷ b ∷ ns) g due e = absurd (grind (arith, nat_tests, due))
-command_says (Within s is) keyword.Barrier [] g due e = within_says g s is _ (entered_says s is instruction.Barrier g _ refl e)
+command_says (Within s is) keyword.Barrier [] g due e =
+    within_says g s is _ (entered_says s is instruction.Barrier g _ refl e)
 command_says (Within s is) keyword.Barrier (a ∷ ns) g due e = absurd (grind (arith, nat_tests, due))
-command_says (Within s is) keyword.Set (f ∷ []) g due e = within_says g s is _ (entered_says s is (instruction.Set f) g _ refl e)
+command_says (Within s is) keyword.Set (f ∷ []) g due e =
+    within_says g s is _ (entered_says s is (instruction.Set f) g _ refl e)
 command_says (Within s is) keyword.Set [] g due e = absurd cc
 command_says (Within s is) keyword.Set (a ∷ b ∷ ns) g due e = absurd (grind (arith, nat_tests, due))
-command_says (Within s is) keyword.Await (f ∷ []) g due e = within_says g s is _ (entered_says s is (instruction.Await f) g _ refl e)
+command_says (Within s is) keyword.Await (f ∷ []) g due e =
+    within_says g s is _ (entered_says s is (instruction.Await f) g _ refl e)
 command_says (Within s is) keyword.Await [] g due e = absurd cc
 command_says (Within s is) keyword.Await (a ∷ b ∷ ns) g due e = absurd (grind (arith, nat_tests, due))
-command_says (Within s is) keyword.Cut [] g due e = within_says g s is _ (entered_says s is instruction.Cut g _ refl e)
+command_says (Within s is) keyword.Cut [] g due e =
+    within_says g s is _ (entered_says s is instruction.Cut g _ refl e)
 command_says (Within s is) keyword.Cut (a ∷ ns) g due e = absurd (grind (arith, nat_tests, due))
 command_says (Within s is) keyword.Cluster ns g due e = absurd cc
 command_says (Whole s) k ns g due e = absurd cc
@@ -197,14 +249,20 @@ line_adds f line g begun e = adds_cases f line g begun (reading f line (Ok g) e)
 says_cases : (f : Front) (line : List ℕ) (g : ScriptFault) → Reading f line (Err g) → Says g f line
 says_cases f line g (Shapeless h e) =
     let same : fault.BadLine ≡ g = cc in
-    subst (λ (x : ScriptFault). Says x f line) same (inl (λ word words split allowed. let d = allows_due f word (length words) allowed in h word words d.0 split d.1 d.2))
+    subst (λ (x : ScriptFault). Says x f line) same (inl (λ word words split allowed. let d = allows_due f word
+                    (length words) allowed in
+                h word words d.0 split d.1 d.2))
 says_cases f line g (NoNumber other m e) =
     let same : fault.BadNumber ≡ g = sym m.refused.fault_is ∙ (let err : other ≡ g = cc in err) in
-    let allowed = subst (λ (w : List ℕ). Allows f w (length m.words)) (sym (keyword_spelled m.word m.key m.key_is)) (due_allows f m.key (length m.words) m.due) in
-    subst (λ (x : ScriptFault). Says x f line) same (m.word, m.words, m.split, allowed, m.refused.word, m.refused.within, m.refused.none)
+    let allowed =
+        subst (λ (w : List ℕ). Allows f w (length m.words)) (sym (keyword_spelled m.word m.key m.key_is))
+            (due_allows f m.key (length m.words) m.due) in
+    subst (λ (x : ScriptFault). Says x f line) same
+        (m.word, m.words, m.split, allowed, m.refused.word, m.refused.within, m.refused.none)
 says_cases f line g (Reached c e) =
     let word = keyword_spelled c.word c.key c.key_is in
-    let line-is : line ≡ line_bytes (record { word = spelled c.key; numbers = c.numbers }) = c.line_is ∙ ap (λ (w : List ℕ). line_bytes (record { word = w; numbers = c.numbers })) word in
+    let line-is : line ≡ line_bytes (record { word = spelled c.key; numbers = c.numbers }) =
+        c.line_is ∙ ap (λ (w : List ℕ). line_bytes (record { word = w; numbers = c.numbers })) word in
     subst (λ (x : List ℕ). Says g f x) (sym line-is) (command_says f c.key c.numbers g c.due (sym e))
 
 pub line_says : (f : Front) (line : List ℕ) (g : ScriptFault) → after f line ≡ Err g → Says g f line
@@ -219,7 +277,8 @@ never_truncated (Whole s) line h = h
 
 pub behind_from : (g : ScriptFault) (f : Front) (rest : List ℕ) → IsLineFault g f rest → IsFaultBehind g f rest
 behind_from fault.Truncated f rest h = absurd (never_truncated f h.line h.says)
-behind_from fault.NoMemory f rest h = record { line = h.line; more = h.more; rest_is = h.rest_is; one_line = h.one_line }
+behind_from fault.NoMemory f rest h =
+    record { line = h.line; more = h.more; rest_is = h.rest_is; one_line = h.one_line }
 behind_from _ f rest h = h
 
 -- nor as if its sections differed

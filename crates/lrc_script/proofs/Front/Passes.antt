@@ -1,5 +1,8 @@
 -- The lines of a script lead from nothing to the whole script.
-use Rattle.std.proofs.Common.{◌≡◌, ℕ, suc, ◌+◌, ◌<◌, ◌≤◌, Bool, true, false, ◌&&◌, cond, eqb, ltb, leb, List, [], ◌∷◌, ◌++◌, length, map, None, refl, sym, ap, subst, ◌∙◌, append_assoc, arith}
+use Rattle.std.proofs.Common.{
+    ◌≡◌, ℕ, suc, ◌+◌, ◌<◌, ◌≤◌, Bool, true, false, ◌&&◌, cond, eqb, ltb, leb, List, [], ◌∷◌, ◌++◌, length, map, None,
+    refl, sym, ap, subst, ◌∙◌, append_assoc, arith
+}
 use Rattle.std.specs.Prelude.{All, codes}
 use Rattle.std.specs.List.{AllByRecursion, list_any}
 use Rattle.std.proofs.lemmas.Bool.{eqb-true}
@@ -11,39 +14,56 @@ use Rattle.lrc_script.specs.declared.script.Instruction.TheVariants as instructi
 use Rattle.lrc_script.specs.declared.line.Keyword.TheVariants as keyword
 use Rattle.lrc_script.specs.Plan.{Plan, head_plan}
 use Rattle.lrc_script.specs.Lawful.{addresses, AreSizes, IsInRange, MayStandAfter, IsSection, IsLawfulButUneven}
-use Rattle.lrc_script.specs.Text.{Line, cluster_line, section_line, instruction_line, show_line, section_lines, lines_of}
+use Rattle.lrc_script.specs.Text.{
+    Line, cluster_line, section_line, instruction_line, show_line, section_lines, lines_of
+}
 use Rattle.lrc_script.specs.Front.{Front, Nothing, Headed, Within, Whole, IsBegun, IsHeaded, IsWithin, lines_before}
 use Rattle.lrc_script.specs.Reading.{are_sizes, refusal, closed, step}
 use Rattle.lrc_script.proofs.Reading.Numbers.{AreWords}
 use Rattle.lrc_script.proofs.Reading.Lines.{Goes, goes}
-use Rattle.lrc_script.proofs.Lawful.{sizes_test, sizes_small, sizes_over, section_over, with_sections, section_with, sizes_with}
+use Rattle.lrc_script.proofs.Lawful.{
+    sizes_test, sizes_small, sizes_over, section_over, with_sections, section_with, sizes_with
+}
 use Rattle.lrc_script.proofs.Front.Runs.{Passes, Passes-append}
 
 pub head_is : (s : Plan) → IsHeaded s → s ≡ head_plan s.processors s.pages s.words s.locks s.flags
-head_is s h = ap (λ (x : List (List Instruction)). record s { sections = x }) h.no_sections ∙ ap (λ (x : List ℕ). record s { sections = []; shown = x }) h.none_shown
+head_is s h =
+    ap (λ (x : List (List Instruction)). record s { sections = x }) h.no_sections
+        ∙ ap (λ (x : List ℕ). record s { sections = []; shown = x }) h.none_shown
 
-head_plan_goes : (p n w l g : ℕ) (b : Bool) → eqb g 0 ≡ b → AreSizes (head_plan p n w l g) → Goes Nothing (record { word = codes "cluster"; numbers = p ∷ n ∷ w ∷ l ∷ cond b [] (g ∷ []) }) (Headed (head_plan p n w l g))
+head_plan_goes : (p n w l g : ℕ) (b : Bool) → eqb g 0 ≡ b → AreSizes (head_plan p n w l g)
+    → Goes Nothing (record { word = codes "cluster"; numbers = p ∷ n ∷ w ∷ l ∷ cond b [] (g ∷ []) })
+        (Headed (head_plan p n w l g))
 unfolding step
 head_plan_goes p n w l g true e h =
     let small = sizes_small (head_plan p n w l g) h in
     let none : g ≡ 0 = eqb-true g 0 e in
-    let test : are_sizes (head_plan p n w l 0) ≡ true = subst (λ (x : ℕ). are_sizes (head_plan p n w l x) ≡ true) none (sizes_test (head_plan p n w l g) h) in
-    goes Nothing (Headed (head_plan p n w l g)) keyword.Cluster (codes "cluster") (p ∷ n ∷ w ∷ l ∷ []) refl refl (omega (arith, small.processors), (omega (arith, small.pages), (omega (arith, small.words), (omega (arith, small.locks), tt)))) refl
+    let test : are_sizes (head_plan p n w l 0) ≡ true =
+        subst (λ (x : ℕ). are_sizes (head_plan p n w l x) ≡ true) none (sizes_test (head_plan p n w l g) h) in
+    goes Nothing (Headed (head_plan p n w l g)) keyword.Cluster (codes "cluster") (p ∷ n ∷ w ∷ l ∷ []) refl refl
+        (omega (arith, small.processors),
+            (omega (arith, small.pages), (omega (arith, small.words), (omega (arith, small.locks), tt))))
+        refl
     (rw (test, none) refl)
 head_plan_goes p n w l g false e h =
     let small = sizes_small (head_plan p n w l g) h in
     let some : ltb 0 g ≡ true = grind (arith, nat_tests, e) in
-    goes Nothing (Headed (head_plan p n w l g)) keyword.Cluster (codes "cluster") (p ∷ n ∷ w ∷ l ∷ g ∷ []) refl refl (omega (arith, small.processors), (omega (arith, small.pages), (omega (arith, small.words), (omega (arith, small.locks), (omega (arith, small.flags), tt))))) refl
+    goes Nothing (Headed (head_plan p n w l g)) keyword.Cluster (codes "cluster") (p ∷ n ∷ w ∷ l ∷ g ∷ []) refl refl
+        (omega (arith, small.processors), (omega (arith, small.pages),
+                (omega (arith, small.words), (omega (arith, small.locks), (omega (arith, small.flags), tt)))))
+        refl
     (rw (some, sizes_test (head_plan p n w l g) h) refl)
 
 -- the cluster line
 pub head_goes : (s : Plan) → IsHeaded s → Goes Nothing (cluster_line s) (Headed s)
 head_goes s h =
     let plan = head_plan s.processors s.pages s.words s.locks s.flags in
-    subst (λ (x : Plan). Goes Nothing (cluster_line x) (Headed x)) (sym (head_is s h)) (head_plan_goes s.processors s.pages s.words s.locks s.flags (eqb s.flags 0) refl (subst AreSizes (head_is s h) h.sizes))
+    subst (λ (x : Plan). Goes Nothing (cluster_line x) (Headed x)) (sym (head_is s h)) (head_plan_goes s.processors
+            s.pages s.words s.locks s.flags (eqb s.flags 0) refl (subst AreSizes (head_is s h) h.sizes))
 
 -- no test refuses an instruction that may stand behind these
-refusal_none : (s : Plan) (before : List Instruction) (i : Instruction) → IsInRange s i → MayStandAfter before i → length before < 10000 → refusal s before i ≡ None
+refusal_none : (s : Plan) (before : List Instruction) (i : Instruction) → IsInRange s i → MayStandAfter before i
+    → length before < 10000 → refusal s before i ≡ None
 refusal_none s before (instruction.Load a) range may room =
     let below : leb (addresses s) a ≡ false = grind (arith, nat_tests, range) in
     let fits : leb 10000 (length before) ≡ false = grind (arith, nat_tests, room) in
@@ -80,46 +100,67 @@ refusal_none s before instruction.Cut range may room =
     rw fits refl
 
 -- an instruction that may stand behind these
-pub instruction_goes : (s : Plan) (before : List Instruction) (i : Instruction) → AreSizes s → IsInRange s i → MayStandAfter before i → length before < 10000 → Goes (Within s before) (instruction_line i) (Within s (before ++ i ∷ []))
+pub instruction_goes : (s : Plan) (before : List Instruction) (i : Instruction) → AreSizes s → IsInRange s i
+    → MayStandAfter before i → length before < 10000
+    → Goes (Within s before) (instruction_line i) (Within s (before ++ i ∷ []))
 unfolding step
 instruction_goes s before (instruction.Load a) sizes range may room =
     let small = sizes_small s sizes in
-    goes (Within s before) _ keyword.Load (codes "load") (a ∷ []) refl refl (omega (arith, small.addresses_fit, range), tt) refl (rw (refusal_none s before (instruction.Load a) range may room) refl)
+    goes (Within s before) _ keyword.Load (codes "load") (a ∷ []) refl refl
+        (omega (arith, small.addresses_fit, range), tt) refl
+        (rw (refusal_none s before (instruction.Load a) range may room) refl)
 instruction_goes s before (instruction.Store a v) sizes range may room =
     let small = sizes_small s sizes in
-    goes (Within s before) _ keyword.Store (codes "store") (a ∷ v ∷ []) refl refl (omega (arith, small.addresses_fit, range.0), (range.1, tt)) refl (rw (refusal_none s before (instruction.Store a v) range may room) refl)
+    goes (Within s before) _ keyword.Store (codes "store") (a ∷ v ∷ []) refl refl
+        (omega (arith, small.addresses_fit, range.0), (range.1, tt)) refl
+        (rw (refusal_none s before (instruction.Store a v) range may room) refl)
 instruction_goes s before (instruction.Add a v) sizes range may room =
     let small = sizes_small s sizes in
-    goes (Within s before) _ keyword.Add (codes "add") (a ∷ v ∷ []) refl refl (omega (arith, small.addresses_fit, range.0), (range.1, tt)) refl (rw (refusal_none s before (instruction.Add a v) range may room) refl)
+    goes (Within s before) _ keyword.Add (codes "add") (a ∷ v ∷ []) refl refl
+        (omega (arith, small.addresses_fit, range.0), (range.1, tt)) refl
+        (rw (refusal_none s before (instruction.Add a v) range may room) refl)
 instruction_goes s before (instruction.Acquire l) sizes range may room =
     let small = sizes_small s sizes in
-    goes (Within s before) _ keyword.Acquire (codes "acquire") (l ∷ []) refl refl (omega (arith, small.locks, range), tt) refl (rw (refusal_none s before (instruction.Acquire l) range may room) refl)
+    goes (Within s before) _ keyword.Acquire (codes "acquire") (l ∷ []) refl refl
+        (omega (arith, small.locks, range), tt) refl
+        (rw (refusal_none s before (instruction.Acquire l) range may room) refl)
 instruction_goes s before (instruction.Release l) sizes range may room =
     let small = sizes_small s sizes in
-    goes (Within s before) _ keyword.Release (codes "release") (l ∷ []) refl refl (omega (arith, small.locks, range), tt) refl (rw (refusal_none s before (instruction.Release l) range may room) refl)
+    goes (Within s before) _ keyword.Release (codes "release") (l ∷ []) refl refl
+        (omega (arith, small.locks, range), tt) refl
+        (rw (refusal_none s before (instruction.Release l) range may room) refl)
 instruction_goes s before instruction.Barrier sizes range may room =
     let small = sizes_small s sizes in
-    goes (Within s before) _ keyword.Barrier (codes "barrier") ([]) refl refl tt refl (rw (refusal_none s before instruction.Barrier range may room) refl)
+    goes (Within s before) _ keyword.Barrier (codes "barrier") ([]) refl refl tt refl
+        (rw (refusal_none s before instruction.Barrier range may room) refl)
 instruction_goes s before (instruction.Set f) sizes range may room =
     let small = sizes_small s sizes in
-    goes (Within s before) _ keyword.Set (codes "set") (f ∷ []) refl refl (omega (arith, small.flags, range), tt) refl (rw (refusal_none s before (instruction.Set f) range may room) refl)
+    goes (Within s before) _ keyword.Set (codes "set") (f ∷ []) refl refl (omega (arith, small.flags, range), tt) refl
+        (rw (refusal_none s before (instruction.Set f) range may room) refl)
 instruction_goes s before (instruction.Await f) sizes range may room =
     let small = sizes_small s sizes in
-    goes (Within s before) _ keyword.Await (codes "await") (f ∷ []) refl refl (omega (arith, small.flags, range), tt) refl (rw (refusal_none s before (instruction.Await f) range may room) refl)
+    goes (Within s before) _ keyword.Await (codes "await") (f ∷ []) refl refl (omega (arith, small.flags, range), tt)
+        refl (rw (refusal_none s before (instruction.Await f) range may room) refl)
 instruction_goes s before instruction.Cut sizes range may room =
     let small = sizes_small s sizes in
-    goes (Within s before) _ keyword.Cut (codes "cut") ([]) refl refl tt refl (rw (refusal_none s before instruction.Cut range may room) refl)
+    goes (Within s before) _ keyword.Cut (codes "cut") ([]) refl refl tt refl
+        (rw (refusal_none s before instruction.Cut range may room) refl)
 
-section_goes : (s : Plan) (is : List Instruction) → AreSizes s → suc (length s.sections) < s.processors → Goes (Within s is) (section_line (suc (length s.sections))) (Within (closed s is) [])
+section_goes : (s : Plan) (is : List Instruction) → AreSizes s → suc (length s.sections) < s.processors
+    → Goes (Within s is) (section_line (suc (length s.sections))) (Within (closed s is) [])
 unfolding step
 section_goes s is sizes lt =
     let small = sizes_small s sizes in
-    let next : (eqb (suc (length s.sections)) (length s.sections + 1) && ltb (suc (length s.sections)) s.processors) ≡ true = grind (arith, nat_tests, lt) in
-    goes (Within s is) (Within (closed s is) []) keyword.Section (codes "p") (suc (length s.sections) ∷ []) refl refl (omega (arith, small.processors, lt), tt) refl (rw next refl)
+    let next : (eqb (suc (length s.sections)) (length s.sections + 1) && ltb (suc (length s.sections)) s.processors)
+            ≡ true =
+        grind (arith, nat_tests, lt) in
+    goes (Within s is) (Within (closed s is) []) keyword.Section (codes "p") (suc (length s.sections) ∷ []) refl refl
+        (omega (arith, small.processors, lt), tt) refl (rw next refl)
 
 first_goes : (s : Plan) → AreSizes s → Goes (Headed s) (section_line 0) (Within s [])
 unfolding step
-first_goes s sizes = goes (Headed s) (Within s []) keyword.Section (codes "p") (0 ∷ []) refl refl (omega arith, tt) refl refl
+first_goes s sizes =
+    goes (Headed s) (Within s []) keyword.Section (codes "p") (0 ∷ []) refl refl (omega arith, tt) refl refl
 
 all_below : (n : ℕ) (xs : List ℕ) → AllByRecursion (λ a. a < n) xs → list_any (λ a. leb n a) xs ≡ false
 all_below n [] h = refl
@@ -132,40 +173,65 @@ all_words : (n : ℕ) (xs : List ℕ) → n ≤ 4096 → AllByRecursion (λ a. a
 all_words n [] le h = tt
 all_words n (x ∷ xs) le h = (omega (arith, h.0), all_words n xs le h.1)
 
-show_goes : (s : Plan) (is : List Instruction) (shown : List ℕ) → AreSizes s → suc (length s.sections) ≡ s.processors → 1 ≤ length shown → length shown ≤ 64 → All (λ a. a < addresses s) shown → Goes (Within s is) (show_line shown) (Whole (record (closed s is) { shown = shown }))
+show_goes : (s : Plan) (is : List Instruction) (shown : List ℕ) → AreSizes s → suc (length s.sections) ≡ s.processors
+    → 1 ≤ length shown → length shown ≤ 64 → All (λ a. a < addresses s) shown
+    → Goes (Within s is) (show_line shown) (Whole (record (closed s is) { shown = shown }))
 unfolding step
 show_goes s is shown sizes one_each some most below =
     let small = sizes_small s sizes in
     let each = recursion_from_All (λ a. a < addresses s) shown below in
-    let due : (leb 1 (length shown) && eqb (length s.sections + 1) s.processors) ≡ true = grind (arith, nat_tests, some, one_each) in
+    let due : (leb 1 (length shown) && eqb (length s.sections + 1) s.processors) ≡ true =
+        grind (arith, nat_tests, some, one_each) in
     let few : ltb 64 (length shown) ≡ false = grind (arith, nat_tests, most) in
-    goes (Within s is) (Whole (record (closed s is) { shown = shown })) keyword.Show (codes "show") shown refl refl (all_words (addresses s) shown small.addresses_fit each) due (rw (all_below (addresses s) shown each, few) refl)
+    goes (Within s is) (Whole (record (closed s is) { shown = shown })) keyword.Show (codes "show") shown refl refl
+        (all_words (addresses s) shown small.addresses_fit each) due
+        (rw (all_below (addresses s) shown each, few) refl)
 
 -- ---- whole sections
 
 -- what each instruction of a list needs
 abbrev pub StandAfter : Plan → List Instruction → List Instruction → Type 0
 StandAfter s before after = AllByRecursion (IsInRange s) after × (length before + length after ≤ 10000)
-    × ((front : List Instruction) (i : Instruction) (back : List Instruction) → after ≡ front ++ i ∷ back → MayStandAfter (before ++ front) i)
+    × ((front : List Instruction) (i : Instruction) (back : List Instruction) → after ≡ front ++ i ∷ back
+            → MayStandAfter (before ++ front) i)
 
-instructions_pass : (s : Plan) (before after : List Instruction) → AreSizes s → StandAfter s before after → Passes (Within s before) (map instruction_line after) (Within s (before ++ after))
+instructions_pass : (s : Plan) (before after : List Instruction) → AreSizes s → StandAfter s before after
+    → Passes (Within s before) (map instruction_line after) (Within s (before ++ after))
 instructions_pass s before [] sizes h = ap (λ (is : List Instruction). Within s is) (sym (append-nil before))
 instructions_pass s before (i ∷ after) sizes h =
-    let first = instruction_goes s before i sizes h.0.0 (subst (λ (is : List Instruction). MayStandAfter is i) (append-nil before) (h.2 [] i after refl)) (omega (arith, h.1)) in
-    let rest = instructions_pass s (before ++ i ∷ []) after sizes (h.0.1, omega (arith, h.1, length-append before (i ∷ [])), λ front j back e. subst (λ (is : List Instruction). MayStandAfter is j) (sym (append_assoc before (i ∷ []) front)) (h.2 (i ∷ front) j back (ap (λ (is : List Instruction). i ∷ is) e))) in
-    (Within s (before ++ i ∷ []), first, subst (λ (is : List Instruction). Passes (Within s (before ++ i ∷ [])) (map instruction_line after) (Within s is)) (append_assoc before (i ∷ []) after) rest)
+    let first =
+        instruction_goes s before i sizes h.0.0
+            (subst (λ (is : List Instruction). MayStandAfter is i) (append-nil before) (h.2 [] i after refl))
+            (omega (arith, h.1)) in
+    let rest =
+        instructions_pass s (before ++ i ∷ []) after sizes (h.0.1, omega (arith, h.1, length-append before (i ∷ [])),
+                λ front j back e. subst (λ (is : List Instruction). MayStandAfter is j)
+                (sym (append_assoc before (i ∷ []) front))
+                (h.2 (i ∷ front) j back (ap (λ (is : List Instruction). i ∷ is) e)))
+            in
+    (Within s (before ++ i ∷ []), first, subst (λ (is : List Instruction). Passes (Within s (before ++ i ∷ []))
+                (map instruction_line after) (Within s is))
+            (append_assoc before (i ∷ []) after) rest)
 
-section_passes : (s : Plan) (is : List Instruction) → AreSizes s → IsSection s is → Passes (Within s []) (map instruction_line is) (Within s is)
-section_passes s is sizes h = instructions_pass s [] is sizes (recursion_from_All (IsInRange s) is h.in_range, omega (arith, h.most), h.holding)
+section_passes : (s : Plan) (is : List Instruction) → AreSizes s → IsSection s is
+    → Passes (Within s []) (map instruction_line is) (Within s is)
+section_passes s is sizes h =
+    instructions_pass s [] is sizes (recursion_from_All (IsInRange s) is h.in_range, omega (arith, h.most), h.holding)
 
 -- the sections behind the one that is open
-sections_pass : (s : Plan) (done : List (List Instruction)) (open' : List Instruction) (rest : List (List Instruction)) (last : List Instruction) → AreSizes s → length done + length rest + 1 < s.processors → AllByRecursion (IsSection s) rest → IsSection s last
-    → Passes (Within (with_sections s done) open') (section_lines (suc (length done)) (rest ++ last ∷ [])) (Within (with_sections s (done ++ open' ∷ rest)) last)
+sections_pass : (s : Plan) (done : List (List Instruction)) (open' : List Instruction)
+        (rest : List (List Instruction)) (last : List Instruction)
+    → AreSizes s → length done + length rest + 1 < s.processors → AllByRecursion (IsSection s) rest → IsSection s last
+    → Passes (Within (with_sections s done) open') (section_lines (suc (length done)) (rest ++ last ∷ []))
+        (Within (with_sections s (done ++ open' ∷ rest)) last)
 sections_pass s done open' [] last sizes room each h =
     let head = section_goes (with_sections s done) open' (sizes_with s done sizes) (omega (arith, room)) in
     let whole = with_sections s (done ++ open' ∷ []) in
-    let body = section_passes whole last (sizes_with s (done ++ open' ∷ []) sizes) (section_with s (done ++ open' ∷ []) last h) in
-    (Within whole [], head, subst (λ (ls : List Line). Passes (Within whole []) ls (Within whole last)) (sym (append-nil (map instruction_line last))) body)
+    let body =
+        section_passes whole last (sizes_with s (done ++ open' ∷ []) sizes)
+            (section_with s (done ++ open' ∷ []) last h) in
+    (Within whole [], head, subst (λ (ls : List Line). Passes (Within whole []) ls (Within whole last))
+            (sym (append-nil (map instruction_line last))) body)
 sections_pass s done open' (is ∷ rest) last sizes room each h =
     let head = section_goes (with_sections s done) open' (sizes_with s done sizes) (omega (arith, room)) in
     let now = done ++ open' ∷ [] in
@@ -173,30 +239,46 @@ sections_pass s done open' (is ∷ rest) last sizes room each h =
     let body = section_passes whole is (sizes_with s now sizes) (section_with s now is each.0) in
     let longer : length now ≡ suc (length done) = omega (arith, length-append done (open' ∷ [])) in
     let others = sections_pass s now is rest last sizes (omega (arith, room, longer)) each.1 h in
-    let others' = subst (λ (n : ℕ). Passes (Within whole is) (section_lines (suc n) (rest ++ last ∷ [])) (Within (with_sections s (now ++ is ∷ rest)) last)) longer others in
-    let both = Passes-append (Within whole []) (Within whole is) (Within (with_sections s (now ++ is ∷ rest)) last) (map instruction_line is) (section_lines (suc (suc (length done))) (rest ++ last ∷ [])) body others' in
-    (Within whole [], head, subst (λ (all : List (List Instruction)). Passes (Within whole []) (map instruction_line is ++ section_lines (suc (suc (length done))) (rest ++ last ∷ [])) (Within (with_sections s all) last)) (append_assoc done (open' ∷ []) (is ∷ rest)) both)
+    let others' =
+        subst (λ (n : ℕ). Passes (Within whole is) (section_lines (suc n) (rest ++ last ∷ []))
+                (Within (with_sections s (now ++ is ∷ rest)) last))
+            longer others in
+    let both =
+        Passes-append (Within whole []) (Within whole is) (Within (with_sections s (now ++ is ∷ rest)) last)
+            (map instruction_line is) (section_lines (suc (suc (length done))) (rest ++ last ∷ [])) body others' in
+    (Within whole [], head, subst (λ (all : List (List Instruction)). Passes (Within whole [])
+                (map instruction_line is ++ section_lines (suc (suc (length done))) (rest ++ last ∷ []))
+                (Within (with_sections s all) last))
+            (append_assoc done (open' ∷ []) (is ∷ rest)) both)
 
 -- the sections of a script, the last of which may be open
-all_sections_pass : (s : Plan) (sections : List (List Instruction)) (last : List Instruction) → AreSizes s → length sections < s.processors → AllByRecursion (IsSection s) sections → IsSection s last
-    → Passes (Headed (with_sections s [])) (section_lines 0 (sections ++ last ∷ [])) (Within (with_sections s sections) last)
+all_sections_pass : (s : Plan) (sections : List (List Instruction)) (last : List Instruction) → AreSizes s
+    → length sections < s.processors → AllByRecursion (IsSection s) sections → IsSection s last
+    → Passes (Headed (with_sections s [])) (section_lines 0 (sections ++ last ∷ []))
+        (Within (with_sections s sections) last)
 all_sections_pass s [] last sizes room each h =
     let none = with_sections s [] in
     let body = section_passes none last (sizes_with s [] sizes) (section_with s [] last h) in
-    (Within none [], first_goes none (sizes_with s [] sizes), subst (λ (ls : List Line). Passes (Within none []) ls (Within none last)) (sym (append-nil (map instruction_line last))) body)
+    (Within none [], first_goes none (sizes_with s [] sizes), subst
+            (λ (ls : List Line). Passes (Within none []) ls (Within none last))
+            (sym (append-nil (map instruction_line last))) body)
 all_sections_pass s (is ∷ rest) last sizes room each h =
     let none = with_sections s [] in
     let body = section_passes none is (sizes_with s [] sizes) (section_with s [] is each.0) in
     let others = sections_pass s [] is rest last sizes (omega (arith, room)) each.1 h in
-    (Within none [], first_goes none (sizes_with s [] sizes), Passes-append (Within none []) (Within none is) (Within (with_sections s (is ∷ rest)) last) (map instruction_line is) (section_lines 1 (rest ++ last ∷ [])) body others)
+    (Within none [], first_goes none (sizes_with s [] sizes), Passes-append (Within none []) (Within none is)
+            (Within (with_sections s (is ∷ rest)) last) (map instruction_line is)
+            (section_lines 1 (rest ++ last ∷ [])) body others)
 
 headed_with : (s : Plan) → AreSizes s → s.shown ≡ [] → IsHeaded (with_sections s [])
 headed_with s sizes none = record { sizes = sizes_with s [] sizes; no_sections = refl; none_shown = none }
 
-within_passes : (s : Plan) (is : List Instruction) → IsWithin s is → Passes Nothing (lines_before (Within s is)) (Within s is)
+within_passes : (s : Plan) (is : List Instruction) → IsWithin s is
+    → Passes Nothing (lines_before (Within s is)) (Within s is)
 within_passes s is h =
     let head = head_goes (with_sections s []) (headed_with s h.sizes h.none_shown) in
-    (Headed (with_sections s []), head, all_sections_pass s s.sections is h.sizes h.one_each (recursion_from_All (IsSection s) s.sections h.sections) h.last)
+    (Headed (with_sections s []), head, all_sections_pass s s.sections is h.sizes h.one_each
+            (recursion_from_All (IsSection s) s.sections h.sections) h.last)
 
 -- a list that isn't empty has a last element
 abbrev pub Ends : List (List Instruction) → Type 0
@@ -205,35 +287,51 @@ Ends xs = (front : List (List Instruction)) × (last : List Instruction) × (xs 
 pub ends : (xs : List (List Instruction)) → 0 < length xs → Ends xs
 ends [] lt = absurd (omega arith)
 ends (x ∷ []) lt = ([], x, refl)
-ends (x ∷ y ∷ xs) lt = let e = ends (y ∷ xs) (omega arith) in (x ∷ e.0, e.1, ap (λ (l : List (List Instruction)). x ∷ l) e.2)
+ends (x ∷ y ∷ xs) lt =
+    let e = ends (y ∷ xs) (omega arith) in (x ∷ e.0, e.1, ap (λ (l : List (List Instruction)). x ∷ l) e.2)
 
-AllByRecursion-split : (P : List Instruction → Type 0) (xs : List (List Instruction)) (last : List Instruction) → AllByRecursion P (xs ++ last ∷ []) → AllByRecursion P xs × P last
+AllByRecursion-split : (P : List Instruction → Type 0) (xs : List (List Instruction)) (last : List Instruction)
+    → AllByRecursion P (xs ++ last ∷ []) → AllByRecursion P xs × P last
 AllByRecursion-split P [] last h = (tt, h.0)
 AllByRecursion-split P (x ∷ xs) last h = let r = AllByRecursion-split P xs last h.1 in ((h.0, r.0), r.1)
 
 abbrev pub unshown : Plan → List (List Instruction) → Plan
 unshown s sections = record s { sections = sections; shown = [] }
 
-whole_from : (s : Plan) (front : List (List Instruction)) (last : List Instruction) → s.sections ≡ front ++ last ∷ [] → IsLawfulButUneven s → Passes Nothing (lines_of s) (Whole s)
+whole_from : (s : Plan) (front : List (List Instruction)) (last : List Instruction) → s.sections ≡ front ++ last ∷ []
+    → IsLawfulButUneven s → Passes Nothing (lines_of s) (Whole s)
 whole_from s front last e h =
     let small = sizes_small s h.sizes in
     let before = unshown s front in
-    let each = AllByRecursion-split (IsSection s) front last (subst (λ (xs : List (List Instruction)). AllByRecursion (IsSection s) xs) e (recursion_from_All (IsSection s) s.sections h.sections)) in
-    let count : suc (length front) ≡ s.processors = omega (arith, ap (λ (xs : List (List Instruction)). length xs) e, length-append front (last ∷ []), h.one_each) in
+    let each =
+        AllByRecursion-split (IsSection s) front last (subst
+                (λ (xs : List (List Instruction)). AllByRecursion (IsSection s) xs) e
+                (recursion_from_All (IsSection s) s.sections h.sections))
+            in
+    let count : suc (length front) ≡ s.processors =
+        omega (arith, ap (λ (xs : List (List Instruction)). length xs) e, length-append front (last ∷ []), h.one_each)
+            in
     let sizes : AreSizes before = sizes_over s front [] h.sizes in
-    let as_before : (is : List Instruction) → IsSection s is → IsSection before is = λ is k. section_over s front [] is k in
+    let as_before : (is : List Instruction) → IsSection s is → IsSection before is =
+        λ is k. section_over s front [] is k in
     let within : IsWithin before last = record {
       sizes = sizes;
-      sections = All-weaker (IsSection s) (IsSection before) as_before front (All-from_recursion (IsSection s) front each.0);
+      sections =
+          All-weaker (IsSection s) (IsSection before) as_before front (All-from_recursion (IsSection s) front each.0);
       last = as_before last each.1;
       one_each = omega (arith, count);
       none_shown = refl;
     } in
     let shows = show_goes before last s.shown sizes count h.some_shown h.most_shown h.shown in
-    let same : record s { sections = front ++ last ∷ [] } ≡ s = ap (λ (xs : List (List Instruction)). record s { sections = xs }) (sym e) in
+    let same : record s { sections = front ++ last ∷ [] } ≡ s =
+        ap (λ (xs : List (List Instruction)). record s { sections = xs }) (sym e) in
     let shows' = subst (λ (x : Plan). Goes (Within before last) (show_line s.shown) (Whole x)) same shows in
-    let all = Passes-append Nothing (Within before last) (Whole s) (cluster_line s ∷ section_lines 0 (front ++ last ∷ [])) (show_line s.shown ∷ []) (within_passes before last within) (Whole s, shows', refl) in
-    subst (λ (xs : List (List Instruction)). Passes Nothing (cluster_line s ∷ section_lines 0 xs ++ show_line s.shown ∷ []) (Whole s)) (sym e) all
+    let all =
+        Passes-append Nothing (Within before last) (Whole s) (cluster_line s ∷ section_lines 0 (front ++ last ∷ []))
+            (show_line s.shown ∷ []) (within_passes before last within) (Whole s, shows', refl) in
+    subst (λ (xs : List (List Instruction)). Passes Nothing
+            (cluster_line s ∷ section_lines 0 xs ++ show_line s.shown ∷ []) (Whole s))
+        (sym e) all
 
 whole_passes : (s : Plan) → IsLawfulButUneven s → Passes Nothing (lines_of s) (Whole s)
 whole_passes s h =

@@ -1,5 +1,7 @@
 -- Keywords: how they are spelled, and where they are allowed.
-use Rattle.std.proofs.Common.{◌≡◌, ℕ, ◌+◌, true, false, cond, eqb, leb, List, length, Option, Some, refl, ap, ◌∙◌, arith, inl, inr}
+use Rattle.std.proofs.Common.{
+    ◌≡◌, ℕ, ◌+◌, true, false, cond, eqb, leb, List, length, Option, Some, refl, ap, ◌∙◌, arith, inl, inr
+}
 use Rattle.std.specs.Prelude.{codes}
 use Rattle.std.specs.Str.{bytes_eq}
 use Rattle.std.proofs.lemmas.Bool.{and_parts, or_cases}
@@ -29,8 +31,12 @@ spelled keyword.Await = codes "await"
 spelled keyword.Cut = codes "cut"
 spelled keyword.Show = codes "show"
 
-spelled_if : (w : List ℕ) (k : Keyword) (rest : Option Keyword) (found : Keyword) → (rest ≡ Some found → w ≡ spelled found) → cond (bytes_eq w (spelled k)) (Some k) rest ≡ Some found → w ≡ spelled found
-spelled_if w k rest found later e = elim (bytes_eq w (spelled k)) as (λ b. bytes_eq w (spelled k) ≡ b → cond b (Some k) rest ≡ Some found → w ≡ spelled found) [
+spelled_if : (w : List ℕ) (k : Keyword) (rest : Option Keyword) (found : Keyword)
+    → (rest ≡ Some found → w ≡ spelled found) → cond (bytes_eq w (spelled k)) (Some k) rest ≡ Some found
+    → w ≡ spelled found
+spelled_if w k rest found later e =
+    elim (bytes_eq w (spelled k)) as
+        (λ b. bytes_eq w (spelled k) ≡ b → cond b (Some k) rest ≡ Some found → w ≡ spelled found) [
   | true ↦ λ t h. let same : k ≡ found = cc in (bytes_eq-Decides w (spelled k)).0 t ∙ ap spelled same
   | false ↦ λ t h. later h
 ] refl e
@@ -38,13 +44,18 @@ spelled_if w k rest found later e = elim (bytes_eq w (spelled k)) as (λ b. byte
 -- a keyword's word is its spelling
 pub keyword_spelled : (w : List ℕ) (k : Keyword) → keyword_of w ≡ Some k → w ≡ spelled k
 keyword_spelled w k e =
-    spelled_if w keyword.Cluster _ k (spelled_if w keyword.Section _ k (spelled_if w keyword.Load _ k (spelled_if w keyword.Store _ k (
-    spelled_if w keyword.Add _ k (spelled_if w keyword.Acquire _ k (spelled_if w keyword.Release _ k (spelled_if w keyword.Barrier _ k (
-    spelled_if w keyword.Set _ k (spelled_if w keyword.Await _ k (spelled_if w keyword.Cut _ k (spelled_if w keyword.Show _ k (λ h. absurd cc)))))))))))) e
+    spelled_if w keyword.Cluster _ k
+        (spelled_if w keyword.Section _ k (spelled_if w keyword.Load _ k (spelled_if w keyword.Store _ k (
+    spelled_if w keyword.Add _ k
+        (spelled_if w keyword.Acquire _ k (spelled_if w keyword.Release _ k (spelled_if w keyword.Barrier _ k (
+    spelled_if w keyword.Set _ k (spelled_if w keyword.Await _ k
+            (spelled_if w keyword.Cut _ k (spelled_if w keyword.Show _ k (λ h. absurd cc)))))))))))) e
 
 -- what is due is allowed
 pub due_allows : (f : Front) (k : Keyword) (n : ℕ) → is_due f k n ≡ true → Allows f (spelled k) n
-due_allows Nothing keyword.Cluster n e = (refl, elim (or_cases (eqb n 4) (eqb n 5) e) [ inl t ↦ inl (grind (arith, nat_tests, t)) | inr t ↦ inr (grind (arith, nat_tests, t)) ])
+due_allows Nothing keyword.Cluster n e =
+    (refl, elim (or_cases (eqb n 4) (eqb n 5) e)
+            [ inl t ↦ inl (grind (arith, nat_tests, t)) | inr t ↦ inr (grind (arith, nat_tests, t)) ])
 due_allows Nothing _ n e = absurd cc
 due_allows (Headed s) keyword.Section n e = (refl, grind (arith, nat_tests, e))
 due_allows (Headed s) _ n e = absurd cc
@@ -70,22 +81,34 @@ due_allows (Whole s) k n e = absurd cc
 abbrev pub Due : Front → List ℕ → ℕ → Type 0
 Due f w n = (k : Keyword) × (keyword_of w ≡ Some k) × (is_due f k n ≡ true)
 
-allowed_instruction : (s : Plan) (is : List Instruction) (w : List ℕ) (n : ℕ) (i : Instruction) → w ≡ (instruction_line i).word → n ≡ length (instruction_line i).numbers → Due (Within s is) w n
-allowed_instruction s is w n (instruction.Load a) word count = (keyword.Load, ap keyword_of word, ap (λ m. eqb m 1) count)
-allowed_instruction s is w n (instruction.Store a v) word count = (keyword.Store, ap keyword_of word, ap (λ m. eqb m 2) count)
-allowed_instruction s is w n (instruction.Add a v) word count = (keyword.Add, ap keyword_of word, ap (λ m. eqb m 2) count)
-allowed_instruction s is w n (instruction.Acquire l) word count = (keyword.Acquire, ap keyword_of word, ap (λ m. eqb m 1) count)
-allowed_instruction s is w n (instruction.Release l) word count = (keyword.Release, ap keyword_of word, ap (λ m. eqb m 1) count)
-allowed_instruction s is w n instruction.Barrier word count = (keyword.Barrier, ap keyword_of word, ap (λ m. eqb m 0) count)
-allowed_instruction s is w n (instruction.Set f) word count = (keyword.Set, ap keyword_of word, ap (λ m. eqb m 1) count)
-allowed_instruction s is w n (instruction.Await f) word count = (keyword.Await, ap keyword_of word, ap (λ m. eqb m 1) count)
+allowed_instruction : (s : Plan) (is : List Instruction) (w : List ℕ) (n : ℕ) (i : Instruction)
+    → w ≡ (instruction_line i).word → n ≡ length (instruction_line i).numbers → Due (Within s is) w n
+allowed_instruction s is w n (instruction.Load a) word count =
+    (keyword.Load, ap keyword_of word, ap (λ m. eqb m 1) count)
+allowed_instruction s is w n (instruction.Store a v) word count =
+    (keyword.Store, ap keyword_of word, ap (λ m. eqb m 2) count)
+allowed_instruction s is w n (instruction.Add a v) word count =
+    (keyword.Add, ap keyword_of word, ap (λ m. eqb m 2) count)
+allowed_instruction s is w n (instruction.Acquire l) word count =
+    (keyword.Acquire, ap keyword_of word, ap (λ m. eqb m 1) count)
+allowed_instruction s is w n (instruction.Release l) word count =
+    (keyword.Release, ap keyword_of word, ap (λ m. eqb m 1) count)
+allowed_instruction s is w n instruction.Barrier word count =
+    (keyword.Barrier, ap keyword_of word, ap (λ m. eqb m 0) count)
+allowed_instruction s is w n (instruction.Set f) word count =
+    (keyword.Set, ap keyword_of word, ap (λ m. eqb m 1) count)
+allowed_instruction s is w n (instruction.Await f) word count =
+    (keyword.Await, ap keyword_of word, ap (λ m. eqb m 1) count)
 allowed_instruction s is w n instruction.Cut word count = (keyword.Cut, ap keyword_of word, ap (λ m. eqb m 0) count)
 
 -- what is allowed is due
 pub allows_due : (f : Front) (w : List ℕ) (n : ℕ) → Allows f w n → Due f w n
-allows_due Nothing w n a = (keyword.Cluster, ap keyword_of a.0, elim a.1 [ inl e ↦ grind (arith, nat_tests, e) | inr e ↦ grind (arith, nat_tests, e) ])
+allows_due Nothing w n a =
+    (keyword.Cluster, ap keyword_of a.0, elim a.1
+            [ inl e ↦ grind (arith, nat_tests, e) | inr e ↦ grind (arith, nat_tests, e) ])
 allows_due (Headed s) w n a = (keyword.Section, ap keyword_of a.0, ap (λ m. eqb m 1) a.1)
 allows_due (Within s is) w n (inl a) = (keyword.Section, ap keyword_of a.0, ap (λ m. eqb m 1) a.1)
-allows_due (Within s is) w n (inr (inl a)) = let some = a.1 in let last = a.2 in (keyword.Show, ap keyword_of a.0, grind (arith, nat_tests, some, last))
+allows_due (Within s is) w n (inr (inl a)) =
+    let some = a.1 in let last = a.2 in (keyword.Show, ap keyword_of a.0, grind (arith, nat_tests, some, last))
 allows_due (Within s is) w n (inr (inr a)) = allowed_instruction s is w n a.0 a.1 a.2
 allows_due (Whole s) w n a = absurd a

@@ -1,5 +1,8 @@
 -- A line of a keyword and numbers is read as that keyword and those numbers.
-use Rattle.std.proofs.Common.{◌≡◌, ℕ, ◌^◌, ◌<◌, Bool, true, not, ◌&&◌, eqb, ltb, List, [], ◌∷◌, ◌++◌, length, map, Some, Ok, refl, ap, ◌∙◌, arith}
+use Rattle.std.proofs.Common.{
+    ◌≡◌, ℕ, ◌^◌, ◌<◌, Bool, true, not, ◌&&◌, eqb, ltb, List, [], ◌∷◌, ◌++◌, length, map, Some, Ok, refl, ap, ◌∙◌,
+    arith
+}
 use Rattle.std.specs.Char.{is_ascii_digit}
 use Rattle.std.specs.List.{list_all, flat_map, AllByRecursion}
 use Rattle.std.specs.Fmt.{decimal}
@@ -10,7 +13,9 @@ use Rattle.lrc_script.specs.declared.line.Keyword.{Keyword}
 use Rattle.lrc_script.specs.Text.{Line, spaced, line_bytes}
 use Rattle.lrc_script.specs.Front.{Front}
 use Rattle.lrc_script.specs.Faults.{IsWord, IsSplit}
-use Rattle.lrc_script.specs.Reading.{◌>>=◌, keyword_of, is_due, numbers_after, step, after, after_words, after_keyword}
+use Rattle.lrc_script.specs.Reading.{
+    ◌>>=◌, keyword_of, is_due, numbers_after, step, after, after_words, after_keyword
+}
 use Rattle.lrc_script.proofs.Reading.Numbers.{AreWords, numbers_again, Decimal-decimal}
 use Rattle.lrc_script.proofs.Reading.Words.{HasNo, HasNo-append, parts_from_split}
 
@@ -39,18 +44,24 @@ decimal_has_no c n lt small = digits_have_no c (decimal n) lt (Decimal-decimal n
 
 pub decimals_words : (ns : List ℕ) → AreWords ns → AllByRecursion IsWord (map decimal ns)
 decimals_words [] small = tt
-decimals_words (n ∷ ns) small = (record { some = (Decimal-decimal n (omega (arith, small.0))).some; no_space = decimal_has_no 32 n (omega arith) small.0 }, decimals_words ns small.1)
+decimals_words (n ∷ ns) small =
+    (record { some = (Decimal-decimal n (omega (arith, small.0))).some;
+                no_space = decimal_has_no 32 n (omega arith) small.0 },
+            decimals_words ns small.1)
 
 spaced_has_no : (ns : List ℕ) → AreWords ns → HasNo 10 (flat_map spaced ns)
 spaced_has_no [] small = tt
-spaced_has_no (n ∷ ns) small = HasNo-append 10 (spaced n) (flat_map spaced ns) (λ e. absurd (omega (arith, e)), decimal_has_no 10 n (omega arith) small.0) (spaced_has_no ns small.1)
+spaced_has_no (n ∷ ns) small =
+    HasNo-append 10 (spaced n) (flat_map spaced ns)
+        (λ e. absurd (omega (arith, e)), decimal_has_no 10 n (omega arith) small.0) (spaced_has_no ns small.1)
 
 pub flat_spaced : (ns : List ℕ) → flat_map spaced ns ≡ flat_map (λ v. 32 ∷ v) (map decimal ns)
 flat_spaced [] = refl
 flat_spaced (n ∷ ns) = ap (λ (t : List ℕ). spaced n ++ t) (flat_spaced ns)
 
 -- a line of a plain word and numbers is split into them
-pub line_split : (word : List ℕ) (ns : List ℕ) → is_plain word ≡ true → AreWords ns → IsSplit (line_bytes (record { word = word; numbers = ns })) word (map decimal ns)
+pub line_split : (word : List ℕ) (ns : List ℕ) → is_plain word ≡ true → AreWords ns
+    → IsSplit (line_bytes (record { word = word; numbers = ns })) word (map decimal ns)
 line_split word ns plain small =
     let both = and_parts (ltb 0 (length word)) (list_all (λ b. not (eqb b 32) && not (eqb b 10)) word) plain in
     let some = both.0 in
@@ -61,7 +72,8 @@ line_split word ns plain small =
     }
 
 -- what reading does once the keyword is due
-pub after_due : (f : Front) (line word : List ℕ) (ws : List (List ℕ)) (k : Keyword) → IsSplit line word ws → keyword_of word ≡ Some k → is_due f k (length ws) ≡ true → after f line ≡ (numbers_after [] ws >>= step f k)
+pub after_due : (f : Front) (line word : List ℕ) (ws : List (List ℕ)) (k : Keyword) → IsSplit line word ws
+    → keyword_of word ≡ Some k → is_due f k (length ws) ≡ true → after f line ≡ (numbers_after [] ws >>= step f k)
 unfolding after_keyword
 after_due f line word ws k split key due =
     let parts = parts_from_split line word ws split in
@@ -72,11 +84,16 @@ pub record Goes (f : Front) (l : Line) (g : Front) : Type 0 where
   pub after_is : after f (line_bytes l) ≡ Ok g
   pub one_line : HasNo 10 (line_bytes l)
 
-pub goes : (f g : Front) (k : Keyword) (word ns : List ℕ) → keyword_of word ≡ Some k → is_plain word ≡ true → AreWords ns → is_due f k (length ns) ≡ true → step f k ns ≡ Ok g → Goes f (record { word = word; numbers = ns }) g
+pub goes : (f g : Front) (k : Keyword) (word ns : List ℕ) → keyword_of word ≡ Some k → is_plain word ≡ true
+    → AreWords ns → is_due f k (length ns) ≡ true → step f k ns ≡ Ok g
+    → Goes f (record { word = word; numbers = ns }) g
 goes f g k word ns key plain small due stepped =
     let both = and_parts (ltb 0 (length word)) (list_all (λ b. not (eqb b 32) && not (eqb b 10)) word) plain in
     let due' : is_due f k (length (map decimal ns)) ≡ true = rw length-map due in
     record {
-      after_is = after_due f (line_bytes (record { word = word; numbers = ns })) word (map decimal ns) k (line_split word ns plain small) key due' ∙ rw (numbers_again [] ns small) stepped;
+      after_is =
+          after_due f (line_bytes (record { word = word; numbers = ns })) word (map decimal ns) k
+                  (line_split word ns plain small) key due'
+              ∙ rw (numbers_again [] ns small) stepped;
       one_line = HasNo-append 10 word (flat_map spaced ns) (plain_bytes word both.1).1 (spaced_has_no ns small);
     }

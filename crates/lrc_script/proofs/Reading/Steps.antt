@@ -8,7 +8,8 @@ use Rattle.lrc_script.specs.Front.{Within}
 use Rattle.lrc_script.specs.Reading.{step, with_instruction, instruction_of}
 
 -- within a section an instruction's keyword and numbers are read as that instruction
-pub step_instruction : (s : Plan) (is : List Instruction) (k : Keyword) (ns : List ℕ) (i : Instruction) → instruction_of k ns ≡ Some i → step (Within s is) k ns ≡ with_instruction s is (Some i)
+pub step_instruction : (s : Plan) (is : List Instruction) (k : Keyword) (ns : List ℕ) (i : Instruction)
+    → instruction_of k ns ≡ Some i → step (Within s is) k ns ≡ with_instruction s is (Some i)
 unfolding step
 step_instruction s is keyword.Section ns i e = absurd cc
 step_instruction s is keyword.Show ns i e = absurd cc

@@ -1,5 +1,7 @@
 -- The words of a line, and what stands between separators.
-use Rattle.std.proofs.Common.{◌≡◌, ◌≢◌, ℕ, Bool, true, false, cond, eqb, List, [], ◌∷◌, ◌++◌, refl, sym, ap, subst, ◌∙◌, arith}
+use Rattle.std.proofs.Common.{
+    ◌≡◌, ◌≢◌, ℕ, Bool, true, false, cond, eqb, List, [], ◌∷◌, ◌++◌, refl, sym, ap, subst, ◌∙◌, arith
+}
 use Rattle.std.specs.List.{onto_first, list_all, flat_map, join_with_byte, AllByRecursion}
 use Rattle.std.proofs.lemmas.Bool.{ltb-true, lt-ltb, and_parts, ne_eqb, eq-eqb}
 use Rattle.std.proofs.lemmas.Bool.Decides.{nat_tests}
@@ -22,19 +24,25 @@ tests_false c [] h = tt
 tests_false c (b ∷ bytes) h = (ne_eqb b c h.0, tests_false c bytes h.1)
 
 -- the first part ends at the first separator
-pub parts_first : (c : ℕ) (bytes rest : List ℕ) → HasNo c bytes → parts_of c (bytes ++ c ∷ rest) ≡ bytes ∷ parts_of c rest
-parts_first c bytes rest h = slice_split_at (λ b. eqb b c) bytes c rest (All-from_recursion (λ b. eqb b c ≡ false) bytes (tests_false c bytes h)) (eq-eqb c c refl)
+pub parts_first : (c : ℕ) (bytes rest : List ℕ) → HasNo c bytes
+    → parts_of c (bytes ++ c ∷ rest) ≡ bytes ∷ parts_of c rest
+parts_first c bytes rest h =
+    slice_split_at (λ b. eqb b c) bytes c rest
+        (All-from_recursion (λ b. eqb b c ≡ false) bytes (tests_false c bytes h)) (eq-eqb c c refl)
 
 -- where there is none, the bytes are the one part
 pub parts_none : (c : ℕ) (bytes : List ℕ) → HasNo c bytes → parts_of c bytes ≡ bytes ∷ []
-parts_none c bytes h = slice_split_none (λ b. eqb b c) bytes (All-from_recursion (λ b. eqb b c ≡ false) bytes (tests_false c bytes h))
+parts_none c bytes h =
+    slice_split_none (λ b. eqb b c) bytes (All-from_recursion (λ b. eqb b c ≡ false) bytes (tests_false c bytes h))
 
 -- each part is without separators
-onto_first_has : (c x : ℕ) (parts : List (List ℕ)) → x ≢ c → AllByRecursion (HasNo c) parts → AllByRecursion (HasNo c) (onto_first x parts)
+onto_first_has : (c x : ℕ) (parts : List (List ℕ)) → x ≢ c → AllByRecursion (HasNo c) parts
+    → AllByRecursion (HasNo c) (onto_first x parts)
 onto_first_has c x [] ne h = ((ne, tt), tt)
 onto_first_has c x (part ∷ parts) ne h = ((ne, h.0), h.1)
 
-parts_have : (c x : ℕ) (xs : List ℕ) (b : Bool) → eqb x c ≡ b → AllByRecursion (HasNo c) (parts_of c xs) → AllByRecursion (HasNo c) (cond b ([] ∷ parts_of c xs) (onto_first x (parts_of c xs)))
+parts_have : (c x : ℕ) (xs : List ℕ) (b : Bool) → eqb x c ≡ b → AllByRecursion (HasNo c) (parts_of c xs)
+    → AllByRecursion (HasNo c) (cond b ([] ∷ parts_of c xs) (onto_first x (parts_of c xs)))
 parts_have c x xs true e h = (tt, h)
 parts_have c x xs false e h = onto_first_has c x (parts_of c xs) (λ same. grind (arith, nat_tests, e, same)) h
 
@@ -55,11 +63,14 @@ pub parts_whole : (c : ℕ) (bytes w : List ℕ) (ws : List (List ℕ)) → part
 parts_whole c bytes w ws e = sym (join_with_byte-slice_split c bytes) ∙ ap (join_with_byte c) e ∙ joined_is c w ws
 
 -- what is joined is cut into the same parts
-pub parts_joined : (c : ℕ) (w : List ℕ) (ws : List (List ℕ)) → HasNo c w → AllByRecursion (HasNo c) ws → parts_of c (joined c w ws) ≡ w ∷ ws
+pub parts_joined : (c : ℕ) (w : List ℕ) (ws : List (List ℕ)) → HasNo c w → AllByRecursion (HasNo c) ws
+    → parts_of c (joined c w ws) ≡ w ∷ ws
 parts_joined c w [] h hs = ap (parts_of c) (append-nil w) ∙ parts_none c w h
-parts_joined c w (v ∷ ws) h hs = parts_first c w (joined c v ws) h ∙ ap (λ (vs : List (List ℕ)). w ∷ vs) (parts_joined c v ws hs.0 hs.1)
+parts_joined c w (v ∷ ws) h hs =
+    parts_first c w (joined c v ws) h ∙ ap (λ (vs : List (List ℕ)). w ∷ vs) (parts_joined c v ws hs.0 hs.1)
 
-words_from : (ws : List (List ℕ)) → list_all has_bytes ws ≡ true → AllByRecursion (HasNo 32) ws → AllByRecursion IsWord ws
+words_from : (ws : List (List ℕ)) → list_all has_bytes ws ≡ true → AllByRecursion (HasNo 32) ws
+    → AllByRecursion IsWord ws
 words_from [] h clean = tt
 words_from (w ∷ ws) h clean =
     let both = and_parts (has_bytes w) (list_all has_bytes ws) h in
@@ -74,11 +85,17 @@ words_clean [] h = tt
 words_clean (w ∷ ws) h = (h.0.no_space, words_clean ws h.1)
 
 -- a line is cut into the words that it is split into
-pub parts_from_split : (line w : List ℕ) (ws : List (List ℕ)) → IsSplit line w ws → (parts_of 32 line ≡ w ∷ ws) × (list_all has_bytes (w ∷ ws) ≡ true)
-parts_from_split line w ws h = (ap (parts_of 32) h.whole ∙ parts_joined 32 w ws h.first.no_space (words_clean ws h.others), words_have (w ∷ ws) (h.first, h.others))
+pub parts_from_split : (line w : List ℕ) (ws : List (List ℕ)) → IsSplit line w ws
+    → (parts_of 32 line ≡ w ∷ ws) × (list_all has_bytes (w ∷ ws) ≡ true)
+parts_from_split line w ws h =
+    (ap (parts_of 32) h.whole
+            ∙ parts_joined 32 w ws h.first.no_space (words_clean ws h.others), words_have (w ∷ ws)
+                (h.first, h.others))
 
-pub split_from_parts : (line w : List ℕ) (ws : List (List ℕ)) → parts_of 32 line ≡ w ∷ ws → list_all has_bytes (w ∷ ws) ≡ true → IsSplit line w ws
+pub split_from_parts : (line w : List ℕ) (ws : List (List ℕ)) → parts_of 32 line ≡ w ∷ ws
+    → list_all has_bytes (w ∷ ws) ≡ true → IsSplit line w ws
 split_from_parts line w ws e h =
-    let clean : AllByRecursion (HasNo 32) (w ∷ ws) = subst (λ (ps : List (List ℕ)). AllByRecursion (HasNo 32) ps) e (parts_clean 32 line) in
+    let clean : AllByRecursion (HasNo 32) (w ∷ ws) =
+        subst (λ (ps : List (List ℕ)). AllByRecursion (HasNo 32) ps) e (parts_clean 32 line) in
     let words = words_from (w ∷ ws) h clean in
     record { first = words.0; others = words.1; whole = parts_whole 32 line w ws e }

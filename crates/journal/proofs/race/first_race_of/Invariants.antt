@@ -5,4 +5,6 @@ use Rattle.journal.specs.Accesses.{AreAccesses}
 use Rattle.journal.proofs.race.first_race_of.Given as goal
 
 abbrev pub invariant-loop-place : goal.invariant-loop-place
-invariant-loop-place l = AreClocks (take l.place l.events) l.clocks × AreAccesses (take l.place l.events) l.addresses l.accesses × ((m n : ℕ) → n < l.place → ¬ Race l.events m n) × (l.clocks.present ≡ l.processors)
+invariant-loop-place l =
+    AreClocks (take l.place l.events) l.clocks × AreAccesses (take l.place l.events) l.addresses l.accesses
+        × ((m n : ℕ) → n < l.place → ¬ Race l.events m n) × (l.clocks.present ≡ l.processors)

@@ -4,4 +4,7 @@ use Rattle.journal.specs.Races.{Race}
 use Rattle.journal.proofs.race.first_racing.Given as goal
 
 abbrev pub invariant-loop-i : goal.invariant-loop-i
-invariant-loop-i l = (length l.closings ≡ 16) × ((q : ℕ) → q < 16 → slice_index l.closings q ≡ count_of is_closing (take l.i l.events) q) × ((m : ℕ) → m < l.i → ¬ Race l.events m l.place)
+invariant-loop-i l =
+    (length l.closings ≡ 16)
+        × ((q : ℕ) → q < 16 → slice_index l.closings q ≡ count_of is_closing (take l.i l.events) q)
+        × ((m : ℕ) → m < l.i → ¬ Race l.events m l.place)

@@ -4,7 +4,8 @@ use Rattle.lrc_script.proofs.line.read_numbers.Given as goal
 
 -- what was read before, and what is still read
 abbrev pub invariant-loop-rest : goal.invariant-loop-rest
-invariant-loop-rest l = numbers_after l.numbers.items (parts_left 32 l.rest) ≡ numbers_after [] (parts_left 32 l.initial.rest)
+invariant-loop-rest l =
+    numbers_after l.numbers.items (parts_left 32 l.rest) ≡ numbers_after [] (parts_left 32 l.initial.rest)
 
 abbrev pub left : Option (Bor (List ℕ)) → ℕ
 left None = 0

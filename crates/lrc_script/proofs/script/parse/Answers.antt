@@ -1,6 +1,9 @@
 use Rattle.std.proofs.Common.{arith, refl}
 use Rattle.lrc_script.specs.Plan.{plan_of}
-use Rattle.lrc_script.proofs.Faults.Places.{at_start, at_next, failed_fault, truncated_fault, whole_text, uneven_fault, read_again, sections_fit, number_fits, cut_shorter}
+use Rattle.lrc_script.proofs.Faults.Places.{
+    at_start, at_next, failed_fault, truncated_fault, whole_text, uneven_fault, read_again, sections_fit, number_fits,
+    cut_shorter
+}
 use Rattle.lrc_script.proofs.script.parse.Goals as goal
 
 pub loop-line-init : goal.loop-line-init
@@ -19,28 +22,42 @@ pub loop-line-preserved : goal.loop-line-preserved
 loop-line-preserved c = at_next _ _ _ _ _ _ _ c.loop-line.invariant c.in-Some.ensures c.in-Ok.ensures.ok
 
 pub returns-in-Err-clause-only : goal.returns-in-Err-clause-only
-returns-in-Err-clause-only c = (failed_fault _ _ _ _ _ _ c.in-Err.fault c.loop-line.invariant c.in-Some.ensures c.in-Err.ensures.err).1
+returns-in-Err-clause-only c =
+    (failed_fault _ _ _ _ _ _ c.in-Err.fault c.loop-line.invariant c.in-Some.ensures c.in-Err.ensures.err).1
 
 pub returns-in-Err-clause-fault : goal.returns-in-Err-clause-fault
-returns-in-Err-clause-fault c = (failed_fault _ _ _ _ _ _ c.in-Err.fault c.loop-line.invariant c.in-Some.ensures c.in-Err.ensures.err).0
+returns-in-Err-clause-fault c =
+    (failed_fault _ _ _ _ _ _ c.in-Err.fault c.loop-line.invariant c.in-Some.ensures c.in-Err.ensures.err).0
 
 pub returns-in_default-whole-clause-only : goal.returns-in_default-whole-clause-only
-returns-in_default-whole-clause-only c = λ ne. (truncated_fault c.args.bytes.now c.loop-line.number _ c.loop-line.rest.now c.loop-line.invariant c.in_default.ensures c.in_default-whole.ensures.none).1
+returns-in_default-whole-clause-only c =
+    λ ne. (truncated_fault c.args.bytes.now c.loop-line.number _ c.loop-line.rest.now c.loop-line.invariant
+            c.in_default.ensures c.in_default-whole.ensures.none).1
 
 pub returns-in_default-whole-clause-fault : goal.returns-in_default-whole-clause-fault
-returns-in_default-whole-clause-fault c = (truncated_fault c.args.bytes.now c.loop-line.number _ c.loop-line.rest.now c.loop-line.invariant c.in_default.ensures c.in_default-whole.ensures.none).0
+returns-in_default-whole-clause-fault c =
+    (truncated_fault c.args.bytes.now c.loop-line.number _ c.loop-line.rest.now c.loop-line.invariant
+            c.in_default.ensures c.in_default-whole.ensures.none).0
 
 pub uneven_line-requires-clause-instructions : goal.uneven_line-requires-clause-instructions
 uneven_line-requires-clause-instructions c =
-    let whole = whole_text c.args.bytes.now c.loop-line.number _ c.loop-line.rest.now (plan_of c.in-Some-whole.script) c.loop-line.invariant c.in-Some-whole.ensures.found in
+    let whole =
+        whole_text c.args.bytes.now c.loop-line.number _ c.loop-line.rest.now (plan_of c.in-Some-whole.script)
+            c.loop-line.invariant c.in-Some-whole.ensures.found in
     (sections_fit (plan_of c.in-Some-whole.script) c.in-Some-whole.script.sections.items refl whole.0).1
 
 pub returns-in-Some-uneven_line-clause-only : goal.returns-in-Some-uneven_line-clause-only
 returns-in-Some-uneven_line-clause-only c =
-    let whole = whole_text c.args.bytes.now c.loop-line.number _ c.loop-line.rest.now (plan_of c.in-Some-whole.script) c.loop-line.invariant c.in-Some-whole.ensures.found in
-    λ ne. (uneven_fault c.args.bytes.now (plan_of c.in-Some-whole.script) _ whole.0 whole.1 c.in-Some-uneven_line.ensures.uneven).1
+    let whole =
+        whole_text c.args.bytes.now c.loop-line.number _ c.loop-line.rest.now (plan_of c.in-Some-whole.script)
+            c.loop-line.invariant c.in-Some-whole.ensures.found in
+    λ ne. (uneven_fault c.args.bytes.now (plan_of c.in-Some-whole.script) _ whole.0 whole.1
+            c.in-Some-uneven_line.ensures.uneven).1
 
 pub returns-in-None-clause-again : goal.returns-in-None-clause-again
 returns-in-None-clause-again c =
-    let whole = whole_text c.args.bytes.now c.loop-line.number _ c.loop-line.rest.now (plan_of c.in-Some-whole.script) c.loop-line.invariant c.in-Some-whole.ensures.found in
-    read_again c.args.bytes.now (plan_of c.in-Some-whole.script) (record { but_uneven = whole.0; even = c.in-None.ensures.even }, whole.1)
+    let whole =
+        whole_text c.args.bytes.now c.loop-line.number _ c.loop-line.rest.now (plan_of c.in-Some-whole.script)
+            c.loop-line.invariant c.in-Some-whole.ensures.found in
+    read_again c.args.bytes.now (plan_of c.in-Some-whole.script)
+        (record { but_uneven = whole.0; even = c.in-None.ensures.even }, whole.1)

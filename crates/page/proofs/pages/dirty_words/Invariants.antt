@@ -7,7 +7,9 @@ abbrev pub invariant-loop-rest : goal.invariant-loop-rest
 invariant-loop-rest l = record {
   within : l.offset ≤ length l.words;
   below : IsBelow (length (drop l.offset l.words)) l.rest;
-  so_far : l.found.items ++ harvest l.offset (drop l.offset l.words) (marks_of (length (drop l.offset l.words)) l.rest) ≡ harvest 0 l.words (marks_of (length l.words) l.dirty);
+  so_far : l.found.items
+          ++ harvest l.offset (drop l.offset l.words) (marks_of (length (drop l.offset l.words)) l.rest)
+      ≡ harvest 0 l.words (marks_of (length l.words) l.dirty);
 }
 
 abbrev pub decreases-loop-rest : goal.decreases-loop-rest

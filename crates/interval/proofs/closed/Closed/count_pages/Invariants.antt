@@ -6,4 +6,5 @@ use Rattle.interval.proofs.Counts.Walked.{news_pages}
 use Rattle.interval.proofs.closed.Closed.count_pages.Given as goal
 
 abbrev pub invariant-loop-owner : goal.invariant-loop-owner
-invariant-loop-owner l = AreCounted l.base (flat_map (news_pages l.old l.new) (take l.owner l.queue-items)) l.initial.counts l.counts
+invariant-loop-owner l =
+    AreCounted l.base (flat_map (news_pages l.old l.new) (take l.owner l.queue-items)) l.initial.counts l.counts

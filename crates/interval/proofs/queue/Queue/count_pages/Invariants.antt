@@ -5,4 +5,5 @@ use Rattle.interval.specs.Queues.{within}
 use Rattle.interval.proofs.queue.Queue.count_pages.Given as goal
 
 abbrev pub invariant-loop-index : goal.invariant-loop-index
-invariant-loop-index l = AreCounted l.base (pages_of (take (l.index - l.start) (within l.self l.from l.to))) l.initial.counts l.counts
+invariant-loop-index l =
+    AreCounted l.base (pages_of (take (l.index - l.start) (within l.self l.from l.to))) l.initial.counts l.counts

@@ -1,4 +1,4 @@
-use Rattle.std.proofs.Common.{List, ◌≡◌, ◌≤◌, ◌<◌, ◌+◌, ◌∷◌, [], ◌++◌, length, take, drop, vec_len, subst, sym, ap, length-drop, arith}
+use Rattle.std.proofs.Common.{List, ◌≡◌, ◌≤◌, ◌<◌, ◌∷◌, [], ◌++◌, length, take, subst, sym, ap, length-drop, arith}
 use Rattle.journal.specs.declared.event.Event.{Event}
 use Rattle.journal.specs.Log.{Log}
 use Rattle.journal.specs.InRange.{AddressInRange, AddressesInRange, ProcessorsInRange}
@@ -20,8 +20,16 @@ invariant_of-self c =
       reserved = omega (arith, c.in-Ok.ensures.capacity, held.reserved, c.requires.room);
       few = omega (arith, c.requires.limit, j.events.ok.0);
       few_processors = held.few_processors;
-      opening = subst (λ (xs : List Event). IsOpening j.processors (take j.processors xs)) (sym items) (opening_longer j.processors j.events.items (c.args.event ∷ []) le held.opening);
-      by_processors = subst (ProcessorsInRange j.processors) (sym items) (processors_push j.processors j.events.items c.args.event held.by_processors (subst (λ (l : Log). c.args.event.processor < l.processors) (sym c.self.view_is) c.requires.processor));
-      in_range = subst (AddressesInRange j.addresses) (sym items) (addresses_push j.addresses j.events.items c.args.event held.in_range (subst (λ (l : Log). AddressInRange l.addresses c.args.event.kind) (sym c.self.view_is) c.requires.address));
+      opening =
+          subst (λ (xs : List Event). IsOpening j.processors (take j.processors xs)) (sym items)
+              (opening_longer j.processors j.events.items (c.args.event ∷ []) le held.opening);
+      by_processors =
+          subst (ProcessorsInRange j.processors) (sym items) (processors_push j.processors j.events.items c.args.event
+                  held.by_processors (subst (λ (l : Log). c.args.event.processor < l.processors) (sym c.self.view_is)
+                      c.requires.processor));
+      in_range =
+          subst (AddressesInRange j.addresses) (sym items) (addresses_push j.addresses j.events.items c.args.event
+                  held.in_range (subst (λ (l : Log). AddressInRange l.addresses c.args.event.kind)
+                      (sym c.self.view_is) c.requires.address));
       kept = held.kept;
     }

@@ -1,16 +1,22 @@
 use Rattle.std.proofs.Common.{◌+◌, ◌-◌, inl, inr, take, subst}
 use Rattle.journal.specs.Log.{Log}
 use Rattle.journal.specs.RacesFrom.{RaceFreeFrom, IsFirstRaceFrom}
-use Rattle.journal.proofs.Bases.Opening.{IsOpened, free_from, first_from}
+use Rattle.journal.proofs.Bases.Opening.{free_from, first_from}
 use Rattle.journal.proofs.Journals.Held.{processors_part, addresses_part, in_base, checked}
 use Rattle.journal.proofs.journal.Journal.race_before.Goals as goal
 use Rattle.journal.proofs.journal.Journal.race_before.Goals.{then-self-eq0, else-self-eq0}
 
 pub first_race_of-requires-clause-addresses : goal.first_race_of-requires-clause-addresses
-first_race_of-requires-clause-addresses c = rw c.deref.ensures.value (addresses_part c.self.inside.addresses c.if-self-eq0.first (c.self.inside.processors + c.args.count - c.if-self-eq0.first) c.self.inside.events.items c.self.invariant.in_range)
+first_race_of-requires-clause-addresses c =
+    rw c.deref.ensures.value (addresses_part c.self.inside.addresses c.if-self-eq0.first
+            (c.self.inside.processors + c.args.count - c.if-self-eq0.first) c.self.inside.events.items
+            c.self.invariant.in_range)
 
 pub first_race_of-requires-clause-processors : goal.first_race_of-requires-clause-processors
-first_race_of-requires-clause-processors c = rw c.deref.ensures.value (processors_part c.self.inside.processors c.if-self-eq0.first (c.self.inside.processors + c.args.count - c.if-self-eq0.first) c.self.inside.events.items c.self.invariant.by_processors)
+first_race_of-requires-clause-processors c =
+    rw c.deref.ensures.value (processors_part c.self.inside.processors c.if-self-eq0.first
+            (c.self.inside.processors + c.args.count - c.if-self-eq0.first) c.self.inside.events.items
+            c.self.invariant.by_processors)
 
 pub returns-in_err-first-clause-in_range : goal.returns-in_err-first-clause-in_range
 returns-in_err-first-clause-in_range c = in_base c.self.inside c.self.invariant c.args.self.now c.self.view_is
@@ -24,21 +30,33 @@ returns-in-None-clause-in_range c = in_base c.self.inside c.self.invariant c.arg
 pub returns-in-None-clause-race : goal.returns-in-None-clause-race
 returns-in-None-clause-race c =
     let j = c.self.inside in
-    let here = checked j c.self.invariant c.if-self-eq0.first c.args.count c.deref.result.now c.deref.ensures.value (elim c.if-self-eq0.branch [ then-self-eq0 w ↦ inl (w.if-self-eq0.true, w.first-is) | else-self-eq0 w ↦ inr (w.if-self-eq0.false, w.first-is) ]) in
+    let here =
+        checked j c.self.invariant c.if-self-eq0.first c.args.count c.deref.result.now c.deref.ensures.value (elim
+                c.if-self-eq0.branch [ then-self-eq0 w ↦ inl (w.if-self-eq0.true, w.first-is)
+                    | else-self-eq0 w ↦ inr (w.if-self-eq0.false, w.first-is) ])
+            in
     let none = rw c.in-None.is at c.in_ok-first.ensures in
     subst (λ (l : Log). RaceFreeFrom l.base (take c.args.count l.events)) c.self.view_is (free_from _ _ _ _ here none)
 
 pub overflow_sub-result : goal.overflow_sub-result
 overflow_sub-result c =
     let j = c.self.inside in
-    let here = checked j c.self.invariant c.if-self-eq0.first c.args.count c.deref.result.now c.deref.ensures.value (elim c.if-self-eq0.branch [ then-self-eq0 w ↦ inl (w.if-self-eq0.true, w.first-is) | else-self-eq0 w ↦ inr (w.if-self-eq0.false, w.first-is) ]) in
+    let here =
+        checked j c.self.invariant c.if-self-eq0.first c.args.count c.deref.result.now c.deref.ensures.value (elim
+                c.if-self-eq0.branch [ then-self-eq0 w ↦ inl (w.if-self-eq0.true, w.first-is)
+                    | else-self-eq0 w ↦ inr (w.if-self-eq0.false, w.first-is) ])
+            in
     let some = rw c.in-Some.is at c.in_ok-first.ensures in
     (first_from _ _ _ _ here _ _ some).0
 
 pub overflow_sub-result-in-Some : goal.overflow_sub-result-in-Some
 overflow_sub-result-in-Some c =
     let j = c.self.inside in
-    let here = checked j c.self.invariant c.if-self-eq0.first c.args.count c.deref.result.now c.deref.ensures.value (elim c.if-self-eq0.branch [ then-self-eq0 w ↦ inl (w.if-self-eq0.true, w.first-is) | else-self-eq0 w ↦ inr (w.if-self-eq0.false, w.first-is) ]) in
+    let here =
+        checked j c.self.invariant c.if-self-eq0.first c.args.count c.deref.result.now c.deref.ensures.value (elim
+                c.if-self-eq0.branch [ then-self-eq0 w ↦ inl (w.if-self-eq0.true, w.first-is)
+                    | else-self-eq0 w ↦ inr (w.if-self-eq0.false, w.first-is) ])
+            in
     let some = rw c.in-Some.is at c.in_ok-first.ensures in
     (first_from _ _ _ _ here _ _ some).1
 
@@ -46,6 +64,12 @@ pub returns-in-Some-clause-race : goal.returns-in-Some-clause-race
 returns-in-Some-clause-race c =
     let j = c.self.inside in
     let size = j.processors - c.if-self-eq0.first in
-    let here = checked j c.self.invariant c.if-self-eq0.first c.args.count c.deref.result.now c.deref.ensures.value (elim c.if-self-eq0.branch [ then-self-eq0 w ↦ inl (w.if-self-eq0.true, w.first-is) | else-self-eq0 w ↦ inr (w.if-self-eq0.false, w.first-is) ]) in
+    let here =
+        checked j c.self.invariant c.if-self-eq0.first c.args.count c.deref.result.now c.deref.ensures.value (elim
+                c.if-self-eq0.branch [ then-self-eq0 w ↦ inl (w.if-self-eq0.true, w.first-is)
+                    | else-self-eq0 w ↦ inr (w.if-self-eq0.false, w.first-is) ])
+            in
     let some = rw c.in-Some.is at c.in_ok-first.ensures in
-    subst (λ (l : Log). IsFirstRaceFrom l.base (take c.args.count l.events) (c.in-Some.first - size) (c.in-Some.second - size)) c.self.view_is (first_from _ _ _ _ here _ _ some).2
+    subst (λ (l : Log). IsFirstRaceFrom l.base (take c.args.count l.events) (c.in-Some.first - size)
+            (c.in-Some.second - size))
+        c.self.view_is (first_from _ _ _ _ here _ _ some).2

@@ -25,12 +25,14 @@ invariant_of-self-2 c =
     let Fits : Lock → Type 0 = λ s. c.args.processor < length s.time in
     let fits = subst Fits (sym c.self.view_is) c.requires.processor in
     let held : k.holder ≢ None = λ e. false≢true (ap is_some (sym e) ∙ c.if-is_none.ensures) in
-    rw c.push_back_reserved.ensures.items (orderly-queued (length i.time) k c.args.processor c.self.invariant.0 held apart fits, omega arith)
+    rw c.push_back_reserved.ensures.items
+        (orderly-queued (length i.time) k c.args.processor c.self.invariant.0 held apart fits, omega arith)
 
 pub returns-clause-due : goal.returns-clause-due
 returns-clause-due c = (
   λ due. absurd (false≢true due),
-  λ none. absurd (false≢true (ap is_some (sym (ap (λ (k : Lock). k.holder) c.self.view_is ∙ none)) ∙ c.if-is_none.ensures)),
+  λ none. absurd
+      (false≢true (ap is_some (sym (ap (λ (k : Lock). k.holder) c.self.view_is ∙ none)) ∙ c.if-is_none.ensures)),
 )
 
 pub returns-clause-orderly : goal.returns-clause-orderly

@@ -21,7 +21,9 @@ pub loop-processor-preserved : goal.loop-processor-preserved
 loop-processor-preserved c =
     let l = c.loop-processor in
     let k = lock_at l.locks c.args.lock in
-    let long = ap (λ (s : Locks). length s.locks) c.ask.ensures.locks ∙ length-set l.locks.locks c.args.lock (asked k l.processor) in
+    let long =
+        ap (λ (s : Locks). length s.locks) c.ask.ensures.locks
+            ∙ length-set l.locks.locks c.args.lock (asked k l.processor) in
     let now : lock_at c.ask.new.self c.args.lock ≡ record k { queue = k.queue ++ l.processor ∷ [] } =
     ap (λ (s : Locks). lock_at s c.args.lock) c.ask.ensures.locks
     ∙ lock_at-with_lock l.locks c.args.lock (asked k l.processor) l.invariant.lock
@@ -32,5 +34,7 @@ loop-processor-preserved c =
       lock = let inside = l.invariant.lock in omega arith;
       processors = ap (λ (s : Locks). s.processors) c.ask.ensures.locks ∙ l.invariant.processors;
       holder = ap (λ (s : Lock). s.holder) now ∙ l.invariant.holder;
-      below = subst Below (sym now) (within-push (l.processor + 1) k.queue l.processor (λ q has. let lt = l.invariant.below q has in omega arith) (omega arith));
+      below =
+          subst Below (sym now) (within-push (l.processor + 1) k.queue l.processor
+                  (λ q has. let lt = l.invariant.below q has in omega arith) (omega arith));
     }

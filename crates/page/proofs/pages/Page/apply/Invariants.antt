@@ -7,5 +7,6 @@ invariant-loop-offset l = record {
   long : length l.self-inside.words.items ≡ length l.initial.self-inside.words.items;
   dirty : l.self-inside.dirty ≡ l.initial.self-inside.dirty;
   access : l.self-inside.access ≡ l.initial.self-inside.access;
-  applied : record_applied l.self-inside.words.items (drop l.offset-index l.offset-items) ≡ record_applied l.initial.self-inside.words.items l.initial.offset-items;
+  applied : record_applied l.self-inside.words.items (drop l.offset-index l.offset-items)
+      ≡ record_applied l.initial.self-inside.words.items l.initial.offset-items;
 }
