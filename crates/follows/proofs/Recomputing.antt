@@ -1,3 +1,4 @@
 pub mod Replaying
 pub mod Redoing
 pub mod Recomputed
+pub mod Only

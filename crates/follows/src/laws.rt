@@ -1,10 +1,12 @@
 //! Laws, as contracts of functions that do nothing: the check proves each by its name.
-ghost use Rattle.follows.specs.Laws.{RecomputedLaw, RaceFreeLaw};
+ghost use Rattle.follows.specs.Laws.{RecomputedLaw, OnlyLaw, RaceFreeLaw};
 
 /// A history that is well formed and follows a script, with the replies of its loads and the values that its adds store
-/// computed again on one flat memory, is well formed, follows the script, replays, and has the same races.
+/// computed again on one flat memory, is well formed, follows the script, replays, and has the same races. For a lawful
+/// script there is one such history only.
 pub fn recomputed_law()
-    ensures { RecomputedLaw }
+    ensures exists { RecomputedLaw }
+    ensures only { OnlyLaw }
 {}
 
 /// An explained history of a script that never races on one flat memory has no race, and replays.

@@ -95,10 +95,12 @@ follow_like : (s : Sizes) (h g : List Event) (e f : Event) → IsLike h g → Ar
 follow_like s h g e f like alike m =
     let P : ℕ → Type 0 = λ p. (i : ℕ) (c : Kind) → LastIs g p i c → Answers c f.kind in
     let Q : ℕ → Type 0 = λ p. Allowed s g p f.kind in
+    let answers : P e.processor =
+    λ i c last. answers_like h g e.processor i e.kind f.kind c like alike.kinds (m.answers i) last in
     record {
       processor = rw (← alike.processors) m.processor;
       in_range = range_like s e.kind f.kind alike.kinds m.in_range;
-      answers = subst P alike.processors (λ i c last. answers_like h g e.processor i e.kind f.kind c like alike.kinds (m.answers i) last);
+      answers = subst P alike.processors answers;
       allowed = subst Q alike.processors (allowed_like s h g e.processor e.kind f.kind like alike.kinds m.allowed);
     }
 

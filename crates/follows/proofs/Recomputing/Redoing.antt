@@ -42,7 +42,7 @@ CanRedo es = (memory : List ℕ) (due : ℕ → Due) → AddressesInRange (lengt
     → Redone memory due es
 
 -- what is due, but this of p
-abbrev updated : (ℕ → Due) → ℕ → Due → ℕ → Due
+abbrev pub updated : (ℕ → Due) → ℕ → Due → ℕ → Due
 updated due p d q = cond (q == p) d (due q)
 
 at_updated : (due : ℕ → Due) (p : ℕ) (d : Due) → updated due p d p ≡ d
@@ -52,7 +52,7 @@ off_updated : (due : ℕ → Due) (p q : ℕ) (d : Due) → p ≢ q → updated 
 off_updated due p q d apart = cond-false (q == p) d (due q) (ne_eqb q p (λ e. apart (sym e)))
 
 -- what holds of p's and of all others' holds of all
-each_updated : (due : ℕ → Due) (p : ℕ) (d : Due) (P : ℕ → Due → Type 0) → P p d → ((q : ℕ) → p ≢ q → P q (due q))
+pub each_updated : (due : ℕ → Due) (p : ℕ) (d : Due) (P : ℕ → Due → Type 0) → P p d → ((q : ℕ) → p ≢ q → P q (due q))
     → (q : ℕ) → P q (updated due p d q)
 each_updated due p d P own others q = elim (cases_eq p q) [
   | inl same ↦ subst (λ x. P x (updated due p d x)) same (subst (P p) (sym (at_updated due p d)) own)

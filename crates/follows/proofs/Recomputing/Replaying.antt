@@ -50,6 +50,16 @@ replays_first memory e es first rest zero p a v does =
     subst (λ (x : Event). AnswersWord memory x.kind) (same_Some e (event p (Load a v)) does) first
 replays_first memory e es first rest (suc i) p a v does = rest i p a v does
 
+-- and back: the first event replays, and the others after it
+pub answers_first : (memory : List ℕ) (p : ℕ) (k : Kind) (es : List Event) → Replays memory (event p k ∷ es)
+    → AnswersWord memory k
+answers_first memory p (Load a v) es replays = replays 0 p a v refl
+answers_first memory p _ es replays = tt
+
+pub replays_rest : (memory : List ℕ) (e : Event) (es : List Event) → Replays memory (e ∷ es)
+    → Replays (wrote memory (flat_write e.kind)) es
+replays_rest memory e es replays i p a v does = replays (suc i) p a v does
+
 -- the memory is as long after an event as before it
 pub length-wrote : (memory : List ℕ) (e : Event) → length (wrote memory (flat_write e.kind)) ≡ length memory
 length-wrote memory e = length-written (λ (x : Event). flat_write x.kind) memory (e ∷ [])

@@ -69,17 +69,17 @@ section_steps section shown kinds reply f =
     let own = all_steps section f.own reply f.follows in
     rw f.kinds_are (steps-append reply (steps_of_all section) (rest shown) f.own ends own end)
 
-abbrev is_load : Kind → Bool
+abbrev pub is_load : Kind → Bool
 is_load (kind.Load a v) = true
 is_load k = false
 
 -- a call that is no load's is as its step says
-told : (k c : Kind) → replyless k ≡ c → is_load c ≡ false → k ≡ c
+pub told : (k c : Kind) → replyless k ≡ c → is_load c ≡ false → k ≡ c
 told (kind.Load a v) c e none = absurd (false≢true (sym none ∙ ap is_load (sym e)))
 told _ c e none = e
 
 -- and a load's but for its reply
-told_load : (k : Kind) (a : ℕ) → replyless k ≡ kind.Load a 0 → (v : ℕ) × (k ≡ kind.Load a v)
+pub told_load : (k : Kind) (a : ℕ) → replyless k ≡ kind.Load a 0 → (v : ℕ) × (k ≡ kind.Load a v)
 told_load (kind.Load b v) a e = (v, cc)
 told_load _ a e = absurd (cc)
 
