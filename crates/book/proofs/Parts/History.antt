@@ -1,10 +1,13 @@
 -- What the journal has to do with the history of which it holds what is left. Nothing else opens `HoldsSome`.
-use Rattle.std.proofs.Common.{◌≡◌, ℕ, ◌+◌, ◌^◌, ◌<◌, ◌≤◌, ◌++◌, List, [], length, refl, ap, ◌∙◌, append_assoc, length-append, arith}
+use Rattle.std.proofs.Common.{◌≡◌, ℕ, ◌+◌, ◌^◌, ◌<◌, ◌≤◌, ◌++◌, List, [], length, take, refl, ap, ◌∙◌, append_assoc, length-append, arith}
 use Rattle.lists.specs.Limits.{most_events, most_cut}
 use Rattle.journal.specs.declared.event.Event.{Event}
 use Rattle.journal.specs.Log.{Log}
 use Rattle.journal.specs.Sizes.{Sizes}
-use Rattle.journal.proofs.Journals.History.{whole_law}
+use Rattle.journal.specs.WellFormed.{WellFormed}
+use Rattle.journal.specs.Cutting.{WasCut}
+use Rattle.journal.specs.HistoryLaws.{IsOf}
+use Rattle.journal.proofs.Journals.History.{whole_law, history_law}
 use Rattle.book.specs.Transitions.{appended, new_book}
 use Rattle.book.specs.Told.{HoldsSome}
 
@@ -32,6 +35,13 @@ pub history_room : (log : Log) (h : List Event) (room : ℕ) → HoldsSome log h
 history_room log h room holds = record {
   taken = holds.taken;
   rest = record { history = holds.rest.history; base = holds.rest.base; few = holds.rest.few };
+}
+
+-- nor is a cut: it holds the same history
+pub history_cut : (s : Sizes) (h : List Event) (old new : Log) → IsOf s old → WellFormed s h → HoldsSome old h → WasCut old new → HoldsSome new h
+history_cut s h old new of well holds was = record {
+  taken = holds.taken ++ take was.taken old.events;
+  rest = history_law s old new holds.taken h of well holds.rest was;
 }
 
 pub history_long : (log : Log) (h : List Event) → HoldsSome log h → length h ≤ happened log
