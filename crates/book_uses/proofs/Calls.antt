@@ -1,5 +1,5 @@
 -- What each call keeps.
-use Rattle.std.proofs.Common.{◌≡◌, ◌∙◌, ℕ, ◌<◌, ◌≤◌, ◌*◌, ◌-◌, false, length, List, [], ◌++◌, Some, None, slice_get, arith, subst, sym, refl, ap}
+use Rattle.std.proofs.Common.{◌≡◌, ◌∙◌, ℕ, ◌<◌, ◌≤◌, ◌*◌, ◌-◌, false, length, List, [], ◌++◌, Some, None, Result, Ok, Err, OnOk, OnErr, slice_get, arith, subst, sym, refl, ap}
 use Rattle.std.proofs.lemmas.Option.{same_Some}
 use Rattle.journal.specs.declared.event.Event.{Event}
 use Rattle.journal.specs.declared.event.Kind.{Kind}
@@ -9,14 +9,16 @@ use Rattle.journal.specs.Events.{At, is_closing}
 use Rattle.journal.specs.Groups.{since}
 use Rattle.journal.specs.WellFormed.{Holds}
 use Rattle.journal.specs.Did.{did}
+use Rattle.journal.specs.Log.{Log}
 use Rattle.page.specs.Changes.{Changes}
 use Rattle.transit.specs.Letters.{Letter}
 use Rattle.book.specs.State.{State}
 use Rattle.book.specs.Told.{IsTold}
+use Rattle.book.specs.Cutting.{WasBookCut}
 use Rattle.book.specs.Laws.{MayHandIn, MayGive}
 use Rattle.book.specs.Calls.{Takes}
 use Rattle.book.specs.Transitions.{new_book, handed_in, handed_last, book_asked, book_released, book_arrived, book_set, book_watched, book_took}
-use Rattle.book.proofs.Keeps.Whole.{new_law, hand_in_law, last_law, ask_law, release_law, arrive_law, set_law, watch_law, take_law}
+use Rattle.book.proofs.Keeps.Whole.{new_law, hand_in_law, last_law, ask_law, release_law, arrive_law, set_law, watch_law, take_law, cut_law}
 use Rattle.book_uses.specs.declared.told.Told.TheInside.{Inside}
 use Rattle.book_uses.specs.Telling.{Telling, IsTelling, MayClose}
 use Rattle.book_uses.specs.Keeping.{telling_of, IsKept}
@@ -54,6 +56,15 @@ follows s h old new made told room is = record { told = subst (λ b. IsTold s h 
 
 pub follows_hand_in : (s : Sizes) (h : List Event) (b new : State) (p : ℕ) (block : List Event) → IsTold s h b → MayGive s b p block → new ≡ handed_in b block → Follows s (h ++ block) b new
 follows_hand_in s h b new p block told may is = follows s (h ++ block) b new (handed_in b block) (hand_in_law s h block b p told may) refl is
+
+-- a cut leaves the history, and the room
+pub follows_cut : (s : Sizes) (h : List Event) (b new : State) → IsTold s h b → WasBookCut b new → Follows s h b new
+follows_cut s h b new told was = record { told = cut_law s h b new told was; room = ap (λ (l : Log). l.room) was.journal.left }
+
+-- and after a cut that was refused it is the same book
+pub kept_cut : {A E : Type 0} (t : Inside) (new : State) (r : Result A E) → IsKept t → OnOk r (WasBookCut t.book new) → OnErr r (new ≡ t.book) → IsKept (record t { book = new })
+kept_cut t new (Ok a) kept was same = kept_after t (record t { book = new }) t.history.items kept refl refl refl (follows_cut (telling_of t).sizes t.history.items t.book new kept.telling.told was)
+kept_cut t new (Err e) kept was same = subst (λ (b : State). IsKept (record t { book = b })) (sym same) kept
 
 -- each call that closes an interval
 module _ (t : Telling) (new : State) (p : ℕ) (block : List Event) (records : List Changes) (telling : IsTelling t) (may : MayClose t p block records) where

@@ -1,5 +1,5 @@
 //! A book with the history that tells it.
-ghost use Rattle.std.specs.Prelude.{◌≡◌, ◌<◌, ◌≤◌, ◌*◌, ◌^◌, ◌++◌, ◌∷◌, [], ◌↔◌, IfOk, IfSome, OnOk, OnErr, IsTrue, Some, None, length, map, count_by, slice_get};
+ghost use Rattle.std.specs.Prelude.{◌≡◌, ◌<◌, ◌≤◌, ◌*◌, ◌^◌, ◌++◌, ◌∷◌, [], ◌↔◌, IfErr, IfOk, IfSome, OnOk, OnErr, IsTrue, Some, None, length, map, count_by, slice_get};
 ghost use Rattle.std.specs.Arc.{arc_value};
 ghost use Rattle.journal.specs.declared.event.Kind.{Kind as AKind};
 ghost use Rattle.journal.specs.Did.{event, did};
@@ -7,11 +7,13 @@ ghost use Rattle.interval.specs.Intervals.{HasRisingPages};
 ghost use Rattle.interval.specs.Closings.{is_of_page};
 ghost use Rattle.book.specs.Laws.{IsInner, MayHandIn, MayGive, AreOpenRecords};
 ghost use Rattle.book.specs.Brought.{brought};
+ghost use Rattle.book.specs.Told.{HoldsSome};
+ghost use Rattle.journal.specs.Cutting.{WasCut, IsCutFault};
 ghost use Rattle.book_uses.specs.Telling.{GoesOn, MayClose};
 
 use crate::history::{awaited_by, holds, note, note_closing, open_of};
 use book::{Book, Refused};
-use journal::{Event, Journal, Kind};
+use journal::{CutFault, Event, Journal, Kind};
 use page::Record;
 use std::alloc::{AllocError, Global};
 use std::marker::Model;
@@ -270,10 +272,11 @@ impl Told {
         Ok(message)
     }
 
-    /// Hands in a block as `hand_in` does, and answers a copy of the whole journal after it.
+    /// Hands in a block as `hand_in` does, and answers a copy of the whole journal after it, which holds the
+    /// history.
     pub fn audit(&mut self, p: usize, block: &[Event]) -> Result<Journal, Refused>
         ensures ok { OnOk result (GoesOn self.old (self.old.history ++ block.now) self.new) }
-        ensures copy { IfOk result (λ j. j.events ≡ self.new.history) }
+        ensures copy { IfOk result (λ j. HoldsSome j self.new.history) }
         ensures err { OnErr result (self.new ≡ self.old) }
     {
         self.may_give(p, block)?;
@@ -281,6 +284,16 @@ impl Told {
         let copy = self.book.audit(p, block)?;
         note(&mut self.history, block);
         Ok(copy)
+    }
+
+    /// Cuts the journal; the history stays.
+    pub fn cut(&mut self) -> Result<(), CutFault>
+        ensures ok { OnOk result (GoesOn self.old self.old.history self.new) }
+        ensures cut { OnOk result (WasCut self.old.book.journal self.new.book.journal) }
+        ensures err { OnErr result (self.new ≡ self.old) }
+        ensures fault { IfErr result (IsCutFault self.old.book.journal) }
+    {
+        self.book.cut()
     }
 
     /// Hands in a last block, for which the book keeps room.
@@ -323,9 +336,9 @@ impl Told {
         }
     }
 
-    /// The journal, which has the history.
+    /// The journal, which holds the history.
     pub fn into_journal(self) -> Journal
-        ensures { result.events ≡ self.history }
+        ensures { HoldsSome result self.history }
     {
         self.book.into_journal()
     }
