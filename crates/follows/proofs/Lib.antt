@@ -3,3 +3,4 @@ pub mod Instructions
 pub mod Like
 pub mod Script
 pub mod Recomputing
+pub mod Fetchless

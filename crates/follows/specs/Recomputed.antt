@@ -1,12 +1,13 @@
 -- A history with each load's reply, and each value that an add stores, computed again on one flat memory.
-use Rattle.std.specs.Prelude.{ℕ, ◌↔◌, List, replicate}
+use Rattle.std.specs.Prelude.{ℕ, ◌≡◌, ◌↔◌, false, List, replicate}
 use Rattle.journal.specs.declared.event.Event.{Event}
+use Rattle.journal.specs.Events.{At}
 use Rattle.journal.specs.WellFormed.{WellFormed}
 use Rattle.journal.specs.Races.{Race, RaceFree}
 use Rattle.journal.specs.Flat.{Replays}
 use Rattle.lrc_script.specs.Plan.{Plan}
 use Rattle.lrc_script.specs.Lawful.{addresses}
-use Rattle.follows.specs.Follows.{sizes_of, Follows}
+use Rattle.follows.specs.Follows.{sizes_of, is_fetch, Follows}
 use Rattle.follows.specs.Like.{IsLike}
 
 -- the history is one of this script's on one flat memory
@@ -21,6 +22,10 @@ pub record IsRecomputed (s : Plan) (h g : List Event) : Type 0 where
   pub flat : IsFlatRun s g
   pub races : (i k : ℕ) → Race h i k ↔ Race g i k
 
--- whatever its order, the script doesn't race on one flat memory
+-- nothing is fetched in it
+abbrev pub HasNoFetch : List Event → Type 0
+HasNoFetch g = (i : ℕ) (e : Event) → At g i e → is_fetch e.kind ≡ false
+
+-- whatever its order, the script doesn't race on one flat memory, of which nothing is fetched
 abbrev pub NeverRaces : Plan → Type 0
-NeverRaces s = (g : List Event) → IsFlatRun s g → RaceFree g
+NeverRaces s = (g : List Event) → IsFlatRun s g → HasNoFetch g → RaceFree g

@@ -5,8 +5,9 @@
 //! flat run of the script (`IsFlatRun`) where it is well formed besides, and replays on one flat memory.
 //!
 //! **What is proved** (module `laws`). Each well formed history that follows a script is, but for values, a flat run of it
-//! with the same races (`IsRecomputed`), and where the script is lawful of one only. So where no flat run of a script has
-//! a race, no history that follows it has one, and one whose loads are explained replays.
+//! with the same races (`IsRecomputed`), and where the script is lawful of one only. So where no flat run of a script, in
+//! which nothing is fetched, has a race (`NeverRaces`), no history that follows it has one, and one whose loads are
+//! explained replays.
 #![tactic(auto)]
 
 pub mod laws;

@@ -22,6 +22,9 @@ use Rattle.follows.proofs.Like.WellFormed.{well_formed_like}
 use Rattle.follows.proofs.Script.Steps.{Step, AreSteps, plain_steps}
 use Rattle.follows.proofs.Script.Steps.Step.{plain}
 use Rattle.follows.proofs.Script.Sections.{steps_of_section, section_steps, section_told}
+use Rattle.follows.proofs.Fetchless.Embeds.{fetchless, fetchless_of}
+use Rattle.follows.proofs.Fetchless.Order.{race_back}
+use Rattle.follows.proofs.Fetchless.Runs.{no_fetch_in, fetchless_run}
 use Rattle.follows.proofs.Recomputing.Redoing.{Due, CallsDue, redo}
 
 -- what p has to call: what its section says, or where it has none, what it called
@@ -81,6 +84,11 @@ recomputed_law s h well follows =
 -- a script that never races on one flat memory never races
 pub race_free_law : RaceFreeLaw
 race_free_law s h well explained follows never =
-    let again = recomputed_law s h well follows in
-    let free : RaceFree h = λ i k race. never again.0 again.1.flat i k ((again.1.races i k).0 race) in
     (free, flat_memory (addresses s) h (λ i p a v does. (well i (event p (Load a v)) does).in_range) explained free)
+  where
+    free : RaceFree h
+    free i k race =
+        let again = recomputed_law s h well follows in
+        let apart = fetchless_of again.0 in
+        let other = race_back (fetchless again.0) again.0 apart i k ((again.1.races i k).0 race) in
+        never (fetchless again.0) (fetchless_run s again.0 again.1.flat) (no_fetch_in again.0) other.0 other.1 other.2

@@ -1,0 +1,4 @@
+pub mod Embeds
+pub mod Order
+pub mod WellFormed
+pub mod Runs
