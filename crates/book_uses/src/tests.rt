@@ -1,16 +1,17 @@
 //! Tests of the book, as lists of steps.
 ghost use Rattle.std.specs.Prelude.{◌≡◌, ◌<◌, ◌≤◌, length};
 
+mod cuts;
 mod limits;
 mod rows;
 
 use crate::Told;
 use Call::{Arrive, Ask, Audit, HandIn, Last, Release, Set, Take, Watch};
-use Step::{Does, Gets, IsDue, Keeps, Refuses};
+use Step::{CutFails, Cuts, Does, Gets, IsDue, Keeps, Refuses};
 use Words::{One, Two};
 use book::Refused;
 use interval::{Notice, Sent};
-use journal::{Event, Journal, Kind};
+use journal::{CutFault, Event, Journal, Kind};
 use std::alloc::{AllocError, Global};
 use std::process::Abort;
 use std::test::Fail;
@@ -55,7 +56,7 @@ enum Words {
 /// A record that comes with a message: its notice, its place, and its words.
 type Comes = (Notice, u64, Words);
 
-/// A step of a test. Each begins with the processor, but for the last.
+/// A step of a test. Each that is one processor's begins with it.
 #[derive(Clone, Copy)]
 enum Step<'a> {
     /// The call succeeds, with these stores in its block.
@@ -68,6 +69,10 @@ enum Step<'a> {
     IsDue(usize, usize, usize),
     /// These are the first intervals that are kept of processors 0 and 1.
     Keeps([u64; 2]),
+    /// The journal is cut.
+    Cuts,
+    /// A cut fails so.
+    CutFails(CutFault),
 }
 
 /// The empty book, also where one growth is refused.
@@ -107,8 +112,19 @@ fn go_on(told: &mut Told, rt: &(impl Abort + AllocGlobal), step: Step) -> Result
         Gets(p, name, entries, records) => gets(told, rt, p, name, entries, records)?,
         IsDue(p, page, count) => assert!(rt; told.due(p, page) == Some(count)),
         Keeps(firsts) => assert!(rt; keeps(told, firsts)),
+        Cuts => assert!(rt; cut(told) == Ok(())),
+        CutFails(why) => assert!(rt; cut(told) == Err(why)),
     }
     Ok(())
+}
+
+/// Cuts the journal, and once more where a growth was refused.
+fn cut(told: &mut Told) -> Result<(), CutFault> {
+    let answer = told.cut();
+    match answer {
+        Err(CutFault::NoMemory) => told.cut(),
+        _ => answer,
+    }
 }
 
 fn does(

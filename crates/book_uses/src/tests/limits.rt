@@ -250,3 +250,23 @@ fn a_journal_has_at_most_2_to_the_20_events(rt: HostRuntime) -> Result<(), Fail>
     assert!(rt; is_full(&told.into_journal()));
     Ok(())
 }
+
+#[test]
+fn a_full_journal_goes_on_after_a_cut(rt: HostRuntime) -> Result<(), Fail> {
+    let mut told = opened(rt.alloc(), 1, 1, 1, 0, 0)?;
+    fill(&mut told, rt.alloc(), 0, 4095)?;
+    go(
+        &mut told,
+        &rt,
+        &[
+            Does(0, HandIn(255), NONE),
+            Does(0, Arrive, NONE),
+            Refuses(0, Take, Refused::JournalFull),
+            Cuts,
+            Does(0, Take, NONE),
+        ],
+    )?;
+    let journal = told.into_journal();
+    assert!(rt; journal.len() == 1 && journal.cut_events() == 1 << 20);
+    Ok(())
+}
