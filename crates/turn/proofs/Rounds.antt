@@ -115,7 +115,7 @@ module _ (B V : Type 0) (fact : B → List V → Type 0) (width : ℕ) (shows : 
       let mine = got_at s.views id me.0 seen in
       dite (ℕ_discrete (get_or s.words (at m) 0) m) (finds_own m me sits s h mine) (finds_other m me sits s h mine)
 
-  pub leaves_allowed : (then : B → B → V → V → Type 0) (m : ℕ) (found book : B) (me : Hold) → me ≡ ((with_stage (Inside m found) me).0, (0, Some book) ∷ []) → MayHandIn fact then found book me.0.place me.0.lead.view
+  pub leaves_allowed : (then : B → B → ℕ → V → V → Type 0) (m : ℕ) (found book : B) (me : Hold) → me ≡ ((with_stage (Inside m found) me).0, (0, Some book) ∷ []) → MayHandIn fact then found book me.0.place me.0.lead.view
       → Allows Rule slots id me (at (m + 1)) (passed m) (λ _ after. Leaves then me after)
   leaves_allowed then m found book me sits may s h long seen fit =
       let mine = got_at s.views id me.0 seen in
@@ -142,12 +142,12 @@ module _ (B V : Type 0) (fact : B → List V → Type 0) (width : ℕ) (shows : 
           ap (λ (xs : List (ℕ × Option B)). (one p d, rest xs)) has_slot,
           λ k a b stands e.
               let same : found ≡ a = inside_once me.0.lead.stage m k found a (ap (λ (x : Hold). x.0.lead.stage) sits) stands in
-              subst₂ (λ (x y : B). then x y v w.0) same (slot_once me.1 book b has_slot e) w.1,
+              subst₂ (λ (x y : B). then x y p v w.0) same (slot_once me.1 book b has_slot e) w.1,
         ),
       )
 
   -- the same once the book was put back into the slot
-  pub leaves_after : (then : B → B → V → V → Type 0) (m : ℕ) (found book : B) (was me : Hold) → IsAtStage (Inside m found) was → me ≡ (was.0, (0, Some book) ∷ rest was.1) → MayHandIn fact then found book was.0.place was.0.lead.view
+  pub leaves_after : (then : B → B → ℕ → V → V → Type 0) (m : ℕ) (found book : B) (was me : Hold) → IsAtStage (Inside m found) was → me ≡ (was.0, (0, Some book) ∷ rest was.1) → MayHandIn fact then found book was.0.place was.0.lead.view
       → Allows Rule slots id me (at (m + 1)) (passed m) (λ _ after. Leaves then me after)
   leaves_after then m found book was me sits put may =
       let back : Hold = (was.0, (0, Some book) ∷ rest was.1) in

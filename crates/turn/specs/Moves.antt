@@ -46,8 +46,8 @@ module _ {B V : Type 0} where
 
   -- a leave: the chair, which was inside with the book found, is outside with a new view, and the slot is given back
   -- with the book
-  abbrev pub Leaves : (B → B → V → V → Type 0) → Me (Option B) (ChairRun (ChairState B V)) → Me (Option B) (ChairRun (ChairState B V)) → Type 0
+  abbrev pub Leaves : (B → B → ℕ → V → V → Type 0) → Me (Option B) (ChairRun (ChairState B V)) → Me (Option B) (ChairRun (ChairState B V)) → Type 0
   Leaves then me after =
       (after ≡ seat_with me.0.place Outside me.0.lead.entries after.0.lead.view)
       × ((m : ℕ) (found book : B) → me.0.lead.stage ≡ Inside m found → me.1 ≡ (0, Some book) ∷ []
-      → then found book me.0.lead.view after.0.lead.view)
+      → then found book me.0.place me.0.lead.view after.0.lead.view)
