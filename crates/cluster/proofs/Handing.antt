@@ -10,21 +10,19 @@ use Rattle.book.specs.State.{State}
 use Rattle.book.specs.Transitions.{handed_in}
 use Rattle.book.specs.declared.refused.Refused.{Refused}
 use Rattle.book.specs.declared.refused.Refused.TheVariants.{NotYet, JournalFull, NoMemory}
-use Rattle.turn.specs.Chairs.{view}
 use Rattle.turn.specs.declared.chair.ChairToken.{ChairToken}
 use Rattle.replicas.specs.Steps.{handed}
 use Rattle.replicas.proofs.HandingIn.{handed_sound}
 use Rattle.replicas.specs.Local.{Local, calls}
 use Rattle.replicas.specs.Sound.{IsSound}
 use Rattle.cluster.specs.declared.keeper.View.{View}
-use Rattle.cluster.specs.Kept.{Sees}
 use Rattle.cluster.specs.Seats.{IsSeated}
 use Rattle.cluster.specs.Calls.{IsCall, IsHanded, Nothing}
 use Rattle.cluster.specs.Entering.{IsCallOf, entered}
 use Rattle.cluster.proofs.Leaving.{call_of_nothing, call_of_block}
 use Rattle.cluster.specs.Histories.{IsAudit}
 use Rattle.cluster.proofs.Histories.{faithful, journal_of}
-use Rattle.cluster.proofs.Visiting.{Visit, HasLeft, local_on}
+use Rattle.cluster.proofs.Visiting.{Visit, HasLeft, HasSeen, local_on}
 use Rattle.cluster.proofs.Made.{entered_sound, now_is, now_seated, call_done}
 
 -- what isn't refused for want of room has room
@@ -55,7 +53,7 @@ pub calls_handed : (m : Local) → IsSound m → calls (handed m) ≡ calls m
 calls_handed m sound = rw (filter-append, part_own m.block m.number (λ k e at. (sound.inner k e at).mine), append-nil) refl
 
 module _ (v : Visit) (after : ChairToken State View) (left : HasLeft v.mid after) (new : State) (is : new ≡ handed_in v.book v.was.block)
-    (fits : length v.book.journal.events + length v.was.block ≤ most_events) (sees : Sees new (view v.mid) (view after)) where
+    (fits : length v.book.journal.events + length v.was.block ≤ most_events) (sees : HasSeen v new after) where
   -- the processor after its block was handed in
   abbrev handed_now : Local
   handed_now = local_on after v.was [] v.was.copies v.was.stored v.was.time v.was.held v.was.awaits
@@ -64,7 +62,7 @@ module _ (v : Visit) (after : ChairToken State View) (left : HasLeft v.mid after
   pub handed_ends : IsSound handed_now × IsSeated after v.was.number v.was.sizes × ((first : Option Refused) (many : ℕ) → first ≡ None → IsCall first many Nothing IsHanded [] v.was handed_now None)
   handed_ends =
       let call = call_of_block v.was v.sound v.book fits in
-      let seen = subst (λ (n : State). Sees n (view v.mid) (view after)) is sees in
+      let seen = subst (λ (n : State). HasSeen v n after) is sees in
       let same : handed_now ≡ handed (entered v.was v.finds.rest) = now_is v after left v.was.block (handed_in v.book v.was.block) call seen [] v.was.copies v.was.stored v.was.time v.was.held v.was.awaits in
       let before = entered_sound v.was v.book v.sound v.finds in
       let good = subst IsSound (sym same) (handed_sound (entered v.was v.finds.rest) before (call.told v.finds).well_formed (call.few v.finds)) in
@@ -78,7 +76,7 @@ module _ (v : Visit) (after : ChairToken State View) (left : HasLeft v.mid after
   pub audit_ends : (j : Log) → j ≡ record new.journal { room = j.room } → IsAudit v.was handed_now j
   audit_ends j same =
       let call = call_of_block v.was v.sound v.book fits in
-      let seen = subst (λ (n : State). Sees n (view v.mid) (view after)) is sees in
+      let seen = subst (λ (n : State). HasSeen v n after) is sees in
       let ends : handed_now.seen ≡ (v.was.seen ++ v.finds.rest) ++ v.was.block = ap (λ (m : Local). m.seen) (now_is v after left v.was.block (handed_in v.book v.was.block) call seen [] v.was.copies v.was.stored v.was.time v.was.held v.was.awaits) in
       let told = call.told v.finds in
       record {

@@ -1,13 +1,15 @@
 -- A call of one processor keeps what the book's lock keeps, whatever the others have seen.
-use Rattle.std.proofs.Common.{ℕ, ◌≡◌, ◌≢◌, ◌≤◌, ◌+◌, Some, List, [], ◌∷◌, ◌++◌, length, slice_get, slice_set, inl, inr, refl, sym, ap, subst, ◌∙◌, append_assoc, append-nil, arith}
+use Rattle.std.proofs.Common.{ℕ, ◌≡◌, ◌≢◌, ◌≤◌, ◌+◌, Some, List, [], ◌∷◌, ◌++◌, drop, length, slice_get, slice_set, inl, inr, refl, sym, ap, subst, ◌∙◌, append_assoc, append-nil, arith}
 use Rattle.std.proofs.lemmas.Bool.{cases_eq}
 use Rattle.std.proofs.lemmas.Option.{none-some}
 use Rattle.std.proofs.lemmas.List.{length-append, length-set}
+use Rattle.std.proofs.Math.Seq.{drop-append_seam}
 use Rattle.journal.specs.declared.event.Event.{Event}
 use Rattle.journal.specs.declared.event.Kind.{Kind}
 use Rattle.journal.specs.declared.event.Kind.TheVariants.{Load, Fetch}
 use Rattle.journal.specs.Did.{event, did}
 use Rattle.journal.specs.Sizes.{Sizes}
+use Rattle.journal.specs.Log.{Log}
 use Rattle.journal.specs.Events.{At}
 use Rattle.journal.specs.Loads.{Explained}
 use Rattle.journal.specs.Counted.{AreCounted}
@@ -23,7 +25,7 @@ use Rattle.book.proofs.Keeps.Whole.{hand_in_law}
 use Rattle.replicas.specs.Local.{Local}
 use Rattle.replicas.specs.Sound.{IsSound}
 use Rattle.cluster.specs.declared.keeper.View.{View}
-use Rattle.cluster.specs.Kept.{GoesOn, IsKept, Kept, Sees, view_of}
+use Rattle.cluster.specs.Kept.{GoesOn, IsKept, Kept, Sees, added, view_of}
 use Rattle.cluster.specs.Covers.{IsCovered}
 use Rattle.cluster.specs.Entering.{Finds, IsCallOf}
 use Rattle.cluster.proofs.Covering.{covered_on}
@@ -76,16 +78,35 @@ pub call_kept : (m : Local) (old : State) (es : List Event) (new : State) → Is
 call_kept m old es new call f = kept_on m.sizes (m.seen ++ f.rest) old f.views f.kept m.number es call.mine new (call.told f) (call.explained f) (call.counted f) (call.few f) call.room
 
 -- so p may leave the new book
-pub may_leave : (m : Local) (old : State) (es : List Event) (new : State) → IsCallOf m old es new → (views : List View) → slice_get views m.number ≡ Some (view_of m.sizes m.seen) → Kept old views → (w : View) × Sees new (view_of m.sizes m.seen) w × Kept new (slice_set views m.number w)
+pub may_leave : (m : Local) (old : State) (es : List Event) (new : State) → IsCallOf m old es new → (views : List View) → slice_get views m.number ≡ Some (view_of m.sizes m.seen) → Kept old views → (w : View) × Sees old new m.number (view_of m.sizes m.seen) w × Kept new (slice_set views m.number w)
 may_leave m old es new call views at fact =
     let f = finds m old views at fact in
-    let h = (m.seen ++ f.rest) ++ es in
-    (view_of m.sizes h, record { shape = refl; seen = (call.told f).holds }, (m.sizes, h, call_kept m old es new call f))
+    let h = (m.seen ++ f.rest) ++ es in (
+      view_of m.sizes h,
+      record {
+        history = m.seen ++ f.rest;
+        views = views;
+        at = at;
+        kept = f.kept;
+        shape = refl;
+        seen = ap (λ (xs : List Event). (m.seen ++ f.rest) ++ xs) (sym call.adds);
+      },
+      (m.sizes, h, call_kept m old es new call f),
+    )
+
+-- a journal that goes on with these events
+adds_events : (old new : Log) (es : List Event) → new.events ≡ old.events ++ es → added old new ≡ es
+adds_events old new es is = ap (λ (xs : List Event). drop (length old.events) xs) is ∙ drop-append_seam old.events es
+
+-- and with none
+adds_nothing : (log : Log) → added log log ≡ []
+adds_nothing log = adds_events log log [] (sym (append-nil log.events))
 
 -- a call that changes nothing
 pub call_of_nothing : (m : Local) (b : State) → IsCallOf m b [] b
 call_of_nothing m b = record {
   mine = λ k e at. absurd (none-some e at);
+  adds = adds_nothing b.journal;
   room = refl;
   told = λ f. rw append-nil f.kept.told;
   explained = λ f. rw append-nil f.kept.explained;
@@ -105,6 +126,7 @@ module _ (m : Local) (sound : IsSound m) (b : State) where
   pub call_of_block : length b.journal.events + length m.block ≤ most_events → IsCallOf m b m.block (handed_in b m.block)
   call_of_block fits = record {
     mine = λ k e at. (sound.inner k e at).mine;
+    adds = adds_events b.journal (handed_in b m.block).journal m.block refl;
     room = refl;
     told = λ f. hand_in_law m.sizes (m.seen ++ f.rest) m.block b m.number f.kept.told (may_give m sound b f);
     explained = λ f. (covered f).explained;
@@ -113,9 +135,10 @@ module _ (m : Local) (sound : IsSound m) (b : State) where
   }
 
   -- the block, and an event after it that is neither a load nor a fetch
-  pub call_of_event : (k : Kind) (new : State) → ((a v : ℕ) → k ≢ Load a v) → ((w n r d : ℕ) → k ≢ Fetch w n r d) → length b.journal.events + length m.block + 1 ≤ most_events → new.journal.room ≡ b.journal.room → ((f : Finds m b) → IsTold m.sizes (did ((m.seen ++ f.rest) ++ m.block) m.number k) new) → IsCallOf m b (m.block ++ event m.number k ∷ []) new
-  call_of_event k new no_load no_fetch fits room told = record {
+  pub call_of_event : (k : Kind) (new : State) → ((a v : ℕ) → k ≢ Load a v) → ((w n r d : ℕ) → k ≢ Fetch w n r d) → length b.journal.events + length m.block + 1 ≤ most_events → new.journal.events ≡ b.journal.events ++ (m.block ++ event m.number k ∷ []) → new.journal.room ≡ b.journal.room → ((f : Finds m b) → IsTold m.sizes (did ((m.seen ++ f.rest) ++ m.block) m.number k) new) → IsCallOf m b (m.block ++ event m.number k ∷ []) new
+  call_of_event k new no_load no_fetch fits goes room told = record {
     mine = λ i e at. elim (push_cases m.block (event m.number k) i e at) [ inl h ↦ (sound.inner i e h.1).mine | inr h ↦ ap (λ (x : Event). x.processor) (sym h.1) ];
+    adds = adds_events b.journal new.journal (m.block ++ event m.number k ∷ []) goes;
     room = room;
     told = λ f. rw (← append_assoc (m.seen ++ f.rest) m.block (event m.number k ∷ [])) (told f);
     explained = λ f. rw (← append_assoc (m.seen ++ f.rest) m.block (event m.number k ∷ [])) (explained_push ((m.seen ++ f.rest) ++ m.block) (event m.number k) (covered f).explained (λ p a v is. absurd (no_load a v (ap (λ (x : Event). x.kind) is))));
@@ -124,9 +147,10 @@ module _ (m : Local) (sound : IsSound m) (b : State) where
   }
 
   -- an event alone that is neither
-  pub call_of_event_alone : (k : Kind) (new : State) → ((a v : ℕ) → k ≢ Load a v) → ((w n r d : ℕ) → k ≢ Fetch w n r d) → length b.journal.events + 1 ≤ most_events → new.journal.room ≡ b.journal.room → ((f : Finds m b) → IsTold m.sizes (did (m.seen ++ f.rest) m.number k) new) → IsCallOf m b (event m.number k ∷ []) new
-  call_of_event_alone k new no_load no_fetch fits room told = record {
+  pub call_of_event_alone : (k : Kind) (new : State) → ((a v : ℕ) → k ≢ Load a v) → ((w n r d : ℕ) → k ≢ Fetch w n r d) → length b.journal.events + 1 ≤ most_events → new.journal.events ≡ b.journal.events ++ event m.number k ∷ [] → new.journal.room ≡ b.journal.room → ((f : Finds m b) → IsTold m.sizes (did (m.seen ++ f.rest) m.number k) new) → IsCallOf m b (event m.number k ∷ []) new
+  call_of_event_alone k new no_load no_fetch fits goes room told = record {
     mine = λ i e at. elim (push_cases [] (event m.number k) i e at) [ inl h ↦ absurd (none-some e h.1) | inr h ↦ ap (λ (x : Event). x.processor) (sym h.1) ];
+    adds = adds_events b.journal new.journal (event m.number k ∷ []) goes;
     room = room;
     told = told;
     explained = λ f. explained_push (m.seen ++ f.rest) (event m.number k) f.kept.explained (λ p a v is. absurd (no_load a v (ap (λ (x : Event). x.kind) is)));

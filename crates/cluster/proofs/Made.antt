@@ -7,7 +7,7 @@ use Rattle.std.proofs.lemmas.List.Elements.{filter-append}
 use Rattle.journal.specs.declared.event.Event.{Event}
 use Rattle.journal.specs.declared.event.Kind.{Kind}
 use Rattle.lists.specs.Limits.{most_events}
-use Rattle.turn.specs.Chairs.{LockId, view}
+use Rattle.turn.specs.Chairs.{LockId}
 use Rattle.turn.specs.declared.chair.ChairToken.{ChairToken}
 use Rattle.replicas.specs.Copies.{Copied}
 use Rattle.book.specs.State.{State}
@@ -20,7 +20,6 @@ use Rattle.replicas.proofs.Entering as entering
 use Rattle.replicas.proofs.Waiting.{roomy_sound}
 use Rattle.cluster.specs.Calls.{IsCall, IsRefusedInside}
 use Rattle.cluster.specs.declared.keeper.View.{View}
-use Rattle.cluster.specs.Kept.{Sees}
 use Rattle.cluster.specs.Seats.{IsSeated}
 use Rattle.cluster.specs.Refusals.{is_spent}
 use Rattle.cluster.specs.Entering.{Finds, IsCallOf, entered}
@@ -28,7 +27,7 @@ use Rattle.cluster.specs.Covers.{Covers}
 use Rattle.cluster.proofs.Covering.{covers, part_away}
 use Rattle.cluster.proofs.Finding.{here_sound}
 use Rattle.cluster.proofs.Leaving.{call_of_nothing}
-use Rattle.cluster.proofs.Visiting.{Visit, HasLeft, local_on, seated_after, local_after, allowed_after}
+use Rattle.cluster.proofs.Visiting.{Visit, HasLeft, HasSeen, local_on, seated_after, local_after, allowed_after}
 
 -- that a lock entry was spent changes nothing else
 pub entered_sound : (m : Local) (b : State) → IsSound m → (f : Finds m b) → IsSound (entered m f.rest)
@@ -91,7 +90,7 @@ module _ (v : Visit) where
 
   module _ (after : ChairToken State View) (left : HasLeft v.mid after) where
     -- a call that found the book and left it so, and may have made room in the copies' lists
-    module _ (cs : List Copied) (alike : AreSameCopies v.was.copies cs) (sees : Sees v.book (view v.mid) (view after)) where
+    module _ (cs : List Copied) (alike : AreSameCopies v.was.copies cs) (sees : HasSeen v v.book after) where
       abbrev unchanged : Local
       unchanged = local_on after was was.block cs was.stored was.time was.held was.awaits
 
@@ -130,7 +129,7 @@ module _ (v : Visit) where
           }
 
     -- a call that was done, with these events, after which the processor has these parts
-    module _ (es : List Event) (new : State) (call : IsCallOf was v.book es new) (sees : Sees new (view v.mid) (view after)) (bl : List Event) (cs : List Copied) (st : List Bool) (ti : List ℕ) (he : List Bool) (aw : Option Kind) where
+    module _ (es : List Event) (new : State) (call : IsCallOf was v.book es new) (sees : HasSeen v new after) (bl : List Event) (cs : List Copied) (st : List Bool) (ti : List ℕ) (he : List Bool) (aw : Option Kind) where
       abbrev now : Local
       now = local_on after was bl cs st ti he aw
 

@@ -11,7 +11,6 @@ use Rattle.journal.specs.Events.{is_taking, part}
 use Rattle.journal.specs.Missing.{AreNews, InClosingOrder}
 use Rattle.journal.specs.WellFormed.{Allowed}
 use Rattle.lists.specs.Limits.{most_events}
-use Rattle.turn.specs.Chairs.{view}
 use Rattle.turn.specs.declared.chair.ChairToken.{ChairToken}
 use Rattle.lists.specs.Places.{Has}
 use Rattle.page.specs.Contents.{Contents}
@@ -39,13 +38,12 @@ use Rattle.replicas.proofs.Waiting.{may_learn}
 use Rattle.cluster.specs.declared.keeper.View.{View}
 use Rattle.cluster.specs.Calls.{IsCall}
 use Rattle.cluster.specs.Entering.{Finds, IsCallOf, entered}
-use Rattle.cluster.specs.Kept.{Sees}
 use Rattle.cluster.specs.Seats.{IsSeated}
 use Rattle.cluster.specs.Taking.{IsLate, IsTaken, HasRoomFor, MayHoldOne, awaited_event}
 use Rattle.cluster.proofs.Finding.{here_sound, awaits_found, time_found}
 use Rattle.cluster.proofs.Handing.{fits_else}
 use Rattle.cluster.proofs.Leaving.{call_of_nothing, call_of_event_alone}
-use Rattle.cluster.proofs.Visiting.{Visit, HasLeft, local_on}
+use Rattle.cluster.proofs.Visiting.{Visit, HasLeft, HasSeen, local_on}
 use Rattle.cluster.proofs.Made.{entered_sound, now_is, now_seated, call_done}
 
 taking_no_load : (k : Kind) → is_taking k ≡ true → (a v : ℕ) → k ≢ Load a v
@@ -78,7 +76,7 @@ module _ (m : Local) (sound : IsSound m) (b : State) (k : Kind) (waits : m.await
   module _ (x : Letter) (come : message_for b m.number k ≡ Some x) where
     -- it is a call of p
     pub call_of_take : length b.journal.events + 1 ≤ most_events → IsCallOf m b (event m.number k ∷ []) (book_took b m.number k x)
-    call_of_take fits = call_of_event_alone m sound b k (book_took b m.number k x) (taking_no_load k takes) (taking_no_fetch k takes) fits refl (λ f. take_law m.sizes (m.seen ++ f.rest) b m.number k x f.kept.told (awaits_kind f) come)
+    call_of_take fits = call_of_event_alone m sound b k (book_took b m.number k x) (taking_no_load k takes) (taking_no_fetch k takes) fits refl refl (λ f. take_law m.sizes (m.seen ++ f.rest) b m.number k x f.kept.told (awaits_kind f) come)
 
     module _ (f : Finds m b) where
       pub message : IsMessage m.sizes (m.seen ++ f.rest) b m.number k x
@@ -154,7 +152,7 @@ refused_take e Late P late full = (
 
 module _ (v : Visit) (after : ChairToken State View) (left : HasLeft v.mid after) (k : Kind) (waits : v.was.awaits ≡ Some k) (x : Letter)
     (come : message_for v.book v.was.number k ≡ Some x) (new : State) (is : new ≡ book_took v.book v.was.number k x)
-    (fits : length v.book.journal.events + 1 ≤ most_events) (sees : Sees new (view v.mid) (view after)) (cs : List Copied) (told : AreAfterNews v.was.copies x.notices cs) where
+    (fits : length v.book.journal.events + 1 ≤ most_events) (sees : HasSeen v new after) (cs : List Copied) (told : AreAfterNews v.was.copies x.notices cs) where
   -- the processor after it took
   abbrev taken_now : Local
   taken_now = local_on after v.was v.was.block cs v.was.stored (join v.was.time x.time) (held_after k v.was.held) None
@@ -164,7 +162,7 @@ module _ (v : Visit) (after : ChairToken State View) (left : HasLeft v.mid after
   taken_ends =
       let was = v.was in
       let call = call_of_take was v.sound v.book k waits x come fits in
-      let seen = subst (λ (n : State). Sees n (view v.mid) (view after)) is sees in
+      let seen = subst (λ (n : State). HasSeen v n after) is sees in
       let es = event was.number k ∷ [] in
       let last = book_took v.book was.number k x in
       let same : taken_now ≡ took (entered was v.finds.rest) k x.time cs = now_is v after left es last call seen was.block cs was.stored (join was.time x.time) (held_after k was.held) None in

@@ -3,10 +3,9 @@ use Rattle.std.proofs.Common.{ℕ, ◌≡◌, ◌+◌, Bool, Option, Some, List,
 use Rattle.journal.specs.declared.event.Event.{Event}
 use Rattle.journal.specs.declared.event.Kind.{Kind}
 use Rattle.journal.specs.Sizes.{Sizes}
-use Rattle.journal.specs.Log.{Log, HoldsHistory}
 use Rattle.lists.proofs.Sets.{slice_get-set_same}
 use Rattle.std.proofs.lemmas.Option.{slice_get_within}
-use Rattle.turn.specs.Chairs.{LockId, lock, view, entries, IsOutside, IsSameChair}
+use Rattle.turn.specs.Chairs.{LockId, lock, place, view, entries, IsOutside, IsInside, IsSameChair}
 use Rattle.turn.specs.declared.chair.ChairToken.{ChairToken}
 use Rattle.turn.specs.declared.chair.Held.{Held}
 use Rattle.book.specs.State.{State}
@@ -15,14 +14,10 @@ use Rattle.replicas.specs.Local.{Local}
 use Rattle.replicas.specs.Sound.{IsSound}
 use Rattle.cluster.specs.declared.keeper.View.{View}
 use Rattle.cluster.specs.Seats.{local, IsSeated}
-use Rattle.cluster.specs.Kept.{Sees, view_of}
+use Rattle.cluster.specs.Kept.{Sees, added, view_of}
 use Rattle.cluster.specs.Covers.{IsAllowed}
 use Rattle.cluster.specs.Entering.{Finds, FindsBook, HasEntered, IsCallOf, IsChairOf, entered}
 use Rattle.cluster.proofs.Leaving.{finds, call_kept}
-
--- a journal holds one history
-pub history_once : (log : Log) (g h : List Event) → HoldsHistory log g → HoldsHistory log h → g ≡ h
-history_once log g h a b = sym a.history ∙ b.history
 
 -- the view of a chair that is seated
 seated_view : (c : ChairToken State View) (p : ℕ) (s : Sizes) → IsSeated c p s → view c ≡ view_of s (view c).seen
@@ -77,6 +72,52 @@ visit_of m old mid right b into stands seated sound same_lock same_entries same_
   finds = book_of old m b seated same_seen stands;
 }
 
+-- what p knows of the book that it leaves
+abbrev pub Leaves : ChairToken State View → Held → State → ChairToken State View → Type 0
+Leaves mid right new after = (b : State) → IsInside mid right b → Sees b new (place mid) (view mid) (view after)
+
+-- and of the book that it found, where it left so
+pub book_left : (old mid after : ChairToken State View) (m : Local) (right : Held) (b new : State) → HasEntered old mid right b → IsSeated old m.number m.sizes → m.seen ≡ (view old).seen → Leaves mid right new after → Finds m b
+book_left old mid after m right b new into seated seen leaves =
+    let sees = leaves b into.inside in
+    let chair = inside_of old mid m right b into seated seen in
+    let P : ℕ → View → Type 0 = λ k v. slice_get sees.views k ≡ Some v in
+    finds m b sees.views (subst₂ P chair.place_is chair.view_is sees.at) ((view mid).shape, sees.history, sees.kept)
+
+-- the visit with what is known of it then
+abbrev pub visit_left : (m : Local) (old mid after : ChairToken State View) (right : Held) (b new : State) → HasEntered old mid right b → Leaves mid right new after → IsSeated old m.number m.sizes → IsSound m → m.lock ≡ lock old → m.entries ≡ entries old → m.seen ≡ (view old).seen → Visit
+visit_left m old mid after right b new into leaves seated sound same_lock same_entries same_seen = record {
+  was = m;
+  old = old;
+  mid = mid;
+  right = right;
+  book = b;
+  into = into;
+  seated = seated;
+  same_lock = same_lock;
+  same_entries = same_entries;
+  same_seen = same_seen;
+  sound = sound;
+  finds = book_left old mid after m right b new into seated same_seen leaves;
+}
+
+-- the chair's view afterwards: the history that it found, and the events that were added
+pub record HasSeen (v : Visit) (new : State) (after : ChairToken State View) : Type 0 where
+  pub shape : (view after).shape ≡ (view v.mid).shape
+  pub seen : (view after).seen ≡ (v.was.seen ++ v.finds.rest) ++ added v.book.journal new.journal
+
+pub seen_left : (m : Local) (old mid after : ChairToken State View) (right : Held) (b new : State) (into : HasEntered old mid right b) (leaves : Leaves mid right new after) (seated : IsSeated old m.number m.sizes) (sound : IsSound m) (same_lock : m.lock ≡ lock old) (same_entries : m.entries ≡ entries old) (same_seen : m.seen ≡ (view old).seen) → HasSeen (visit_left m old mid after right b new into leaves seated sound same_lock same_entries same_seen) new after
+unfolding book_left
+seen_left m old mid after right b new into leaves seated sound same_lock same_entries same_seen =
+    let sees = leaves b into.inside in
+    let chair = inside_of old mid m right b into seated same_seen in
+    let P : ℕ → View → Type 0 = λ k v. slice_get sees.views k ≡ Some v in
+    let goes = sees.kept.each m.number (view_of m.sizes m.seen) (subst₂ P chair.place_is chair.view_is sees.at) in
+    record {
+      shape = sees.shape;
+      seen = sees.seen ∙ ap (λ (h : List Event). h ++ added b.journal new.journal) goes.begins;
+    }
+
 -- the right to be inside was given back
 abbrev pub HasLeft : ChairToken State View → ChairToken State View → Type 0
 HasLeft mid after = IsSameChair mid after × (entries after ≡ entries mid) × IsOutside after
@@ -85,7 +126,7 @@ HasLeft mid after = IsSameChair mid after × (entries after ≡ entries mid) × 
 abbrev pub local_on : ChairToken State View → Local → List Event → List Copied → List Bool → List ℕ → List Bool → Option Kind → Local
 local_on after m block copies stored time held awaits = local after m.number m.sizes block copies stored time held awaits
 
-module _ (v : Visit) (es : List Event) (new : State) (call : IsCallOf v.was v.book es new) (after : ChairToken State View) (left : HasLeft v.mid after) (sees : Sees new (view v.mid) (view after)) where
+module _ (v : Visit) (es : List Event) (new : State) (call : IsCallOf v.was v.book es new) (after : ChairToken State View) (left : HasLeft v.mid after) (sees : HasSeen v new after) where
   -- what it has seen then
   abbrev pub seen_then : List Event
   seen_then = (v.was.seen ++ v.finds.rest) ++ es
@@ -98,7 +139,7 @@ module _ (v : Visit) (es : List Event) (new : State) (call : IsCallOf v.was v.bo
   }
 
   seen_after : (view after).seen ≡ seen_then
-  seen_after = history_once new.journal (view after).seen seen_then sees.seen (call.told v.finds).holds
+  seen_after = sees.seen ∙ ap (λ (xs : List Event). (v.was.seen ++ v.finds.rest) ++ xs) call.adds
 
   -- the processor afterwards, whatever else it changed
   pub local_after : (bl : List Event) (cs : List Copied) (st : List Bool) (ti : List ℕ) (he : List Bool) (aw : Option Kind)

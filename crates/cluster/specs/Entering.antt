@@ -13,7 +13,7 @@ use Rattle.book.specs.Told.{IsTold}
 use Rattle.replicas.specs.Local.{Local}
 use Rattle.replicas.specs.Steps.{found}
 use Rattle.cluster.specs.declared.keeper.View.{View}
-use Rattle.cluster.specs.Kept.{IsKept, Kept, view_of}
+use Rattle.cluster.specs.Kept.{IsKept, Kept, added, view_of}
 
 -- p finds this book: a history of it that is kept goes on from what p has seen
 pub record Finds (m : Local) (b : State) : Type 0 where
@@ -26,6 +26,7 @@ pub record Finds (m : Local) (b : State) : Type 0 where
 -- and leaves the new book, which its events make of the old one
 pub record IsCallOf (m : Local) (old : State) (es : List Event) (new : State) : Type 0 where
   pub mine : (k : ℕ) (e : Event) → At es k e → e.processor ≡ m.number
+  pub adds : added old.journal new.journal ≡ es
   pub room : new.journal.room ≡ old.journal.room
   pub told : (f : Finds m old) → IsTold m.sizes ((m.seen ++ f.rest) ++ es) new
   pub explained : (f : Finds m old) → Explained ((m.seen ++ f.rest) ++ es)

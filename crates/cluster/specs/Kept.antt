@@ -1,11 +1,11 @@
 -- What the book's lock keeps.
-use Rattle.std.specs.Prelude.{ℕ, ◌≡◌, ◌≢◌, ◌*◌, ◌/◌, ◌≤◌, Some, List, [], ◌++◌, length, slice_get}
+use Rattle.std.specs.Prelude.{ℕ, ◌≡◌, ◌≢◌, ◌*◌, ◌/◌, ◌≤◌, Some, List, [], ◌++◌, drop, length, slice_get}
 use Rattle.journal.specs.declared.event.Event.{Event}
 use Rattle.journal.specs.Sizes.{Sizes}
 use Rattle.journal.specs.Events.{At}
 use Rattle.journal.specs.Loads.{Explained}
 use Rattle.journal.specs.Counted.{AreCounted}
-use Rattle.journal.specs.Log.{HoldsHistory}
+use Rattle.journal.specs.Log.{Log}
 use Rattle.lists.specs.Limits.{most_events, most_in_block}
 use Rattle.book.specs.State.{State}
 use Rattle.book.specs.Told.{IsTold}
@@ -51,7 +51,16 @@ pub record IsKept (s : Sizes) (h : List Event) (b : State) (views : List View) :
 abbrev pub Kept : State → List View → Type 0
 Kept b views = (s : Sizes) × (h : List Event) × IsKept s h b views
 
--- who leaves this book has seen what its journal holds
-pub record Sees (b : State) (old new : View) : Type 0 where
+-- the events by which the new journal goes on from the old one
+abbrev pub added : Log → Log → List Event
+added old new = drop (length old.events) new.events
+
+-- who found this book, with its view at place p, and leaves the new one, has seen a history that was kept there, and the
+-- events that the new book has beyond it
+pub record Sees (found left : State) (p : ℕ) (old new : View) : Type 0 where
+  pub history : List Event
+  pub views : List View
+  pub at : slice_get views p ≡ Some old
+  pub kept : IsKept old.shape history found views
   pub shape : new.shape ≡ old.shape
-  pub seen : HoldsHistory b.journal new.seen
+  pub seen : new.seen ≡ history ++ added found.journal left.journal

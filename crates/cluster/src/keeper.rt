@@ -28,7 +28,7 @@ impl Keeper<Book> for Rule {
     ghost nobody = { nothing_seen (record { processors = 0; pages = 0; words = 0; locks = 0; flags = 0 }) };
 }
 
-/// Of each call that enters: the processor has seen the journal that it leaves.
+/// Of each call that enters: the processor has seen what it found, and the events of its own that it leaves there.
 pub(crate) struct Looking;
 
 impl Outcome<Book, View> for Looking {
