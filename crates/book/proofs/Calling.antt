@@ -5,3 +5,4 @@ pub mod Takes
 pub mod Releases
 pub mod Arrivals
 pub mod Posting
+pub mod Cutting

@@ -19,6 +19,7 @@ use Rattle.book.specs.State.{State, time_of}
 use Rattle.book.specs.Stamps.{IsStamp}
 use Rattle.book.specs.News.{missing_in}
 use Rattle.book.specs.Transitions.{new_book, handed_in, handed_last, book_asked, book_released, book_arrived, book_set, book_watched, book_took}
+use Rattle.book.specs.Cutting.{WasBookCut}
 use Rattle.book.specs.Told.{IsTold}
 
 -- the event is a load, a store or a fetch of p within the sizes
@@ -94,6 +95,10 @@ MessageLaw = (s : Sizes) (h : List Event) (b : State) (p : ℕ) (k : Kind) (m : 
 abbrev pub TakeLaw : Type 0
 TakeLaw = (s : Sizes) (h : List Event) (b : State) (p : ℕ) (k : Kind) (m : Letter) → IsTold s h b → slice_get b.awaits p ≡ Some (Some k) → message_for b p k ≡ Some m
     → IsTold s (did h p k) (book_took b p k m)
+
+-- a cut, after which the same history tells the book
+abbrev pub CutLaw : Type 0
+CutLaw = (s : Sizes) (h : List Event) (old new : State) → IsTold s h old → WasBookCut old new → IsTold s h new
 
 -- what a taking brings of page n is news of it
 abbrev pub NewsLaw : Type 0

@@ -10,6 +10,7 @@ pub mod Transitions
 pub mod Told
 pub mod News
 pub mod Brought
+pub mod Cutting
 pub mod Laws
 pub mod Holding
 pub mod Calls

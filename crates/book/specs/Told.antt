@@ -12,7 +12,7 @@ use Rattle.book.specs.Mail.{IsMail}
 use Rattle.book.specs.Meetings.{IsBarrier}
 use Rattle.book.specs.Flags.{IsFlag}
 use Rattle.book.specs.ClosedIntervals.{AreClosed, IsWithin, IsTight}
-use Rattle.journal.specs.Log.{HoldsHistory}
+use Rattle.journal.specs.Log.{Log, HoldsRest}
 use Rattle.book.specs.State.{State}
 
 -- the book is one of a cluster of these sizes
@@ -22,11 +22,16 @@ pub record HasSizes (s : Sizes) (b : State) : Type 0 where
   pub addresses : b.journal.addresses ≡ addresses s
   pub lockers : b.locks.processors ≡ s.processors
 
+-- the journal holds what is left of this history after some of it was cut off
+pub record HoldsSome (log : Log) (h : List Event) : Type 0 where
+  pub taken : List Event
+  pub rest : HoldsRest log taken h
+
 -- the book is told by the history
 pub record IsTold (s : Sizes) (h : List Event) (b : State) : Type 0 where
   pub well_formed : WellFormed s h
   pub sizes : HasSizes s b
-  pub holds : HoldsHistory b.journal h
+  pub holds : HoldsSome b.journal h
   pub closed : AreClosed s h b.closed
   pub times : AreAll s.processors (λ p t. IsStamp s.processors h (InPast h p) t) b.times
   pub locks : AreAll s.locks (IsLock s.processors h) b.locks.locks

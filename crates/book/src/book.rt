@@ -5,17 +5,19 @@ ghost use Rattle.lists.specs.Limits.{most_events, most_in_block, most_processors
 ghost use Rattle.journal.specs.declared.event.Event.{Event as AnEvent};
 ghost use Rattle.journal.specs.Sizes.{Sizes};
 ghost use Rattle.journal.specs.WellFormed.{Ready};
+ghost use Rattle.journal.specs.Cutting.{IsCutFault};
 ghost use Rattle.interval.specs.Intervals.{HasRisingPages};
 ghost use Rattle.interval.specs.Closings.{is_of_page};
 ghost use Rattle.transit.specs.Letters.{letter};
 ghost use Rattle.book.specs.Brought.{brought};
+ghost use Rattle.book.specs.Cutting.{WasBookCut};
 ghost use Rattle.book.specs.Calls.{MayFlush, MayCall, MayAsk, MayRelease, MayTakeSome, MayLook, Takes};
 ghost use Rattle.book.specs.Transitions.{new_book, handed_in, handed_last, book_watched, book_set, book_asked, book_released, book_arrived};
 ghost use Rattle.book.specs.Told.{IsTold};
 
 use crate::protocol::Protocol;
 use crate::refused::Refused;
-use journal::{Event, Journal};
+use journal::{CutFault, Event, Journal};
 use page::Record;
 use std::alloc::{AllocError, Global};
 use std::marker::Model;
@@ -218,6 +220,18 @@ impl Book {
         ensures { self.new ≡ handed_last self.old block.now }
     {
         self.protocol.last(p, block)
+    }
+
+    /// Cuts off the journal's events up to the last arrival of the last complete episode, as
+    /// [`Journal::cut`] does and with its faults, and leaves all else: locks, flags, timestamps, the kept
+    /// intervals, messages, and the room for what is owing. The history stays the one that it was. After an
+    /// error all is as before.
+    pub fn cut(&mut self) -> Result<(), CutFault>
+        ensures ok { OnOk result (WasBookCut self.old self.new) }
+        ensures err { OnErr result (self.new ≡ self.old) }
+        ensures fault { IfErr result (IsCutFault self.old.journal) }
+    {
+        self.protocol.cut()
     }
 
     /// Whether the journal has the 2^20 events that it may have, so that a take, which would add one, is refused.

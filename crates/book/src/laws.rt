@@ -1,6 +1,6 @@
 //! The laws of the transitions, as contracts of functions that do nothing: the check proves each by
 //! its name.
-ghost use Rattle.book.specs.Laws.{NewLaw, HandInLaw, LastLaw, AskLaw, ReleaseLaw, ArriveLaw, SetLaw, WatchLaw, TakeLaw, MessageLaw, NewsLaw, NewsOrderLaw};
+ghost use Rattle.book.specs.Laws.{NewLaw, HandInLaw, LastLaw, AskLaw, ReleaseLaw, ArriveLaw, SetLaw, WatchLaw, TakeLaw, CutLaw, MessageLaw, NewsLaw, NewsOrderLaw};
 
 /// An empty book is told by the empty history.
 pub fn new_law()
@@ -45,6 +45,11 @@ pub fn watch_law()
 /// The same of a take, with the trim after it.
 pub fn take_law()
     ensures { TakeLaw }
+{}
+
+/// A book that is told by a history is told by the same history after its journal was cut.
+pub fn cut_law()
+    ensures { CutLaw }
 {}
 
 /// What has come for a processor lets it go on, and brings it what it lacks.

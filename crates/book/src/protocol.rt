@@ -4,8 +4,10 @@ ghost use Rattle.lists.specs.Limits.{most_events, most_in_block, most_processors
 ghost use Rattle.std.specs.Arc.{arc_value};
 ghost use Rattle.journal.specs.Events.{is_closing};
 ghost use Rattle.book.specs.Awaiting.{kind_of};
+ghost use Rattle.journal.specs.Cutting.{IsCutFault};
 ghost use Rattle.interval.specs.Intervals.{HasRisingPages};
 ghost use Rattle.book.specs.Brought.{brought};
+ghost use Rattle.book.specs.Cutting.{WasBookCut};
 ghost use Rattle.book.specs.Calls.{MayFlush, MayCall, MayAsk, MayRelease, IsOpen, MayBeSent, MayTakeSome, Takes};
 ghost use Rattle.book.specs.Transitions.{new_book, handed_in, handed_last, open_interval, closing, due, granted, left, set_at, book_watched, book_set, book_asked, book_released, book_arrived, departures_after};
 ghost use Rattle.book.specs.State.{time_of};
@@ -29,7 +31,7 @@ use crate::room::{LIMIT, append_all, make_room};
 use crate::trims::trim;
 use barrier::{Barrier, Stage};
 use interval::{Closed, Interval};
-use journal::{Event, Journal, Kind};
+use journal::{CutFault, Event, Journal, Kind};
 use lockq::Locks;
 use page::Record;
 use std::alloc::{AllocError, Global};
@@ -351,6 +353,15 @@ impl Protocol {
     {
         append_all(&mut self.journal, block);
         self.owing -= block.len();
+    }
+
+    /// What `Book::cut` says.
+    pub(crate) fn cut(&mut self) -> Result<(), CutFault>
+        ensures ok { OnOk result (WasBookCut self.old self.new) }
+        ensures err { OnErr result (self.new ≡ self.old) }
+        ensures fault { IfErr result (IsCutFault self.old.journal) }
+    {
+        self.journal.cut()
     }
 
     /// The open interval of `p`, with what it stored.

@@ -1,4 +1,5 @@
 //! Why a call is refused.
+use journal::CutFault;
 use std::alloc::AllocError;
 use thiserror::Error;
 
@@ -51,6 +52,31 @@ pub enum Refused {
     /// A size of the cluster is out of range.
     #[error("size out of range")]
     BadSize,
+    /// The events at these places of the part to be cut off race: its first race.
+    #[error("events {0} and {1} race")]
+    Racy(usize, usize),
+    /// The journal has no complete episode of the barrier.
+    #[error("no complete episode")]
+    NoEpisode,
+    /// More than 2^30 events would be cut off in all.
+    #[error("too many events cut off")]
+    BaseFull,
+}
+
+impl From<CutFault> for Refused {
+    ghost use Rattle.std.specs.Prelude.{◌≡◌};
+    ghost use Rattle.book.specs.Cutting.{refused_by};
+
+    ghost from_gives = { λ f r. r ≡ refused_by f };
+
+    fn from(fault: CutFault) -> Refused {
+        match fault {
+            CutFault::Racy(first, second) => Refused::Racy(first, second),
+            CutFault::NoEpisode => Refused::NoEpisode,
+            CutFault::BaseFull => Refused::BaseFull,
+            CutFault::NoMemory => Refused::NoMemory,
+        }
+    }
 }
 
 impl From<AllocError> for Refused {
@@ -88,6 +114,9 @@ mod tests {
             (Refused::SeatSpent, "lock entries spent"),
             (Refused::NoMemory, "out of memory"),
             (Refused::BadSize, "size out of range"),
+            (Refused::Racy(3, 8), "events 3 and 8 race"),
+            (Refused::NoEpisode, "no complete episode"),
+            (Refused::BaseFull, "too many events cut off"),
         ];
         for (refused, text) in texts {
             let told = format!(in rt.alloc(); "{refused}")?;

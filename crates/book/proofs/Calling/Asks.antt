@@ -30,6 +30,13 @@ use Rattle.book.proofs.Calling.Calls.{standing, same_default}
 own_ticked : (b : State) (p : ℕ) → p < length b.times → slice_index_or (slice_set b.times p (tick (time_of b p) p)) p [] ≡ tick (time_of b p) p
 own_ticked b p lt = get_or-set_same b.times p (tick (time_of b p) p) [] lt
 
+-- p has a timestamp after its closing event
+pub still_timed : (old b : State) (p : ℕ) (k : Kind) (block : List Event) (records : List Changes) → MayCall old p block → b ≡ closing (handed_in old block) p k records → p < length b.times
+still_timed old b p k block records may is =
+    let same = ap (λ (x : State). length x.times) is ∙ length-set old.times p (tick (time_of old p) p) in
+    let lt = (standing old p block may).times in
+    omega arith
+
 -- a flag and p's timestamp, as they are read after a closing call
 pub record IsSetRead (old : State) (p f : ℕ) (o : Option (List ℕ)) (t : List ℕ) : Type 0 where
   pub flag : o ≡ slice_index_or old.flags f None

@@ -10,7 +10,7 @@ use Rattle.journal.specs.declared.event.Kind.{Kind}
 use Rattle.journal.specs.declared.event.Kind.TheVariants.{Load, Store, Fetch, Ask, Acquire, Release, Arrive, Depart, Set}
 use Rattle.journal.specs.Sizes.{Sizes}
 use Rattle.journal.specs.Events.{At, is_arrive, is_depart, is_closing, is_taking}
-use Rattle.journal.specs.Log.{Log, HoldsHistory}
+use Rattle.journal.specs.Log.{Log}
 use Rattle.journal.specs.WellFormed.{KindInRange, Allowed, MayFollow}
 use Rattle.journal.specs.Waits.{awaited, IsIdle}
 use Rattle.journal.specs.Pasts.{InPast, UpToSome}
@@ -29,7 +29,7 @@ use Rattle.book.specs.Mail.{IsPosted, IsMail}
 use Rattle.book.specs.Flags.{IsFlag}
 use Rattle.book.specs.State.{State}
 use Rattle.book.specs.Transitions.{new_book, appended, handed_in, least, trimmed_by}
-use Rattle.book.specs.Told.{IsTold}
+use Rattle.book.specs.Told.{HoldsSome, IsTold}
 use Rattle.book.specs.Laws.{IsInner}
 use Rattle.book.proofs.Parts.Each.{each_kept, each_own, each_replicate}
 use Rattle.book.proofs.Parts.Doings.{awaited_on, awaited_now}
@@ -115,7 +115,7 @@ plain_kind (Fetch w n r d) t c = record { awaits = refl; arrives = refl; departs
 plain_kind _ t c = absurd cc
 
 -- a book with another journal that holds the history
-pub told_journal : (s : Sizes) (h : List Event) (b : State) (log : Log) → (log.processors ≡ b.journal.processors) × (log.addresses ≡ b.journal.addresses) → HoldsHistory log h → IsTold s h b → IsTold s h (record b { journal = log })
+pub told_journal : (s : Sizes) (h : List Event) (b : State) (log : Log) → (log.processors ≡ b.journal.processors) × (log.addresses ≡ b.journal.addresses) → HoldsSome log h → IsTold s h b → IsTold s h (record b { journal = log })
 told_journal s h b log same holds told = record {
   well_formed = told.well_formed;
   sizes = record { processors = same.0 ∙ told.sizes.processors; words = told.sizes.words; addresses = same.1 ∙ told.sizes.addresses; lockers = told.sizes.lockers };
@@ -133,7 +133,7 @@ told_journal s h b log same holds told = record {
 }
 
 -- one load, store or fetch
-told_quiet : (s : Sizes) (h : List Event) (b : State) (p : ℕ) (k : Kind) (log : Log) → (log.processors ≡ b.journal.processors) × (log.addresses ≡ b.journal.addresses) → IsTold s h b → slice_get b.awaits p ≡ Some None → is_taking k ≡ false → is_closing k ≡ false → KindInRange s k → HoldsHistory log (did h p k) → IsTold s (did h p k) (record b { journal = log })
+told_quiet : (s : Sizes) (h : List Event) (b : State) (p : ℕ) (k : Kind) (log : Log) → (log.processors ≡ b.journal.processors) × (log.addresses ≡ b.journal.addresses) → IsTold s h b → slice_get b.awaits p ≡ Some None → is_taking k ≡ false → is_closing k ≡ false → KindInRange s k → HoldsSome log (did h p k) → IsTold s (did h p k) (record b { journal = log })
 told_quiet s h b p k log same told idle takes closes range holds = record {
   well_formed = still_formed s h b p k told may;
   sizes = record { processors = same.0 ∙ told.sizes.processors; words = told.sizes.words; addresses = same.1 ∙ told.sizes.addresses; lockers = told.sizes.lockers };

@@ -7,6 +7,8 @@ use Rattle.lists.proofs.Places.{push_induction}
 use Rattle.journal.specs.declared.event.Event.{Event}
 use Rattle.journal.specs.declared.event.Kind.TheVariants.{Acquire, Release}
 use Rattle.journal.specs.Sizes.{Sizes}
+use Rattle.journal.specs.Log.{Log}
+use Rattle.journal.specs.HistoryLaws.{IsOf}
 use Rattle.journal.specs.Events.{At, is_closing, is_taking}
 use Rattle.journal.specs.WellFormed.{Holds}
 use Rattle.journal.proofs.Order.Places.{at_longer, at_last}
@@ -14,8 +16,8 @@ use Rattle.journal.specs.Did.{did}
 use Rattle.book.specs.State.{State}
 use Rattle.book.specs.Transitions.{handed_in, handed_last, took, book_took}
 use Rattle.book.specs.Told.{IsTold}
-use Rattle.book.specs.Laws.{IsInner, MayHandIn, NewLaw, HandInLaw, LastLaw, AskLaw, ReleaseLaw, ArriveLaw, SetLaw, WatchLaw, TakeLaw, MessageLaw, NewsLaw, NewsOrderLaw}
-use Rattle.book.proofs.Parts.History.{history_room}
+use Rattle.book.specs.Laws.{IsInner, MayHandIn, NewLaw, HandInLaw, LastLaw, AskLaw, ReleaseLaw, ArriveLaw, SetLaw, WatchLaw, TakeLaw, CutLaw, MessageLaw, NewsLaw, NewsOrderLaw}
+use Rattle.book.proofs.Parts.History.{history_room, history_cut}
 use Rattle.book.proofs.Parts.Loose.{tightened, least_few}
 use Rattle.book.proofs.Parts.Tight.{tight_trimmed}
 use Rattle.book.proofs.Parts.Told.{is_processor}
@@ -84,6 +86,15 @@ take_law s h b p k m told waits is =
     let first = next.closed.first_long in
     let trimmed = told_trimmed s (did h p k) (took b p k m) (length (took b p k m).times) (omega arith) next in
     tightened s (did h p k) (book_took b p k m) trimmed (tight_trimmed b.closed (took b p k m).times (length (took b p k m).times) (omega arith) (omega arith) (λ q less. least_few s (did h p k) (took b p k m) q next (omega arith)))
+
+pub cut_law : CutLaw
+cut_law s h old new told was =
+    let left = was.journal.left in
+    let processors = ap (λ (l : Log). l.processors) left in
+    let addresses_are = ap (λ (l : Log). l.addresses) left in
+    let sizes : IsOf s old.journal = record { processors = told.sizes.processors; addresses_are = told.sizes.addresses } in
+    let holds = history_cut s h old.journal new.journal sizes told.well_formed told.holds was.journal in
+    subst (λ (b : State). IsTold s h b) (sym was.others) (told_journal s h old new.journal (processors, addresses_are) holds told)
 
 pub message_law : MessageLaw
 message_law s h b p k m told waits is = message_is s h b p k m told waits is

@@ -4,7 +4,6 @@ use Rattle.journal.specs.declared.event.Event.{Event}
 use Rattle.journal.specs.Sizes.{Sizes}
 use Rattle.journal.specs.WellFormed.{WellFormed}
 use Rattle.journal.specs.Pasts.{InPast}
-use Rattle.journal.specs.Log.{HoldsHistory}
 use Rattle.interval.specs.Closings.{between}
 use Rattle.transit.specs.Letters.{Letter}
 use Rattle.book.specs.Stamps.{AreAll, IsStamp, IsAwaited}
@@ -15,7 +14,7 @@ use Rattle.book.specs.Flags.{IsFlag}
 use Rattle.book.specs.ClosedIntervals.{AreClosed, IsWithin, IsTight}
 use Rattle.book.specs.State.{State, time_of}
 use Rattle.book.specs.Transitions.{least}
-use Rattle.book.specs.Told.{HasSizes, IsTold}
+use Rattle.book.specs.Told.{HasSizes, HoldsSome, IsTold}
 use Rattle.book.proofs.Parts.Each.{item_at}
 use Rattle.book.proofs.Parts.ClosedIntervals.{least_le}
 
@@ -23,7 +22,7 @@ use Rattle.book.proofs.Parts.ClosedIntervals.{least_le}
 pub record IsLoose (s : Sizes) (h : List Event) (b : State) : Type 0 where
   pub well_formed : WellFormed s h
   pub sizes : HasSizes s b
-  pub holds : HoldsHistory b.journal h
+  pub holds : HoldsSome b.journal h
   pub closed : AreClosed s h b.closed
   pub times : AreAll s.processors (λ p t. IsStamp s.processors h (InPast h p) t) b.times
   pub locks : AreAll s.locks (IsLock s.processors h) b.locks.locks
