@@ -11,13 +11,13 @@ use Rattle.book.specs.State.{State}
 use Rattle.book.specs.Told.{IsTold}
 use Rattle.cluster.specs.declared.keeper.View.{View}
 
--- a processor of a cluster of these sizes has seen this
-abbrev pub view_of : Sizes → List Event → View
-view_of s seen = record { shape = s; seen = seen }
+-- a processor of a cluster of these sizes has seen this, of which so many events were cut off
+abbrev pub view_of : Sizes → List Event → ℕ → View
+view_of s seen cut = record { shape = s; seen = seen; cut = cut }
 
 -- and before its first call nothing
 abbrev pub nothing_seen : Sizes → View
-nothing_seen s = view_of s []
+nothing_seen s = view_of s [] 0
 
 -- the sizes of the cluster whose book it is
 abbrev pub sizes_of : State → Sizes
@@ -37,14 +37,15 @@ pub record GoesOn (s : Sizes) (h : List Event) (p : ℕ) (v : View) : Type 0 whe
   pub away : (k : ℕ) (e : Event) → At rest k e → e.processor ≢ p
 
 -- the history tells the book, its loads are explained and its fetches count their gaps, and it goes on from
--- what each processor has seen
+-- what each processor has seen, who knows of no more cut off than was
 pub record IsKept (s : Sizes) (h : List Event) (b : State) (views : List View) : Type 0 where
   pub told : IsTold s h b
   pub explained : Explained h
   pub counted : AreCounted s h
-  pub few : length h ≤ most_events
+  pub few : length b.journal.events ≤ most_events
   pub all : length views ≡ s.processors
   pub each : (p : ℕ) (v : View) → slice_get views p ≡ Some v → GoesOn s h p v
+  pub behind : (p : ℕ) (v : View) → slice_get views p ≡ Some v → v.cut ≤ b.journal.base.cut
   pub owing : b.journal.room ≡ most_in_block * s.processors
 
 -- some history is kept so
@@ -64,3 +65,4 @@ pub record Sees (found left : State) (p : ℕ) (old new : View) : Type 0 where
   pub kept : IsKept old.shape history found views
   pub shape : new.shape ≡ old.shape
   pub seen : new.seen ≡ history ++ added found.journal left.journal
+  pub cut : new.cut ≡ left.journal.base.cut
