@@ -90,7 +90,7 @@ module _ (c : Shared) (ms : List Local) (cs : List (ChairToken State View)) (bs 
   all_blocks = record { all = are.blocks_are; each = λ p m block at there. (let x = parts p m at in (x.apart block there).block_is) }
 
   module _ (b : State) (some : 0 < c.sizes.processors) (kept : Kept b (map view cs)) where
-    goes : (p : ℕ) (m : Local) → slice_get ms p ≡ Some m → GoesOn kept.0 kept.1 p (view_of m.sizes m.seen)
+    goes : (p : ℕ) (m : Local) → slice_get ms p ≡ Some m → GoesOn kept.0 kept.1 p (view_of m.sizes m.seen m.cut)
     goes p m at =
         let x = parts p m at in
         let a = x.apart x.block x.block_at in
@@ -123,6 +123,7 @@ module _ (c : Shared) (ms : List Local) (cs : List (ChairToken State View)) (bs 
 pub finished : (s : Sizes) (ms : List Local) (h : List Event) (b : State) (j : Log) → IsFinishing s ms (length ms) h b → j ≡ record b.journal { room = j.room } → IsFinished s ms j
 finished s ms h b j fin same = record {
   history = h;
+  taken = fin.told.holds.taken;
   journal = journal_of s h b j fin.told same;
   faithful = faithful s h fin.told.well_formed fin.explained fin.counted;
   each = λ p m at. fin.done p m (slice_get_within ms p m at) at;

@@ -17,26 +17,25 @@ use Rattle.book.specs.Transitions.{handed_in}
 use Rattle.book.specs.declared.refused.Refused.{Refused}
 use Rattle.book.specs.declared.refused.Refused.TheVariants.{JournalFull}
 use Rattle.book.proofs.Keeps.Whole.{ask_law, release_law, arrive_law, set_law, watch_law}
-use Rattle.turn.specs.Chairs.{view}
 use Rattle.turn.specs.declared.chair.ChairToken.{ChairToken}
 use Rattle.vtime.specs.Times.{tick}
 use Rattle.replicas.specs.Copies.{Copied}
 use Rattle.replicas.specs.Local.{Local, calls}
 use Rattle.replicas.specs.Records.{AreHarvests, DirtyAreMarked}
-use Rattle.replicas.specs.Sound.{IsSound}
+use Rattle.replicas.specs.Sound.{IsSound, most_seen}
 use Rattle.replicas.specs.Steps.{found, handed, closed, cleaned, held_after}
 use Rattle.replicas.proofs.Calls.{called_sound}
 use Rattle.replicas.proofs.Locks.{held_mark}
 use Rattle.replicas.proofs.Records.{harvest_contents}
 use Rattle.cluster.specs.declared.keeper.View.{View}
-use Rattle.cluster.specs.Kept.{Sees}
 use Rattle.cluster.specs.Seats.{IsSeated}
 use Rattle.cluster.specs.Calls.{IsCall, Nothing}
 use Rattle.cluster.specs.Closing.{MayMake, MayHold, MayClose, IsClosedBy, book_closed}
 use Rattle.cluster.specs.Entering.{Finds, IsCallOf, entered}
 use Rattle.cluster.proofs.Finding.{here_sound, may_hand_in, may_call}
 use Rattle.cluster.proofs.Handing.{fits_else, calls_handed}
-use Rattle.cluster.proofs.Visiting.{Visit, HasLeft, local_on}
+use Rattle.cluster.proofs.Histories.{told_few}
+use Rattle.cluster.proofs.Visiting.{Visit, HasLeft, HasSeen, local_on}
 use Rattle.cluster.proofs.Made.{entered_sound, now_is, now_seated, call_done}
 use Rattle.cluster.proofs.Leaving.{call_of_nothing, call_of_event}
 
@@ -86,6 +85,24 @@ room_closed (Set f) b p records = refl
 room_closed (Watch f) b p records = refl
 room_closed _ b p records = refl
 
+-- the journal goes on with the event
+events_closed : (k : Kind) → is_closing k ≡ true → (b : State) (p : ℕ) (records : List Changes) → (book_closed k b p records).journal.events ≡ b.journal.events ++ event p k ∷ []
+events_closed (Ask l) closes b p records = refl
+events_closed (Release l) closes b p records = refl
+events_closed Arrive closes b p records = refl
+events_closed (Set f) closes b p records = refl
+events_closed (Watch f) closes b p records = refl
+events_closed _ closes b p records = absurd (true≢false (sym closes))
+
+-- nothing is cut off
+cut_closed : (k : Kind) (b : State) (p : ℕ) (records : List Changes) → (book_closed k b p records).journal.base.cut ≡ b.journal.base.cut
+cut_closed (Ask l) b p records = refl
+cut_closed (Release l) b p records = refl
+cut_closed Arrive b p records = refl
+cut_closed (Set f) b p records = refl
+cut_closed (Watch f) b p records = refl
+cut_closed _ b p records = refl
+
 closing_no_load : (k : Kind) → is_closing k ≡ true → (a v : ℕ) → k ≢ Load a v
 closing_no_load k closes a v is = true≢false (sym closes ∙ ap is_closing is)
 
@@ -95,7 +112,7 @@ closing_no_fetch k closes w n r d is = true≢false (sym closes ∙ ap is_closin
 module _ (m : Local) (sound : IsSound m) (b : State) (k : Kind) (may : MayMake m k) (records : List Changes) (are : AreHarvests m.copies records) where
   -- it is a call of p
   pub call_of_closing : length b.journal.events + length m.block + 1 ≤ most_events → IsCallOf m b (m.block ++ event m.number k ∷ []) (book_closed k (handed_in b m.block) m.number records)
-  call_of_closing fits = call_of_event m sound b k (book_closed k (handed_in b m.block) m.number records) (closing_no_load k may.closes) (closing_no_fetch k may.closes) fits (room_closed k (handed_in b m.block) m.number records) (λ f. told_closed m sound b f k records may are)
+  call_of_closing fits = call_of_event m sound b k (book_closed k (handed_in b m.block) m.number records) (closing_no_load k may.closes) (closing_no_fetch k may.closes) fits (events_closed k may.closes (handed_in b m.block) m.number records ∙ append_assoc b.journal.events m.block (event m.number k ∷ [])) (room_closed k (handed_in b m.block) m.number records) (cut_closed k (handed_in b m.block) m.number records) (λ f. told_closed m sound b f k records may are)
 
   -- whatever the book answers
   pub call_of_close : {A : Type 0} (r : Result A Refused) (block : List Event) (new : State) → block ≡ m.block → OnOk r (new ≡ book_closed k (handed_in b block) m.number records) → OnErr r (new ≡ b) → r ≡ Err JournalFull ↔ (most_events < length b.journal.events + length block + 1) → (es : List Event) × IsCallOf m b es new
@@ -109,7 +126,7 @@ calls_closed m k sound = rw (append-nil, filter-append, eq-eqb m.number m.number
 module _ (v : Visit) (after : ChairToken State View) (left : HasLeft v.mid after) (k : Kind) (may : MayMake v.was k) (records : List Changes)
     (are : AreHarvests v.was.copies records) (new : State)
     (is : new ≡ book_closed k (handed_in v.book v.was.block) v.was.number records)
-    (fits : length v.book.journal.events + length v.was.block + 1 ≤ most_events) (sees : Sees new (view v.mid) (view after)) where
+    (fits : length v.book.journal.events + length v.was.block + 1 ≤ most_events) (sees : HasSeen v new after) where
   -- the processor after its interval was closed
   abbrev closed_now : Local
   closed_now = local_on after v.was [] (map cleaned v.was.copies) (replicate 64 false) (tick v.was.time v.was.number) (held_after k v.was.held) (awaited k)
@@ -119,16 +136,16 @@ module _ (v : Visit) (after : ChairToken State View) (left : HasLeft v.mid after
   closed_ends =
       let was = v.was in
       let call = call_of_closing was v.sound v.book k may records are fits in
-      let seen = subst (λ (n : State). Sees n (view v.mid) (view after)) is sees in
+      let seen = subst (λ (n : State). HasSeen v n after) is sees in
       let es = was.block ++ event v.was.number k ∷ [] in
       let last = book_closed k (handed_in v.book was.block) was.number records in
       let moved : ((was.seen ++ v.finds.rest) ++ es) ≡ did ((was.seen ++ v.finds.rest) ++ was.block) was.number k = sym (append_assoc (was.seen ++ v.finds.rest) was.block (event v.was.number k ∷ [])) in
-      let same : closed_now ≡ closed (handed (entered was v.finds.rest)) k = now_is v after left es last call seen [] (map cleaned was.copies) (replicate 64 false) (tick was.time was.number) (held_after k was.held) (awaited k) ∙ ap (λ (h : List Event). record (entered was v.finds.rest) { seen = h; block = []; copies = map cleaned was.copies; stored = replicate 64 false; time = tick was.time was.number; held = held_after k was.held; awaits = awaited k }) moved in
-      let before = entered_sound was v.book v.sound v.finds in
+      let same : closed_now ≡ closed (handed (entered was v.finds.rest last.journal.base.cut)) k = now_is v after left es last call seen [] (map cleaned was.copies) (replicate 64 false) (tick was.time was.number) (held_after k was.held) (awaited k) ∙ ap (λ (h : List Event). record (entered was v.finds.rest last.journal.base.cut) { seen = h; block = []; copies = map cleaned was.copies; stored = replicate 64 false; time = tick was.time was.number; held = held_after k was.held; awaits = awaited k }) moved in
+      let before = entered_sound was v.book v.sound v.finds last.journal.base.cut in
       let P : List Event → Type 0 = λ h. WellFormed was.sizes h in
-      let Q : List Event → Type 0 = λ h. length h ≤ most_events in
-      let good = subst IsSound (sym same) (called_sound (entered was v.finds.rest) k before may.closes may.in_range (subst P moved (call.told v.finds).well_formed) (subst Q moved (call.few v.finds))) in
-      let all : calls closed_now ≡ calls (entered was v.finds.rest) ++ event v.was.number k ∷ [] = ap calls same ∙ calls_closed (entered was v.finds.rest) k before in (
+      let Q : List Event → Type 0 = λ h. length h ≤ most_seen in
+      let good = subst IsSound (sym same) (called_sound (entered was v.finds.rest last.journal.base.cut) k before may.closes may.in_range (subst P moved (call.told v.finds).well_formed) (subst Q moved (told_few v.was.sizes ((was.seen ++ v.finds.rest) ++ es) last (call.told v.finds) (call.few v.finds)))) in
+      let all : calls closed_now ≡ calls (entered was v.finds.rest last.journal.base.cut) ++ event v.was.number k ∷ [] = ap calls same ∙ calls_closed (entered was v.finds.rest last.journal.base.cut) k before in (
         good,
         now_seated v after left es last call seen [] (map cleaned was.copies) (replicate 64 false) (tick was.time was.number) (held_after k was.held) (awaited k),
         λ first many free. call_done v after left es last call seen [] (map cleaned was.copies) (replicate 64 false) (tick was.time was.number) (held_after k was.held) (awaited k) first many Nothing (IsClosedBy k) (event v.was.number k ∷ []) free good same all,

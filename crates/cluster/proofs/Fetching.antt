@@ -19,7 +19,6 @@ use Rattle.journal.proofs.Copies.OpenBlocks.{with_page_same, with_page_other}
 use Rattle.journal.proofs.Copies.Pages.{stale_fetched, stale_counted, answers_fetched}
 use Rattle.journal.proofs.Intervals.Contents.{content_within}
 use Rattle.journal.proofs.Intervals.Dirty.{dirty_push, dirty_replaced}
-use Rattle.lists.specs.Limits.{most_events}
 use Rattle.lists.specs.Places.{Has, InOrder}
 use Rattle.lists.specs.Records.{records_applied}
 use Rattle.lists.proofs.Joined.{has-map, in_order_tail, in_order-nil}
@@ -32,12 +31,14 @@ use Rattle.page.specs.Contents.{IsClean}
 use Rattle.replicas.specs.declared.replica.Counts.{Counts}
 use Rattle.book.specs.News.{missing_of}
 use Rattle.replicas.specs.Copies.{Copied, words_of, fetched, IsReplica, IsOwner, AllFit}
-use Rattle.replicas.specs.Counts.{AreCounts}
+use Rattle.replicas.specs.Counts.{AreCounts, AreCountable}
 use Rattle.replicas.specs.Local.{Local}
 use Rattle.cluster.specs.Accesses.{AreNewest, fetched_at}
 use Rattle.cluster.specs.Refusals.{fetch_refusal}
 use Rattle.replicas.specs.Sound.{IsSound}
 use Rattle.cluster.proofs.Newest.{newest}
+use Rattle.cluster.proofs.Stored.{stored_few}
+use Rattle.journal.proofs.Missing.Fetches.{words_counted}
 use Rattle.replicas.proofs.Replicas.{replica_long, replica_pushed}
 use Rattle.cluster.proofs.Refusing.{MayFetch, may_fetch, stale_copy}
 use Rattle.replicas.proofs.Steps.{item_at}
@@ -79,10 +80,9 @@ module _ (m : Local) (sound : IsSound m) (n : ℕ) (c : Copied) (at : slice_get 
       within w there = content_within m.sizes m.seen x.notice.owner x.notice.number n w.0 w.1 (words_of x) sound.sizes.some_words content there
 
   -- they are few, since each is another closed interval
-  pub missing_few : length c.missing ≤ most_events
+  missing_few : length c.missing ≤ length m.seen
   missing_few =
       let closed = count_by-le-length (λ (e : Event). is_closing e.kind) m.seen in
-      let few = sound.few in
       let all = rising_few (λ (x : Missing). x.place) (map missing_of c.missing) 0 (closed_count m.seen) (omega arith) (sound.copies.each n c at).order (λ x h. (omega arith, below x h)) in
       let same = length-map c.missing missing_of in
       omega arith
@@ -100,6 +100,15 @@ module _ (m : Local) (sound : IsSound m) (n : ℕ) (c : Copied) (at : slice_get 
 
   sums_same : sum_by (λ (x : Missing). length x.words) (map missing_of c.missing) ≡ sum_by (λ (x : SentRecord). length (words_of x)) c.missing
   sums_same = sym (sum-map (λ (x : Missing). length x.words) (map missing_of c.missing)) ∙ ap sum (map-map (λ (x : Missing). length x.words) missing_of c.missing) ∙ sum-map (λ (x : SentRecord). length (words_of x)) c.missing
+
+  -- and so are their words, since each is another store of what was seen
+  pub missing_countable : AreCountable c.missing
+  missing_countable =
+      let few = sound.few in
+      let records = missing_few in
+      let all = stored_few m.sizes m.seen m.number n (sum_by (λ (x : Missing). length x.words) (map missing_of c.missing)) (words_counted m.sizes m.seen m.number n (map missing_of c.missing) stale.lacks (sound.copies.each n c at).order) in
+      let same = sums_same in
+      record { records = omega arith; words = omega arith }
 
   owners_same : (q : ℕ) → IsOwner c.missing q ↔ ((x : Missing) × Has (map missing_of c.missing) x × (x.owner ≡ q))
   owners_same q = ((λ h. (missing_of h.0, missing_here h.0 h.1, h.2)), λ h. let y = (has-map missing_of c.missing h.0).0 h.1 in (y.0, y.1, ap (λ (x : Missing). x.owner) y.2 ∙ h.2))

@@ -15,6 +15,7 @@ use Rattle.replicas.specs.Sound.{IsSound}
 use Rattle.replicas.specs.Steps.{found}
 use Rattle.replicas.proofs.Entering.{found_sound}
 use Rattle.cluster.specs.Entering.{Finds}
+use Rattle.cluster.proofs.Histories.{told_few}
 
 -- what p awaits is one thing
 pub awaited_once : (h : List Event) (p : ℕ) (v w : Option Kind) → IsAwaited h p v → IsAwaited h p w → v ≡ w
@@ -36,7 +37,7 @@ module _ (m : Local) (sound : IsSound m) (b : State) (f : Finds m b) where
   here = found m f.rest
 
   pub here_sound : IsSound (found m f.rest)
-  here_sound = found_sound m f.rest sound f.away f.kept.told.well_formed f.kept.few
+  here_sound = found_sound m f.rest sound f.away f.kept.told.well_formed (told_few m.sizes (m.seen ++ f.rest) b f.kept.told f.kept.few)
 
   pub awaits_found : slice_get b.awaits m.number ≡ Some m.awaits
   awaits_found =

@@ -10,21 +10,19 @@ use Rattle.book.specs.State.{State}
 use Rattle.book.specs.Transitions.{handed_in}
 use Rattle.book.specs.declared.refused.Refused.{Refused}
 use Rattle.book.specs.declared.refused.Refused.TheVariants.{NotYet, JournalFull, NoMemory}
-use Rattle.turn.specs.Chairs.{view}
 use Rattle.turn.specs.declared.chair.ChairToken.{ChairToken}
 use Rattle.replicas.specs.Steps.{handed}
 use Rattle.replicas.proofs.HandingIn.{handed_sound}
 use Rattle.replicas.specs.Local.{Local, calls}
 use Rattle.replicas.specs.Sound.{IsSound}
 use Rattle.cluster.specs.declared.keeper.View.{View}
-use Rattle.cluster.specs.Kept.{Sees}
 use Rattle.cluster.specs.Seats.{IsSeated}
 use Rattle.cluster.specs.Calls.{IsCall, IsHanded, Nothing}
 use Rattle.cluster.specs.Entering.{IsCallOf, entered}
 use Rattle.cluster.proofs.Leaving.{call_of_nothing, call_of_block}
-use Rattle.cluster.specs.Histories.{IsAudit}
-use Rattle.cluster.proofs.Histories.{faithful, journal_of}
-use Rattle.cluster.proofs.Visiting.{Visit, HasLeft, local_on}
+use Rattle.cluster.specs.Histories.{IsAudit, IsJournalOf}
+use Rattle.cluster.proofs.Histories.{faithful, journal_of, taken_is, told_few}
+use Rattle.cluster.proofs.Visiting.{Visit, HasLeft, HasSeen, local_on}
 use Rattle.cluster.proofs.Made.{entered_sound, now_is, now_seated, call_done}
 
 -- what isn't refused for want of room has room
@@ -55,7 +53,7 @@ pub calls_handed : (m : Local) → IsSound m → calls (handed m) ≡ calls m
 calls_handed m sound = rw (filter-append, part_own m.block m.number (λ k e at. (sound.inner k e at).mine), append-nil) refl
 
 module _ (v : Visit) (after : ChairToken State View) (left : HasLeft v.mid after) (new : State) (is : new ≡ handed_in v.book v.was.block)
-    (fits : length v.book.journal.events + length v.was.block ≤ most_events) (sees : Sees new (view v.mid) (view after)) where
+    (fits : length v.book.journal.events + length v.was.block ≤ most_events) (sees : HasSeen v new after) where
   -- the processor after its block was handed in
   abbrev handed_now : Local
   handed_now = local_on after v.was [] v.was.copies v.was.stored v.was.time v.was.held v.was.awaits
@@ -64,11 +62,11 @@ module _ (v : Visit) (after : ChairToken State View) (left : HasLeft v.mid after
   pub handed_ends : IsSound handed_now × IsSeated after v.was.number v.was.sizes × ((first : Option Refused) (many : ℕ) → first ≡ None → IsCall first many Nothing IsHanded [] v.was handed_now None)
   handed_ends =
       let call = call_of_block v.was v.sound v.book fits in
-      let seen = subst (λ (n : State). Sees n (view v.mid) (view after)) is sees in
-      let same : handed_now ≡ handed (entered v.was v.finds.rest) = now_is v after left v.was.block (handed_in v.book v.was.block) call seen [] v.was.copies v.was.stored v.was.time v.was.held v.was.awaits in
-      let before = entered_sound v.was v.book v.sound v.finds in
-      let good = subst IsSound (sym same) (handed_sound (entered v.was v.finds.rest) before (call.told v.finds).well_formed (call.few v.finds)) in
-      let all : calls handed_now ≡ calls (entered v.was v.finds.rest) ++ [] = ap calls same ∙ calls_handed (entered v.was v.finds.rest) before ∙ sym (append-nil (calls (entered v.was v.finds.rest))) in (
+      let seen = subst (λ (n : State). HasSeen v n after) is sees in
+      let same : handed_now ≡ handed (entered v.was v.finds.rest v.book.journal.base.cut) = now_is v after left v.was.block (handed_in v.book v.was.block) call seen [] v.was.copies v.was.stored v.was.time v.was.held v.was.awaits in
+      let before = entered_sound v.was v.book v.sound v.finds v.book.journal.base.cut in
+      let good = subst IsSound (sym same) (handed_sound (entered v.was v.finds.rest v.book.journal.base.cut) before (call.told v.finds).well_formed (told_few v.was.sizes ((v.was.seen ++ v.finds.rest) ++ v.was.block) (handed_in v.book v.was.block) (call.told v.finds) (call.few v.finds))) in
+      let all : calls handed_now ≡ calls (entered v.was v.finds.rest v.book.journal.base.cut) ++ [] = ap calls same ∙ calls_handed (entered v.was v.finds.rest v.book.journal.base.cut) before ∙ sym (append-nil (calls (entered v.was v.finds.rest v.book.journal.base.cut))) in (
         good,
         now_seated v after left v.was.block (handed_in v.book v.was.block) call seen [] v.was.copies v.was.stored v.was.time v.was.held v.was.awaits,
         λ first many free. call_done v after left v.was.block (handed_in v.book v.was.block) call seen [] v.was.copies v.was.stored v.was.time v.was.held v.was.awaits first many Nothing IsHanded [] free good same all,
@@ -78,11 +76,12 @@ module _ (v : Visit) (after : ChairToken State View) (left : HasLeft v.mid after
   pub audit_ends : (j : Log) → j ≡ record new.journal { room = j.room } → IsAudit v.was handed_now j
   audit_ends j same =
       let call = call_of_block v.was v.sound v.book fits in
-      let seen = subst (λ (n : State). Sees n (view v.mid) (view after)) is sees in
+      let seen = subst (λ (n : State). HasSeen v n after) is sees in
       let ends : handed_now.seen ≡ (v.was.seen ++ v.finds.rest) ++ v.was.block = ap (λ (m : Local). m.seen) (now_is v after left v.was.block (handed_in v.book v.was.block) call seen [] v.was.copies v.was.stored v.was.time v.was.held v.was.awaits) in
+      let ends_cut : handed_now.cut ≡ v.book.journal.base.cut = ap (λ (m : Local). m.cut) (now_is v after left v.was.block (handed_in v.book v.was.block) call seen [] v.was.copies v.was.stored v.was.time v.was.held v.was.awaits) in
       let told = call.told v.finds in
       record {
-        journal = rw ends (journal_of v.was.sizes ((v.was.seen ++ v.finds.rest) ++ v.was.block) (handed_in v.book v.was.block) j told (same ∙ ap (λ (x : State). record x.journal { room = j.room }) is));
+        journal = rw (ends, ends_cut) (subst (λ (c : List Event). IsJournalOf v.was.sizes c ((v.was.seen ++ v.finds.rest) ++ v.was.block) j) (taken_is v.was.sizes ((v.was.seen ++ v.finds.rest) ++ v.was.block) (handed_in v.book v.was.block) told) (journal_of v.was.sizes ((v.was.seen ++ v.finds.rest) ++ v.was.block) (handed_in v.book v.was.block) j told (same ∙ ap (λ (x : State). record x.journal { room = j.room }) is)));
         faithful = rw ends (faithful v.was.sizes ((v.was.seen ++ v.finds.rest) ++ v.was.block) told.well_formed (call.explained v.finds) (call.counted v.finds));
         begins = (v.finds.rest ++ v.was.block, ends ∙ append_assoc v.was.seen v.finds.rest v.was.block);
         calls_are = sym (append-nil (part handed_now.seen v.was.number));

@@ -1,5 +1,6 @@
 -- What holds of the histories that a cluster gives out.
-use Rattle.std.proofs.Common.{sym, ◌≡◌, List, ap, ◌∙◌}
+use Rattle.std.proofs.Common.{ℕ, sym, ◌≡◌, ◌≤◌, ◌+◌, List, length, take, length-append, ap, ap₂, subst, ◌∙◌, arith}
+use Rattle.std.proofs.Math.Seq.{take-append_seam}
 use Rattle.journal.specs.declared.event.Event.{Event}
 use Rattle.journal.specs.declared.event.Kind.TheVariants.{Load}
 use Rattle.journal.specs.Did.{event}
@@ -7,8 +8,9 @@ use Rattle.journal.specs.Sizes.{Sizes, addresses}
 use Rattle.journal.specs.WellFormed.{WellFormed}
 use Rattle.journal.specs.Loads.{Explained}
 use Rattle.journal.specs.Counted.{AreCounted}
-use Rattle.journal.specs.Base.{no_base}
-use Rattle.journal.specs.Log.{Log}
+use Rattle.journal.specs.Log.{Log, HoldsRest}
+use Rattle.lists.specs.Limits.{most_events}
+use Rattle.replicas.specs.Sound.{most_seen}
 use Rattle.journal.proofs.Flat.FlatMemory.{flat_up_to}
 use Rattle.book.specs.State.{State}
 use Rattle.book.specs.Told.{IsTold}
@@ -23,10 +25,29 @@ faithful s h well explained counted = record {
   flat = λ k none. flat_up_to (addresses s) h k (λ i p a v does. (well i (event p (Load a v)) does).in_range) explained none;
 }
 
+-- a history that tells a book has the events cut off, and the journal's
+pub told_long : (s : Sizes) (h : List Event) (b : State) → IsTold s h b → length h ≡ b.journal.base.cut + length b.journal.events
+told_long s h b told =
+    let long = ap length told.holds.rest.history in
+    let both = length-append told.holds.taken b.journal.events in
+    let cut = told.holds.rest.base.after.cut in
+    omega arith
+
+-- so it is short
+pub told_few : (s : Sizes) (h : List Event) (b : State) → IsTold s h b → length b.journal.events ≤ most_events → length h ≤ most_seen
+told_few s h b told few = let long = told_long s h b told in let cut = told.holds.rest.few in omega arith
+
 -- a journal like that of a book that the history tells
-pub journal_of : (s : Sizes) (h : List Event) (b : State) (j : Log) → IsTold s h b → j ≡ record b.journal { room = j.room } → IsJournalOf s h j
+pub journal_of : (s : Sizes) (h : List Event) (b : State) (j : Log) (told : IsTold s h b) → j ≡ record b.journal { room = j.room } → IsJournalOf s told.holds.taken h j
 journal_of s h b j told same = record {
   processors = ap (λ (x : Log). x.processors) same ∙ told.sizes.processors;
   addresses_are = ap (λ (x : Log). x.addresses) same ∙ told.sizes.addresses;
-  holds = record { whole = ap (λ (x : Log). x.base) same ∙ told.holds.whole ∙ ap (λ (x : Log). no_base x.addresses) (sym same); history = ap (λ (x : Log). x.events) same ∙ told.holds.history };
+  holds = subst (λ (l : Log). HoldsRest l told.holds.taken h) (sym same) (record { history = told.holds.rest.history; base = told.holds.rest.base; few = told.holds.rest.few });
 }
+
+-- what was cut off is its beginning
+pub taken_is : (s : Sizes) (h : List Event) (b : State) (told : IsTold s h b) → told.holds.taken ≡ take b.journal.base.cut h
+taken_is s h b told =
+    let cut = told.holds.rest.base.after.cut in
+    let long : length told.holds.taken ≡ b.journal.base.cut = omega arith in
+    sym (ap₂ (λ (n : ℕ) (xs : List Event). take n xs) (sym long) told.holds.rest.history ∙ take-append_seam told.holds.taken b.journal.events)

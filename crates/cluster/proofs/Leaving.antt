@@ -1,13 +1,15 @@
 -- A call of one processor keeps what the book's lock keeps, whatever the others have seen.
-use Rattle.std.proofs.Common.{ℕ, ◌≡◌, ◌≢◌, ◌≤◌, ◌+◌, Some, List, [], ◌∷◌, ◌++◌, length, slice_get, slice_set, inl, inr, refl, sym, ap, subst, ◌∙◌, append_assoc, append-nil, arith}
+use Rattle.std.proofs.Common.{ℕ, ◌≡◌, ◌≢◌, ◌≤◌, ◌+◌, Some, List, [], ◌∷◌, ◌++◌, drop, length, slice_get, slice_set, inl, inr, refl, sym, ap, subst, ◌∙◌, append_assoc, append-nil, arith}
 use Rattle.std.proofs.lemmas.Bool.{cases_eq}
 use Rattle.std.proofs.lemmas.Option.{none-some}
 use Rattle.std.proofs.lemmas.List.{length-append, length-set}
+use Rattle.std.proofs.Math.Seq.{drop-append_seam}
 use Rattle.journal.specs.declared.event.Event.{Event}
 use Rattle.journal.specs.declared.event.Kind.{Kind}
 use Rattle.journal.specs.declared.event.Kind.TheVariants.{Load, Fetch}
 use Rattle.journal.specs.Did.{event, did}
 use Rattle.journal.specs.Sizes.{Sizes}
+use Rattle.journal.specs.Log.{Log}
 use Rattle.journal.specs.Events.{At}
 use Rattle.journal.specs.Loads.{Explained}
 use Rattle.journal.specs.Counted.{AreCounted}
@@ -23,22 +25,22 @@ use Rattle.book.proofs.Keeps.Whole.{hand_in_law}
 use Rattle.replicas.specs.Local.{Local}
 use Rattle.replicas.specs.Sound.{IsSound}
 use Rattle.cluster.specs.declared.keeper.View.{View}
-use Rattle.cluster.specs.Kept.{GoesOn, IsKept, Kept, Sees, view_of}
+use Rattle.cluster.specs.Kept.{GoesOn, IsKept, Kept, Sees, added, view_of}
 use Rattle.cluster.specs.Covers.{IsCovered}
 use Rattle.cluster.specs.Entering.{Finds, IsCallOf}
 use Rattle.cluster.proofs.Covering.{covered_on}
 use Rattle.cluster.proofs.Finding.{may_give}
 
-module _ (s : Sizes) (h : List Event) (b : State) (views : List View) (kept : IsKept s h b views) (p : ℕ) (es : List Event) (mine : (k : ℕ) (e : Event) → At es k e → e.processor ≡ p) where
+module _ (s : Sizes) (h : List Event) (b : State) (views : List View) (kept : IsKept s h b views) (p : ℕ) (es : List Event) (mine : (k : ℕ) (e : Event) → At es k e → e.processor ≡ p) (cut : ℕ) where
   -- p has seen all, and for the others it is one of those that went on
-  goes_on : (q : ℕ) (x : View) → slice_get (slice_set views p (view_of s (h ++ es))) q ≡ Some x → GoesOn s (h ++ es) q x
+  goes_on : (q : ℕ) (x : View) → slice_get (slice_set views p (view_of s (h ++ es) cut)) q ≡ Some x → GoesOn s (h ++ es) q x
   goes_on q x found = elim (cases_eq q p) [
     | inl same ↦
-        (let P : ℕ → Type 0 = λ k. slice_get (slice_set views p (view_of s (h ++ es))) k ≡ Some x in
-        let is : view_of s (h ++ es) ≡ x = slice_get-set_found views p (view_of s (h ++ es)) x (subst P same found) in
+        (let P : ℕ → Type 0 = λ k. slice_get (slice_set views p (view_of s (h ++ es) cut)) k ≡ Some x in
+        let is : view_of s (h ++ es) cut ≡ x = slice_get-set_found views p (view_of s (h ++ es) cut) x (subst P same found) in
         subst (GoesOn s (h ++ es) q) is (record { shape = refl; rest = []; begins = sym (append-nil (h ++ es)); away = λ k e at. absurd (none-some e at) }))
     | inr other ↦
-        (let goes = kept.each q x (sym (slice_get-set_other views p q (view_of s (h ++ es)) other) ∙ found) in
+        (let goes = kept.each q x (sym (slice_get-set_other views p q (view_of s (h ++ es) cut) other) ∙ found) in
         record {
           shape = goes.shape;
           rest = goes.rest ++ es;
@@ -50,47 +52,79 @@ module _ (s : Sizes) (h : List Event) (b : State) (views : List View) (kept : Is
         })
   ]
 
-  pub kept_on : (c : State) → IsTold s (h ++ es) c → Explained (h ++ es) → AreCounted s (h ++ es) → length (h ++ es) ≤ most_events → c.journal.room ≡ b.journal.room → IsKept s (h ++ es) c (slice_set views p (view_of s (h ++ es)))
-  kept_on c told explained counted few room = record {
+  -- nobody knows of more cut off than was
+  behind_on : (c : ℕ) → b.journal.base.cut ≤ c → cut ≤ c → (q : ℕ) (x : View) → slice_get (slice_set views p (view_of s (h ++ es) cut)) q ≡ Some x → x.cut ≤ c
+  behind_on c more mine q x found = elim (cases_eq q p) [
+    | inl same ↦
+        (let P : ℕ → Type 0 = λ k. slice_get (slice_set views p (view_of s (h ++ es) cut)) k ≡ Some x in
+        let is : view_of s (h ++ es) cut ≡ x = slice_get-set_found views p (view_of s (h ++ es) cut) x (subst P same found) in
+        subst (λ (v : View). v.cut ≤ c) is mine)
+    | inr other ↦ (let le = kept.behind q x (sym (slice_get-set_other views p q (view_of s (h ++ es) cut) other) ∙ found) in omega arith)
+  ]
+
+  pub kept_on : (c : State) → IsTold s (h ++ es) c → Explained (h ++ es) → AreCounted s (h ++ es) → length c.journal.events ≤ most_events → c.journal.room ≡ b.journal.room → b.journal.base.cut ≤ c.journal.base.cut → cut ≤ c.journal.base.cut → IsKept s (h ++ es) c (slice_set views p (view_of s (h ++ es) cut))
+  kept_on c told explained counted few room more mine = record {
     told = told;
     explained = explained;
     counted = counted;
     few = few;
-    all = length-set views p (view_of s (h ++ es)) ∙ kept.all;
+    all = length-set views p (view_of s (h ++ es) cut) ∙ kept.all;
     each = goes_on;
+    behind = behind_on c.journal.base.cut more mine;
     owing = room ∙ kept.owing;
   }
 
 -- what p finds, where the lock's fact holds with what p has seen
-abbrev pub finds : (m : Local) (b : State) (views : List View) → slice_get views m.number ≡ Some (view_of m.sizes m.seen) → Kept b views → Finds m b
+abbrev pub finds : (m : Local) (b : State) (views : List View) → slice_get views m.number ≡ Some (view_of m.sizes m.seen m.cut) → Kept b views → Finds m b
 finds m b views at fact =
     let s = fact.0 in
     let h = fact.1 in
-    let goes = fact.2.each m.number (view_of m.sizes m.seen) at in
+    let goes = fact.2.each m.number (view_of m.sizes m.seen m.cut) at in
     let P : Sizes → Type 0 = λ z. IsKept z h b views in
     let Q : List Event → Type 0 = λ xs. IsKept m.sizes xs b views in
     record { rest = goes.rest; views = views; away = goes.away; at = at; kept = subst Q goes.begins (subst P (sym goes.shape) fact.2) }
 
 -- the call keeps the fact
-pub call_kept : (m : Local) (old : State) (es : List Event) (new : State) → IsCallOf m old es new → (f : Finds m old) → IsKept m.sizes ((m.seen ++ f.rest) ++ es) new (slice_set f.views m.number (view_of m.sizes ((m.seen ++ f.rest) ++ es)))
-call_kept m old es new call f = kept_on m.sizes (m.seen ++ f.rest) old f.views f.kept m.number es call.mine new (call.told f) (call.explained f) (call.counted f) (call.few f) call.room
+pub call_kept : (m : Local) (old : State) (es : List Event) (new : State) → IsCallOf m old es new → (f : Finds m old) → IsKept m.sizes ((m.seen ++ f.rest) ++ es) new (slice_set f.views m.number (view_of m.sizes ((m.seen ++ f.rest) ++ es) new.journal.base.cut))
+call_kept m old es new call f = kept_on m.sizes (m.seen ++ f.rest) old f.views f.kept m.number es call.mine new.journal.base.cut new (call.told f) (call.explained f) (call.counted f) (call.few f) call.room call.more (omega arith)
 
 -- so p may leave the new book
-pub may_leave : (m : Local) (old : State) (es : List Event) (new : State) → IsCallOf m old es new → (views : List View) → slice_get views m.number ≡ Some (view_of m.sizes m.seen) → Kept old views → (w : View) × Sees new (view_of m.sizes m.seen) w × Kept new (slice_set views m.number w)
+pub may_leave : (m : Local) (old : State) (es : List Event) (new : State) → IsCallOf m old es new → (views : List View) → slice_get views m.number ≡ Some (view_of m.sizes m.seen m.cut) → Kept old views → (w : View) × Sees old new m.number (view_of m.sizes m.seen m.cut) w × Kept new (slice_set views m.number w)
 may_leave m old es new call views at fact =
     let f = finds m old views at fact in
-    let h = (m.seen ++ f.rest) ++ es in
-    (view_of m.sizes h, record { shape = refl; seen = (call.told f).holds }, (m.sizes, h, call_kept m old es new call f))
+    let h = (m.seen ++ f.rest) ++ es in (
+      view_of m.sizes h new.journal.base.cut,
+      record {
+        history = m.seen ++ f.rest;
+        views = views;
+        at = at;
+        kept = f.kept;
+        shape = refl;
+        seen = ap (λ (xs : List Event). (m.seen ++ f.rest) ++ xs) (sym call.adds);
+        cut = refl;
+      },
+      (m.sizes, h, call_kept m old es new call f),
+    )
+
+-- a journal that goes on with these events
+adds_events : (old new : Log) (es : List Event) → new.events ≡ old.events ++ es → added old new ≡ es
+adds_events old new es is = ap (λ (xs : List Event). drop (length old.events) xs) is ∙ drop-append_seam old.events es
+
+-- and with none
+adds_nothing : (log : Log) → added log log ≡ []
+adds_nothing log = adds_events log log [] (sym (append-nil log.events))
 
 -- a call that changes nothing
 pub call_of_nothing : (m : Local) (b : State) → IsCallOf m b [] b
 call_of_nothing m b = record {
   mine = λ k e at. absurd (none-some e at);
+  adds = adds_nothing b.journal;
   room = refl;
   told = λ f. rw append-nil f.kept.told;
   explained = λ f. rw append-nil f.kept.explained;
   counted = λ f. rw append-nil f.kept.counted;
-  few = λ f. rw append-nil f.kept.few;
+  few = λ f. f.kept.few;
+  more = omega arith;
 }
 
 module _ (m : Local) (sound : IsSound m) (b : State) where
@@ -98,38 +132,44 @@ module _ (m : Local) (sound : IsSound m) (b : State) where
   covered f = covered_on m sound f.rest f.away f.kept.told.well_formed f.kept.explained f.kept.counted
 
   -- the events that the journal has then are as many
-  few_then : (n : ℕ) (es : List Event) → length b.journal.events + n ≤ most_events → length es ≡ n → (f : Finds m b) → length ((m.seen ++ f.rest) ++ es) ≤ most_events
-  few_then n es fits long f = let all = length-append (m.seen ++ f.rest) es in let here = ap length f.kept.told.holds.history in omega arith
+  few_then : (n : ℕ) (es : List Event) (new : State) → length b.journal.events + n ≤ most_events → length es ≡ n → new.journal.events ≡ b.journal.events ++ es → length new.journal.events ≤ most_events
+  few_then n es new fits long goes = let all = ap length goes in let both = length-append b.journal.events es in omega arith
 
   -- the block is handed in
   pub call_of_block : length b.journal.events + length m.block ≤ most_events → IsCallOf m b m.block (handed_in b m.block)
   call_of_block fits = record {
     mine = λ k e at. (sound.inner k e at).mine;
+    adds = adds_events b.journal (handed_in b m.block).journal m.block refl;
     room = refl;
     told = λ f. hand_in_law m.sizes (m.seen ++ f.rest) m.block b m.number f.kept.told (may_give m sound b f);
     explained = λ f. (covered f).explained;
     counted = λ f. (covered f).counted;
-    few = few_then (length m.block) m.block fits refl;
+    few = λ _. few_then (length m.block) m.block (handed_in b m.block) fits refl refl;
+    more = omega arith;
   }
 
   -- the block, and an event after it that is neither a load nor a fetch
-  pub call_of_event : (k : Kind) (new : State) → ((a v : ℕ) → k ≢ Load a v) → ((w n r d : ℕ) → k ≢ Fetch w n r d) → length b.journal.events + length m.block + 1 ≤ most_events → new.journal.room ≡ b.journal.room → ((f : Finds m b) → IsTold m.sizes (did ((m.seen ++ f.rest) ++ m.block) m.number k) new) → IsCallOf m b (m.block ++ event m.number k ∷ []) new
-  call_of_event k new no_load no_fetch fits room told = record {
+  pub call_of_event : (k : Kind) (new : State) → ((a v : ℕ) → k ≢ Load a v) → ((w n r d : ℕ) → k ≢ Fetch w n r d) → length b.journal.events + length m.block + 1 ≤ most_events → new.journal.events ≡ b.journal.events ++ (m.block ++ event m.number k ∷ []) → new.journal.room ≡ b.journal.room → new.journal.base.cut ≡ b.journal.base.cut → ((f : Finds m b) → IsTold m.sizes (did ((m.seen ++ f.rest) ++ m.block) m.number k) new) → IsCallOf m b (m.block ++ event m.number k ∷ []) new
+  call_of_event k new no_load no_fetch fits goes room cut told = record {
     mine = λ i e at. elim (push_cases m.block (event m.number k) i e at) [ inl h ↦ (sound.inner i e h.1).mine | inr h ↦ ap (λ (x : Event). x.processor) (sym h.1) ];
+    adds = adds_events b.journal new.journal (m.block ++ event m.number k ∷ []) goes;
     room = room;
     told = λ f. rw (← append_assoc (m.seen ++ f.rest) m.block (event m.number k ∷ [])) (told f);
     explained = λ f. rw (← append_assoc (m.seen ++ f.rest) m.block (event m.number k ∷ [])) (explained_push ((m.seen ++ f.rest) ++ m.block) (event m.number k) (covered f).explained (λ p a v is. absurd (no_load a v (ap (λ (x : Event). x.kind) is))));
     counted = λ f. rw (← append_assoc (m.seen ++ f.rest) m.block (event m.number k ∷ [])) (counted_push m.sizes ((m.seen ++ f.rest) ++ m.block) (event m.number k) (λ p n w r d is. absurd (no_fetch w n r d (ap (λ (x : Event). x.kind) is))) (covered f).counted);
-    few = few_then (length m.block + 1) (m.block ++ event m.number k ∷ []) (omega arith) (length-append m.block (event m.number k ∷ []));
+    few = λ _. few_then (length m.block + 1) (m.block ++ event m.number k ∷ []) new (omega arith) (length-append m.block (event m.number k ∷ [])) goes;
+    more = (let same = cut in omega arith);
   }
 
   -- an event alone that is neither
-  pub call_of_event_alone : (k : Kind) (new : State) → ((a v : ℕ) → k ≢ Load a v) → ((w n r d : ℕ) → k ≢ Fetch w n r d) → length b.journal.events + 1 ≤ most_events → new.journal.room ≡ b.journal.room → ((f : Finds m b) → IsTold m.sizes (did (m.seen ++ f.rest) m.number k) new) → IsCallOf m b (event m.number k ∷ []) new
-  call_of_event_alone k new no_load no_fetch fits room told = record {
+  pub call_of_event_alone : (k : Kind) (new : State) → ((a v : ℕ) → k ≢ Load a v) → ((w n r d : ℕ) → k ≢ Fetch w n r d) → length b.journal.events + 1 ≤ most_events → new.journal.events ≡ b.journal.events ++ event m.number k ∷ [] → new.journal.room ≡ b.journal.room → new.journal.base.cut ≡ b.journal.base.cut → ((f : Finds m b) → IsTold m.sizes (did (m.seen ++ f.rest) m.number k) new) → IsCallOf m b (event m.number k ∷ []) new
+  call_of_event_alone k new no_load no_fetch fits goes room cut told = record {
     mine = λ i e at. elim (push_cases [] (event m.number k) i e at) [ inl h ↦ absurd (none-some e h.1) | inr h ↦ ap (λ (x : Event). x.processor) (sym h.1) ];
+    adds = adds_events b.journal new.journal (event m.number k ∷ []) goes;
     room = room;
     told = told;
     explained = λ f. explained_push (m.seen ++ f.rest) (event m.number k) f.kept.explained (λ p a v is. absurd (no_load a v (ap (λ (x : Event). x.kind) is)));
     counted = λ f. counted_push m.sizes (m.seen ++ f.rest) (event m.number k) (λ p n w r d is. absurd (no_fetch w n r d (ap (λ (x : Event). x.kind) is))) f.kept.counted;
-    few = few_then 1 (event m.number k ∷ []) fits refl;
+    few = λ _. few_then 1 (event m.number k ∷ []) new fits refl goes;
+    more = (let same = cut in omega arith);
   }

@@ -1,6 +1,7 @@
 pub mod Refusing
 pub mod Newest
 pub mod Noting
+pub mod Stored
 pub mod Fetching
 pub mod Covering
 pub mod Finding
@@ -12,6 +13,7 @@ pub mod Handing
 pub mod ClosingCalls
 pub mod Admitting
 pub mod TakingCalls
+pub mod CuttingCalls
 pub mod Preparing
 pub mod FinishingCalls
 pub mod Apart

@@ -1,5 +1,5 @@
 -- The start: processors before their first calls, and the book.
-use Rattle.std.proofs.Common.{ℕ, ◌≡◌, ◌<◌, ◌↔◌, Bool, true, false, true≢false, Option, Some, None, List, [], ◌∷◌, ◌++◌, length, replicate, slice_get, slice_index, inl, inr, refl, sym, ap, subst, subst₂, add-zero, arith}
+use Rattle.std.proofs.Common.{◌≤◌, ℕ, ◌≡◌, ◌<◌, ◌↔◌, Bool, true, false, true≢false, Option, Some, None, List, [], ◌∷◌, ◌++◌, length, replicate, slice_get, slice_index, inl, inr, refl, sym, ap, subst, subst₂, add-zero, arith}
 use Rattle.std.proofs.Math.Nat.{mul-div_cancel}
 use Rattle.std.proofs.lemmas.List.{length-replicate}
 use Rattle.std.proofs.lemmas.Option.{none-some, slice_get_within}
@@ -82,6 +82,7 @@ start_kept s some = record {
   few = omega arith;
   all = length-replicate s.processors (nothing_seen s);
   each = λ p v at. subst (GoesOn s [] p) (slice_get-replicate_found s.processors (nothing_seen s) v p at) (record { shape = refl; rest = []; begins = refl; away = λ k e at. absurd (none-some e at) });
+  behind = λ p v at. subst (λ (x : View). x.cut ≤ 0) (slice_get-replicate_found s.processors (nothing_seen s) v p at) (omega arith);
   owing = refl;
 }
 
@@ -94,7 +95,7 @@ pub start_allowed : (l : LockId) (p : ℕ) (s : Sizes) → p < s.processors → 
 start_allowed l p s mine = record { book = new_book s; views = replicate s.processors (nothing_seen s); mine = slice_get-replicate s.processors (nothing_seen s) p mine; kept = start_kept s (omega arith) }
 
 -- the parts of a new processor
-made : (l : LockId) (e p : ℕ) (s : Sizes) (v : View) (block : List Event) (copies : List Copied) (stored : List Bool) (time : List ℕ) (held : List Bool) → e ≡ 0 → v ≡ nothing_seen s → block ≡ [] → copies ≡ replicate s.pages (blank s) → stored ≡ replicate 64 false → time ≡ replicate s.processors 0 → held ≡ replicate s.locks false → ◌≡◌ {A = Local} (record { lock = l; entries = e; number = p; sizes = s; seen = v.seen; block = block; copies = copies; stored = stored; time = time; held = held; awaits = None }) (new_local l p s)
+made : (l : LockId) (e p : ℕ) (s : Sizes) (v : View) (block : List Event) (copies : List Copied) (stored : List Bool) (time : List ℕ) (held : List Bool) → e ≡ 0 → v ≡ nothing_seen s → block ≡ [] → copies ≡ replicate s.pages (blank s) → stored ≡ replicate 64 false → time ≡ replicate s.processors 0 → held ≡ replicate s.locks false → ◌≡◌ {A = Local} (record { lock = l; entries = e; number = p; sizes = s; seen = v.seen; cut = v.cut; block = block; copies = copies; stored = stored; time = time; held = held; awaits = None }) (new_local l p s)
 made l e p s v block copies stored time held f g a b c d h = rw (f, g, a, b, c, d, h)
 
 pub start_parts : (chair : ChairToken State View) (p : ℕ) (s : Sizes) (block : List Event) (copies : List Copied) (stored : List Bool) (time : List ℕ) (held : List Bool) → IsNewChair (lock chair) s p chair → block ≡ [] → copies ≡ replicate s.pages (blank s) → stored ≡ replicate 64 false → time ≡ replicate s.processors 0 → held ≡ replicate s.locks false → local chair p s block copies stored time held None ≡ new_local (lock chair) p s

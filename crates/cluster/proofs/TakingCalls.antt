@@ -11,7 +11,6 @@ use Rattle.journal.specs.Events.{is_taking, part}
 use Rattle.journal.specs.Missing.{AreNews, InClosingOrder}
 use Rattle.journal.specs.WellFormed.{Allowed}
 use Rattle.lists.specs.Limits.{most_events}
-use Rattle.turn.specs.Chairs.{view}
 use Rattle.turn.specs.declared.chair.ChairToken.{ChairToken}
 use Rattle.lists.specs.Places.{Has}
 use Rattle.page.specs.Contents.{Contents}
@@ -32,20 +31,20 @@ use Rattle.book.specs.declared.refused.Refused.TheVariants.{NotYet, JournalFull}
 use Rattle.book.proofs.Keeps.Whole.{take_law, message_law, news_law, news_order_law}
 use Rattle.replicas.specs.Copies.{Copied}
 use Rattle.replicas.specs.Local.{Local, calls}
-use Rattle.replicas.specs.Sound.{IsSound}
+use Rattle.replicas.specs.Sound.{IsSound, most_seen}
 use Rattle.replicas.specs.Steps.{IsAfterNews, AreAfterNews, AreSameCopies, MayLearn, found, took, held_after}
 use Rattle.replicas.proofs.Calls.{took_message, waits_to_take}
 use Rattle.replicas.proofs.Waiting.{may_learn}
 use Rattle.cluster.specs.declared.keeper.View.{View}
 use Rattle.cluster.specs.Calls.{IsCall}
 use Rattle.cluster.specs.Entering.{Finds, IsCallOf, entered}
-use Rattle.cluster.specs.Kept.{Sees}
 use Rattle.cluster.specs.Seats.{IsSeated}
 use Rattle.cluster.specs.Taking.{IsLate, IsTaken, HasRoomFor, MayHoldOne, awaited_event}
 use Rattle.cluster.proofs.Finding.{here_sound, awaits_found, time_found}
 use Rattle.cluster.proofs.Handing.{fits_else}
+use Rattle.cluster.proofs.Histories.{told_few}
 use Rattle.cluster.proofs.Leaving.{call_of_nothing, call_of_event_alone}
-use Rattle.cluster.proofs.Visiting.{Visit, HasLeft, local_on}
+use Rattle.cluster.proofs.Visiting.{Visit, HasLeft, HasSeen, local_on}
 use Rattle.cluster.proofs.Made.{entered_sound, now_is, now_seated, call_done}
 
 taking_no_load : (k : Kind) → is_taking k ≡ true → (a v : ℕ) → k ≢ Load a v
@@ -78,7 +77,7 @@ module _ (m : Local) (sound : IsSound m) (b : State) (k : Kind) (waits : m.await
   module _ (x : Letter) (come : message_for b m.number k ≡ Some x) where
     -- it is a call of p
     pub call_of_take : length b.journal.events + 1 ≤ most_events → IsCallOf m b (event m.number k ∷ []) (book_took b m.number k x)
-    call_of_take fits = call_of_event_alone m sound b k (book_took b m.number k x) (taking_no_load k takes) (taking_no_fetch k takes) fits refl (λ f. take_law m.sizes (m.seen ++ f.rest) b m.number k x f.kept.told (awaits_kind f) come)
+    call_of_take fits = call_of_event_alone m sound b k (book_took b m.number k x) (taking_no_load k takes) (taking_no_fetch k takes) fits refl refl refl (λ f. take_law m.sizes (m.seen ++ f.rest) b m.number k x f.kept.told (awaits_kind f) come)
 
     module _ (f : Finds m b) where
       pub message : IsMessage m.sizes (m.seen ++ f.rest) b m.number k x
@@ -97,12 +96,12 @@ module _ (m : Local) (sound : IsSound m) (b : State) (k : Kind) (waits : m.await
 
       module _ (copies : List Copied) (after : AreAfterNews m.copies x.notices copies) where
         -- the processor is as it has to be
-        pub taken_sound : length (did (m.seen ++ f.rest) m.number k) ≤ most_events → IsSound (took (entered m f.rest) k x.time copies)
-        taken_sound few = took_message (entered m f.rest) (entered_sound m b sound f) k waits b f.kept.told (awaits_found m sound b f) (time_found m sound b f) x come copies few after
+        pub taken_sound : length (did (m.seen ++ f.rest) m.number k) ≤ most_seen → (cut : ℕ) → IsSound (took (entered m f.rest cut) k x.time copies)
+        taken_sound few cut = took_message (entered m f.rest cut) (entered_sound m b sound f cut) k waits b f.kept.told (awaits_found m sound b f) (time_found m sound b f) x come copies few after
 
         -- and has taken
-        pub taken : IsTaken (entered m f.rest) (took (entered m f.rest) k x.time copies)
-        taken = record { kind = k; waits = waits; allowed = message.allowed; time = x.time; stamp = message.time; sent = x.notices; news = news_taken; told = after; after = refl }
+        pub taken : (cut : ℕ) → IsTaken (entered m f.rest cut) (took (entered m f.rest cut) k x.time copies)
+        taken cut = record { kind = k; waits = waits; allowed = message.allowed; time = x.time; stamp = message.time; sent = x.notices; news = news_taken; told = after; after = refl }
 
 -- the taking is one call more
 calls_taken : (m : Local) (k : Kind) (u : List ℕ) (copies : List Copied) → m.block ≡ [] → calls (took m k u copies) ≡ calls m ++ event m.number k ∷ []
@@ -154,7 +153,7 @@ refused_take e Late P late full = (
 
 module _ (v : Visit) (after : ChairToken State View) (left : HasLeft v.mid after) (k : Kind) (waits : v.was.awaits ≡ Some k) (x : Letter)
     (come : message_for v.book v.was.number k ≡ Some x) (new : State) (is : new ≡ book_took v.book v.was.number k x)
-    (fits : length v.book.journal.events + 1 ≤ most_events) (sees : Sees new (view v.mid) (view after)) (cs : List Copied) (told : AreAfterNews v.was.copies x.notices cs) where
+    (fits : length v.book.journal.events + 1 ≤ most_events) (sees : HasSeen v new after) (cs : List Copied) (told : AreAfterNews v.was.copies x.notices cs) where
   -- the processor after it took
   abbrev taken_now : Local
   taken_now = local_on after v.was v.was.block cs v.was.stored (join v.was.time x.time) (held_after k v.was.held) None
@@ -164,14 +163,14 @@ module _ (v : Visit) (after : ChairToken State View) (left : HasLeft v.mid after
   taken_ends =
       let was = v.was in
       let call = call_of_take was v.sound v.book k waits x come fits in
-      let seen = subst (λ (n : State). Sees n (view v.mid) (view after)) is sees in
+      let seen = subst (λ (n : State). HasSeen v n after) is sees in
       let es = event was.number k ∷ [] in
       let last = book_took v.book was.number k x in
-      let same : taken_now ≡ took (entered was v.finds.rest) k x.time cs = now_is v after left es last call seen was.block cs was.stored (join was.time x.time) (held_after k was.held) None in
-      let good = subst IsSound (sym same) (taken_sound was v.sound v.book k waits x come v.finds cs told (call.few v.finds)) in
-      let done = subst (IsTaken (entered was v.finds.rest)) (sym same) (taken was v.sound v.book k waits x come v.finds cs told) in
+      let same : taken_now ≡ took (entered was v.finds.rest v.book.journal.base.cut) k x.time cs = now_is v after left es last call seen was.block cs was.stored (join was.time x.time) (held_after k was.held) None in
+      let good = subst IsSound (sym same) (taken_sound was v.sound v.book k waits x come v.finds cs told (told_few was.sizes ((was.seen ++ v.finds.rest) ++ es) last (call.told v.finds) (call.few v.finds)) v.book.journal.base.cut) in
+      let done = subst (IsTaken (entered was v.finds.rest v.book.journal.base.cut)) (sym same) (taken was v.sound v.book k waits x come v.finds cs told v.book.journal.base.cut) in
       let quiet : was.block ≡ [] = v.sound.quiet (λ none. none-some k (sym none ∙ waits)) in
-      let all : calls taken_now ≡ calls (entered was v.finds.rest) ++ awaited_event v.was.number v.was.awaits = ap calls same ∙ calls_taken (entered was v.finds.rest) k x.time cs quiet ∙ ap (λ (w : Option Kind). calls (entered was v.finds.rest) ++ awaited_event v.was.number w) (sym waits) in (
+      let all : calls taken_now ≡ calls (entered was v.finds.rest v.book.journal.base.cut) ++ awaited_event v.was.number v.was.awaits = ap calls same ∙ calls_taken (entered was v.finds.rest v.book.journal.base.cut) k x.time cs quiet ∙ ap (λ (w : Option Kind). calls (entered was v.finds.rest v.book.journal.base.cut) ++ awaited_event v.was.number w) (sym waits) in (
         good,
         now_seated v after left es last call seen was.block cs was.stored (join was.time x.time) (held_after k was.held) None,
         λ first free. call_done v after left es last call seen was.block cs was.stored (join was.time x.time) (held_after k was.held) None first 1 IsLate IsTaken (awaited_event v.was.number v.was.awaits) free good done all,

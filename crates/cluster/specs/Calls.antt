@@ -25,7 +25,7 @@ pub record IsRefusedInside (many : ℕ) (absent : Local → Type 0) (old new : L
   pub entered : IsAfter IsSame old new
   pub why : (e ≡ NotYet) ⊎ (e ≡ JournalFull) ⊎ (e ≡ NoMemory)
   pub not_yet : e ≡ NotYet ↔ absent new
-  pub full : ¬ absent new → e ≡ JournalFull ↔ (most_events < length new.seen + many)
+  pub full : ¬ absent new → e ≡ JournalFull ↔ (most_events + new.cut < length new.seen + many)
 
 -- it is the same processor of the same cluster
 pub record IsSameProcessor (old new : Local) : Type 0 where
@@ -40,7 +40,7 @@ pub record IsCall (first : Option Refused) (many : ℕ) (absent : Local → Type
   pub same : IsSameProcessor old new
   pub outside : (e : Refused) → first ≡ Some e → (refused ≡ Some e) × (new ≡ old)
   pub ok : refused ≡ None
-      → IsAfter done old new × (length new.seen ≤ most_events) × (calls new ≡ calls old ++ added)
+      → IsAfter done old new × (length new.seen ≤ most_events + new.cut) × (calls new ≡ calls old ++ added)
   pub err : (e : Refused) → first ≡ None → refused ≡ Some e
       → IsRefusedInside many absent old new e ⊎ ((e ≡ NoMemory) × (new ≡ old))
   pub kept : refused ≢ None → calls new ≡ calls old

@@ -35,10 +35,12 @@ pub record HasCallsOf (h : List Event) (m : Local) : Type 0 where
   pub begins : (rest : List Event) × (h ≡ m.seen ++ rest)
   pub calls_are : part h m.number ≡ calls m
 
--- the journal holds a faithful history with the calls of all processors, and at its end their open blocks in turn
+-- the journal holds what is left, after some of it was cut off, of a faithful history with the calls of all processors,
+-- and at its end their open blocks in turn
 pub record IsFinished (s : Sizes) (ms : List Local) (j : Log) : Type 0 where
   pub history : List Event
-  pub journal : IsJournalOf s history j
+  pub taken : List Event
+  pub journal : IsJournalOf s taken history j
   pub faithful : IsFaithful s history
   pub each : (p : ℕ) (m : Local) → slice_get ms p ≡ Some m → HasCallsOf history m
   pub in_turn : (front : List Event) × (history ≡ front ++ flat_map (λ m. m.block) ms)

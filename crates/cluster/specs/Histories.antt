@@ -8,7 +8,7 @@ use Rattle.journal.specs.Loads.{Explained}
 use Rattle.journal.specs.Counted.{AreCounted}
 use Rattle.journal.specs.Races.{Race}
 use Rattle.journal.specs.Flat.{Replays}
-use Rattle.journal.specs.Log.{Log, HoldsHistory}
+use Rattle.journal.specs.Log.{Log, HoldsRest}
 use Rattle.replicas.specs.Local.{Local, calls}
 
 -- some cluster of these sizes may do this: each load answers a latest store of its past, each fetch counts its gap, and
@@ -19,16 +19,16 @@ pub record IsFaithful (s : Sizes) (h : List Event) : Type 0 where
   pub counted : AreCounted s h
   pub flat : (k : ℕ) → ((i j : ℕ) → j < k → ¬ Race h i j) → Replays (replicate (addresses s) 0) (take k h)
 
--- the journal is of a cluster of these sizes and holds this history
-pub record IsJournalOf (s : Sizes) (h : List Event) (j : Log) : Type 0 where
+-- the journal is of a cluster of these sizes, and holds what is left of this history after c was cut off
+pub record IsJournalOf (s : Sizes) (c h : List Event) (j : Log) : Type 0 where
   pub processors : j.processors ≡ s.processors
   pub addresses_are : j.addresses ≡ addresses s
-  pub holds : HoldsHistory j h
+  pub holds : HoldsRest j c h
 
 -- an audit answers what the processor has seen then, which goes on from what it had seen, and where its own events are
 -- its calls
 pub record IsAudit (old new : Local) (j : Log) : Type 0 where
-  pub journal : IsJournalOf new.sizes new.seen j
+  pub journal : IsJournalOf new.sizes (take new.cut new.seen) new.seen j
   pub faithful : IsFaithful new.sizes new.seen
   pub begins : (rest : List Event) × (new.seen ≡ old.seen ++ rest)
   pub calls_are : part new.seen new.number ≡ calls new

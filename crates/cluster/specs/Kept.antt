@@ -1,23 +1,23 @@
 -- What the book's lock keeps.
-use Rattle.std.specs.Prelude.{ℕ, ◌≡◌, ◌≢◌, ◌*◌, ◌/◌, ◌≤◌, Some, List, [], ◌++◌, length, slice_get}
+use Rattle.std.specs.Prelude.{ℕ, ◌≡◌, ◌≢◌, ◌*◌, ◌/◌, ◌≤◌, Some, List, [], ◌++◌, drop, length, slice_get}
 use Rattle.journal.specs.declared.event.Event.{Event}
 use Rattle.journal.specs.Sizes.{Sizes}
 use Rattle.journal.specs.Events.{At}
 use Rattle.journal.specs.Loads.{Explained}
 use Rattle.journal.specs.Counted.{AreCounted}
-use Rattle.journal.specs.Log.{HoldsHistory}
+use Rattle.journal.specs.Log.{Log}
 use Rattle.lists.specs.Limits.{most_events, most_in_block}
 use Rattle.book.specs.State.{State}
 use Rattle.book.specs.Told.{IsTold}
 use Rattle.cluster.specs.declared.keeper.View.{View}
 
--- a processor of a cluster of these sizes has seen this
-abbrev pub view_of : Sizes → List Event → View
-view_of s seen = record { shape = s; seen = seen }
+-- a processor of a cluster of these sizes has seen this, of which so many events were cut off
+abbrev pub view_of : Sizes → List Event → ℕ → View
+view_of s seen cut = record { shape = s; seen = seen; cut = cut }
 
 -- and before its first call nothing
 abbrev pub nothing_seen : Sizes → View
-nothing_seen s = view_of s []
+nothing_seen s = view_of s [] 0
 
 -- the sizes of the cluster whose book it is
 abbrev pub sizes_of : State → Sizes
@@ -37,21 +37,32 @@ pub record GoesOn (s : Sizes) (h : List Event) (p : ℕ) (v : View) : Type 0 whe
   pub away : (k : ℕ) (e : Event) → At rest k e → e.processor ≢ p
 
 -- the history tells the book, its loads are explained and its fetches count their gaps, and it goes on from
--- what each processor has seen
+-- what each processor has seen, who knows of no more cut off than was
 pub record IsKept (s : Sizes) (h : List Event) (b : State) (views : List View) : Type 0 where
   pub told : IsTold s h b
   pub explained : Explained h
   pub counted : AreCounted s h
-  pub few : length h ≤ most_events
+  pub few : length b.journal.events ≤ most_events
   pub all : length views ≡ s.processors
   pub each : (p : ℕ) (v : View) → slice_get views p ≡ Some v → GoesOn s h p v
+  pub behind : (p : ℕ) (v : View) → slice_get views p ≡ Some v → v.cut ≤ b.journal.base.cut
   pub owing : b.journal.room ≡ most_in_block * s.processors
 
 -- some history is kept so
 abbrev pub Kept : State → List View → Type 0
 Kept b views = (s : Sizes) × (h : List Event) × IsKept s h b views
 
--- who leaves this book has seen what its journal holds
-pub record Sees (b : State) (old new : View) : Type 0 where
+-- the events by which the new journal goes on from the old one
+abbrev pub added : Log → Log → List Event
+added old new = drop (length old.events) new.events
+
+-- who found this book, with its view at place p, and leaves the new one, has seen a history that was kept there, and the
+-- events that the new book has beyond it
+pub record Sees (found left : State) (p : ℕ) (old new : View) : Type 0 where
+  pub history : List Event
+  pub views : List View
+  pub at : slice_get views p ≡ Some old
+  pub kept : IsKept old.shape history found views
   pub shape : new.shape ≡ old.shape
-  pub seen : HoldsHistory b.journal new.seen
+  pub seen : new.seen ≡ history ++ added found.journal left.journal
+  pub cut : new.cut ≡ left.journal.base.cut

@@ -18,6 +18,7 @@ local chair p s block copies stored time held awaits = record {
   number = p;
   sizes = s;
   seen = (view chair).seen;
+  cut = (view chair).cut;
   block = block;
   copies = copies;
   stored = stored;

@@ -5,6 +5,7 @@ ghost use Rattle.cluster.specs.Clusters.{AreParts, AreNewChairs, AreSeated, AreN
 
 mod calls;
 mod closing;
+mod cutting;
 mod entering;
 mod finishing;
 mod handing;

@@ -7,14 +7,15 @@ use journal::Event;
 use std::collections::LinkedList;
 use turn::{ArrayLock, Keeper, Outcome, TicketLock};
 
-/// What one processor knows of the book while it is outside: the sizes of its cluster, and the journal as
-/// its last call that entered left it. No value of it is made.
+/// What one processor knows of the book while it is outside: the sizes of its cluster, the history as its last call
+/// that entered left it, and how many of its first events were cut off then. No value of it is made.
 pub struct View {
     pub shape: Shape,
     pub seen: LinkedList<Event>,
+    pub cut: u64,
 }
 
-/// The keeper of the book: some history is held by the journal and tells everything in the book, each of
+/// The keeper of the book: the journal holds what is left of some history, which tells everything in the book, each of
 /// its loads is explained, and it goes on from what each processor has seen.
 pub struct Rule;
 
@@ -28,7 +29,7 @@ impl Keeper<Book> for Rule {
     ghost nobody = { nothing_seen (record { processors = 0; pages = 0; words = 0; locks = 0; flags = 0 }) };
 }
 
-/// Of each call that enters: the processor has seen the journal that it leaves.
+/// Of each call that enters: the processor has seen what it found, and the events of its own that it leaves there.
 pub(crate) struct Looking;
 
 impl Outcome<Book, View> for Looking {

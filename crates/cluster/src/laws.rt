@@ -1,8 +1,14 @@
 //! Laws, as contracts of functions that do nothing: the check proves each by its name.
-ghost use Rattle.cluster.specs.Laws.{AllowedLaw};
+ghost use Rattle.cluster.specs.Laws.{AllowedLaw, FromBaseLaw};
 
 /// An access changes nothing of which journals the book may have: so by `allowed` of each call that enters, from the
 /// start on there is always one, and what `covers` says of all of them is said of something.
 pub fn allowed_law()
     ensures { AllowedLaw }
+{}
+
+/// What `covers` says of a valid copy by the whole history, it says by the journal from what was kept at its cut, once
+/// the processor has departed since.
+pub fn from_base_law()
+    ensures { FromBaseLaw }
 {}

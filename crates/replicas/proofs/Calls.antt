@@ -13,7 +13,6 @@ use Rattle.journal.specs.WellFormed.{KindInRange, WellFormed}
 use Rattle.journal.specs.Waits.{awaited}
 use Rattle.journal.specs.Missing.{InClosingOrder, AreNews}
 use Rattle.journal.proofs.Journals.WellFormed.{well_formed_front}
-use Rattle.lists.specs.Limits.{most_events}
 use Rattle.vtime.specs.Times.{join}
 use Rattle.interval.specs.Intervals.{SentRecord}
 use Rattle.interval.specs.Closings.{between, is_of_page}
@@ -26,7 +25,7 @@ use Rattle.book.specs.Told.{IsTold}
 use Rattle.book.proofs.Keeps.Whole.{take_law, message_law, news_law, news_order_law}
 use Rattle.replicas.specs.Copies.{Copied}
 use Rattle.replicas.specs.Local.{Local, calls}
-use Rattle.replicas.specs.Sound.{IsSound}
+use Rattle.replicas.specs.Sound.{IsSound, most_seen}
 use Rattle.replicas.specs.Steps.{handed, closed, took, AreSameCopies, AreAfterNews, HaveRoom, MayLearn}
 use Rattle.replicas.proofs.HandingIn.{handed_sound}
 use Rattle.replicas.proofs.Closing.{closed_sound}
@@ -38,7 +37,7 @@ pub called_sound : (m : Local) (k : Kind) → IsSound m
     → is_closing k ≡ true
     → KindInRange m.sizes k
     → WellFormed m.sizes (did (m.seen ++ m.block) m.number k)
-    → length (did (m.seen ++ m.block) m.number k) ≤ most_events
+    → length (did (m.seen ++ m.block) m.number k) ≤ most_seen
     → IsSound (closed (handed m) k)
 called_sound m k sound closes in_range well few =
     let e = event m.number k in
@@ -129,7 +128,7 @@ module _ (m : Local) (sound : IsSound m) (k : Kind) (waits : m.awaits ≡ Some k
               subst P brought_is (omega arith)
 
       -- it takes the message that has come for it, and what that says of each page comes to its copies
-      pub took_message : (copies : List Copied) → length (did m.seen m.number k) ≤ most_events
+      pub took_message : (copies : List Copied) → length (did m.seen m.number k) ≤ most_seen
           → AreAfterNews m.copies x.notices copies
           → IsSound (took m k x.time copies)
       took_message copies few after =

@@ -7,14 +7,13 @@ use Rattle.journal.specs.Events.{is_closing}
 use Rattle.journal.specs.WellFormed.{KindInRange, WellFormed}
 use Rattle.journal.proofs.Copies.Pages.{answers_start}
 use Rattle.journal.proofs.Missing.Counted.{block_counts_start}
-use Rattle.lists.specs.Limits.{most_events}
 use Rattle.turn.proofs.Lists.{at_unmap}
 use Rattle.page.specs.Contents.{IsClean}
 use Rattle.book.proofs.Parts.Doings.{awaited_now}
 use Rattle.book.proofs.Parts.Stamps.{stamp_closing}
 use Rattle.replicas.specs.Copies.{Copied, IsReplica}
 use Rattle.replicas.specs.Local.{Local}
-use Rattle.replicas.specs.Sound.{IsSound}
+use Rattle.replicas.specs.Sound.{IsSound, most_seen}
 use Rattle.replicas.specs.Steps.{cleaned, closed}
 use Rattle.replicas.proofs.Replicas.{closing_takes, replica_closed}
 use Rattle.replicas.proofs.Locks.{held_now}
@@ -25,7 +24,7 @@ pub closed_sound : (m : Local) (k : Kind) → IsSound m → m.block ≡ []
     → is_closing k ≡ true
     → KindInRange m.sizes k
     → WellFormed m.sizes (did m.seen m.number k)
-    → length (did m.seen m.number k) ≤ most_events
+    → length (did m.seen m.number k) ≤ most_seen
     → IsSound (closed m k)
 closed_sound m k sound empty closes in_range well few = record {
   sizes = sound.sizes;

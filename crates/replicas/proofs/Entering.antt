@@ -9,10 +9,9 @@ use Rattle.journal.proofs.Journals.Holders.{holds_others}
 use Rattle.journal.proofs.Times.Pushes.{others_keep}
 use Rattle.journal.proofs.Copies.OpenBlocks.{answers_others}
 use Rattle.journal.proofs.Missing.Counted.{block_counts_others}
-use Rattle.lists.specs.Limits.{most_events}
 use Rattle.book.specs.Stamps.{IsAwaited}
 use Rattle.replicas.specs.Local.{Local}
-use Rattle.replicas.specs.Sound.{IsSound}
+use Rattle.replicas.specs.Sound.{IsSound, most_seen}
 use Rattle.replicas.specs.Steps.{found}
 use Rattle.replicas.proofs.Replicas.{replica_others}
 
@@ -30,7 +29,7 @@ awaited_others h rest p w away x = record {
 pub found_sound : (m : Local) (rest : List Event) → IsSound m
     → ((k : ℕ) (e : Event) → At rest k e → e.processor ≢ m.number)
     → WellFormed m.sizes (m.seen ++ rest)
-    → length (m.seen ++ rest) ≤ most_events
+    → length (m.seen ++ rest) ≤ most_seen
     → IsSound (found m rest)
 found_sound m rest sound away well few = record {
   sizes = sound.sizes;
@@ -65,9 +64,9 @@ found_sound m rest sound away well few = record {
         let on = holds_others m.seen rest m.number l away in
         (λ is. on.1 (old.0 is), λ holds. old.1 (on.0 holds))
 
--- how often a processor has entered is no matter
-pub entered_sound : (m : Local) (entries : ℕ) → IsSound m → IsSound (record m { entries = entries })
-entered_sound m entries sound = record {
+-- how often a processor has entered, and what was cut off, is no matter
+pub entered_sound : (m : Local) (entries cut : ℕ) → IsSound m → IsSound (record m { entries = entries; cut = cut })
+entered_sound m entries cut sound = record {
   sizes = sound.sizes;
   mine = sound.mine;
   few = sound.few;

@@ -15,11 +15,10 @@ use Rattle.journal.proofs.Journals.Holders.{holds_over, holds_before}
 use Rattle.journal.proofs.Times.Blocks.{block_time}
 use Rattle.journal.proofs.Copies.Pages.{answers_start}
 use Rattle.journal.proofs.Missing.Counted.{block_counts_start}
-use Rattle.lists.specs.Limits.{most_events}
 use Rattle.book.specs.Stamps.{IsStamp, IsAwaited}
 use Rattle.replicas.specs.Copies.{Copied, IsReplica}
 use Rattle.replicas.specs.Local.{Local}
-use Rattle.replicas.specs.Sound.{IsSound}
+use Rattle.replicas.specs.Sound.{IsSound, most_seen}
 use Rattle.replicas.specs.Steps.{handed}
 use Rattle.replicas.proofs.Replicas.{replica_handed}
 
@@ -80,7 +79,7 @@ module _ (m : Local) (sound : IsSound m) where
 
   -- a processor that handed its block in is as sound as it was
   pub handed_sound : WellFormed m.sizes (m.seen ++ m.block)
-      → length (m.seen ++ m.block) ≤ most_events
+      → length (m.seen ++ m.block) ≤ most_seen
       → IsSound (handed m)
   handed_sound well few = record {
     sizes = sound.sizes;

@@ -11,7 +11,6 @@ use Rattle.journal.specs.Missing.{AreNews}
 use Rattle.journal.specs.Pasts.{InPast}
 use Rattle.journal.proofs.Copies.Pages.{answers_start}
 use Rattle.journal.proofs.Missing.Counted.{block_counts_start}
-use Rattle.lists.specs.Limits.{most_events}
 use Rattle.lists.proofs.Sets.{slice_get-replicate}
 use Rattle.vtime.specs.Times.{join}
 use Rattle.page.specs.Contents.{IsClean}
@@ -23,7 +22,7 @@ use Rattle.book.proofs.Parts.Doings.{awaited_now}
 use Rattle.book.proofs.Parts.Stamps.{stamp_taking}
 use Rattle.replicas.specs.Copies.{Copied, IsReplica}
 use Rattle.replicas.specs.Local.{Local}
-use Rattle.replicas.specs.Sound.{IsSound}
+use Rattle.replicas.specs.Sound.{IsSound, most_seen}
 use Rattle.replicas.specs.Steps.{IsAfterNews, AreAfterNews, AreSameCopies, took}
 use Rattle.replicas.proofs.Taken.{taking_closes, taking_awaits, news_clean, news_same, replica_taken}
 use Rattle.replicas.proofs.Locks.{held_now}
@@ -66,7 +65,7 @@ pub took_sound : (m : Local) (k : Kind) (u : List ℕ) (sent : List SentRecord) 
     → m.awaits ≢ None
     → is_taking k ≡ true
     → WellFormed m.sizes (did m.seen m.number k)
-    → length (did m.seen m.number k) ≤ most_events
+    → length (did m.seen m.number k) ≤ most_seen
     → IsStamp m.sizes.processors m.seen (Brings m.seen m.number k) u
     → ((n : ℕ) → AreNews m.sizes m.seen m.number n (slice_index m.time) (slice_index (join m.time u))
     (missing_in n sent))

@@ -1,11 +1,10 @@
 -- What tests of the copies rest on.
-use Rattle.std.proofs.Common.{ℕ, zero, ◌≡◌, ◌≢◌, ◌<◌, ◌≤◌, Bool, Option, Some, None, List, [], ◌∷◌, false, filter, get_or, length, map, replicate, slice_get, inl, inr, refl, sym, ap, subst, ◌∙◌, arith}
+use Rattle.std.proofs.Common.{ℕ, zero, suc, ◌*◌, sum_by, ◌≡◌, ◌≢◌, ◌<◌, ◌≤◌, Bool, Option, Some, None, List, [], ◌∷◌, false, filter, get_or, length, map, replicate, slice_get, inl, inr, refl, sym, ap, subst, ◌∙◌, arith}
 use Rattle.std.specs.Option.{option_map}
 use Rattle.std.proofs.lemmas.List.{length-map, length-replicate}
-use Rattle.std.proofs.lemmas.List.Sums.{count_by-le-length, length-filter}
+use Rattle.std.proofs.lemmas.List.Sums.{count_by-le-length, length-filter, sum_by-cons}
 use Rattle.std.proofs.lemmas.Bool.{eq-eqb}
 use Rattle.std.proofs.lemmas.Option.{none-some, same_Some, slice_get-get_or, slice_get-map, slice_get_within}
-use Rattle.lists.specs.Limits.{most_events}
 use Rattle.lists.specs.Places.{Has}
 use Rattle.lists.proofs.Joined.{has-nil, in_order-nil, in_order_weaker}
 use Rattle.lists.proofs.Once.{once_le}
@@ -16,7 +15,8 @@ use Rattle.page.specs.declared.pages.Access.TheVariants.{Valid, Invalid}
 use Rattle.journal.specs.Missing.{Missing}
 use Rattle.interval.specs.Intervals.{SentRecord}
 use Rattle.interval.specs.Closings.{is_of_page}
-use Rattle.replicas.specs.Copies.{AllFit, Copied, FitsPage, zeros}
+use Rattle.replicas.specs.Counts.{AreCountable}
+use Rattle.replicas.specs.Copies.{AllFit, Copied, FitsPage, words_of, zeros}
 use Rattle.replicas.specs.Records.{DirtyAreMarked}
 use Rattle.replicas.specs.Steps.{AreAfterNews, AreSameCopies, HaveRoom, IsAfterNews, IsSameCopy, MayLack, MayLearn, cleaned}
 use Rattle.replicas.specs.Testing.{AreNotices, AreOpen, IsStale}
@@ -54,6 +54,16 @@ cleaned_marked copies marks few = record {
     clean : (o : Option Copied) (c : Copied) → option_map cleaned o ≡ Some c → IsClean c.page
     clean None c none = absurd (none-some c none)
     clean (Some d) c is = subst (λ (x : Copied). IsClean x.page) (same_Some (cleaned d) c is) refl
+
+-- records of few words have few words together
+words_few : (xs : List SentRecord) → ((x : SentRecord) → Has xs x → length (words_of x) ≤ 64)
+    → sum_by (λ (x : SentRecord). length (words_of x)) xs ≤ 64 * length xs
+words_few [] few = omega arith
+words_few (x ∷ xs) few =
+    let first = few x (zero, refl) in
+    let rest = words_few xs (λ y h. few y (suc h.0, h.1)) in
+    let both = sum_by-cons (λ (y : SentRecord). length (words_of y)) x xs in
+    omega (arith, both)
 
 module _ (words : ℕ) (old copies : List Copied) (sent : List SentRecord) (are : AreNotices words sent)
     (zero_copy : old ≡ replicate 1 (zeros words)) (same : AreSameCopies old copies)
@@ -147,7 +157,7 @@ module _ (words : ℕ) (old copies : List Copied) (sent : List SentRecord) (are 
           let P : ℕ → Type 0 = λ k. FitsPage k x in
           subst P (sym long) (are.fits x (came n d at x has))
 
-      short : (n : ℕ) (d : Copied) → slice_get new n ≡ Some d → length d.missing ≤ most_events
+      short : (n : ℕ) (d : Copied) → slice_get new n ≡ Some d → AreCountable d.missing
       short n d at =
           let order = in_order d.missing (was_zeros n d at).news.order in
           let apart = λ (a b : SentRecord) (x : Has d.missing a) (y : Has d.missing b) (lt : a.place < b.place).
@@ -155,7 +165,8 @@ module _ (words : ℕ) (old copies : List Copied) (sent : List SentRecord) (are 
           in
           let once = in_order_weaker IsBefore (λ (a b : SentRecord). a ≢ b) d.missing apart order in
           let le = once_le d.missing sent once (came n d at) in
-          omega arith
+          let all = words_few d.missing (λ x h. (fits n d at x h).short) in
+          record { records = omega arith; words = omega arith }
         where
           not_same : (a b : SentRecord) → a.place < b.place → a ≢ b
           not_same a b lt same = let e = ap (λ (r : SentRecord). r.place) same in absurd (omega arith)

@@ -1,5 +1,5 @@
 -- What a fetch counts.
-use Rattle.std.specs.Prelude.{◌≡◌, List, length, sum_by}
+use Rattle.std.specs.Prelude.{◌≡◌, ◌<◌, ◌^◌, List, length, sum_by}
 use Rattle.journal.specs.Copies.{HasCount}
 use Rattle.interval.specs.Intervals.{SentRecord}
 use Rattle.replicas.specs.declared.replica.Counts.{Counts}
@@ -10,3 +10,8 @@ pub record AreCounts (missing : List SentRecord) (c : Counts) : Type 0 where
   pub writers : HasCount (IsOwner missing) c.writers
   pub records : c.records ≡ length missing
   pub words : c.words ≡ sum_by (λ x. length (words_of x)) missing
+
+-- how many they are, and their words, fits a fetch's counts
+pub record AreCountable (missing : List SentRecord) : Type 0 where
+  pub records : length missing < 2 ^ 32
+  pub words : sum_by (λ x. length (words_of x)) missing < 2 ^ 32

@@ -8,8 +8,8 @@ use Rattle.journal.specs.Did.{event}
 use Rattle.turn.specs.Chairs.{LockId}
 use Rattle.replicas.specs.Copies.{Copied, zeros}
 
--- its lock and how often it has entered; its number and the cluster's sizes; the journal as it left it last;
--- its open block; its copy of each page, and to which pages it may have stored since its last closing event;
+-- its lock and how often it has entered; its number and the cluster's sizes; the history as it left it last, and how
+-- many of its first events were cut off then; its open block; its copy of each page, and to which pages it may have stored since its last closing event;
 -- its timestamp; which locks it holds; and what it waits for
 pub record Local : Type 0 where
   pub lock : LockId
@@ -17,6 +17,7 @@ pub record Local : Type 0 where
   pub number : ℕ
   pub sizes : Sizes
   pub seen : List Event
+  pub cut : ℕ
   pub block : List Event
   pub copies : List Copied
   pub stored : List Bool
@@ -44,6 +45,7 @@ new_local l p s = record {
   number = p;
   sizes = s;
   seen = [];
+  cut = 0;
   block = [];
   copies = replicate s.pages (blank s);
   stored = replicate 64 false;

@@ -1,5 +1,5 @@
 -- What holds of each processor between its calls, by what it has seen and its open block alone.
-use Rattle.std.specs.Prelude.{ℕ, ◌≡◌, ◌≢◌, ◌<◌, ◌≤◌, ◌↔◌, true, false, Some, None, List, [], length, replicate, slice_get}
+use Rattle.std.specs.Prelude.{ℕ, ◌≡◌, ◌≢◌, ◌<◌, ◌≤◌, ◌↔◌, ◌+◌, true, false, Some, None, List, [], length, replicate, slice_get}
 use Rattle.journal.specs.declared.event.Event.{Event}
 use Rattle.journal.specs.Sizes.{Sizes}
 use Rattle.journal.specs.Events.{At}
@@ -7,7 +7,7 @@ use Rattle.journal.specs.WellFormed.{WellFormed, Holds}
 use Rattle.journal.specs.Pasts.{InPast}
 use Rattle.journal.specs.Blocks.{BlockAnswers}
 use Rattle.journal.specs.Counted.{BlockCounts}
-use Rattle.lists.specs.Limits.{most_processors, most_events, most_in_block}
+use Rattle.lists.specs.Limits.{most_processors, most_events, most_cut, most_in_block}
 use Rattle.page.specs.Contents.{IsClean}
 use Rattle.book.specs.Stamps.{AreAll, IsStamp, IsAwaited}
 use Rattle.book.specs.Laws.{IsInner}
@@ -25,11 +25,15 @@ pub record AreSizes (s : Sizes) : Type 0 where
   pub locks : s.locks ≤ 32
   pub flags : s.flags ≤ 32
 
+-- events that a processor can have seen: those cut off, and a journal's
+abbrev pub most_seen : ℕ
+most_seen = most_cut + most_events
+
 -- the copies, the timestamp, the locks held and what is awaited are what `seen` and the open block say
 pub record IsSound (m : Local) : Type 0 where
   pub sizes : AreSizes m.sizes
   pub mine : m.number < m.sizes.processors
-  pub few : length m.seen ≤ most_events
+  pub few : length m.seen ≤ most_seen
   pub well_formed : WellFormed m.sizes m.seen
   pub inner : (k : ℕ) (e : Event) → At m.block k e → IsInner m.sizes m.number e
   pub short : length m.block ≤ most_in_block

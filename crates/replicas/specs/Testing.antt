@@ -1,12 +1,12 @@
 -- What tests of the copies rest on.
-use Rattle.std.specs.Prelude.{ℕ, ◌≡◌, ◌≢◌, ◌≤◌, Bool, Some, List, [], length, map, slice_get}
+use Rattle.std.specs.Prelude.{ℕ, ◌≡◌, ◌≢◌, Bool, Some, List, [], length, map, slice_get}
 use Rattle.journal.specs.Missing.{InClosingOrder}
-use Rattle.lists.specs.Limits.{most_events}
 use Rattle.lists.specs.Places.{Has}
 use Rattle.page.specs.declared.pages.Access.TheVariants.{Valid, Invalid}
 use Rattle.interval.specs.Intervals.{SentRecord}
 use Rattle.book.specs.News.{missing_of}
 use Rattle.replicas.specs.Copies.{Copied, AllFit, FitsPage}
+use Rattle.replicas.specs.Counts.{AreCountable}
 use Rattle.replicas.specs.Records.{DirtyAreMarked}
 
 -- valid copies of pages of so many words, with marks where they were stored to
@@ -33,4 +33,4 @@ pub record IsStale (copies : List Copied) : Type 0 where
   pub one : length copies ≡ 1
   pub invalid : (n : ℕ) (c : Copied) → slice_get copies n ≡ Some c → c.page.access ≡ Invalid
   pub fits : (n : ℕ) (c : Copied) → slice_get copies n ≡ Some c → AllFit (length c.page.words) c.missing
-  pub few : (n : ℕ) (c : Copied) → slice_get copies n ≡ Some c → length c.missing ≤ most_events
+  pub few : (n : ℕ) (c : Copied) → slice_get copies n ≡ Some c → AreCountable c.missing

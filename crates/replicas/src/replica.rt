@@ -5,11 +5,11 @@ ghost use Rattle.journal.specs.Copies.{HasCount};
 ghost use Rattle.journal.specs.Missing.{InClosingOrder};
 ghost use Rattle.book.specs.News.{missing_of};
 ghost use Rattle.lists.specs.Records.{records_applied};
-ghost use Rattle.lists.specs.Limits.{most_events};
 ghost use Rattle.interval.specs.Intervals.{SentRecord};
 ghost use Rattle.lists.specs.Places.{Has};
 ghost use Rattle.replicas.specs.Copies.{AllFit, IsOwner, IsPlaceAmong, may_use, words_if, words_of};
 ghost use Rattle.std.specs.Option.{option_map};
+ghost use Rattle.replicas.specs.Counts.{AreCountable};
 
 use crate::marks::Marks;
 use interval::Sent;
@@ -105,7 +105,7 @@ impl Replica {
 
     /// What a fetch applies now: of how many owners, how many records, and how many words.
     pub fn counts(&self) -> Counts
-        requires few { length self.now.missing ≤ most_events }
+        requires few { AreCountable self.now.missing }
         requires fit { AllFit (length self.now.page.words) self.now.missing }
         ensures { AreCounts self.now.missing result }
     {
@@ -199,7 +199,7 @@ fn place_among(missing: &[Sent], place: u64) -> usize
 
 /// How many owners the records have.
 fn writers_of(missing: &[Sent]) -> u32
-    requires few { length missing.now ≤ most_events }
+    requires few { length missing.now < 2 ^ 32 }
     requires fit { (x : SentRecord) → Has missing.now x → x.notice.owner < 64 }
     ensures { HasCount (IsOwner missing.now) result }
 {
@@ -217,8 +217,7 @@ fn writers_of(missing: &[Sent]) -> u32
 
 /// How many words the records have.
 fn words_in(missing: &[Sent]) -> u32
-    requires few { length missing.now ≤ most_events }
-    requires fit { (x : SentRecord) → Has missing.now x → length (words_of x) ≤ 64 }
+    requires { sum_by (λ x. length (words_of x)) missing.now < 2 ^ 32 }
     ensures { result ≡ sum_by (λ x. length (words_of x)) missing.now }
 {
     let mut count = 0;

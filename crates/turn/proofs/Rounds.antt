@@ -1,5 +1,5 @@
 -- Each step of the lock is one that the table allows.
-use Rattle.std.proofs.Common.{◌≡◌, ◌≢◌, ℕ, ◌+◌, ◌%◌, ◌^◌, ◌<◌, List, [], ◌∷◌, map, set, get_or, Bool, true, false, eq-eqb, ne_eqb, Option, Some, slice_get, MatchBool, unwrap_or, refl, sym, ap, ◌∙◌, subst, arith}
+use Rattle.std.proofs.Common.{◌≡◌, ◌≢◌, ℕ, ◌+◌, ◌%◌, ◌^◌, ◌<◌, List, [], ◌∷◌, map, set, get_or, Bool, true, false, eq-eqb, ne_eqb, Option, Some, slice_get, MatchBool, unwrap_or, refl, sym, ap, ◌∙◌, subst, subst₂, arith}
 use Rattle.std.specs.Bool.{OnTrue, OnFalse}
 use Rattle.std.proofs.lemmas.List.{set-get_or, get_or-set_other}
 use mathlib.Core.Option as maybe
@@ -23,6 +23,9 @@ use Rattle.turn.proofs.Steps.{draws, not_out, enters, leaves, served}
 
 waiting_once : {B : Type 0} (g : Stage B) (m k : ℕ) → g ≡ Waiting m → g ≡ Waiting k → m ≡ k
 waiting_once g m k d e = let both : Waiting m ≡ Waiting k = sym d ∙ e in cc
+
+inside_once : {B : Type 0} (g : Stage B) (m k : ℕ) (a b : B) → g ≡ Inside m a → g ≡ Inside k b → a ≡ b
+inside_once g m k a b d e = let both : Inside m a ≡ Inside k b = sym d ∙ e in cc
 
 -- what holds in both cases, case by case
 pub both_cases : (X Y : Type 0) (b : Bool) → MatchBool b X Y → OnTrue b X × OnFalse b Y
@@ -112,7 +115,7 @@ module _ (B V : Type 0) (fact : B → List V → Type 0) (width : ℕ) (shows : 
       let mine = got_at s.views id me.0 seen in
       dite (ℕ_discrete (get_or s.words (at m) 0) m) (finds_own m me sits s h mine) (finds_other m me sits s h mine)
 
-  pub leaves_allowed : (then : B → V → V → Type 0) (m : ℕ) (found book : B) (me : Hold) → me ≡ ((with_stage (Inside m found) me).0, (0, Some book) ∷ []) → MayHandIn fact then found book me.0.place me.0.lead.view
+  pub leaves_allowed : (then : B → B → ℕ → V → V → Type 0) (m : ℕ) (found book : B) (me : Hold) → me ≡ ((with_stage (Inside m found) me).0, (0, Some book) ∷ []) → MayHandIn fact then found book me.0.place me.0.lead.view
       → Allows Rule slots id me (at (m + 1)) (passed m) (λ _ after. Leaves then me after)
   leaves_allowed then m found book me sits may s h long seen fit =
       let mine = got_at s.views id me.0 seen in
@@ -135,11 +138,16 @@ module _ (B V : Type 0) (fact : B → List V → Type 0) (width : ℕ) (shows : 
         gives,
         tt,
         moved (Option B) (ChairState B V) n (Turns fact shows limit) s h id p c d words (put_back s.homes me.1) mine' (subst (λ (hs : List (maybe.Option (Option B))). Turns fact shows limit words hs (set h.chairs p d)) (sym back) r),
-        (ap (λ (xs : List (ℕ × Option B)). (one p d, rest xs)) has_slot, λ b e. subst (λ (x : B). then x v w.0) (slot_once me.1 book b has_slot e) w.1),
+        (
+          ap (λ (xs : List (ℕ × Option B)). (one p d, rest xs)) has_slot,
+          λ k a b stands e.
+              let same : found ≡ a = inside_once me.0.lead.stage m k found a (ap (λ (x : Hold). x.0.lead.stage) sits) stands in
+              subst₂ (λ (x y : B). then x y p v w.0) same (slot_once me.1 book b has_slot e) w.1,
+        ),
       )
 
   -- the same once the book was put back into the slot
-  pub leaves_after : (then : B → V → V → Type 0) (m : ℕ) (found book : B) (was me : Hold) → IsAtStage (Inside m found) was → me ≡ (was.0, (0, Some book) ∷ rest was.1) → MayHandIn fact then found book was.0.place was.0.lead.view
+  pub leaves_after : (then : B → B → ℕ → V → V → Type 0) (m : ℕ) (found book : B) (was me : Hold) → IsAtStage (Inside m found) was → me ≡ (was.0, (0, Some book) ∷ rest was.1) → MayHandIn fact then found book was.0.place was.0.lead.view
       → Allows Rule slots id me (at (m + 1)) (passed m) (λ _ after. Leaves then me after)
   leaves_after then m found book was me sits put may =
       let back : Hold = (was.0, (0, Some book) ∷ rest was.1) in

@@ -66,6 +66,6 @@ module _ {B V : Type 0} where
   Stands fact b p v = (views : List V) × (slice_get views p ≡ Some v) × fact b views
 
   -- whatever the other views are: where the fact held of the book as it was found, some new view is told of and keeps it with the book handed in
-  abbrev pub MayHandIn : (B → List V → Type 0) → (B → V → V → Type 0) → B → B → ℕ → V → Type 0
+  abbrev pub MayHandIn : (B → List V → Type 0) → (B → B → ℕ → V → V → Type 0) → B → B → ℕ → V → Type 0
   MayHandIn fact then found book p v =
-      (views : List V) → slice_get views p ≡ Some v → fact found views → (w : V) × then book v w × fact book (slice_set views p w)
+      (views : List V) → slice_get views p ≡ Some v → fact found views → (w : V) × then found book p v w × fact book (slice_set views p w)

@@ -44,8 +44,10 @@ module _ {B V : Type 0} where
   abbrev pub Looks : (B → List V → Type 0) → Me (Option B) (ChairRun (ChairState B V)) → ℕ → Me (Option B) (ChairRun (ChairState B V)) → Type 0
   Looks fact me found after = (m : ℕ) → me.0.lead.stage ≡ Waiting m → MatchBool (found == m) (StepsIn fact m me after) (after ≡ me)
 
-  -- a leave: the chair is outside with a new view, and the slot is given back with the book
-  abbrev pub Leaves : (B → V → V → Type 0) → Me (Option B) (ChairRun (ChairState B V)) → Me (Option B) (ChairRun (ChairState B V)) → Type 0
+  -- a leave: the chair, which was inside with the book found, is outside with a new view, and the slot is given back
+  -- with the book
+  abbrev pub Leaves : (B → B → ℕ → V → V → Type 0) → Me (Option B) (ChairRun (ChairState B V)) → Me (Option B) (ChairRun (ChairState B V)) → Type 0
   Leaves then me after =
       (after ≡ seat_with me.0.place Outside me.0.lead.entries after.0.lead.view)
-      × ((book : B) → me.1 ≡ (0, Some book) ∷ [] → then book me.0.lead.view after.0.lead.view)
+      × ((m : ℕ) (found book : B) → me.0.lead.stage ≡ Inside m found → me.1 ≡ (0, Some book) ∷ []
+      → then found book me.0.place me.0.lead.view after.0.lead.view)

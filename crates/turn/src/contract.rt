@@ -20,9 +20,10 @@ pub trait Keeper<B> {
     ghost nobody: { Self.View };
 }
 
-/// What one call does: the relation between the book that it hands in, its chair's old view and its new one.
+/// What one call does: the relation between the book that it found, the one that it hands in, its chair's place, the
+/// chair's old view and its new one.
 pub trait Outcome<B, V> {
-    ghost then: { B → V → V → Type 0 };
+    ghost then: { B → B → ℕ → V → V → Type 0 };
 }
 
 /// A lock round one value, the book, under a keeper.
@@ -74,7 +75,8 @@ pub trait Turn<B, K: Keeper<B>>: Sized + Sync {
             × MayHandIn K.fact M.then found book (place chair.old) (view chair.old) }
         ensures left { IsSameChair chair.old chair.new × (entries chair.new ≡ entries chair.old)
             × IsOutside chair.new }
-        ensures then { M.then book (view chair.old) (view chair.new) };
+        ensures then { (found : B) → IsInside chair.old held found
+            → M.then found book (place chair.old) (view chair.old) (view chair.new) };
 
     /// Takes the lock apart, with all its chairs in the order of their places. It waits for nothing and takes no memory.
     fn close(self, chairs: Vec<Chair<B, K>>) -> B

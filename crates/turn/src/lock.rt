@@ -200,7 +200,8 @@ impl<B, K: Keeper<B>, W: Board, const ENTRIES: u64> Lock<B, K, W, ENTRIES> {
         ensures outside { seat.new.me
             ≡ seat_with seat.old.me.0.place Outside seat.old.me.0.lead.entries
             seat.new.me.0.lead.view }
-        ensures then { M.then book seat.old.me.0.lead.view seat.new.me.0.lead.view }
+        ensures then { (found : B) → IsAtStage (Inside number found) seat.old.me
+            → M.then found book seat.old.me.0.place seat.old.me.0.lead.view seat.new.me.0.lead.view }
     {
         let taken = self.table.shared.exchange(seat, 0, Some(book));
         let None = taken else { unreachable!() };

@@ -21,5 +21,5 @@ impl Keeper<u64> for Tally {
 pub struct AddsOne;
 
 impl Outcome<u64, u64> for AddsOne {
-    ghost then = { λ _ added now. now ≡ added + 1 };
+    ghost then = { λ _ _ _ added now. now ≡ added + 1 };
 }

@@ -43,7 +43,8 @@ impl<T: Turn<Book, Rule>> Cluster<T> {
             × IsChairOf m chair.old × IsInside chair.old held found × IsCallOf m found es book }
         ensures left { IsSameChair chair.old chair.new × (entries chair.new ≡ entries chair.old)
             × IsOutside chair.new }
-        ensures seen { Sees book (view chair.old) (view chair.new) }
+        ensures seen { (found : State) → IsInside chair.old held found
+            → Sees found book (place chair.old) (view chair.old) (view chair.new) }
     {
         let turn = &self.turn;
         turn.leave::<Looking>(chair, held, book);

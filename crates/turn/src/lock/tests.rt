@@ -26,7 +26,7 @@ impl<B> Keeper<B> for Anything {
 }
 
 impl<B> Outcome<B, ()> for Anything {
-    ghost then = { λ _ _ _. Unit {0} };
+    ghost then = { λ _ _ _ _ _. Unit {0} };
 }
 
 // Enters, and leaves at once.

@@ -3,8 +3,6 @@ use Rattle.std.proofs.lemmas.Result.{err_from_is_err_and}
 use Rattle.book.specs.State.{State}
 use Rattle.book.specs.declared.refused.Refused.TheVariants.{SeatSpent, JournalFull}
 use Rattle.lists.specs.Limits.{most_events}
-use Rattle.turn.specs.Chairs.{view}
-use Rattle.cluster.specs.Kept.{Sees}
 use Rattle.std.specs.Arc.{arc_value}
 use Rattle.journal.specs.Did.{event}
 use Rattle.replicas.specs.Records.{AreHarvests}
@@ -15,7 +13,7 @@ use Rattle.cluster.specs.Calls.{Nothing}
 use Rattle.cluster.specs.Closing.{MayMake, IsClosedBy}
 use Rattle.cluster.specs.Refusals.{flush_refusal}
 use Rattle.cluster.proofs.ClosingCalls.{marked_well, may_close, call_of_close, closed_parts}
-use Rattle.cluster.proofs.Visiting.{visit_of, inside_of}
+use Rattle.cluster.proofs.Visiting.{visit_of, visit_left, seen_left, inside_of, HasSeen}
 use Rattle.cluster.proofs.Covering.{covers}
 use Rattle.cluster.proofs.Made.{alike_all, seat_spent, not_spent, call_outside, call_inside, unchanged_sound, unchanged_seated}
 use Rattle.cluster.proofs.Handing.{refused_for, fits_else}
@@ -34,7 +32,7 @@ pub close_in-result-requires-clause-call : goal.close_in-result-requires-clause-
 close_in-result-requires-clause-call g c =
     let x = c.processor.inside in
     let was = local x.chair x.number x.shape x.block.items x.replicas.items x.stored x.time x.held.items x.awaits in
-    let visit = visit_of was x.chair c.take_book.new.chair c.in_ok-held.held c.in_ok-held.book c.in_ok-held.ensures.entered c.in_ok-held.ensures.finds c.processor.invariant.1 c.processor.invariant.0 refl refl refl in
+    let visit = visit_of was x.chair c.take_book.new.chair c.in_ok-held.held c.in_ok-held.book c.in_ok-held.ensures.entered c.in_ok-held.ensures.finds c.processor.invariant.1 c.processor.invariant.0 refl refl (refl, refl) in
     let may = subst (λ (l : Local). MayMake l c.args.kind) (sym c.processor.view_is) c.requires.may in
     rw (c.as_slice-block.ensures.value) (may_close _ c.processor.invariant.0 c.in_ok-held.book visit.finds c.args.kind may)
 
@@ -42,7 +40,7 @@ pub give_book-requires-clause-call : goal.give_book-requires-clause-call
 give_book-requires-clause-call g c κs within =
     let x = c.processor.inside in
     let was = local x.chair x.number x.shape x.block.items x.replicas.items x.stored x.time x.held.items x.awaits in
-    let inside = inside_of x.chair c.take_book.new.chair was c.in_ok-held.held c.in_ok-held.book c.in_ok-held.ensures.entered c.processor.invariant.1 refl in
+    let inside = inside_of x.chair c.take_book.new.chair was c.in_ok-held.held c.in_ok-held.book c.in_ok-held.ensures.entered c.processor.invariant.1 (refl, refl) in
     let made = c.close_in-result.ensures in
     let may = subst (λ (l : Local). MayMake l c.args.kind) (sym c.processor.view_is) c.requires.may in
     let are = subst (λ (l : Local). AreHarvests l.copies (map arc_value c.args.records.items)) (sym c.processor.view_is) c.requires.records in
@@ -55,8 +53,9 @@ invariant_of-processor-in_err-result g c =
     let was = local x.chair x.number x.shape x.block.items x.replicas.items x.stored x.time x.held.items x.awaits in
     let took = c.in_ok-held.ensures in
     let b = c.in_ok-held.book in
-    let visit = visit_of was x.chair c.take_book.new.chair c.in_ok-held.held c.in_ok-held.book c.in_ok-held.ensures.entered c.in_ok-held.ensures.finds c.processor.invariant.1 c.processor.invariant.0 refl refl refl in
-    let sees = subst (λ (n : State). Sees n (view c.take_book.new.chair) (view c.give_book.new.chair)) c.in_err-result.ensures.err c.give_book.ensures.seen in (
+    let visit = visit_left was x.chair c.take_book.new.chair c.give_book.new.chair c.in_ok-held.held c.in_ok-held.book c.close_in-result.new.book c.in_ok-held.ensures.entered c.give_book.ensures.seen c.processor.invariant.1 c.processor.invariant.0 refl refl (refl, refl) in
+    let seen_then = seen_left was x.chair c.take_book.new.chair c.give_book.new.chair c.in_ok-held.held c.in_ok-held.book c.close_in-result.new.book c.in_ok-held.ensures.entered c.give_book.ensures.seen c.processor.invariant.1 c.processor.invariant.0 refl refl (refl, refl) in
+    let sees = subst (λ (n : State). HasSeen visit n c.give_book.new.chair) c.in_err-result.ensures.err seen_then in (
       unchanged_sound visit c.give_book.new.chair c.give_book.ensures.left x.replicas.items (alike_all x.replicas.items) sees,
       unchanged_seated visit c.give_book.new.chair c.give_book.ensures.left x.replicas.items (alike_all x.replicas.items) sees,
       c.processor.invariant.2,
@@ -68,8 +67,9 @@ returns-in_err-result g c =
     let was = local x.chair x.number x.shape x.block.items x.replicas.items x.stored x.time x.held.items x.awaits in
     let took = c.in_ok-held.ensures in
     let b = c.in_ok-held.book in
-    let visit = visit_of was x.chair c.take_book.new.chair c.in_ok-held.held c.in_ok-held.book c.in_ok-held.ensures.entered c.in_ok-held.ensures.finds c.processor.invariant.1 c.processor.invariant.0 refl refl refl in
-    let sees = subst (λ (n : State). Sees n (view c.take_book.new.chair) (view c.give_book.new.chair)) c.in_err-result.ensures.err c.give_book.ensures.seen in
+    let visit = visit_left was x.chair c.take_book.new.chair c.give_book.new.chair c.in_ok-held.held c.in_ok-held.book c.close_in-result.new.book c.in_ok-held.ensures.entered c.give_book.ensures.seen c.processor.invariant.1 c.processor.invariant.0 refl refl (refl, refl) in
+    let seen_then = seen_left was x.chair c.take_book.new.chair c.give_book.new.chair c.in_ok-held.held c.in_ok-held.book c.close_in-result.new.book c.in_ok-held.ensures.entered c.give_book.ensures.seen c.processor.invariant.1 c.processor.invariant.0 refl refl (refl, refl) in
+    let sees = subst (λ (n : State). HasSeen visit n c.give_book.new.chair) c.in_err-result.ensures.err seen_then in
     let answer = err_from_is_err_and c.from_residual-in_err-result.result c.from_residual-in_err-result.ensures.1 in
     let e = c.in_err-result.field-0.0 in
     let why = refused_for {A = Unit {0}} e (most_events < length b.journal.events + length x.block.items + 1) c.in_err-result.ensures.only (rw (← c.as_slice-block.ensures.value) c.in_err-result.ensures.full) in
@@ -82,13 +82,14 @@ invariant_of-processor-2 g c =
     let was = local x.chair x.number x.shape x.block.items x.replicas.items x.stored x.time x.held.items x.awaits in
     let took = c.in_ok-held.ensures in
     let b = c.in_ok-held.book in
-    let visit = visit_of was x.chair c.take_book.new.chair c.in_ok-held.held c.in_ok-held.book c.in_ok-held.ensures.entered c.in_ok-held.ensures.finds c.processor.invariant.1 c.processor.invariant.0 refl refl refl in
+    let visit = visit_left was x.chair c.take_book.new.chair c.give_book.new.chair c.in_ok-held.held c.in_ok-held.book c.close_in-result.new.book c.in_ok-held.ensures.entered c.give_book.ensures.seen c.processor.invariant.1 c.processor.invariant.0 refl refl (refl, refl) in
+    let seen_then = seen_left was x.chair c.take_book.new.chair c.give_book.new.chair c.in_ok-held.held c.in_ok-held.book c.close_in-result.new.book c.in_ok-held.ensures.entered c.give_book.ensures.seen c.processor.invariant.1 c.processor.invariant.0 refl refl (refl, refl) in
     let good = c.in_ok-result.ensures in
     let more = most_events < length b.journal.events + length x.block.items + 1 in
     let fits = fits_else (length b.journal.events + length x.block.items + 1) (Ok c.in_ok-result.field-0 ≡ Err JournalFull) (rw (← c.as_slice-block.ensures.value) good.full) (λ h. absurd (cc h)) in
     let may = subst (λ (l : Local). MayMake l c.args.kind) (sym c.processor.view_is) c.requires.may in
     let are = subst (λ (l : Local). AreHarvests l.copies (map arc_value c.args.records.items)) (sym c.processor.view_is) c.requires.records in
-    let ends = closed_parts visit c.give_book.new.chair c.give_book.ensures.left c.args.kind may (map arc_value c.args.records.items) are c.close_in-result.new.book (rw (← c.as_slice-block.ensures.value) good.ok) fits c.give_book.ensures.seen in
+    let ends = closed_parts visit c.give_book.new.chair c.give_book.ensures.left c.args.kind may (map arc_value c.args.records.items) are c.close_in-result.new.book (rw (← c.as_slice-block.ensures.value) good.ok) fits seen_then in
     let all = ends c.clear.new.self.items c.clean.new.replicas.items c.clean.new.stored c.tick.new.self c.mark_held.new.held.items c.awaited-processor-inside.result c.clear.ensures.items c.clean.ensures.copies c.clean.ensures.stored c.tick.ensures c.mark_held.ensures c.awaited-processor-inside.ensures in
     (all.0, all.1, (let was = c.processor.invariant.2 in let same = c.clear.ensures.capacity in omega arith))
 
@@ -98,12 +99,13 @@ returns g c =
     let was = local x.chair x.number x.shape x.block.items x.replicas.items x.stored x.time x.held.items x.awaits in
     let took = c.in_ok-held.ensures in
     let b = c.in_ok-held.book in
-    let visit = visit_of was x.chair c.take_book.new.chair c.in_ok-held.held c.in_ok-held.book c.in_ok-held.ensures.entered c.in_ok-held.ensures.finds c.processor.invariant.1 c.processor.invariant.0 refl refl refl in
+    let visit = visit_left was x.chair c.take_book.new.chair c.give_book.new.chair c.in_ok-held.held c.in_ok-held.book c.close_in-result.new.book c.in_ok-held.ensures.entered c.give_book.ensures.seen c.processor.invariant.1 c.processor.invariant.0 refl refl (refl, refl) in
+    let seen_then = seen_left was x.chair c.take_book.new.chair c.give_book.new.chair c.in_ok-held.held c.in_ok-held.book c.close_in-result.new.book c.in_ok-held.ensures.entered c.give_book.ensures.seen c.processor.invariant.1 c.processor.invariant.0 refl refl (refl, refl) in
     let good = c.in_ok-result.ensures in
     let fits = fits_else (length b.journal.events + length x.block.items + 1) (Ok c.in_ok-result.field-0 ≡ Err JournalFull) (rw (← c.as_slice-block.ensures.value) good.full) (λ h. absurd (cc h)) in
     let may = subst (λ (l : Local). MayMake l c.args.kind) (sym c.processor.view_is) c.requires.may in
     let are = subst (λ (l : Local). AreHarvests l.copies (map arc_value c.args.records.items)) (sym c.processor.view_is) c.requires.records in
-    let ends = closed_parts visit c.give_book.new.chair c.give_book.ensures.left c.args.kind may (map arc_value c.args.records.items) are c.close_in-result.new.book (rw (← c.as_slice-block.ensures.value) good.ok) fits c.give_book.ensures.seen in
+    let ends = closed_parts visit c.give_book.new.chair c.give_book.ensures.left c.args.kind may (map arc_value c.args.records.items) are c.close_in-result.new.book (rw (← c.as_slice-block.ensures.value) good.ok) fits seen_then in
     let free : flush_refusal was ≡ None = rw (not_spent visit) refl in
     let all = ends c.clear.new.self.items c.clean.new.replicas.items c.clean.new.stored c.tick.new.self c.mark_held.new.held.items c.awaited-processor-inside.result c.clear.ensures.items c.clean.ensures.copies c.clean.ensures.stored c.tick.ensures c.mark_held.ensures c.awaited-processor-inside.ensures in
     rw (← c.processor.view_is) (all.2 _ (length x.block.items + 1) free)

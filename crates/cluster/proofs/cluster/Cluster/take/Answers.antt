@@ -6,7 +6,6 @@ use Rattle.book.specs.declared.refused.Refused.{Refused}
 use Rattle.book.specs.declared.refused.Refused.TheVariants.{SeatSpent, NotYet}
 use Rattle.lists.specs.Limits.{most_events}
 use Rattle.turn.specs.Chairs.{view}
-use Rattle.cluster.specs.Kept.{Sees}
 use Rattle.replicas.specs.Local.{Local}
 use Rattle.replicas.specs.Sound.{IsSound}
 use Rattle.journal.specs.declared.event.Event.{Event}
@@ -20,7 +19,7 @@ use Rattle.cluster.specs.Seats.{local}
 use Rattle.cluster.specs.Taking.{IsLate, IsTaken, awaited_event}
 use Rattle.cluster.specs.Refusals.{or_spent, take_test}
 use Rattle.cluster.proofs.TakingCalls.{may_take, call_of_receive, taken_message, take_fits, refused_take, may_hold_taken, taken_long, may_learn_taken, after_alike, taken_parts}
-use Rattle.cluster.proofs.Visiting.{visit_of, inside_of}
+use Rattle.cluster.proofs.Visiting.{visit_of, visit_left, seen_left, inside_of, HasSeen}
 use Rattle.cluster.proofs.Covering.{covers}
 use Rattle.cluster.proofs.Made.{seat_spent, not_spent, call_outside, call_inside, unchanged_seen, unchanged_sound, unchanged_seated}
 use Rattle.cluster.proofs.cluster.Cluster.take.Goals as goal
@@ -45,7 +44,7 @@ pub receive-result-requires-clause-call : goal.receive-result-requires-clause-ca
 receive-result-requires-clause-call g c =
     let x = c.processor.inside in
     let was = local x.chair x.number x.shape x.block.items x.replicas.items x.stored x.time x.held.items x.awaits in
-    let visit = visit_of was x.chair c.take_book.new.chair c.in_ok-held.held c.in_ok-held.book c.in_ok-held.ensures.entered c.in_ok-held.ensures.finds c.processor.invariant.1 c.processor.invariant.0 refl refl refl in
+    let visit = visit_of was x.chair c.take_book.new.chair c.in_ok-held.held c.in_ok-held.book c.in_ok-held.ensures.entered c.in_ok-held.ensures.finds c.processor.invariant.1 c.processor.invariant.0 refl refl (refl, refl) in
     let waits : x.awaits ≡ Some c.in_ok-kind.kind = ap (λ (l : Local). l.awaits) c.processor.view_is ∙ c.in_ok-kind.ensures.kind in
     may_take _ c.processor.invariant.0 c.in_ok-held.book c.in_ok-kind.kind waits visit.finds
 
@@ -53,8 +52,8 @@ pub give_book-requires-clause-call : goal.give_book-requires-clause-call
 give_book-requires-clause-call g c κs within =
     let x = c.processor.inside in
     let was = local x.chair x.number x.shape x.block.items x.replicas.items x.stored x.time x.held.items x.awaits in
-    let inside = inside_of x.chair c.take_book.new.chair was c.in_ok-held.held c.in_ok-held.book c.in_ok-held.ensures.entered c.processor.invariant.1 refl in
-    let visit = visit_of was x.chair c.take_book.new.chair c.in_ok-held.held c.in_ok-held.book c.in_ok-held.ensures.entered c.in_ok-held.ensures.finds c.processor.invariant.1 c.processor.invariant.0 refl refl refl in
+    let inside = inside_of x.chair c.take_book.new.chair was c.in_ok-held.held c.in_ok-held.book c.in_ok-held.ensures.entered c.processor.invariant.1 (refl, refl) in
+    let visit = visit_of was x.chair c.take_book.new.chair c.in_ok-held.held c.in_ok-held.book c.in_ok-held.ensures.entered c.in_ok-held.ensures.finds c.processor.invariant.1 c.processor.invariant.0 refl refl (refl, refl) in
     let waits : x.awaits ≡ Some c.in_ok-kind.kind = ap (λ (l : Local). l.awaits) c.processor.view_is ∙ c.in_ok-kind.ensures.kind in
     let made = c.receive-result.ensures in
     let call = call_of_receive _ c.processor.invariant.0 c.in_ok-held.book c.in_ok-kind.kind waits visit.finds c.receive-result.result c.receive-result.new.book made.ok made.err made.full in
@@ -66,8 +65,9 @@ invariant_of-processor-in_err-result g c =
     let was = local x.chair x.number x.shape x.block.items x.replicas.items x.stored x.time x.held.items x.awaits in
     let took = c.in_ok-held.ensures in
     let b = c.in_ok-held.book in
-    let visit = visit_of was x.chair c.take_book.new.chair c.in_ok-held.held c.in_ok-held.book c.in_ok-held.ensures.entered c.in_ok-held.ensures.finds c.processor.invariant.1 c.processor.invariant.0 refl refl refl in
-    let sees = subst (λ (n : State). Sees n (view c.take_book.new.chair) (view c.give_book.new.chair)) c.in_err-result.ensures.err c.give_book.ensures.seen in (
+    let visit = visit_left was x.chair c.take_book.new.chair c.give_book.new.chair c.in_ok-held.held c.in_ok-held.book c.receive-result.new.book c.in_ok-held.ensures.entered c.give_book.ensures.seen c.processor.invariant.1 c.processor.invariant.0 refl refl (refl, refl) in
+    let seen_then = seen_left was x.chair c.take_book.new.chair c.give_book.new.chair c.in_ok-held.held c.in_ok-held.book c.receive-result.new.book c.in_ok-held.ensures.entered c.give_book.ensures.seen c.processor.invariant.1 c.processor.invariant.0 refl refl (refl, refl) in
+    let sees = subst (λ (n : State). HasSeen visit n c.give_book.new.chair) c.in_err-result.ensures.err seen_then in (
       unchanged_sound visit c.give_book.new.chair c.give_book.ensures.left c.receive-result.new.replicas.items c.in_err-result.ensures.same sees,
       unchanged_seated visit c.give_book.new.chair c.give_book.ensures.left c.receive-result.new.replicas.items c.in_err-result.ensures.same sees,
       c.processor.invariant.2,
@@ -78,11 +78,12 @@ returns-in_err-result g c =
     let x = c.processor.inside in
     let was = local x.chair x.number x.shape x.block.items x.replicas.items x.stored x.time x.held.items x.awaits in
     let b = c.in_ok-held.book in
-    let visit = visit_of was x.chair c.take_book.new.chair c.in_ok-held.held c.in_ok-held.book c.in_ok-held.ensures.entered c.in_ok-held.ensures.finds c.processor.invariant.1 c.processor.invariant.0 refl refl refl in
+    let visit = visit_left was x.chair c.take_book.new.chair c.give_book.new.chair c.in_ok-held.held c.in_ok-held.book c.receive-result.new.book c.in_ok-held.ensures.entered c.give_book.ensures.seen c.processor.invariant.1 c.processor.invariant.0 refl refl (refl, refl) in
+    let seen_then = seen_left was x.chair c.take_book.new.chair c.give_book.new.chair c.in_ok-held.held c.in_ok-held.book c.receive-result.new.book c.in_ok-held.ensures.entered c.give_book.ensures.seen c.processor.invariant.1 c.processor.invariant.0 refl refl (refl, refl) in
     let waits : x.awaits ≡ Some c.in_ok-kind.kind = ap (λ (l : Local). l.awaits) c.processor.view_is ∙ c.in_ok-kind.ensures.kind in
     let bad = c.in_err-result.ensures in
     let e = c.in_err-result.field-0.0 in
-    let sees = subst (λ (n : State). Sees n (view c.take_book.new.chair) (view c.give_book.new.chair)) bad.err c.give_book.ensures.seen in
+    let sees = subst (λ (n : State). HasSeen visit n c.give_book.new.chair) bad.err seen_then in
     let answer = err_from_is_err_and c.from_residual-in_err-result.result c.from_residual-in_err-result.ensures.1 in
     let seen = unchanged_seen visit c.give_book.new.chair c.give_book.ensures.left c.receive-result.new.replicas.items bad.same sees in
     let late = subst (λ (h : List Event). ◌≡◌ {A = Result Message Refused} (Err e) (Err NotYet) ↔ (¬ Ready x.shape h x.number)) (sym seen) (bad.absent x.shape ((view x.chair).seen ++ visit.finds.rest) visit.finds.kept.told) in
@@ -97,7 +98,7 @@ learn-requires g c =
     let x = c.processor.inside in
     let was = local x.chair x.number x.shape x.block.items x.replicas.items x.stored x.time x.held.items x.awaits in
     let b = c.in_ok-held.book in
-    let visit = visit_of was x.chair c.take_book.new.chair c.in_ok-held.held c.in_ok-held.book c.in_ok-held.ensures.entered c.in_ok-held.ensures.finds c.processor.invariant.1 c.processor.invariant.0 refl refl refl in
+    let visit = visit_of was x.chair c.take_book.new.chair c.in_ok-held.held c.in_ok-held.book c.in_ok-held.ensures.entered c.in_ok-held.ensures.finds c.processor.invariant.1 c.processor.invariant.0 refl refl (refl, refl) in
     let waits : x.awaits ≡ Some c.in_ok-kind.kind = ap (λ (l : Local). l.awaits) c.processor.view_is ∙ c.in_ok-kind.ensures.kind in
     let ok = c.in_ok-result.ensures in
     let sent = letter c.in_ok-result.field-0 in
@@ -109,7 +110,7 @@ join-requires g c =
     let x = c.processor.inside in
     let was = local x.chair x.number x.shape x.block.items x.replicas.items x.stored x.time x.held.items x.awaits in
     let b = c.in_ok-held.book in
-    let visit = visit_of was x.chair c.take_book.new.chair c.in_ok-held.held c.in_ok-held.book c.in_ok-held.ensures.entered c.in_ok-held.ensures.finds c.processor.invariant.1 c.processor.invariant.0 refl refl refl in
+    let visit = visit_of was x.chair c.take_book.new.chair c.in_ok-held.held c.in_ok-held.book c.in_ok-held.ensures.entered c.in_ok-held.ensures.finds c.processor.invariant.1 c.processor.invariant.0 refl refl (refl, refl) in
     let waits : x.awaits ≡ Some c.in_ok-kind.kind = ap (λ (l : Local). l.awaits) c.processor.view_is ∙ c.in_ok-kind.ensures.kind in
     let ok = c.in_ok-result.ensures in
     let sent = letter c.in_ok-result.field-0 in
@@ -126,7 +127,7 @@ mark_held-requires-clause-lock g c =
     let x = c.processor.inside in
     let was = local x.chair x.number x.shape x.block.items x.replicas.items x.stored x.time x.held.items x.awaits in
     let b = c.in_ok-held.book in
-    let visit = visit_of was x.chair c.take_book.new.chair c.in_ok-held.held c.in_ok-held.book c.in_ok-held.ensures.entered c.in_ok-held.ensures.finds c.processor.invariant.1 c.processor.invariant.0 refl refl refl in
+    let visit = visit_of was x.chair c.take_book.new.chair c.in_ok-held.held c.in_ok-held.book c.in_ok-held.ensures.entered c.in_ok-held.ensures.finds c.processor.invariant.1 c.processor.invariant.0 refl refl (refl, refl) in
     let waits : x.awaits ≡ Some c.in_ok-kind.kind = ap (λ (l : Local). l.awaits) c.processor.view_is ∙ c.in_ok-kind.ensures.kind in
     let ok = c.in_ok-result.ensures in
     let sent = letter c.in_ok-result.field-0 in
@@ -138,7 +139,8 @@ invariant_of-processor-2 g c =
     let x = c.processor.inside in
     let was = local x.chair x.number x.shape x.block.items x.replicas.items x.stored x.time x.held.items x.awaits in
     let b = c.in_ok-held.book in
-    let visit = visit_of was x.chair c.take_book.new.chair c.in_ok-held.held c.in_ok-held.book c.in_ok-held.ensures.entered c.in_ok-held.ensures.finds c.processor.invariant.1 c.processor.invariant.0 refl refl refl in
+    let visit = visit_left was x.chair c.take_book.new.chair c.give_book.new.chair c.in_ok-held.held c.in_ok-held.book c.receive-result.new.book c.in_ok-held.ensures.entered c.give_book.ensures.seen c.processor.invariant.1 c.processor.invariant.0 refl refl (refl, refl) in
+    let seen_then = seen_left was x.chair c.take_book.new.chair c.give_book.new.chair c.in_ok-held.held c.in_ok-held.book c.receive-result.new.book c.in_ok-held.ensures.entered c.give_book.ensures.seen c.processor.invariant.1 c.processor.invariant.0 refl refl (refl, refl) in
     let waits : x.awaits ≡ Some c.in_ok-kind.kind = ap (λ (l : Local). l.awaits) c.processor.view_is ∙ c.in_ok-kind.ensures.kind in
     let ok = c.in_ok-result.ensures in
     let sent = letter c.in_ok-result.field-0 in
@@ -147,7 +149,7 @@ invariant_of-processor-2 g c =
     let learned = subst (λ (xs : List SentRecord). AreAfterNews c.receive-result.new.replicas.items xs c.learn.new.replicas.items) c.into_parts-time.ensures.notices c.learn.ensures in
     let told = after_alike x.replicas.items c.receive-result.new.replicas.items c.learn.new.replicas.items sent.notices ok.same learned in
     let joined = c.join.ensures.value ∙ ap (λ (u : List ℕ). join x.time u) c.into_parts-time.ensures.time in
-    let ends = taken_parts visit c.give_book.new.chair c.give_book.ensures.left c.in_ok-kind.kind waits sent t.0 c.receive-result.new.book t.1 fits c.give_book.ensures.seen c.learn.new.replicas.items told c.join.new.self c.mark_held.new.held.items None joined c.mark_held.ensures refl in
+    let ends = taken_parts visit c.give_book.new.chair c.give_book.ensures.left c.in_ok-kind.kind waits sent t.0 c.receive-result.new.book t.1 fits seen_then c.learn.new.replicas.items told c.join.new.self c.mark_held.new.held.items None joined c.mark_held.ensures refl in
     (ends.0, ends.1, c.processor.invariant.2)
 
 pub returns : goal.returns
@@ -155,7 +157,8 @@ returns g c =
     let x = c.processor.inside in
     let was = local x.chair x.number x.shape x.block.items x.replicas.items x.stored x.time x.held.items x.awaits in
     let b = c.in_ok-held.book in
-    let visit = visit_of was x.chair c.take_book.new.chair c.in_ok-held.held c.in_ok-held.book c.in_ok-held.ensures.entered c.in_ok-held.ensures.finds c.processor.invariant.1 c.processor.invariant.0 refl refl refl in
+    let visit = visit_left was x.chair c.take_book.new.chair c.give_book.new.chair c.in_ok-held.held c.in_ok-held.book c.receive-result.new.book c.in_ok-held.ensures.entered c.give_book.ensures.seen c.processor.invariant.1 c.processor.invariant.0 refl refl (refl, refl) in
+    let seen_then = seen_left was x.chair c.take_book.new.chair c.give_book.new.chair c.in_ok-held.held c.in_ok-held.book c.receive-result.new.book c.in_ok-held.ensures.entered c.give_book.ensures.seen c.processor.invariant.1 c.processor.invariant.0 refl refl (refl, refl) in
     let waits : x.awaits ≡ Some c.in_ok-kind.kind = ap (λ (l : Local). l.awaits) c.processor.view_is ∙ c.in_ok-kind.ensures.kind in
     let ok = c.in_ok-result.ensures in
     let sent = letter c.in_ok-result.field-0 in
@@ -164,7 +167,7 @@ returns g c =
     let learned = subst (λ (xs : List SentRecord). AreAfterNews c.receive-result.new.replicas.items xs c.learn.new.replicas.items) c.into_parts-time.ensures.notices c.learn.ensures in
     let told = after_alike x.replicas.items c.receive-result.new.replicas.items c.learn.new.replicas.items sent.notices ok.same learned in
     let joined = c.join.ensures.value ∙ ap (λ (u : List ℕ). join x.time u) c.into_parts-time.ensures.time in
-    let ends = taken_parts visit c.give_book.new.chair c.give_book.ensures.left c.in_ok-kind.kind waits sent t.0 c.receive-result.new.book t.1 fits c.give_book.ensures.seen c.learn.new.replicas.items told c.join.new.self c.mark_held.new.held.items None joined c.mark_held.ensures refl in
+    let ends = taken_parts visit c.give_book.new.chair c.give_book.ensures.left c.in_ok-kind.kind waits sent t.0 c.receive-result.new.book t.1 fits seen_then c.learn.new.replicas.items told c.join.new.self c.mark_held.new.held.items None joined c.mark_held.ensures refl in
     let some = not_spent visit in
     let test : take_test was ≡ None = ap take_test c.processor.view_is ∙ sym c.in_ok-kind.ensures.test in
     let free : or_spent (take_test was) was ≡ None = rw (test, some) refl in

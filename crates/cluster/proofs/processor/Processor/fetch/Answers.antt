@@ -1,7 +1,7 @@
 use Rattle.std.proofs.Common.{sym, subst, arith}
 use Rattle.replicas.specs.Sound.{IsSound}
 use Rattle.cluster.proofs.Covering.{covers}
-use Rattle.cluster.proofs.Fetching.{missing_fit, missing_few, fetched_newest, fetched_sound, stale_read, fetch_done}
+use Rattle.cluster.proofs.Fetching.{missing_fit, missing_countable, fetched_newest, fetched_sound, stale_read, fetch_done}
 use Rattle.cluster.proofs.processor.Processor.fetch.Goals as goal
 
 pub returns-in_err-admit_fetch-clause-covers : goal.returns-in_err-admit_fetch-clause-covers
@@ -12,7 +12,7 @@ counts-counts-requires-clause-few g c =
     let sound = subst IsSound c.self.view_is c.self.invariant.0 in
     let x = c.index_mut-replica.result.now in
     let read = stale_read _ c.args.self.now c.args.page x c.self.view_is (sym c.in_ok-admit_fetch.ensures) c.index_mut-replica.ensures.value sound in
-    missing_few c.args.self.now sound c.args.page x read.0 read.1
+    missing_countable c.args.self.now sound c.args.page x read.0 read.1
 
 pub counts-counts-requires-clause-fit : goal.counts-counts-requires-clause-fit
 counts-counts-requires-clause-fit g c =

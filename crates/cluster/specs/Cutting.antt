@@ -1,0 +1,46 @@
+-- A call that cuts the journal.
+use Rattle.std.specs.Prelude.{ℕ, ◌≡◌, ◌+◌, ◌<◌, ◌≤◌, Option, Some, None, List, drop, take, length}
+use Rattle.journal.specs.declared.event.Event.{Event}
+use Rattle.journal.specs.Sizes.{Sizes}
+use Rattle.journal.specs.Cuts.{IsCut, NoCut}
+use Rattle.journal.specs.Races.{RaceFree, IsFirstRace}
+use Rattle.lists.specs.Limits.{most_cut, most_events}
+use Rattle.book.specs.declared.refused.Refused.{Refused}
+use Rattle.book.specs.declared.refused.Refused.TheVariants.{NoMemory, Racy, NoEpisode, BaseFull}
+use Rattle.replicas.specs.Local.{Local, calls}
+use Rattle.cluster.specs.Calls.{IsSame, IsSameProcessor}
+use Rattle.cluster.specs.Covers.{Covers, IsAllowed}
+use Rattle.cluster.specs.Entering.{IsAfter}
+use Rattle.cluster.specs.Refusals.{flush_refusal}
+
+-- of a history of which so many events were cut off, the next n are to be cut off: they end an episode, and no longer
+-- front of what is left does; and all that is cut off stays within the limit
+pub record MayCutOff (s : Sizes) (h : List Event) (cut n : ℕ) : Type 0 where
+  pub place : IsCut s.processors (drop cut h) n
+  pub few : cut + n ≤ most_cut
+
+-- they were, and all that is cut off has no race
+pub record WasCutOff (m n : Local) : Type 0 where
+  pub taken : ℕ
+  pub may : MayCutOff m.sizes m.seen m.cut taken
+  pub race_free : RaceFree (take (m.cut + taken) m.seen)
+  pub after : n ≡ record m { cut = m.cut + taken }
+
+-- why no more of such a history is cut off: places are counted from the first event that is left
+abbrev pub IsUncut : Sizes → List Event → ℕ → Refused → Type 0
+IsUncut s h cut (Racy i k) = (n : ℕ) × MayCutOff s h cut n × IsFirstRace (take (cut + n) h) (cut + i) (cut + k)
+IsUncut s h cut NoEpisode = NoCut s.processors (drop cut h)
+IsUncut s h cut BaseFull = (n : ℕ) × IsCut s.processors (drop cut h) n × (most_cut < cut + n)
+IsUncut s h cut NoMemory = (n : ℕ) × MayCutOff s h cut n
+IsUncut s h cut _ = ⊥
+
+-- the call is refused where the entries are spent; else it enters, and cuts, or leaves all as it found it
+pub record IsCuttingCall (old new : Local) (refused : Option Refused) : Type 0 where
+  pub same : IsSameProcessor old new
+  pub outside : (e : Refused) → flush_refusal old ≡ Some e → (refused ≡ Some e) × (new ≡ old)
+  pub ok : refused ≡ None → IsAfter WasCutOff old new × (length new.seen ≤ most_events + new.cut)
+  pub err : (e : Refused) → flush_refusal old ≡ None → refused ≡ Some e
+      → IsAfter IsSame old new × IsUncut new.sizes new.seen new.cut e
+  pub calls_are : calls new ≡ calls old
+  pub covers : Covers new
+  pub allowed : IsAllowed old → IsAllowed new
