@@ -8,7 +8,8 @@
 //! history that tells the book (`specs/Calls`, `specs/Told`).
 //!
 //! **What is proved**: each call is its function or is refused with the book as before; and, in [`laws`],
-//! that a book which a history tells is told after each call by that history with the call's events.
+//! that a book which a history tells is told after each call by that history with the call's events, and
+//! after a cut by the same history: the journal then holds what is left of it.
 //!
 //! **What is only tested**: the texts of [`Refused`]. The rows of the book's calls stand in crate
 //! `book_uses`.

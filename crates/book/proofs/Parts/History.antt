@@ -1,5 +1,5 @@
 -- What the journal has to do with the history of which it holds what is left. Nothing else opens `HoldsSome`.
-use Rattle.std.proofs.Common.{◌≡◌, ℕ, ◌+◌, ◌^◌, ◌<◌, ◌≤◌, ◌++◌, List, [], length, take, refl, ap, ◌∙◌, append_assoc, length-append, arith}
+use Rattle.std.proofs.Common.{ℕ, ◌+◌, ◌^◌, ◌<◌, ◌≤◌, ◌++◌, List, [], length, take, refl, ap, ◌∙◌, append_assoc, length-append, arith}
 use Rattle.lists.specs.Limits.{most_events, most_cut}
 use Rattle.journal.specs.declared.event.Event.{Event}
 use Rattle.journal.specs.Log.{Log}
@@ -11,7 +11,7 @@ use Rattle.journal.proofs.Journals.History.{whole_law, history_law}
 use Rattle.book.specs.Transitions.{appended, new_book}
 use Rattle.book.specs.Told.{HoldsSome}
 
--- no more events has the history: those that may have been cut off, and the journal's
+-- the history has no more events than this: as many as may have been cut off, and the journal's
 abbrev pub happened : Log → ℕ
 happened log = most_cut + length log.events
 
