@@ -1,6 +1,8 @@
 //! Tests of the cluster, as lists of steps.
 ghost use Rattle.std.specs.Prelude.{◌≡◌, ◌<◌, ◌≤◌, ◌^◌, length};
 
+mod full;
+mod growths;
 mod limits;
 mod refusals;
 mod rows;

@@ -2,6 +2,7 @@
 
 mod drawn;
 mod faults;
+mod growths;
 mod limits;
 mod reading;
 

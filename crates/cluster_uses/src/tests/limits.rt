@@ -157,6 +157,7 @@ fn overflows<T: Turn<Book, Rule> + Drop, R: Abort + Wait + AllocGlobal>(
             Refuses(0, Arrive, Refused::JournalFull),
         ],
     )?;
+    assert!(rt; seen_of(&crew, rt.alloc(), 0)?.room == 255);
     let journal = crew.finish();
     assert!(rt; journal.len() == (1 << 20) + 1);
     assert!(rt; has_event(&journal, 1 << 20, did(0, Kind::Store(0, 2))));
