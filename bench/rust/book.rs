@@ -4,6 +4,7 @@
 use std::collections::VecDeque;
 use std::sync::{Arc, Mutex};
 use std::thread;
+use std::time::Instant;
 
 const WORDS: usize = 64;
 const BLOCK: usize = 256;
@@ -448,8 +449,10 @@ pub fn grants(times: usize) -> usize {
     times
 }
 
-pub fn fetches(pages: usize, times: usize) -> usize {
+/// The nanoseconds of 960 fetches of 64 words, the least of so many times.
+pub fn fetches(times: usize) -> u128 {
     let (cluster, mut all) = Cluster::new(16, 64, WORDS, 1);
+    let mut least = u128::MAX;
     for _ in 0..times {
         for block in 0..16 {
             for place in 0..256 {
@@ -459,13 +462,15 @@ pub fn fetches(pages: usize, times: usize) -> usize {
         }
         all.iter_mut().for_each(|m| cluster.arrive(m).unwrap());
         all.iter_mut().for_each(|m| cluster.take(m).unwrap());
+        let began = Instant::now();
         for m in &mut all[1..] {
-            for page in 0..pages {
+            for page in 0..64 {
                 m.fetch(page).unwrap();
             }
         }
+        least = least.min(began.elapsed().as_nanos());
     }
-    pages * times
+    least
 }
 
 fn insist(mut call: impl FnMut() -> Result<(), Refused>) {

@@ -15,7 +15,6 @@ fn wait(word: &AtomicU64, number: u64) {
             pauses += 1;
         } else {
             thread::yield_now();
-            pauses = 0;
         }
     }
 }

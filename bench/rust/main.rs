@@ -27,8 +27,7 @@ fn main() {
         "grant" => println!("{}", book::grants(times)),
         "hand_over" => println!("{}", book::hand_over(many, times)),
         "barrier" => println!("{}", book::barrier(many, times)),
-        "stale" => println!("{}", book::fetches(0, times)),
-        "fetch" => println!("{}", book::fetches(64, times)),
+        "fetch" => println!("{}", book::fetches(times)),
         "parse" => println!("{}", script::parses(words.get(3).map_or("", String::as_str), times)),
         "build" | "append" | "first_race" | "replay" | "traffic" | "copy" => journal::measure(work, times, many),
         _ => {

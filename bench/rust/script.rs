@@ -113,6 +113,7 @@ pub fn parse(bytes: &[u8]) -> Option<Script> {
     let mut reader = Reader { rest: bytes };
     let sizes = reader.cluster()?;
     let mut sections: Vec<Vec<Instruction>> = Vec::new();
+    let mut held = 0u32;
     loop {
         match reader.word() {
             b"p" => {
@@ -122,6 +123,7 @@ pub fn parse(bytes: &[u8]) -> Option<Script> {
                     return None;
                 }
                 sections.push(Vec::new());
+                held = 0;
             }
             b"show" => break,
             word => {
@@ -129,6 +131,12 @@ pub fn parse(bytes: &[u8]) -> Option<Script> {
                 let section = sections.last_mut()?;
                 if section.len() == 10_000 {
                     return None;
+                }
+                match instruction {
+                    Instruction::Acquire(lock) if held >> lock & 1 == 0 => held |= 1 << lock,
+                    Instruction::Release(lock) if held >> lock & 1 == 1 => held &= !(1 << lock),
+                    Instruction::Acquire(_) | Instruction::Release(_) => return None,
+                    _ => {}
                 }
                 section.push(instruction);
             }
@@ -139,9 +147,7 @@ pub fn parse(bytes: &[u8]) -> Option<Script> {
         shown.push(reader.number(u64::from(sizes.addresses))?);
     }
     reader.ends()?;
-    let even = |section: &Vec<Instruction>| {
-        section.iter().filter(|i| matches!(i, Instruction::Barrier | Instruction::Cut)).count()
-    };
+    let even = |section: &Vec<Instruction>| section.iter().filter(|i| matches!(i, Instruction::Barrier)).count();
     let lawful = reader.rest.is_empty()
         && sections.len() == sizes.processors as usize
         && sections.iter().all(|section| even(section) == even(&sections[0]));

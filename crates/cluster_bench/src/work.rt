@@ -7,7 +7,7 @@ use anyhow::{Result, bail};
 use cluster_uses::Task;
 use lrc_script::script::parse;
 use std::fs;
-use std::rt::Files;
+use std::rt::{Clock, Files};
 use std::sync::Wait;
 use std::thread::Threads;
 
@@ -30,9 +30,7 @@ pub enum Work {
     HandOver,
     /// Episodes of the barrier.
     Barrier,
-    /// 960 copies that get stale, for the next.
-    Stale,
-    /// 960 fetches of 64 words each, besides.
+    /// Fetches of 64 words: 960 of them, by the clock.
     Fetch,
     /// Reads of a script.
     Parse,
@@ -50,7 +48,6 @@ impl Work {
             "grant" => Some(Work::Grant),
             "hand_over" => Some(Work::HandOver),
             "barrier" => Some(Work::Barrier),
-            "stale" => Some(Work::Stale),
             "fetch" => Some(Work::Fetch),
             "parse" => Some(Work::Parse),
             _ => None,
@@ -93,8 +90,9 @@ fn parses<R: Files + AllocGlobal>(rt: &R, file: &str, times: usize) -> Result<us
     let bytes = fs::read(rt, file)?;
     let mut shown = 0;
     for _ in 0..times {
-        let Ok(script) = parse(rt.alloc(), &bytes) else {
-            bail!("no script");
+        let script = match parse(rt.alloc(), &bytes) {
+            Ok(script) => script,
+            Err((line, fault)) => bail!("line {line}: {fault}"),
         };
         shown = script.shown.len();
     }
@@ -102,7 +100,7 @@ fn parses<R: Files + AllocGlobal>(rt: &R, file: &str, times: usize) -> Result<us
 }
 
 /// Does the work, and answers its count.
-pub fn perform<R: Files + AllocGlobal + Threads + Wait + Sync>(
+pub fn perform<R: Files + Clock + AllocGlobal + Threads + Wait + Sync>(
     rt: &R,
     order: &Order,
 ) -> Result<u64> {
@@ -128,8 +126,7 @@ pub fn perform<R: Files + AllocGlobal + Threads + Wait + Sync>(
             tasks(rt, alloc, threads, task, times)?
         }
         Work::Barrier => tasks(rt, alloc, threads, Task::Meet, times)?,
-        Work::Stale => fetches(rt, alloc, 0, times)?,
-        Work::Fetch => fetches(rt, alloc, 64, times)?,
+        Work::Fetch => fetches(rt, alloc, times)? as usize,
         Work::Parse => parses(rt, file, times)?,
     };
     Ok(count as u64)

@@ -99,18 +99,18 @@ type LockSeat<B, V> = Seat<Option<B>, ChairRun<ChairState<B, V>>>;
 /// The next number to draw.
 const NEXT: usize = 0;
 
-/// Looks between two yields of a waiting thread.
+/// Pauses of a waiting thread before it yields.
 const PAUSES: u32 = 128;
 
-// Waits between two looks: a pause of the processor, and after so many of them a yield. The pauses don't grow, since in
-// a queue the one that looks too late stops everybody behind it.
+// Waits between two looks, after so many pauses: a pause of the processor more, or a yield once there were enough. They
+// don't grow, since in a queue the one that looks too late stops everybody behind it.
 fn give_way(pauses: u32) -> u32 {
     if pauses < PAUSES {
         spin_loop();
         pauses + 1
     } else {
         yield_now();
-        0
+        pauses
     }
 }
 
