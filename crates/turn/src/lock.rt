@@ -7,11 +7,12 @@ use crate::board::{Board, Change, Counter, Layout, Row};
 use crate::chair::{Chair, ChairRun, ChairState, ChairToken, Held, Spent};
 use crate::contract::{Keeper, Outcome, Turn};
 use atomic_table::{Join, Play, Seat, Split, Table, TableRule};
-use crossbeam_utils::Backoff;
 use std::alloc::{AllocError, Global};
+use std::hint::spin_loop;
 use std::marker::PhantomData;
 use std::snapshot::Snapshot;
 use std::sync::Wait;
+use std::thread::yield_now;
 
 /// What a lock is told once, when it is made: how many chairs it has, how often each may enter, and, for proofs alone,
 /// the first book.
@@ -98,6 +99,21 @@ type LockSeat<B, V> = Seat<Option<B>, ChairRun<ChairState<B, V>>>;
 /// The next number to draw.
 const NEXT: usize = 0;
 
+/// Pauses of a waiting thread before it yields.
+const PAUSES: u32 = 128;
+
+// Waits between two looks, after so many pauses: a pause of the processor more, or a yield once there were enough. They
+// don't grow, since in a queue the one that looks too late stops everybody behind it.
+fn give_way(pauses: u32) -> u32 {
+    if pauses < PAUSES {
+        spin_loop();
+        pauses + 1
+    } else {
+        yield_now();
+        pauses
+    }
+}
+
 /// A lock whose chairs draw numbers, and enter in the order of their numbers, on the board `W`.
 pub struct Lock<B, K: Keeper<B>, W: Board, const ENTRIES: u64> {
     table: Table<Option<B>, ChairRun<ChairState<B, K::View>>, Terms<B>, Tickets<K, W>, Global>,
@@ -167,12 +183,12 @@ impl<B, K: Keeper<B>, W: Board, const ENTRIES: u64> Lock<B, K, W, ENTRIES> {
         ensures enter { StepsIn K.fact number seat.old.me seat.new.me }
     {
         let word = W::at(self.layout.seats, number);
-        let backoff = Backoff::new();
+        let mut pauses = 0;
         for _ in rt.forever() {
             if self.look(seat, word, number) {
                 return;
             }
-            backoff.snooze();
+            pauses = give_way(pauses);
         }
         unreachable!()
     }
