@@ -76,7 +76,7 @@ fn before(last: &Last, time: &Time) -> bool {
     last.interval <= time[last.processor as usize]
 }
 
-/// The first race by place, after Flanagan and Freund, FastTrack (CACM 2010). An interval of 0 stands for none.
+/// The first race by place, after Flanagan and Freund, FastTrack (PLDI 2009). An interval of 0 stands for none.
 fn first_race(journal: &[Event]) -> Option<(usize, usize)> {
     let mut times: [Time; PROCESSORS] = [[0; PROCESSORS]; PROCESSORS];
     for (p, time) in times.iter_mut().enumerate() {
