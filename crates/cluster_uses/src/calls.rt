@@ -23,6 +23,7 @@ pub enum Call {
     Take,
     Flush,
     Audit,
+    Cut,
 }
 
 /// What a call answers that isn't refused.
@@ -68,6 +69,7 @@ pub(crate) fn make<T: Turn<Book, Rule>, R: Wait>(
         Call::Take => done(cluster.take(rt, processor)),
         Call::Flush => done(cluster.flush(rt, processor)),
         Call::Audit => copy(cluster.audit(rt, processor)),
+        Call::Cut => done(cluster.cut(rt, processor)),
     }
 }
 

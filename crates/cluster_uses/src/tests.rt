@@ -1,6 +1,7 @@
 //! Tests of the cluster, as lists of steps.
 ghost use Rattle.std.specs.Prelude.{◌≡◌, ◌<◌, ◌≤◌, ◌^◌, length};
 
+mod cuts;
 mod full;
 mod growths;
 mod limits;
@@ -9,7 +10,7 @@ mod rows;
 mod threads;
 
 use crate::{Answer, Call, Crew};
-use Call::{Arrive, Ask, Audit, Fetch, Flush, Load, Release, Set, Store, Take, Watch};
+use Call::{Arrive, Ask, Audit, Cut, Fetch, Flush, Load, Release, Set, Store, Take, Watch};
 use Step::{Does, HasPage, HasTime, Holds, IsStale, Loads, Refuses};
 use book::{Book, Refused};
 use cluster::{BookLock, Processor, Rule, TicketBookLock};

@@ -229,6 +229,7 @@ fn spends_all<T: Turn<Book, Rule> + Drop, R: Abort + Wait + AllocGlobal>(
             Does(0, Store(0, 2)),
             Refuses(0, Flush, Refused::SeatSpent),
             Refuses(0, Arrive, Refused::SeatSpent),
+            Refuses(0, Cut, Refused::SeatSpent),
         ],
     )
 }

@@ -1,4 +1,4 @@
-use Rattle.cluster_uses.proofs.Stepping.{by_call}
+use Rattle.cluster_uses.proofs.Stepping.{by_call, by_cut}
 use Rattle.cluster_uses.proofs.calls.make.Goals as goal
 
 pub returns-in-Ask : goal.returns-in-Ask
@@ -24,3 +24,6 @@ returns-in-Audit g c = rw c.copy.ensures (by_call _ _ _ _ _ _ _ _ _ c.requires c
 
 pub returns-in-Take : goal.returns-in-Take
 returns-in-Take g c = rw c.done-in-Take.ensures (by_call _ _ _ _ _ _ _ _ _ c.requires c.take.ensures)
+
+pub returns-in-Cut : goal.returns-in-Cut
+returns-in-Cut g c = rw c.done-in-Cut.ensures (by_cut _ _ _ _ c.requires c.cut.ensures)

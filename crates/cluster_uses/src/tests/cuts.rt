@@ -1,0 +1,260 @@
+//! Cuts, with both locks.
+ghost use Rattle.std.specs.Prelude.{◌^◌, ◌≤◌};
+
+use super::*;
+
+/// Whether so many events were cut off, and the journal keeps this memory.
+fn was_cut(journal: &Journal, events: u64, memory: &[u32]) -> bool {
+    journal.cut_events() == events && journal.base() == memory
+}
+
+/// What one stored before a cut the other reads after it.
+fn reads_past_a_cut<T: Turn<Book, Rule> + Drop, R: Abort + Wait + AllocGlobal>(
+    rt: &R,
+) -> Result<(), Refused>
+    requires { T.ENTRIES ≤ 2 ^ 40 }
+{
+    let mut crew = opened::<T>(rt.alloc(), [2, 1, 2, 0, 0])?;
+    go(
+        &mut crew,
+        rt,
+        &[
+            Refuses(1, Cut, Refused::NoEpisode),
+            Does(0, Store(0, 5)),
+            Does(0, Arrive),
+            Refuses(1, Cut, Refused::NoEpisode),
+            Does(1, Arrive),
+            Does(1, Take),
+            Does(1, Cut),
+            Does(0, Take),
+            Loads(0, 0, 5),
+            Refuses(1, Cut, Refused::NoEpisode),
+            IsStale(1, 0),
+            Does(1, Fetch(0)),
+            Loads(1, 0, 5),
+        ],
+    )?;
+    let wanted = [
+        did(1, Kind::Depart),
+        did(0, Kind::Depart),
+        did(0, Kind::Load(0, 5)),
+        fetched(1, 0, 1, 1, 1),
+        did(1, Kind::Load(0, 5)),
+    ];
+    let journal = crew.finish();
+    assert!(rt; was_cut(&journal, 3, &[5, 0]));
+    assert!(rt; has_events(&journal, &wanted));
+    assert!(rt; replays_to(&journal, &[5, 0]));
+    let traffic = journal.traffic();
+    assert_eq!(rt;
+        [traffic.messages, traffic.records, traffic.words],
+        [6, 1, 1]
+    );
+    Ok(())
+}
+
+#[test]
+fn what_was_cut_off_is_read(rt: HostRuntime) -> Result<(), Fail> {
+    reads_past_a_cut::<BookLock, _>(&rt)?;
+    reads_past_a_cut::<TicketBookLock, _>(&rt)?;
+    Ok(())
+}
+
+/// Where what is to be cut off has a race, nothing is, whoever calls.
+fn keeps_a_race<T: Turn<Book, Rule> + Drop, R: Abort + Wait + AllocGlobal>(
+    rt: &R,
+) -> Result<(), Refused>
+    requires { T.ENTRIES ≤ 2 ^ 40 }
+{
+    let mut crew = opened::<T>(rt.alloc(), [2, 1, 1, 0, 0])?;
+    go(
+        &mut crew,
+        rt,
+        &[
+            Does(0, Store(0, 1)),
+            Does(0, Arrive),
+            Does(1, Store(0, 2)),
+            Does(1, Arrive),
+            Refuses(0, Cut, Refused::Racy(0, 2)),
+            Refuses(1, Cut, Refused::Racy(0, 2)),
+        ],
+    )?;
+    let wanted = [
+        did(0, Kind::Store(0, 1)),
+        did(0, Kind::Arrive),
+        did(1, Kind::Store(0, 2)),
+        did(1, Kind::Arrive),
+    ];
+    let journal = audits(&mut crew, rt, 0)?;
+    assert!(rt; has_events(&journal, &wanted));
+    assert!(rt; was_cut(&journal, 0, &[0]));
+    Ok(())
+}
+
+#[test]
+fn a_race_is_not_cut_off(rt: HostRuntime) -> Result<(), Fail> {
+    keeps_a_race::<BookLock, _>(&rt)?;
+    keeps_a_race::<TicketBookLock, _>(&rt)?;
+    Ok(())
+}
+
+/// The places of a race that a second cut finds are counted from the first event that is left.
+fn counts_from_the_cut<T: Turn<Book, Rule> + Drop, R: Abort + Wait + AllocGlobal>(
+    rt: &R,
+) -> Result<(), Refused>
+    requires { T.ENTRIES ≤ 2 ^ 40 }
+{
+    let mut crew = opened::<T>(rt.alloc(), [2, 1, 1, 0, 0])?;
+    go(
+        &mut crew,
+        rt,
+        &[
+            Does(0, Arrive),
+            Does(1, Arrive),
+            Does(1, Cut),
+            Does(0, Take),
+            Does(1, Take),
+            Does(0, Store(0, 1)),
+            Does(1, Store(0, 2)),
+            Does(1, Arrive),
+            Does(0, Arrive),
+            Refuses(1, Cut, Refused::Racy(2, 4)),
+        ],
+    )?;
+    let journal = crew.finish();
+    assert!(rt; was_cut(&journal, 2, &[0]));
+    assert!(rt; journal.len() == 6);
+    Ok(())
+}
+
+#[test]
+fn a_race_is_placed_in_what_is_left(rt: HostRuntime) -> Result<(), Fail> {
+    counts_from_the_cut::<BookLock, _>(&rt)?;
+    counts_from_the_cut::<TicketBookLock, _>(&rt)?;
+    Ok(())
+}
+
+/// A cut while a lock is held, one is asked for, a flag is set, one is watched, and one has yet to depart.
+fn cuts_amid<T: Turn<Book, Rule>, R: Abort + Wait + AllocGlobal>(
+    crew: &mut Crew<T>,
+    rt: &R,
+) -> Result<(), Refused> {
+    go(
+        crew,
+        rt,
+        &[
+            Does(0, Ask(0)),
+            Does(0, Take),
+            Does(0, Store(0, 1)),
+            Does(1, Set(0)),
+            Does(0, Arrive),
+            Does(1, Arrive),
+            Does(2, Arrive),
+            Does(1, Take),
+            Does(1, Ask(0)),
+            Does(2, Take),
+            Does(2, Watch(1)),
+            Does(2, Cut),
+            Refuses(2, Cut, Refused::NoEpisode),
+            Refuses(1, Take, Refused::NotYet),
+            Refuses(2, Take, Refused::NotYet),
+            Holds(0, 0, true),
+        ],
+    )
+}
+
+/// What was asked for, watched and owed before the cut comes after it.
+fn goes_on_after<T: Turn<Book, Rule>, R: Abort + Wait + AllocGlobal>(
+    crew: &mut Crew<T>,
+    rt: &R,
+) -> Result<(), Refused> {
+    go(
+        crew,
+        rt,
+        &[
+            Does(0, Take),
+            Loads(0, 0, 1),
+            Does(0, Store(0, 2)),
+            Does(0, Release(0)),
+            Does(1, Take),
+            Holds(1, 0, true),
+            Does(1, Fetch(0)),
+            Loads(1, 0, 2),
+            Does(0, Watch(0)),
+            Does(0, Take),
+            Does(0, Set(1)),
+            Does(2, Take),
+            Does(2, Fetch(0)),
+            Loads(2, 0, 2),
+            Does(1, Release(0)),
+        ],
+    )
+}
+
+fn cuts_twice<T: Turn<Book, Rule> + Drop, R: Abort + Wait + AllocGlobal>(
+    rt: &R,
+) -> Result<(), Refused>
+    requires { T.ENTRIES ≤ 2 ^ 40 }
+{
+    let mut crew = opened::<T>(rt.alloc(), [3, 1, 1, 1, 2])?;
+    cuts_amid(&mut crew, rt)?;
+    goes_on_after(&mut crew, rt)?;
+    go(
+        &mut crew,
+        rt,
+        &[
+            Refuses(0, Cut, Refused::NoEpisode),
+            Does(0, Arrive),
+            Does(1, Arrive),
+            Does(2, Arrive),
+            Does(0, Cut),
+            Does(0, Take),
+        ],
+    )?;
+    let journal = crew.finish();
+    assert!(rt; was_cut(&journal, 28, &[2]));
+    assert!(rt; has_events(&journal, &[did(0, Kind::Depart)]));
+    Ok(())
+}
+
+#[test]
+fn a_cut_leaves_locks_and_flags(rt: HostRuntime) -> Result<(), Fail> {
+    cuts_twice::<BookLock, _>(&rt)?;
+    cuts_twice::<TicketBookLock, _>(&rt)?;
+    Ok(())
+}
+
+/// Stores, arrives, departs and cuts, over and over: more events than a journal may have.
+fn runs_past_the_limit<T: Turn<Book, Rule> + Drop, R: Abort + Wait + AllocGlobal>(
+    rt: &R,
+) -> Result<(), Refused>
+    requires { T.ENTRIES ≤ 2 ^ 40 }
+{
+    let mut crew = opened::<T>(rt.alloc(), [1, 1, 1, 0, 0])?;
+    for _ in 0..5000 {
+        for _ in 0..254 {
+            crew.call(rt, 0, Store(0, 1))?;
+        }
+        go(
+            &mut crew,
+            rt,
+            &[Does(0, Arrive), Does(0, Take), Does(0, Cut)],
+        )?;
+    }
+    let journal = crew.finish();
+    assert!(rt; was_cut(&journal, 1_279_999, &[1]));
+    assert!(rt; has_events(&journal, &[did(0, Kind::Depart)]));
+    Ok(())
+}
+
+#[test]
+fn a_cluster_runs_past_the_limit_with_a_row(rt: HostRuntime) -> Result<(), Fail> {
+    runs_past_the_limit::<BookLock, _>(&rt)?;
+    Ok(())
+}
+
+#[test]
+fn a_cluster_runs_past_the_limit_with_tickets(rt: HostRuntime) -> Result<(), Fail> {
+    runs_past_the_limit::<TicketBookLock, _>(&rt)?;
+    Ok(())
+}
