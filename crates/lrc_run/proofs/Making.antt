@@ -1,5 +1,5 @@
 -- What calls on a processor add to those that it has made.
-use Rattle.std.proofs.Common.{ℕ, Bool, ◌≡◌, ◌≢◌, Option, Some, None, Result, Ok, Err, IfOk, OnErr, OnOk, List, [], ◌∷◌, ◌++◌, false, true, cond, refl, sym, ap, subst, ◌∙◌, append_assoc, append-nil}
+use Rattle.std.proofs.Common.{ℕ, Bool, ◌≡◌, Option, Some, None, Result, Ok, Err, OnErr, OnOk, List, [], ◌∷◌, ◌++◌, false, true, cond, refl, sym, ap, subst, ◌∙◌, append_assoc, append-nil}
 use Rattle.std.specs.Prelude.{not}
 use Rattle.std.specs.Result.{result_err}
 use Rattle.journal.specs.declared.event.Event.{Event}
