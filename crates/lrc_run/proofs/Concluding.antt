@@ -1,29 +1,36 @@
 -- What the processors of a cluster have made at the end of a run, and what the report says of it.
 use Rattle.std.proofs.Common.{ℕ, ◌≡◌, ◌≢◌, ◌<◌, ◌↔◌, Bool, true, false, cond, Option, Some, None, List, [], ◌∷◌, ◌++◌, length, map, slice_get, slice_set, get_or, zero-add, ◌+◌, refl, sym, ap, subst, subst₂, ◌∙◌, inl, inr, append_assoc, ne_eqb, arith}
 use Rattle.std.specs.Prelude.{◌==◌, IsTrue, is_some, MatchOption}
+use Rattle.std.specs.List.{sum_by}
 use Rattle.std.proofs.lemmas.Bool.{cases_eq, cond-false}
 use Rattle.std.proofs.lemmas.List.{length-set}
+use Rattle.std.proofs.lemmas.List.Sums.{sum_by-append}
 use Rattle.std.proofs.lemmas.Option.{slice_get_within, slice_get-get_or, slice_get_read}
 use Rattle.lists.proofs.Sets.{slice_get-set_found, slice_get-set_other}
 use Rattle.journal.specs.declared.event.Event.{Event}
 use Rattle.journal.specs.declared.event.Kind.TheVariants.{Arrive, Depart}
 use Rattle.journal.specs.declared.event.Kind.{Kind}
-use Rattle.journal.specs.Base.{Base, no_base}
+use Rattle.journal.specs.Base.{Base}
+use Rattle.journal.specs.Cuts.{IsBaseOf}
+use Rattle.journal.specs.BaseLaws.{SaysTheSame}
+use Rattle.journal.specs.Counted.{AreCounted}
 use Rattle.journal.specs.Events.{part}
 use Rattle.journal.specs.RacesFrom.{IsFirstRaceFrom, RaceFreeFrom}
 use Rattle.journal.specs.Sizes.{Sizes, addresses}
-use Rattle.journal.specs.Traffic.{messages, records, words}
+use Rattle.journal.specs.Traffic.{messages, messages_of, records, records_of, words, words_of}
 use Rattle.journal.specs.WellFormed.{WellFormed}
-use Rattle.journal.proofs.Bases.Uncut.{uncut_race}
+use Rattle.journal.proofs.Bases.Whole.{same_law}
 use Rattle.lrc_script.specs.declared.script.Instruction.{Instruction}
 use Rattle.lrc_script.specs.Lawful.{IsLawful}
 use Rattle.lrc_script.specs.Plan.{Plan}
 use Rattle.follows.specs.Follows.{Follows, FollowsSection, calls_of, kinds_of, load_of, sizes_of}
+use Rattle.follows.proofs.Recomputing.Recomputed.{recomputed_law, race_free_law}
 use Rattle.replicas.specs.Local.{Local, calls}
 use Rattle.cluster.specs.Clusters.{Shared}
 use Rattle.cluster.specs.Finishing.{AreAllOf, HasCallsOf, IsFinished, IsProcessorOf}
 use Rattle.lrc_run.specs.declared.report.Report.{Report}
 use Rattle.lrc_run.specs.Endings.{HasFollowed, HaveFollowed}
+use Rattle.lrc_run.specs.Laws.{RaceFreeReportLaw}
 use Rattle.lrc_run.specs.Runs.{HasRace, IsReportOf}
 use Rattle.lrc_run.specs.Walks.{AreWalked, Loads, Walks, made, new_at}
 
@@ -160,12 +167,20 @@ first_calls s c ms shown h all has =
     let its = all.each 0 section m (slice_get-get_or s.sections 0 [] listed) here in
     (its.own, ap kinds_of (ap (part h) (sym (all.all.each 0 m here).number) ∙ (has 0 m here).calls_are) ∙ its.made_is)
 
--- by the first race, if there is one, there is a race
-pub has_race : (size : ℕ) (h : List Event) (o : Option (ℕ × ℕ))
-    → MatchOption o (RaceFreeFrom (no_base size) h) (λ r. IsFirstRaceFrom (no_base size) h r.0 r.1)
-    → IsTrue (is_some o) ↔ HasRace h
-has_race size h None free = ((λ t. absurd (cc)), λ r. absurd (free r.0 r.1 ((uncut_race size h r.0 r.1).0 r.2)))
-has_race size h (Some r) first = ((λ t. (r.0, r.1, (uncut_race size h r.0 r.1).1 first.race)), λ r. refl)
+-- by the first race of what is left from its base, if there is one, the history has a race
+has_race : (s : Sizes) (b : Base) (c j : List Event) (o : Option (ℕ × ℕ)) → SaysTheSame s b c j
+    → MatchOption o (RaceFreeFrom b j) (λ r. IsFirstRaceFrom b j r.0 r.1)
+    → IsTrue (is_some o) ↔ HasRace (c ++ j)
+has_race s b c j None same free = ((λ t. absurd (cc)), λ r. absurd (same.race_free.1 free r.0 r.1 r.2))
+has_race s b c j (Some x) same first =
+    ((λ t. (length c + x.0, length c + x.1, ((same.first_race x.0 x.1).1 first).race)), λ r. refl)
+
+-- what was cut off counts as the base says, and what is left besides
+counts : (f : Event → ℕ) (c j : List Event) (told spent : ℕ) → told ≡ spent + sum_by f j → spent ≡ 0 + sum_by f c
+    → told ≡ sum_by f (c ++ j)
+counts f c j told spent is before =
+    let both = sum_by-append f c j in
+    is ∙ ap (λ n. n + sum_by f j) (before ∙ zero-add (sum_by f c)) ∙ sym both
 
 -- the report of a finished cluster whose processors followed the script
 pub report_is : (s : Plan) (c : Shared) (ms : List Local) (r : Report) (o : Option (ℕ × ℕ))
@@ -181,41 +196,65 @@ report_is s c ms r o all finished race racy messages_are records_are words_are =
   processors = finished.journal.processors ∙ ap (λ (x : Sizes). x.processors) all.sizes;
   addresses_are = finished.journal.addresses_are ∙ ap addresses all.sizes;
   history = h;
+  taken = taken;
   holds = finished.journal.holds;
   tells = record {
-    well_formed = subst (λ (x : Sizes). WellFormed x h) all.sizes finished.faithful.well_formed;
+    well_formed = well_formed;
     explained = finished.faithful.explained;
+    counted = subst (λ (x : Sizes). AreCounted x h) all.sizes finished.faithful.counted;
     follows = follows;
-    racy = let P : Bool → Type 0 = λ b. IsTrue b ↔ HasRace h in
-        subst P (sym racy) (has_race r.journal.addresses h o (subst₂ Verdict base events race));
+    recomputed = recomputed_law s h well_formed follows;
+    racy = let P : Bool → List Event → Type 0 = λ b h. IsTrue b ↔ HasRace h in
+        subst₂ P (sym racy) (sym is) (has_race c.sizes r.journal.base taken left o same race);
     shown_addresses = all.addresses_are;
     replies = record {
       front = first.0 ++ Arrive ∷ Depart ∷ [];
       ends = first.1 ∙ sym (append_assoc first.0 (Arrive ∷ Depart ∷ []) (map load_of r.shown.items));
     };
-    messages_are = messages_are ∙ ap (λ (b : Base). b.spent.messages + messages r.journal.events) base
-        ∙ zero-add (messages r.journal.events) ∙ ap messages events;
-    records_are = records_are ∙ ap (λ (b : Base). b.spent.records + records r.journal.events) base
-        ∙ zero-add (records r.journal.events) ∙ ap records events;
-    words_are = words_are ∙ ap (λ (b : Base). b.spent.words + words r.journal.events) base
-        ∙ zero-add (words r.journal.events) ∙ ap words events;
+    messages_are = counts (λ e. messages_of e.kind) taken left r.traffic.messages r.journal.base.spent.messages messages_are
+        base.after.messages_are ∙ ap messages (sym is);
+    records_are = counts (λ e. records_of e.kind) taken left r.traffic.records r.journal.base.spent.records records_are
+        base.after.records_are ∙ ap records (sym is);
+    words_are = counts (λ e. words_of e.kind) taken left r.traffic.words r.journal.base.spent.words words_are
+        base.after.words_are ∙ ap words (sym is);
   };
 }
   where
     h : List Event
     h = finished.history
 
-    base : r.journal.base ≡ no_base r.journal.addresses
-    base = finished.journal.holds.whole
+    taken : List Event
+    taken = finished.taken
 
-    events : r.journal.events ≡ h
-    events = finished.journal.holds.history
+    left : List Event
+    left = r.journal.events
 
-    Verdict : Base → List Event → Type 0
-    Verdict b j = MatchOption o (RaceFreeFrom b j) (λ x. IsFirstRaceFrom b j x.0 x.1)
+    is : h ≡ taken ++ left
+    is = finished.journal.holds.history
+
+    base : IsBaseOf r.journal.processors r.journal.addresses taken r.journal.base
+    base = finished.journal.holds.base
+
+    well_formed : WellFormed (sizes_of s) h
+    well_formed = subst (λ (x : Sizes). WellFormed x h) all.sizes finished.faithful.well_formed
+
+    same : SaysTheSame c.sizes r.journal.base taken left
+    same = let B : ℕ → ℕ → Type 0 = λ p a. IsBaseOf p a taken r.journal.base in
+        same_law c.sizes r.journal.base taken left (subst (WellFormed c.sizes) is finished.faithful.well_formed)
+        (subst₂ B finished.journal.processors finished.journal.addresses_are base)
 
     follows : Follows s h
     follows = follows_all s c ms r.shown.items h all finished.each
 
     first : (own : List Kind) × (calls_of h 0 ≡ own ++ Arrive ∷ Depart ∷ map load_of r.shown.items)
     first = first_calls s c ms r.shown.items h all finished.each
+
+-- the report of a script that never races
+pub race_free_report : RaceFreeReportLaw
+race_free_report s r is never =
+    let told = race_free_law s is.history is.tells.well_formed is.tells.explained is.tells.follows never in
+    (by_verdict r.racy (λ yes. let race = is.tells.racy.0 yes in told.0 race.0 race.1 race.2), told.1)
+  where
+    by_verdict : (b : Bool) → ¬ IsTrue b → b ≡ false
+    by_verdict false none = refl
+    by_verdict true none = absurd (none refl)

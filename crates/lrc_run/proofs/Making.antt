@@ -18,6 +18,7 @@ use Rattle.replicas.specs.Local.{Local, calls}
 use Rattle.cluster.specs.Accesses.{IsStored}
 use Rattle.cluster.specs.Calls.{IsSameProcessor, IsCall}
 use Rattle.cluster.specs.Closing.{IsClosedBy}
+use Rattle.cluster.specs.Cutting.{IsCuttingCall}
 use Rattle.cluster.specs.Taking.{awaited_event}
 use Rattle.lrc_run.specs.Walks.{made, Makes, Tries, Does, Begins, IsOnItsWay, Takes, DoesAll, Walks}
 
@@ -81,6 +82,12 @@ tries_call first many absent done added m n (Ok x) call = record {
   more = ap kinds_of (call.ok refl).2 ∙ kinds_of-append (calls m) added;
 }
 tries_call first many absent done added m n (Err e) call = makes_same m n call.same (call.kept (λ none. cc))
+
+-- a cut, whether there was anything to be cut or not
+pub tries_cut : {A : Type 0} (m n : Local) (refused : Option Refused) (r : Result A Refused) → IsCuttingCall m n refused
+    → Tries m n r (λ _. [])
+tries_cut m n refused (Ok x) call = makes_same m n call.same call.calls_are
+tries_cut m n refused (Err e) call = makes_same m n call.same call.calls_are
 
 -- and that was accepted and adds no event
 pub makes_call : {A : Type 0} {first : Option Refused} {many : ℕ} {absent : Local → Type 0} {done : Local → Local → Type 0}

@@ -1,3 +1,4 @@
 pub mod Walks
 pub mod Endings
 pub mod Runs
+pub mod Laws

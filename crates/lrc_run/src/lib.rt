@@ -3,6 +3,7 @@
 
 mod ending;
 mod gate;
+pub mod laws;
 mod report;
 mod shown;
 mod walk;

@@ -1,8 +1,8 @@
 //! The instructions of a script. One that waits is begun by one call, and ended by a take that finds what it
 //! waits for.
-ghost use Rattle.std.specs.Prelude.{◌≡◌, IfOk};
+ghost use Rattle.std.specs.Prelude.{◌≡◌, IfOk, []};
 ghost use Rattle.cluster.specs.Calls.{IsSameProcessor};
-ghost use Rattle.lrc_run.specs.Walks.{IsOnItsWay, Takes};
+ghost use Rattle.lrc_run.specs.Walks.{IsOnItsWay, Takes, Tries};
 
 use super::accesses::{add, load, store};
 use crate::report::Cause;
@@ -14,8 +14,7 @@ use turn::Turn;
 
 /// Does the instruction, or begins it where it waits for something: answers whether it is done.
 ///
-/// [`Refused`](Cause::Refused) as its calls are, and [`Unserved`](Cause::Unserved) for a `cut`, until the
-/// cluster cuts.
+/// [`Refused`](Cause::Refused) as its calls are.
 pub(crate) fn begin<T: Turn<Book, Rule>, R: Wait>(
     rt: &R,
     cluster: &Cluster<T>,
@@ -59,7 +58,26 @@ pub(crate) fn begin<T: Turn<Book, Rule>, R: Wait>(
             cluster.watch(rt, processor, flag)?;
             Ok(false)
         }
-        Instruction::Cut => Err(Cause::Unserved),
+        Instruction::Cut => {
+            cut(rt, cluster, processor)?;
+            Ok(true)
+        }
+    }
+}
+
+/// Cuts the journal off where it may be: one that has no complete episode of the barrier, or a race before its last
+/// one, stays whole. Else refused as the cut is.
+fn cut<T: Turn<Book, Rule>, R: Wait>(
+    rt: &R,
+    cluster: &Cluster<T>,
+    processor: &mut Processor<T>,
+) -> Result<(), Refused>
+    requires own { processor.old.lock ≡ cluster.now.lock }
+    ensures { Tries processor.old processor.new result (λ _. []) }
+{
+    match cluster.cut(rt, processor) {
+        Err(Refused::NoEpisode | Refused::Racy(_, _)) => Ok(()),
+        answer => answer,
     }
 }
 
