@@ -3,6 +3,7 @@
 
 mod gate;
 mod report;
+mod walk;
 
 pub use gate::{Gate, Open, Stopped};
 pub use report::{Cause, Report, RunFault};
