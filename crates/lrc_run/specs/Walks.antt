@@ -1,13 +1,14 @@
 -- What a processor does of a script.
-use Rattle.std.specs.Prelude.{ℕ, ◌≡◌, Bool, true, false, Some, List, [], ◌∷◌, ◌++◌, map, Result, Ok, Err}
+use Rattle.std.specs.Prelude.{ℕ, ◌≡◌, Bool, true, false, Some, List, [], ◌∷◌, ◌++◌, map, length, slice_get, Result, Ok, Err}
 use Rattle.book.specs.declared.refused.Refused.{Refused}
 use Rattle.journal.specs.declared.event.Kind.{Kind}
 use Rattle.journal.specs.declared.event.Kind.TheVariants.{Arrive, Depart}
 use Rattle.lrc_script.specs.declared.script.Instruction.{Instruction}
 use Rattle.follows.specs.Instructions.{AreEventsOf, AreEventsOfAll}
 use Rattle.follows.specs.Follows.{kinds_of, load_of}
-use Rattle.replicas.specs.Local.{Local, calls}
+use Rattle.replicas.specs.Local.{Local, calls, new_local}
 use Rattle.cluster.specs.Calls.{IsSameProcessor}
+use Rattle.cluster.specs.Clusters.{Shared}
 use Rattle.cluster.specs.Taking.{awaited_event}
 
 -- a processor's accepted calls, its fetches aside
@@ -64,3 +65,13 @@ pub record Walks (old new : Local) (section : List Instruction) : Type 0 where
 -- it has loaded these words
 abbrev pub Loads : Local → Local → List (ℕ × ℕ) → Type 0
 Loads old new words = Makes old new (map load_of words)
+
+-- processor p of the cluster, before its first call
+abbrev pub new_at : Shared → ℕ → Local
+new_at c p = new_local c.lock p c.sizes
+
+-- each of the cluster's processors has walked its section
+pub record AreWalked (c : Shared) (sections : List (List Instruction)) (ms : List Local) : Type 0 where
+  pub all : length ms ≡ c.sizes.processors
+  pub each : (p : ℕ) (section : List Instruction) (m : Local) → slice_get sections p ≡ Some section
+      → slice_get ms p ≡ Some m → Walks (new_at c p) m section

@@ -6,6 +6,7 @@ ghost use Rattle.lrc_run.specs.Walks.{Does, Walks};
 mod accesses;
 mod instructions;
 
+pub(crate) use self::accesses::load;
 use self::instructions::{begin, end};
 use crate::gate::Gate;
 use crate::report::Cause;
