@@ -2,10 +2,13 @@
 #![tactic(auto)]
 
 mod ending;
+mod faults;
 mod gate;
 mod report;
+mod running;
 mod shown;
 mod walk;
 
 pub use gate::{Gate, Open, Stopped};
 pub use report::{Cause, Report, RunFault};
+pub use running::{run, run_with};
