@@ -1,2 +1,4 @@
 pub mod Making
 pub mod Concluding
+pub mod Failing
+pub mod Joining

@@ -2,3 +2,5 @@ pub mod Walks
 pub mod Endings
 pub mod Runs
 pub mod Laws
+pub mod Faults
+pub mod Threads

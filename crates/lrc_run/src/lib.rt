@@ -2,11 +2,14 @@
 #![tactic(auto)]
 
 mod ending;
+mod faults;
 mod gate;
 pub mod laws;
 mod report;
+mod running;
 mod shown;
 mod walk;
 
 pub use gate::{Gate, Open, Stopped};
 pub use report::{Cause, Report, RunFault};
+pub use running::{run, run_with};
