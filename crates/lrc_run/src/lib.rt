@@ -7,6 +7,8 @@ mod gate;
 mod report;
 mod running;
 mod shown;
+#[cfg(test)]
+mod tests;
 mod walk;
 
 pub use gate::{Gate, Open, Stopped};
