@@ -8,6 +8,8 @@ pub mod laws;
 mod report;
 mod running;
 mod shown;
+#[cfg(test)]
+mod tests;
 mod walk;
 
 pub use gate::{Gate, Open, Stopped};

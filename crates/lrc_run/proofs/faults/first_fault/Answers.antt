@@ -1,7 +1,7 @@
 use Rattle.std.proofs.Common.{rules, ◌≡◌, Some, Err, length, refl, sym, ap, ◌∙◌, arith}
 use Rattle.std.proofs.lemmas.Grind.{common_steps}
 use Rattle.std.proofs.lemmas.Option.{slice_get_within, slice_get_read, same_Some}
-use Rattle.lrc_run.proofs.Failing.{none_more, first_so, NoneBelow}
+use Rattle.lrc_run.proofs.Failing.{none_more, first_so}
 use Rattle.lrc_run.proofs.faults.first_fault.Goals as goal
 use Rattle.lrc_run.proofs.faults.first_fault.Goals.{in-Err+else-is_stuck-stuck, in_default}
 
