@@ -1,2 +1,4 @@
 pub mod Making
+pub mod Stepping
+pub mod Exchanging
 pub mod Concluding

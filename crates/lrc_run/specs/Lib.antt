@@ -1,3 +1,5 @@
 pub mod Walks
+pub mod Steps
+pub mod Orders
 pub mod Endings
 pub mod Runs
