@@ -18,7 +18,6 @@ use Rattle.replicas.specs.Local.{Local, calls}
 use Rattle.cluster.specs.Accesses.{IsStored}
 use Rattle.cluster.specs.Calls.{IsSameProcessor, IsCall}
 use Rattle.cluster.specs.Closing.{IsClosedBy}
-use Rattle.cluster.specs.Cutting.{IsCuttingCall}
 use Rattle.cluster.specs.Taking.{awaited_event}
 use Rattle.lrc_run.specs.Walks.{made, Makes, Tries, Does, Begins, IsOnItsWay, Takes, DoesAll, Walks}
 
@@ -83,12 +82,6 @@ tries_call first many absent done added m n (Ok x) call = record {
 }
 tries_call first many absent done added m n (Err e) call = makes_same m n call.same (call.kept (λ none. cc))
 
--- a cut, whether there was anything to be cut or not
-pub tries_cut : {A : Type 0} (m n : Local) (refused : Option Refused) (r : Result A Refused) → IsCuttingCall m n refused
-    → Tries m n r (λ _. [])
-tries_cut m n refused (Ok x) call = makes_same m n call.same call.calls_are
-tries_cut m n refused (Err e) call = makes_same m n call.same call.calls_are
-
 -- and that was accepted and adds no event
 pub makes_call : {A : Type 0} {first : Option Refused} {many : ℕ} {absent : Local → Type 0} {done : Local → Local → Type 0}
     (m n : Local) (r : Result A Refused) {x : A} → r ≡ Ok x → IsCall first many absent done [] m n (result_err r)
@@ -117,6 +110,13 @@ begins_by k last i m n are next made =
 pub does_by : (k : Kind) (i : Instruction) (m n : Local) → AreEventsOf i (k ∷ [])
     → Makes m n (k ∷ []) × (n.awaits ≡ awaited k) → Does m n i
 does_by k i m n are made = record { kinds = k ∷ []; are = are; makes = made.0 }
+
+-- an instruction without events is done by a call that adds none
+pub does_by_none : {A : Type 0} (i : Instruction) (m n : Local) (r : Result A Refused) {x : A} → AreEventsOf i []
+    → r ≡ Ok x → Tries m n r (λ _. []) → Does m n i
+does_by_none {A} i m n r {x} are is tries =
+    let P : Result A Refused → Type 0 = λ r. Tries m n r (λ _. []) in
+    record { kinds = []; are = are; makes = subst P is tries }
 
 -- of two kinds that are no fetches the last one isn't
 no_fetch_last : (first last : Kind) → NoFetch (first ∷ last ∷ []) → is_fetch last ≡ false

@@ -1,6 +1,6 @@
 use Rattle.std.proofs.Common.{refl}
 use Rattle.journal.specs.declared.event.Kind.TheVariants as kind
-use Rattle.lrc_run.proofs.Making.{closes, begins_by, does_by}
+use Rattle.lrc_run.proofs.Making.{closes, begins_by, does_by, does_by_none}
 use Rattle.lrc_run.proofs.walk.instructions.begin.Goals as goal
 
 pub returns-in_ok-ask-in-Acquire-clause-ok : goal.returns-in_ok-ask-in-Acquire-clause-ok
@@ -34,3 +34,8 @@ returns-in_ok-watch-in-Await-clause-ok g c =
     begins_by (kind.Watch f) (kind.Await f) c.args.instruction c.args.processor.now c.watch.new.processor
     (rw c.in-Await.is refl) refl
     (closes (kind.Watch f) c.args.processor.now c.watch.new.processor c.watch.result refl c.in_ok-watch-in-Await.was c.watch.ensures)
+
+pub returns-in_ok-cut-in-Cut-clause-ok : goal.returns-in_ok-cut-in-Cut-clause-ok
+returns-in_ok-cut-in-Cut-clause-ok g c =
+    does_by_none c.args.instruction c.args.processor.now c.cut.new.processor c.cut.result (rw c.in-Cut.is refl)
+    c.in_ok-cut-in-Cut.was c.cut.ensures
