@@ -19,13 +19,18 @@ fn both<R: Threads + Wait + Sync, G: Gate + Sync>(
     text: &[u8],
     gate: &G,
     tries: u64,
-) -> Result<[Result<Report, RunFault>; 2], Fail>
+) -> Result<(Result<Report, RunFault>, Result<Report, RunFault>), Fail>
     requires { 0 < tries }
 {
     let script = parse(alloc, text)?;
     let array = run(rt, alloc, &script, gate, tries);
     let ticket = run_with::<TicketBookLock, R, G>(rt, alloc, &script, gate, tries);
-    Ok([array, ticket])
+    Ok((array, ticket))
+}
+
+/// Whether the report shows these words, and says that they are racy or not.
+fn says(report: &Report, words: &[(usize, u32)], racy: bool) -> bool {
+    report.shown.as_slice() == words && report.racy == racy
 }
 
 /// Runs a script that shows these words and is racy or not.
@@ -36,11 +41,9 @@ fn shows<R: Threads + Wait + Sync + Abort>(
     words: &[(usize, u32)],
     racy: bool,
 ) -> Result<(), Fail> {
-    let [array, ticket] = both(rt, alloc, text, &Open, 1_000_000)?;
-    let (array, ticket) = (array?, ticket?);
-    assert!(rt; array.shown.as_slice() == words);
-    assert!(rt; ticket.shown.as_slice() == words);
-    assert!(rt; array.racy == racy && ticket.racy == racy);
+    let (array, ticket) = both(rt, alloc, text, &Open, 1_000_000)?;
+    assert!(rt; says(&array?, words, racy));
+    assert!(rt; says(&ticket?, words, racy));
     Ok(())
 }
 
@@ -56,7 +59,7 @@ fn fails<R: Threads + Wait + Sync + Abort, G: Gate + Sync>(
 ) -> Result<(), Fail>
     requires { 0 < tries }
 {
-    let [array, ticket] = both(rt, alloc, text, gate, tries)?;
+    let (array, ticket) = both(rt, alloc, text, gate, tries)?;
     let fault = RunFault { processor, cause };
     assert!(rt; array.err() == Some(fault));
     assert!(rt; ticket.err() == Some(fault));
@@ -105,9 +108,9 @@ fn a_race(rt: HostRuntime) -> Result<(), Fail> {
 fn one_try_is_enough_alone(rt: HostRuntime) -> Result<(), Fail> {
     let alloc = rt.alloc();
     let text = b"cluster 1 1 1 1\np 0\nacquire 0\nstore 0 7\nrelease 0\nshow 0\n";
-    let [array, ticket] = both(&rt, alloc, text, &Open, 1)?;
-    assert!(&rt; array?.shown.as_slice() == [(0, 7)].as_slice());
-    assert!(&rt; ticket?.shown.as_slice() == [(0, 7)].as_slice());
+    let (array, ticket) = both(&rt, alloc, text, &Open, 1)?;
+    assert!(&rt; says(&array?, &[(0, 7)], false));
+    assert!(&rt; says(&ticket?, &[(0, 7)], false));
     Ok(())
 }
 
@@ -210,7 +213,7 @@ fn the_gate_is_called_once_an_instruction(rt: HostRuntime) -> Result<(), Fail> {
         calls: AtomicUsize::new(0),
         sum: AtomicUsize::new(0),
     };
-    let [array, ticket] = both(&rt, rt.alloc(), text, &gate, 1_000_000)?;
+    let (array, ticket) = both(&rt, rt.alloc(), text, &gate, 1_000_000)?;
     assert!(&rt; array.is_ok() && ticket.is_ok());
     assert_eq!(&rt; gate.calls.load(SeqCst), 6);
     assert_eq!(&rt; gate.sum.load(SeqCst), 12);
