@@ -58,7 +58,7 @@ fn an_episode_is_cut_off(rt: HostRuntime) -> Result<(), Fail> {
 fn what_was_cut_off_is_told(rt: HostRuntime) -> Result<(), Fail> {
     let script = parse(rt.alloc(), CUT)?;
     let report = step(&rt, rt.alloc(), &script, None)?;
-    assert!(rt; report.shown.as_slice() == &[(0, 5)]);
+    assert!(rt; report.shown.as_slice() == [(0, 5)].as_slice());
     let traffic = report.traffic;
     assert!(rt; (traffic.messages, traffic.records, traffic.words) == (10, 1, 1));
     Ok(())
@@ -68,7 +68,7 @@ fn what_was_cut_off_is_told(rt: HostRuntime) -> Result<(), Fail> {
 fn a_thread_cuts(rt: HostRuntime) -> Result<(), Fail> {
     let script = parse(rt.alloc(), CUT)?;
     let report = run(&rt, rt.alloc(), &script, &Open, 1_000_000)?;
-    assert!(rt; report.shown.as_slice() == &[(0, 5)]);
+    assert!(rt; report.shown.as_slice() == [(0, 5)].as_slice());
     assert!(rt; !report.racy && report.journal.cut_events() == 3);
     Ok(())
 }
