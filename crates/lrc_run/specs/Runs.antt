@@ -4,13 +4,15 @@ use Rattle.journal.specs.declared.event.Event.{Event}
 use Rattle.journal.specs.declared.event.Kind.{Kind}
 use Rattle.journal.specs.WellFormed.{WellFormed}
 use Rattle.journal.specs.Loads.{Explained}
-use Rattle.journal.specs.Log.{HoldsHistory}
+use Rattle.journal.specs.Counted.{AreCounted}
+use Rattle.journal.specs.Log.{HoldsRest}
 use Rattle.journal.specs.Races.{Race}
 use Rattle.journal.specs.Traffic.{messages, records, words}
 use Rattle.lrc_script.specs.Lawful.{addresses}
 use Rattle.lrc_script.specs.Plan.{Plan}
 use Rattle.lrc_run.specs.declared.report.Report.{Report}
 use Rattle.follows.specs.Follows.{sizes_of, Follows, calls_of, load_of}
+use Rattle.follows.specs.Recomputed.{IsRecomputed}
 
 -- some two accesses race
 abbrev pub HasRace : List Event → Type 0
@@ -21,12 +23,14 @@ pub record AreLastReplies (calls : List Kind) (shown : List (ℕ × ℕ)) : Type
   pub front : List Kind
   pub ends : calls ≡ front ++ map load_of shown
 
--- the history is well formed, explained and follows the script; the verdict, the shown words and the
--- traffic are the history's
+-- the history is well formed, explained, fetches what is missing and follows the script, and its replies can be
+-- recomputed on one flat memory; the verdict, the shown words and the traffic are the history's
 pub record Tells (s : Plan) (r : Report) (h : List Event) : Type 0 where
   pub well_formed : WellFormed (sizes_of s) h
   pub explained : Explained h
+  pub counted : AreCounted (sizes_of s) h
   pub follows : Follows s h
+  pub recomputed : (g : List Event) × IsRecomputed s h g
   pub racy : IsTrue r.racy ↔ HasRace h
   pub shown_addresses : map (λ (x : ℕ × ℕ). x.0) r.shown.items ≡ s.shown
   pub replies : AreLastReplies (calls_of h 0) r.shown.items
@@ -34,10 +38,12 @@ pub record Tells (s : Plan) (r : Report) (h : List Event) : Type 0 where
   pub records_are : r.traffic.records ≡ records h
   pub words_are : r.traffic.words ≡ words h
 
--- the journal has the script's sizes and holds a history of which the report tells
+-- the journal has the script's sizes and holds what is left, after some of it was cut off, of a history of which the
+-- report tells
 pub record IsReportOf (s : Plan) (r : Report) : Type 0 where
   pub processors : r.journal.processors ≡ s.processors
   pub addresses_are : r.journal.addresses ≡ addresses s
   pub history : List Event
-  pub holds : HoldsHistory r.journal history
+  pub taken : List Event
+  pub holds : HoldsRest r.journal taken history
   pub tells : Tells s r history

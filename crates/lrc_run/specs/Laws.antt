@@ -1,0 +1,13 @@
+-- What is promised of reports.
+use Rattle.std.specs.Prelude.{◌≡◌, false, replicate}
+use Rattle.journal.specs.Flat.{Replays}
+use Rattle.lrc_script.specs.Lawful.{addresses}
+use Rattle.lrc_script.specs.Plan.{Plan}
+use Rattle.follows.specs.Recomputed.{NeverRaces}
+use Rattle.lrc_run.specs.declared.report.Report.{Report}
+use Rattle.lrc_run.specs.Runs.{IsReportOf}
+
+-- the report of a script that never races on one flat memory tells of no race, and its history replays on one
+abbrev pub RaceFreeReportLaw : Type 0
+RaceFreeReportLaw = (s : Plan) (r : Report) (is : IsReportOf s r) → NeverRaces s
+    → (r.racy ≡ false) × Replays (replicate (addresses s) 0) is.history

@@ -1,0 +1,5 @@
+//! Runs of whole scripts.
+
+mod cuts;
+mod runs;
+mod steps;
