@@ -1,5 +1,5 @@
 -- How far a processor is after a turn.
-use Rattle.std.proofs.Common.{ℕ, ◌≡◌, ◌≢◌, ◌+◌, ◌<◌, ◌≤◌, Bool, true, false, cond, Option, Some, List, [], ◌∷◌, ◌++◌, length, replicate, take, get_or, slice_get, slice_set, refl, sym, ap, subst, ◌∙◌, inl, inr, add-one, arith}
+use Rattle.std.proofs.Common.{ℕ, ◌≡◌, ◌+◌, ◌<◌, ◌≤◌, Bool, true, false, cond, Some, List, [], length, replicate, take, get_or, slice_get, slice_set, refl, sym, ap, subst, ◌∙◌, inl, inr, add-one, arith}
 use Rattle.std.specs.Prelude.{nat_lt, All}
 use Rattle.std.specs.Global.{Vec}
 use Rattle.std.specs.Option.{option_map}
@@ -20,7 +20,7 @@ use Rattle.cluster.specs.Calls.{IsSameProcessor}
 use Rattle.cluster.specs.Clusters.{AreNew, Shared}
 use Rattle.lrc_run.specs.declared.steps.turns.Progress.{Progress}
 use Rattle.lrc_run.specs.declared.steps.turns.Progress.TheVariants.{Next, Waits, Passed}
-use Rattle.lrc_run.specs.Steps.{AreOnTheirWay, HasBegun, IsAt, instruction_at, progress_after}
+use Rattle.lrc_run.specs.Steps.{AreOnTheirWay, IsAt, instruction_at, progress_after}
 use Rattle.lrc_run.specs.Walks.{AreWalked, DoesAll, Does, IsOnItsWay, Takes, Walks, new_at}
 use Rattle.lrc_run.proofs.Making.{does_more, does_none, on_its_way, same_then, walks_by}
 

@@ -1,6 +1,5 @@
-use Rattle.std.proofs.Common.{◌≡◌, ◌∙◌, refl, sym, get_or, slice_get, Some}
-use Rattle.lrc_script.specs.Plan.{Plan, plan_of}
-use Rattle.lrc_run.specs.Endings.{HaveFollowed}
+use Rattle.std.proofs.Common.{◌∙◌}
+use Rattle.lrc_script.specs.Plan.{plan_of}
 use Rattle.lrc_run.proofs.Concluding.{first_at, have_followed, walked_of, walks_at}
 use Rattle.lrc_run.proofs.ending.conclude.Goals as goal
 

@@ -1,4 +1,3 @@
-use Rattle.std.proofs.Common.{refl}
 use Rattle.lrc_run.proofs.Concluding.{report_is}
 use Rattle.lrc_run.proofs.ending.report.Goals as goal
 

@@ -1,4 +1,4 @@
-use Rattle.std.proofs.Common.{◌≡◌, ◌-◌, length}
+use Rattle.std.proofs.Common.{◌≡◌, ◌-◌}
 use Rattle.std.specs.List.Sorted.{IsPermutation}
 use Rattle.lrc_run.specs.Orders.{exchanged, ordered}
 use Rattle.lrc_run.proofs.orders.order.Given as goal

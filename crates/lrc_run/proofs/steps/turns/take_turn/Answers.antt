@@ -1,6 +1,5 @@
-use Rattle.std.proofs.Common.{◌≡◌, subst, sym}
+use Rattle.std.proofs.Common.{subst, sym}
 use Rattle.lrc_script.specs.declared.script.Instruction.{Instruction}
-use Rattle.replicas.specs.Local.{Local}
 use Rattle.lrc_run.specs.declared.steps.turns.Progress.{Progress}
 use Rattle.lrc_run.specs.Steps.{IsAt}
 use Rattle.lrc_run.specs.Walks.{IsOnItsWay}
