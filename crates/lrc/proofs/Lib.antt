@@ -3,3 +3,5 @@ pub mod Alone
 pub mod Calls
 pub mod Runs
 pub mod Writing
+pub mod Lines
+pub mod Wording

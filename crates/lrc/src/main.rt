@@ -17,6 +17,7 @@ mod fault;
 mod gate;
 mod one_processor;
 mod options;
+mod pending;
 mod program;
 mod render;
 mod report;
@@ -26,19 +27,17 @@ mod tests;
 mod words;
 
 use crate::fault::ProgramFault;
-use crate::program::program;
+use crate::options::Options;
+use crate::program::{program, say};
 use crate::words::options;
 use clap::Error;
 use clap::error::ErrorKind;
 use std::fs::File;
-use std::io::Write;
 use std::process::ExitCode;
 
 /// Says why the program doesn't start, and answers its status.
 fn refuse(rt: &HostRuntime, fault: ProgramFault) -> u8 {
-    // Where standard error takes nothing, the status still tells.
-    let _ = writeln!(rt.stderr(), "lrc: {fault}");
-    fault.status()
+    say(rt.alloc(), fault, &mut rt.stderr())
 }
 
 /// Prints clap's answer to the words: help to standard output, faults to standard error.
@@ -55,12 +54,13 @@ fn answer_words(rt: &HostRuntime, error: &Error) -> u8 {
 }
 
 /// Runs the script of the file, or of standard input where no file is given.
-fn run_file(rt: &HostRuntime, file: Option<&str>) -> u8 {
+fn run_file(rt: &HostRuntime, options: &Options) -> u8 {
     let alloc = rt.alloc();
-    match file {
-        None => program(alloc, &mut rt.stdin(), &mut rt.stdout(), &mut rt.stderr()),
+    let (mut out, mut err) = (rt.stdout(), rt.stderr());
+    match options.file.as_deref() {
+        None => program(alloc, options, &mut rt.stdin(), &mut out, &mut err),
         Some(path) => match File::open(rt, path) {
-            Ok(mut source) => program(alloc, &mut source, &mut rt.stdout(), &mut rt.stderr()),
+            Ok(mut source) => program(alloc, options, &mut source, &mut out, &mut err),
             Err(error) => refuse(rt, ProgramFault::from(error)),
         },
     }
@@ -69,7 +69,7 @@ fn run_file(rt: &HostRuntime, file: Option<&str>) -> u8 {
 /// Does what the words ask for.
 fn start(rt: &HostRuntime, words: &[&str]) -> u8 {
     match options(rt.alloc(), words) {
-        Ok(options) => run_file(rt, options.file.as_deref()),
+        Ok(options) => run_file(rt, &options),
         Err(error) => answer_words(rt, &error),
     }
 }

@@ -1,12 +1,16 @@
 //! Prints a report.
 
+ghost use Rattle.std.specs.Prelude.{◌++◌, codes};
 ghost use Rattle.std.specs.List.{flat_map};
-ghost use Rattle.lrc.specs.ReportText.{piece_text, word_line, verdict_line, traffic_line, report_text};
-ghost use Rattle.lrc.specs.Writing.{Writes};
+ghost use Rattle.std.specs.Fmt.{decimal};
+ghost use Rattle.journal.specs.declared.event.Kind.TheVariants as kind;
+ghost use Rattle.lrc.specs.ReportText.{piece_text, word_line, verdict_line, traffic_line, kind_text, head_text, event_line, event_lines, summary_text, journal_text, report_text};
+ghost use Rattle.lrc.specs.Writing.{Writes, Takes};
 
+use crate::pending::Pending;
 use crate::report::Report;
 use itoa::Buffer;
-use journal::Traffic;
+use journal::{Event, Kind, Traffic};
 use std::io::Write;
 use thiserror::Error;
 
@@ -22,43 +26,38 @@ enum Piece<'a> {
     Number(u64),
 }
 
-/// Writes the bytes. After OutFault a beginning of them was written.
-fn write_bytes<W: Write>(out: &mut W, bytes: &[u8]) -> Result<(), OutFault>
-    ensures { Writes (W.contents out.old) (W.contents out.new) bytes.now result }
-{
-    let mut rest = bytes;
-    while !rest.is_empty() {
-        match out.write(rest) {
-            Ok(0) | Err(_) => return Err(OutFault),
-            Ok(count) => rest = &rest[count..],
-        }
-    }
-    Ok(())
-}
-
 /// Writes a piece of a line.
-fn write_piece<W: Write>(out: &mut W, piece: Piece) -> Result<(), OutFault>
-    ensures { Writes (W.contents out.old) (W.contents out.new) (piece_text piece.entry) result }
+fn write_piece<W: Write>(out: &mut W, pending: &mut Pending, piece: Piece) -> Result<(), OutFault>
+    ensures { Takes (W.contents out.old) (W.contents out.new) pending.old pending.new (piece_text piece.entry) result }
 {
     match piece {
-        Piece::Text(text) => write_bytes(out, text),
-        Piece::Number(number) => write_bytes(out, Buffer::new().format(number).as_bytes()),
+        Piece::Text(text) => pending.take(out, text),
+        Piece::Number(number) => pending.take(out, Buffer::new().format(number).as_bytes()),
     }
 }
 
-/// Writes the pieces of a line, in order.
-fn write_line<W: Write>(out: &mut W, pieces: &[Piece]) -> Result<(), OutFault>
-    ensures { Writes (W.contents out.old) (W.contents out.new) (flat_map piece_text pieces.now) result }
+/// Writes pieces in order.
+fn write_pieces<W: Write>(
+    out: &mut W,
+    pending: &mut Pending,
+    pieces: &[Piece],
+) -> Result<(), OutFault>
+    ensures { Takes (W.contents out.old) (W.contents out.new) pending.old pending.new (flat_map piece_text pieces.now) result }
 {
     for piece in pieces {
-        write_piece(out, *piece)?;
+        write_piece(out, pending, *piece)?;
     }
     Ok(())
 }
 
 /// Writes the line of a shown address.
-fn write_word<W: Write>(out: &mut W, address: usize, word: u32) -> Result<(), OutFault>
-    ensures { Writes (W.contents out.old) (W.contents out.new) (word_line (address, word)) result }
+fn write_word<W: Write>(
+    out: &mut W,
+    pending: &mut Pending,
+    address: usize,
+    word: u32,
+) -> Result<(), OutFault>
+    ensures { Takes (W.contents out.old) (W.contents out.new) pending.old pending.new (word_line (address, word)) result }
 {
     let pieces = [
         Piece::Text(b"word "),
@@ -67,33 +66,41 @@ fn write_word<W: Write>(out: &mut W, address: usize, word: u32) -> Result<(), Ou
         Piece::Number(u64::from(word)),
         Piece::Text(b"\n"),
     ];
-    write_line(out, &pieces)
+    write_pieces(out, pending, &pieces)
 }
 
 /// Writes a line for each shown address.
-fn write_words<W: Write>(out: &mut W, shown: &[(usize, u32)]) -> Result<(), OutFault>
-    ensures { Writes (W.contents out.old) (W.contents out.new) (flat_map word_line shown.now) result }
+fn write_words<W: Write>(
+    out: &mut W,
+    pending: &mut Pending,
+    shown: &[(usize, u32)],
+) -> Result<(), OutFault>
+    ensures { Takes (W.contents out.old) (W.contents out.new) pending.old pending.new (flat_map word_line shown.now) result }
 {
     for (address, word) in shown {
-        write_word(out, *address, *word)?;
+        write_word(out, pending, *address, *word)?;
     }
     Ok(())
 }
 
 /// Writes the line of the verdict.
-fn write_verdict<W: Write>(out: &mut W, racy: bool) -> Result<(), OutFault>
-    ensures { Writes (W.contents out.old) (W.contents out.new) (verdict_line racy) result }
+fn write_verdict<W: Write>(out: &mut W, pending: &mut Pending, racy: bool) -> Result<(), OutFault>
+    ensures { Takes (W.contents out.old) (W.contents out.new) pending.old pending.new (verdict_line racy) result }
 {
     if racy {
-        write_bytes(out, b"verdict racy\n")
+        pending.take(out, b"verdict racy\n")
     } else {
-        write_bytes(out, b"verdict race-free\n")
+        pending.take(out, b"verdict race-free\n")
     }
 }
 
 /// Writes the line of the traffic.
-fn write_traffic<W: Write>(out: &mut W, traffic: Traffic) -> Result<(), OutFault>
-    ensures { Writes (W.contents out.old) (W.contents out.new) (traffic_line traffic) result }
+fn write_traffic<W: Write>(
+    out: &mut W,
+    pending: &mut Pending,
+    traffic: Traffic,
+) -> Result<(), OutFault>
+    ensures { Takes (W.contents out.old) (W.contents out.new) pending.old pending.new (traffic_line traffic) result }
 {
     let pieces = [
         Piece::Text(b"traffic "),
@@ -104,19 +111,181 @@ fn write_traffic<W: Write>(out: &mut W, traffic: Traffic) -> Result<(), OutFault
         Piece::Number(traffic.words),
         Piece::Text(b"\n"),
     ];
-    write_line(out, &pieces)
+    write_pieces(out, pending, &pieces)
 }
 
-/// Writes the report: a line `word ADDRESS VALUE` for each shown address, the verdict, and the traffic.
-/// It takes no memory.
+/// Writes what is said of an access: its name, its address and its word.
+fn write_access<W: Write>(
+    out: &mut W,
+    pending: &mut Pending,
+    name: &[u8],
+    address: usize,
+    word: u32,
+) -> Result<(), OutFault>
+    ensures { Takes (W.contents out.old) (W.contents out.new) pending.old pending.new (name.now ++ decimal address ++ codes " " ++ decimal word ++ codes "\n") result }
+{
+    let pieces = [
+        Piece::Text(name),
+        Piece::Number(address as u64),
+        Piece::Text(b" "),
+        Piece::Number(u64::from(word)),
+        Piece::Text(b"\n"),
+    ];
+    write_pieces(out, pending, &pieces)
+}
+
+/// Writes what is said of a lock's or a flag's event: its name and the number.
+fn write_numbered<W: Write>(
+    out: &mut W,
+    pending: &mut Pending,
+    name: &[u8],
+    number: usize,
+) -> Result<(), OutFault>
+    ensures { Takes (W.contents out.old) (W.contents out.new) pending.old pending.new (name.now ++ decimal number ++ codes "\n") result }
+{
+    let pieces = [
+        Piece::Text(name),
+        Piece::Number(number as u64),
+        Piece::Text(b"\n"),
+    ];
+    write_pieces(out, pending, &pieces)
+}
+
+/// Writes what is said of a fetch.
+fn write_fetch<W: Write>(
+    out: &mut W,
+    pending: &mut Pending,
+    page: usize,
+    writers: u32,
+    records: u32,
+    words: u32,
+) -> Result<(), OutFault>
+    ensures { Takes (W.contents out.old) (W.contents out.new) pending.old pending.new (kind_text (kind.Fetch writers page records words)) result }
+{
+    let pieces = [
+        Piece::Text(b" fetch "),
+        Piece::Number(page as u64),
+        Piece::Text(b" "),
+        Piece::Number(u64::from(writers)),
+        Piece::Text(b" "),
+        Piece::Number(u64::from(records)),
+        Piece::Text(b" "),
+        Piece::Number(u64::from(words)),
+        Piece::Text(b"\n"),
+    ];
+    write_pieces(out, pending, &pieces)
+}
+
+/// Writes what an event did, and ends the line.
+fn write_kind<W: Write>(out: &mut W, pending: &mut Pending, kind: Kind) -> Result<(), OutFault>
+    ensures { Takes (W.contents out.old) (W.contents out.new) pending.old pending.new (kind_text kind) result }
+{
+    match kind {
+        Kind::Load(address, word) => write_access(out, pending, b" load ", address, word),
+        Kind::Store(address, word) => write_access(out, pending, b" store ", address, word),
+        Kind::Fetch {
+            writers,
+            page,
+            records,
+            words,
+        } => write_fetch(out, pending, page, writers, records, words),
+        Kind::Ask(lock) => write_numbered(out, pending, b" ask ", lock),
+        Kind::Acquire(lock) => write_numbered(out, pending, b" acquire ", lock),
+        Kind::Release(lock) => write_numbered(out, pending, b" release ", lock),
+        Kind::Arrive => pending.take(out, b" arrive\n"),
+        Kind::Depart => pending.take(out, b" depart\n"),
+        Kind::Set(flag) => write_numbered(out, pending, b" set ", flag),
+        Kind::Watch(flag) => write_numbered(out, pending, b" watch ", flag),
+        Kind::Await(flag) => write_numbered(out, pending, b" await ", flag),
+    }
+}
+
+/// Writes how the line of an event begins: its place and its processor.
+fn write_head<W: Write>(
+    out: &mut W,
+    pending: &mut Pending,
+    place: usize,
+    processor: usize,
+) -> Result<(), OutFault>
+    ensures { Takes (W.contents out.old) (W.contents out.new) pending.old pending.new (head_text place processor) result }
+{
+    let pieces = [
+        Piece::Text(b"event "),
+        Piece::Number(place as u64),
+        Piece::Text(b" "),
+        Piece::Number(processor as u64),
+    ];
+    write_pieces(out, pending, &pieces)
+}
+
+/// Writes the line of the event at a place.
+fn write_event<W: Write>(
+    out: &mut W,
+    pending: &mut Pending,
+    place: usize,
+    event: &Event,
+) -> Result<(), OutFault>
+    ensures { Takes (W.contents out.old) (W.contents out.new) pending.old pending.new (event_line place event.now) result }
+{
+    write_head(out, pending, place, event.processor)?;
+    write_kind(out, pending, event.kind)
+}
+
+/// Writes a line for each event, the first at place 0.
+pub fn write_events<W: Write>(
+    out: &mut W,
+    pending: &mut Pending,
+    events: &[Event],
+) -> Result<(), OutFault>
+    ensures { Takes (W.contents out.old) (W.contents out.new) pending.old pending.new (event_lines 0 events.now) result }
+{
+    for (place, event) in events.iter().enumerate() {
+        write_event(out, pending, place, event)?;
+    }
+    Ok(())
+}
+
+/// Writes the shown words, the verdict and the traffic.
+fn write_summary<W: Write>(
+    out: &mut W,
+    pending: &mut Pending,
+    report: &Report,
+) -> Result<(), OutFault>
+    ensures { Takes (W.contents out.old) (W.contents out.new) pending.old pending.new (summary_text report.now) result }
+{
+    write_words(out, pending, &report.shown)?;
+    write_verdict(out, pending, report.racy)?;
+    write_traffic(out, pending, report.traffic)
+}
+
+/// Writes the lines of the journal, where they are asked for.
+fn write_journal<W: Write>(
+    out: &mut W,
+    pending: &mut Pending,
+    report: &Report,
+    journal: bool,
+) -> Result<(), OutFault>
+    ensures { Takes (W.contents out.old) (W.contents out.new) pending.old pending.new (journal_text report.now journal) result }
+{
+    if journal {
+        write_events(out, pending, report.journal.events())
+    } else {
+        Ok(())
+    }
+}
+
+/// Writes the report: a line `word ADDRESS VALUE` for each shown address, the verdict, the traffic, and where
+/// the journal is asked for a line for each of its events, numbered from 0. It writes some thousand bytes at
+/// a time, and takes no memory.
 ///
 /// # Errors
 ///
 /// OutFault where a write fails or takes no byte; a beginning of the text was written then.
-pub fn render<W: Write>(report: &Report, out: &mut W) -> Result<(), OutFault>
-    ensures { Writes (W.contents out.old) (W.contents out.new) (report_text report.now) result }
+pub fn render<W: Write>(report: &Report, journal: bool, out: &mut W) -> Result<(), OutFault>
+    ensures { Writes (W.contents out.old) (W.contents out.new) (report_text report.now journal) result }
 {
-    write_words(out, &report.shown)?;
-    write_verdict(out, report.racy)?;
-    write_traffic(out, report.traffic)
+    let mut pending = Pending::new();
+    write_summary(out, &mut pending, report)?;
+    write_journal(out, &mut pending, report, journal)?;
+    pending.flush(out)
 }

@@ -1,12 +1,14 @@
 //! Scripts from their bytes to what is printed, and the faults on the way.
 
+mod events;
+mod words;
+
+use self::words::plain;
 use crate::gate::{Gate, Open, Stopped};
-use crate::options::Options;
 use crate::program::program;
 use crate::render::{OutFault, render};
 use crate::report::{Cause, RunFault};
 use crate::run::run;
-use crate::words::options;
 use journal::{Event, Kind};
 use lrc_script::script::parse;
 use std::alloc::Global;
@@ -23,7 +25,7 @@ fn check<R: Abort>(rt: &R, alloc: Global, script: &[u8], status: u8, out: &[u8],
     let mut source = script;
     let mut printed = Vec::new(alloc);
     let mut said = Vec::new(alloc);
-    let answer = program(alloc, &mut source, &mut printed, &mut said);
+    let answer = program(alloc, &plain(false), &mut source, &mut printed, &mut said);
     assert_eq!(rt; answer, status);
     assert_eq!(rt; printed.as_slice(), out);
     assert_eq!(rt; said.as_slice(), err);
@@ -192,7 +194,13 @@ impl Read for Broken {
 fn unreadable(rt: HostRuntime) {
     let mut printed = Vec::new(rt.alloc());
     let mut said = Vec::new(rt.alloc());
-    let status = program(rt.alloc(), &mut Broken, &mut printed, &mut said);
+    let status = program(
+        rt.alloc(),
+        &plain(false),
+        &mut Broken,
+        &mut printed,
+        &mut said,
+    );
     assert_eq!(rt; status, 5);
     assert_eq!(rt; printed.is_empty(), true);
     assert_eq!(rt; said.as_slice(), b"lrc: file cannot be read\n".as_slice());
@@ -214,7 +222,13 @@ impl Read for Endless {
 fn longer_than_any_script(rt: HostRuntime) {
     let mut printed = Vec::new(rt.alloc());
     let mut said = Vec::new(rt.alloc());
-    let status = program(rt.alloc(), &mut Endless, &mut printed, &mut said);
+    let status = program(
+        rt.alloc(),
+        &plain(false),
+        &mut Endless,
+        &mut printed,
+        &mut said,
+    );
     assert_eq!(rt; status, 2);
     assert_eq!(rt; printed.is_empty(), true);
     assert_eq!(rt;
@@ -257,14 +271,14 @@ fn failed_writes(rt: HostRuntime) -> Result<(), Fail> {
             left,
             taken: Vec::new(rt.alloc()),
         };
-        assert_eq!(rt; render(&report, &mut out), Err(OutFault));
+        assert_eq!(rt; render(&report, false, &mut out), Err(OutFault));
         assert_eq!(rt; out.taken.as_slice(), &text[..left]);
     }
     let mut out = Narrow {
         left: text.len(),
         taken: Vec::new(rt.alloc()),
     };
-    assert_eq!(rt; render(&report, &mut out), Ok(()));
+    assert_eq!(rt; render(&report, false, &mut out), Ok(()));
     assert_eq!(rt; out.taken.as_slice(), text.as_slice());
     Ok(())
 }
@@ -277,7 +291,7 @@ fn failed_output(rt: HostRuntime) {
         taken: Vec::new(rt.alloc()),
     };
     let mut said = Vec::new(rt.alloc());
-    let status = program(rt.alloc(), &mut source, &mut out, &mut said);
+    let status = program(rt.alloc(), &plain(false), &mut source, &mut out, &mut said);
     assert_eq!(rt; status, 4);
     assert_eq!(rt; said.as_slice(), b"lrc: output failed\n".as_slice());
 }
@@ -301,7 +315,13 @@ impl Write for Unflushed {
 fn failed_flush(rt: HostRuntime) {
     let mut source = SEVEN;
     let mut said = Vec::new(rt.alloc());
-    let status = program(rt.alloc(), &mut source, &mut Unflushed, &mut said);
+    let status = program(
+        rt.alloc(),
+        &plain(false),
+        &mut source,
+        &mut Unflushed,
+        &mut said,
+    );
     assert_eq!(rt; status, 4);
     assert_eq!(rt; said.as_slice(), b"lrc: output failed\n".as_slice());
 }
@@ -315,7 +335,13 @@ fn failed_error_output(rt: HostRuntime) {
         left: 0,
         taken: Vec::new(rt.alloc()),
     };
-    let status = program(rt.alloc(), &mut source, &mut printed, &mut said);
+    let status = program(
+        rt.alloc(),
+        &plain(false),
+        &mut source,
+        &mut printed,
+        &mut said,
+    );
     assert_eq!(rt; status, 2);
     assert_eq!(rt; said.taken.is_empty(), true);
 }
@@ -384,27 +410,5 @@ fn stopped_at_the_gate(rt: HostRuntime) -> Result<(), Fail> {
     };
     assert_eq!(rt; fault_behind(rt.alloc(), &gate)?, None);
     assert_eq!(rt; gate.passed.get(), 3);
-    Ok(())
-}
-
-#[test]
-fn words(rt: HostRuntime) -> Result<(), Fail> {
-    let given = options(rt.alloc(), &["lrc", "run", "a.lrc"])?;
-    let file = String::from_str(rt.alloc(), "a.lrc")?;
-    assert_eq!(rt; given, Options { file: Some(file) });
-    assert_eq!(rt;
-        options(rt.alloc(), &["lrc", "run"])?,
-        Options { file: None }
-    );
-    let refused = options(rt.alloc(), &["lrc", "walk"]).err().ok_or("taken")?;
-    let text =
-        "error: unrecognized subcommand 'walk'\n\nUsage: lrc <COMMAND>\n\nFor more information, try '--help'.\n";
-    assert_eq!(rt; refused.to_string(rt.alloc())?.as_str(), text);
-    let help = options(rt.alloc(), &["lrc", "run", "--help"])
-        .err()
-        .ok_or("taken")?;
-    let text =
-        "Runs a script and prints the last words, the verdict on races and the traffic\n\nUsage: lrc run [FILE]\n\nArguments:\n  [FILE]  the script; standard input where it isn't given\n\nOptions:\n  -h, --help  Print help\n";
-    assert_eq!(rt; help.to_string(rt.alloc())?.as_str(), text);
     Ok(())
 }
