@@ -14,9 +14,10 @@ use Rattle.journal.specs.Log.{Log}
 use Rattle.journal.specs.Races.{RaceFree, IsFirstRace}
 use Rattle.journal.specs.RacesFrom.{IsFirstRaceFrom}
 use Rattle.journal.proofs.Journals.WellFormed.{well_formed_front}
-use Rattle.journal.proofs.Bases.Whole.{same_law, copy_law}
+use Rattle.journal.proofs.Bases.Whole.{same_law, well_formed_law, flat_law, copy_law}
 use Rattle.journal.specs.Copies.{Lawful}
-use Rattle.cluster.specs.Laws.{FromBaseLaw}
+use Rattle.cluster.specs.Laws.{FromBaseLaw, LeftLaw}
+use Rattle.journal.specs.Loads.{Explained}
 use Rattle.book.specs.Cutting.{WasBookCut, refused_by}
 use Rattle.book.specs.State.{State}
 use Rattle.book.specs.Told.{IsTold}
@@ -213,3 +214,20 @@ from_base m h a n c cover within at valid here =
     let whole : h ++ m.block ≡ told.holds.taken ++ (a.book.journal.events ++ m.block) = ap (λ (xs : List Event). xs ++ m.block) told.holds.rest.history ∙ append_assoc told.holds.taken a.book.journal.events m.block in
     let P : List Event → Type 0 = λ xs. Lawful m.sizes xs m.number n c.page.words in
     copy_law m.sizes a.book.journal.base told.holds.taken (a.book.journal.events ++ m.block) m.number n c.page.words (subst (WellFormed m.sizes) whole covered.well_formed) (base m.sizes h a.book told) here within (subst P whole (covered.lawful n c at valid))
+
+-- what is left of a faithful history is faithful from what was kept
+pub left_faithful : LeftLaw
+left_faithful s c h j of faithful =
+    let base : IsBaseOf s.processors (addresses s) c j.base = subst₂ (λ (p n : ℕ). IsBaseOf p n c j.base) of.processors of.addresses_are of.holds.base in
+    let well = subst (WellFormed s) of.holds.history faithful.well_formed in
+    let explained = subst Explained of.holds.history faithful.explained in
+    let both = (well_formed_law s j.base c j.events base).0 well in
+    let flat = flat_law s j.base c j.events well explained base in
+    record {
+      cut = (both.0, flat.cut);
+      memory = base.after.memory;
+      well_formed = both.1;
+      explained = (((same_law s j.base c j.events well base).explained).0 explained).1;
+      flat = flat.left;
+      up_to = flat.up_to;
+    }

@@ -7,7 +7,10 @@ use Rattle.journal.specs.WellFormed.{WellFormed}
 use Rattle.journal.specs.Loads.{Explained}
 use Rattle.journal.specs.Counted.{AreCounted}
 use Rattle.journal.specs.Races.{Race}
-use Rattle.journal.specs.Flat.{Replays}
+use Rattle.journal.specs.Flat.{Replays, memory_after}
+use Rattle.journal.specs.LoadsFrom.{ExplainedFrom}
+use Rattle.journal.specs.RacesFrom.{RaceFreeFrom, IsFirstRaceFrom}
+use Rattle.journal.specs.WellFormedFrom.{WellFormedFrom}
 use Rattle.journal.specs.Log.{Log, HoldsRest}
 use Rattle.replicas.specs.Local.{Local, calls}
 
@@ -32,3 +35,13 @@ pub record IsAudit (old new : Local) (j : Log) : Type 0 where
   pub faithful : IsFaithful new.sizes new.seen
   pub begins : (rest : List Event) × (new.seen ≡ old.seen ++ rest)
   pub calls_are : part new.seen new.number ≡ calls new
+
+-- the journal alone, from its base, is what a faithful history's rest is; what was cut off is well formed too, and
+-- replays from zeros to the base's memory
+pub record IsFaithfulFrom (s : Sizes) (c : List Event) (j : Log) : Type 0 where
+  pub cut : WellFormed s c × Replays (replicate (addresses s) 0) c
+  pub memory : j.base.memory ≡ memory_after (replicate (addresses s) 0) c
+  pub well_formed : WellFormedFrom s j.base j.events
+  pub explained : ExplainedFrom j.base j.events
+  pub flat : RaceFreeFrom j.base j.events → Replays j.base.memory j.events
+  pub up_to : (i k : ℕ) → IsFirstRaceFrom j.base j.events i k → Replays j.base.memory (take k j.events)

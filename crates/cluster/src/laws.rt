@@ -1,5 +1,5 @@
 //! Laws, as contracts of functions that do nothing: the check proves each by its name.
-ghost use Rattle.cluster.specs.Laws.{AllowedLaw, FromBaseLaw};
+ghost use Rattle.cluster.specs.Laws.{AllowedLaw, FromBaseLaw, LeftLaw};
 
 /// An access changes nothing of which journals the book may have: so by `allowed` of each call that enters, from the
 /// start on there is always one, and what `covers` says of all of them is said of something.
@@ -11,4 +11,10 @@ pub fn allowed_law()
 /// the processor has departed since.
 pub fn from_base_law()
     ensures { FromBaseLaw }
+{}
+
+/// What an audit or the end answers has from its base all that the whole history has: so a reader of the journal needs
+/// nothing of what was cut off.
+pub fn left_law()
+    ensures { LeftLaw }
 {}
