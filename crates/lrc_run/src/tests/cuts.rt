@@ -37,8 +37,7 @@ fn steps<R: Abort + Wait>(rt: &R, alloc: Global, text: &[u8], left: Left) -> Res
 }
 
 /// A barrier, and then a cut.
-const CUT: &[u8] =
-    b"cluster 2 1 2 0\np 0\nstore 0 5\nbarrier\ncut\np 1\nbarrier\nload 0\nshow 0\n";
+const CUT: &[u8] = b"cluster 2 1 2 0\np 0\nstore 0 5\nbarrier\ncut\np 1\nbarrier\nload 0\nshow 0\n";
 
 #[test]
 fn an_episode_is_cut_off(rt: HostRuntime) -> Result<(), Fail> {
@@ -90,8 +89,7 @@ fn without_an_episode_nothing_is_cut_off(rt: HostRuntime) -> Result<(), Fail> {
 
 #[test]
 fn a_race_is_not_cut_off(rt: HostRuntime) -> Result<(), Fail> {
-    let text =
-        b"cluster 2 1 1 0\np 0\nstore 0 1\nbarrier\ncut\np 1\nstore 0 2\nbarrier\nshow 0\n";
+    let text = b"cluster 2 1 1 0\np 0\nstore 0 1\nbarrier\ncut\np 1\nstore 0 2\nbarrier\nshow 0\n";
     let first = Some(Event {
         processor: 0,
         kind: Kind::Store(0, 1),
@@ -106,8 +104,7 @@ fn a_race_is_not_cut_off(rt: HostRuntime) -> Result<(), Fail> {
 
 #[test]
 fn a_race_after_a_cut_is_told(rt: HostRuntime) -> Result<(), Fail> {
-    let text =
-        b"cluster 2 1 1 0\np 0\nbarrier\ncut\nstore 0 1\np 1\nbarrier\nstore 0 2\nshow 0\n";
+    let text = b"cluster 2 1 1 0\np 0\nbarrier\ncut\nstore 0 1\np 1\nbarrier\nstore 0 2\nshow 0\n";
     let first = Some(Event {
         processor: 1,
         kind: Kind::Depart,
