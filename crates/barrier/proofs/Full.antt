@@ -1,7 +1,30 @@
 -- An episode is full exactly where as many are here as there are processors.
 use Rattle.std.proofs.Common.{
-    ℕ, ◌≡◌, ◌+◌, ◌↔◌, true, cond, nat_eq, inl, inr, Some, List, [], ◌∷◌, ◌++◌, length, set, drop, replicate, count_by,
-    slice_get, refl, sym, ap, ◌∙◌, arith
+  ℕ,
+  ◌≡◌,
+  ◌+◌,
+  ◌↔◌,
+  true,
+  cond,
+  nat_eq,
+  inl,
+  inr,
+  Some,
+  List,
+  [],
+  ◌∷◌,
+  ◌++◌,
+  length,
+  set,
+  drop,
+  replicate,
+  count_by,
+  slice_get,
+  refl,
+  sym,
+  ap,
+  ◌∙◌,
+  arith,
 }
 use Rattle.std.specs.List.{list_all, refill}
 use Rattle.std.proofs.lemmas.Bool.{false≢true, cases_Bool, both_ways, eq-eqb, ne_eqb}
@@ -39,9 +62,11 @@ last_arrival stages p away =
     let within = slice_get_within stages p Away away in
     let more = sum_by-set one_here stages p Here Here within in
     let was = ap one_here (get_or_from_slice_get stages p Away Here away) in
-    let long = length-set stages p Here in
-    (λ all. let full = all_counted (set stages p Here) all in
-            omega arith, λ count. counted_all (set stages p Here) (omega arith))
+    let long = length-set stages p Here in (
+      λ all. let full = all_counted (set stages p Here) all in
+          omega arith,
+      λ count. counted_all (set stages p Here) (omega arith),
+    )
 
 -- the test of the count is the test of all, once p is here
 pub last_arrival_test : (stages : List Stage) (p n m : ℕ) → slice_get stages p ≡ Some Away
@@ -59,7 +84,7 @@ pub read_set : (p : ℕ) (stage : Stage) (stages read old : List Stage) → read
     → refill (length stages) stages (set read p stage) ≡ set old p stage
 read_set p stage stages read old same is =
     take_at (set read p stage) (drop (length (set read p stage)) stages) (length stages)
-        (length-set read p stage ∙ ap (λ (ss : List Stage). length ss) same)
+    (length-set read p stage ∙ ap (λ (ss : List Stage). length ss) same)
     ∙ ap (λ (ss : List Stage). set ss p stage) (same ∙ is)
 
 -- an arrival is gathered
@@ -74,7 +99,7 @@ gathered-more b p time times away has =
     record {
       joined_are =
           ap (λ (t : List ℕ). join t time) has.joined_are ∙ sym (fold_push join (replicate n 0) times time)
-              ∙ ap (λ (m : ℕ). joins m (times ++ time ∷ [])) (sym long);
+          ∙ ap (λ (m : ℕ). joins m (times ++ time ∷ [])) (sym long);
       count_is = let count = has.count_is in let one = length_push times time in omega arith;
     }
 

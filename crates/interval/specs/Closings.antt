@@ -1,7 +1,25 @@
 -- The closed intervals that are kept, as one list in closing order.
 use Rattle.std.specs.Prelude.{
-    ℕ, ◌+◌, ◌==◌, ◌&&◌, nat_lt, nat_le, not, min, max, Bool, Option, List, [], ◌∷◌, ◌++◌, map, filter, find,
-    slice_index, slice_set
+  ℕ,
+  ◌+◌,
+  ◌==◌,
+  ◌&&◌,
+  nat_lt,
+  nat_le,
+  not,
+  min,
+  max,
+  Bool,
+  Option,
+  List,
+  [],
+  ◌∷◌,
+  ◌++◌,
+  map,
+  filter,
+  find,
+  slice_index,
+  slice_set,
 }
 use Rattle.std.specs.List.{flat_map}
 use Rattle.std.specs.Option.{option_and_then}
@@ -44,7 +62,7 @@ trimmed c owner to = record {
 abbrev pub is_news : List ℕ → List ℕ → Kept → Bool
 is_news old new k =
     nat_le (slice_index old k.interval.owner) k.interval.number && nat_lt k.interval.number
-        (slice_index new k.interval.owner)
+    (slice_index new k.interval.owner)
 
 -- a record of the interval, under its notice
 abbrev pub sent_record : Kept → Changes → SentRecord

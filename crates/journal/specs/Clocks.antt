@@ -27,9 +27,9 @@ Keeps c locks flags episodes p own (Set f) =
     (locks ≡ c.locks) × IsJoinedAt (kept_entry c.flags) (kept_entry flags) f own × (episodes ≡ c.episodes.items)
 Keeps c locks flags episodes p own Arrive =
     (locks ≡ c.locks) × (flags ≡ c.flags)
-        × (c.gone ≤ slice_index c.arrivals p
-                → IsJoinedAt (entry c.episodes.items) (entry episodes) (slice_index c.arrivals p - c.gone) own)
-        × (slice_index c.arrivals p < c.gone → episodes ≡ c.episodes.items)
+    × (c.gone ≤ slice_index c.arrivals p
+    → IsJoinedAt (entry c.episodes.items) (entry episodes) (slice_index c.arrivals p - c.gone) own)
+    × (slice_index c.arrivals p < c.gone → episodes ≡ c.episodes.items)
 Keeps c locks flags episodes p own _ = (locks ≡ c.locks) × (flags ≡ c.flags) × (episodes ≡ c.episodes.items)
 
 -- the timestamps of the processors, locks, flags and episodes, and the counts of arrivals and departures, are those of the journal

@@ -10,7 +10,7 @@ use Rattle.journal.specs.Copies.{GapCounts}
 abbrev pub AreCounted : Sizes → List Event → Type 0
 AreCounted s j =
     (k p n writers records words : ℕ) → Does j k p (Fetch writers n records words)
-        → GapCounts s (take k j) p n writers records words
+    → GapCounts s (take k j) p n writers records words
 
 -- each fetch of p's open block counts the gap before the block, and is the block's first of its page
 pub record BlockCounts (s : Sizes) (j block : List Event) (p : ℕ) : Type 0 where

@@ -1,11 +1,34 @@
 -- Words on single events and on lists of events.
 use Rattle.std.specs.Prelude.{
-    ℕ, ◌≡◌, ◌==◌, Bool, true, false, ◌&&◌, Option, Some, None, List, filter, count_by, take, slice_get
+  ℕ,
+  ◌≡◌,
+  ◌==◌,
+  Bool,
+  true,
+  false,
+  ◌&&◌,
+  Option,
+  Some,
+  None,
+  List,
+  filter,
+  count_by,
+  take,
+  slice_get,
 }
 use Rattle.journal.specs.declared.event.Event.{Event}
 use Rattle.journal.specs.declared.event.Kind.{Kind}
 use Rattle.journal.specs.declared.event.Kind.TheVariants.{
-    Load, Store, Ask, Acquire, Release, Arrive, Depart, Set, Watch, Await
+  Load,
+  Store,
+  Ask,
+  Acquire,
+  Release,
+  Arrive,
+  Depart,
+  Set,
+  Watch,
+  Await,
 }
 
 -- the event e stands at place i

@@ -9,8 +9,13 @@ use Rattle.journal.specs.Opening.{IsOpening}
 
 abbrev pub log_of : Inside → Log
 log_of j =
-    record { processors = j.processors; addresses = j.addresses; events = drop j.processors j.events.items;
-            room = j.room; base = base_of j.kept }
+    record {
+      processors = j.processors;
+      addresses = j.addresses;
+      events = drop j.processors j.events.items;
+      room = j.room;
+      base = base_of j.kept;
+    }
 
 -- the memory that is reserved is there, processors and events are few enough, and the events' processors and addresses in range
 pub record IsHeld (j : Inside) : Type 0 where

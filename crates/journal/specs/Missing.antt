@@ -49,6 +49,6 @@ pub record AreMissing (s : Sizes) (j : List Event) (p n : ℕ) (missing : List M
 pub record AreNews (s : Sizes) (j : List Event) (p n : ℕ) (t t' : ℕ → ℕ) (new : List Missing) : Type 0 where
   pub each : (q m : ℕ)
       → ((x : Missing) × Has new x × (x.owner ≡ q) × (x.number ≡ m))
-          ↔ ((i : ℕ) × StoresIn s j q m n i × (q ≢ p) × (t q ≤ m) × (m < t' q))
+      ↔ ((i : ℕ) × StoresIn s j q m n i × (q ≢ p) × (t q ≤ m) × (m < t' q))
   pub placed : (x : Missing) → Has new x → IsPlaced j x.owner x.number x.place
   pub contents : (x : Missing) → Has new x → IsContent s j x.owner x.number n x.words

@@ -25,7 +25,7 @@ pub record IsValidCopy (s : Sizes) (j block : List Event) (p n : ℕ) (base page
 
 -- the copy lacks what these intervals store, and the block leaves the page alone
 pub record IsStaleCopy (s : Sizes) (j block : List Event) (p n : ℕ) (page : List ℕ) (missing : List Missing) : Type 0
-    where
-  pub copy : IsCopy s j p n page
-  pub lacks : AreMissing s j p n missing
-  pub untouched : (k : ℕ) (e : Event) → At block k e → ¬ Touches s n e.kind
+  where
+    pub copy : IsCopy s j p n page
+    pub lacks : AreMissing s j p n missing
+    pub untouched : (k : ℕ) (e : Event) → At block k e → ¬ Touches s n e.kind

@@ -3,7 +3,17 @@ use Rattle.std.specs.Prelude.{ℕ, ◌≡◌, ◌≢◌, ◌+◌, ◌<◌, ◌�
 use Rattle.journal.specs.declared.event.Event.{Event}
 use Rattle.journal.specs.declared.event.Kind.{Kind}
 use Rattle.journal.specs.declared.event.Kind.TheVariants.{
-    Load, Store, Fetch, Ask, Acquire, Release, Arrive, Depart, Set, Watch, Await
+  Load,
+  Store,
+  Fetch,
+  Ask,
+  Acquire,
+  Release,
+  Arrive,
+  Depart,
+  Set,
+  Watch,
+  Await,
 }
 use Rattle.journal.specs.Did.{event}
 use Rattle.journal.specs.Sizes.{Sizes, addresses}

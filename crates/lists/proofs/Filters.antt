@@ -1,6 +1,24 @@
 -- Filters and searches by tests that agree, or that pass nothing.
 use Rattle.std.proofs.Common.{
-    suc, ◌≡◌, Bool, true, false, cond, inl, inr, Some, None, List, [], ◌∷◌, filter, find, refl, sym, ap, ◌∙◌
+  suc,
+  ◌≡◌,
+  Bool,
+  true,
+  false,
+  cond,
+  inl,
+  inr,
+  Some,
+  None,
+  List,
+  [],
+  ◌∷◌,
+  filter,
+  find,
+  refl,
+  sym,
+  ap,
+  ◌∙◌,
 }
 use Rattle.std.proofs.lemmas.Bool.{cases_Bool, cond-true, cond-false, both_ways}
 use Rattle.lists.specs.Places.{Has}
@@ -10,7 +28,7 @@ pub filter_none : {A : Type 0} (p : A → Bool) (xs : List A) → ((x : A) → H
 filter_none p [] none = refl
 filter_none p (x ∷ xs) none =
     cond-false (p x) (x ∷ filter p xs) (filter p xs) (none x (0, refl))
-        ∙ filter_none p xs (λ y h. none y (suc h.0, h.1))
+    ∙ filter_none p xs (λ y h. none y (suc h.0, h.1))
 
 -- tests that agree on a list's items pick the same of them
 pub filter_same : {A : Type 0} (p q : A → Bool) (xs : List A) → ((x : A) → Has xs x → p x ≡ q x)
@@ -32,10 +50,10 @@ filter_passed {A} pick passes (x ∷ xs) all =
           ∙ ap (λ (ys : List A). cond (pick x) (x ∷ ys) ys) rest
       | inr doesnt ↦
           let out : pick x ≡ false =
-              elim (cases_Bool (pick x))
-                  [ inl is ↦ absurd (both_ways (passes x) doesnt (all x is)) | inr isnt ↦ isnt ] in
+          elim (cases_Bool (pick x))
+          [ inl is ↦ absurd (both_ways (passes x) doesnt (all x is)) | inr isnt ↦ isnt ] in
           ap (filter pick) (cond-false (passes x) (x ∷ filter passes xs) (filter passes xs) doesnt) ∙ rest
-              ∙ sym (cond-false (pick x) (x ∷ filter pick xs) (filter pick xs) out)
+          ∙ sym (cond-false (pick x) (x ∷ filter pick xs) (filter pick xs) out)
     ]
 
 -- a test that no item passes finds nothing

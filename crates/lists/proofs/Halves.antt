@@ -22,10 +22,16 @@ past n (x ∷ xs) h =
 pub halves : (n : ℕ) (xs : List ℕ) → InOrder (λ x y. n ≤ x → n ≤ y) xs → Halves n xs
 halves n [] h = record { low = []; high = []; are = refl; below = λ i a. absurd (none-some i a.1) }
 halves n (x ∷ xs) h =
-    elim (cases_lt x n) [ inl lt ↦ longer lt
-                (halves n xs (λ k m a b lt_k at to. h (suc k) (suc m) a b (omega arith) at to))
-            | inr le ↦ record { low = []; high = map (λ i. i - n) (x ∷ xs); are = past n (x ∷ xs) (all le);
-                    below = λ i a. absurd (none-some i a.1) } ]
+    elim (cases_lt x n) [
+      | inl lt ↦ longer lt
+          (halves n xs (λ k m a b lt_k at to. h (suc k) (suc m) a b (omega arith) at to))
+      | inr le ↦ record {
+        low = [];
+        high = map (λ i. i - n) (x ∷ xs);
+        are = past n (x ∷ xs) (all le);
+        below = λ i a. absurd (none-some i a.1);
+      }
+    ]
   where
     all : n ≤ x → (i : ℕ) → Has (x ∷ xs) i → n ≤ i
     all le i a = at a.0 a.1

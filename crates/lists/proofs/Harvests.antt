@@ -1,7 +1,38 @@
 -- The dirty words of a page are the record of the writes that made them.
 use Rattle.std.proofs.Common.{
-    ℕ, zero, suc, ◌+◌, ◌≡◌, ◌<◌, ◌⊎◌, inl, inr, List, [], ◌∷◌, ◌++◌, Option, Some, None, Bool, true, false, slice_get,
-    slice_set, ap₂, add-zero, zero-add, length, replicate, length-set, arith, refl, sym, ap, ◌∙◌, true≢false
+  ℕ,
+  zero,
+  suc,
+  ◌+◌,
+  ◌≡◌,
+  ◌<◌,
+  ◌⊎◌,
+  inl,
+  inr,
+  List,
+  [],
+  ◌∷◌,
+  ◌++◌,
+  Option,
+  Some,
+  None,
+  Bool,
+  true,
+  false,
+  slice_get,
+  slice_set,
+  ap₂,
+  add-zero,
+  zero-add,
+  length,
+  replicate,
+  length-set,
+  arith,
+  refl,
+  sym,
+  ap,
+  ◌∙◌,
+  true≢false,
 }
 use Rattle.std.proofs.lemmas.Bool.{cases_eq}
 use Rattle.std.proofs.lemmas.List.{length-replicate}
@@ -131,7 +162,7 @@ harvest_is_record {A} f words xs within =
         let r = harvest_found 0 (written f words xs) marks h.0 o v h.1 in
         let e : o ≡ r.0 = r.1 ∙ zero-add r.0 in
         let dirty : MarkedFrom f (replicate (length words) false) xs o =
-            marked_from f (replicate (length words) false) xs o (ap (slice_get marks) e ∙ r.3) in
+        marked_from f (replicate (length words) false) xs o (ap (slice_get marks) e ∙ r.3) in
         elim (word_written f words xs o v (ap (slice_get (written f words xs)) e ∙ r.2)) [
           | inl l ↦ l
           | inr n ↦ elim dirty [
@@ -144,8 +175,8 @@ harvest_is_record {A} f words xs within =
     back o v l =
         let inside : o < length words = within l.item o v l.writes in
         harvest_has 0 (written f words xs) marks o o v (sym (zero-add o)) (last_word f words xs o v inside l)
-            (marked_written f (replicate (length words) false) xs o l.place v l.item (rw length-replicate inside)
-                l.at l.writes)
+        (marked_written f (replicate (length words) false) xs o l.place v l.item (rw length-replicate inside)
+        l.at l.writes)
 
 -- items that write nothing mark nothing
 pub marked_nothing : {A : Type 0} (f : A → Option (ℕ × ℕ)) (marks : List Bool) (xs : List A)

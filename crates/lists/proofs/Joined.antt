@@ -1,7 +1,32 @@
 -- Lists joined end to end: what they have, their order, and that nothing stands in them twice.
 use Rattle.std.proofs.Common.{
-    ℕ, zero, suc, ◌+◌, ◌≡◌, ◌≢◌, ◌<◌, ◌⊎◌, ◌↔◌, inl, inr, List, [], ◌∷◌, ◌++◌, Some, slice_get, length, map, flat_map,
-    option_map, sym, subst, arith, refl, ap, ◌∙◌
+  ℕ,
+  zero,
+  suc,
+  ◌+◌,
+  ◌≡◌,
+  ◌≢◌,
+  ◌<◌,
+  ◌⊎◌,
+  ◌↔◌,
+  inl,
+  inr,
+  List,
+  [],
+  ◌∷◌,
+  ◌++◌,
+  Some,
+  slice_get,
+  length,
+  map,
+  flat_map,
+  option_map,
+  sym,
+  subst,
+  arith,
+  refl,
+  ap,
+  ◌∙◌,
 }
 use Rattle.std.proofs.lemmas.Bool.{cases_eq}
 use Rattle.std.proofs.lemmas.Option.{slice_get-map, slice_get_within, same_Some, none-some}
@@ -37,9 +62,11 @@ has-append {A} xs ys x =
 -- what joined lists have is what one of them has
 pub has_concat : (gs : List (List ℕ)) (a : ℕ) → Has (concat gs) a ↔ ((g : List ℕ) × Has gs g × Has g a)
 has_concat [] a = (λ h. absurd (has-nil a h), λ h. absurd (has-nil h.0 h.1))
-has_concat (g ∷ gs) a =
-    (λ h. there (has_concat gs a).0 ((has-append g (concat gs) a).0 h), λ h. (has-append g (concat gs) a).1
-            (back (has_concat gs a).1 h.0 h.2 ((has-cons g gs h.0).0 h.1)))
+has_concat (g ∷ gs) a = (
+  λ h. there (has_concat gs a).0 ((has-append g (concat gs) a).0 h),
+  λ h. (has-append g (concat gs) a).1
+      (back (has_concat gs a).1 h.0 h.2 ((has-cons g gs h.0).0 h.1)),
+)
   where
     there : (Has (concat gs) a → (f : List ℕ) × Has gs f × Has f a) → Has g a ⊎ Has (concat gs) a
         → (f : List ℕ) × Has (g ∷ gs) f × Has f a
@@ -65,7 +92,7 @@ in_order-append {A} R xs ys first second across x y a b less at_a at_b =
     go (inr p) (inl q) = let e : x ≡ length xs + p.0 = p.1 in let h : y < length xs = q.0 in absurd (omega arith)
     go (inr p) (inr q) =
         let e : x ≡ length xs + p.0 = p.1 in let d : y ≡ length xs + q.0 = q.1 in
-            second p.0 q.0 a b (omega arith) p.2 q.2
+        second p.0 q.0 a b (omega arith) p.2 q.2
 
 -- a list in order is so without its first item
 pub in_order_tail : {A : Type 0} (R : A → A → Type 0) (x : A) (xs : List A) → InOrder R (x ∷ xs) → InOrder R xs
@@ -89,9 +116,9 @@ pub in_order_concat : (R : ℕ → ℕ → Type 0) (gs : List (List ℕ)) → ((
 in_order_concat R [] each across = in_order-nil R
 in_order_concat R (g ∷ gs) each across =
     in_order-append R g (concat gs) (each g (0, refl)) (in_order_concat R gs (λ f h. each f (suc h.0, h.1))
-            (in_order_tail (λ (f h : List ℕ). (a b : ℕ) → Has f a → Has h b → R a b) g gs across))
+    (in_order_tail (λ (f h : List ℕ). (a b : ℕ) → Has f a → Has h b → R a b) g gs across))
     (λ a b here later. let r = (has_concat gs b).0 later in
-            across 0 (suc r.1.0) g r.0 (omega arith) refl r.1.1 a b here r.2)
+    across 0 (suc r.1.0) g r.0 (omega arith) refl r.1.1 a b here r.2)
 
 -- a weaker order
 pub in_order_weaker : {A : Type 0} (R S : A → A → Type 0) (xs : List A)
@@ -118,7 +145,7 @@ in_order-map {A} {B} R f (x ∷ xs) h =
     first : (b : B) → Has (map f xs) b → R (f x) b
     first b m =
         let r = (has-map f xs b).0 m in let P : B → Type 0 = R (f x) in
-            subst P r.2 (h 0 (suc r.1.0) x r.0 (omega arith) refl r.1.1)
+        subst P r.2 (h 0 (suc r.1.0) x r.0 (omega arith) refl r.1.1)
 
 -- a list of one item is in order
 pub in_order_single : {A : Type 0} (R : A → A → Type 0) (x : A) → InOrder R (x ∷ [])
@@ -138,9 +165,11 @@ has_or_not (y ∷ xs) x = go (cases_eq y x) (has_or_not xs x)
 pub has-flat_map : {A B : Type 0} (f : A → List B) (xs : List A) (y : B)
     → Has (flat_map f xs) y ↔ ((x : A) × Has xs x × Has (f x) y)
 has-flat_map f [] y = (λ h. absurd (has-nil y h), λ h. absurd (has-nil h.0 h.1))
-has-flat_map {A} f (x ∷ xs) y =
-    (λ h. there (has-flat_map f xs y).0 ((has-append (f x) (flat_map f xs) y).0 h), λ h.
-            (has-append (f x) (flat_map f xs) y).1 (back (has-flat_map f xs y).1 h.0 h.2 ((has-cons x xs h.0).0 h.1)))
+has-flat_map {A} f (x ∷ xs) y = (
+  λ h. there (has-flat_map f xs y).0 ((has-append (f x) (flat_map f xs) y).0 h),
+  λ h.
+      (has-append (f x) (flat_map f xs) y).1 (back (has-flat_map f xs y).1 h.0 h.2 ((has-cons x xs h.0).0 h.1)),
+)
   where
     there : (Has (flat_map f xs) y → (z : A) × Has xs z × Has (f z) y) → Has (f x) y ⊎ Has (flat_map f xs) y
         → (z : A) × Has (x ∷ xs) z × Has (f z) y
@@ -159,7 +188,7 @@ pub in_order-flat_map : {A B : Type 0} (R : B → B → Type 0) (f : A → List 
 in_order-flat_map R f [] each across = in_order-nil R
 in_order-flat_map {A} {B} R f (x ∷ xs) each across =
     in_order-append R (f x) (flat_map f xs) (each x (0, refl)) (in_order-flat_map R f xs
-            (λ z h. each z (suc h.0, h.1))
-            (in_order_tail (λ (y z : A). (a b : B) → Has (f y) a → Has (f z) b → R a b) x xs across))
+    (λ z h. each z (suc h.0, h.1))
+    (in_order_tail (λ (y z : A). (a b : B) → Has (f y) a → Has (f z) b → R a b) x xs across))
     (λ a b here later. let r = (has-flat_map f xs b).0 later in
-            across 0 (suc r.1.0) x r.0 (omega arith) refl r.1.1 a b here r.2)
+    across 0 (suc r.1.0) x r.0 (omega arith) refl r.1.1 a b here r.2)

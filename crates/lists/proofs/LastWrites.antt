@@ -1,7 +1,40 @@
 -- What a list of writes leaves at a place: its last write there, or what was there before.
 use Rattle.std.proofs.Common.{
-    ℕ, zero, suc, ◌≡◌, ◌≢◌, ◌<◌, ◌⊎◌, ◌↔◌, inl, inr, List, [], ◌∷◌, ◌++◌, Option, Some, None, Bool, true, false, cond,
-    filter, map, slice_get, slice_set, length, replicate, get_or, ap₂, length-set, arith, refl, sym, ap, ◌∙◌
+  ℕ,
+  zero,
+  suc,
+  ◌≡◌,
+  ◌≢◌,
+  ◌<◌,
+  ◌⊎◌,
+  ◌↔◌,
+  inl,
+  inr,
+  List,
+  [],
+  ◌∷◌,
+  ◌++◌,
+  Option,
+  Some,
+  None,
+  Bool,
+  true,
+  false,
+  cond,
+  filter,
+  map,
+  slice_get,
+  slice_set,
+  length,
+  replicate,
+  get_or,
+  ap₂,
+  length-set,
+  arith,
+  refl,
+  sym,
+  ap,
+  ◌∙◌,
 }
 use Rattle.std.proofs.lemmas.List.{length-replicate}
 use Rattle.std.proofs.lemmas.Bool.{cases_eq, cases_order}
@@ -70,11 +103,14 @@ word_written {A} f words (x ∷ xs) o w h = go (f x) refl (word_written f (wrote
         → (o ≡ p.0) ⊎ (o ≢ p.0) → Result
     at p e g n (inl d) =
         let same : p.1 ≡ w =
-            slice_get-set_found words p.0 p.1 w (ap (slice_get (slice_set words p.0 p.1)) (sym d) ∙ g) in
+        slice_get-set_found words p.0 p.1 w (ap (slice_get (slice_set words p.0 p.1)) (sym d) ∙ g) in
         inl (last_first f x xs o w (e ∙ ap₂ (λ (a b : ℕ). Some (a, b)) (sym d) same) n)
     at p e g n (inr d) =
-        inr (sym (slice_get-set_other words p.0 o p.1 d)
-                ∙ g, unwritten-cons f x xs o (λ u k. d (some_pair_parts o p.0 u p.1 (sym k ∙ e)).0) n)
+        inr (
+          sym (slice_get-set_other words p.0 o p.1 d)
+              ∙ g,
+          unwritten-cons f x xs o (λ u k. d (some_pair_parts o p.0 u p.1 (sym k ∙ e)).0) n,
+        )
 
     go : (p : Option (ℕ × ℕ)) → f x ≡ p
         → LastWrite f xs o w ⊎ ((slice_get (wrote words p) o ≡ Some w) × Unwritten f xs o) → Result
@@ -87,13 +123,13 @@ pub last_word : {A : Type 0} (f : A → Option (ℕ × ℕ)) (words : List ℕ) 
     → LastWrite f xs o v → slice_get (written f words xs) o ≡ Some v
 last_word f words xs o v h l =
     let e : slice_get (written f words xs) o ≡ Some (get_or (written f words xs) o 0) =
-        slice_get-get_or (written f words xs) o 0 (rw length-written h) in
+    slice_get-get_or (written f words xs) o 0 (rw length-written h) in
     elim (word_written f words xs o (get_or (written f words xs) o 0) e)
-        [ inl m ↦ e ∙ ap Some (last_alone f xs o _ _ m l) | inr n ↦ absurd (n.1 l.place l.item v l.at l.writes) ]
+    [ inl m ↦ e ∙ ap Some (last_alone f xs o _ _ m l) | inr n ↦ absurd (n.1 l.place l.item v l.at l.writes) ]
 
 -- a word after these writes is there after others with the same last writes
 half_written : {A B : Type 0} (f : A → Option (ℕ × ℕ)) (g : B → Option (ℕ × ℕ)) (words : List ℕ) (xs : List A)
-        (ys : List B)
+    (ys : List B)
     → ((o v : ℕ) → LastWrite f xs o v ↔ LastWrite g ys o v) → (o w : ℕ) → slice_get (written f words xs) o ≡ Some w
     → slice_get (written g words ys) o ≡ Some w
 half_written f g words xs ys same o w e = go (word_written f words xs o w e)
@@ -109,18 +145,18 @@ half_written f g words xs ys same o w e = go (word_written f words xs o w e)
     go (inl l) = last_word g words ys o w within ((same o w).0 l)
     go (inr h) = elim (word_written g words ys o (get_or (written g words ys) o 0) there) [
       | inl m ↦ let l : LastWrite f xs o (get_or (written g words ys) o 0) =
-              (same o (get_or (written g words ys) o 0)).1 m in
+          (same o (get_or (written g words ys) o 0)).1 m in
           absurd (h.1 l.place l.item (get_or (written g words ys) o 0) l.at l.writes)
       | inr k ↦ there ∙ sym k.0 ∙ h.0
     ]
 
 -- two lists with the same last writes do the same to any words
 pub same_written : {A B : Type 0} (f : A → Option (ℕ × ℕ)) (g : B → Option (ℕ × ℕ)) (words : List ℕ) (xs : List A)
-        (ys : List B)
+    (ys : List B)
     → ((o v : ℕ) → LastWrite f xs o v ↔ LastWrite g ys o v) → written f words xs ≡ written g words ys
 same_written f g words xs ys same =
     same_places (written f words xs) (written g words ys)
-        (λ o. go o (slice_get (written f words xs) o) (slice_get (written g words ys) o) refl refl)
+    (λ o. go o (slice_get (written f words xs) o) (slice_get (written g words ys) o) refl refl)
   where
     go : (o : ℕ) (a b : Option ℕ) → slice_get (written f words xs) o ≡ a → slice_get (written g words ys) o ≡ b
         → slice_get (written f words xs) o ≡ slice_get (written g words ys) o
@@ -157,7 +193,7 @@ pub written_same : {A : Type 0} (f g : A → Option (ℕ × ℕ)) (words : List 
 written_same f g words [] h = refl
 written_same f g words (x ∷ xs) h =
     ap (λ (a : Option (ℕ × ℕ)). written f (wrote words a) xs) (h 0 x refl)
-        ∙ written_same f g (wrote words (g x)) xs (λ k. h (suc k))
+    ∙ written_same f g (wrote words (g x)) xs (λ k. h (suc k))
 
 -- a last write, told by what the writes leave in words that differ from it
 pub last_found : {A : Type 0} (f : A → Option (ℕ × ℕ)) (xs : List A) (o v : ℕ)
@@ -172,7 +208,7 @@ pub last_same : {A B : Type 0} (f : A → Option (ℕ × ℕ)) (g : B → Option
     → ((words : List ℕ) → written f words xs ≡ written g words ys) → LastWrite f xs o v → LastWrite g ys o v
 last_same f g xs ys o v same l =
     last_found g ys o v (rw (← same (replicate (suc o) (suc v)))
-            (last_word f (replicate (suc o) (suc v)) xs o v (rw length-replicate (omega arith)) l))
+    (last_word f (replicate (suc o) (suc v)) xs o v (rw length-replicate (omega arith)) l))
 
 -- items that write nothing leave the words
 pub written_nothing : {A : Type 0} (f : A → Option (ℕ × ℕ)) (words : List ℕ) (xs : List A)
@@ -180,7 +216,7 @@ pub written_nothing : {A : Type 0} (f : A → Option (ℕ × ℕ)) (words : List
 written_nothing f words [] h = refl
 written_nothing f words (x ∷ xs) h =
     ap (λ (a : Option (ℕ × ℕ)). written f (wrote words a) xs) (h 0 x refl)
-        ∙ written_nothing f words xs (λ k. h (suc k))
+    ∙ written_nothing f words xs (λ k. h (suc k))
 
 -- where an item writes, there is a last write
 pub last_exists : {A : Type 0} (f : A → Option (ℕ × ℕ)) (xs : List A) (k o u : ℕ) (x : A) → slice_get xs k ≡ Some x

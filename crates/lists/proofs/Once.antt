@@ -33,10 +33,10 @@ once_le {A} (x ∷ xs) ys once all =
     let here : Has ys x = all x (0, refl) in
     let shorter = length-without ys here.0 x here.1 in
     let rest =
-        once_le xs (without ys here.0) (in_order_tail (λ (a b : A). a ≢ b) x xs once) (λ y h. has-without ys here.0
-                (all y (suc h.0, h.1)).0 x y here.1 (all y (suc h.0, h.1)).1
-                (λ e. once 0 (suc h.0) x y (omega arith) refl h.1 (sym e)))
-            in
+    once_le xs (without ys here.0) (in_order_tail (λ (a b : A). a ≢ b) x xs once) (λ y h. has-without ys here.0
+    (all y (suc h.0, h.1)).0 x y here.1 (all y (suc h.0, h.1)).1
+    (λ e. once 0 (suc h.0) x y (omega arith) refl h.1 (sym e)))
+    in
     omega arith
 
 -- two lists with nothing in common
@@ -44,4 +44,4 @@ pub once-append : {A : Type 0} (xs ys : List A) → IsOnce xs → IsOnce ys → 
     → IsOnce (xs ++ ys)
 once-append {A} xs ys first second apart =
     in_order-append (λ (a b : A). a ≢ b) xs ys first second
-        (λ a b here there e. let P : A → Type 0 = Has ys in apart a here (subst P (sym e) there))
+    (λ a b here there e. let P : A → Type 0 = Has ys in apart a here (subst P (sym e) there))

@@ -1,7 +1,27 @@
 -- What a filter and a function make of a list's items and their order.
 use Rattle.std.proofs.Common.{
-    suc, ◌≡◌, ◌↔◌, inl, inr, List, [], ◌∷◌, Bool, true, false, cond, filter, map, Some, arith, refl, sym, ap, ap₂,
-    ◌∙◌, true≢false
+  suc,
+  ◌≡◌,
+  ◌↔◌,
+  inl,
+  inr,
+  List,
+  [],
+  ◌∷◌,
+  Bool,
+  true,
+  false,
+  cond,
+  filter,
+  map,
+  Some,
+  arith,
+  refl,
+  sym,
+  ap,
+  ap₂,
+  ◌∙◌,
+  true≢false,
 }
 use Rattle.lists.specs.Places.{Has, InOrder}
 use Rattle.lists.proofs.Joined.{has-nil, has-cons, in_order-nil, in_order-cons, in_order_tail}
@@ -18,8 +38,10 @@ has-filter {A} pick (y ∷ xs) x = go (pick y) refl (has-filter pick xs x)
     go : (b : Bool) → pick y ≡ b → (Has (filter pick xs) x ↔ (Has xs x × (pick x ≡ true)))
         → Has (cond b (y ∷ filter pick xs) (filter pick xs)) x ↔ (Has (y ∷ xs) x × (pick x ≡ true))
     go true e ih = (
-      λ h. elim ((has-cons y (filter pick xs) x).0 h) [ inl same ↦ ((0, ap Some same), ap pick (sym same) ∙ e)
-              | inr m ↦ (let r = ih.0 m in ((suc r.0.0, r.0.1), r.1)) ],
+      λ h. elim ((has-cons y (filter pick xs) x).0 h) [
+        | inl same ↦ ((0, ap Some same), ap pick (sym same) ∙ e)
+        | inr m ↦ (let r = ih.0 m in ((suc r.0.0, r.0.1), r.1))
+      ],
       λ h. elim ((has-cons y xs x).0 h.0)
           [ inl same ↦ (0, ap Some same) | inr m ↦ (let r = ih.1 (m, h.1) in (suc r.0, r.1)) ],
     )

@@ -1,7 +1,37 @@
 -- Places of lists that are put together of others, and counts of their fronts.
 use Rattle.std.proofs.Common.{
-    ◌≡◌, ℕ, zero, suc, ◌+◌, ◌<◌, ◌≤◌, ◌⊎◌, inl, inr, List, [], ◌∷◌, ◌++◌, length, take, drop, Bool, true, false,
-    count_by, Some, slice_get, refl, ap, sym, ◌∙◌, cond, append_assoc, append-nil, take-take, arith
+  ◌≡◌,
+  ℕ,
+  zero,
+  suc,
+  ◌+◌,
+  ◌<◌,
+  ◌≤◌,
+  ◌⊎◌,
+  inl,
+  inr,
+  List,
+  [],
+  ◌∷◌,
+  ◌++◌,
+  length,
+  take,
+  drop,
+  Bool,
+  true,
+  false,
+  count_by,
+  Some,
+  slice_get,
+  refl,
+  ap,
+  sym,
+  ◌∙◌,
+  cond,
+  append_assoc,
+  append-nil,
+  take-take,
+  arith,
 }
 use Rattle.std.proofs.lemmas.Option.{slice_get_within, same_Some, none-some}
 use Rattle.std.proofs.lemmas.List.{take-append-le}
@@ -61,7 +91,7 @@ append_cases [] ys k x h = inr (k, omega arith, h)
 append_cases (y ∷ xs) ys zero x h = inl (omega arith, h)
 append_cases {A} (y ∷ xs) ys (suc k) x h =
     elim (append_cases xs ys k x h)
-        [ inl a ↦ inl (omega (arith, a.0), a.1) | inr b ↦ inr (b.0, omega (arith, b.1), b.2) ]
+    [ inl a ↦ inl (omega (arith, a.0), a.1) | inr b ↦ inr (b.0, omega (arith, b.1), b.2) ]
 
 -- an item of a list with one more is one of the list, or the last
 pub push_cases : {A : Type 0} (xs : List A) (y : A) (k : ℕ) (x : A) → slice_get (xs ++ y ∷ []) k ≡ Some x
@@ -142,16 +172,26 @@ counted {A} p xs n = push_induction (λ ys. n < count_by p ys → CountedAt p ys
     longer ys y c =
         let lt = slice_get_within ys c.place c.item c.at in
         let le : c.place ≤ length ys = omega arith in
-        record { place = c.place; item = c.item; at = slice_get-append_left ys (y ∷ []) c.place lt ∙ c.at;
-                counts = c.counts; before = rw take-append-le c.before }
+        record {
+          place = c.place;
+          item = c.item;
+          at = slice_get-append_left ys (y ∷ []) c.place lt ∙ c.at;
+          counts = c.counts;
+          before = rw take-append-le c.before;
+        }
 
     now : (ys : List A) (y : A) (b : Bool) → p y ≡ b → n < count_by p (ys ++ y ∷ []) → count_by p ys ≤ n
         → CountedAt p (ys ++ y ∷ []) n
     now ys y true e h le =
         let sum = count_by-append p ys (y ∷ []) in
         let one : count_by p (y ∷ []) ≡ 1 = rw e in
-        record { place = length ys; item = y; at = slice_get-last ys y; counts = e;
-                before = rw take-append_seam (omega arith) }
+        record {
+          place = length ys;
+          item = y;
+          at = slice_get-last ys y;
+          counts = e;
+          before = rw take-append_seam (omega arith);
+        }
     now ys y false e h le =
         let sum = count_by-append p ys (y ∷ []) in
         let none : count_by p (y ∷ []) ≡ 0 = rw e in

@@ -41,17 +41,20 @@ pub records_same : (f : ℕ → Option (ℕ × ℕ)) (page : List ℕ) {gs : Lis
 records_same f page none = refl
 records_same f page (more {g = g} {r = r} {gs = gs} {rs = rs} here rest) =
     records_same f (record_applied page r) rest
-        ∙ ap (λ (p : List ℕ). written f p (concat gs)) (record_same f page g r here)
-        ∙ sym (written-append f page g (concat gs))
+    ∙ ap (λ (p : List ℕ). written f p (concat gs)) (record_same f page g r here)
+    ∙ sym (written-append f page g (concat gs))
 
 -- a record of one list is a record of each list that does the same to all words
 pub record_moved : {A B : Type 0} (f : A → Option (ℕ × ℕ)) (g : B → Option (ℕ × ℕ)) (xs : List A) (ys : List B)
-        (words : List (ℕ × ℕ))
+    (words : List (ℕ × ℕ))
     → ((page : List ℕ) → written f page xs ≡ written g page ys) → IsRecordOf f xs words → IsRecordOf g ys words
 record_moved f g xs ys words same r = record {
   each =
-      λ o v. (λ h. last_same f g xs ys o v same ((r.each o v).0 h), λ l. (r.each o v).1
-              (last_same g f ys xs o v (λ page. sym (same page)) l));
+      λ o v. (
+        λ h. last_same f g xs ys o v same ((r.each o v).0 h),
+        λ l. (r.each o v).1
+            (last_same g f ys xs o v (λ page. sym (same page)) l),
+      );
   rising = r.rising;
 }
 

@@ -1,7 +1,26 @@
 -- Lines at a lock stay orderly: whoever joins one was not in it, and whoever leaves one stood at its head.
 use Rattle.std.proofs.Common.{
-    ℕ, ◌≡◌, ◌≢◌, ◌<◌, ◌≤◌, Option, Some, None, List, [], ◌∷◌, ◌++◌, length, sym, ap, ◌∙◌, subst, append_assoc, arith,
-    inl, inr
+  ℕ,
+  ◌≡◌,
+  ◌≢◌,
+  ◌<◌,
+  ◌≤◌,
+  Option,
+  Some,
+  None,
+  List,
+  [],
+  ◌∷◌,
+  ◌++◌,
+  length,
+  sym,
+  ap,
+  ◌∙◌,
+  subst,
+  append_assoc,
+  arith,
+  inl,
+  inr,
 }
 use Rattle.std.specs.Option.{option_to_list}
 use Rattle.std.specs.List.{range_with_len}
@@ -25,13 +44,13 @@ has-one p x has = elim ((has-cons p [] x).0 has) [ inl same ↦ same | inr none 
 pub once-push : (xs : List ℕ) (p : ℕ) → IsOnce xs → ¬ Has xs p → IsOnce (xs ++ p ∷ [])
 once-push xs p once apart =
     once-append xs (p ∷ []) once (once-one p)
-        (λ x has one. let P : ℕ → Type 0 = λ y. Has xs y in apart (subst P (sym (has-one p x one)) has))
+    (λ x has one. let P : ℕ → Type 0 = λ y. Has xs y in apart (subst P (sym (has-one p x one)) has))
 
 pub within-push : (n : ℕ) (xs : List ℕ) (p : ℕ) → ((q : ℕ) → Has xs q → q < n) → p < n → (q : ℕ)
     → Has (xs ++ p ∷ []) q → q < n
 within-push n xs p within fits q has =
     elim ((has-append xs (p ∷ []) q).0 has)
-        [ inl before ↦ within q before | inr last ↦ let same = has-one p q last in omega arith ]
+    [ inl before ↦ within q before | inr last ↦ let same = has-one p q last in omega arith ]
 
 -- numbers below n that stand once each are at most n
 pub length-once : (n : ℕ) (xs : List ℕ) → IsOnce xs → ((q : ℕ) → Has xs q → q < n) → length xs ≤ n
@@ -39,10 +58,12 @@ length-once n xs once within =
     let all = range_with_len 0 n in
     let long = length-range_with_len 0 n in
     let le =
-        once_le xs all once (λ q has. let lt = within q has in
-                (q, slice_get-get_or all q 0 (omega arith)
-                        ∙ ap (λ (x : ℕ). Some x) (get_or-range_with_len 0 n q 0 lt ∙ omega arith)))
-            in
+    once_le xs all once (λ q has. let lt = within q has in (
+      q,
+      slice_get-get_or all q 0 (omega arith)
+          ∙ ap (λ (x : ℕ). Some x) (get_or-range_with_len 0 n q 0 lt ∙ omega arith),
+    ))
+    in
     omega arith
 
 -- what stands behind the holder
@@ -69,8 +90,8 @@ orderly-queued n k p orderly held apart fits =
 pub room : (n : ℕ) (k : Lock) (p : ℕ) → IsOrderly n k → ¬ Has (line k) p → p < n → length k.queue < n
 room n k p orderly apart fits =
     let most =
-        length-once n (line k ++ p ∷ []) (once-push (line k) p orderly.once apart)
-            (within-push n (line k) p orderly.within fits) in
+    length-once n (line k ++ p ∷ []) (once-push (line k) p orderly.once apart)
+    (within-push n (line k) p orderly.within fits) in
     let longer = length-append (line k) (p ∷ []) in
     let long = length-append (option_to_list k.holder) k.queue in
     omega arith
@@ -85,8 +106,8 @@ orderly-passed n k next queue time orderly is held long =
       once = subst Once is (once-queue k.holder k.queue orderly.once);
       within =
           λ p has. let P : List ℕ
-              → Type 0 = λ xs. Has xs p in orderly.within p
-                  ((has-append (option_to_list k.holder) k.queue p).1 (inr (subst P (sym is) has)));
+          → Type 0 = λ xs. Has xs p in orderly.within p
+          ((has-append (option_to_list k.holder) k.queue p).1 (inr (subst P (sym is) has)));
       held = held;
       long = long;
     }

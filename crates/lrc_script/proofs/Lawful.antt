@@ -13,25 +13,35 @@ use Rattle.lrc_script.specs.Reading.{are_sizes}
 -- the test for sizes
 pub sizes_test : (s : Plan) → AreSizes s → are_sizes s ≡ true
 sizes_test s h =
-    grind (arith, nat_tests, h.some_processors, h.most_processors, h.some_pages, h.most_pages, h.some_words,
-            h.most_words, h.locks, h.flags)
+    grind (
+      arith,
+      nat_tests,
+      h.some_processors,
+      h.most_processors,
+      h.some_pages,
+      h.most_pages,
+      h.some_words,
+      h.most_words,
+      h.locks,
+      h.flags,
+    )
 
 pub sizes_from_test : (s : Plan) → are_sizes s ≡ true → AreSizes s
 sizes_from_test s e =
     let h =
-        and_parts (leb 1 s.processors && leb s.processors 16 && leb 1 s.pages && leb s.pages 64 && leb 1 s.words &&
-                leb s.words 64 && leb s.locks 32)
-            (leb s.flags 32) e in
+    and_parts (leb 1 s.processors && leb s.processors 16 && leb 1 s.pages && leb s.pages 64 && leb 1 s.words &&
+    leb s.words 64 && leb s.locks 32)
+    (leb s.flags 32) e in
     let g =
-        and_parts (leb 1 s.processors && leb s.processors 16 && leb 1 s.pages && leb s.pages 64 && leb 1 s.words &&
-                leb s.words 64)
-            (leb s.locks 32) h.0 in
+    and_parts (leb 1 s.processors && leb s.processors 16 && leb 1 s.pages && leb s.pages 64 && leb 1 s.words &&
+    leb s.words 64)
+    (leb s.locks 32) h.0 in
     let f =
-        and_parts (leb 1 s.processors && leb s.processors 16 && leb 1 s.pages && leb s.pages 64 && leb 1 s.words)
-            (leb s.words 64) g.0 in
+    and_parts (leb 1 s.processors && leb s.processors 16 && leb 1 s.pages && leb s.pages 64 && leb 1 s.words)
+    (leb s.words 64) g.0 in
     let d =
-        and_parts (leb 1 s.processors && leb s.processors 16 && leb 1 s.pages && leb s.pages 64) (leb 1 s.words) f.0
-            in
+    and_parts (leb 1 s.processors && leb s.processors 16 && leb 1 s.pages && leb s.pages 64) (leb 1 s.words) f.0
+    in
     let c = and_parts (leb 1 s.processors && leb s.processors 16 && leb 1 s.pages) (leb s.pages 64) d.0 in
     let b = and_parts (leb 1 s.processors && leb s.processors 16) (leb 1 s.pages) c.0 in
     let a = and_parts (leb 1 s.processors) (leb s.processors 16) b.0 in
@@ -110,5 +120,5 @@ nothing_stands s = record {
   in_range = All-nil (IsInRange s);
   holding =
       λ before i after e. absurd
-          (omega (arith, ap (λ (is : List Instruction). length is) e, length-append before (i ∷ after)));
+      (omega (arith, ap (λ (is : List Instruction). length is) e, length-append before (i ∷ after)));
 }

@@ -1,6 +1,23 @@
 -- The text of sections.
 use Rattle.std.proofs.Common.{
-    ◌≡◌, ℕ, suc, ◌+◌, ◌<◌, List, [], ◌∷◌, ◌++◌, length, map, take, get_or, sym, ap, ◌∙◌, append_assoc, arith
+  ◌≡◌,
+  ℕ,
+  suc,
+  ◌+◌,
+  ◌<◌,
+  List,
+  [],
+  ◌∷◌,
+  ◌++◌,
+  length,
+  map,
+  take,
+  get_or,
+  sym,
+  ap,
+  ◌∙◌,
+  append_assoc,
+  arith,
 }
 use Rattle.std.specs.List.{flat_map}
 use Rattle.std.specs.Global.{Vec}
@@ -16,9 +33,9 @@ section_lines-append k [] ys = ap (λ (n : ℕ). section_lines n ys) (omega arit
 section_lines-append k (x ∷ xs) ys =
     let next : suc k + length xs ≡ k + suc (length xs) = omega arith in
     ap (λ (ls : List Line). section_line k ∷ map instruction_line x ++ ls)
-        (section_lines-append (suc k) xs ys ∙ ap (λ (n : ℕ). section_lines (suc k) xs ++ section_lines n ys) next)
+    (section_lines-append (suc k) xs ys ∙ ap (λ (n : ℕ). section_lines (suc k) xs ++ section_lines n ys) next)
     ∙ sym (append_assoc (section_line k ∷ map instruction_line x) (section_lines (suc k) xs)
-            (section_lines (k + suc (length xs)) ys))
+    (section_lines (k + suc (length xs)) ys))
 
 abbrev pub section_texts : List (Vec Instruction) → List ℕ
 section_texts sections = flat_map line_text (section_lines 0 (map (λ section. section.items) sections))
@@ -26,21 +43,21 @@ section_texts sections = flat_map line_text (section_lines 0 (map (λ section. s
 pub section_texts-more : (sections : List (Vec Instruction)) (k : ℕ) (section : Vec Instruction) → k < length sections
     → section ≡ get_or sections k section
     → section_texts (take k sections)
-            ++ (line_text (section_line k) ++ flat_map line_text (map instruction_line section.items))
-        ≡ section_texts (take (k + 1) sections)
+    ++ (line_text (section_line k) ++ flat_map line_text (map instruction_line section.items))
+    ≡ section_texts (take (k + 1) sections)
 section_texts-more sections k section lt read =
     let items : Vec Instruction → List Instruction = λ v. v.items in
     let front = map items (take k sections) in
     let count : 0 + length front ≡ k = omega (arith, length-map (take k sections) items, length-take k sections) in
     let more : map items (take (k + 1) sections) ≡ front ++ section.items ∷ [] =
-        ap (map items) (take_more sections k section lt)
-            ∙ map_push items (take k sections) (get_or sections k section)
-            ∙ ap (λ (v : Vec Instruction). front ++ items v ∷ []) (sym read) in
+    ap (map items) (take_more sections k section lt)
+    ∙ map_push items (take k sections) (get_or sections k section)
+    ∙ ap (λ (v : Vec Instruction). front ++ items v ∷ []) (sym read) in
     let lines : section_lines 0 (map items (take (k + 1) sections))
-        ≡ section_lines 0 front ++ (section_line k ∷ map instruction_line section.items) =
+    ≡ section_lines 0 front ++ (section_line k ∷ map instruction_line section.items) =
     ap (section_lines 0) more ∙ section_lines-append 0 front (section.items ∷ [])
-        ∙ ap (λ (n : ℕ). section_lines 0 front ++ section_lines n (section.items ∷ [])) count
-        ∙ ap (λ (ls : List Line). section_lines 0 front ++ (section_line k ∷ ls))
-            (append-nil (map instruction_line section.items)) in
+    ∙ ap (λ (n : ℕ). section_lines 0 front ++ section_lines n (section.items ∷ [])) count
+    ∙ ap (λ (ls : List Line). section_lines 0 front ++ (section_line k ∷ ls))
+    (append-nil (map instruction_line section.items)) in
     sym (ap (flat_map line_text) lines
-            ∙ flat_map-append line_text (section_lines 0 front) (section_line k ∷ map instruction_line section.items))
+    ∙ flat_map-append line_text (section_lines 0 front) (section_line k ∷ map instruction_line section.items))

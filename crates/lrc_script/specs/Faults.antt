@@ -1,23 +1,65 @@
 -- What each fault says of the bytes.
 use Rattle.std.specs.Prelude.{
-    ◌≡◌, ◌≢◌, ℕ, suc, ◌^◌, ◌<◌, ◌≤◌, ◌⊎◌, true, false, List, [], ◌∷◌, ◌++◌, length, take, slice_index_or, codes,
-    Contains, IsSomeAnd, Any
+  ◌≡◌,
+  ◌≢◌,
+  ℕ,
+  suc,
+  ◌^◌,
+  ◌<◌,
+  ◌≤◌,
+  ◌⊎◌,
+  true,
+  false,
+  List,
+  [],
+  ◌∷◌,
+  ◌++◌,
+  length,
+  take,
+  slice_index_or,
+  codes,
+  Contains,
+  IsSomeAnd,
+  Any,
 }
 use Rattle.std.specs.List.{flat_map, AllByRecursion}
 use Rattle.std.specs.Fmt.{decimal}
 use Rattle.lrc_script.specs.declared.fault.ScriptFault.{ScriptFault}
 use Rattle.lrc_script.specs.declared.fault.ScriptFault.TheVariants.{
-    Truncated, BadLine, BadNumber, BadSize, OutOfRange, BadLock, BadFlag, AlreadyHeld, NotHeld, TooLong, Uneven,
-    NoMemory
+  Truncated,
+  BadLine,
+  BadNumber,
+  BadSize,
+  OutOfRange,
+  BadLock,
+  BadFlag,
+  AlreadyHeld,
+  NotHeld,
+  TooLong,
+  Uneven,
+  NoMemory,
 }
 use Rattle.lrc_script.specs.declared.script.Instruction.{Instruction}
 use Rattle.lrc_script.specs.declared.script.Instruction.TheVariants.{Acquire, Release}
 use Rattle.lrc_script.specs.Plan.{Plan, head_plan}
 use Rattle.lrc_script.specs.Lawful.{
-    addresses, address_of, lock_of, flag_of, holds, barriers, AreSizes, IsLawfulButUneven
+  addresses,
+  address_of,
+  lock_of,
+  flag_of,
+  holds,
+  barriers,
+  AreSizes,
+  IsLawfulButUneven,
 }
 use Rattle.lrc_script.specs.Text.{
-    cluster_line, section_lines, line_bytes, section_line, instruction_line, show_line, text
+  cluster_line,
+  section_lines,
+  line_bytes,
+  section_line,
+  instruction_line,
+  show_line,
+  text,
 }
 use Rattle.lrc_script.specs.Front.{Front, Nothing, Headed, Within, Whole, IsBegun, lines_before, text_before}
 
@@ -66,7 +108,7 @@ IsShow line P = (shown : List ℕ) × (line ≡ line_bytes (show_line shown)) ×
 abbrev pub SaysWithin : ScriptFault → Plan → List Instruction → List ℕ → Type 0
 SaysWithin OutOfRange s is line =
     IsInstruction line (λ i. IsSomeAnd (address_of i) (λ a. addresses s ≤ a))
-        ⊎ IsShow line (Any (λ a. addresses s ≤ a))
+    ⊎ IsShow line (Any (λ a. addresses s ≤ a))
 SaysWithin BadLock s is line = IsInstruction line (λ i. IsSomeAnd (lock_of i) (λ l. s.locks ≤ l))
 SaysWithin BadFlag s is line = IsInstruction line (λ i. IsSomeAnd (flag_of i) (λ f. s.flags ≤ f))
 SaysWithin AlreadyHeld s is line = IsInstruction line (λ i. (l : ℕ) × (i ≡ Acquire l) × (holds is l ≡ true))

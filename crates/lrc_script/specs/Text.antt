@@ -3,7 +3,15 @@ use Rattle.std.specs.List.{flat_map}
 use Rattle.std.specs.Fmt.{decimal}
 use Rattle.lrc_script.specs.declared.script.Instruction.{Instruction}
 use Rattle.lrc_script.specs.declared.script.Instruction.TheVariants.{
-    Load, Store, Add, Acquire, Release, Barrier, Set, Await, Cut
+  Load,
+  Store,
+  Add,
+  Acquire,
+  Release,
+  Barrier,
+  Set,
+  Await,
+  Cut,
 }
 use Rattle.lrc_script.specs.Plan.{Plan}
 

@@ -1,6 +1,23 @@
 -- Lists of offsets and values whose offsets rise.
 use Rattle.std.proofs.Common.{
-    ℕ, ◌≡◌, ◌<◌, ◌≤◌, ◌+◌, ◌-◌, Some, List, length, get_or, slice_get, arith, subst, sym, ap, ◌∙◌, inl, inr
+  ℕ,
+  ◌≡◌,
+  ◌<◌,
+  ◌≤◌,
+  ◌+◌,
+  ◌-◌,
+  Some,
+  List,
+  length,
+  get_or,
+  slice_get,
+  arith,
+  subst,
+  sym,
+  ap,
+  ◌∙◌,
+  inl,
+  inr,
 }
 use Rattle.std.proofs.lemmas.Option.{slice_get-get_or, get_or_from_slice_get}
 use Rattle.std.proofs.lemmas.Bool.{cases_lt}
@@ -18,8 +35,8 @@ above_all xs i x a lt within above before at_x =
     elim (cases_lt x (i - 1)) [
       | inl earlier ↦
           let last =
-              before x (i - 1) a (get_or xs (i - 1) (0, 0)) earlier (omega arith) at_x
-                  (slice_get-get_or xs (i - 1) (0, 0) (omega arith)) in
+          before x (i - 1) a (get_or xs (i - 1) (0, 0)) earlier (omega arith) at_x
+          (slice_get-get_or xs (i - 1) (0, 0) (omega arith)) in
           omega arith
       | inr not_earlier ↦
           let same : x ≡ i - 1 = omega arith in
@@ -47,6 +64,6 @@ pub falls : (xs : List (ℕ × ℕ)) (i : ℕ) → 0 < i → i < length xs
     → (get_or xs i (0, 0)).0 ≤ (get_or xs (i - 1) (0, 0)).0 → ¬ IsRising xs
 falls xs i pos within below rising =
     let above =
-        rising (i - 1) i (get_or xs (i - 1) (0, 0)) (get_or xs i (0, 0)) (omega arith)
-            (slice_get-get_or xs (i - 1) (0, 0) (omega arith)) (slice_get-get_or xs i (0, 0) within) in
+    rising (i - 1) i (get_or xs (i - 1) (0, 0)) (get_or xs i (0, 0)) (omega arith)
+    (slice_get-get_or xs (i - 1) (0, 0) (omega arith)) (slice_get-get_or xs i (0, 0) within) in
     omega arith

@@ -1,7 +1,34 @@
 -- The dirty words, one after another.
 use Rattle.std.proofs.Common.{
-    ℕ, zero, suc, ◌≡◌, ◌<◌, ◌+◌, ◌/◌, ◌%◌, ◌^◌, ◌==◌, Bool, false, List, [], ◌∷◌, ◌++◌, append_assoc, length, get_or,
-    drop, w64, refl, sym, ap, ◌∙◌, subst, arith, inl, inr
+  ℕ,
+  zero,
+  suc,
+  ◌≡◌,
+  ◌<◌,
+  ◌+◌,
+  ◌/◌,
+  ◌%◌,
+  ◌^◌,
+  ◌==◌,
+  Bool,
+  false,
+  List,
+  [],
+  ◌∷◌,
+  ◌++◌,
+  append_assoc,
+  length,
+  get_or,
+  drop,
+  w64,
+  refl,
+  sym,
+  ap,
+  ◌∙◌,
+  subst,
+  arith,
+  inl,
+  inr,
 }
 use Rattle.std.specs.Int.{bit_at, trailing_zeros}
 use Rattle.std.proofs.Math.Nat.{div-div-eq-div-mul, pow-succ'}
@@ -31,25 +58,25 @@ bit_at-shifted word (suc s) i =
 pub harvest_first : (s o : ℕ) (words : List ℕ) (rest : ℕ) → s < length words → ((i : ℕ) → i < s → bit_at rest i ≡ 0)
     → bit_at rest s ≡ 1
     → harvest o words (marks_of (length words) rest)
-        ≡ (o + s, get_or words s 0)
-            ∷ harvest (suc (o + s)) (drop (suc s) words) (marks_of (length (drop (suc s) words)) (rest / 2 ^ s / 2))
+    ≡ (o + s, get_or words s 0)
+    ∷ harvest (suc (o + s)) (drop (suc s) words) (marks_of (length (drop (suc s) words)) (rest / 2 ^ s / 2))
 harvest_first s o [] rest within none one = absurd (omega arith)
 harvest_first zero o (w ∷ words) rest within none one =
     ap (λ (b : Bool). harvest o (w ∷ words) (b ∷ marks_of (length words) (rest / 2)))
-        (eq-eqb (rest % 2) 1 (sym (bit_at_lowest rest) ∙ one))
+    (eq-eqb (rest % 2) 1 (sym (bit_at_lowest rest) ∙ one))
     ∙ ap (λ (k : ℕ). (k, w) ∷ harvest (suc k) words (marks_of (length words) (rest / 2))) (omega arith)
     ∙ ap (λ (r : ℕ). (o + 0, w) ∷ harvest (suc (o + 0)) words (marks_of (length words) (r / 2))) (omega arith)
 harvest_first (suc s) o (w ∷ words) rest within none one =
     ap (λ (b : Bool). harvest o (w ∷ words) (b ∷ marks_of (length words) (rest / 2)))
-        (eq-eqb_not (sym (bit_at_lowest rest) ∙ none 0 (omega arith)))
+    (eq-eqb_not (sym (bit_at_lowest rest) ∙ none 0 (omega arith)))
     ∙ harvest_first s (suc o) words (rest / 2) (omega arith)
-        (λ i lt. sym (bit_at-suc rest i) ∙ none (suc i) (omega arith)) (sym (bit_at-suc rest s) ∙ one)
+    (λ i lt. sym (bit_at-suc rest i) ∙ none (suc i) (omega arith)) (sym (bit_at-suc rest s) ∙ one)
     ∙ ap (λ (k : ℕ). (k, get_or words s 0)
-            ∷ harvest (suc k) (drop (suc s) words) (marks_of (length (drop (suc s) words)) (rest / 2 / 2 ^ s / 2)))
-        (omega arith)
+    ∷ harvest (suc k) (drop (suc s) words) (marks_of (length (drop (suc s) words)) (rest / 2 / 2 ^ s / 2)))
+    (omega arith)
     ∙ ap (λ (r : ℕ). (o + suc s, get_or words s 0)
-            ∷ harvest (suc (o + suc s)) (drop (suc s) words) (marks_of (length (drop (suc s) words)) (r / 2)))
-        (halved rest s)
+    ∷ harvest (suc (o + suc s)) (drop (suc s) words) (marks_of (length (drop (suc s) words)) (r / 2)))
+    (halved rest s)
   where
     eq-eqb_not : rest % 2 ≡ 0 → (rest % 2 == 1) ≡ false
     eq-eqb_not e = ap (λ (r : ℕ). r == 1) e
@@ -59,7 +86,7 @@ pub IsBelow-rest : (s : ℕ) (words : List ℕ) (rest : ℕ) → IsBelow (length
     → IsBelow (length (drop (suc s) words)) (rest / 2 ^ s / 2)
 IsBelow-rest s words rest below i le =
     sym (bit_at-suc (rest / 2 ^ s) i) ∙ bit_at-shifted rest s (suc i)
-        ∙ below (s + suc i) (let e = length-drop (suc s) words in omega arith)
+    ∙ below (s + suc i) (let e = length-drop (suc s) words in omega arith)
 
 -- the first dirty word lies among the words
 pub first_within : (words : List ℕ) (rest : ℕ) → 0 < rest → rest < 2 ^ 64 → IsBelow (length words) rest
@@ -81,42 +108,42 @@ harvest_fits words marks x has =
 
 -- one step: the first dirty word joins those found
 pub found_more : (found : List (ℕ × ℕ)) (words : List ℕ) (all : List (ℕ × ℕ)) (o rest : ℕ) → 0 < rest → rest < 2 ^ 64
-        → IsBelow (length (drop o words)) rest
-        → found ++ harvest o (drop o words) (marks_of (length (drop o words)) rest) ≡ all
-        → let s = trailing_zeros w64 rest in
+    → IsBelow (length (drop o words)) rest
+    → found ++ harvest o (drop o words) (marks_of (length (drop o words)) rest) ≡ all
+    → let s = trailing_zeros w64 rest in
     (found ++ (o + s, get_or words (o + s) 0) ∷ [])
-            ++ harvest (o + s + 1) (drop (o + s + 1) words)
-                (marks_of (length (drop (o + s + 1) words)) (rest / 2 ^ s / 2))
-        ≡ all
+    ++ harvest (o + s + 1) (drop (o + s + 1) words)
+    (marks_of (length (drop (o + s + 1) words)) (rest / 2 ^ s / 2))
+    ≡ all
 found_more found words all o rest some fits below so_far =
     let s = trailing_zeros w64 rest in
     let first = bit_at-trailing_zeros w64 rest some fits in
     let left = drop (o + s + 1) words in
     let same : drop (suc s) (drop o words) ≡ left =
-        drop-drop (suc s) o words ∙ ap (λ (k : ℕ). drop k words) (omega arith) in
+    drop-drop (suc s) o words ∙ ap (λ (k : ℕ). drop k words) (omega arith) in
     append_assoc found ((o + s, get_or words (o + s) 0) ∷ [])
-        (harvest (o + s + 1) left (marks_of (length left) (rest / 2 ^ s / 2)))
+    (harvest (o + s + 1) left (marks_of (length left) (rest / 2 ^ s / 2)))
     ∙ ap (λ (k : ℕ). found ++ (o + s, get_or words (o + s) 0)
-            ∷ harvest k left (marks_of (length left) (rest / 2 ^ s / 2)))
-        (omega arith)
+    ∷ harvest k left (marks_of (length left) (rest / 2 ^ s / 2)))
+    (omega arith)
     ∙ ap (λ (ws : List ℕ). found ++ (o + s, get_or words (o + s) 0)
-            ∷ harvest (suc (o + s)) ws (marks_of (length ws) (rest / 2 ^ s / 2)))
-        (sym same)
+    ∷ harvest (suc (o + s)) ws (marks_of (length ws) (rest / 2 ^ s / 2)))
+    (sym same)
     ∙ ap (λ (w : ℕ). found ++ (o + s, w)
-            ∷ harvest (suc (o + s)) (drop (suc s) (drop o words))
-                (marks_of (length (drop (suc s) (drop o words))) (rest / 2 ^ s / 2)))
-        (sym (get_or-drop o words s 0))
+    ∷ harvest (suc (o + s)) (drop (suc s) (drop o words))
+    (marks_of (length (drop (suc s) (drop o words))) (rest / 2 ^ s / 2)))
+    (sym (get_or-drop o words s 0))
     ∙ ap (λ (ws : List (ℕ × ℕ)). found ++ ws) (sym
-            (harvest_first s o (drop o words) rest (first_within (drop o words) rest some fits below) first.2 first.1))
+    (harvest_first s o (drop o words) rest (first_within (drop o words) rest some fits below) first.2 first.1))
     ∙ so_far
 
 pub below_more : (words : List ℕ) (o rest : ℕ) → IsBelow (length (drop o words)) rest
-        → let s = trailing_zeros w64 rest in
+    → let s = trailing_zeros w64 rest in
     IsBelow (length (drop (o + s + 1) words)) (rest / 2 ^ s / 2)
 below_more words o rest below =
     let s = trailing_zeros w64 rest in
     let same : drop (suc s) (drop o words) ≡ drop (o + s + 1) words =
-        drop-drop (suc s) o words ∙ ap (λ (k : ℕ). drop k words) (omega arith) in
+    drop-drop (suc s) o words ∙ ap (λ (k : ℕ). drop k words) (omega arith) in
     let P : List ℕ → Type 0 = λ ws. IsBelow (length ws) (rest / 2 ^ s / 2) in
     subst P same (IsBelow-rest s (drop o words) rest below)
 

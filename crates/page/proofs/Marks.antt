@@ -1,11 +1,44 @@
 -- The marks that a machine word's bits are.
 use Rattle.std.proofs.Common.{
-    ℕ, zero, suc, ◌≡◌, ◌<◌, ◌≤◌, ◌*◌, ◌/◌, ◌%◌, ◌^◌, ◌==◌, Bool, true, false, List, ◌∷◌, length, get_or, set,
-    replicate, bit_or, w64, refl, sym, ap, ◌∙◌, arith, inl, inr
+  ℕ,
+  zero,
+  suc,
+  ◌≡◌,
+  ◌<◌,
+  ◌≤◌,
+  ◌*◌,
+  ◌/◌,
+  ◌%◌,
+  ◌^◌,
+  ◌==◌,
+  Bool,
+  true,
+  false,
+  List,
+  ◌∷◌,
+  length,
+  get_or,
+  set,
+  replicate,
+  bit_or,
+  w64,
+  refl,
+  sym,
+  ap,
+  ◌∙◌,
+  arith,
+  inl,
+  inr,
 }
 use Rattle.std.specs.Int.{bit_at}
 use Rattle.std.proofs.lemmas.Nat.Bits.{
-    bit_at_lowest, bit_at-suc, bit_at-lt, bit_at-zero, bit_at_set_same, bit_at_set_other, same_from_bits
+  bit_at_lowest,
+  bit_at-suc,
+  bit_at-lt,
+  bit_at-zero,
+  bit_at_set_same,
+  bit_at_set_other,
+  same_from_bits,
 }
 use Rattle.std.proofs.lemmas.List.{same_lists, length-set, get_or-set_same, get_or-set_other, get_or-replicate}
 use Rattle.std.proofs.lemmas.Bool.{cases_lt, cases_eq}
@@ -33,8 +66,8 @@ pub marks_of-set : (n word k : ℕ) → k < n → n ≤ 64
     → marks_of n (bit_or word (1 * 2 ^ k % 2 ^ 64)) ≡ set (marks_of n word) k true
 marks_of-set n word k lt few =
     same_lists _ _ (length-marks_of n (bit_or word (1 * 2 ^ k % 2 ^ 64))
-            ∙ sym (length-set (marks_of n word) k true ∙ length-marks_of n word))
-        (λ i d within. at i d (let e = length-marks_of n (bit_or word (1 * 2 ^ k % 2 ^ 64)) in omega arith))
+    ∙ sym (length-set (marks_of n word) k true ∙ length-marks_of n word))
+    (λ i d within. at i d (let e = length-marks_of n (bit_or word (1 * 2 ^ k % 2 ^ 64)) in omega arith))
   where
     at : (i : ℕ) (d : Bool) → i < n
         → get_or (marks_of n (bit_or word (1 * 2 ^ k % 2 ^ 64))) i d ≡ get_or (set (marks_of n word) k true) i d
@@ -45,7 +78,7 @@ marks_of-set n word k lt few =
               ∙ ap (λ (m : ℕ). bit_at (bit_or word (1 * 2 ^ k % 2 ^ 64)) m == 1) same
               ∙ ap (λ (b : ℕ). b == 1) (bit_at_set_same w64 word k (omega arith))
               ∙ sym (ap (λ (m : ℕ). get_or (set (marks_of n word) k true) m d) same
-                      ∙ get_or-set_same (marks_of n word) k true d (let e = length-marks_of n word in omega arith))
+              ∙ get_or-set_same (marks_of n word) k true d (let e = length-marks_of n word in omega arith))
           | inr other ↦
               get_or-marks_of n (bit_or word (1 * 2 ^ k % 2 ^ 64)) i d within
               ∙ ap (λ (b : ℕ). b == 1) (bit_at_set_other w64 word k (omega arith) i other)
@@ -65,8 +98,8 @@ zero_from_clean n word below clean = same_from_bits word 0 (λ i. unset i ∙ sy
         elim (cases_lt i n) [
           | inl within ↦
               let no : (bit_at word i == 1) ≡ false =
-                  sym (get_or-marks_of n word i false within) ∙ ap (λ (ms : List Bool). get_or ms i false) clean
-                      ∙ get_or-replicate n i false false within in
+              sym (get_or-marks_of n word i false within) ∙ ap (λ (ms : List Bool). get_or ms i false) clean
+              ∙ get_or-replicate n i false false within in
               let two = bit_at-lt word i in
               grind (arith, nat_tests)
           | inr past ↦ below i past

@@ -1,12 +1,47 @@
 -- Counts of pages, built up by a loop over what has the pages.
 use Rattle.std.proofs.Common.{
-    ◌≡◌, ℕ, ◌+◌, ◌-◌, ◌<◌, ◌≤◌, ◌==◌, ◌^◌, Bool, cond, inl, inr, List, [], ◌∷◌, ◌++◌, map, take, drop, get_or, set,
-    length, count_by, slice_index, refl, sym, ap, subst, arith, ◌∙◌
+  ◌≡◌,
+  ℕ,
+  ◌+◌,
+  ◌-◌,
+  ◌<◌,
+  ◌≤◌,
+  ◌==◌,
+  ◌^◌,
+  Bool,
+  cond,
+  inl,
+  inr,
+  List,
+  [],
+  ◌∷◌,
+  ◌++◌,
+  map,
+  take,
+  drop,
+  get_or,
+  set,
+  length,
+  count_by,
+  slice_index,
+  refl,
+  sym,
+  ap,
+  subst,
+  arith,
+  ◌∙◌,
 }
 use Rattle.std.specs.List.{flat_map}
 use Rattle.std.proofs.lemmas.Bool.{cases_eq, eq-eqb, ne_eqb}
 use Rattle.std.proofs.lemmas.List.{
-    take_more, append-nil, take-append-drop, length-set, get_or-set_same, get_or-set_other, length-map, get_or-map
+  take_more,
+  append-nil,
+  take-append-drop,
+  length-set,
+  get_or-set_same,
+  get_or-set_other,
+  length-map,
+  get_or-map,
 }
 use Rattle.std.proofs.lemmas.List.Sums.{sum_by-cons}
 use Rattle.std.proofs.lemmas.Grind.{flat_map-append}
@@ -43,15 +78,15 @@ counted-one base page counts from inside = record {
       elim (cases_eq i (page - base)) [
         | inl here ↦
             let is : cond {A = ℕ} (page == base + i) 1 0 ≡ 1 =
-                ap (λ (b : Bool). cond {A = ℕ} b 1 0) (eq-eqb page (base + i) (omega arith)) in
+            ap (λ (b : Bool). cond {A = ℕ} b 1 0) (eq-eqb page (base + i) (omega arith)) in
             let new : slice_index (set counts (page - base) value) i ≡ value =
-                ap (slice_index (set counts (page - base) value)) here
-                    ∙ get_or-set_same counts (page - base) value 0 inside in
+            ap (slice_index (set counts (page - base) value)) here
+            ∙ get_or-set_same counts (page - base) value 0 inside in
             let old = ap (slice_index counts) here in
             omega arith
         | inr other ↦
             let isnt : cond {A = ℕ} (page == base + i) 1 0 ≡ 0 =
-                ap (λ (b : Bool). cond {A = ℕ} b 1 0) (ne_eqb page (base + i) (λ e. other (omega arith))) in
+            ap (λ (b : Bool). cond {A = ℕ} b 1 0) (ne_eqb page (base + i) (λ e. other (omega arith))) in
             let new = get_or-set_other counts (page - base) i value 0 other in
             omega arith
       ];
@@ -65,8 +100,8 @@ counted-out base page counts out = record {
   each = λ i within.
       let one = sum_by-cons (is_page base i) page [] in
       let isnt : cond {A = ℕ} (page == base + i) 1 0 ≡ 0 =
-          ap (λ (b : Bool). cond {A = ℕ} b 1 0)
-              (ne_eqb page (base + i) (λ e. let past = out (omega arith) in omega arith)) in
+      ap (λ (b : Bool). cond {A = ℕ} b 1 0)
+      (ne_eqb page (base + i) (λ e. let past = out (omega arith) in omega arith)) in
       omega arith;
 }
 
@@ -77,7 +112,7 @@ room_one base page counts from inside room =
     let less = room (page - base) inside in
     let one = sum_by-cons (is_page base (page - base)) page [] in
     let is : cond {A = ℕ} (page == base + (page - base)) 1 0 ≡ 1 =
-        ap (λ (b : Bool). cond {A = ℕ} b 1 0) (eq-eqb page (base + (page - base)) (omega arith)) in
+    ap (λ (b : Bool). cond {A = ℕ} b 1 0) (eq-eqb page (base + (page - base)) (omega arith)) in
     omega arith
 
 -- an item of a list is one of its list under a function
@@ -94,33 +129,33 @@ flat_map_more f xs k x inside is =
     let step = take_more xs k x inside in
     let one : take (k + 1) xs ≡ take k xs ++ x ∷ [] = rw (← is) at step in
     ap (flat_map f) one ∙ flat_map-append f (take k xs) (x ∷ [])
-        ∙ ap (λ (ps : List ℕ). flat_map f (take k xs) ++ ps) (append-nil (f x))
+    ∙ ap (λ (ps : List ℕ). flat_map f (take k xs) ++ ps) (append-nil (f x))
 
 -- the items so far, and one more
 pub counted_more : {X : Type 0} (base : ℕ) (f : X → List ℕ) (xs : List X) (k : ℕ) (x : X)
-        (before between after : List ℕ)
+    (before between after : List ℕ)
     → k < length xs → x ≡ get_or xs k x
     → AreCounted base (flat_map f (take k xs)) before between → AreCounted base (f x) between after
-        → AreCounted base (flat_map f (take (k + 1) xs)) before after
+    → AreCounted base (flat_map f (take (k + 1) xs)) before after
 counted_more base f xs k x before between after inside is so_far one =
     let P : List ℕ → Type 0 = λ ps. AreCounted base ps before after in
     subst P (sym (flat_map_more f xs k x inside is))
-        (counted-append base (flat_map f (take k xs)) (f x) before between after so_far one)
+    (counted-append base (flat_map f (take k xs)) (f x) before between after so_far one)
 
 -- where there is room for all, there is room for the next
 pub room_more : {X : Type 0} (base : ℕ) (f : X → List ℕ) (xs : List X) (k : ℕ) (x : X) (before between : List ℕ)
     → k < length xs → x ≡ get_or xs k x
     → HasRoom base (flat_map f xs) before → AreCounted base (flat_map f (take k xs)) before between
-        → HasRoom base (f x) between
+    → HasRoom base (f x) between
 room_more base f xs k x before between inside is room so_far i within =
     let test : ℕ → Bool = λ p. p == base + i in
     let long = so_far.long in
     let all = room i (omega arith) in
     let now = so_far.each i (omega arith) in
     let parts =
-        ap (count_by test) (sym (flat_map-append f (take (k + 1) xs) (drop (k + 1) xs))
-                ∙ ap (flat_map f) (take-append-drop (k + 1) xs))
-            in
+    ap (count_by test) (sym (flat_map-append f (take (k + 1) xs) (drop (k + 1) xs))
+    ∙ ap (flat_map f) (take-append-drop (k + 1) xs))
+    in
     let ends = count_by-append test (flat_map f (take (k + 1) xs)) (flat_map f (drop (k + 1) xs)) in
     let more = ap (count_by test) (flat_map_more f xs k x inside is) in
     let one = count_by-append test (flat_map f (take k xs)) (f x) in

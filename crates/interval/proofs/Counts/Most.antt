@@ -1,7 +1,28 @@
 -- No page has more notices among what is sent than intervals were closed.
 use Rattle.std.proofs.Common.{
-    ◌≡◌, ℕ, ◌+◌, ◌<◌, ◌≤◌, suc, Bool, true, false, ◌==◌, cond, inl, inr, List, [], ◌∷◌, map, filter, length, count_by,
-    refl, ap, arith
+  ◌≡◌,
+  ℕ,
+  ◌+◌,
+  ◌<◌,
+  ◌≤◌,
+  suc,
+  Bool,
+  true,
+  false,
+  ◌==◌,
+  cond,
+  inl,
+  inr,
+  List,
+  [],
+  ◌∷◌,
+  map,
+  filter,
+  length,
+  count_by,
+  refl,
+  ap,
+  arith,
 }
 use Rattle.std.specs.List.{flat_map}
 use Rattle.std.proofs.lemmas.Bool.{cases_Bool, eqb-true, ne_eqb}
@@ -20,10 +41,10 @@ use Rattle.interval.proofs.Queues.Merged.{merged_lies, queued, rises-merged}
 
 counted_more : (page : ℕ) (k : Kept) (r : Changes) (rs : List Changes) (same : Bool) → (r.page == page) ≡ same
     → count_by (is_of_page page) (map (sent_record k) (r ∷ rs))
-        ≡ cond same 1 0 + count_by (is_of_page page) (map (sent_record k) rs)
+    ≡ cond same 1 0 + count_by (is_of_page page) (map (sent_record k) rs)
 counted_more page k r rs same is =
     let one =
-        sum_by-cons (λ (s : SentRecord). cond (is_of_page page s) 1 0) (sent_record k r) (map (sent_record k) rs) in
+    sum_by-cons (λ (s : SentRecord). cond (is_of_page page s) 1 0) (sent_record k r) (map (sent_record k) rs) in
     let here = ap (λ (b : Bool). cond {A = ℕ} b 1 0) is in
     omega arith
 
@@ -46,7 +67,7 @@ one_record page k (r ∷ rs) rises =
       | inl same ↦ (
           let is : r.page ≡ page = eqb-true _ _ same in
           let rest =
-              none_above page k rs (λ s h. let lt = rises 0 (suc h.0) r s (omega arith) refl h.1 in omega arith) in
+          none_above page k rs (λ s h. let lt = rises 0 (suc h.0) r s (omega arith) refl h.1 in omega arith) in
           let step = counted_more page k r rs true same in
           omega arith)
       | inr other ↦ (
@@ -73,9 +94,9 @@ few_places m n (k ∷ ks) rises from below le =
     let first = from k (0, refl) in
     let last = below k (0, refl) in
     let rest =
-        few_places (k.place + 1) n ks (rises_rest k ks rises)
-            (λ j h. let lt = rises_first k ks rises j h in omega arith) (λ j h. below j (suc h.0, h.1)) (omega arith)
-            in
+    few_places (k.place + 1) n ks (rises_rest k ks rises)
+    (λ j h. let lt = rises_first k ks rises j h in omega arith) (λ j h. below j (suc h.0, h.1)) (omega arith)
+    in
     omega arith
 
 -- so the count fits where the number of closed intervals does
@@ -85,13 +106,13 @@ pub count_fits : (queues : List Queue) (count : ℕ) (value : Closings) (page : 
 count_fits queues count value page old new is are =
     let news : List Kept = filter (is_news old new) (merged queues) in
     let places =
-        few_places 0 count (merged queues) (rises-merged queues) (λ k h. omega arith)
-            (λ k h. (queued queues count are k (merged_lies queues k h)).closed) (omega arith) in
+    few_places 0 count (merged queues) (rises-merged queues) (λ k h. omega arith)
+    (λ k h. (queued queues count are k (merged_lies queues k h)).closed) (omega arith) in
     let fewer = count_by-le-length (is_news old new) (merged queues) in
     let long = length-filter (is_news old new) (merged queues) in
     let most =
-        of_intervals page news (λ k h. (queued queues count are k
-                    (merged_lies queues k ((has-filter (is_news old new) (merged queues) k).0 h).0)).pages)
-            in
+    of_intervals page news (λ k h. (queued queues count are k
+    (merged_lies queues k ((has-filter (is_news old new) (merged queues) k).0 h).0)).pages)
+    in
     let same = ap (λ (c : Closings). count_by (is_of_page page) (between c old new)) is in
     omega arith

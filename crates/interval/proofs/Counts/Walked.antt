@@ -1,13 +1,62 @@
 -- The news of all owners, owner by owner: as much as in closing order.
 use Rattle.std.proofs.Common.{
-    ◌≡◌, ◌≢◌, ℕ, zero, suc, ◌+◌, ◌-◌, ◌<◌, ◌≤◌, ◌==◌, ◌^◌, min, nat_lt, Bool, true, false, cond, inl, inr, Some, List,
-    [], ◌∷◌, map, filter, take, drop, count_by, length, get_or, length-drop, length-take, slice_get, slice_index,
-    refl, sym, ap, ap₂, subst, arith, ◌∙◌
+  ◌≡◌,
+  ◌≢◌,
+  ℕ,
+  zero,
+  suc,
+  ◌+◌,
+  ◌-◌,
+  ◌<◌,
+  ◌≤◌,
+  ◌==◌,
+  ◌^◌,
+  min,
+  nat_lt,
+  Bool,
+  true,
+  false,
+  cond,
+  inl,
+  inr,
+  Some,
+  List,
+  [],
+  ◌∷◌,
+  map,
+  filter,
+  take,
+  drop,
+  count_by,
+  length,
+  get_or,
+  length-drop,
+  length-take,
+  slice_get,
+  slice_index,
+  refl,
+  sym,
+  ap,
+  ap₂,
+  subst,
+  arith,
+  ◌∙◌,
 }
 use Rattle.std.specs.List.{flat_map, sum_by}
 use Rattle.std.proofs.lemmas.Bool.{
-    cases_Bool, cases_lt, cond_both, cond-true, cond-false, and_from, and_left, and_right, ltb-false, lt-ltb, le-ltb,
-    le-leb, lt-leb
+  cases_Bool,
+  cases_lt,
+  cond_both,
+  cond-true,
+  cond-false,
+  and_from,
+  and_left,
+  and_right,
+  ltb-false,
+  lt-ltb,
+  le-ltb,
+  le-leb,
+  lt-leb,
 }
 use Rattle.std.proofs.lemmas.List.{get_or-drop, get_or-take}
 use Rattle.std.proofs.lemmas.Option.{get_or_from_slice_get, slice_get_read}
@@ -44,32 +93,32 @@ numbered_news (k ∷ ks) first owner old new numbered =
     let old_at : slice_index old k.interval.owner ≡ from = ap (slice_index old) here.0 in
     let new_at : slice_index new k.interval.owner ≡ to = ap (slice_index new) here.0 in
     let rest =
-        numbered_news ks (suc first) owner old new
-            (λ i j at. let q = numbered (suc i) j at in let at_i = q.1 in (q.0, omega arith)) in
+    numbered_news ks (suc first) owner old new
+    (λ i j at. let q = numbered (suc i) j at in let at_i = q.1 in (q.0, omega arith)) in
     let skipped : is_news old new k ≡ false
-        → filter (is_news old new) (k ∷ ks) ≡ drop (from - suc first) (take (to - suc first) ks) = λ none.
+    → filter (is_news old new) (k ∷ ks) ≡ drop (from - suc first) (take (to - suc first) ks) = λ none.
     cond-false (is_news old new k) (k ∷ filter (is_news old new) ks) (filter (is_news old new) ks) none ∙ rest in
     elim (cases_lt first to) [
       | inr past ↦
           let none : is_news old new k ≡ false =
-              and_right _ _ (le-ltb k.interval.number (slice_index new k.interval.owner) (omega arith)) in
+          and_right _ _ (le-ltb k.interval.number (slice_index new k.interval.owner) (omega arith)) in
           let end : to - suc first ≡ 0 = omega arith in
           let now : to - first ≡ 0 = omega arith in
           skipped none ∙ ap (λ (n : ℕ). drop (from - suc first) (take n ks)) end ∙ nothing (from - suc first) ks
-              ∙ sym (nothing (from - first) (k ∷ ks))
-              ∙ ap (λ (n : ℕ). drop (from - first) (take n (k ∷ ks))) (sym now)
+          ∙ sym (nothing (from - first) (k ∷ ks))
+          ∙ ap (λ (n : ℕ). drop (from - first) (take n (k ∷ ks))) (sym now)
       | inl before ↦
           let more : to - first ≡ suc (to - suc first) = omega arith in
           elim (cases_lt first from) [
             | inl below ↦
                 let none : is_news old new k ≡ false =
-                    and_left _ _ (lt-leb (slice_index old k.interval.owner) k.interval.number (omega arith)) in
+                and_left _ _ (lt-leb (slice_index old k.interval.owner) k.interval.number (omega arith)) in
                 let start : from - first ≡ suc (from - suc first) = omega arith in
                 skipped none ∙ sym (ap₂ (λ (a b : ℕ). drop a (take b (k ∷ ks))) start more)
             | inr above ↦
                 let is : is_news old new k ≡ true =
-                    and_from _ _ (le-leb (slice_index old k.interval.owner) k.interval.number (omega arith))
-                        (lt-ltb k.interval.number (slice_index new k.interval.owner) (omega arith)) in
+                and_from _ _ (le-leb (slice_index old k.interval.owner) k.interval.number (omega arith))
+                (lt-ltb k.interval.number (slice_index new k.interval.owner) (omega arith)) in
                 let start : from - first ≡ 0 = omega arith in
                 let later : from - suc first ≡ 0 = omega arith in
                 cond-true (is_news old new k) (k ∷ filter (is_news old new) ks) (filter (is_news old new) ks) is
@@ -92,7 +141,7 @@ queue_news owner count queue old new is =
 pub within_at : (held queue : Queue) (from to i : ℕ) (k : Kept) → held ≡ queue → from - held.first ≤ i
     → i < min (to - held.first) (length held.kept) → k ≡ get_or held.kept i k
     → (i - (from - held.first) < length (within queue from to))
-        × (k ≡ get_or (within queue from to) (i - (from - held.first)) k)
+    × (k ≡ get_or (within queue from to) (i - (from - held.first)) k)
 within_at held queue from to i k same after before is =
     let ks = held.kept in
     let start : ℕ = from - held.first in
@@ -100,7 +149,7 @@ within_at held queue from to i k same after before is =
     let front = length-take (to - held.first) ks in
     let place : start + (i - start) ≡ i = omega arith in
     let P : Queue → Type 0 =
-        λ q. (i - start < length (within q from to)) × (k ≡ get_or (within q from to) (i - start) k) in
+    λ q. (i - start < length (within q from to)) × (k ≡ get_or (within q from to) (i - start) k) in
     subst P same (
       omega arith,
       is ∙ sym (get_or-take (to - held.first) ks i k (omega arith))
@@ -135,8 +184,8 @@ sum_by-by_place w [] apart = refl
 sum_by-by_place w (x ∷ xs) apart =
     let rest = sum_by-by_place w xs (in_order_tail (λ (j k : Kept). j.place ≢ k.place) x xs apart) in
     let first =
-        sum_by-placed w x (by_place xs)
-            (λ j h. let at = has-by_place xs j h in apart 0 (suc at.0) x j (omega arith) refl at.1) in
+    sum_by-placed w x (by_place xs)
+    (λ j h. let at = has-by_place xs j h in apart 0 (suc at.0) x j (omega arith) refl at.1) in
     let all = sum_by-cons w x xs in
     omega arith
 
@@ -145,7 +194,7 @@ queues_apart : (queues : List Queue) (count : ℕ) → AreQueues queues count
 queues_apart queues count are =
     in_order-flat_map (λ (j k : Kept). j.place ≢ k.place) (λ (q : Queue). q.kept) queues
     (λ q has. in_order_weaker (λ (j k : Kept). j.place < k.place) (λ (j k : Kept). j.place ≢ k.place) q.kept
-            (λ j k h g lt e. absurd (omega arith)) (are.each has.0 q has.1).rising)
+    (λ j k h g lt e. absurd (omega arith)) (are.each has.0 q has.1).rising)
     (λ x y a b less at_x at_y j k h g same. let one = are.apart x y a b j k at_x at_y h g same in absurd (omega arith))
 
 -- how often an interval that is news has the page
@@ -166,23 +215,23 @@ count_news old new n (k ∷ ks) =
     elim (cases_Bool (is_news old new k)) [
       | inl is ↦
           let now =
-              ap (λ (b : Bool). count_by test
-                      (pages_of (cond b (k ∷ filter (is_news old new) ks) (filter (is_news old new) ks))))
-                  is in
+          ap (λ (b : Bool). count_by test
+          (pages_of (cond b (k ∷ filter (is_news old new) ks) (filter (is_news old new) ks))))
+          is in
           let one = ap (λ (b : Bool). cond b own 0) is in
           omega arith
       | inr isnt ↦
           let now =
-              ap (λ (b : Bool). count_by test
-                      (pages_of (cond b (k ∷ filter (is_news old new) ks) (filter (is_news old new) ks))))
-                  isnt in
+          ap (λ (b : Bool). count_by test
+          (pages_of (cond b (k ∷ filter (is_news old new) ks) (filter (is_news old new) ks))))
+          isnt in
           let none = ap (λ (b : Bool). cond b own 0) isnt in
           omega arith
     ]
 
 count_queues : (old new : List ℕ) (n : ℕ) (queues : List Queue)
     → count_by (λ (p : ℕ). p == n) (flat_map (news_pages old new) queues)
-        ≡ sum_by (weight old new n) (flat_map (λ (q : Queue). q.kept) queues)
+    ≡ sum_by (weight old new n) (flat_map (λ (q : Queue). q.kept) queues)
 count_queues old new n [] = refl
 count_queues old new n (q ∷ qs) =
     count_by-append (λ (p : ℕ). p == n) (news_pages old new q) (flat_map (news_pages old new) qs)
@@ -196,7 +245,7 @@ count_sent n k [] = refl
 count_sent n k (r ∷ rs) =
     let rest = count_sent n k rs in
     let sent =
-        sum_by-cons (λ (s : SentRecord). cond (is_of_page n s) 1 0) (sent_record k r) (map (sent_record k) rs) in
+    sum_by-cons (λ (s : SentRecord). cond (is_of_page n s) 1 0) (sent_record k r) (map (sent_record k) rs) in
     let pages = sum_by-cons (λ (p : ℕ). cond (p == n) 1 0) r.page (pages_of_records rs) in
     omega arith
 
@@ -211,11 +260,11 @@ count_notices n (k ∷ ks) =
 -- owner by owner there are as many notices of a page as in closing order
 pub walked : (queues : List Queue) (count : ℕ) (old new : List ℕ) (n : ℕ) → AreQueues queues count
     → count_by (λ (p : ℕ). p == n) (flat_map (news_pages old new) queues)
-        ≡ count_by (is_of_page n) (flat_map sent_interval (filter (is_news old new) (merged queues)))
+    ≡ count_by (is_of_page n) (flat_map sent_interval (filter (is_news old new) (merged queues)))
 walked queues count old new n are =
     count_queues old new n queues
     ∙ sym
-        (sum_by-by_place (weight old new n) (flat_map (λ (q : Queue). q.kept) queues) (queues_apart queues count are))
+    (sum_by-by_place (weight old new n) (flat_map (λ (q : Queue). q.kept) queues) (queues_apart queues count are))
     ∙ sym (count_news old new n (merged queues))
     ∙ sym (count_notices n (filter (is_news old new) (merged queues)))
 
@@ -223,20 +272,20 @@ walked queues count old new n are =
 pub news_read : (queues items : List Queue) (count : ℕ) (old new : List ℕ) (owner from to : ℕ) (queue : Queue)
     → items ≡ queues → AreQueues queues count
     → owner < length items → queue ≡ get_or items owner queue → slice_get old owner ≡ Some from
-        → slice_get new owner ≡ Some to → news_pages old new queue ≡ pages_of (within queue from to)
+    → slice_get new owner ≡ Some to → news_pages old new queue ≡ pages_of (within queue from to)
 news_read queues items count old new owner from to queue same are inside read old_at new_at =
     let owned : slice_get queues owner ≡ Some queue =
-        ap (λ (qs : List Queue). slice_get qs owner) (sym same)
-            ∙ slice_get_read items (length items) owner queue refl inside read in
+    ap (λ (qs : List Queue). slice_get qs owner) (sym same)
+    ∙ slice_get_read items (length items) owner queue refl inside read in
     ap pages_of (queue_news owner count queue old new (are.each owner queue owned)
     ∙ ap₂ (λ (a b : ℕ). within queue a b) (get_or_from_slice_get old owner from 0 old_at)
-        (get_or_from_slice_get new owner to 0 new_at))
+    (get_or_from_slice_get new owner to 0 new_at))
 
 -- all of it is what `between` has of a page
 pub news_total : (queues items : List Queue) (count : ℕ) (value : Closings) (old new : List ℕ) (n : ℕ)
     → items ≡ queues → closings queues count ≡ value → AreQueues queues count
     → count_by (λ (p : ℕ). p == n) (flat_map (news_pages old new) items)
-        ≡ count_by (is_of_page n) (between value old new)
+    ≡ count_by (is_of_page n) (between value old new)
 news_total queues items count value old new n same is are =
     ap (λ (qs : List Queue). count_by (λ (p : ℕ). p == n) (flat_map (news_pages old new) qs)) same
     ∙ walked queues count old new n are
@@ -246,7 +295,7 @@ news_total queues items count value old new n same is are =
 pub news_room : (queues items : List Queue) (count : ℕ) (value : Closings) (base : ℕ) (old new counts : List ℕ)
     → items ≡ queues → closings queues count ≡ value → AreQueues queues count → count < 2 ^ 64
     → ((i : ℕ) → i < length counts → slice_index counts i ≡ 0)
-        → HasRoom base (flat_map (news_pages old new) items) counts
+    → HasRoom base (flat_map (news_pages old new) items) counts
 news_room queues items count value base old new counts same is are few zeros i inside =
     let none = zeros i inside in
     let all = news_total queues items count value old new (base + i) same is are in

@@ -1,13 +1,57 @@
 -- The earliest of the intervals that one timestamp covers and another doesn't.
 use Rattle.std.proofs.Common.{
-    ◌≡◌, ◌≢◌, ℕ, ◌<◌, ◌≤◌, ◌+◌, ◌-◌, Bool, true, false, nat_lt, nat_le, ◌&&◌, ◌⊎◌, inl, inr, Option, Some, None, List,
-    [], ◌∷◌, map, filter, slice_get, slice_index, get_or, length, refl, sym, ap, subst, arith, ◌∙◌
+  ◌≡◌,
+  ◌≢◌,
+  ℕ,
+  ◌<◌,
+  ◌≤◌,
+  ◌+◌,
+  ◌-◌,
+  Bool,
+  true,
+  false,
+  nat_lt,
+  nat_le,
+  ◌&&◌,
+  ◌⊎◌,
+  inl,
+  inr,
+  Option,
+  Some,
+  None,
+  List,
+  [],
+  ◌∷◌,
+  map,
+  filter,
+  slice_get,
+  slice_index,
+  get_or,
+  length,
+  refl,
+  sym,
+  ap,
+  subst,
+  arith,
+  ◌∙◌,
 }
 use Rattle.std.specs.Option.{MatchOption, option_copied}
 use Rattle.std.specs.Borrow.{Bor}
 use Rattle.std.proofs.lemmas.Bool.{
-    cases_eq, cases_lt, cases_order, cases_Bool, and_parts, and_from, and_left, cond_both, ltb-true, ltb-false,
-    leb-true, lt-ltb, le-leb, lt-leb
+  cases_eq,
+  cases_lt,
+  cases_order,
+  cases_Bool,
+  and_parts,
+  and_from,
+  and_left,
+  cond_both,
+  ltb-true,
+  ltb-false,
+  leb-true,
+  lt-ltb,
+  le-leb,
+  lt-leb,
 }
 use Rattle.std.proofs.lemmas.List.{length-map, get_or_past, get_or-set_same, get_or-set_other}
 use Rattle.std.proofs.lemmas.Option.{slice_get_within, slice_get-get_or, slice_get_read, get_or_from_slice_get}
@@ -49,21 +93,37 @@ pub earliest-earlier : (P Q : Kept → Type 0) (at new : List ℕ) (a b : Option
     → IsEarliest Q at new b → IsEarliest (λ k. P k ⊎ Q k) at new (earlier a b)
 earliest-earlier P Q at new None None one other = λ j p n. elim p [ inl l ↦ one j l n | inr r ↦ other j r n ]
 earliest-earlier P Q at new None (Some b) one other =
-    record { is = inr other.is; news = other.news; number = other.number;
-            least = λ j p n. elim p [ inl l ↦ absurd (one j l n) | inr r ↦ other.least j r n ] }
+    record {
+      is = inr other.is;
+      news = other.news;
+      number = other.number;
+      least = λ j p n. elim p [ inl l ↦ absurd (one j l n) | inr r ↦ other.least j r n ];
+    }
 earliest-earlier P Q at new (Some a) None one other =
-    record { is = inl one.is; news = one.news; number = one.number;
-            least = λ j p n. elim p [ inl l ↦ one.least j l n | inr r ↦ absurd (other j r n) ] }
+    record {
+      is = inl one.is;
+      news = one.news;
+      number = one.number;
+      least = λ j p n. elim p [ inl l ↦ one.least j l n | inr r ↦ absurd (other j r n) ];
+    }
 earliest-earlier P Q at new (Some a) (Some b) one other =
     cond_both (nat_lt b.place a.place) (Some b) (Some a) (IsEarliest (λ k. P k ⊎ Q k) at new)
     (λ e. let lt = ltb-true _ _ e in
-            record { is = inr other.is; news = other.news; number = other.number;
-                    least = λ j p n. elim p
-                        [ inl l ↦ let le = one.least j l n in omega arith | inr r ↦ other.least j r n ] })
+    record {
+      is = inr other.is;
+      news = other.news;
+      number = other.number;
+      least = λ j p n. elim p
+          [ inl l ↦ let le = one.least j l n in omega arith | inr r ↦ other.least j r n ];
+    })
     (λ e. let le = ltb-false _ _ e in
-            record { is = inl one.is; news = one.news; number = one.number;
-                    least = λ j p n. elim p
-                        [ inl l ↦ one.least j l n | inr r ↦ let le' = other.least j r n in omega arith ] })
+    record {
+      is = inl one.is;
+      news = one.news;
+      number = one.number;
+      least = λ j p n. elim p
+          [ inl l ↦ one.least j l n | inr r ↦ let le' = other.least j r n in omega arith ];
+    })
 
 -- in the owner's queue
 abbrev pub InQueue : Queue → Kept → Type 0
@@ -76,20 +136,19 @@ earliest-queue owner count queue at new is covers =
     let from : ℕ = slice_index at owner in
     let to : ℕ = slice_index new owner in
     let bounds : (i : ℕ) (j : Kept) → slice_get queue.kept i ≡ Some j → IsNews at new j
-        → (from ≤ queue.first + i) × (from < to) = λ i j at_i n.
+    → (from ≤ queue.first + i) × (from < to) = λ i j at_i n.
     let q = is.each i j at_i in
     let number = q.number_is in
     let after : slice_index at owner ≤ j.interval.number =
-        let P : ℕ → Type 0 = λ o. slice_index at o ≤ j.interval.number in subst P q.owner_is n.from in
+    let P : ℕ → Type 0 = λ o. slice_index at o ≤ j.interval.number in subst P q.owner_is n.from in
     let before : j.interval.number < slice_index new owner =
-        let P : ℕ → Type 0 = λ o. j.interval.number < slice_index new o in subst P q.owner_is n.below in
+    let P : ℕ → Type 0 = λ o. j.interval.number < slice_index new o in subst P q.owner_is n.below in
     (omega arith, omega arith) in
     let found : (o : Option Kept) → slice_get queue.kept (from - queue.first) ≡ o → from < to
-        → IsEarliest (InQueue queue) at new o = λ o. elim o as (λ (o : Option Kept). slice_get queue.kept
-                        (from - queue.first)
-                    ≡ o
-                → from < to → IsEarliest (InQueue queue) at new o)
-            [
+    → IsEarliest (InQueue queue) at new o = λ o. elim o as (λ (o : Option Kept). slice_get queue.kept
+    (from - queue.first)
+    ≡ o
+    → from < to → IsEarliest (InQueue queue) at new o) [
       | None ↦ λ e lt j p n.
           let b = bounds p.0 j p.1 n in
           let within = slice_get_within queue.kept p.0 j p.1 in
@@ -107,8 +166,8 @@ earliest-queue owner count queue at new is covers =
                 let b = bounds p.0 j p.1 n in
                 elim (cases_order (from - queue.first) p.0) [
                   | inl same ↦ let at_j : slice_get queue.kept (from - queue.first)
-                              ≡ Some j = ap (slice_get queue.kept) same
-                          ∙ p.1 in
+                      ≡ Some j = ap (slice_get queue.kept) same
+                      ∙ p.1 in
                       let one : k ≡ j = cc (e, at_j) in let place = ap (λ (z : Kept). z.place) one in omega arith
                   | inr other ↦ elim other [
                     | inl before ↦ let rises = is.rising (from - queue.first) p.0 k j before e p.1 in omega arith
@@ -135,22 +194,24 @@ earliest-same P Q at new (Some k) to from is =
 pub earliest-more : (queues : List Queue) (count : ℕ) (at new : List ℕ) (n : ℕ) (queue : Queue) (o : Option Kept)
     → AreQueues queues count → slice_get queues n ≡ Some queue → queue.first ≤ slice_index at n
     → IsEarliest (LiesBelow queues n) at new o
-        → IsEarliest (LiesBelow queues (n + 1)) at new
-            (earlier o (first_within queue (slice_index at n) (slice_index new n)))
+    → IsEarliest (LiesBelow queues (n + 1)) at new
+    (earlier o (first_within queue (slice_index at n) (slice_index new n)))
 earliest-more queues count at new n queue o are owned covers is =
     let both =
-        earliest-earlier (LiesBelow queues n) (InQueue queue) at new o
-            (first_within queue (slice_index at n) (slice_index new n)) is
-            (earliest-queue n count queue at new (are.each n queue owned) covers) in
+    earliest-earlier (LiesBelow queues n) (InQueue queue) at new o
+    (first_within queue (slice_index at n) (slice_index new n)) is
+    (earliest-queue n count queue at new (are.each n queue owned) covers) in
     earliest-same (λ k. LiesBelow queues n k ⊎ InQueue queue k) (LiesBelow queues (n + 1)) at new
-        (earlier o (first_within queue (slice_index at n) (slice_index new n)))
-    (λ k p. elim p [ inl l ↦ (l.0, omega arith)
-                | inr q ↦ (record { owner = n; queue = queue; index = q.0; owned = owned; at = q.1 }, omega arith) ])
+    (earlier o (first_within queue (slice_index at n) (slice_index new n)))
+    (λ k p. elim p [
+      | inl l ↦ (l.0, omega arith)
+      | inr q ↦ (record { owner = n; queue = queue; index = q.0; owned = owned; at = q.1 }, omega arith)
+    ])
     (λ k l. elim (cases_eq l.0.owner n) [
       | inl e ↦
           let same : l.0.queue ≡ queue =
-              let there : slice_get queues n ≡ Some l.0.queue = ap (slice_get queues) (sym e) ∙ l.0.owned in
-                  cc (there, owned) in
+          let there : slice_get queues n ≡ Some l.0.queue = ap (slice_get queues) (sym e) ∙ l.0.owned in
+          cc (there, owned) in
           inr (l.0.index, ap (λ (q : Queue). slice_get q.kept l.0.index) (sym same) ∙ l.0.at)
       | inr other ↦ inl (l.0, omega arith)
     ])
@@ -176,13 +237,15 @@ pub earliest-first : (queues : List Queue) (count : ℕ) (at new : List ℕ) (o 
     → IsEarliest (LiesBelow queues (length queues)) at new o
     → MatchOption o (filter (is_news at new) (merged queues) ≡ [])
     (λ k. filter (is_news at new) (merged queues)
-            ≡ k ∷ filter (is_news (tick at k.interval.owner) new) (merged queues))
+    ≡ k ∷ filter (is_news (tick at k.interval.owner) new) (merged queues))
 earliest-first queues count at new None are long is =
     filter_none (is_news at new) (merged queues) (λ j h.
     let l = merged_lies queues j h in
-    elim (cases_Bool (is_news at new j)) [ inl t ↦ absurd
-                (is j (l, slice_get_within queues l.owner l.queue l.owned) (news_is at new j t))
-            | inr f ↦ f ])
+    elim (cases_Bool (is_news at new j)) [
+      | inl t ↦ absurd
+          (is j (l, slice_get_within queues l.owner l.queue l.owned) (news_is at new j t))
+      | inr f ↦ f
+    ])
 earliest-first queues count at new (Some k) are long is =
     let o : ℕ = k.interval.owner in
     let news = is.news in
@@ -192,23 +255,23 @@ earliest-first queues count at new (Some k) are long is =
     let inside : o < length at = omega arith in
     let ticked = tick_at at o inside in
     filter_least (is_news at new) (is_news (tick at o) new) (merged queues) k (rises-merged queues)
-        (lies_merged queues count are k is.is.0) (is_news_from at new k news)
+    (lies_merged queues count are k is.is.0) (is_news_from at new k news)
     (λ j h t. let l = merged_lies queues j h in
-            is.least j (l, slice_get_within queues l.owner l.queue l.owned) (news_is at new j t))
+    is.least j (l, slice_get_within queues l.owner l.queue l.owned) (news_is at new j t))
     (let passed : nat_le (slice_index (tick at o) o) k.interval.number ≡ false = lt-leb _ _ (omega arith) in
-            and_left _ _ passed)
+    and_left _ _ passed)
     (λ j h other. elim (cases_eq j.interval.owner o) [
       | inl same ↦
           let differs : j.interval.number ≢ k.interval.number =
-              λ e. other (ap (λ (z : Kept). z.place)
-                      (one_number queues count are j k (merged_lies queues j h) is.is.0 same e))
-                  in
+          λ e. other (ap (λ (z : Kept). z.place)
+          (one_number queues count are j k (merged_lies queues j h) is.is.0 same e))
+          in
           let at_j : slice_index at j.interval.owner ≡ slice_index at o = ap (slice_index at) same in
           let ticked_j : slice_index (tick at o) j.interval.owner ≡ slice_index at o + 1 =
-              ap (slice_index (tick at o)) same ∙ ticked in
+          ap (slice_index (tick at o)) same ∙ ticked in
           let tests : nat_le (slice_index at j.interval.owner) j.interval.number
-              ≡ nat_le (slice_index (tick at o) j.interval.owner) j.interval.number = elim
-                  (cases_lt j.interval.number (slice_index at o)) [
+          ≡ nat_le (slice_index (tick at o) j.interval.owner) j.interval.number = elim
+          (cases_lt j.interval.number (slice_index at o)) [
             | inl lt ↦ lt-leb _ _ (omega arith) ∙ sym (lt-leb _ _ (omega arith))
             | inr ge ↦ le-leb _ _ (omega arith) ∙ sym (le-leb _ _ (omega arith))
           ] in
@@ -246,27 +309,27 @@ earliest-step queues items count value at new same is are covers n queue inside 
     let owned_there : slice_get queues n ≡ Some queue = ap (λ (qs : List Queue). slice_get qs n) (sym same) ∙ owned in
     let firsts : map (λ (q : Queue). q.first) queues ≡ value.first = ap (λ (c : Closings). c.first) is in
     let entry : queue.first ≡ slice_index value.first n =
-        sym (entry_of (λ (q : Queue). q.first) queues n queue owned_there)
-            ∙ ap (λ (ns : List ℕ). slice_index ns n) firsts in
+    sym (entry_of (λ (q : Queue). q.first) queues n queue owned_there)
+    ∙ ap (λ (ns : List ℕ). slice_index ns n) firsts in
     let covered = covers n in
     let P : List Queue → Type 0 = λ qs. IsEarliest (LiesBelow qs n) at new o in
     let more = earliest-more queues count at new n queue o are owned_there (omega arith) (subst P same so_far) in
     let Q : List Queue → Type 0 =
-        λ qs. IsEarliest (LiesBelow qs (n + 1)) at new
-            (earlier o (first_within queue (slice_index at n) (slice_index new n))) in
+    λ qs. IsEarliest (LiesBelow qs (n + 1)) at new
+    (earlier o (first_within queue (slice_index at n) (slice_index new n))) in
     let there = subst Q (sym same) more in
     let R : Option Kept → Type 0 = λ o. IsEarliest (LiesBelow items (n + 1)) at new o in
     let made : earlier o (first_within queue (slice_index at n) (slice_index new n)) ≡ both =
     ap (λ (f : ℕ). earlier o (first_within queue f (slice_index new n))) (entry_is at n from at_from)
     ∙ ap (λ (t : ℕ). earlier o (first_within queue from t)) (entry_is new n to at_to) ∙ ap (earlier o) (sym within_is)
-        ∙ sym both_is in
+    ∙ sym both_is in
     subst R made there
 
 -- what the loop has found in the end, of the list that contracts see
 pub earliest-found : (queues items : List Queue) (count : ℕ) (value : Closings) (at new : List ℕ) → items ≡ queues
     → closings queues count ≡ value → AreQueues queues count → length at ≡ length new
     → (n : ℕ) → n ≡ length items → (found : Option (Bor Kept))
-        → IsEarliest (LiesBelow items n) at new (option_copied found)
+    → IsEarliest (LiesBelow items n) at new (option_copied found)
     → MatchOption found (filter (is_news at new) value.kept ≡ [])
     (λ k. filter (is_news at new) value.kept ≡ k.now ∷ filter (is_news (tick at k.now.interval.owner) new) value.kept)
 earliest-found queues items count value at new same is are long n whole found is_earliest =
@@ -276,14 +339,14 @@ earliest-found queues items count value at new same is are long n whole found is
     let first = earliest-first queues count at new (option_copied found) are long there in
     let kepts : merged queues ≡ value.kept = ap (λ (c : Closings). c.kept) is in
     let R : List Kept → Type 0 =
-        λ ks. MatchOption (option_copied found) (filter (is_news at new) ks ≡ [])
-            (λ k. filter (is_news at new) ks ≡ k ∷ filter (is_news (tick at k.interval.owner) new) ks) in
+    λ ks. MatchOption (option_copied found) (filter (is_news at new) ks ≡ [])
+    (λ k. filter (is_news at new) ks ≡ k ∷ filter (is_news (tick at k.interval.owner) new) ks) in
     copied value.kept at new found (subst R kepts first)
   where
     copied : (ks : List Kept) (at new : List ℕ) (found : Option (Bor Kept))
         → MatchOption (option_copied found) (filter (is_news at new) ks ≡ [])
-            (λ k. filter (is_news at new) ks ≡ k ∷ filter (is_news (tick at k.interval.owner) new) ks)
+        (λ k. filter (is_news at new) ks ≡ k ∷ filter (is_news (tick at k.interval.owner) new) ks)
         → MatchOption found (filter (is_news at new) ks ≡ [])
-            (λ k. filter (is_news at new) ks ≡ k.now ∷ filter (is_news (tick at k.now.interval.owner) new) ks)
+        (λ k. filter (is_news at new) ks ≡ k.now ∷ filter (is_news (tick at k.now.interval.owner) new) ks)
     copied ks at new None h = h
     copied ks at new (Some k) h = h

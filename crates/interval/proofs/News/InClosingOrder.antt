@@ -3,7 +3,12 @@ use Rattle.std.proofs.Common.{ℕ, ◌≡◌, ◌<◌, inl, inr, List, ◌++◌,
 use Rattle.std.specs.List.{flat_map}
 use Rattle.lists.specs.Places.{Has}
 use Rattle.lists.proofs.Joined.{
-    has-map, has-flat_map, in_order-map, in_order_weaker, in_order-append, in_order-flat_map
+  has-map,
+  has-flat_map,
+  in_order-map,
+  in_order_weaker,
+  in_order-append,
+  in_order-flat_map,
 }
 use Rattle.lists.proofs.Picked.{has-filter, in_order-filter}
 use Rattle.page.specs.Changes.{Changes}
@@ -19,7 +24,7 @@ sent_rises : (k : Kept) → HasRisingPages k.interval.records → IsInClosingOrd
 sent_rises k pages =
     in_order-map ComesBefore (sent_record k) k.interval.records
     (in_order_weaker (λ (r s : Changes). r.page < s.page)
-            (λ (r s : Changes). ComesBefore (sent_record k r) (sent_record k s)) k.interval.records
+    (λ (r s : Changes). ComesBefore (sent_record k r) (sent_record k s)) k.interval.records
     (λ r s here there lt. inr (refl, lt)) pages)
 
 -- all of an interval's records have its closing number
@@ -32,11 +37,11 @@ sent_in_order : (ks : List Kept) → Rises ks → ((k : Kept) → Has ks k → H
 sent_in_order ks rises pages =
     in_order-flat_map ComesBefore sent_interval ks (λ k has. sent_rises k (pages k has))
     (in_order_weaker IsBefore
-            (λ (j k : Kept). (a b : SentRecord) → Has (sent_interval j) a → Has (sent_interval k) b → ComesBefore a b)
-            ks
+    (λ (j k : Kept). (a b : SentRecord) → Has (sent_interval j) a → Has (sent_interval k) b → ComesBefore a b)
+    ks
     (λ j k here there lt a b at_a at_b. let first = one_place j a at_a in let second = one_place k b at_b in
-            inl (omega arith))
-        rises)
+    inl (omega arith))
+    rises)
 
 -- the news of the queues
 news_pages_rise : (queues : List Queue) (count : ℕ) (old new : List ℕ) → AreQueues queues count → (k : Kept)
@@ -45,26 +50,26 @@ news_pages_rise queues count old new are k has =
     (queued queues count are k (merged_lies queues k ((has-filter (is_news old new) (merged queues) k).0 has).0)).pages
 
 pub between_in_order : (queues : List Queue) (count : ℕ) (value : Closings) (old new : List ℕ)
-        (sent : List SentRecord)
+    (sent : List SentRecord)
     → closings queues count ≡ value → AreQueues queues count
     → sent ≡ between value old new → IsInClosingOrder sent
 between_in_order queues count value old new sent is are sent_is =
     let rises = in_order-filter IsBefore (is_news old new) (merged queues) (rises-merged queues) in
     let ordered =
-        sent_in_order (filter (is_news old new) (merged queues)) rises (news_pages_rise queues count old new are) in
+    sent_in_order (filter (is_news old new) (merged queues)) rises (news_pages_rise queues count old new are) in
     let P : List SentRecord → Type 0 = λ s. IsInClosingOrder s in
     subst P (sym (sent_is ∙ ap (λ (c : Closings). between c old new) (sym is))) ordered
 
 -- and so it stays with one more interval, closed after all others
 pub after_in_order : (queues : List Queue) (count : ℕ) (value : Closings) (i : ClosedInterval) (old new : List ℕ)
-        (before now : List SentRecord)
+    (before now : List SentRecord)
     → closings queues count ≡ value → AreQueues queues count
     → HasRisingPages i.records → before ≡ between value old new
-        → now ≡ before ++ sent_interval (record { place = count; interval = i }) → IsInClosingOrder now
+    → now ≡ before ++ sent_interval (record { place = count; interval = i }) → IsInClosingOrder now
 after_in_order queues count value i old new before now is are pages before_is now_is =
     let k : Kept = record { place = count; interval = i } in
     let news : before ≡ flat_map sent_interval (filter (is_news old new) (merged queues)) =
-        before_is ∙ ap (λ (c : Closings). between c old new) (sym is) in
+    before_is ∙ ap (λ (c : Closings). between c old new) (sym is) in
     let front = between_in_order queues count value old new before is are before_is in
     let across : (a b : SentRecord) → Has before a → Has (sent_interval k) b → ComesBefore a b = λ a b h g.
     let P : List SentRecord → Type 0 = λ s. Has s a in

@@ -1,6 +1,23 @@
 -- What is sent doesn't change by what nobody is to perform, or has performed already.
 use Rattle.std.proofs.Common.{
-    ◌≡◌, ℕ, ◌<◌, ◌≤◌, true, false, not, inl, inr, List, [], ◌∷◌, ◌++◌, filter, slice_index, ap, arith, ◌∙◌
+  ◌≡◌,
+  ℕ,
+  ◌<◌,
+  ◌≤◌,
+  true,
+  false,
+  not,
+  inl,
+  inr,
+  List,
+  [],
+  ◌∷◌,
+  ◌++◌,
+  filter,
+  slice_index,
+  ap,
+  arith,
+  ◌∙◌,
 }
 use Rattle.std.specs.List.{flat_map}
 use Rattle.std.proofs.lemmas.Bool.{cases_Bool, cond-false, and_parts, and_right, leb-true, ltb-true, eqb-true, le-ltb}
@@ -36,5 +53,5 @@ between-pushed c i old new uncovered =
     let no_news : is_news old new k ≡ false = and_right _ _ (le-ltb _ _ uncovered) in
     let last : filter (is_news old new) (k ∷ []) ≡ [] = cond-false (is_news old new k) (k ∷ []) [] no_news in
     ap (flat_map sent_interval) (filter-append (is_news old new) c.kept (k ∷ [])
-            ∙ ap (λ (ys : List Kept). filter (is_news old new) c.kept ++ ys) last
-            ∙ append-nil (filter (is_news old new) c.kept))
+    ∙ ap (λ (ys : List Kept). filter (is_news old new) c.kept ++ ys) last
+    ∙ append-nil (filter (is_news old new) c.kept))

@@ -1,7 +1,24 @@
 -- The loop that sends the news, the earliest first.
 use Rattle.std.proofs.Common.{
-    ◌≡◌, ℕ, ◌<◌, ◌≤◌, List, [], ◌∷◌, ◌++◌, filter, Some, slice_get, slice_index, length, refl, sym, ap, subst, arith,
-    ◌∙◌
+  ◌≡◌,
+  ℕ,
+  ◌<◌,
+  ◌≤◌,
+  List,
+  [],
+  ◌∷◌,
+  ◌++◌,
+  filter,
+  Some,
+  slice_get,
+  slice_index,
+  length,
+  refl,
+  sym,
+  ap,
+  subst,
+  arith,
+  ◌∙◌,
 }
 use Rattle.std.specs.List.{flat_map}
 use Rattle.std.proofs.lemmas.List.{append-nil}
@@ -32,7 +49,7 @@ pub next_within : (c : Closings) (new at : List ℕ) (k : Kept) (rest : List Kep
     → k.interval.owner < length at
 next_within c new at k rest next new_long long =
     let within = entry_within new k.interval.owner k.interval.number (next_is_news c new at k rest next).below in
-        omega arith
+    omega arith
 
 -- the owner of the next one, in terms of what was read
 pub owner_within : (c : Closings) (new at : List ℕ) (k : Kept) (rest : List Kept) (o : ℕ)
@@ -48,9 +65,9 @@ entry_below c new at k rest o m n next is at_o new_o =
     let from = news.from in
     let below = news.below in
     let m_is : slice_index at k.interval.owner ≡ m =
-        ap (slice_index at) (sym is) ∙ get_or_from_slice_get at o m 0 at_o in
+    ap (slice_index at) (sym is) ∙ get_or_from_slice_get at o m 0 at_o in
     let n_is : slice_index new k.interval.owner ≡ n =
-        ap (slice_index new) (sym is) ∙ get_or_from_slice_get new o n 0 new_o in
+    ap (slice_index new) (sym is) ∙ get_or_from_slice_get new o n 0 new_o in
     omega arith
 
 -- nothing is left

@@ -1,11 +1,36 @@
 -- Lists of intervals by rising closing number.
 use Rattle.std.proofs.Common.{
-    ◌≡◌, ◌<◌, suc, true, cond, nat_lt, Some, ◌⊎◌, inl, inr, List, [], ◌∷◌, ◌++◌, refl, sym, ap, subst, arith, ◌∙◌
+  ◌≡◌,
+  ◌<◌,
+  suc,
+  true,
+  cond,
+  nat_lt,
+  Some,
+  ◌⊎◌,
+  inl,
+  inr,
+  List,
+  [],
+  ◌∷◌,
+  ◌++◌,
+  refl,
+  sym,
+  ap,
+  subst,
+  arith,
+  ◌∙◌,
 }
 use Rattle.std.proofs.lemmas.Bool.{cond_both, ltb-true, ltb-false}
 use Rattle.lists.specs.Places.{Has, InOrder}
 use Rattle.lists.proofs.Joined.{
-    has-nil, has-cons, in_order-nil, in_order-cons, in_order_single, in_order_tail, in_order-append
+  has-nil,
+  has-cons,
+  in_order-nil,
+  in_order-cons,
+  in_order_single,
+  in_order_tail,
+  in_order-append,
 }
 use Rattle.interval.specs.declared.kept.Kept.{Kept}
 use Rattle.interval.specs.Queues.{placed, by_place}
@@ -35,7 +60,7 @@ has-placed k (x ∷ xs) j h =
       | inr rest ↦ elim (has-placed k xs j rest) [ inl same ↦ inl same | inr old ↦ inr (suc old.0, old.1) ]
     ] in
     cond_both (nat_lt k.place x.place) (k ∷ x ∷ xs) (cond (nat_lt x.place k.place) (x ∷ placed k xs) (x ∷ xs)) P
-        (λ e. (has-cons k (x ∷ xs) j).0)
+    (λ e. (has-cons k (x ∷ xs) j).0)
     (λ e. cond_both (nat_lt x.place k.place) (x ∷ placed k xs) (x ∷ xs) P (λ f. later) (λ f g. inr g)) h
 
 pub has-placed_old : (k : Kept) (xs : List Kept) (j : Kept) → Has xs j → Has (placed k xs) j
@@ -47,7 +72,7 @@ has-placed_old k (x ∷ xs) j h =
       | inr old ↦ (let there = has-placed_old k xs j old in (suc there.0, there.1))
     ] in
     cond_both (nat_lt k.place x.place) (k ∷ x ∷ xs) (cond (nat_lt x.place k.place) (x ∷ placed k xs) (x ∷ xs)) P
-        (λ e. (suc h.0, h.1))
+    (λ e. (suc h.0, h.1))
     (λ e. cond_both (nat_lt x.place k.place) (x ∷ placed k xs) (x ∷ xs) P (λ f. later) (λ f. h))
 
 pub has-placed_new : (k : Kept) (xs : List Kept) → ((x : Kept) → Has xs x → k.place ≡ x.place → k ≡ x)
@@ -57,7 +82,7 @@ has-placed_new k (x ∷ xs) apart =
     let P : List Kept → Type 0 = λ ys. Has ys k in
     let rest = has-placed_new k xs (λ y h e. apart y (suc h.0, h.1) e) in
     cond_both (nat_lt k.place x.place) (k ∷ x ∷ xs) (cond (nat_lt x.place k.place) (x ∷ placed k xs) (x ∷ xs)) P
-        (λ e. (0, refl))
+    (λ e. (0, refl))
     (λ e. cond_both (nat_lt x.place k.place) (x ∷ placed k xs) (x ∷ xs) P (λ f. (suc rest.0, rest.1))
     (λ f. let a = ltb-false _ _ e in let b = ltb-false _ _ f in (0, ap Some (sym (apart x (0, refl) (omega arith))))))
 
@@ -77,7 +102,7 @@ rises-placed k (x ∷ xs) rises =
       | inr old ↦ rises_first x xs rises j old
     ]) (rises-placed k xs (rises_rest x xs rises)) in
     cond_both (nat_lt k.place x.place) (k ∷ x ∷ xs) (cond (nat_lt x.place k.place) (x ∷ placed k xs) (x ∷ xs)) Rises
-        front
+    front
     (λ e. cond_both (nat_lt x.place k.place) (x ∷ placed k xs) (x ∷ xs) Rises later (λ f. rises))
 
 -- `by_place`
@@ -98,8 +123,8 @@ has-by_place_from [] apart j h = absurd (has-nil j h)
 has-by_place_from (x ∷ xs) apart j h = elim ((has-cons x xs j).0 h) [
   | inl same ↦ (
       let new =
-          has-placed_new x (by_place xs)
-              (λ y g e. let old = has-by_place xs y g in apart x y (0, refl) (suc old.0, old.1) e) in
+      has-placed_new x (by_place xs)
+      (λ y g e. let old = has-by_place xs y g in apart x y (0, refl) (suc old.0, old.1) e) in
       let P : Kept → Type 0 = λ z. Has (placed x (by_place xs)) z in
       subst P same new)
   | inr later ↦ has-placed_old x (by_place xs) j
@@ -127,12 +152,12 @@ same_rising (x ∷ xs) (y ∷ ys) r s to from =
     ] in
     let tail_to : (k : Kept) → Has xs k → Has ys k = λ k h. elim ((has-cons y ys k).0 (to k (suc h.0, h.1))) [
       | inl e ↦ (let after = rises_first x xs r k h in
-              let place : x.place ≡ k.place = ap (λ (z : Kept). z.place) (same ∙ e) in absurd (omega arith))
+          let place : x.place ≡ k.place = ap (λ (z : Kept). z.place) (same ∙ e) in absurd (omega arith))
       | inr t ↦ t
     ] in
     let tail_from : (k : Kept) → Has ys k → Has xs k = λ k h. elim ((has-cons x xs k).0 (from k (suc h.0, h.1))) [
       | inl e ↦ (let after = rises_first y ys s k h in
-              let place : y.place ≡ k.place = ap (λ (z : Kept). z.place) (sym same ∙ e) in absurd (omega arith))
+          let place : y.place ≡ k.place = ap (λ (z : Kept). z.place) (sym same ∙ e) in absurd (omega arith))
       | inr t ↦ t
     ] in
     let tails = same_rising xs ys (rises_rest x xs r) (rises_rest y ys s) tail_to tail_from in cc

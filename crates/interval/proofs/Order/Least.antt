@@ -1,6 +1,25 @@
 -- The earliest of the intervals of a rising list that pass a test.
 use Rattle.std.proofs.Common.{
-    ◌≡◌, ◌≢◌, ◌≤◌, suc, Bool, true, false, inl, inr, Some, List, ◌∷◌, [], filter, find, refl, sym, ap, arith, ◌∙◌
+  ◌≡◌,
+  ◌≢◌,
+  ◌≤◌,
+  suc,
+  Bool,
+  true,
+  false,
+  inl,
+  inr,
+  Some,
+  List,
+  ◌∷◌,
+  [],
+  filter,
+  find,
+  refl,
+  sym,
+  ap,
+  arith,
+  ◌∙◌,
 }
 use Rattle.std.proofs.lemmas.Bool.{cond-true, cond-false, cases_Bool}
 use Rattle.lists.specs.Places.{Has}
@@ -31,8 +50,8 @@ filter_least p q (x ∷ xs) k rises here passes least left others = elim ((has-c
       let gone : q x ≡ false = ap q same ∙ left in
       let place = ap (λ (z : Kept). z.place) same in
       let rest : filter p xs ≡ filter q xs =
-          filter_same p q xs (λ j h. let after = rises_first x xs rises j h in others j (suc h.0, h.1) (omega arith))
-              in
+      filter_same p q xs (λ j h. let after = rises_first x xs rises j h in others j (suc h.0, h.1) (omega arith))
+      in
       let a = cond-true (p x) (x ∷ filter p xs) (filter p xs) first in
       let b = cond-false (q x) (x ∷ filter q xs) (filter q xs) gone in
       cc)
@@ -41,8 +60,8 @@ filter_least p q (x ∷ xs) k rises here passes least left others = elim ((has-c
       let skips : p x ≡ false = skipped p x xs k rises later least in
       let leaves : q x ≡ false = sym (others x (0, refl) (omega arith)) ∙ skips in
       let rest =
-          filter_least p q xs k (rises_rest x xs rises) later passes (λ j h. least j (suc h.0, h.1)) left
-              (λ j h. others j (suc h.0, h.1)) in
+      filter_least p q xs k (rises_rest x xs rises) later passes (λ j h. least j (suc h.0, h.1)) left
+      (λ j h. others j (suc h.0, h.1)) in
       let a = cond-false (p x) (x ∷ filter p xs) (filter p xs) skips in
       let b = cond-false (q x) (x ∷ filter q xs) (filter q xs) leaves in
       cc)

@@ -40,12 +40,12 @@ are_none queues count none = record {
   each = λ q queue at. record {
     each =
         λ i k at_i. absurd
-            (nothing_lies queues none k (record { owner = q; queue = queue; index = i; owned = at; at = at_i }));
+        (nothing_lies queues none k (record { owner = q; queue = queue; index = i; owned = at; at = at_i }));
     rising =
         λ x y a b lt at_x at_y. absurd
-            (nothing_lies queues none a (record { owner = q; queue = queue; index = x; owned = at; at = at_x }));
+        (nothing_lies queues none a (record { owner = q; queue = queue; index = x; owned = at; at = at_x }));
   };
   apart =
       λ q r a b j k at_q at_r has_j has_k same. absurd
-          (nothing_lies queues none j (record { owner = q; queue = a; index = has_j.0; owned = at_q; at = has_j.1 }));
+      (nothing_lies queues none j (record { owner = q; queue = a; index = has_j.0; owned = at_q; at = has_j.1 }));
 }

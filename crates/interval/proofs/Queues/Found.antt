@@ -1,7 +1,35 @@
 -- What is found in the merged list by owner and number.
 use Rattle.std.proofs.Common.{
-    ◌≡◌, ℕ, zero, suc, ◌<◌, ◌≤◌, ◌+◌, ◌-◌, Bool, true, ◌==◌, inl, inr, Option, Some, None, List, [], ◌∷◌, map, find,
-    slice_get, get_or, length, refl, sym, ap, subst, arith, ◌∙◌
+  ◌≡◌,
+  ℕ,
+  zero,
+  suc,
+  ◌<◌,
+  ◌≤◌,
+  ◌+◌,
+  ◌-◌,
+  Bool,
+  true,
+  ◌==◌,
+  inl,
+  inr,
+  Option,
+  Some,
+  None,
+  List,
+  [],
+  ◌∷◌,
+  map,
+  find,
+  slice_get,
+  get_or,
+  length,
+  refl,
+  sym,
+  ap,
+  subst,
+  arith,
+  ◌∙◌,
 }
 use Rattle.std.specs.Option.{MatchOption, option_and_then}
 use Rattle.std.proofs.lemmas.Bool.{cases_order, cases_Bool, and_parts, and_from, eqb-true, eq-eqb}
@@ -24,8 +52,8 @@ in_own_queue queues count are k l owner is queue owned =
     let q = queued queues count are k l in
     let same : l.owner ≡ owner = sym q.owner_is ∙ is in
     let queue_is : l.queue ≡ queue =
-        let there : slice_get queues owner ≡ Some l.queue = ap (slice_get queues) (sym same) ∙ l.owned in
-            cc (there, owned) in
+    let there : slice_get queues owner ≡ Some l.queue = ap (slice_get queues) (sym same) ∙ l.owned in
+    cc (there, owned) in
     (l.index, ap (λ (q : Queue). slice_get q.kept l.index) (sym queue_is) ∙ l.at)
 
 -- the first of the owner's intervals in closing order is the first of its queue
@@ -35,8 +63,8 @@ pub first_of : (queues : List Queue) (count owner : ℕ) (queue : Queue) → Are
 first_of queues count owner queue are owned =
     let test : Kept → Bool = λ k. k.interval.owner == owner in
     let go : (o : Option Kept) → slice_get queue.kept 0 ≡ o
-        → find test (merged queues)
-            ≡ o = λ o. elim o as (λ (o : Option Kept). slice_get queue.kept 0 ≡ o → find test (merged queues) ≡ o) [
+    → find test (merged queues)
+    ≡ o = λ o. elim o as (λ (o : Option Kept). slice_get queue.kept 0 ≡ o → find test (merged queues) ≡ o) [
       | None ↦ λ e. find_none test (merged queues) (λ j h. elim (cases_Bool (test j)) [
         | inl t ↦
             let at = in_own_queue queues count are j (merged_lies queues j h) owner (eqb-true _ _ t) queue owned in
@@ -49,7 +77,7 @@ first_of queues count owner queue are owned =
           let l : Lies queues k = record { owner = owner; queue = queue; index = 0; owned = owned; at = e } in
           let is = (queued queues count are k l).owner_is in
           find_least test (merged queues) k (rises-merged queues) (lies_merged queues count are k l) (eq-eqb _ _ is)
-              (λ j h t.
+          (λ j h t.
           let at = in_own_queue queues count are j (merged_lies queues j h) owner (eqb-true _ _ t) queue owned in
           elim (cases_order 0 at.0) [
             | inl same ↦ let there : slice_get queue.kept 0 ≡ Some j = ap (slice_get queue.kept) same ∙ at.1 in
@@ -66,30 +94,29 @@ first_of queues count owner queue are owned =
 pub first_number : (queues : List Queue) (count : ℕ) (value : Closings) (owner : ℕ) (queue : Queue) (n : ℕ)
     → closings queues count ≡ value → AreQueues queues count → slice_get queues owner ≡ Some queue → n ≡ queue.first
     → MatchOption (find (λ (k : Kept). k.interval.owner == owner) value.kept) (slice_get value.next owner ≡ Some n)
-        (λ k. k.interval.number ≡ n)
+    (λ k. k.interval.number ≡ n)
 first_number queues count value owner queue n is are owned n_is =
     let kepts : merged queues ≡ value.kept = ap (λ (c : Closings). c.kept) is in
     let nexts : map (λ (q : Queue). q.first + length q.kept) queues ≡ value.next = ap (λ (c : Closings). c.next) is in
     let go : (o : Option Kept) → slice_get queue.kept 0 ≡ o
-        → MatchOption o (slice_get value.next owner ≡ Some n) (λ k. k.interval.number ≡ n) = λ o. elim o as (λ
-                        (o : Option Kept). slice_get queue.kept 0
-                    ≡ o
-                → MatchOption o (slice_get value.next owner ≡ Some n) (λ k. k.interval.number ≡ n))
-            [
+    → MatchOption o (slice_get value.next owner ≡ Some n) (λ k. k.interval.number ≡ n) = λ o. elim o as (λ
+    (o : Option Kept). slice_get queue.kept 0
+    ≡ o
+    → MatchOption o (slice_get value.next owner ≡ Some n) (λ k. k.interval.number ≡ n)) [
       | None ↦ λ e.
           let none : length queue.kept ≡ 0 = empty queue.kept e in
           let entry : slice_get (map (λ (q : Queue). q.first + length q.kept) queues) owner
-                  ≡ Some (queue.first + length queue.kept) =
-              got (λ (q : Queue). q.first + length q.kept) queues owner queue owned in
+          ≡ Some (queue.first + length queue.kept) =
+          got (λ (q : Queue). q.first + length q.kept) queues owner queue owned in
           let number : queue.first + length queue.kept ≡ n = omega arith in
           ap (λ (ns : List ℕ). slice_get ns owner) (sym nexts) ∙ entry ∙ ap Some number
       | Some k ↦ λ e. let number = ((are.each owner queue owned).each 0 k e).number_is in omega arith
     ] in
     let P : Option Kept → Type 0 =
-        λ o. MatchOption o (slice_get value.next owner ≡ Some n) (λ k. k.interval.number ≡ n) in
+    λ o. MatchOption o (slice_get value.next owner ≡ Some n) (λ k. k.interval.number ≡ n) in
     subst P (sym (first_of queues count owner queue are owned)
-            ∙ ap (find (λ (k : Kept). k.interval.owner == owner)) kepts)
-        (go (slice_get queue.kept 0) refl)
+    ∙ ap (find (λ (k : Kept). k.interval.owner == owner)) kepts)
+    (go (slice_get queue.kept 0) refl)
   where
     empty : (ks : List Kept) → slice_get ks 0 ≡ None → length ks ≡ 0
     empty [] e = refl
@@ -122,7 +149,7 @@ pub noticed_at : (queues : List Queue) (count : ℕ) (n : Notice) (queue : Queue
 noticed_at queues count n queue are owned from =
     let i : ℕ = n.number - queue.first in
     let found_at : (j : Kept) → Has (merged queues) j → is_noticed n j ≡ true
-        → slice_get queue.kept i ≡ Some j = λ j h t.
+    → slice_get queue.kept i ≡ Some j = λ j h t.
     let parts = and_parts _ _ t in
     let at = in_own_queue queues count are j (merged_lies queues j h) n.owner (eqb-true _ _ parts.0) queue owned in
     let number = ((are.each n.owner queue owned).each at.0 j at.1).number_is in
@@ -130,9 +157,9 @@ noticed_at queues count n queue are owned from =
     let index : at.0 ≡ i = omega arith in
     ap (slice_get queue.kept) (sym index) ∙ at.1 in
     let go : (o : Option Kept) → slice_get queue.kept i ≡ o
-        → find (is_noticed n) (merged queues)
-            ≡ o = λ o. elim o as
-                (λ (o : Option Kept). slice_get queue.kept i ≡ o → find (is_noticed n) (merged queues) ≡ o) [
+    → find (is_noticed n) (merged queues)
+    ≡ o = λ o. elim o as
+    (λ (o : Option Kept). slice_get queue.kept i ≡ o → find (is_noticed n) (merged queues) ≡ o) [
       | None ↦ λ e. find_none (is_noticed n) (merged queues)
           (λ j h. elim (cases_Bool (is_noticed n j)) [ inl t ↦ let there = found_at j h t in cc | inr f ↦ f ])
       | Some k ↦ λ e.
@@ -141,9 +168,9 @@ noticed_at queues count n queue are owned from =
           let number = q.number_is in
           let is : k.interval.number ≡ n.number = omega arith in
           find_least (is_noticed n) (merged queues) k (rises-merged queues) (lies_merged queues count are k l)
-              (and_from _ _ (eq-eqb _ _ q.owner_is) (eq-eqb _ _ is))
+          (and_from _ _ (eq-eqb _ _ q.owner_is) (eq-eqb _ _ is))
           (λ j h t. let there = found_at j h t in let one : k ≡ j = cc (e, there) in
-                  let place = ap (λ (z : Kept). z.place) one in omega arith)
+          let place = ap (λ (z : Kept). z.place) one in omega arith)
     ] in
     go (slice_get queue.kept i) refl
 
@@ -156,7 +183,7 @@ none_below queues count n queue are owned below =
       | inl t ↦
           let parts = and_parts _ _ t in
           let at =
-              in_own_queue queues count are j (merged_lies queues j h) n.owner (eqb-true _ _ parts.0) queue owned in
+          in_own_queue queues count are j (merged_lies queues j h) n.owner (eqb-true _ _ parts.0) queue owned in
           let number = ((are.each n.owner queue owned).each at.0 j at.1).number_is in
           let is : j.interval.number ≡ n.number = eqb-true _ _ parts.1 in
           absurd (omega arith)
@@ -167,12 +194,12 @@ none_below queues count n queue are owned below =
 pub record_found : (queues : List Queue) (count : ℕ) (value : Closings) (n : Notice) (o : Option Kept)
     → closings queues count ≡ value → find (is_noticed n) (merged queues) ≡ o
     → record_of value n
-        ≡ option_and_then (λ (k : Kept). find (λ (r : Changes). r.page == n.page) k.interval.records) o
+    ≡ option_and_then (λ (k : Kept). find (λ (r : Changes). r.page == n.page) k.interval.records) o
 record_found queues count value n o is found =
     let kepts : value.kept ≡ merged queues = ap (λ (c : Closings). c.kept) (sym is) in
     ap (λ (ks : List Kept). option_and_then
-            (λ (k : Kept). find (λ (r : Changes). r.page == n.page) k.interval.records) (find (is_noticed n) ks))
-        kepts
+    (λ (k : Kept). find (λ (r : Changes). r.page == n.page) k.interval.records) (find (is_noticed n) ks))
+    kepts
     ∙ ap (option_and_then (λ (k : Kept). find (λ (r : Changes). r.page == n.page) k.interval.records)) found
 
 -- the owner's queue, as it is read from a slice of the queues

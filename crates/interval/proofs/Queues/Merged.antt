@@ -44,9 +44,9 @@ pub one_interval : (queues : List Queue) (count : ℕ) → AreQueues queues coun
 one_interval queues count are j k a b same =
     let owner = are.apart a.owner b.owner a.queue b.queue j k a.owned b.owned (a.index, a.at) (b.index, b.at) same in
     let queue : b.queue ≡ a.queue =
-        let swap : slice_get queues a.owner ≡ Some b.queue = ap (slice_get queues) owner ∙ b.owned in cc in
+    let swap : slice_get queues a.owner ≡ Some b.queue = ap (slice_get queues) owner ∙ b.owned in cc in
     let at : slice_get a.queue.kept b.index ≡ Some k =
-        ap (λ (q : Queue). slice_get q.kept b.index) (sym queue) ∙ b.at in
+    ap (λ (q : Queue). slice_get q.kept b.index) (sym queue) ∙ b.at in
     one_place a.owner count a.queue (are.each a.owner a.queue a.owned) a.index b.index j k a.at at same
 
 apart : (queues : List Queue) (count : ℕ) → AreQueues queues count → IsApart (flat_map items_of queues)
@@ -78,13 +78,13 @@ one_number queues count are j k a b owners numbers =
     let kb = queued queues count are k b in
     let owner : a.owner ≡ b.owner = sym ja.owner_is ∙ owners ∙ kb.owner_is in
     let queue : b.queue ≡ a.queue =
-        let swap : slice_get queues a.owner ≡ Some b.queue = ap (slice_get queues) owner ∙ b.owned in cc in
+    let swap : slice_get queues a.owner ≡ Some b.queue = ap (slice_get queues) owner ∙ b.owned in cc in
     let firsts : b.queue.first ≡ a.queue.first = ap (λ (q : Queue). q.first) queue in
     let ja_number = ja.number_is in
     let kb_number = kb.number_is in
     let index : a.index ≡ b.index = omega arith in
     let at : slice_get a.queue.kept a.index ≡ Some k =
-        ap (λ (i : ℕ). slice_get a.queue.kept i) index ∙ ap (λ (q : Queue). slice_get q.kept b.index) (sym queue)
-            ∙ b.at in
+    ap (λ (i : ℕ). slice_get a.queue.kept i) index ∙ ap (λ (q : Queue). slice_get q.kept b.index) (sym queue)
+    ∙ b.at in
     let at_a = a.at in
     cc

@@ -1,7 +1,31 @@
 -- The queues after one more interval, closed last, in its owner's queue.
 use Rattle.std.proofs.Common.{
-    ◌≡◌, ◌≢◌, ℕ, zero, suc, ◌<◌, ◌+◌, ◌⊎◌, inl, inr, Some, List, [], ◌∷◌, ◌++◌, map, slice_get, slice_index, set,
-    get_or, length, refl, sym, ap, arith, ◌∙◌
+  ◌≡◌,
+  ◌≢◌,
+  ℕ,
+  zero,
+  suc,
+  ◌<◌,
+  ◌+◌,
+  ◌⊎◌,
+  inl,
+  inr,
+  Some,
+  List,
+  [],
+  ◌∷◌,
+  ◌++◌,
+  map,
+  slice_get,
+  slice_index,
+  set,
+  get_or,
+  length,
+  refl,
+  sym,
+  ap,
+  arith,
+  ◌∙◌,
 }
 use Rattle.std.proofs.lemmas.Bool.{cases_eq}
 use Rattle.std.proofs.lemmas.List.{length_push, length-map, map-set, set-get_or}
@@ -43,7 +67,7 @@ module _ (queues : List Queue) (count owner : ℕ) (queue : Queue) (k : Kept) (a
     | inl e ↦
         let here = slice_get-set_same queues owner (with_last queue k) inside in
         let there : slice_get (with_queue queues owner queue k) owner ≡ Some a =
-            ap (slice_get (with_queue queues owner queue k)) (sym e) ∙ at in
+        ap (slice_get (with_queue queues owner queue k)) (sym e) ∙ at in
         inl (e, cc (here, there))
     | inr other ↦ inr (other, sym (slice_get-set_other queues owner q (with_last queue k) other) ∙ at)
   ]
@@ -64,8 +88,8 @@ module _ (queues : List Queue) (count owner : ℕ) (queue : Queue) (k : Kept) (a
         let number = comes.number_is in
         let index = new.0 in
         let is : P k =
-            record { owner_is = comes.owner_is; number_is = omega arith; closed = omega arith; pages = comes.pages }
-                in
+        record { owner_is = comes.owner_is; number_is = omega arith; closed = omega arith; pages = comes.pages }
+        in
         rw (← new.1) is
   ]
 
@@ -94,7 +118,7 @@ module _ (queues : List Queue) (count owner : ℕ) (queue : Queue) (k : Kept) (a
   came_from j l = elim (queue_cases l.owner l.queue l.owned) [
     | inl here ↦
         let at : slice_get (queue.kept ++ k ∷ []) l.index ≡ Some j =
-            ap (λ (q : Queue). slice_get q.kept l.index) here.1 ∙ l.at in
+        ap (λ (q : Queue). slice_get q.kept l.index) here.1 ∙ l.at in
         elim (push_cases queue.kept k l.index j at) [
           | inl old ↦ inr (record { owner = owner; queue = queue; index = l.index; owned = comes.owned; at = old.1 })
           | inr new ↦ inl (sym new.1)
@@ -106,23 +130,37 @@ module _ (queues : List Queue) (count owner : ℕ) (queue : Queue) (k : Kept) (a
   comes_to j l = elim (cases_eq l.owner owner) [
     | inl e ↦
         let same : l.queue ≡ queue =
-            let there : slice_get queues owner ≡ Some l.queue = ap (slice_get queues) (sym e) ∙ l.owned in
-                cc (there, comes.owned) in
+        let there : slice_get queues owner ≡ Some l.queue = ap (slice_get queues) (sym e) ∙ l.owned in
+        cc (there, comes.owned) in
         let at : slice_get queue.kept l.index ≡ Some j =
-            ap (λ (q : Queue). slice_get q.kept l.index) (sym same) ∙ l.at in
-        record { owner = owner; queue = with_last queue k; index = l.index;
-                owned = slice_get-set_same queues owner (with_last queue k) inside;
-                at =
-                    slice_get-append_left queue.kept (k ∷ []) l.index (slice_get_within queue.kept l.index j at)
-                        ∙ at }
-    | inr other ↦ record { owner = l.owner; queue = l.queue; index = l.index;
-            owned = slice_get-set_other queues owner l.owner (with_last queue k) other ∙ l.owned; at = l.at }
+        ap (λ (q : Queue). slice_get q.kept l.index) (sym same) ∙ l.at in
+        record {
+          owner = owner;
+          queue = with_last queue k;
+          index = l.index;
+          owned = slice_get-set_same queues owner (with_last queue k) inside;
+          at =
+              slice_get-append_left queue.kept (k ∷ []) l.index (slice_get_within queue.kept l.index j at)
+              ∙ at;
+        }
+    | inr other ↦ record {
+      owner = l.owner;
+      queue = l.queue;
+      index = l.index;
+      owned = slice_get-set_other queues owner l.owner (with_last queue k) other ∙ l.owned;
+      at = l.at;
+    }
   ]
 
   lies_last : Lies (with_queue queues owner queue k) k
   lies_last =
-      record { owner = owner; queue = with_last queue k; index = length queue.kept;
-              owned = slice_get-set_same queues owner (with_last queue k) inside; at = slice_get-last queue.kept k }
+      record {
+        owner = owner;
+        queue = with_last queue k;
+        index = length queue.kept;
+        owned = slice_get-set_same queues owner (with_last queue k) inside;
+        at = slice_get-last queue.kept k;
+      }
 
   -- k is the only one with its place
   place_below : (j : Kept) → Lies queues j → j.place < count
@@ -133,7 +171,7 @@ module _ (queues : List Queue) (count owner : ℕ) (queue : Queue) (k : Kept) (a
   has_last q a j at (i, has) = elim (queue_cases q a at) [
     | inl here ↦
         let in_last : slice_get (queue.kept ++ k ∷ []) i ≡ Some j =
-            ap (λ (q : Queue). slice_get q.kept i) here.1 ∙ has in
+        ap (λ (q : Queue). slice_get q.kept i) here.1 ∙ has in
         elim (push_cases queue.kept k i j in_last) [
           | inl old ↦ inr (queue, ap (slice_get queues) here.0 ∙ comes.owned, (i, old.1))
           | inr new ↦ inl (here.0, sym new.1)
@@ -146,15 +184,19 @@ module _ (queues : List Queue) (count owner : ℕ) (queue : Queue) (k : Kept) (a
     each = λ q a at. elim (queue_cases q a at) [
       | inl here ↦
           let is : IsQueue owner (count + 1) (with_last queue k) =
-              record { each = queued_last; rising = rising_last } in
+          record { each = queued_last; rising = rising_last } in
           rw (here.0, ← here.1) is
       | inr there ↦
           let was = are.each q a there.1 in
           record {
             each =
                 λ i j at_i. let old = was.each i j at_i in let before = old.closed in
-                    record { owner_is = old.owner_is; number_is = old.number_is; closed = omega arith;
-                            pages = old.pages };
+                record {
+                  owner_is = old.owner_is;
+                  number_is = old.number_is;
+                  closed = omega arith;
+                  pages = old.pages;
+                };
             rising = was.rising;
           }
     ];
@@ -163,8 +205,8 @@ module _ (queues : List Queue) (count owner : ℕ) (queue : Queue) (k : Kept) (a
         | inl new_j ↦ new_i.0 ∙ sym new_j.0
         | inr old_j ↦
             let below =
-                place_below j
-                    (record { owner = r; queue = old_j.0; index = old_j.2.0; owned = old_j.1; at = old_j.2.1 }) in
+            place_below j
+            (record { owner = r; queue = old_j.0; index = old_j.2.0; owned = old_j.1; at = old_j.2.1 }) in
             let is : i.place ≡ k.place = ap (λ (z : Kept). z.place) new_i.1 in
             let place = comes.place_is in
             absurd (omega arith)
@@ -172,8 +214,8 @@ module _ (queues : List Queue) (count owner : ℕ) (queue : Queue) (k : Kept) (a
       | inr old_i ↦ elim (has_last r b j at_r has_j) [
         | inl new_j ↦
             let below =
-                place_below i
-                    (record { owner = q; queue = old_i.0; index = old_i.2.0; owned = old_i.1; at = old_i.2.1 }) in
+            place_below i
+            (record { owner = q; queue = old_i.0; index = old_i.2.0; owned = old_i.1; at = old_i.2.1 }) in
             let is : j.place ≡ k.place = ap (λ (z : Kept). z.place) new_j.1 in
             let place = comes.place_is in
             absurd (omega arith)
@@ -186,17 +228,17 @@ module _ (queues : List Queue) (count owner : ℕ) (queue : Queue) (k : Kept) (a
   merged_pushed =
       let place = comes.place_is in
       let below : (j : Kept) → Has (merged queues) j → j.place < k.place =
-          λ j h. let lt = place_below j (merged_lies queues j h) in omega arith in
+      λ j h. let lt = place_below j (merged_lies queues j h) in omega arith in
       let to : (j : Kept) → Has (merged (with_queue queues owner queue k)) j
-          → Has (merged queues ++ k ∷ []) j = λ j h.
+      → Has (merged queues ++ k ∷ []) j = λ j h.
       (has-append (merged queues) (k ∷ []) j).1
-          (elim (came_from j (merged_lies (with_queue queues owner queue k) j h)) [
+      (elim (came_from j (merged_lies (with_queue queues owner queue k) j h)) [
         | inl new ↦ inr (0, ap Some (sym new))
         | inr old ↦ inl (lies_merged queues count are j old)
       ]) in
       let from : (j : Kept) → Has (merged queues ++ k ∷ []) j
-          → Has (merged (with_queue queues owner queue k)) j = λ j h. elim
-              ((has-append (merged queues) (k ∷ []) j).0 h) [
+      → Has (merged (with_queue queues owner queue k)) j = λ j h. elim
+      ((has-append (merged queues) (k ∷ []) j).0 h) [
         | inl old ↦ lies_merged (with_queue queues owner queue k) (count + 1) are_pushed j
             (comes_to j (merged_lies queues j old))
         | inr new ↦ elim ((has-cons k [] j).0 new) [
@@ -205,8 +247,8 @@ module _ (queues : List Queue) (count owner : ℕ) (queue : Queue) (k : Kept) (a
         ]
       ] in
       same_rising (merged (with_queue queues owner queue k)) (merged queues ++ k ∷ [])
-          (rises-merged (with_queue queues owner queue k)) (rises-push (merged queues) k (rises-merged queues) below)
-          to from
+      (rises-merged (with_queue queues owner queue k)) (rises-push (merged queues) k (rises-merged queues) below)
+      to from
 
   pub first_pushed : map (λ (q : Queue). q.first) (with_queue queues owner queue k)
       ≡ map (λ (q : Queue). q.first) queues
@@ -215,7 +257,7 @@ module _ (queues : List Queue) (count owner : ℕ) (queue : Queue) (k : Kept) (a
       let same = set-get_or queues owner queue in
       let old : set queues owner queue ≡ queues = rw at at same in
       map-set (λ (q : Queue). q.first) queues owner (with_last queue k)
-          ∙ sym (map-set (λ (q : Queue). q.first) queues owner queue) ∙ ap (map (λ (q : Queue). q.first)) old
+      ∙ sym (map-set (λ (q : Queue). q.first) queues owner queue) ∙ ap (map (λ (q : Queue). q.first)) old
 
   pub next_pushed : map (λ (q : Queue). q.first + length q.kept) (with_queue queues owner queue k)
       ≡ set (map (λ (q : Queue). q.first + length q.kept) queues) owner (k.interval.number + 1)
@@ -224,7 +266,7 @@ module _ (queues : List Queue) (count owner : ℕ) (queue : Queue) (k : Kept) (a
       let number = comes.number_is in
       let last : queue.first + length (queue.kept ++ k ∷ []) ≡ k.interval.number + 1 = omega arith in
       map-set (λ (q : Queue). q.first + length q.kept) queues owner (with_last queue k)
-          ∙ ap (set (map (λ (q : Queue). q.first + length q.kept) queues) owner) last
+      ∙ ap (set (map (λ (q : Queue). q.first + length q.kept) queues) owner) last
 
 -- the owner's entry of a list that has one for each queue
 pub entry_of : (f : Queue → ℕ) (queues : List Queue) (owner : ℕ) (queue : Queue) → slice_get queues owner ≡ Some queue
@@ -236,7 +278,7 @@ entry_of f (q ∷ qs) (suc owner) queue at = entry_of f qs owner queue at
 -- what `push` requires makes the interval the next one of its queue
 pub comes_next : (queues : List Queue) (count : ℕ) (value : Closings) (i : ClosedInterval) (owner : ℕ) (queue : Queue)
     → closings queues count ≡ value → owner ≡ i.owner → i.owner < length value.next
-        → i.number ≡ slice_index value.next i.owner → HasRisingPages i.records
+    → i.number ≡ slice_index value.next i.owner → HasRisingPages i.records
     → queue ≡ get_or queues owner queue → Comes queues count owner queue (record { place = count; interval = i })
 comes_next queues count value i owner queue is same in_range next pages read =
     let nexts : map (λ (q : Queue). q.first + length q.kept) queues ≡ value.next = ap (λ (c : Closings). c.next) is in
@@ -244,7 +286,7 @@ comes_next queues count value i owner queue is same in_range next pages read =
     let longs = ap length nexts in
     let inside : owner < length queues = omega arith in
     let owned : slice_get queues owner ≡ Some queue =
-        slice_get_read queues (length queues) owner queue refl inside read in
+    slice_get_read queues (length queues) owner queue refl inside read in
     let entry = entry_of (λ (q : Queue). q.first + length q.kept) queues owner queue owned in
     let number : i.number ≡ queue.first + length queue.kept =
     next ∙ ap (slice_index value.next) (sym same) ∙ ap (λ (ns : List ℕ). slice_index ns owner) (sym nexts) ∙ entry in
@@ -254,7 +296,7 @@ comes_next queues count value i owner queue is same in_range next pages read =
 pub closings_pushed : (queues : List Queue) (count : ℕ) (value : Closings) (i : ClosedInterval) (owner : ℕ)
     (queue : Queue)
     → closings queues count ≡ value → owner ≡ i.owner → AreQueues queues count
-        → Comes queues count owner queue (record { place = count; interval = i })
+    → Comes queues count owner queue (record { place = count; interval = i })
     → closings (with_queue queues owner queue (record { place = count; interval = i })) (count + 1) ≡ pushed value i
 closings_pushed queues count value i owner queue is same are comes =
     let k : Kept = record { place = count; interval = i } in
@@ -262,5 +304,5 @@ closings_pushed queues count value i owner queue is same are comes =
     let firsts = first_pushed queues count owner queue k are comes in
     let nexts = next_pushed queues count owner queue k are comes in
     let now : closings (with_queue queues owner queue k) (count + 1) ≡ pushed (closings queues count) i =
-        rw (kepts, firsts, nexts, ← same) refl in
+    rw (kepts, firsts, nexts, ← same) refl in
     now ∙ ap (λ (c : Closings). pushed c i) is

@@ -1,11 +1,48 @@
 -- The queues after a trim.
 use Rattle.std.proofs.Common.{
-    ◌≡◌, ◌≢◌, ℕ, ◌<◌, ◌≤◌, ◌+◌, ◌-◌, min, max, Bool, true, not, ◌⊎◌, inl, inr, Some, List, map, filter, drop,
-    slice_get, slice_index, set, length, refl, sym, ap, arith, ◌∙◌
+  ◌≡◌,
+  ◌≢◌,
+  ℕ,
+  ◌<◌,
+  ◌≤◌,
+  ◌+◌,
+  ◌-◌,
+  min,
+  max,
+  Bool,
+  true,
+  not,
+  ◌⊎◌,
+  inl,
+  inr,
+  Some,
+  List,
+  map,
+  filter,
+  drop,
+  slice_get,
+  slice_index,
+  set,
+  length,
+  refl,
+  sym,
+  ap,
+  arith,
+  ◌∙◌,
 }
 use Rattle.std.proofs.lemmas.Bool.{
-    cases_eq, cases_lt, and_left, and_right, and_from, eq-eqb, ne_eqb, lt-ltb, le-ltb, not_from_false, not-true,
-    both_ways
+  cases_eq,
+  cases_lt,
+  and_left,
+  and_right,
+  and_from,
+  eq-eqb,
+  ne_eqb,
+  lt-ltb,
+  le-ltb,
+  not_from_false,
+  not-true,
+  both_ways,
 }
 use Rattle.std.proofs.lemmas.List.{map-set, set-get_or, length-drop}
 use Rattle.std.proofs.lemmas.Option.{slice_get_within, get_or_from_slice_get}
@@ -48,7 +85,7 @@ module _ (queues : List Queue) (count owner : ℕ) (queue : Queue) (to : ℕ) (a
         record { owner_is = old.owner_is; number_is = omega arith; closed = old.closed; pages = old.pages };
     rising =
         λ x y a b lt at_x at_y. was.rising (gone + x) (gone + y) a b (omega arith) (stayed x a at_x)
-            (stayed y b at_y);
+        (stayed y b at_y);
   }
 
   queue_cases : (q : ℕ) (a : Queue) → slice_get (with_trim queues owner queue to) q ≡ Some a
@@ -57,7 +94,7 @@ module _ (queues : List Queue) (count owner : ℕ) (queue : Queue) (to : ℕ) (a
     | inl e ↦
         let here = slice_get-set_same queues owner (without queue to) inside in
         let there : slice_get (with_trim queues owner queue to) owner ≡ Some a =
-            ap (slice_get (with_trim queues owner queue to)) (sym e) ∙ at in
+        ap (slice_get (with_trim queues owner queue to)) (sym e) ∙ at in
         inl (e, cc (here, there))
     | inr other ↦ inr (other, sym (slice_get-set_other queues owner q (without queue to) other) ∙ at)
   ]
@@ -68,7 +105,7 @@ module _ (queues : List Queue) (count owner : ℕ) (queue : Queue) (to : ℕ) (a
   was_has q a j at (i, has) = elim (queue_cases q a at) [
     | inl here ↦
         let at_i : slice_get (drop gone queue.kept) i ≡ Some j =
-            ap (λ (q : Queue). slice_get q.kept i) here.1 ∙ has in
+        ap (λ (q : Queue). slice_get q.kept i) here.1 ∙ has in
         (queue, ap (slice_get queues) here.0 ∙ owned, (gone + i, stayed i j at_i))
     | inr there ↦ (a, there.1, (i, has))
   ]
@@ -96,15 +133,19 @@ module _ (queues : List Queue) (count owner : ℕ) (queue : Queue) (to : ℕ) (a
   remains k l = elim (queue_cases l.owner l.queue l.owned) [
     | inl here ↦
         let at_i : slice_get (drop gone queue.kept) l.index ≡ Some k =
-            ap (λ (q : Queue). slice_get q.kept l.index) here.1 ∙ l.at in
+        ap (λ (q : Queue). slice_get q.kept l.index) here.1 ∙ l.at in
         let before = stayed l.index k at_i in
-        let number = (was.each (gone + l.index) k before).number_is in
-        (record { owner = owner; queue = queue; index = gone + l.index; owned = owned; at = before }, later_stays k
-                (omega arith))
+        let number = (was.each (gone + l.index) k before).number_is in (
+          record { owner = owner; queue = queue; index = gone + l.index; owned = owned; at = before },
+          later_stays k
+              (omega arith),
+        )
     | inr there ↦
-        let is = (are.each l.owner l.queue there.1).each l.index k l.at in
-        (record { owner = l.owner; queue = l.queue; index = l.index; owned = there.1; at = l.at }, other_stays k
-                (λ e. there.0 (sym is.owner_is ∙ e)))
+        let is = (are.each l.owner l.queue there.1).each l.index k l.at in (
+          record { owner = l.owner; queue = l.queue; index = l.index; owned = there.1; at = l.at },
+          other_stays k
+              (λ e. there.0 (sym is.owner_is ∙ e)),
+        )
   ]
 
   -- of the owner's intervals, those from `to` on remain
@@ -119,10 +160,10 @@ module _ (queues : List Queue) (count owner : ℕ) (queue : Queue) (to : ℕ) (a
   remains_from k l stays = elim (cases_eq l.owner owner) [
     | inl e ↦
         let same : l.queue ≡ queue =
-            let there : slice_get queues owner ≡ Some l.queue = ap (slice_get queues) (sym e) ∙ l.owned in
-                cc (there, owned) in
+        let there : slice_get queues owner ≡ Some l.queue = ap (slice_get queues) (sym e) ∙ l.owned in
+        cc (there, owned) in
         let at : slice_get queue.kept l.index ≡ Some k =
-            ap (λ (q : Queue). slice_get q.kept l.index) (sym same) ∙ l.at in
+        ap (λ (q : Queue). slice_get q.kept l.index) (sym same) ∙ l.at in
         let is = was.each l.index k at in
         let number = is.number_is in
         let from = not_before k stays is.owner_is in
@@ -134,8 +175,13 @@ module _ (queues : List Queue) (count owner : ℕ) (queue : Queue) (to : ℕ) (a
           owned = slice_get-set_same queues owner (without queue to) inside;
           at = slice_get-drop queue.kept gone (l.index - gone) ∙ ap (slice_get queue.kept) index ∙ at;
         }
-    | inr other ↦ record { owner = l.owner; queue = l.queue; index = l.index;
-            owned = slice_get-set_other queues owner l.owner (without queue to) other ∙ l.owned; at = l.at }
+    | inr other ↦ record {
+      owner = l.owner;
+      queue = l.queue;
+      index = l.index;
+      owned = slice_get-set_other queues owner l.owner (without queue to) other ∙ l.owned;
+      at = l.at;
+    }
   ]
 
   pub merged_trimmed : merged (with_trim queues owner queue to)
@@ -143,17 +189,17 @@ module _ (queues : List Queue) (count owner : ℕ) (queue : Queue) (to : ℕ) (a
   merged_trimmed =
       let stays : Kept → Bool = λ k. not (is_trimmed owner to k) in
       same_rising (merged (with_trim queues owner queue to)) (filter stays (merged queues))
-          (rises-merged (with_trim queues owner queue to))
-          (in_order-filter IsBefore stays (merged queues) (rises-merged queues))
+      (rises-merged (with_trim queues owner queue to))
+      (in_order-filter IsBefore stays (merged queues) (rises-merged queues))
       (λ k h. let r = remains k (merged_lies (with_trim queues owner queue to) k h) in
-              (has-filter stays (merged queues) k).1 (lies_merged queues count are k r.0, r.1))
+      (has-filter stays (merged queues) k).1 (lies_merged queues count are k r.0, r.1))
       (λ k h. let r = (has-filter stays (merged queues) k).0 h in
-              lies_merged (with_trim queues owner queue to) count are_trimmed k
-                  (remains_from k (merged_lies queues k r.0) r.1))
+      lies_merged (with_trim queues owner queue to) count are_trimmed k
+      (remains_from k (merged_lies queues k r.0) r.1))
 
   pub first_trimmed : map (λ (q : Queue). q.first) (with_trim queues owner queue to)
       ≡ set (map (λ (q : Queue). q.first) queues) owner (max (slice_index (map (λ (q : Queue). q.first) queues) owner)
-              (min to (slice_index (map (λ (q : Queue). q.first + length q.kept) queues) owner)))
+      (min to (slice_index (map (λ (q : Queue). q.first + length q.kept) queues) owner)))
   first_trimmed =
       let first = entry_of (λ (q : Queue). q.first) queues owner queue owned in
       let next = entry_of (λ (q : Queue). q.first + length q.kept) queues owner queue owned in
@@ -169,7 +215,7 @@ module _ (queues : List Queue) (count owner : ℕ) (queue : Queue) (to : ℕ) (a
       let long = length-drop gone queue.kept in
       let here : f (without queue to) ≡ f queue = omega arith in
       map-set f queues owner (without queue to) ∙ ap (set (map f queues) owner) here
-          ∙ sym (map-set f queues owner queue) ∙ ap (map f) old
+      ∙ sym (map-set f queues owner queue) ∙ ap (map f) old
 
 -- `trim` does what it says
 pub closings_trimmed : (queues : List Queue) (count : ℕ) (value : Closings) (owner : ℕ) (queue : Queue) (to : ℕ)
@@ -180,5 +226,5 @@ closings_trimmed queues count value owner queue to is are owned =
     let firsts = first_trimmed queues count owner queue to are owned in
     let nexts = next_trimmed queues count owner queue to are owned in
     let now : closings (set queues owner (without queue to)) count ≡ trimmed (closings queues count) owner to =
-        rw (kepts, firsts, nexts) refl in
+    rw (kepts, firsts, nexts) refl in
     now ∙ ap (λ (c : Closings). trimmed c owner to) is

@@ -1,6 +1,24 @@
 -- Steps of loops over the records of an interval.
 use Rattle.std.proofs.Common.{
-    ◌≡◌, ℕ, ◌<◌, ◌+◌, Bool, cond, Some, List, [], ◌∷◌, ◌++◌, map, find, take, drop, get_or, length, refl, ap
+  ◌≡◌,
+  ℕ,
+  ◌<◌,
+  ◌+◌,
+  Bool,
+  cond,
+  Some,
+  List,
+  [],
+  ◌∷◌,
+  ◌++◌,
+  map,
+  find,
+  take,
+  drop,
+  get_or,
+  length,
+  refl,
+  ap,
 }
 use Rattle.std.proofs.lemmas.List.{drop_more, take_more, append_assoc, map-append}
 

@@ -1,7 +1,32 @@
 -- All that was cut off happens before all that is left.
 use Rattle.std.proofs.Common.{
-    ◌≡◌, ◌≢◌, ℕ, zero, suc, ◌+◌, ◌-◌, ◌<◌, ◌≤◌, ◌⊎◌, inl, inr, List, [], ◌∷◌, ◌++◌, length, take, get_or, Bool, refl,
-    sym, ap, subst, ◌∙◌, length-append, arith
+  ◌≡◌,
+  ◌≢◌,
+  ℕ,
+  zero,
+  suc,
+  ◌+◌,
+  ◌-◌,
+  ◌<◌,
+  ◌≤◌,
+  ◌⊎◌,
+  inl,
+  inr,
+  List,
+  [],
+  ◌∷◌,
+  ◌++◌,
+  length,
+  take,
+  get_or,
+  Bool,
+  refl,
+  sym,
+  ap,
+  subst,
+  ◌∙◌,
+  length-append,
+  arith,
 }
 use Rattle.std.proofs.Math.Seq.{take-append-add}
 use Rattle.std.proofs.lemmas.Bool.{cases_eq, cases_lt, cases_order}
@@ -21,7 +46,14 @@ use Rattle.journal.specs.WellFormedFrom.{IsAway}
 use Rattle.journal.specs.Cuts.{IsBaseOf}
 use Rattle.lists.proofs.Places.{slice_get-take_within, slice_get-from_take}
 use Rattle.journal.proofs.Order.Places.{
-    at_within, at_longer, at_behind, count_of-past, count_of-within, count_of-front, NumberedAt, numbered
+  at_within,
+  at_longer,
+  at_behind,
+  count_of-past,
+  count_of-within,
+  count_of-front,
+  NumberedAt,
+  numbered,
 }
 use Rattle.journal.proofs.Order.HappensBefore.{transitive}
 use Rattle.journal.proofs.Journals.WellFormed.{well_formed_front, last_longer}
@@ -48,10 +80,15 @@ sort s c b well base = elim base.ends [
 -- how often each processor has arrived and departed in what was cut off
 pub counts : (processors : ℕ) (b : Base) (c : List Event) → Sort processors b c
     → (n : ℕ) × ((q : ℕ) → q < processors → (count_of is_arrive c q ≡ n) × (count_of is_depart c q + arrived b ≡ n))
-counts processors b c (none is arrived_is cut) =
-    (0, λ q h. (ap (λ (xs : List Event). count_of is_arrive xs q) is, let x = ap
-                    (λ (xs : List Event). count_of is_depart xs q) is in
-                omega arith))
+counts processors b c (none is arrived_is cut) = (
+  0,
+  λ q h. (
+    ap (λ (xs : List Event). count_of is_arrive xs q) is,
+    let x = ap
+        (λ (xs : List Event). count_of is_depart xs q) is in
+        omega arith,
+  ),
+)
 counts processors b c (some n arrived_is cut x) =
     (n, λ q h. (x.arrivals q h, let y = x.departures q h in omega arith))
 
@@ -59,9 +96,13 @@ counts processors b c (some n arrived_is cut x) =
 pub even : (processors : ℕ) (c j : List Event) (b : Base) → Sort processors b c
     → ((m : ℕ) (e : Event) → At j m e → e.processor < processors) → (n : ℕ) × IsEven b c j n
 even processors c j b sort present =
-    let x = counts processors b c sort in
-        (x.0, record { arrivals = λ m e at. (x.1 e.processor (present m e at)).0;
-                    departures = λ m e at. (x.1 e.processor (present m e at)).1 })
+    let x = counts processors b c sort in (
+      x.0,
+      record {
+        arrivals = λ m e at. (x.1 e.processor (present m e at)).0;
+        departures = λ m e at. (x.1 e.processor (present m e at)).1;
+      },
+    )
 
 -- the events of a well formed journal are by its processors
 pub present_left : (s : Sizes) (c j : List Event) → WellFormed s (c ++ j) → (m : ℕ) (e : Event) → At j m e
@@ -71,9 +112,11 @@ present_left s c j well m e at = (well (length c + m) e (at_behind c j m e at)).
 -- who has done nothing counts nothing
 pub count_away : (is : Kind → Bool) (j : List Event) (q : ℕ) → IsAway j q → count_of is j q ≡ 0
 count_away is j q away =
-    elim (cases_lt 0 (count_of is j q)) [ inl lt ↦
-                (let n = numbered is j q 0 lt in absurd (away n.place (event q n.kind) n.does refl))
-            | inr le ↦ omega arith ]
+    elim (cases_lt 0 (count_of is j q)) [
+      | inl lt ↦
+          (let n = numbered is j q 0 lt in absurd (away n.place (event q n.kind) n.does refl))
+      | inr le ↦ omega arith
+    ]
 
 -- a processor's first event up to one of its events
 pub record FirstOf (j : List Event) (q k : ℕ) : Type 0 where
@@ -86,8 +129,14 @@ pub record FirstOf (j : List Event) (q k : ℕ) : Type 0 where
 
 first_later : (x : Event) (xs : List Event) (q k : ℕ) → x.processor ≢ q → FirstOf xs q k → FirstOf (x ∷ xs) q (suc k)
 first_later x xs q k isnt r =
-    record { place = suc r.place; first = r.first; at = r.at; mine = r.mine;
-            up_to = (let up = r.up_to in omega arith); away = behind }
+    record {
+      place = suc r.place;
+      first = r.first;
+      at = r.at;
+      mine = r.mine;
+      up_to = (let up = r.up_to in omega arith);
+      away = behind;
+    }
   where
     behind : (m : ℕ) (f : Event) → m < suc r.place → At (x ∷ xs) m f → f.processor ≢ q
     behind zero f lt h = λ same. isnt (ap (λ (y : Event). y.processor) (same_Some x f h) ∙ same)
@@ -96,8 +145,14 @@ first_later x xs q k isnt r =
 pub first_of : (j : List Event) (q k : ℕ) (e : Event) → At j k e → e.processor ≡ q → FirstOf j q k
 first_of [] q k e at mine = absurd (none-some e at)
 first_of (x ∷ xs) q zero e at mine =
-    record { place = 0; first = x; at = refl; mine = ap (λ (y : Event). y.processor) (same_Some x e at) ∙ mine;
-            up_to = omega arith; away = λ m f lt. absurd (omega arith) }
+    record {
+      place = 0;
+      first = x;
+      at = refl;
+      mine = ap (λ (y : Event). y.processor) (same_Some x e at) ∙ mine;
+      up_to = omega arith;
+      away = λ m f lt. absurd (omega arith);
+    }
 first_of (x ∷ xs) q (suc k) e at mine = elim (cases_eq x.processor q) [
   | inl is ↦ record
       { place = 0; first = x; at = refl; mine = is; up_to = omega arith; away = λ m f lt. absurd (omega arith) }
@@ -131,11 +186,11 @@ last_arrival processors c p n within x =
         → count_of is_arrive (take last.0 c) p + 1 ≡ n
     is (inl same_place) =
         let number = at.number in let same = ap (λ m. count_of is_arrive (take m c) p) same_place in
-            omega (arith, up, arrivals)
+        omega (arith, up, arrivals)
     is (inr (inl lt)) =
         let number = at.number in
-            let past = count_of-past is_arrive c at.place last.0 p at.kind at.does at.counts lt in
-            omega (arith, up, arrivals)
+        let past = count_of-past is_arrive c at.place last.0 p at.kind at.does at.counts lt in
+        omega (arith, up, arrivals)
     is (inr (inr gt)) = absurd (last.1.last at.place (event p at.kind) gt at.does refl)
 
 -- what stands up to a place happens before what a later edge reaches
@@ -147,12 +202,12 @@ module _ (s : Sizes) (c j : List Event) (b : Base) (well : WellFormed s (c ++ j)
       let within : q < s.processors = let lt = may.processor in let mine = r.mine in omega arith in
       let last = x.last q within in
       let away : IsAway (take r.place j) q =
-          λ m f at. r.away m f (slice_get-take_within j r.place m f at) (slice_get-from_take j r.place m f at) in
+      λ m f at. r.away m f (slice_get-take_within j r.place m f at) (slice_get-from_take j r.place m f at) in
       let here : LastIs (take (length c + r.place) (c ++ j)) r.first.processor last.0 Arrive =
-          subst (λ p. LastIs (take (length c + r.place) (c ++ j)) p last.0 Arrive) (sym r.mine) (subst
-                  (λ (xs : List Event). LastIs xs q last.0 Arrive) (sym (take-append-add c j r.place))
-                  (last_longer c (take r.place j) q last.0 Arrive away last.1))
-              in
+      subst (λ p. LastIs (take (length c + r.place) (c ++ j)) p last.0 Arrive) (sym r.mine) (subst
+      (λ (xs : List Event). LastIs xs q last.0 Arrive) (sym (take-append-add c j r.place))
+      (last_longer c (take r.place j) q last.0 Arrive away last.1))
+      in
       may.answers last.0 Arrive here
 
   meet : (n p q k : ℕ) (r : FirstOf j q k) → AreEnded s.processors c n → p < s.processors → (l : LastArrival c p n)
@@ -164,17 +219,22 @@ module _ (s : Sizes) (c j : List Event) (b : Base) (well : WellFormed s (c ++ j)
       let number = l.number in
       let left = count_left is_depart c j r.place r.first.processor in
       let away =
-          count_away is_depart (take r.place j) q
-              (λ y f at. r.away y f (slice_get-take_within j r.place y f at) (slice_get-from_take j r.place y f at))
-              in
+      count_away is_depart (take r.place j) q
+      (λ y f at. r.away y f (slice_get-take_within j r.place y f at) (slice_get-from_take j r.place y f at))
+      in
       let may = well (length c + r.place) r.first (at_behind c j r.place r.first r.at) in
       let gone = x.departures r.first.processor may.processor in
       let none = ap (λ y. count_of is_depart (take r.place j) y) r.mine in
       let meeting : MeetAt (c ++ j) l.place (length c + r.place) (event p Arrive) r.first =
-          record { arrives = refl; departs = departs; episode = omega arith } in
-      edge (record { before = omega arith; from = event p Arrive; to = r.first;
-                  from_at = at_longer c j l.place (event p Arrive) l.last.does;
-                  to_at = at_behind c j r.place r.first r.at; link = meets meeting })
+      record { arrives = refl; departs = departs; episode = omega arith } in
+      edge (record {
+        before = omega arith;
+        from = event p Arrive;
+        to = r.first;
+        from_at = at_longer c j l.place (event p Arrive) l.last.does;
+        to_at = at_behind c j r.place r.first r.at;
+        link = meets meeting;
+      })
 
   pub cut_before : Sort s.processors b c → (i k : ℕ) → i < length c → k < length j
       → HappensBefore (c ++ j) i (length c + k)
@@ -209,10 +269,15 @@ module _ (s : Sizes) (c j : List Event) (b : Base) (well : WellFormed s (c ++ j)
       to_arrival : (i ≡ l.place) ⊎ ((i < l.place) ⊎ (l.place < i)) → HappensBefore (c ++ j) i (length c + r.place)
       to_arrival (inl is) = subst (λ m. HappensBefore (c ++ j) m (length c + r.place)) (sym is) met
       to_arrival (inr (inl before)) =
-          transitive (c ++ j) (edge (record { before = before; from = e; to = event e.processor Arrive;
-                          from_at = at_longer c j i e at;
-                          to_at = at_longer c j l.place (event e.processor Arrive) l.last.does; link = same refl }))
-              met
+          transitive (c ++ j) (edge (record {
+            before = before;
+            from = e;
+            to = event e.processor Arrive;
+            from_at = at_longer c j i e at;
+            to_at = at_longer c j l.place (event e.processor Arrive) l.last.does;
+            link = same refl;
+          }))
+          met
       to_arrival (inr (inr after)) = absurd (l.last.last i e after at refl)
 
       first : HappensBefore (c ++ j) i (length c + r.place)
@@ -221,7 +286,13 @@ module _ (s : Sizes) (c j : List Event) (b : Base) (well : WellFormed s (c ++ j)
       finish : (r.place ≡ k) ⊎ ((r.place < k) ⊎ (k < r.place)) → HappensBefore (c ++ j) i (length c + k)
       finish (inl is) = subst (λ m. HappensBefore (c ++ j) i (length c + m)) is first
       finish (inr (inl before)) =
-          on first (record { before = omega arith; from = r.first; to = f;
-                      from_at =
-                          at_behind c j r.place r.first r.at; to_at = at_behind c j k f to; link = same r.mine })
+          on first (record {
+            before = omega arith;
+            from = r.first;
+            to = f;
+            from_at =
+                at_behind c j r.place r.first r.at;
+            to_at = at_behind c j k f to;
+            link = same r.mine;
+          })
       finish (inr (inr after)) = absurd (let up = r.up_to in omega arith)

@@ -1,7 +1,38 @@
 -- A copy that is lawful by the history is the base's page after the stores to it in the past within what is left.
 use Rattle.std.proofs.Common.{
-    ◌≡◌, ℕ, suc, ◌+◌, ◌*◌, ◌-◌, ◌/◌, ◌%◌, ◌<◌, ◌≤◌, ◌⊎◌, inl, inr, ◌↔◌, List, ◌++◌, Option, Some, option_map, length,
-    map, take, drop, replicate, get_or, slice_get, subst, sym, refl, ap, ◌∙◌, length-append, arith
+  ◌≡◌,
+  ℕ,
+  suc,
+  ◌+◌,
+  ◌*◌,
+  ◌-◌,
+  ◌/◌,
+  ◌%◌,
+  ◌<◌,
+  ◌≤◌,
+  ◌⊎◌,
+  inl,
+  inr,
+  ◌↔◌,
+  List,
+  ◌++◌,
+  Option,
+  Some,
+  option_map,
+  length,
+  map,
+  take,
+  drop,
+  replicate,
+  get_or,
+  slice_get,
+  subst,
+  sym,
+  refl,
+  ap,
+  ◌∙◌,
+  length-append,
+  arith,
 }
 use Rattle.std.proofs.Math.Nat.{mul-le-mul_right}
 use Rattle.std.proofs.lemmas.Nat.{div-mul-add, mod-mul-add}
@@ -25,18 +56,36 @@ use Rattle.journal.specs.Base.{Base}
 use Rattle.journal.specs.OrderFrom.{InPastFrom}
 use Rattle.journal.specs.CopiesFrom.{LawfulFrom}
 use Rattle.lists.proofs.Places.{
-    slice_get-append_left, slice_get-append_right, slice_get-take, slice_get-drop, append_cases
+  slice_get-append_left,
+  slice_get-append_right,
+  slice_get-take,
+  slice_get-drop,
+  append_cases,
 }
 use Rattle.lists.proofs.Sets.{slice_get-replicate_found, same_places}
 use Rattle.lists.proofs.LastWrites.{
-    word_written, last_word, last_alone, last_exists, length-written, written-append, written_map, written_same
+  word_written,
+  last_word,
+  last_alone,
+  last_exists,
+  length-written,
+  written-append,
+  written_map,
+  written_same,
 }
 use Rattle.lists.proofs.Joined.{has-map}
 use Rattle.lists.proofs.Halves.{Halves, halves}
 use Rattle.journal.proofs.Order.Places.{at_behind}
 use Rattle.journal.proofs.Order.HappensBefore.{longer}
 use Rattle.journal.proofs.Copies.Stores.{
-    does_kind, store_writes, stores_to, store_at, stores_longer, stores_shorter, stores_within, page_after_longer
+  does_kind,
+  store_writes,
+  stores_to,
+  store_at,
+  stores_longer,
+  stores_shorter,
+  stores_within,
+  page_after_longer,
 }
 use Rattle.journal.proofs.Flat.Stores.{flat_store, not_unordered}
 use Rattle.journal.proofs.Bases.Order.{IsEven, at_left, before_back, past_from, past_back}
@@ -51,7 +100,7 @@ page_word w n o memory lt = slice_get-take (drop (n * w) memory) w o lt ∙ slic
 page_within : (pages w n o : ℕ) → n < pages → o < w → n * w + o < pages * w
 page_within pages w n o lt lt_o =
     let le : suc n * w ≤ pages * w = mul-le-mul_right w lt in let e : suc n * w ≡ n * w + w = omega arith in
-        omega arith
+    omega arith
 
 -- of events without a race, any order of a page's stores that extends happens-before makes the page of the flat memory
 module _ (s : Sizes) (c : List Event) (n : ℕ) (low : List ℕ) (free : RaceFree c)
@@ -100,8 +149,8 @@ module _ (s : Sizes) (c : List Event) (n : ℕ) (low : List ℕ) (free : RaceFre
             is (inr (inl after)) = l.last has.0 k u after has.1 (writes_at k y.processor u does)
             is (inr (inr before)) =
                 not_unordered c l.item k (event x.by (Store address v)) (event y.processor (Store address u)) lt
-                    stores does (record { address = address; first = refl; second = refl; stores = inl refl })
-                    (free l.item k) (extends has.0 l.place k l.item before has.1 l.at)
+                stores does (record { address = address; first = refl; second = refl; stores = inl refl })
+                (free l.item k) (extends has.0 l.place k l.item before has.1 l.at)
 
     last_page : (v : ℕ) → LastWrite flat c address v → LastWrite in_page low o v
     last_page v l = subst (λ w. LastWrite in_page low o w) (last_alone flat c address w.0 v (last_flat w.0 w.1) l) w.1
@@ -118,7 +167,7 @@ module _ (s : Sizes) (c : List Event) (n : ℕ) (low : List ℕ) (free : RaceFre
     -- word by word
     same_word : (size : ℕ) → address < size
         → slice_get (page_after s c (replicate s.words 0) low) o
-            ≡ slice_get (memory_after (replicate size 0) c) address
+        ≡ slice_get (memory_after (replicate size 0) c) address
     same_word size lt = go (word_written in_page (replicate s.words 0) low o word found)
       where
         word : ℕ
@@ -127,7 +176,7 @@ module _ (s : Sizes) (c : List Event) (n : ℕ) (low : List ℕ) (free : RaceFre
         found : slice_get (page_after s c (replicate s.words 0) low) o ≡ Some word
         found =
             slice_get-get_or (page_after s c (replicate s.words 0) low) o 0
-                (rw (length-written, length-replicate) within)
+            (rw (length-written, length-replicate) within)
 
         kept : ℕ
         kept = get_or (memory_after (replicate size 0) c) address 0
@@ -138,7 +187,7 @@ module _ (s : Sizes) (c : List Event) (n : ℕ) (low : List ℕ) (free : RaceFre
 
         zero_kept : word ≡ 0 → Unwritten in_page low o
             → LastWrite flat c address kept
-                ⊎ ((slice_get (replicate size 0) address ≡ Some kept) × Unwritten flat c address)
+            ⊎ ((slice_get (replicate size 0) address ≡ Some kept) × Unwritten flat c address)
             → word ≡ kept
         zero_kept is none (inl l) = let x = last_page kept l in absurd (none x.place x.item kept x.at x.writes)
         zero_kept is none (inr z) = is ∙ slice_get-replicate_found size 0 kept address z.0
@@ -146,32 +195,32 @@ module _ (s : Sizes) (c : List Event) (n : ℕ) (low : List ℕ) (free : RaceFre
         go : LastWrite in_page low o word
             ⊎ ((slice_get (replicate s.words 0) o ≡ Some word) × Unwritten in_page low o)
             → slice_get (page_after s c (replicate s.words 0) low) o
-                ≡ slice_get (memory_after (replicate size 0) c) address
+            ≡ slice_get (memory_after (replicate size 0) c) address
         go (inl l) =
             found ∙ sym (last_word flat (replicate size 0) c address word (rw length-replicate lt) (last_flat word l))
         go (inr z) =
             found
-                ∙ ap Some (zero_kept (sym (slice_get-replicate_found s.words 0 word o z.0)) z.1
-                        (word_written flat (replicate size 0) c address kept found_kept))
-                ∙ sym found_kept
+            ∙ ap Some (zero_kept (sym (slice_get-replicate_found s.words 0 word o z.0)) z.1
+            (word_written flat (replicate size 0) c address kept found_kept))
+            ∙ sym found_kept
 
   pub page_kept : n < s.pages
       → page_after s c (replicate s.words 0) low
-          ≡ take s.words (drop (n * s.words) (memory_after (replicate (addresses s) 0) c))
+      ≡ take s.words (drop (n * s.words) (memory_after (replicate (addresses s) 0) c))
   page_kept lt =
       same_places (page_after s c (replicate s.words 0) low)
-          (take s.words (drop (n * s.words) (memory_after (replicate (addresses s) 0) c))) each_word
+      (take s.words (drop (n * s.words) (memory_after (replicate (addresses s) 0) c))) each_word
     where
       each_word : (o : ℕ)
           → slice_get (page_after s c (replicate s.words 0) low) o
-              ≡ slice_get (take s.words (drop (n * s.words) (memory_after (replicate (addresses s) 0) c))) o
+          ≡ slice_get (take s.words (drop (n * s.words) (memory_after (replicate (addresses s) 0) c))) o
       each_word o = elim (cases_lt o s.words) [
         | inl inside ↦ same_word o inside (addresses s) (page_within s.pages s.words n o lt inside)
             ∙ sym (page_word s.words n o (memory_after (replicate (addresses s) 0) c) inside)
         | inr past ↦ slice_get_past (page_after s c (replicate s.words 0) low) o
-                (rw (length-written, length-replicate) past)
+            (rw (length-written, length-replicate) past)
             ∙ sym (slice_get_past (take s.words (drop (n * s.words) (memory_after (replicate (addresses s) 0) c))) o
-                    (simp length-take (omega arith)))
+            (simp length-take (omega arith)))
       ]
 
 -- where what was cut off has no race, leaves this memory, happens before all that is left, and p knows of it
@@ -187,7 +236,7 @@ module _ (s : Sizes) (c j : List Event) (b : Base) (m : ℕ) (even : IsEven b c 
     | inl early ↦ (let all = length-append c j in
         let is : length c + (i - length c) ≡ i = omega arith in
         absurd (extends x y i k lt at to (subst (HappensBefore (c ++ j) k) is
-                    (before k (i - length c) early (omega (arith, within i (x, at)))))))
+        (before k (i - length c) early (omega (arith, within i (x, at)))))))
   ])
 
   module _ (page : List ℕ) (lawful : Lawful s (c ++ j) p n page) where
@@ -197,62 +246,60 @@ module _ (s : Sizes) (c j : List Event) (b : Base) (m : ℕ) (even : IsEven b c 
     at_low : (k i : ℕ) → slice_get h.low k ≡ Some i → slice_get lawful.order k ≡ Some i
     at_low k i at =
         ap (λ (xs : List ℕ). slice_get xs k) h.are
-            ∙ slice_get-append_left h.low (map (λ x. length c + x) h.high) k (slice_get_within h.low k i at) ∙ at
+        ∙ slice_get-append_left h.low (map (λ x. length c + x) h.high) k (slice_get_within h.low k i at) ∙ at
 
     at_high : (k i : ℕ) → slice_get h.high k ≡ Some i
         → slice_get lawful.order (length h.low + k) ≡ Some (length c + i)
     at_high k i at =
         ap (λ (xs : List ℕ). slice_get xs (length h.low + k)) h.are
-            ∙ slice_get-append_right h.low (map (λ x. length c + x) h.high) k
-            ∙ slice_get-map (λ x. length c + x) h.high k ∙ ap (option_map (λ x. length c + x)) at
+        ∙ slice_get-append_right h.low (map (λ x. length c + x) h.high) k
+        ∙ slice_get-map (λ x. length c + x) h.high k ∙ ap (option_map (λ x. length c + x)) at
 
     low_each : (i : ℕ) → Has h.low i ↔ StoresTo s c n i
     low_each i = (
       (λ has. stores_shorter s c j n i (h.below i has) ((lawful.each i).0 (has.0, at_low has.0 i has.1)).1),
       (λ x. let lt = stores_within s c n i x in let has = (lawful.each i).1 (known i lt, stores_longer s c j n i x) in
-              elim (append_cases h.low (map (λ y. length c + y) h.high) has.0 i
-                      (ap (λ (xs : List ℕ). slice_get xs has.0) (sym h.are) ∙ has.1))
-                  [
-        | inl low ↦ (has.0, low.1)
-        | inr high ↦
-            (let y = (has-map (λ y. length c + y) h.high i).0 (high.0, high.2) in absurd (omega (arith, y.2, lt)))
-      ]),
+          elim (append_cases h.low (map (λ y. length c + y) h.high) has.0 i
+          (ap (λ (xs : List ℕ). slice_get xs has.0) (sym h.are) ∙ has.1)) [
+            | inl low ↦ (has.0, low.1)
+            | inr high ↦
+                (let y = (has-map (λ y. length c + y) h.high i).0 (high.0, high.2) in absurd (omega (arith, y.2, lt)))
+          ]),
     )
 
     stores_left : (i : ℕ) → StoresTo s (c ++ j) n (length c + i) → StoresTo s j n i
     stores_left i x =
         stores_to s j n i x.by x.address x.value (at_left c j i (event x.by (Store x.address x.value)) x.does)
-            x.in_page
+        x.in_page
 
     stores_behind : (i : ℕ) → StoresTo s j n i → StoresTo s (c ++ j) n (length c + i)
     stores_behind i x =
         stores_to s (c ++ j) n (length c + i) x.by x.address x.value
-            (at_behind c j i (event x.by (Store x.address x.value)) x.does) x.in_page
+        (at_behind c j i (event x.by (Store x.address x.value)) x.does) x.in_page
 
     high_each : (i : ℕ) → Has h.high i ↔ (InPastFrom b j p i × StoresTo s j n i)
     high_each i = (
       (λ has. let x = (lawful.each (length c + i)).0 (length h.low + has.0, at_high has.0 i has.1) in
-              (past_from b c j m even p i x.0, stores_left i x.1)),
+          (past_from b c j m even p i x.0, stores_left i x.1)),
       (λ x. let has = (lawful.each (length c + i)).1 (past_back b c j m even p i x.0, stores_behind i x.1) in
-              elim (append_cases h.low (map (λ y. length c + y) h.high) has.0 (length c + i)
-                      (ap (λ (xs : List ℕ). slice_get xs has.0) (sym h.are) ∙ has.1))
-                  [
-        | inl low ↦ absurd (let lt = h.below (length c + i) (has.0, low.1) in omega arith)
-        | inr high ↦ (let y = (has-map (λ y. length c + y) h.high (length c + i)).0 (high.0, high.2) in
+          elim (append_cases h.low (map (λ y. length c + y) h.high) has.0 (length c + i)
+          (ap (λ (xs : List ℕ). slice_get xs has.0) (sym h.are) ∙ has.1)) [
+            | inl low ↦ absurd (let lt = h.below (length c + i) (has.0, low.1) in omega arith)
+            | inr high ↦ (let y = (has-map (λ y. length c + y) h.high (length c + i)).0 (high.0, high.2) in
                 subst (Has h.high) (omega (arith, y.2)) y.1)
-      ]),
+          ]),
     )
 
     gives : page ≡ page_after s j (page_after s c (replicate s.words 0) h.low) h.high
     gives = lawful.gives
         ∙ ap (page_after s (c ++ j) (replicate s.words 0)) h.are
         ∙ written-append (λ (i : ℕ). page_write s (slice_get (c ++ j) i)) (replicate s.words 0) h.low
-            (map (λ x. length c + x) h.high)
+        (map (λ x. length c + x) h.high)
         ∙ written_map (λ (i : ℕ). page_write s (slice_get (c ++ j) i)) (λ x. length c + x)
-            (page_after s (c ++ j) (replicate s.words 0) h.low) h.high
+        (page_after s (c ++ j) (replicate s.words 0) h.low) h.high
         ∙ written_same (λ (i : ℕ). page_write s (slice_get (c ++ j) (length c + i)))
-            (λ (i : ℕ). page_write s (slice_get j i)) (page_after s (c ++ j) (replicate s.words 0) h.low) h.high
-            (λ k i at. ap (page_write s) (slice_get-append_right c j i))
+        (λ (i : ℕ). page_write s (slice_get j i)) (page_after s (c ++ j) (replicate s.words 0) h.low) h.high
+        (λ k i at. ap (page_write s) (slice_get-append_right c j i))
         ∙ ap (λ (ws : List ℕ). page_after s j ws h.high) (page_after_longer s c j (replicate s.words 0) h.low h.below)
 
     -- a copy that is lawful by the history is lawful from the base
@@ -262,14 +309,14 @@ module _ (s : Sizes) (c j : List Event) (b : Base) (m : ℕ) (even : IsEven b c 
       each = high_each;
       once =
           λ x y i k less at to same. lawful.once (length h.low + x) (length h.low + y) (length c + i) (length c + k)
-              (omega arith) (at_high x i at) (at_high y k to) (ap (λ z. length c + z) same);
+          (omega arith) (at_high x i at) (at_high y k to) (ap (λ z. length c + z) same);
       extends =
           λ x y i k less at to back. lawful.extends (length h.low + x) (length h.low + y) (length c + i)
-              (length c + k) (omega arith) (at_high x i at) (at_high y k to) (before_back b c j m even back);
+          (length c + k) (omega arith) (at_high x i at) (at_high y k to) (before_back b c j m even back);
       gives =
           gives
-              ∙ ap (λ (ws : List ℕ). page_after s j ws h.high) (page_kept s c n h.low free low_each low_extends lt
-                      ∙ ap (λ (ws : List ℕ). take s.words (drop (n * s.words) ws)) (sym kept));
+          ∙ ap (λ (ws : List ℕ). page_after s j ws h.high) (page_kept s c n h.low free low_each low_extends lt
+          ∙ ap (λ (ws : List ℕ). take s.words (drop (n * s.words) ws)) (sym kept));
     }
       where
         low_extends : InOrder (λ i k. ¬ HappensBefore c k i) h.low

@@ -1,7 +1,27 @@
 -- One cut after another: what is left of what is left.
 use Rattle.std.proofs.Common.{
-    ◌≡◌, ℕ, ◌+◌, ◌<◌, ◌≤◌, inl, inr, ◌↔◌, List, [], ◌∷◌, ◌++◌, length, take, Some, slice_get, subst, sym, ap, ◌∙◌,
-    append_assoc, arith
+  ◌≡◌,
+  ℕ,
+  ◌+◌,
+  ◌<◌,
+  ◌≤◌,
+  inl,
+  inr,
+  ◌↔◌,
+  List,
+  [],
+  ◌∷◌,
+  ◌++◌,
+  length,
+  take,
+  Some,
+  slice_get,
+  subst,
+  sym,
+  ap,
+  ◌∙◌,
+  append_assoc,
+  arith,
 }
 use Rattle.std.proofs.Math.Seq.{take-append-add}
 use Rattle.std.proofs.lemmas.List.{take-append-le}
@@ -41,13 +61,13 @@ replays_append start c j = ((λ all. (front all, left all)), (λ both. back both
     front : Replays start (c ++ j) → Replays start c
     front all i p a v does =
         word (memory_after start (take i (c ++ j))) (memory_after start (take i c)) a v
-            (within i (at_within c i (event p (Load a v)) does))
-            (all i p a v (at_longer c j i (event p (Load a v)) does))
+        (within i (at_within c i (event p (Load a v)) does))
+        (all i p a v (at_longer c j i (event p (Load a v)) does))
 
     left : Replays start (c ++ j) → Replays (memory_after start c) j
     left all i p a v does =
         word (memory_after start (take (length c + i) (c ++ j))) (memory_after (memory_after start c) (take i j)) a v
-            (behind i) (all (length c + i) p a v (at_behind c j i (event p (Load a v)) does))
+        (behind i) (all (length c + i) p a v (at_behind c j i (event p (Load a v)) does))
 
     back : Replays start c → Replays (memory_after start c) j → Replays start (c ++ j)
     back cut rest i p a v does = elim (append_cases c j i (event p (Load a v)) does) [
@@ -70,9 +90,9 @@ module _ (s : Sizes) (c d : List Event) (b after : Base) (well : WellFormed s (c
   by_within : ends.by < s.processors
   by_within =
       ((each_push s (c ++ ends.front) (event ends.by Arrive)).0 (subst (WellFormed s) (ap
-                          (λ (xs : List Event). c ++ xs) ends.arrives
-                      ∙ sym (append_assoc c ends.front (event ends.by Arrive ∷ [])))
-                  well)).1.processor
+      (λ (xs : List Event). c ++ xs) ends.arrives
+      ∙ sym (append_assoc c ends.front (event ends.by Arrive ∷ [])))
+      well)).1.processor
 
   all : (q : ℕ) → q < s.processors → count_of is_arrive (c ++ d) ends.by ≤ count_of is_arrive (c ++ d) q
   all q within =
@@ -85,16 +105,19 @@ module _ (s : Sizes) (c d : List Event) (b after : Base) (well : WellFormed s (c
   both_free : RaceFree (c ++ d)
   both_free =
       let e = even s.processors c d b here (present_left s c d well) in
-          (race_free b c d e.0 e.1 (none_begins c d (cut_before s c d b well here) base.race_free)).1 free
+      (race_free b c d e.0 e.1 (none_begins c d (cut_before s c d b well here) base.race_free)).1 free
 
   -- and what is kept after it is what the two leave
   pub base_after : IsBaseOf s.processors (addresses s) (c ++ d) after
   base_after = record {
     after = base_append (no_base (addresses s)) b after c d base.after kept;
     ends =
-        inr (record { front = c ++ ends.front; by = ends.by;
-                    arrives = ap (λ (xs : List Event). c ++ xs) ends.arrives
-                        ∙ sym (append_assoc c ends.front (event ends.by Arrive ∷ []));
-                    all = all });
+        inr (record {
+          front = c ++ ends.front;
+          by = ends.by;
+          arrives = ap (λ (xs : List Event). c ++ xs) ends.arrives
+              ∙ sym (append_assoc c ends.front (event ends.by Arrive ∷ []));
+          all = all;
+        });
     race_free = both_free;
   }

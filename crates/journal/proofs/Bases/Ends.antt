@@ -1,6 +1,24 @@
 -- What stands at the end of an episode: every processor has arrived, and none departed.
 use Rattle.std.proofs.Common.{
-    ◌≡◌, ◌≢◌, ℕ, ◌+◌, ◌<◌, ◌≤◌, ◌⊎◌, inl, inr, List, [], ◌∷◌, ◌++◌, IsTrue, refl, ap, subst, ◌∙◌, arith
+  ◌≡◌,
+  ◌≢◌,
+  ℕ,
+  ◌+◌,
+  ◌<◌,
+  ◌≤◌,
+  ◌⊎◌,
+  inl,
+  inr,
+  List,
+  [],
+  ◌∷◌,
+  ◌++◌,
+  IsTrue,
+  refl,
+  ap,
+  subst,
+  ◌∙◌,
+  arith,
 }
 use Rattle.std.proofs.lemmas.Bool.{eq-eqb}
 use Rattle.journal.specs.declared.event.Event.{Event}
@@ -32,7 +50,7 @@ pub departs_few : (s : Sizes) (j : List Event) (p q : ℕ) → q < s.processors 
     → count_of is_depart j p ≤ count_of is_arrive j q
 departs_few s j p q within =
     push_induction (λ xs. WellFormed s xs → count_of is_depart xs p ≤ count_of is_arrive xs q) (λ well. omega arith)
-        step j
+    step j
   where
     step : (xs : List Event) (e : Event) → (WellFormed s xs → count_of is_depart xs p ≤ count_of is_arrive xs q)
         → WellFormed s (xs ++ e ∷ []) → count_of is_depart (xs ++ e ∷ []) p ≤ count_of is_arrive (xs ++ e ∷ []) q
@@ -44,20 +62,20 @@ departs_few s j p q within =
         elim (count_of-one is_depart e p) [
           | inl none ↦ omega (arith, none)
           | inr one ↦ (let all =
-                      (subst (λ k. Allowed s xs e.processor k) (kind_departs e.kind one.1) both.1.allowed).2 q within
-                      in
-                  let mine = ap (λ n. count_of is_depart xs n) one.0 in omega (arith, one.2))
+              (subst (λ k. Allowed s xs e.processor k) (kind_departs e.kind one.1) both.1.allowed).2 q within
+              in
+              let mine = ap (λ n. count_of is_depart xs n) one.0 in omega (arith, one.2))
         ]
 
 -- a processor waits at the barrier, having arrived once more than departed; or it has arrived as often as departed
 pub stands : (s : Sizes) (j : List Event) (p : ℕ) → WellFormed s j
     → ((i : ℕ) × LastIs j p i Arrive × (count_of is_arrive j p ≡ count_of is_depart j p + 1))
-        ⊎ (count_of is_arrive j p ≡ count_of is_depart j p)
+    ⊎ (count_of is_arrive j p ≡ count_of is_depart j p)
 stands s j p well = go (last_or_none j p)
   where
     go : ((i : ℕ) × (a : Kind) × LastIs j p i a) ⊎ ((m : ℕ) (f : Event) → At j m f → f.processor ≢ p)
         → ((i : ℕ) × LastIs j p i Arrive × (count_of is_arrive j p ≡ count_of is_depart j p + 1))
-            ⊎ (count_of is_arrive j p ≡ count_of is_depart j p)
+        ⊎ (count_of is_arrive j p ≡ count_of is_depart j p)
     go (inl x) = elim (kind_arrives x.1) [
       | inl is ↦
           (let last = subst (λ a. LastIs j p x.0 a) is x.2 in inl (x.0, last, (balanced s j p well).waiting x.0 last))
@@ -92,18 +110,18 @@ ended s c well x =
     once_more : count_of is_arrive c x.by ≡ count_of is_arrive x.front x.by + 1
     once_more =
         ap (λ (xs : List Event). count_of is_arrive xs x.by) x.arrives
-            ∙ count_of-append is_arrive x.front (event x.by Arrive ∷ []) x.by
-            ∙ ap (λ n. count_of is_arrive x.front x.by + n) (count_arrival x.by)
+        ∙ count_of-append is_arrive x.front (event x.by Arrive ∷ []) x.by
+        ∙ ap (λ n. count_of is_arrive x.front x.by + n) (count_arrival x.by)
 
     no_more : (q : ℕ) → count_of is_depart c q ≡ count_of is_depart x.front q + 0
     no_more q =
         ap (λ (xs : List Event). count_of is_depart xs q) x.arrives
-            ∙ count_of-append is_depart x.front (event x.by Arrive ∷ []) q
-            ∙ ap (λ n. count_of is_depart x.front q + n) (count_none x.by q)
+        ∙ count_of-append is_depart x.front (event x.by Arrive ∷ []) q
+        ∙ ap (λ n. count_of is_depart x.front q + n) (count_none x.by q)
 
     each : (q : ℕ) → q < s.processors
         → (count_of is_arrive c q ≡ count_of is_arrive c x.by)
-            × (count_of is_depart c q + 1 ≡ count_of is_arrive c x.by) × ((i : ℕ) × LastIs c q i Arrive)
+        × (count_of is_depart c q + 1 ≡ count_of is_arrive c x.by) × ((i : ℕ) × LastIs c q i Arrive)
     each q within =
         let few = departs_few s x.front q x.by by_within well_front in
         let all = x.all q within in

@@ -1,7 +1,31 @@
 -- Where a journal is cut, event by event.
 use Rattle.std.proofs.Common.{
-    ◌≡◌, ℕ, ◌+◌, ◌<◌, ◌≤◌, inl, inr, ◌↔◌, List, [], ◌∷◌, ◌++◌, Option, Some, None, MatchOption, IsTrue, length, take,
-    subst, sym, refl, ap, ◌∙◌, length-append, arith
+  ◌≡◌,
+  ℕ,
+  ◌+◌,
+  ◌<◌,
+  ◌≤◌,
+  inl,
+  inr,
+  ◌↔◌,
+  List,
+  [],
+  ◌∷◌,
+  ◌++◌,
+  Option,
+  Some,
+  None,
+  MatchOption,
+  IsTrue,
+  length,
+  take,
+  subst,
+  sym,
+  refl,
+  ap,
+  ◌∙◌,
+  length-append,
+  arith,
 }
 use Rattle.std.proofs.lemmas.Bool.{cases_lt}
 use Rattle.std.proofs.lemmas.List.{take-append-le}
@@ -21,37 +45,43 @@ arrival _ h = absurd cc
 -- a journal ends an episode exactly where its last event is an arrival, and every processor has arrived as often
 pub ends_push : (processors : ℕ) (xs : List Event) (e : Event)
     → EndsEpisode processors (xs ++ e ∷ [])
-        ↔ (IsTrue (is_arrive e.kind)
-                × ((q : ℕ) → q < processors
-                        → count_of is_arrive (xs ++ e ∷ []) e.processor ≤ count_of is_arrive (xs ++ e ∷ []) q))
+    ↔ (IsTrue (is_arrive e.kind)
+    × ((q : ℕ) → q < processors
+    → count_of is_arrive (xs ++ e ∷ []) e.processor ≤ count_of is_arrive (xs ++ e ∷ []) q))
 ends_push processors xs e = (there, back)
   where
     there : EndsEpisode processors (xs ++ e ∷ [])
         → IsTrue (is_arrive e.kind)
-            × ((q : ℕ) → q < processors
-                    → count_of is_arrive (xs ++ e ∷ []) e.processor ≤ count_of is_arrive (xs ++ e ∷ []) q)
+        × ((q : ℕ) → q < processors
+        → count_of is_arrive (xs ++ e ∷ []) e.processor ≤ count_of is_arrive (xs ++ e ∷ []) q)
     there x =
         let long = length-append xs (e ∷ []) in
         let long_front = length-append x.front (event x.by Arrive ∷ []) in
         let same = ap (λ (ys : List Event). length ys) x.arrives in
         let at : length x.front ≡ length xs = omega arith in
         let is : e ≡ event x.by Arrive =
-            at_same (xs ++ e ∷ []) (length xs) e (event x.by Arrive) (at_last xs e) (subst
-                    (λ n. At (xs ++ e ∷ []) n (event x.by Arrive)) at (subst
-                        (λ (ys : List Event). At ys (length x.front) (event x.by Arrive)) (sym x.arrives)
-                        (at_last x.front (event x.by Arrive))))
-                in
-        let by : e.processor ≡ x.by = ap (λ (y : Event). y.processor) is in
-        (ap (λ (y : Event). is_arrive y.kind) is, λ q h. subst
-                (λ p. count_of is_arrive (xs ++ e ∷ []) p ≤ count_of is_arrive (xs ++ e ∷ []) q) (sym by) (x.all q h))
+        at_same (xs ++ e ∷ []) (length xs) e (event x.by Arrive) (at_last xs e) (subst
+        (λ n. At (xs ++ e ∷ []) n (event x.by Arrive)) at (subst
+        (λ (ys : List Event). At ys (length x.front) (event x.by Arrive)) (sym x.arrives)
+        (at_last x.front (event x.by Arrive))))
+        in
+        let by : e.processor ≡ x.by = ap (λ (y : Event). y.processor) is in (
+          ap (λ (y : Event). is_arrive y.kind) is,
+          λ q h. subst
+              (λ p. count_of is_arrive (xs ++ e ∷ []) p ≤ count_of is_arrive (xs ++ e ∷ []) q) (sym by) (x.all q h),
+        )
 
     back : IsTrue (is_arrive e.kind)
         × ((q : ℕ) → q < processors
-                → count_of is_arrive (xs ++ e ∷ []) e.processor ≤ count_of is_arrive (xs ++ e ∷ []) q)
+        → count_of is_arrive (xs ++ e ∷ []) e.processor ≤ count_of is_arrive (xs ++ e ∷ []) q)
         → EndsEpisode processors (xs ++ e ∷ [])
     back x =
-        record { front = xs; by = e.processor;
-                arrives = ap (λ k. xs ++ event e.processor k ∷ []) (arrival e.kind x.0); all = x.1 }
+        record {
+          front = xs;
+          by = e.processor;
+          arrives = ap (λ k. xs ++ event e.processor k ∷ []) (arrival e.kind x.0);
+          all = x.1;
+        }
 
 module _ (processors : ℕ) (xs : List Event) (e : Event) where
   front_is : (n : ℕ) → n ≤ length xs → take n (xs ++ e ∷ []) ≡ take n xs
@@ -77,17 +107,21 @@ module _ (processors : ℕ) (xs : List Event) (e : Event) where
       at_end : (n : ℕ) → length xs < n → n ≤ length (xs ++ e ∷ []) → ¬ EndsEpisode processors (take n (xs ++ e ∷ []))
       at_end n lt le ends =
           (let long = length-append xs (e ∷ []) in let is : n ≡ length xs + 1 = omega arith in
-                  isnt (subst (EndsEpisode processors) (ap (λ m. take m (xs ++ e ∷ [])) is ∙ whole) ends))
+          isnt (subst (EndsEpisode processors) (ap (λ m. take m (xs ++ e ∷ [])) is ∙ whole) ends))
 
       go : (o' : Option ℕ) → MatchOption o' (NoCut processors xs) (IsCut processors xs)
           → MatchOption o' (NoCut processors (xs ++ e ∷ [])) (IsCut processors (xs ++ e ∷ []))
       go None none =
-          λ n le ends. elim (cases_lt (length xs) n) [ inl lt ↦ at_end n lt le ends
-                  | inr old ↦ none n old (subst (EndsEpisode processors) (front_is n old) ends) ]
+          λ n le ends. elim (cases_lt (length xs) n) [
+            | inl lt ↦ at_end n lt le ends
+            | inr old ↦ none n old (subst (EndsEpisode processors) (front_is n old) ends)
+          ]
       go (Some n) cut = record {
         within = (let long = length-append xs (e ∷ []) in let within = cut.within in omega arith);
         ends = subst (EndsEpisode processors) (sym (front_is n cut.within)) cut.ends;
         last =
-            λ m le ends. elim (cases_lt (length xs) m) [ inl lt ↦ absurd (at_end m lt le ends)
-                    | inr old ↦ cut.last m old (subst (EndsEpisode processors) (front_is m old) ends) ];
+            λ m le ends. elim (cases_lt (length xs) m) [
+              | inl lt ↦ absurd (at_end m lt le ends)
+              | inr old ↦ cut.last m old (subst (EndsEpisode processors) (front_is m old) ends)
+            ];
       }

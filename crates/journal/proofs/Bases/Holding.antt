@@ -1,6 +1,22 @@
 -- What is kept after one list of events and then another: the memory, who holds which lock, which flags are set, and the costs.
 use Rattle.std.proofs.Common.{
-    ◌≡◌, ℕ, ◌+◌, inl, inr, ◌↔◌, List, [], ◌++◌, length, sym, refl, ap, ◌∙◌, length-append, add_assoc, arith
+  ◌≡◌,
+  ℕ,
+  ◌+◌,
+  inl,
+  inr,
+  ◌↔◌,
+  List,
+  [],
+  ◌++◌,
+  length,
+  sym,
+  refl,
+  ap,
+  ◌∙◌,
+  length-append,
+  add_assoc,
+  arith,
 }
 use Rattle.std.proofs.lemmas.List.Sums.{sum_by-append}
 use Rattle.std.proofs.lemmas.Option.{none-some}
@@ -36,19 +52,29 @@ module _ (b after : Base) (c j : List Event) where
   module _ (p l : ℕ) (kept : Has after.holders (p, l) ↔ HoldsFrom b c p l) where
     pub holds_from_both : HoldsFrom b (c ++ j) p l → HoldsFrom after j p l
     holds_from_both (inr still) =
-        inr (record { held = kept.1 (inr (record { held = still.held;
-                                    keeps = λ k does. still.keeps k (at_longer c j k (event p (Release l)) does) }));
-                    keeps = λ k does. still.keeps (length c + k) (at_behind c j k (event p (Release l)) does) })
+        inr (record {
+          held = kept.1 (inr (record {
+            held = still.held;
+            keeps = λ k does. still.keeps k (at_longer c j k (event p (Release l)) does);
+          }));
+          keeps = λ k does. still.keeps (length c + k) (at_behind c j k (event p (Release l)) does);
+        })
     holds_from_both (inl h) = elim (append_cases c j h.place (event p (Acquire l)) h.acquires) [
       | inl cut ↦ inr (record {
         held =
-            kept.1 (inl (record { place = h.place; acquires = cut.1;
-                            keeps = λ k lt does. h.keeps k lt (at_longer c j k (event p (Release l)) does) }));
+            kept.1 (inl (record {
+              place = h.place;
+              acquires = cut.1;
+              keeps = λ k lt does. h.keeps k lt (at_longer c j k (event p (Release l)) does);
+            }));
         keeps = λ k does. h.keeps (length c + k) (omega (arith, cut.0)) (at_behind c j k (event p (Release l)) does);
       })
-      | inr left ↦ inl (record { place = left.0; acquires = left.2;
-                  keeps = λ k lt does. h.keeps (length c + k) (omega (arith, left.1))
-                      (at_behind c j k (event p (Release l)) does) })
+      | inr left ↦ inl (record {
+        place = left.0;
+        acquires = left.2;
+        keeps = λ k lt does. h.keeps (length c + k) (omega (arith, left.1))
+            (at_behind c j k (event p (Release l)) does);
+      })
     ]
 
     holds_on : HoldsFrom b c p l → ((k : ℕ) → ¬ Does j k p (Release l)) → HoldsFrom b (c ++ j) p l
@@ -57,12 +83,14 @@ module _ (b after : Base) (c j : List Event) where
       acquires = at_longer c j h.place (event p (Acquire l)) h.acquires;
       keeps =
           λ k lt does. elim (append_cases c j k (event p (Release l)) does)
-              [ inl cut ↦ h.keeps k lt cut.1 | inr left ↦ none left.0 left.2 ];
+          [ inl cut ↦ h.keeps k lt cut.1 | inr left ↦ none left.0 left.2 ];
     })
     holds_on (inr still) none =
-        inr (record { held = still.held;
-                    keeps = λ k does. elim (append_cases c j k (event p (Release l)) does)
-                        [ inl cut ↦ still.keeps k cut.1 | inr left ↦ none left.0 left.2 ] })
+        inr (record {
+          held = still.held;
+          keeps = λ k does. elim (append_cases c j k (event p (Release l)) does)
+              [ inl cut ↦ still.keeps k cut.1 | inr left ↦ none left.0 left.2 ];
+        })
 
     pub both_from_holds : HoldsFrom after j p l → HoldsFrom b (c ++ j) p l
     both_from_holds (inl h) = inl (record {
@@ -70,7 +98,7 @@ module _ (b after : Base) (c j : List Event) where
       acquires = at_behind c j h.place (event p (Acquire l)) h.acquires;
       keeps =
           λ k lt does. elim (append_cases c j k (event p (Release l)) does)
-              [ inl cut ↦ omega (arith, cut.0) | inr left ↦ h.keeps left.0 (omega (arith, left.1)) left.2 ];
+          [ inl cut ↦ omega (arith, cut.0) | inr left ↦ h.keeps left.0 (omega (arith, left.1)) left.2 ];
     })
     both_from_holds (inr still) = holds_on (kept.0 still.held) still.keeps
 
@@ -79,13 +107,15 @@ module _ (b after : Base) (c j : List Event) where
     set_from_both (inl has) = inl (kept.1 (inl has))
     set_from_both (inr set) =
         elim (append_cases c j set.0 (event set.1 (Set f)) set.2)
-            [ inl cut ↦ inl (kept.1 (inr (set.0, set.1, cut.1))) | inr left ↦ inr (left.0, set.1, left.2) ]
+        [ inl cut ↦ inl (kept.1 (inr (set.0, set.1, cut.1))) | inr left ↦ inr (left.0, set.1, left.2) ]
 
     pub both_from_set : IsSetFrom after j f → IsSetFrom b (c ++ j) f
     both_from_set (inr left) = inr (length c + left.0, left.1, at_behind c j left.0 (event left.1 (Set f)) left.2)
     both_from_set (inl has) =
-        elim (kept.0 has) [ inl before ↦ inl before
-                | inr set ↦ inr (set.0, set.1, at_longer c j set.0 (event set.1 (Set f)) set.2) ]
+        elim (kept.0 has) [
+          | inl before ↦ inl before
+          | inr set ↦ inr (set.0, set.1, at_longer c j set.0 (event set.1 (Set f)) set.2)
+        ]
 
 -- nothing leaves what is kept
 pub base_stays : (b : Base) → IsBaseAfter b [] b
@@ -93,11 +123,16 @@ base_stays b = record {
   cut = omega arith;
   memory = refl;
   holders =
-      λ p l. ((λ has. inr (record { held = has; keeps = λ k does. none-some (event p (Release l)) does })), (λ h. elim
-                  h [ inl holds ↦ absurd (none-some (event p (Acquire l)) holds.acquires) | inr still ↦ still.held ]));
+      λ p l. (
+        (λ has. inr (record { held = has; keeps = λ k does. none-some (event p (Release l)) does })),
+        (λ h. elim
+            h [ inl holds ↦ absurd (none-some (event p (Acquire l)) holds.acquires) | inr still ↦ still.held ]),
+      );
   flags =
-      λ f. ((λ has. inl has),
-              (λ h. elim h [ inl has ↦ has | inr set ↦ absurd (none-some (event set.1 (Set f)) set.2) ]));
+      λ f. (
+        (λ has. inl has),
+        (λ h. elim h [ inl has ↦ has | inr set ↦ absurd (none-some (event set.1 (Set f)) set.2) ]),
+      );
   messages_are = omega arith;
   records_are = omega arith;
   words_are = omega arith;
@@ -109,21 +144,25 @@ pub base_append : (b after last : Base) (c j : List Event) → IsBaseAfter b c a
 base_append b after last c j x y = record {
   cut =
       y.cut ∙ ap (λ n. n + length j) x.cut ∙ add_assoc b.cut (length c) (length j)
-          ∙ ap (λ n. b.cut + n) (sym (length-append c j));
+      ∙ ap (λ n. b.cut + n) (sym (length-append c j));
   memory = y.memory ∙ ap (λ (ws : List ℕ). memory_after ws j) x.memory ∙ sym (memory_after-append b.memory c j);
   holders =
-      λ p l. ((λ has. both_from_holds b after c j p l (x.holders p l) ((y.holders p l).0 has)),
-              (λ h. (y.holders p l).1 (holds_from_both b after c j p l (x.holders p l) h)));
+      λ p l. (
+        (λ has. both_from_holds b after c j p l (x.holders p l) ((y.holders p l).0 has)),
+        (λ h. (y.holders p l).1 (holds_from_both b after c j p l (x.holders p l) h)),
+      );
   flags =
-      λ f. ((λ has. both_from_set b after c j f (x.flags f) ((y.flags f).0 has)),
-              (λ h. (y.flags f).1 (set_from_both b after c j f (x.flags f) h)));
+      λ f. (
+        (λ has. both_from_set b after c j f (x.flags f) ((y.flags f).0 has)),
+        (λ h. (y.flags f).1 (set_from_both b after c j f (x.flags f) h)),
+      );
   messages_are =
       (let old = x.messages_are in let more = y.messages_are in
-              omega (arith, sum_by-append (λ (e : Event). messages_of e.kind) c j));
+      omega (arith, sum_by-append (λ (e : Event). messages_of e.kind) c j));
   records_are =
       (let old = x.records_are in let more = y.records_are in
-              omega (arith, sum_by-append (λ (e : Event). records_of e.kind) c j));
+      omega (arith, sum_by-append (λ (e : Event). records_of e.kind) c j));
   words_are =
       (let old = x.words_are in let more = y.words_are in
-              omega (arith, sum_by-append (λ (e : Event). words_of e.kind) c j));
+      omega (arith, sum_by-append (λ (e : Event). words_of e.kind) c j));
 }

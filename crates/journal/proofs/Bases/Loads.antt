@@ -1,7 +1,30 @@
 -- Loads of what is left are explained from the base exactly where they are by the history.
 use Rattle.std.proofs.Common.{
-    ◌≡◌, ℕ, suc, ◌+◌, ◌<◌, ◌⊎◌, inl, inr, ◌↔◌, List, ◌++◌, Option, Some, length, replicate, get_or, slice_get,
-    slice_index, unwrap_or, subst, sym, refl, ap, ◌∙◌, arith
+  ◌≡◌,
+  ℕ,
+  suc,
+  ◌+◌,
+  ◌<◌,
+  ◌⊎◌,
+  inl,
+  inr,
+  ◌↔◌,
+  List,
+  ◌++◌,
+  Option,
+  Some,
+  length,
+  replicate,
+  get_or,
+  slice_get,
+  slice_index,
+  unwrap_or,
+  subst,
+  sym,
+  refl,
+  ap,
+  ◌∙◌,
+  arith,
 }
 use Rattle.std.proofs.lemmas.Bool.{cases_lt, cases_order}
 use Rattle.std.proofs.lemmas.List.{length-replicate}
@@ -43,23 +66,25 @@ last_or_none c a =
     found : slice_get (written flat (replicate (suc a) 0) c) a ≡ Some word
     found =
         slice_get-get_or (written flat (replicate (suc a) 0) c) a 0
-            (rw (length-written, length-replicate) (omega arith))
+        (rw (length-written, length-replicate) (omega arith))
 
 -- the word of the memory is what was stored last
 pub last_kept : (size : ℕ) (c : List Event) (a v : ℕ) → a < size → LastWrite flat c a v
     → slice_index (memory_after (replicate size 0) c) a ≡ v
 last_kept size c a v lt l =
     get_or_from_slice_get (memory_after (replicate size 0) c) a v 0
-        (last_word flat (replicate size 0) c a v (rw length-replicate lt) l)
+    (last_word flat (replicate size 0) c a v (rw length-replicate lt) l)
 
 -- and 0 where nothing was
 pub none_kept : (size : ℕ) (c : List Event) (a : ℕ) → Unwritten flat c a
     → slice_index (memory_after (replicate size 0) c) a ≡ 0
 none_kept size c a none =
-    elim (cases_lt a size) [ inl lt ↦ go (word_written flat (replicate size 0) c a word (found lt))
-            | inr le ↦ sym (unwrap_or-slice_get memory a 0)
-                ∙ ap (λ (o : Option ℕ). unwrap_or o 0)
-                    (slice_get_past memory a (rw (length-written, length-replicate) le)) ]
+    elim (cases_lt a size) [
+      | inl lt ↦ go (word_written flat (replicate size 0) c a word (found lt))
+      | inr le ↦ sym (unwrap_or-slice_get memory a 0)
+          ∙ ap (λ (o : Option ℕ). unwrap_or o 0)
+          (slice_get_past memory a (rw (length-written, length-replicate) le))
+    ]
   where
     memory : List ℕ
     memory = memory_after (replicate size 0) c
@@ -101,8 +126,8 @@ module _ (s : Sizes) (c j : List Event) (b : Base) (n : ℕ) (well : WellFormed 
       → ((i q w : ℕ) → Does c i q (Store a w) → ¬ HappensBefore c m i) → slice_index b.memory a ≡ v
   latest_kept m p a v does latest =
       ap (λ (ws : List ℕ). slice_index ws a) base.after.memory
-          ∙ last_kept (addresses s) c a l.0 (well m (event p (Store a v)) does).in_range l.1
-          ∙ is (cases_order m l.1.place)
+      ∙ last_kept (addresses s) c a l.0 (well m (event p (Store a v)) does).in_range l.1
+      ∙ is (cases_order m l.1.place)
     where
       l : (w : ℕ) × LastWrite flat c a w
       l = last_exists flat c m a v (event p (Store a v)) does refl
@@ -113,31 +138,33 @@ module _ (s : Sizes) (c j : List Event) (b : Base) (n : ℕ) (well : WellFormed 
       is : (m ≡ l.1.place) ⊎ ((m < l.1.place) ⊎ (l.1.place < m)) → l.0 ≡ v
       is (inl same) =
           sym (store_same c l.1.place p l.1.item.processor a a v l.0 (subst (λ i. Does c i p (Store a v)) same does)
-                  stores).2
+          stores).2
       is (inr (inl lt)) =
           absurd (not_unordered c m l.1.place (event p (Store a v)) (event l.1.item.processor (Store a l.0)) lt does
-                  stores (record { address = a; first = refl; second = refl; stores = inl refl })
-                  (base.race_free m l.1.place) (latest l.1.place l.1.item.processor l.0 stores))
+          stores (record { address = a; first = refl; second = refl; stores = inl refl })
+          (base.race_free m l.1.place) (latest l.1.place l.1.item.processor l.0 stores))
       is (inr (inr gt)) = absurd (l.1.last m (event p (Store a v)) v gt does refl)
 
   answer_from : (k a v : ℕ) → k < length j → IsAnswer (c ++ j) (length c + k) a v → IsAnswerFrom b j k a v
   answer_from k a v lt (inl none) =
-      inl (none.0
-              ∙ sym
-                  (ap (λ (ws : List ℕ). slice_index ws a) base.after.memory ∙ none_kept (addresses s) c a unwritten),
-                  λ i q w does h. none.1 (length c + i) q w (at_behind c j i (event q (Store a w)) does)
-                  (before_back b c j n even h))
+      inl (
+        none.0
+            ∙ sym
+            (ap (λ (ws : List ℕ). slice_index ws a) base.after.memory ∙ none_kept (addresses s) c a unwritten),
+        λ i q w does h. none.1 (length c + i) q w (at_behind c j i (event q (Store a w)) does)
+            (before_back b c j n even h),
+      )
     where
       unwritten : Unwritten flat c a
       unwritten m y u at writes =
           none.1 m y.processor u (at_longer c j m (event y.processor (Store a u))
-                  (does_kind c m y (Store a u) at (flat_store y.kind a u writes)))
-              (before m k (at_within c m y at) lt)
+          (does_kind c m y (Store a u) at (flat_store y.kind a u writes)))
+          (before m k (at_within c m y at) lt)
   answer_from k a v lt (inr l) = elim (append_cases c j l.place (event l.by (Store a v)) l.stores) [
     | inl cut ↦ inl (
       sym (latest_kept l.place l.by a v cut.1 (λ i q w does h. l.latest i q w
-                  (at_longer c j i (event q (Store a w)) does)
-                  (before i k (at_within c i (event q (Store a w)) does) lt) (longer c j h))),
+          (at_longer c j i (event q (Store a w)) does)
+          (before i k (at_within c i (event q (Store a w)) does) lt) (longer c j h))),
       λ i q w does h. l.latest (length c + i) q w (at_behind c j i (event q (Store a w)) does)
           (before_back b c j n even h) (before l.place i cut.0 (at_within j i (event q (Store a w)) does)),
     )
@@ -149,8 +176,8 @@ module _ (s : Sizes) (c j : List Event) (b : Base) (n : ℕ) (well : WellFormed 
           before_from b c j n even left.0 k (subst (λ m. HappensBefore (c ++ j) m (length c + k)) left.1 l.before);
       latest =
           λ i q w does h on. l.latest (length c + i) q w (at_behind c j i (event q (Store a w)) does)
-              (before_back b c j n even h)
-              (subst (λ m. HappensBefore (c ++ j) m (length c + i)) (sym left.1) (before_back b c j n even on));
+          (before_back b c j n even h)
+          (subst (λ m. HappensBefore (c ++ j) m (length c + i)) (sym left.1) (before_back b c j n even on));
     })
   ]
 
@@ -170,16 +197,16 @@ module _ (s : Sizes) (c j : List Event) (b : Base) (n : ℕ) (well : WellFormed 
           let stores = last_stores c a l.0 l.1 in
           let in_c = at_within c l.1.place l.1.item l.1.at in
           let is : l.0 ≡ v =
-              sym (word
-                      ∙ last_kept (addresses s) c a l.0
-                          (well l.1.place (event l.1.item.processor (Store a l.0)) stores).in_range l.1)
-                  in
+          sym (word
+          ∙ last_kept (addresses s) c a l.0
+          (well l.1.place (event l.1.item.processor (Store a l.0)) stores).in_range l.1)
+          in
           inr (record {
             place = l.1.place;
             by = l.1.item.processor;
             stores =
                 at_longer c j l.1.place (event l.1.item.processor (Store a v))
-                    (subst (λ w. Does c l.1.place l.1.item.processor (Store a w)) is stores);
+                (subst (λ w. Does c l.1.place l.1.item.processor (Store a w)) is stores);
             before = before l.1.place k in_c lt;
             latest = λ i q w does h on. elim (append_cases c j i (event q (Store a w)) does) [
               | inl cut ↦ l.1.last i (event q (Store a w)) w (goes_forward (c ++ j) on) cut.1 refl
@@ -187,11 +214,16 @@ module _ (s : Sizes) (c j : List Event) (b : Base) (n : ℕ) (well : WellFormed 
             ];
           })
       go (inr none) =
-          inl (word
-                  ∙ none_kept (addresses s) c a none, λ i q w does h. elim
-                      (append_cases c j i (event q (Store a w)) does) [ inl cut ↦ none i (event q (Store a w)) w cut.1
-                              refl
-                          | inr left ↦ untouched i q w left.0 left.1 left.2 h ])
+          inl (
+            word
+                ∙ none_kept (addresses s) c a none,
+            λ i q w does h. elim
+                (append_cases c j i (event q (Store a w)) does) [
+                  | inl cut ↦ none i (event q (Store a w)) w cut.1
+                      refl
+                  | inr left ↦ untouched i q w left.0 left.1 left.2 h
+                ],
+          )
   answer_back k a v lt (inr l) = inr (record {
     place = length c + l.place;
     by = l.by;
@@ -201,8 +233,8 @@ module _ (s : Sizes) (c j : List Event) (b : Base) (n : ℕ) (well : WellFormed 
       | inl cut ↦ (let forward = goes_forward (c ++ j) on in omega (arith, cut.0))
       | inr left ↦ l.latest left.0 q w left.2
           (before_from b c j n even left.0 k (subst (λ m. HappensBefore (c ++ j) m (length c + k)) left.1 h))
-              (before_from b c j n even l.place left.0
-              (subst (λ m. HappensBefore (c ++ j) (length c + l.place) m) left.1 on))
+          (before_from b c j n even l.place left.0
+          (subst (λ m. HappensBefore (c ++ j) (length c + l.place) m) left.1 on))
     ];
   })
 
@@ -213,7 +245,7 @@ module _ (s : Sizes) (c j : List Event) (b : Base) (n : ℕ) (well : WellFormed 
       left : Explained (c ++ j) → ExplainedFrom b j
       left all k p a v does =
           answer_from k a v (at_within j k (event p (Load a v)) does)
-              (all (length c + k) p a v (at_behind c j k (event p (Load a v)) does))
+          (all (length c + k) p a v (at_behind c j k (event p (Load a v)) does))
 
       back : Explained c → ExplainedFrom b j → Explained (c ++ j)
       back cut rest k p a v does = elim (append_cases c j k (event p (Load a v)) does) [
@@ -225,4 +257,4 @@ module _ (s : Sizes) (c j : List Event) (b : Base) (n : ℕ) (well : WellFormed 
       front : Explained (c ++ j) → Explained c
       front all k p a v does =
           explained_front c j k a v (at_within c k (event p (Load a v)) does)
-              (all k p a v (at_longer c j k (event p (Load a v)) does))
+          (all k p a v (at_longer c j k (event p (Load a v)) does))

@@ -39,7 +39,7 @@ module _ (processors : ℕ) (xs : List Event) (x : IsOpening processors xs) wher
         (let first = numbered is_arrive xs q 0 (omega arith) in
         let second = numbered is_arrive xs q 1 more in
         let same : first.place ≡ second.place =
-            (here first.place q first.kind first.does).0 ∙ sym (here second.place q second.kind second.does).0 in
+        (here first.place q first.kind first.does).0 ∙ sym (here second.place q second.kind second.does).0 in
         let number = first.number in
         let other = second.number in
         let alike = ap (λ n. count_of is_arrive (take n xs) q) same in
@@ -50,7 +50,7 @@ module _ (processors : ℕ) (xs : List Event) (x : IsOpening processors xs) wher
   departs_never q = elim (cases_lt 0 (count_of is_depart xs q)) [
     | inr le ↦ omega arith
     | inl more ↦ (let n = numbered is_depart xs q 0 more in let counts = n.counts in
-            absurd (cc (counts, ap (λ k. is_depart k) (here n.place q n.kind n.does).1)))
+        absurd (cc (counts, ap (λ k. is_depart k) (here n.place q n.kind n.does).1)))
   ]
 
   pub opening_even : (b : Base) (j : List Event) → arrived b ≡ 1 → ProcessorsInRange processors j → IsEven b xs j 1
@@ -64,7 +64,7 @@ module _ (processors : ℕ) (xs : List Event) (x : IsOpening processors xs) wher
   opening_races j i k lt r = elim (append_cases xs j i r.first r.first_at) [
     | inr left ↦ absurd (omega (arith, left.1))
     | inl first ↦ (let is = (here i r.first.processor r.first.kind first.1).1 in
-            none-some r.conflict.address (sym (ap (λ a. address_of a) is) ∙ r.conflict.first))
+        none-some r.conflict.address (sym (ap (λ a. address_of a) is) ∙ r.conflict.first))
   ]
 
 -- what stands before a journal for the race checker: arrivals of all where something was cut off, and else nothing
@@ -81,14 +81,14 @@ pub opened : (b : Base) (processors first count : ℕ) (items : List Event)
     → IsOpening processors (take processors items) → ProcessorsInRange processors items
     → ((b.cut ≡ 0) × (first ≡ processors)) ⊎ ((b.cut ≢ 0) × (first ≡ 0))
     → IsOpened b (take (processors + count - first) (drop first items)) (take count (drop processors items))
-        (processors - first)
+    (processors - first)
 opened b processors first count items opening present (inl none) = record {
   opening = [];
   number = 0;
   is =
       (let all : processors + count - first ≡ count = let x = none.1 in omega arith in
-              subst₂ (λ (m n : ℕ). take m (drop n items) ≡ take count (drop processors items)) (sym all) (sym none.1)
-                  refl);
+      subst₂ (λ (m n : ℕ). take m (drop n items) ≡ take count (drop processors items)) (sym all) (sym none.1)
+      refl);
   long = (let x = none.1 in omega arith);
   even = record { arrivals = λ m e at. refl; departures = λ m e at. (let x = none.0 in omega arith) };
   none = λ i k lt. absurd (omega arith);
@@ -98,14 +98,14 @@ opened b processors first count items opening present (inr some) = record {
   number = 1;
   is =
       (let all : processors + count - first ≡ processors + count = let x = some.1 in omega arith in
-              subst₂
-                  (λ (m n : ℕ). take m (drop n items) ≡ take processors items ++ take count (drop processors items))
-                  (sym all) (sym some.1) (take-add processors count items));
+      subst₂
+      (λ (m n : ℕ). take m (drop n items) ≡ take processors items ++ take count (drop processors items))
+      (sym all) (sym some.1) (take-add processors count items));
   long = (let x = some.1 in opening.long ∙ omega arith);
   even =
       opening_even processors (take processors items) opening b (take count (drop processors items))
-          (let x = some.0 in omega arith)
-          (λ i e at. present (processors + i) e (behind processors count items i e at));
+      (let x = some.0 in omega arith)
+      (λ i e at. present (processors + i) e (behind processors count items i e at));
   none = opening_races processors (take processors items) opening (take count (drop processors items));
 }
 
@@ -121,7 +121,9 @@ module _ (b : Base) (checked j : List Event) (size : ℕ) (x : IsOpened b checke
       let split = race_split b x.opening j x.number x.even x.none i k here.race in
       let long = x.long in
       let from : i ≡ length x.opening + (i - size) = omega (arith, split.2) in
-      let to : k ≡ length x.opening + (k - size) = omega (arith, split.3) in
-      (omega (arith, split.2), omega (arith, split.3),
-              (first_race b x.opening j x.number x.even x.none (i - size) (k - size)).0
-              (subst₂ (IsFirstRace (x.opening ++ j)) from to here))
+      let to : k ≡ length x.opening + (k - size) = omega (arith, split.3) in (
+        omega (arith, split.2),
+        omega (arith, split.3),
+        (first_race b x.opening j x.number x.even x.none (i - size) (k - size)).0
+            (subst₂ (IsFirstRace (x.opening ++ j)) from to here),
+      )

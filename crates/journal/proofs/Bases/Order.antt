@@ -1,6 +1,25 @@
 -- Happens-before and pasts of what is left, read from the history or from the base.
 use Rattle.std.proofs.Common.{
-    ◌≡◌, ℕ, ◌+◌, ◌-◌, ◌<◌, inl, inr, ◌↔◌, List, ◌++◌, length, take, Bool, sym, ap, subst, subst₂, ◌∙◌, refl, arith
+  ◌≡◌,
+  ℕ,
+  ◌+◌,
+  ◌-◌,
+  ◌<◌,
+  inl,
+  inr,
+  ◌↔◌,
+  List,
+  ◌++◌,
+  length,
+  take,
+  Bool,
+  sym,
+  ap,
+  subst,
+  subst₂,
+  ◌∙◌,
+  refl,
+  arith,
 }
 use Rattle.std.proofs.Math.Seq.{take-append-add}
 use Rattle.journal.specs.declared.event.Event.{Event}
@@ -68,14 +87,26 @@ module _ (b : Base) (c j : List Event) (n : ℕ) (even : IsEven b c j n) where
       let at = at_left c j i e.from e.from_at in
       let to = at_left c j k e.to e.to_at in
       let before = e.before in
-      record { before = omega arith; from = e.from; to = e.to; from_at = at; to_at = to;
-              link = link_from i k e.from e.to at to e.link }
+      record {
+        before = omega arith;
+        from = e.from;
+        to = e.to;
+        from_at = at;
+        to_at = to;
+        link = link_from i k e.from e.to at to e.link;
+      }
 
   edge_back : (i k : ℕ) → EdgeFrom b j i k → Edge (c ++ j) (length c + i) (length c + k)
   edge_back i k e =
       let before = e.before in
-      record { before = omega arith; from = e.from; to = e.to; from_at = at_behind c j i e.from e.from_at;
-              to_at = at_behind c j k e.to e.to_at; link = link_back i k e.from e.to e.from_at e.to_at e.link }
+      record {
+        before = omega arith;
+        from = e.from;
+        to = e.to;
+        from_at = at_behind c j i e.from e.from_at;
+        to_at = at_behind c j k e.to e.to_at;
+        link = link_back i k e.from e.to e.from_at e.to_at e.link;
+      }
 
   before_at : {x y : ℕ} → HappensBefore (c ++ j) x y → (i k : ℕ) → x ≡ length c + i → y ≡ length c + k
       → HappensBeforeFrom b j i k
@@ -84,7 +115,7 @@ module _ (b : Base) (c j : List Event) (n : ℕ) (even : IsEven b c j n) where
       let lt = goes_forward (c ++ j) h in
       let between : m ≡ length c + (m - length c) = omega arith in
       on_base (before_at h i (m - length c) is between)
-          (edge_from (m - length c) k (subst₂ (Edge (c ++ j)) between to e))
+      (edge_from (m - length c) k (subst₂ (Edge (c ++ j)) between to e))
 
   -- the order of what is left is the same, read from the history or from the base
   pub before_from : (i k : ℕ) → HappensBefore (c ++ j) (length c + i) (length c + k) → HappensBeforeFrom b j i k
@@ -109,8 +140,13 @@ module _ (b : Base) (c j : List Event) (n : ℕ) (even : IsEven b c j n) where
   pub past_from : (p i : ℕ) → InPast (c ++ j) p (length c + i) → InPastFrom b j p i
   past_from p i x = elim (append_cases c j x.own x.event x.at) [
     | inl cut ↦ absurd (too_early cut.0 x.reaches)
-    | inr left ↦ record { own = left.0; event = x.event; at = left.2; mine = x.mine;
-            reaches = up_from i left.0 (subst (λ m. UpTo (c ++ j) m (length c + i)) left.1 x.reaches) }
+    | inr left ↦ record {
+      own = left.0;
+      event = x.event;
+      at = left.2;
+      mine = x.mine;
+      reaches = up_from i left.0 (subst (λ m. UpTo (c ++ j) m (length c + i)) left.1 x.reaches);
+    }
   ]
     where
       too_early : x.own < length c → UpTo (c ++ j) x.own (length c + i) → ⊥
@@ -119,5 +155,10 @@ module _ (b : Base) (c j : List Event) (n : ℕ) (even : IsEven b c j n) where
 
   pub past_back : (p i : ℕ) → InPastFrom b j p i → InPast (c ++ j) p (length c + i)
   past_back p i x =
-      record { own = length c + x.own; event = x.event; at = at_behind c j x.own x.event x.at; mine = x.mine;
-              reaches = up_back i x.own x.reaches }
+      record {
+        own = length c + x.own;
+        event = x.event;
+        at = at_behind c j x.own x.event x.at;
+        mine = x.mine;
+        reaches = up_back i x.own x.reaches;
+      }

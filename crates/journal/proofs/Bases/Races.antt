@@ -41,9 +41,17 @@ race_shorter c j i k lt r = elim (append_cases c j i r.first r.first_at) [
   | inr left ↦ absurd (let before = r.before in omega (arith, left.1))
   | inl first ↦ elim (append_cases c j k r.second r.second_at) [
     | inr left ↦ absurd (omega (arith, left.1))
-    | inl second ↦ record { before = r.before; first = r.first; second = r.second; first_at = first.1;
-            second_at =
-                second.1; apart = r.apart; conflict = r.conflict; unordered = λ h. r.unordered (longer c j h) }
+    | inl second ↦ record {
+      before = r.before;
+      first = r.first;
+      second = r.second;
+      first_at = first.1;
+      second_at =
+          second.1;
+      apart = r.apart;
+      conflict = r.conflict;
+      unordered = λ h. r.unordered (longer c j h);
+    }
   ]
 ]
 
@@ -65,16 +73,22 @@ module _ (b : Base) (c j : List Event) (n : ℕ) (even : IsEven b c j n)
   race_split i k r = elim (append_cases c j i r.first r.first_at) [
     | inl cut ↦ absurd (none i k cut.0 r)
     | inr from ↦ (let before = r.before in
-        let to : k ≡ length c + (k - length c) = omega (arith, from.1) in
-        (from.0, k
-                - length c, from.1, to, race_from b c j n even from.0 (k - length c)
-                    (subst₂ (Race (c ++ j)) from.1 to r)))
+        let to : k ≡ length c + (k - length c) = omega (arith, from.1) in (
+          from.0,
+          k
+              - length c,
+          from.1,
+          to,
+          race_from b c j n even from.0 (k - length c)
+              (subst₂ (Race (c ++ j)) from.1 to r),
+        ))
   ]
 
   pub race_free : RaceFree (c ++ j) ↔ RaceFreeFrom b j
-  race_free =
-      ((λ free i k r. free (length c + i) (length c + k) (race_back b c j n even i k r)),
-              (λ free i k r. let x = race_split i k r in free x.0 x.1 x.4))
+  race_free = (
+    (λ free i k r. free (length c + i) (length c + k) (race_back b c j n even i k r)),
+    (λ free i k r. let x = race_split i k r in free x.0 x.1 x.4),
+  )
 
   pub first_race : (i k : ℕ) → IsFirstRace (c ++ j) (length c + i) (length c + k) ↔ IsFirstRaceFrom b j i k
   first_race i k = (there, back)
@@ -84,7 +98,7 @@ module _ (b : Base) (c j : List Event) (n : ℕ) (even : IsEven b c j n)
         race = race_from b c j n even i k f.race;
         least_second =
             λ x y r.
-                (let le = f.least_second (length c + x) (length c + y) (race_back b c j n even x y r) in omega arith);
+            (let le = f.least_second (length c + x) (length c + y) (race_back b c j n even x y r) in omega arith);
         least_first = λ x r. (let le = f.least_first (length c + x) (race_back b c j n even x k r) in omega arith);
       }
 
@@ -95,5 +109,5 @@ module _ (b : Base) (c j : List Event) (n : ℕ) (even : IsEven b c j n)
             λ x y r. (let z = race_split x y r in let le = f.least_second z.0 z.1 z.4 in omega (arith, z.3));
         least_first =
             λ x r. (let z = race_split x (length c + k) r in let is : z.1 ≡ k = omega (arith, z.3) in
-                    let le = f.least_first z.0 (subst (λ m. RaceFrom b j z.0 m) is z.4) in omega (arith, z.2));
+            let le = f.least_first z.0 (subst (λ m. RaceFrom b j z.0 m) is z.4) in omega (arith, z.2));
       }

@@ -1,6 +1,22 @@
 -- Where nothing was cut off, what is said from the base is what is said without one.
 use Rattle.std.proofs.Common.{
-    ◌≡◌, ℕ, ◌<◌, inl, inr, ◌↔◌, List, [], replicate, subst, subst₂, sym, refl, ap, ◌∙◌, zero-add, arith
+  ◌≡◌,
+  ℕ,
+  ◌<◌,
+  inl,
+  inr,
+  ◌↔◌,
+  List,
+  [],
+  replicate,
+  subst,
+  subst₂,
+  sym,
+  refl,
+  ap,
+  ◌∙◌,
+  zero-add,
+  arith,
 }
 use Rattle.std.proofs.lemmas.Option.{none-some}
 use Rattle.journal.specs.declared.event.Event.{Event}
@@ -45,7 +61,7 @@ module _ (size : ℕ) (j : List Event) where
   pub uncut_order : (i k : ℕ) → HappensBefore j i k ↔ HappensBeforeFrom (no_base size) j i k
   uncut_order i k = (
     (λ h. before_from (no_base size) [] j 0 (uncut_even size j) i k
-            (subst₂ (HappensBefore j) (sym (zero-add i)) (sym (zero-add k)) h)),
+        (subst₂ (HappensBefore j) (sym (zero-add i)) (sym (zero-add k)) h)),
     (λ h. subst₂ (HappensBefore j) (zero-add i) (zero-add k) (before_back (no_base size) [] j 0 (uncut_even size j) h)),
   )
 
@@ -58,7 +74,7 @@ module _ (size : ℕ) (j : List Event) where
   pub uncut_race : (i k : ℕ) → Race j i k ↔ RaceFrom (no_base size) j i k
   uncut_race i k = (
     (λ r. race_from (no_base size) [] j 0 (uncut_even size j) i k
-            (subst₂ (Race j) (sym (zero-add i)) (sym (zero-add k)) r)),
+        (subst₂ (Race j) (sym (zero-add i)) (sym (zero-add k)) r)),
     (λ r. subst₂ (Race j) (zero-add i) (zero-add k) (race_back (no_base size) [] j 0 (uncut_even size j) i k r)),
   )
 
@@ -66,26 +82,39 @@ module _ (size : ℕ) (j : List Event) where
   answer_from k a v (inl x) =
       inl (x.0 ∙ sym (index-zeros size a), λ i q w does h. x.1 i q w does ((uncut_order i k).1 h))
   answer_from k a v (inr l) =
-      inr (record { place = l.place; by = l.by; stores = l.stores; before = (uncut_order l.place k).0 l.before;
-                  latest = λ i q w does h on. l.latest i q w does ((uncut_order i k).1 h)
-                      ((uncut_order l.place i).1 on) })
+      inr (record {
+        place = l.place;
+        by = l.by;
+        stores = l.stores;
+        before = (uncut_order l.place k).0 l.before;
+        latest = λ i q w does h on. l.latest i q w does ((uncut_order i k).1 h)
+            ((uncut_order l.place i).1 on);
+      })
 
   answer_back : (k a v : ℕ) → IsAnswerFrom (no_base size) j k a v → IsAnswer j k a v
   answer_back k a v (inl x) = inl (x.0 ∙ index-zeros size a, λ i q w does h. x.1 i q w does ((uncut_order i k).0 h))
   answer_back k a v (inr l) =
-      inr (record { place = l.place; by = l.by; stores = l.stores; before = (uncut_order l.place k).1 l.before;
-                  latest = λ i q w does h on. l.latest i q w does ((uncut_order i k).0 h)
-                      ((uncut_order l.place i).0 on) })
+      inr (record {
+        place = l.place;
+        by = l.by;
+        stores = l.stores;
+        before = (uncut_order l.place k).1 l.before;
+        latest = λ i q w does h on. l.latest i q w does ((uncut_order i k).0 h)
+            ((uncut_order l.place i).0 on);
+      })
 
   pub uncut_explained : Explained j ↔ ExplainedFrom (no_base size) j
-  uncut_explained =
-      ((λ all k p a v does. answer_from k a v (all k p a v does)),
-              (λ all k p a v does. answer_back k a v (all k p a v does)))
+  uncut_explained = (
+    (λ all k p a v does. answer_from k a v (all k p a v does)),
+    (λ all k p a v does. answer_back k a v (all k p a v does)),
+  )
 
 pub uncut_well_formed : (s : Sizes) (j : List Event) → WellFormed s j ↔ WellFormedFrom s (no_base (addresses s)) j
-uncut_well_formed s j =
-    (well_formed_from s [] b (well_formed_empty s) sort (uncut_base s.processors (addresses s)) j, well_formed_back s
-            [] b (well_formed_empty s) sort (uncut_base s.processors (addresses s)) j)
+uncut_well_formed s j = (
+  well_formed_from s [] b (well_formed_empty s) sort (uncut_base s.processors (addresses s)) j,
+  well_formed_back s
+      [] b (well_formed_empty s) sort (uncut_base s.processors (addresses s)) j,
+)
   where
     b : Base
     b = no_base (addresses s)
@@ -97,8 +126,8 @@ uncut_well_formed s j =
 zero_page : (s : Sizes) (n : ℕ) → n < s.pages → replicate s.words 0 ≡ base_page s (no_base (addresses s)) n
 zero_page s n lt =
     page_kept s [] n [] (λ i k r. none-some r.first r.first_at) (λ i.
-            (λ has. absurd (none-some i has.1), λ x. absurd (none-some (event x.by (Store x.address x.value)) x.does)))
-        (λ x y i k less at to. absurd (none-some i at)) lt
+    (λ has. absurd (none-some i has.1), λ x. absurd (none-some (event x.by (Store x.address x.value)) x.does)))
+    (λ x y i k less at to. absurd (none-some i at)) lt
 
 pub uncut_lawful : (s : Sizes) (j : List Event) (p n : ℕ) (page : List ℕ) → n < s.pages
     → Lawful s j p n page ↔ LawfulFrom s (no_base (addresses s)) j p n page
@@ -106,8 +135,10 @@ uncut_lawful s j p n page lt = (
   (λ x. record {
     order = x.order;
     each =
-        λ i. ((λ has. let y = (x.each i).0 has in ((uncut_past (addresses s) j p i).0 y.0, y.1)),
-                (λ y. (x.each i).1 ((uncut_past (addresses s) j p i).1 y.0, y.1)));
+        λ i. (
+          (λ has. let y = (x.each i).0 has in ((uncut_past (addresses s) j p i).0 y.0, y.1)),
+          (λ y. (x.each i).1 ((uncut_past (addresses s) j p i).1 y.0, y.1)),
+        );
     once = x.once;
     extends = λ m o i k less at to h. x.extends m o i k less at to ((uncut_order (addresses s) j k i).1 h);
     gives = x.gives ∙ ap (λ (ws : List ℕ). page_after s j ws x.order) (zero_page s n lt);
@@ -115,8 +146,10 @@ uncut_lawful s j p n page lt = (
   (λ x. record {
     order = x.order;
     each =
-        λ i. ((λ has. let y = (x.each i).0 has in ((uncut_past (addresses s) j p i).1 y.0, y.1)),
-                (λ y. (x.each i).1 ((uncut_past (addresses s) j p i).0 y.0, y.1)));
+        λ i. (
+          (λ has. let y = (x.each i).0 has in ((uncut_past (addresses s) j p i).1 y.0, y.1)),
+          (λ y. (x.each i).1 ((uncut_past (addresses s) j p i).0 y.0, y.1)),
+        );
     once = x.once;
     extends = λ m o i k less at to h. x.extends m o i k less at to ((uncut_order (addresses s) j k i).0 h);
     gives = x.gives ∙ ap (λ (ws : List ℕ). page_after s j ws x.order) (sym (zero_page s n lt));

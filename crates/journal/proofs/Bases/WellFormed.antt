@@ -11,15 +11,27 @@ use Rattle.journal.specs.Events.{count_of, is_arrive, is_depart}
 use Rattle.journal.specs.WellFormed.{Does, LastIs, Holds, MayBeGranted, AllArrived, Allowed, MayFollow, WellFormed}
 use Rattle.journal.specs.Base.{Base, no_base}
 use Rattle.journal.specs.WellFormedFrom.{
-    IsAway, HoldsFrom, IsSetFrom, LastFrom, MayBeGrantedFrom, AllArrivedFrom, AllowedFrom, MayFollowFrom,
-    WellFormedFrom
+  IsAway,
+  HoldsFrom,
+  IsSetFrom,
+  LastFrom,
+  MayBeGrantedFrom,
+  AllArrivedFrom,
+  AllowedFrom,
+  MayFollowFrom,
+  WellFormedFrom,
 }
 use Rattle.journal.specs.Cuts.{IsBaseOf}
 use Rattle.lists.proofs.Places.{append_cases}
 use Rattle.journal.proofs.Order.Places.{at_within, at_longer, at_behind, count_of-append}
 use Rattle.journal.proofs.Journals.WellFormed.{last_unique, last_longer}
 use Rattle.journal.proofs.Bases.Holding.{
-    holds_uncut, set_uncut, holds_from_both, both_from_holds, set_from_both, both_from_set
+  holds_uncut,
+  set_uncut,
+  holds_from_both,
+  both_from_holds,
+  set_from_both,
+  both_from_set,
 }
 use Rattle.journal.proofs.Bases.Before.{Sort, counts}
 use Rattle.journal.proofs.Bases.Before.Sort.{none, some}
@@ -30,17 +42,27 @@ last_behind c j p m k x = record {
   does = at_behind c j m (event p k) x.does;
   last =
       λ n f lt at. elim (append_cases c j n f at)
-          [ inl cut ↦ absurd (omega (arith, cut.0)) | inr left ↦ x.last left.0 f (omega (arith, left.1)) left.2 ];
+      [ inl cut ↦ absurd (omega (arith, cut.0)) | inr left ↦ x.last left.0 f (omega (arith, left.1)) left.2 ];
 }
 
 -- p's last event is one of what is left, or one of what was cut off and p has done nothing since
 pub last_split : (c j : List Event) (p i : ℕ) (k : Kind) → LastIs (c ++ j) p i k
     → ((i < length c) × LastIs c p i k × IsAway j p) ⊎ ((m : ℕ) × (i ≡ length c + m) × LastIs j p m k)
 last_split c j p i k x = elim (append_cases c j i (event p k) x.does) [
-  | inl cut ↦ inl (cut.0, record { does = cut.1; last = λ m f lt at. x.last m f lt (at_longer c j m f at) }, λ m f at.
-          x.last (length c + m) f (omega (arith, cut.0)) (at_behind c j m f at))
-  | inr left ↦ inr (left.0, left.1, record { does = left.2;
-              last = λ m f lt at. x.last (length c + m) f (omega (arith, left.1)) (at_behind c j m f at) })
+  | inl cut ↦ inl (
+    cut.0,
+    record { does = cut.1; last = λ m f lt at. x.last m f lt (at_longer c j m f at) },
+    λ m f at.
+        x.last (length c + m) f (omega (arith, cut.0)) (at_behind c j m f at),
+  )
+  | inr left ↦ inr (
+    left.0,
+    left.1,
+    record {
+      does = left.2;
+      last = λ m f lt at. x.last (length c + m) f (omega (arith, left.1)) (at_behind c j m f at);
+    },
+  )
 ]
 
 -- where an episode ends, every last event is an arrival
@@ -48,7 +70,7 @@ pub last_arrives : (s : Sizes) (c : List Event) (b : Base) → Sort s.processors
     → (p i : ℕ) (k : Kind) → LastIs c p i k → k ≡ Arrive
 last_arrives s c b (none is arrived_is cut) well p i k x =
     absurd (let lt = at_within c i (event p k) x.does in let long = ap (λ (xs : List Event). length xs) is in
-            omega arith)
+    omega arith)
 last_arrives s c b (some n arrived_is cut x) well p i k last =
     let ends = x.last p (well i (event p k) last.does).processor in (last_unique c p i ends.0 k Arrive last ends.1).1
 
@@ -62,7 +84,7 @@ module _ (s : Sizes) (c : List Event) (b : Base) (well : WellFormed s c) (sort :
   pub holds_back : (j : List Event) (p l : ℕ) → HoldsFrom b j p l → Holds (c ++ j) p l
   holds_back j p l h =
       (holds_uncut (addresses s) (c ++ j) p l).1
-          (both_from_holds (no_base (addresses s)) b c j p l (base.after.holders p l) h)
+      (both_from_holds (no_base (addresses s)) b c j p l (base.after.holders p l) h)
 
   -- which flags are set
   pub set_from : (j : List Event) (f : ℕ) → (k q : ℕ) → Does (c ++ j) k q (Set f) → IsSetFrom b j f
@@ -88,22 +110,28 @@ module _ (s : Sizes) (c : List Event) (b : Base) (well : WellFormed s c) (sort :
       go : Sort s.processors b c → (i : ℕ) × LastIs (c ++ j) p i k
       go (none is arrived_is cut) = absurd (away.1 cut)
       go (some n arrived_is cut x) =
-          let last = x.last p within in
-              (last.0, subst (λ a. LastIs (c ++ j) p last.0 a) (sym away.0)
-                      (last_longer c j p last.0 Arrive away.2 last.1))
+          let last = x.last p within in (
+            last.0,
+            subst (λ a. LastIs (c ++ j) p last.0 a) (sym away.0)
+                (last_longer c j p last.0 Arrive away.2 last.1),
+          )
 
   granted_from : (j : List Event) (i l : ℕ) → MayBeGranted (c ++ j) (length c + i) l → MayBeGrantedFrom b j i l
   granted_from j i l g =
-      record { free = λ q h. g.free q (holds_back j q l h);
-              first = λ k q lt last. g.first (length c + k) q (omega arith) (last_behind c j q k (Ask l) last) }
+      record {
+        free = λ q h. g.free q (holds_back j q l h);
+        first = λ k q lt last. g.first (length c + k) q (omega arith) (last_behind c j q k (Ask l) last);
+      }
 
   granted_back : (j : List Event) (i l : ℕ) → MayBeGrantedFrom b j i l → MayBeGranted (c ++ j) (length c + i) l
   granted_back j i l g = record {
     free = λ q h. g.free q (holds_from j q l h);
     first =
-        λ k q lt last. elim (last_split c j q k (Ask l) last) [ inl cut ↦ absurd
-                    (cc (last_arrives s c b sort well q k (Ask l) cut.1))
-                | inr left ↦ g.first left.0 q (omega (arith, left.1)) left.2 ];
+        λ k q lt last. elim (last_split c j q k (Ask l) last) [
+          | inl cut ↦ absurd
+              (cc (last_arrives s c b sort well q k (Ask l) cut.1))
+          | inr left ↦ g.first left.0 q (omega (arith, left.1)) left.2
+        ];
   }
 
   all_from : (j : List Event) (p : ℕ) → p < s.processors → AllArrived s (c ++ j) (count_of is_depart (c ++ j) p + 1)
@@ -173,11 +201,11 @@ module _ (s : Sizes) (c : List Event) (b : Base) (well : WellFormed s c) (sort :
   pub well_formed_from : (j : List Event) → WellFormed s (c ++ j) → WellFormedFrom s b j
   well_formed_from j all k e at =
       follow_from (take k j) e
-          (subst (λ xs. MayFollow s xs e) (take-append-add c j k) (all (length c + k) e (at_behind c j k e at)))
+      (subst (λ xs. MayFollow s xs e) (take-append-add c j k) (all (length c + k) e (at_behind c j k e at)))
 
   pub well_formed_back : (j : List Event) → WellFormedFrom s b j → WellFormed s (c ++ j)
   well_formed_back j left k e at = elim (append_cases c j k e at) [
     | inl old ↦ subst (λ xs. MayFollow s xs e) (sym (take-append-le k c j (omega (arith, old.0)))) (well k e old.1)
     | inr new ↦ subst (λ n. MayFollow s (take n (c ++ j)) e) (sym new.1) (subst (λ xs. MayFollow s xs e)
-            (sym (take-append-add c j new.0)) (follow_back (take new.0 j) e (left new.0 e new.2)))
+        (sym (take-append-add c j new.0)) (follow_back (take new.0 j) e (left new.0 e new.2)))
   ]

@@ -18,7 +18,14 @@ use Rattle.journal.specs.LoadsFrom.{ExplainedFrom}
 use Rattle.journal.specs.CopiesFrom.{LawfulFrom}
 use Rattle.journal.specs.Cuts.{IsBaseOf}
 use Rattle.journal.specs.BaseLaws.{
-    SaysTheSame, SameLaw, WellFormedLaw, ReplaysFrom, FlatLaw, CopyLaw, CutLaw, UncutLaw
+  SaysTheSame,
+  SameLaw,
+  WellFormedLaw,
+  ReplaysFrom,
+  FlatLaw,
+  CopyLaw,
+  CutLaw,
+  UncutLaw,
 }
 use Rattle.lists.proofs.LastWrites.{length-written}
 use Rattle.journal.proofs.Order.Places.{at_within, at_behind}
@@ -32,7 +39,13 @@ use Rattle.journal.proofs.Bases.Loads.{same_explained}
 use Rattle.journal.proofs.Bases.Copies.{lawful_from}
 use Rattle.journal.proofs.Bases.Cutting.{replays_append, base_after}
 use Rattle.journal.proofs.Bases.Uncut.{
-    uncut_base, uncut_order, uncut_past, uncut_race, uncut_explained, uncut_well_formed, uncut_lawful
+  uncut_base,
+  uncut_order,
+  uncut_past,
+  uncut_race,
+  uncut_explained,
+  uncut_well_formed,
+  uncut_lawful,
 }
 
 module _ (s : Sizes) (b : Base) (c j : List Event) (well : WellFormed s (c ++ j))
@@ -53,9 +66,10 @@ module _ (s : Sizes) (b : Base) (c j : List Event) (well : WellFormed s (c ++ j)
   explained = same_explained s c j b alike.0 well_c base alike.1 before
 
   memory : Replays (memory_after (replicate (addresses s) 0) c) j ↔ Replays b.memory j
-  memory =
-      ((λ h. subst (λ ws. Replays ws j) (sym base.after.memory) h),
-              (λ h. subst (λ ws. Replays ws j) base.after.memory h))
+  memory = (
+    (λ h. subst (λ ws. Replays ws j) (sym base.after.memory) h),
+    (λ h. subst (λ ws. Replays ws j) base.after.memory h),
+  )
 
   replays : Replays (replicate (addresses s) 0) (c ++ j)
       ↔ (Replays (replicate (addresses s) 0) c × Replays b.memory j)
@@ -84,15 +98,20 @@ module _ (s : Sizes) (b : Base) (c j : List Event) (well : WellFormed s (c ++ j)
   replays_from all = let parts = explained.0 all in record {
     cut =
         flat_memory (addresses s) c (λ i p a v does. (well_c i (event p (Load a v)) does).in_range) parts.0
-            base.race_free;
+        base.race_free;
     left = λ free. flat_memory_from b j in_range parts.1 free;
     up_to = λ i k first. flat_before_race_from b j i k in_range parts.1 first;
   }
 
   known : (p m : ℕ) (e : Event) → At j m e → e.processor ≡ p → (i : ℕ) → i < length c → InPast (c ++ j) p i
   known p m e at mine i lt =
-      record { own = length c + m; event = e; at = at_behind c j m e at; mine = mine;
-              reaches = inr (before i m lt (at_within j m e at)) }
+      record {
+        own = length c + m;
+        event = e;
+        at = at_behind c j m e at;
+        mine = mine;
+        reaches = inr (before i m lt (at_within j m e at));
+      }
 
   pub copy_from : (p n : ℕ) (page : List ℕ) → ¬ IsAway j p → n < s.pages → Lawful s (c ++ j) p n page
       → LawfulFrom s b j p n page
@@ -108,7 +127,7 @@ same_law s b c j well base = says_the_same s b c j well base
 pub well_formed_law : WellFormedLaw
 well_formed_law s b c j base = (
   (λ well. let cut = well_formed_front s c j well in
-          (cut, well_formed_from s c b cut (sort s c b cut base) base j well)),
+      (cut, well_formed_from s c b cut (sort s c b cut base) base j well)),
   (λ both. well_formed_back s c b both.0 (sort s c b both.0 base) base j both.1),
 )
 

@@ -1,6 +1,24 @@
 -- One fact for all copies of a page, valid or stale, and what each event does to it.
 use Rattle.std.proofs.Common.{
-    ℕ, ◌≡◌, ◌≢◌, ◌⊎◌, ◌↔◌, ◌/◌, inl, inr, List, [], ◌∷◌, ◌++◌, replicate, length, refl, sym, ap, subst, ◌∙◌
+  ℕ,
+  ◌≡◌,
+  ◌≢◌,
+  ◌⊎◌,
+  ◌↔◌,
+  ◌/◌,
+  inl,
+  inr,
+  List,
+  [],
+  ◌∷◌,
+  ◌++◌,
+  replicate,
+  length,
+  refl,
+  sym,
+  ap,
+  subst,
+  ◌∙◌,
 }
 use Rattle.std.proofs.lemmas.Option.{none-some}
 use Rattle.journal.specs.declared.event.Event.{Event}
@@ -52,9 +70,11 @@ brought_push s j e p n i no_fetch x (inr m) =
 -- the gap is the stores of the past that were not brought
 pub gap_is : (s : Sizes) (j : List Event) (p n i : ℕ)
     → InGap s j p n i ↔ (InPast j p i × StoresTo s j n i × (Brought j p n i → ⊥))
-gap_is s j p n i =
-    (λ g. (g.past, g.store, λ b. elim b [ inl m ↦ g.others m | inr f ↦ g.new f.0 f.1 f.2 ]), λ x. record
-            { store = x.1; others = λ m. x.2 (inl m); past = x.0; new = λ k f before. x.2 (inr (k, f, before)) })
+gap_is s j p n i = (
+  λ g. (g.past, g.store, λ b. elim b [ inl m ↦ g.others m | inr f ↦ g.new f.0 f.1 f.2 ]),
+  λ x. record
+      { store = x.1; others = λ m. x.2 (inl m); past = x.0; new = λ k f before. x.2 (inr (k, f, before)) },
+)
 
 -- a copy that lacks nothing has each store of the past
 pub gapless : (s : Sizes) (j : List Event) (p n : ℕ) (page : List ℕ) → NoGap s j p n → IsCopy s j p n page → (i : ℕ)
@@ -85,14 +105,14 @@ pub copy_kept : (s : Sizes) (j : List Event) (e : Event) (p n : ℕ) (page : Lis
 copy_kept s j e p n page no_store no_fetch copy = record {
   image =
       image_kept s j (e ∷ []) (Brought j p n) (Brought (j ++ e ∷ []) p n) n page
-          (λ i x. brought_longer j (e ∷ []) p n i)
-          (λ i x b. (old i x b, past_within j p i (brought_past j p n i (old i x b)))) copy.image;
+      (λ i x. brought_longer j (e ∷ []) p n i)
+      (λ i x b. (old i x b, past_within j p i (brought_past j p n i (old i x b)))) copy.image;
   closed = λ i k x y b before.
       let o = old i x b in
       let within = past_within j p i (brought_past j p n i o) in
       let h = shorter j (e ∷ []) within before in
       brought_longer j (e ∷ []) p n k (copy.closed i k (stores_shorter s j (e ∷ []) n i within x)
-              (stores_shorter s j (e ∷ []) n k (begins_within j h) y) o h);
+      (stores_shorter s j (e ∷ []) n k (begins_within j h) y) o h);
 }
   where
     old : (i : ℕ) → StoresTo s (j ++ e ∷ []) n i → Brought (j ++ e ∷ []) p n i → Brought j p n i

@@ -43,7 +43,7 @@ pub complete_on : (s : Sizes) (j es : List Event) (p n : ℕ)
     → Complete s (j ++ es) p n
 complete_on s j es p n nothing complete i x past =
     let old = nothing i x past in
-        brought_longer j es p n i (complete i (stores_shorter s j es n i (past_within j p i old) x) old)
+    brought_longer j es p n i (complete i (stores_shorter s j es n i (past_within j p i old) x) old)
 
 -- others' events leave nothing out
 pub complete_others : (s : Sizes) (j es : List Event) (p n : ℕ) → ((k : ℕ) (e : Event) → At es k e → e.processor ≢ p)
@@ -54,9 +54,12 @@ complete_others s j es p n away = complete_on s j es p n (λ i x. (others j es p
 block_mine : (s : Sizes) (j block : List Event) (p n i : ℕ) → IsBlock p block → StoresTo s (j ++ block) n i
     → length j ≤ i → Mine (j ++ block) p i
 block_mine s j block p n i is x behind =
-    let e : Event = event x.by (Store x.address x.value) in
-    (e, x.does, elim (append_cases j block i e x.does)
-            [ inl h ↦ absurd (omega (arith, h.0)) | inr h ↦ (is h.0 e h.2).0 ])
+    let e : Event = event x.by (Store x.address x.value) in (
+      e,
+      x.does,
+      elim (append_cases j block i e x.does)
+          [ inl h ↦ absurd (omega (arith, h.0)) | inr h ↦ (is h.0 e h.2).0 ],
+    )
 
 -- nor does a block
 pub complete_block : (s : Sizes) (j block : List Event) (p n : ℕ) → IsBlock p block → Complete s j p n
@@ -70,9 +73,13 @@ complete_block s j block p n is complete i x past = elim ((block_past j block p 
 pub complete_fetched : (s : Sizes) (j block : List Event) (p n k w r d : ℕ) → IsBlock p block
     → Does block k p (Fetch w n r d) → Complete s (j ++ block) p n
 complete_fetched s j block p n k w r d is fetch i x past = elim ((block_past j block p i is).0 past) [
-  | inl old ↦ inr (length j
-          + k, (w, r, d, at_behind j block k e fetch), (block_reaches j block p i k is (at_within block k e fetch)).1
-              (inl old))
+  | inl old ↦ inr (
+    length j
+        + k,
+    (w, r, d, at_behind j block k e fetch),
+    (block_reaches j block p i k is (at_within block k e fetch)).1
+        (inl old),
+  )
   | inr b ↦ inl (block_mine s j block p n i is x b.0)
 ]
   where
@@ -86,8 +93,12 @@ gap_block s j block p n i is none = (there, back)
   where
     there : InGap s (j ++ block) p n i → InGap s j p n i
     there g = elim ((block_past j block p i is).0 g.past) [
-      | inl old ↦ (gap_is s j p n i).1 (old, stores_shorter s j block n i (past_within j p i old) g.store, λ b.
-              ((gap_is s (j ++ block) p n i).0 g).2 (brought_longer j block p n i b))
+      | inl old ↦ (gap_is s j p n i).1 (
+        old,
+        stores_shorter s j block n i (past_within j p i old) g.store,
+        λ b.
+            ((gap_is s (j ++ block) p n i).0 g).2 (brought_longer j block p n i b),
+      )
       | inr b ↦ absurd (g.others (block_mine s j block p n i is g.store b.0))
     ]
 
@@ -103,17 +114,17 @@ gap_block s j block p n i is none = (there, back)
     back : InGap s j p n i → InGap s (j ++ block) p n i
     back g =
         (gap_is s (j ++ block) p n i).1
-            ((block_past j block p i is).1 (inl g.past), stores_longer s j block n i g.store, old g)
+        ((block_past j block p i is).1 (inl g.past), stores_longer s j block n i g.store, old g)
 
 -- the missing records, applied to a copy, make it lawful
 pub fetched_gap : (s : Sizes) (j : List Event) (p n : ℕ) (page : List ℕ) (groups : List (List ℕ))
-        (records : List (List (ℕ × ℕ)))
+    (records : List (List (ℕ × ℕ)))
     → AreRecordsOf (λ (i : ℕ). page_write s (slice_get j i)) groups records
     → ((i : ℕ) → Has (concat groups) i ↔ InGap s j p n i) → IsOnce (concat groups)
     → InOrder (λ i k. ¬ HappensBefore j k i) (concat groups) → IsCopy s j p n page
     → Lawful s j p n (records_applied page records)
 fetched_gap s j p n page groups records are each once extends copy =
     subst (Lawful s j p n) (sym (records_same (λ (i : ℕ). page_write s (slice_get j i)) page are)) (fetched s j p
-            (Brought j p n) n page (concat groups) (λ i x. brought_past j p n i) copy.closed
-            (λ i. (λ h. (gap_is s j p n i).0 ((each i).0 h), λ x. (each i).1 ((gap_is s j p n i).1 x))) once extends
-            copy.image)
+    (Brought j p n) n page (concat groups) (λ i x. brought_past j p n i) copy.closed
+    (λ i. (λ h. (gap_is s j p n i).0 ((each i).0 h), λ x. (each i).1 ((gap_is s j p n i).1 x))) once extends
+    copy.image)

@@ -1,8 +1,40 @@
 -- What keeps an image, and a lawful copy.
 use Rattle.std.proofs.Common.{
-    ℕ, ◌≡◌, ◌≢◌, ◌<◌, ◌⊎◌, ◌↔◌, ◌/◌, ◌%◌, inl, inr, List, [], ◌∷◌, ◌++◌, Option, Some, replicate, slice_get,
-    slice_set, length, Bool, true, false, ◌==◌, cond, None, eqb-true, eq-eqb, true≢false, arith, refl, sym, ap, subst,
-    ◌∙◌
+  ℕ,
+  ◌≡◌,
+  ◌≢◌,
+  ◌<◌,
+  ◌⊎◌,
+  ◌↔◌,
+  ◌/◌,
+  ◌%◌,
+  inl,
+  inr,
+  List,
+  [],
+  ◌∷◌,
+  ◌++◌,
+  Option,
+  Some,
+  replicate,
+  slice_get,
+  slice_set,
+  length,
+  Bool,
+  true,
+  false,
+  ◌==◌,
+  cond,
+  None,
+  eqb-true,
+  eq-eqb,
+  true≢false,
+  arith,
+  refl,
+  sym,
+  ap,
+  subst,
+  ◌∙◌,
 }
 use Rattle.journal.specs.declared.event.Event.{Event}
 use Rattle.journal.specs.declared.event.Kind.{Kind}
@@ -23,7 +55,12 @@ use Rattle.journal.proofs.Order.Places.{at_last}
 use Rattle.journal.proofs.Order.HappensBefore.{shorter}
 use Rattle.journal.proofs.Order.Pasts.{past_back, past_within, past_longer, own_past, others}
 use Rattle.journal.proofs.Copies.Stores.{
-    stores_longer, stores_shorter, stores_within, stores_to, stores_at, page_after_longer
+  stores_longer,
+  stores_shorter,
+  stores_within,
+  stores_to,
+  stores_at,
+  page_after_longer,
 }
 
 -- an image stays one, of any places that have the same stores to the page
@@ -55,16 +92,19 @@ pub image_more : (s : Sizes) (j : List Event) (among among' : ℕ → Type 0) (n
 image_more s j among among' n page new on closed each once extends image = record {
   order = image.order ++ new;
   each =
-      λ i. (λ h. there i ((has-append image.order new i).0 h), λ x. (has-append image.order new i).1
-              (back i x.0 x.1 (has_or_not image.order i)));
+      λ i. (
+        λ h. there i ((has-append image.order new i).0 h),
+        λ x. (has-append image.order new i).1
+            (back i x.0 x.1 (has_or_not image.order i)),
+      );
   once = once-append image.order new image.once once (λ i h m. ((each i).0 m).2 ((image.each i).0 h).0);
   extends =
       in_order-append (λ i k. ¬ HappensBefore j k i) image.order new image.extends extends (λ i k h m before. let x =
-                  (image.each i).0 h in
-              let y = (each k).0 m in y.2 (closed i k x.1 y.1 x.0 before));
+      (image.each i).0 h in
+      let y = (each k).0 m in y.2 (closed i k x.1 y.1 x.0 before));
   gives =
       ap (λ (ws : List ℕ). page_after s j ws new) image.gives
-          ∙ sym (written-append (λ (i : ℕ). page_write s (slice_get j i)) (replicate s.words 0) image.order new);
+      ∙ sym (written-append (λ (i : ℕ). page_write s (slice_get j i)) (replicate s.words 0) image.order new);
 }
   where
     there : (i : ℕ) → Has image.order i ⊎ Has new i → among' i × StoresTo s j n i
@@ -82,7 +122,7 @@ pub lawful_on : (s : Sizes) (j es : List Event) (p n : ℕ) (page : List ℕ)
     → Lawful s (j ++ es) p n page
 lawful_on s j es p n page nothing =
     image_kept s j es (InPast j p) (InPast (j ++ es) p) n page (λ i x. past_longer j es p i)
-        (λ i x past. (nothing i x past, past_within j p i (nothing i x past)))
+    (λ i x past. (nothing i x past, past_within j p i (nothing i x past)))
 
 -- others' events keep it
 pub lawful_others : (s : Sizes) (j es : List Event) (p n : ℕ) (page : List ℕ)
@@ -99,15 +139,15 @@ lawful_quiet s j e n page quiet elsewhere = lawful_on s j (e ∷ []) e.processor
     nothing i x past = elim ((own_past j e i quiet).0 past) [
       | inl y ↦ y
       | inr is ↦ (let P : ℕ
-              → Type 0 = λ m. At (j ++ e ∷ []) m e in absurd (elsewhere x.address x.value
-                      (stores_at s (j ++ e ∷ []) n i e (subst P (sym is) (at_last j e)) x).1 x.in_page))
+          → Type 0 = λ m. At (j ++ e ∷ []) m e in absurd (elsewhere x.address x.value
+          (stores_at s (j ++ e ∷ []) n i e (subst P (sym is) (at_last j e)) x).1 x.in_page))
     ]
 
 -- what is new to the past by an own store: its place
 store_is_new : (s : Sizes) (j : List Event) (p n a v : ℕ) → a / s.words ≡ n → (i : ℕ)
     → Has (length j ∷ []) i
-        ↔ (InPast (j ++ event p (Store a v) ∷ []) p i × StoresTo s (j ++ event p (Store a v) ∷ []) n i
-                × (InPast j p i → ⊥))
+    ↔ (InPast (j ++ event p (Store a v) ∷ []) p i × StoresTo s (j ++ event p (Store a v) ∷ []) n i
+    × (InPast j p i → ⊥))
 store_is_new s j p n a v in_page i =
     (λ h. there (elim ((has-cons (length j) [] i).0 h) [ inl e ↦ e | inr m ↦ absurd (has-nil i m) ]), back)
   where
@@ -116,10 +156,13 @@ store_is_new s j p n a v in_page i =
 
     there : length j ≡ i → InPast (j ++ e ∷ []) p i × StoresTo s (j ++ e ∷ []) n i × (InPast j p i → ⊥)
     there is =
-        let P : ℕ → Type 0 = λ m. StoresTo s (j ++ e ∷ []) n m in
-        ((own_past j e i refl).1 (inr (sym is)), subst P is
-                (stores_to s (j ++ e ∷ []) n (length j) p a v (at_last j e) in_page), λ old. let within = past_within
-                j p i old in absurd (omega arith))
+        let P : ℕ → Type 0 = λ m. StoresTo s (j ++ e ∷ []) n m in (
+          (own_past j e i refl).1 (inr (sym is)),
+          subst P is
+              (stores_to s (j ++ e ∷ []) n (length j) p a v (at_last j e) in_page),
+          λ old. let within = past_within
+              j p i old in absurd (omega arith),
+        )
 
     back : InPast (j ++ e ∷ []) p i × StoresTo s (j ++ e ∷ []) n i × (InPast j p i → ⊥) → Has (length j ∷ []) i
     back x = elim ((own_past j e i refl).0 x.0) [ inl old ↦ absurd (x.2 old) | inr is ↦ (0, ap Some (sym is)) ]
@@ -129,11 +172,11 @@ pub lawful_store : (s : Sizes) (j : List Event) (p n : ℕ) (page : List ℕ) (a
     → Lawful s j p n page → Lawful s (j ++ event p (Store a v) ∷ []) p n (slice_set page (a % s.words) v)
 lawful_store s j p n page a v in_page lawful =
     let P : Option Event → Type 0 =
-        λ x. IsImage s (j ++ e ∷ []) (InPast (j ++ e ∷ []) p) n (wrote page (page_write s x)) in
+    λ x. IsImage s (j ++ e ∷ []) (InPast (j ++ e ∷ []) p) n (wrote page (page_write s x)) in
     subst P (at_last j e) (image_more s (j ++ e ∷ []) (InPast j p) (InPast (j ++ e ∷ []) p) n page (length j ∷ [])
-            (λ i x. past_longer j (e ∷ []) p i) closed (store_is_new s j p n a v in_page)
-            (in_order_single (λ (x y : ℕ). x ≢ y) (length j))
-            (in_order_single (λ i k. ¬ HappensBefore (j ++ e ∷ []) k i) (length j)) old)
+    (λ i x. past_longer j (e ∷ []) p i) closed (store_is_new s j p n a v in_page)
+    (in_order_single (λ (x y : ℕ). x ≢ y) (length j))
+    (in_order_single (λ i k. ¬ HappensBefore (j ++ e ∷ []) k i) (length j)) old)
   where
     e : Event
     e = event p (Store a v)
@@ -145,7 +188,7 @@ lawful_store s j p n page a v in_page lawful =
     old : IsImage s (j ++ e ∷ []) (InPast j p) n page
     old =
         image_kept s j (e ∷ []) (InPast j p) (InPast j p) n page (λ i x past. past)
-            (λ i x past. (past, past_within j p i past)) lawful
+        (λ i x past. (past, past_within j p i past)) lawful
 
 -- an image of places that have the same stores to the page
 pub image_among : (s : Sizes) (j : List Event) (among among' : ℕ → Type 0) (n : ℕ) (page : List ℕ)
@@ -153,8 +196,11 @@ pub image_among : (s : Sizes) (j : List Event) (among among' : ℕ → Type 0) (
 image_among s j among among' n page same image = record {
   order = image.order;
   each =
-      λ i. (λ h. let x = (image.each i).0 h in
-              ((same i x.1).0 x.0, x.1), λ x. (image.each i).1 ((same i x.1).1 x.0, x.1));
+      λ i. (
+        λ h. let x = (image.each i).0 h in
+            ((same i x.1).0 x.0, x.1),
+        λ x. (image.each i).1 ((same i x.1).1 x.0, x.1),
+      );
   once = image.once;
   extends = image.extends;
   gives = image.gives;

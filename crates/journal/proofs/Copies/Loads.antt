@@ -35,7 +35,7 @@ pub image_word : (s : Sizes) (j : List Event) (among : ℕ → Type 0) (n : ℕ)
     → ((v ≡ 0) × ((i q w : ℕ) → Does j i q (Store a w) → ¬ among i)) ⊎ LatestAmong j among a v
 image_word s j among n page a v image in_page h =
     go (word_written f (replicate s.words 0) image.order (a % s.words) v
-            (ap (λ (ws : List ℕ). slice_get ws (a % s.words)) (sym image.gives) ∙ h))
+    (ap (λ (ws : List ℕ). slice_get ws (a % s.words)) (sym image.gives) ∙ h))
   where
     f : ℕ → Option (ℕ × ℕ)
     f i = page_write s (slice_get j i)
@@ -50,7 +50,7 @@ image_word s j among n page a v image in_page h =
     last l i q w does x (inr (inr less)) before = image.extends x.0 l.place i l.item less x.1 l.at before
 
     go : LastWrite f image.order (a % s.words) v
-            ⊎ ((slice_get (replicate s.words 0) (a % s.words) ≡ Some v) × Unwritten f image.order (a % s.words))
+        ⊎ ((slice_get (replicate s.words 0) (a % s.words) ≡ Some v) × Unwritten f image.order (a % s.words))
         → ((v ≡ 0) × ((i q w : ℕ) → Does j i q (Store a w) → ¬ among i)) ⊎ LatestAmong j among a v
     go (inl l) =
         let x = (image.each l.item).0 (l.place, l.at) in
@@ -61,12 +61,15 @@ image_word s j among n page a v image in_page h =
           here = x.0;
           latest =
               λ i q w does some. let y = (image.each i).1 (some, stores_to s j n i q a w does in_page) in
-                  last l i q w does y (cases_order l.place y.0);
+              last l i q w does y (cases_order l.place y.0);
         })
     go (inr r) =
-        inl (sym (slice_get-replicate_found s.words 0 v (a % s.words) r.0), λ i q w does some. let y =
-                (image.each i).1 (some, stores_to s j n i q a w does in_page) in r.1 y.0 i w y.1
-                (store_writes s j i q a w does))
+        inl (
+          sym (slice_get-replicate_found s.words 0 v (a % s.words) r.0),
+          λ i q w does some. let y =
+              (image.each i).1 (some, stores_to s j n i q a w does in_page) in r.1 y.0 i w y.1
+              (store_writes s j i q a w does),
+        )
 
 -- a load of a lawful copy answers what it may
 pub load_answers : (s : Sizes) (j : List Event) (p n : ℕ) (page : List ℕ) (a v : ℕ) → Lawful s j p n page
@@ -92,7 +95,7 @@ load_answers s j p n page a v lawful in_page h = go (image_word s j (InPast j p)
       before = (reaches_new j e l.place refl).1 l.here;
       latest =
           λ i q w d before on. l.latest i q w (old i q w (past i before) d) (past i before)
-              (shorter j (e ∷ []) (past_within j p i (past i before)) on);
+          (shorter j (e ∷ []) (past_within j p i (past i before)) on);
     })
 
 -- an answer stays one as the journal goes on
@@ -114,7 +117,7 @@ answer_on j es k a v within answer = go answer
       before = longer j es l.before;
       latest =
           λ i q w d before on. l.latest i q w (old i q w (past i before) d) (past i before)
-              (shorter j es (begins_within j (past i before)) on);
+          (shorter j es (begins_within j (past i before)) on);
     })
 
 -- an explained journal stays so by an event that is no load, or a load that answers what it may

@@ -13,4 +13,4 @@ pub copy_lawful : (s : Sizes) (j : List Event) (p n : ℕ) (page : List ℕ) →
     → Lawful s j p n page
 copy_lawful s j p n page none copy =
     image_among s j (Brought j p n) (InPast j p) n page
-        (λ i x. (brought_past j p n i, gapless s j p n page none copy i x)) copy.image
+    (λ i x. (brought_past j p n i, gapless s j p n page none copy i x)) copy.image

@@ -1,7 +1,24 @@
 -- Stores at places of a journal.
 use Rattle.std.proofs.Common.{
-    ℕ, ◌≡◌, ◌<◌, List, ◌++◌, length, Some, slice_get, ap, ap₂, sym, subst, subst₂, ◌∙◌, ◌+◌, ◌*◌, ◌/◌, ◌%◌,
-    div-add-mod'
+  ℕ,
+  ◌≡◌,
+  ◌<◌,
+  List,
+  ◌++◌,
+  length,
+  Some,
+  slice_get,
+  ap,
+  ap₂,
+  sym,
+  subst,
+  subst₂,
+  ◌∙◌,
+  ◌+◌,
+  ◌*◌,
+  ◌/◌,
+  ◌%◌,
+  div-add-mod',
 }
 use Rattle.std.proofs.lemmas.Option.{some_pair_parts}
 use Rattle.journal.specs.declared.event.Event.{Event}
@@ -50,8 +67,8 @@ pub store_at : (s : Sizes) (j : List Event) (n i a v : ℕ) → (x : StoresTo s 
     → page_write s (slice_get j i) ≡ Some (a % s.words, v) → Does j i x.by (Store a v)
 store_at s j n i a v x page writes =
     let e =
-        some_pair_parts (x.address % s.words) (a % s.words) x.value v
-            (sym (store_writes s j i x.by x.address x.value x.does) ∙ writes) in
+    some_pair_parts (x.address % s.words) (a % s.words) x.value v
+    (sym (store_writes s j i x.by x.address x.value x.does) ∙ writes) in
     let same : x.address ≡ a = same_address s.words x.address a (x.in_page ∙ sym page) e.0 in
     let P : ℕ → ℕ → Type 0 = λ b w. Does j i x.by (Store b w) in
     subst₂ P same e.1 x.does
@@ -60,14 +77,14 @@ store_at s j n i a v x page writes =
 pub stores_longer : (s : Sizes) (j es : List Event) (n i : ℕ) → StoresTo s j n i → StoresTo s (j ++ es) n i
 stores_longer s j es n i x =
     stores_to s (j ++ es) n i x.by x.address x.value (at_longer j es i (event x.by (Store x.address x.value)) x.does)
-        x.in_page
+    x.in_page
 
 -- and was one before it did, at a place of before
 pub stores_shorter : (s : Sizes) (j es : List Event) (n i : ℕ) → i < length j → StoresTo s (j ++ es) n i
     → StoresTo s j n i
 stores_shorter s j es n i within x =
     stores_to s j n i x.by x.address x.value (at_shorter j es i (event x.by (Store x.address x.value)) within x.does)
-        x.in_page
+    x.in_page
 
 -- a store to the page stands within the journal
 pub stores_within : (s : Sizes) (j : List Event) (n i : ℕ) → StoresTo s j n i → i < length j
@@ -83,7 +100,7 @@ pub page_after_longer : (s : Sizes) (j es : List Event) (page is : List ℕ) →
     → page_after s (j ++ es) page is ≡ page_after s j page is
 page_after_longer s j es page is within =
     written_same (λ (i : ℕ). page_write s (slice_get (j ++ es) i)) (λ (i : ℕ). page_write s (slice_get j i)) page is
-        (λ k i at. ap (page_write s) (slice_get-append_left j es i (within i (k, at))))
+    (λ k i at. ap (page_write s) (slice_get-append_left j es i (within i (k, at))))
 
 -- an event is what its processor does
 pub event_is : (e : Event) (p : ℕ) (k : Kind) → e.processor ≡ p → e.kind ≡ k → e ≡ event p k

@@ -1,7 +1,29 @@
 -- Before its first race an explained journal is one of a flat memory.
 use Rattle.std.proofs.Common.{
-    ℕ, ◌≡◌, ◌<◌, ◌≤◌, ◌⊎◌, inl, inr, refl, List, Option, Some, take, replicate, slice_get, get_or, length, arith, sym,
-    ap, subst, ◌∙◌, take-take, take_all, le_refl
+  ℕ,
+  ◌≡◌,
+  ◌<◌,
+  ◌≤◌,
+  ◌⊎◌,
+  inl,
+  inr,
+  refl,
+  List,
+  Option,
+  Some,
+  take,
+  replicate,
+  slice_get,
+  get_or,
+  length,
+  arith,
+  sym,
+  ap,
+  subst,
+  ◌∙◌,
+  take-take,
+  take_all,
+  le_refl,
 }
 use Rattle.std.proofs.lemmas.Option.{slice_get-get_or, get_or_from_slice_get}
 use Rattle.std.proofs.lemmas.List.{length-replicate}
@@ -46,26 +68,26 @@ answers_last b j k i p a v w explained free less loads l = go (explained i p a v
         → Does j n x f → ¬ (¬ HappensBeforeFrom b j m n)
     ordered m q u n x f h g at d to =
         not_unordered_from b j m n (event q (Store a u)) (event x f) h d to (store_conflicts q x a u f at)
-            (free m n g)
+        (free m n g)
 
     latest : (s : LatestStoreFrom b j i a v) → (l.place ≡ s.place) ⊎ ((l.place < s.place) ⊎ (s.place < l.place))
         → w ≡ v
     latest s (inl e) =
         let P : ℕ
-            → Type 0 = λ m. Does j m l.item.processor (Store a w) in
-                (store_same j s.place l.item.processor s.by a a w v (subst P e stores) s.stores).2
+        → Type 0 = λ m. Does j m l.item.processor (Store a w) in
+        (store_same j s.place l.item.processor s.by a a w v (subst P e stores) s.stores).2
     latest s (inr (inl h)) =
         absurd (l.last s.place (event s.by (Store a v)) v h
-                (slice_get-take j i s.place (goes_forward_from b j s.before) ∙ s.stores) refl)
+        (slice_get-take j i s.place (goes_forward_from b j s.before) ∙ s.stores) refl)
     latest s (inr (inr h)) =
         absurd (ordered l.place l.item.processor w i p (Load a v) before less refl stores loads (λ x. ordered s.place
-                    s.by v l.place l.item.processor (Store a w) h (omega (arith, before, less)) refl s.stores stores
-                    (s.latest l.place l.item.processor w stores x)))
+        s.by v l.place l.item.processor (Store a w) h (omega (arith, before, less)) refl s.stores stores
+        (s.latest l.place l.item.processor w stores x)))
 
     go : IsAnswerFrom b j i a v → w ≡ v
     go (inl n) =
         absurd (ordered l.place l.item.processor w i p (Load a v) before less refl stores loads
-                (n.1 l.place l.item.processor w stores))
+        (n.1 l.place l.item.processor w stores))
     go (inr s) = latest s (cases_order l.place s.place)
 
 -- with loads in range: up to a place before which no race ends, a journal that is explained from a base replays from it
@@ -100,7 +122,7 @@ flat_up_to_from b j k ranges explained free i p a v loads =
     untouched n (inl z) = sym (get_or_from_slice_get b.memory a word 0 n.0) ∙ sym z.0
     untouched n (inr x) =
         absurd (n.1 x.place (event x.by (Store a v)) v
-                (slice_get-take j i x.place (goes_forward_from b j x.before) ∙ x.stores) refl)
+        (slice_get-take j i x.place (goes_forward_from b j x.before) ∙ x.stores) refl)
 
     go : LastWrite f (take i j) a word ⊎ ((slice_get b.memory a ≡ Some word) × Unwritten f (take i j) a) → word ≡ v
     go (inl l) = answers_last b j k i p a v word explained free less does l
@@ -112,25 +134,25 @@ pub flat_before_race_from : (b : Base) (j : List Event) (i k : ℕ)
     → Replays b.memory (take k j)
 flat_before_race_from b j i k ranges explained first =
     flat_up_to_from b j k ranges explained
-        (λ m n h r. let least : k ≤ n = first.least_second m n r in absurd (omega arith))
+    (λ m n h r. let least : k ≤ n = first.least_second m n r in absurd (omega arith))
 
 -- without a race it replays whole
 pub flat_memory_from : (b : Base) (j : List Event) → ((i p a v : ℕ) → Does j i p (Load a v) → a < length b.memory)
     → ExplainedFrom b j → RaceFreeFrom b j → Replays b.memory j
 flat_memory_from b j ranges explained free =
     subst (Replays b.memory) (take_all (length j) j (le_refl (length j)))
-        (flat_up_to_from b j (length j) ranges explained (λ m n h. free m n))
+    (flat_up_to_from b j (length j) ranges explained (λ m n h. free m n))
 
 -- the same from no base: up to a place before which no race ends, an explained journal replays
 pub flat_up_to : (size : ℕ) (j : List Event) (k : ℕ) → ((i p a v : ℕ) → Does j i p (Load a v) → a < size)
     → Explained j → ((m n : ℕ) → n < k → ¬ Race j m n) → Replays (replicate size 0) (take k j)
 flat_up_to size j k ranges explained free =
     flat_up_to_from (no_base size) j k (λ m p a v does. rw length-replicate (ranges m p a v does))
-        ((uncut_explained size j).0 explained) (λ m n h r. free m n h ((uncut_race size j m n).1 r))
+    ((uncut_explained size j).0 explained) (λ m n h r. free m n h ((uncut_race size j m n).1 r))
 
 -- without a race it replays whole
 pub flat_memory : (size : ℕ) (j : List Event) → ((i p a v : ℕ) → Does j i p (Load a v) → a < size) → Explained j
     → RaceFree j → Replays (replicate size 0) j
 flat_memory size j ranges explained free =
     flat_memory_from (no_base size) j (λ m p a v does. rw length-replicate (ranges m p a v does))
-        ((uncut_explained size j).0 explained) (λ m n r. free m n ((uncut_race size j m n).1 r))
+    ((uncut_explained size j).0 explained) (λ m n r. free m n ((uncut_race size j m n).1 r))

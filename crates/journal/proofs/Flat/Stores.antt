@@ -35,8 +35,16 @@ not_unordered j m n e f less at to conflict none un = go (cases_eq e.processor f
     go : (e.processor ≡ f.processor) ⊎ (e.processor ≢ f.processor) → ⊥
     go (inl mine) = un (edge (record { before = less; from = e; to = f; from_at = at; to_at = to; link = same mine }))
     go (inr apart) =
-        none (record { before = less; first = e; second = f; first_at = at; second_at = to; apart = apart;
-                    conflict = conflict; unordered = un })
+        none (record {
+          before = less;
+          first = e;
+          second = f;
+          first_at = at;
+          second_at = to;
+          apart = apart;
+          conflict = conflict;
+          unordered = un;
+        })
 
 -- the same from a base
 pub not_unordered_from : (b : Base) (j : List Event) (m n : ℕ) (e f : Event) → m < n → At j m e → At j n f
@@ -47,5 +55,13 @@ not_unordered_from b j m n e f less at to conflict none un = go (cases_eq e.proc
     go (inl mine) =
         un (edge_base (record { before = less; from = e; to = f; from_at = at; to_at = to; link = same_from mine }))
     go (inr apart) =
-        none (record { before = less; first = e; second = f; first_at = at; second_at = to; apart = apart;
-                    conflict = conflict; unordered = un })
+        none (record {
+          before = less;
+          first = e;
+          second = f;
+          first_at = at;
+          second_at = to;
+          apart = apart;
+          conflict = conflict;
+          unordered = un;
+        })

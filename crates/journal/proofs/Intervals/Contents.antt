@@ -37,7 +37,7 @@ write_in_store s n (Store a v) h = go (a / s.words == n) refl h
   where
     go : (b : Bool) → (a / s.words == n) ≡ b → is_some {T = ℕ × ℕ} (cond b (Some (a % s.words, v)) None) ≡ true
         → (c w : ℕ) × (Store a v ≡ Store c w) × (c / s.words ≡ n)
-            × (write_in s n (Store a v) ≡ word_write s (Store a v))
+        × (write_in s n (Store a v) ≡ word_write s (Store a v))
     go true e g = (a, v, refl, eqb-true (a / s.words) n e, rw e)
     go false e g = absurd (true≢false (sym g))
 write_in_store s n _ h = absurd (true≢false (sym h))
@@ -66,25 +66,25 @@ picked_store s n j i e at h =
 -- the writes of the open interval's events are those of the picked places
 same_writes : (s : Sizes) (n : ℕ) (j : List Event) (p : ℕ) (places : List ℕ) (page : List ℕ) → AreOpen j p places
     → written (λ (e : Event). write_in s n e.kind) page (since j p)
-        ≡ written (λ (i : ℕ). page_write s (slice_get j i)) page (filter (picks s n j) places)
+    ≡ written (λ (i : ℕ). page_write s (slice_get j i)) page (filter (picks s n j) places)
 unfolding picks
 same_writes s n j p places page open_at =
     sym (written_map (write_at s n) Some page (since j p))
     ∙ ap (written (write_at s n) page) (sym open_at.events)
     ∙ written_map (write_at s n) (slice_get j) page places
     ∙ sym (written_filter (λ (i : ℕ). write_at s n (slice_get j i)) (picks s n j) page places
-            (λ i h. none_picked (write_at s n (slice_get j i)) h))
+    (λ i h. none_picked (write_at s n (slice_get j i)) h))
     ∙ written_same (λ (i : ℕ). write_at s n (slice_get j i)) (λ (i : ℕ). page_write s (slice_get j i)) page
-        (filter (picks s n j) places)
-        (λ k i at. same i (slice_get j i) refl ((has-filter (picks s n j) places i).0 (k, at)).1)
+    (filter (picks s n j) places)
+    (λ k i at. same i (slice_get j i) refl ((has-filter (picks s n j) places i).0 (k, at)).1)
   where
     same : (i : ℕ) (o : Option Event) → slice_get j i ≡ o → is_some (write_at s n (slice_get j i)) ≡ true
         → write_at s n (slice_get j i) ≡ page_write s (slice_get j i)
     same i None e h = absurd (true≢false (sym h ∙ ap (λ (o : Option Event). is_some (write_at s n o)) e))
     same i (Some f) e h =
         ap (write_at s n) e
-            ∙ (write_in_store s n f.kind (ap (λ (o : Option Event). is_some (write_at s n o)) (sym e) ∙ h)).4
-            ∙ ap (page_write s) (sym e)
+        ∙ (write_in_store s n f.kind (ap (λ (o : Option Event). is_some (write_at s n o)) (sym e) ∙ h)).4
+        ∙ ap (page_write s) (sym e)
 
 -- the record of the events since the last closing one is the content of the open interval
 pub since_content : (s : Sizes) (j : List Event) (p n : ℕ) (words : List (ℕ × ℕ))
@@ -97,7 +97,7 @@ since_content s j p n words record_of = record {
   rising = in_order-filter (λ i m. i < m) (picks s n j) places open_at.rising;
   sums =
       record_moved (λ (e : Event). write_in s n e.kind) (λ (i : ℕ). page_write s (slice_get j i)) (since j p)
-          (filter (picks s n j) places) words (λ page. same_writes s n j p places page open_at) record_of;
+      (filter (picks s n j) places) words (λ page. same_writes s n j p places page open_at) record_of;
 }
   where
     places : List ℕ
@@ -117,10 +117,13 @@ since_content s j p n words record_of = record {
     back : (i : ℕ) → StoresIn s j p (count_of is_closing j p) n i → Has (filter (picks s n j) places) i
     back i x =
         let e : Event = event p (Store x.0 x.1) in
-        (has-filter (picks s n j) places i).1 ((open_at.each i).1
-                    (record { event = e; at = x.2; mine = refl; open_at = refl; number = x.4 }), ap
-                    (λ (o : Option Event). is_some (write_at s n o)) x.2
-                ∙ ap is_some (store_in s n x.0 x.1 x.3))
+        (has-filter (picks s n j) places i).1 (
+          (open_at.each i).1
+              (record { event = e; at = x.2; mine = refl; open_at = refl; number = x.4 }),
+          ap
+              (λ (o : Option Event). is_some (write_at s n o)) x.2
+              ∙ ap is_some (store_in s n x.0 x.1 x.3),
+        )
 
 -- a store of an interval stays one as the journal goes on
 pub stores_in_longer : (s : Sizes) (j es : List Event) (q k n i : ℕ) → StoresIn s j q k n i
@@ -133,10 +136,15 @@ stores_in_longer s j es q k n i x =
 -- and was one before
 pub stores_in_shorter : (s : Sizes) (j es : List Event) (q k n i : ℕ) → i < length j → StoresIn s (j ++ es) q k n i
     → StoresIn s j q k n i
-stores_in_shorter s j es q k n i within x =
-    (x.0, x.1, at_shorter j es i (event q (Store x.0 x.1)) within x.2, x.3, sym
-                (count_of-front is_closing j es i q (omega arith))
-            ∙ x.4)
+stores_in_shorter s j es q k n i within x = (
+  x.0,
+  x.1,
+  at_shorter j es i (event q (Store x.0 x.1)) within x.2,
+  x.3,
+  sym
+      (count_of-front is_closing j es i q (omega arith))
+      ∙ x.4,
+)
 
 -- what an interval comes to in a page stays as long as it stores nothing more there
 pub content_on : (s : Sizes) (j es : List Event) (q k n : ℕ) (words : List (ℕ × ℕ))
@@ -145,13 +153,16 @@ pub content_on : (s : Sizes) (j es : List Event) (q k n : ℕ) (words : List (�
 content_on s j es q k n words within content = record {
   places = content.places;
   each =
-      λ i. (λ h. stores_in_longer s j es q k n i ((content.each i).0 h), λ x. (content.each i).1
-              (stores_in_shorter s j es q k n i (within i x) x));
+      λ i. (
+        λ h. stores_in_longer s j es q k n i ((content.each i).0 h),
+        λ x. (content.each i).1
+            (stores_in_shorter s j es q k n i (within i x) x),
+      );
   rising = content.rising;
   sums =
       record_moved (λ (i : ℕ). page_write s (slice_get j i)) (λ (i : ℕ). page_write s (slice_get (j ++ es) i))
-          content.places content.places words (λ page. sym (page_after_longer s j es page content.places inside))
-          content.sums;
+      content.places content.places words (λ page. sym (page_after_longer s j es page content.places inside))
+      content.sums;
 }
   where
     inside : (i : ℕ) → Has content.places i → i < length j
@@ -163,19 +174,19 @@ pub content_closing : (s : Sizes) (j : List Event) (e : Event) (q k n : ℕ) (wo
 content_closing s j e q k n words closes = content_on s j (e ∷ []) q k n words (λ i x.
     let f : Event = event q (Store x.0 x.1) in
     elim (push_cases j e i f x.2)
-        [ inl h ↦ h.0 | inr h ↦ absurd (true≢false (sym closes ∙ ap (λ (g : Event). is_closing g.kind) h.1)) ])
+    [ inl h ↦ h.0 | inr h ↦ absurd (true≢false (sym closes ∙ ap (λ (g : Event). is_closing g.kind) h.1)) ])
 
 -- and, once the interval is closed, through all events
 pub content_closed : (s : Sizes) (j es : List Event) (q k n : ℕ) (words : List (ℕ × ℕ)) → k < count_of is_closing j q
     → IsContent s j q k n words → IsContent s (j ++ es) q k n words
 content_closed s j es q k n words closed =
     content_on s j es q k n words
-        (λ i x. elim (cases_lt i (length j)) [ inl less ↦ less | inr from ↦ absurd (late i x from) ])
+    (λ i x. elim (cases_lt i (length j)) [ inl less ↦ less | inr from ↦ absurd (late i x from) ])
   where
     late : (i : ℕ) → StoresIn s (j ++ es) q k n i → length j ≤ i → ⊥
     late i x from =
         let whole : interval_at (j ++ es) q (length j) ≡ count_of is_closing j q =
-            ap (λ (xs : List Event). count_of is_closing xs q) (take-append_seam j es) in
+        ap (λ (xs : List Event). count_of is_closing xs q) (take-append_seam j es) in
         let up = count_of-mono is_closing (j ++ es) (length j) i q from in
         let same = x.4 in
         omega arith
@@ -186,8 +197,8 @@ pub content_has : (s : Sizes) (j : List Event) (q k n i : ℕ) (words : List (�
 content_has s j q k n i words content x =
     let h = (content.each i).1 x in
     let last =
-        last_exists (λ (m : ℕ). page_write s (slice_get j m)) content.places h.0 (x.0 % s.words) x.1 i h.1
-            (store_writes s j i q x.0 x.1 x.2) in
+    last_exists (λ (m : ℕ). page_write s (slice_get j m)) content.places h.0 (x.0 % s.words) x.1 i h.1
+    (store_writes s j i q x.0 x.1 x.2) in
     (last.0, (content.sums.each (x.0 % s.words) last.0).1 last.1)
 
 -- an interval that comes to no word stores nothing in the page

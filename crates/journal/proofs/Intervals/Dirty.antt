@@ -1,7 +1,34 @@
 -- What each call does to a page's dirty bits, and what they are harvested for.
 use Rattle.std.proofs.Common.{
-    ℕ, ◌≡◌, ◌≢◌, ◌<◌, ◌%◌, List, [], ◌∷◌, ◌++◌, Bool, true, false, cond, Option, Some, None, length, replicate,
-    slice_get, ◌/◌, ◌==◌, mod-lt, true≢false, arith, refl, sym, ap, subst, ◌∙◌
+  ℕ,
+  ◌≡◌,
+  ◌≢◌,
+  ◌<◌,
+  ◌%◌,
+  List,
+  [],
+  ◌∷◌,
+  ◌++◌,
+  Bool,
+  true,
+  false,
+  cond,
+  Option,
+  Some,
+  None,
+  length,
+  replicate,
+  slice_get,
+  ◌/◌,
+  ◌==◌,
+  mod-lt,
+  true≢false,
+  arith,
+  refl,
+  sym,
+  ap,
+  subst,
+  ◌∙◌,
 }
 use Rattle.std.proofs.lemmas.Option.{none-some, some_pair_parts}
 use Rattle.std.proofs.lemmas.List.{length-replicate}
@@ -32,8 +59,12 @@ pub dirty_others : (s : Sizes) (j es block : List Event) (p n : ℕ) (page : Lis
     → IsDirty s ((j ++ es) ++ block) p n page marks
 dirty_others s j es block p n page marks away dirty =
     let same = since_under j es block p away in
-    record { clean = dirty.clean; long = dirty.long; page_is = rw same (dirty.page_is);
-            marks_are = rw same (dirty.marks_are) }
+    record {
+      clean = dirty.clean;
+      long = dirty.long;
+      page_is = rw same (dirty.page_is);
+      marks_are = rw same (dirty.marks_are);
+    }
 
 -- an own event that closes no interval does what it stores, and marks it
 pub dirty_push : (s : Sizes) (j : List Event) (e : Event) (p n : ℕ) (page : List ℕ) (marks : List Bool)
@@ -46,11 +77,11 @@ dirty_push s j e p n page marks mine inner dirty =
       long = dirty.long;
       page_is =
           rw same (ap (λ (ws : List ℕ). wrote ws (write_in s n e.kind)) dirty.page_is
-                  ∙ sym (written-append (λ (f : Event). write_in s n f.kind) dirty.clean (since j p) (e ∷ [])));
+          ∙ sym (written-append (λ (f : Event). write_in s n f.kind) dirty.clean (since j p) (e ∷ [])));
       marks_are =
           rw same (ap (λ (ms : List Bool). mark ms (write_in s n e.kind)) dirty.marks_are
-                  ∙ sym (marked-append (λ (f : Event). write_in s n f.kind) (replicate s.words false) (since j p)
-                          (e ∷ [])));
+          ∙ sym (marked-append (λ (f : Event). write_in s n f.kind) (replicate s.words false) (since j p)
+          (e ∷ [])));
     }
 
 -- a closing event clears the marks
@@ -63,7 +94,7 @@ dirty_closing s j e p n page marks mine closes dirty =
       clean = page;
       long =
           ap length dirty.page_is ∙ length-written (λ (f : Event). write_in s n f.kind) dirty.clean (since j p)
-              ∙ dirty.long;
+          ∙ dirty.long;
       page_is = rw same;
       marks_are = rw same;
     }
@@ -101,10 +132,10 @@ nothing_since s j p n page some dirty k e at = go (write_in s n e.kind) refl
     go None h = h
     go (Some w) h =
         let inside : w.0 < length (replicate s.words false) =
-            rw length-replicate (write_within s n e.kind w.0 w.1 some h) in
+        rw length-replicate (write_within s n e.kind w.0 w.1 some h) in
         let marked_there = marked_written f (replicate s.words false) (since j p) w.0 k w.1 e inside at h in
         absurd (true≢false (sym (slice_get-replicate_found s.words false true w.0
-                        (ap (λ (ms : List Bool). slice_get ms w.0) dirty.marks_are ∙ marked_there))))
+        (ap (λ (ms : List Bool). slice_get ms w.0) dirty.marks_are ∙ marked_there))))
 
 -- so it may be replaced by another, as by a fetch
 pub dirty_replaced : (s : Sizes) (j : List Event) (p n : ℕ) (page new : List ℕ) → 0 < s.words → length new ≡ s.words
@@ -118,10 +149,10 @@ pub dirty_content : (s : Sizes) (j : List Event) (p n : ℕ) (page : List ℕ) (
 dirty_content s j p n page marks some dirty =
     let f : Event → Option (ℕ × ℕ) = λ e. write_in s n e.kind in
     let P : ℕ → Type 0 =
-        λ words. IsRecordOf f (since j p)
-            (harvest 0 (written f dirty.clean (since j p)) (marked f (replicate words false) (since j p))) in
+    λ words. IsRecordOf f (since j p)
+    (harvest 0 (written f dirty.clean (since j p)) (marked f (replicate words false) (since j p))) in
     let record_of =
-        subst P dirty.long (harvest_is_record f dirty.clean (since j p)
-                (λ e o v h. rw (dirty.long) (write_within s n e.kind o v some h)))
-            in
+    subst P dirty.long (harvest_is_record f dirty.clean (since j p)
+    (λ e o v h. rw (dirty.long) (write_within s n e.kind o v some h)))
+    in
     since_content s j p n (harvest 0 page marks) (rw (dirty.page_is, dirty.marks_are) record_of)

@@ -1,6 +1,25 @@
 -- A processor has arrived once more than it has departed exactly while it waits at the barrier.
 use Rattle.std.proofs.Common.{
-    ◌≡◌, ◌≢◌, ℕ, ◌+◌, ◌⊎◌, inl, inr, List, [], ◌∷◌, ◌++◌, length, Bool, cond, false, subst, refl, ap, ◌∙◌, arith
+  ◌≡◌,
+  ◌≢◌,
+  ℕ,
+  ◌+◌,
+  ◌⊎◌,
+  inl,
+  inr,
+  List,
+  [],
+  ◌∷◌,
+  ◌++◌,
+  length,
+  Bool,
+  cond,
+  false,
+  subst,
+  refl,
+  ap,
+  ◌∙◌,
+  arith,
 }
 use Rattle.std.proofs.lemmas.Bool.{cases_eq, eq-eqb}
 use Rattle.std.proofs.lemmas.Option.{none-some}
@@ -33,16 +52,16 @@ others_balance j e p isnt b =
     record {
       waiting =
           λ i last. (let old = b.waiting i (last_shorter j (e ∷ []) p i Arrive away last) in
-                  omega (arith, none_arrive, none_depart));
+          omega (arith, none_arrive, none_depart));
       going =
           λ none. (let old = b.going (λ i last. none i (last_longer j (e ∷ []) p i Arrive away last)) in
-                  omega (arith, none_arrive, none_depart));
+          omega (arith, none_arrive, none_depart));
     }
   where
     away : (m : ℕ) (f : Event) → At (e ∷ []) m f → f.processor ≢ p
     away m f at same =
         elim (push_cases [] e m f at)
-            [ inl old ↦ absurd (none-some f old.1) | inr new ↦ isnt (ap (λ x. x.processor) new.1 ∙ same) ]
+        [ inl old ↦ absurd (none-some f old.1) | inr new ↦ isnt (ap (λ x. x.processor) new.1 ∙ same) ]
 
     none_arrive : count_of is_arrive (e ∷ []) p ≡ 0
     none_arrive = elim (count_of-one is_arrive e p) [ inl none ↦ none | inr one ↦ absurd (isnt one.0) ]
@@ -57,26 +76,30 @@ count_own is k p = let own = eq-eqb p p refl in rw own (omega arith)
 own_balance : (s : Sizes) (j : List Event) (p : ℕ) (k : Kind) → MayFollow s j (event p k) → IsBalanced j p
     → IsBalanced (j ++ event p k ∷ []) p
 own_balance s j p k may b = elim (kind_sorts k) [
-  | inl arrive ↦ record { waiting = λ i last. arrived arrive;
-          going = λ none. absurd
-              (none (length j) (subst (λ x. LastIs (j ++ event p k ∷ []) p (length j) x) arrive now)) }
+  | inl arrive ↦ record {
+    waiting = λ i last. arrived arrive;
+    going = λ none. absurd
+        (none (length j) (subst (λ x. LastIs (j ++ event p k ∷ []) p (length j) x) arrive now));
+  }
   | inr rest ↦ elim rest [
     | inl depart ↦ record
         { waiting = λ i last. absurd (cc (depart, is_last i Arrive last)); going = λ none. departed depart }
-    | inr other ↦ record { waiting = λ i last. absurd (cc (other.0, ap (λ x. is_arrive x) (is_last i Arrive last)));
-            going = λ none. neither other }
+    | inr other ↦ record {
+      waiting = λ i last. absurd (cc (other.0, ap (λ x. is_arrive x) (is_last i Arrive last)));
+      going = λ none. neither other;
+    }
   ]
 ]
   where
     arrives : count_of is_arrive (j ++ event p k ∷ []) p ≡ count_of is_arrive j p + cond (is_arrive k) 1 0
     arrives =
         count_of-append is_arrive j (event p k ∷ []) p
-            ∙ ap (λ n. count_of is_arrive j p + n) (count_own is_arrive k p)
+        ∙ ap (λ n. count_of is_arrive j p + n) (count_own is_arrive k p)
 
     departs : count_of is_depart (j ++ event p k ∷ []) p ≡ count_of is_depart j p + cond (is_depart k) 1 0
     departs =
         count_of-append is_depart j (event p k ∷ []) p
-            ∙ ap (λ n. count_of is_depart j p + n) (count_own is_depart k p)
+        ∙ ap (λ n. count_of is_depart j p + n) (count_own is_depart k p)
 
     now : LastIs (j ++ event p k ∷ []) p (length j) k
     now = last_now j (event p k)
@@ -114,8 +137,8 @@ own_balance s j p k may b = elim (kind_sorts k) [
 pub balanced : (s : Sizes) (j : List Event) (p : ℕ) → WellFormed s j → IsBalanced j p
 balanced s j p =
     push_induction (λ xs. WellFormed s xs → IsBalanced xs p)
-        (λ well. record { waiting = λ i last. absurd (none-some (event p Arrive) last.does); going = λ none. refl })
-        step j
+    (λ well. record { waiting = λ i last. absurd (none-some (event p Arrive) last.does); going = λ none. refl })
+    step j
   where
     step : (xs : List Event) (e : Event) → (WellFormed s xs → IsBalanced xs p) → WellFormed s (xs ++ e ∷ [])
         → IsBalanced (xs ++ e ∷ []) p
@@ -123,8 +146,8 @@ balanced s j p =
         let both = (each_push s xs e).0 well in
         elim (cases_eq e.processor p) [
           | inl is ↦ (let P : ℕ
-                  → Type 0 = λ q. IsBalanced xs q → IsBalanced (xs ++ e ∷ []) q in subst P is
-                      (own_balance s xs e.processor e.kind both.1) (ih both.0))
+              → Type 0 = λ q. IsBalanced xs q → IsBalanced (xs ++ e ∷ []) q in subst P is
+              (own_balance s xs e.processor e.kind both.1) (ih both.0))
           | inr isnt ↦ others_balance xs e p isnt (ih both.0)
         ]
 

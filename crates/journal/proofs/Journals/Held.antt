@@ -1,7 +1,27 @@
 -- What a journal's memory holds, as the journal goes on and as it is cut.
 use Rattle.std.proofs.Common.{
-    ◌≡◌, ◌≢◌, ℕ, ◌+◌, ◌-◌, ◌<◌, ◌≤◌, ◌⊎◌, inl, inr, List, [], ◌∷◌, ◌++◌, length, take, drop, subst, sym, ap, ◌∙◌,
-    arith
+  ◌≡◌,
+  ◌≢◌,
+  ℕ,
+  ◌+◌,
+  ◌-◌,
+  ◌<◌,
+  ◌≤◌,
+  ◌⊎◌,
+  inl,
+  inr,
+  List,
+  [],
+  ◌∷◌,
+  ◌++◌,
+  length,
+  take,
+  drop,
+  subst,
+  sym,
+  ap,
+  ◌∙◌,
+  arith,
 }
 use Rattle.std.proofs.Math.Seq.{take-append_seam, drop-append_seam}
 use Rattle.std.proofs.lemmas.List.{take-append-le, length-take, drop-drop}
@@ -20,13 +40,13 @@ pub processors_push : (n : ℕ) (xs : List Event) (e : Event) → ProcessorsInRa
     → ProcessorsInRange n (xs ++ e ∷ [])
 processors_push n xs e all lt i f at =
     elim (push_cases xs e i f at)
-        [ inl old ↦ all i f old.1 | inr new ↦ subst (λ (x : Event). x.processor < n) new.1 lt ]
+    [ inl old ↦ all i f old.1 | inr new ↦ subst (λ (x : Event). x.processor < n) new.1 lt ]
 
 pub addresses_push : (n : ℕ) (xs : List Event) (e : Event) → AddressesInRange n xs → AddressInRange n e.kind
     → AddressesInRange n (xs ++ e ∷ [])
 addresses_push n xs e all lt i f at =
     elim (push_cases xs e i f at)
-        [ inl old ↦ all i f old.1 | inr new ↦ subst (λ (x : Event). AddressInRange n x.kind) new.1 lt ]
+    [ inl old ↦ all i f old.1 | inr new ↦ subst (λ (x : Event). AddressInRange n x.kind) new.1 lt ]
 
 pub opening_longer : (n : ℕ) (xs es : List Event) → n ≤ length xs → IsOpening n (take n xs)
     → IsOpening n (take n (xs ++ es))
@@ -58,25 +78,29 @@ module _ (n count : ℕ) (xs : List Event) where
 
   pub processors_cut : (m : ℕ) → ProcessorsInRange m xs → ProcessorsInRange m rest
   processors_cut m all i e at =
-      elim (append_cases (take n xs) (drop (n + count) xs) i e at) [ inl front ↦ all i e
-                  (slice_get-from_take xs n i e front.1)
-              | inr behind ↦ processors_behind m (n + count) xs all behind.0 e behind.2 ]
+      elim (append_cases (take n xs) (drop (n + count) xs) i e at) [
+        | inl front ↦ all i e
+            (slice_get-from_take xs n i e front.1)
+        | inr behind ↦ processors_behind m (n + count) xs all behind.0 e behind.2
+      ]
 
   pub addresses_cut : (m : ℕ) → AddressesInRange m xs → AddressesInRange m rest
   addresses_cut m all i e at =
-      elim (append_cases (take n xs) (drop (n + count) xs) i e at) [ inl front ↦ all i e
-                  (slice_get-from_take xs n i e front.1)
-              | inr behind ↦ addresses_behind m (n + count) xs all behind.0 e behind.2 ]
+      elim (append_cases (take n xs) (drop (n + count) xs) i e at) [
+        | inl front ↦ all i e
+            (slice_get-from_take xs n i e front.1)
+        | inr behind ↦ addresses_behind m (n + count) xs all behind.0 e behind.2
+      ]
 
   pub opening_cut : IsOpening n (take n xs) → IsOpening n (take n rest)
   opening_cut x =
       subst (IsOpening n)
-          (sym (ap (λ m. take m rest) (sym x.long) ∙ take-append_seam (take n xs) (drop (n + count) xs))) x
+      (sym (ap (λ m. take m rest) (sym x.long) ∙ take-append_seam (take n xs) (drop (n + count) xs))) x
 
   pub events_cut : IsOpening n (take n xs) → drop n rest ≡ drop count (drop n xs)
   events_cut x =
       ap (λ m. drop m rest) (sym x.long) ∙ drop-append_seam (take n xs) (drop (n + count) xs)
-          ∙ sym (drop-drop count n xs)
+      ∙ sym (drop-drop count n xs)
 
 -- of what a journal holds
 module _ (j : Inside) (held : IsHeld j) where
@@ -84,16 +108,16 @@ module _ (j : Inside) (held : IsHeld j) where
   pub in_base : (log : Log) → log_of j ≡ log → AddressesInRange (length log.base.memory) log.events
   in_base log is =
       subst (λ (l : Log). AddressesInRange (length l.base.memory) l.events) is (subst
-              (λ n. AddressesInRange n (drop j.processors j.events.items)) (sym held.kept.long)
-              (addresses_behind j.addresses j.processors j.events.items held.in_range))
+      (λ n. AddressesInRange n (drop j.processors j.events.items)) (sym held.kept.long)
+      (addresses_behind j.addresses j.processors j.events.items held.in_range))
 
   -- what is checked for races is what is to be checked, behind an opening or not
   pub checked : (first count : ℕ) (all : List Event) → all ≡ j.events.items
       → ((j.kept.cut ≡ 0) × (first ≡ j.processors)) ⊎ ((j.kept.cut ≢ 0) × (first ≡ 0))
       → IsOpened (base_of j.kept) (take (j.processors + count - first) (drop first all))
-          (take count (drop j.processors j.events.items)) (j.processors - first)
+      (take count (drop j.processors j.events.items)) (j.processors - first)
   checked first count all is cases =
       subst (λ (xs : List Event). IsOpened (base_of j.kept) (take (j.processors + count - first) (drop first xs))
-              (take count (drop j.processors j.events.items)) (j.processors - first))
-          (sym is)
-          (opened (base_of j.kept) j.processors first count j.events.items held.opening held.by_processors cases)
+      (take count (drop j.processors j.events.items)) (j.processors - first))
+      (sym is)
+      (opened (base_of j.kept) j.processors first count j.events.items held.opening held.by_processors cases)

@@ -25,13 +25,13 @@ pub history_law : HistoryLaw
 history_law s old new c h of well x was = subst (λ (l : Log). HoldsRest l (c ++ taken) h) (sym was.left) (record {
   history =
       x.history ∙ ap (λ (xs : List Event). c ++ xs) (sym (take-append-drop was.taken old.events))
-          ∙ sym (append_assoc c taken (drop was.taken old.events));
+      ∙ sym (append_assoc c taken (drop was.taken old.events));
   base =
       subst₂ (λ (p n : ℕ). IsBaseOf p n (c ++ taken) new.base) (sym of.processors) (sym of.addresses_are)
-          (base_after s c taken old.base new.base well_taken base ends was.race_free was.base);
+      (base_after s c taken old.base new.base well_taken base ends was.race_free was.base);
   few =
       (let cut = was.base.cut in let few = was.may.few in
-              let long = length-take-le was.taken old.events was.may.place.within in omega arith);
+      let long = length-take-le was.taken old.events was.may.place.within in omega arith);
 })
   where
     taken : List Event
@@ -46,6 +46,6 @@ history_law s old new c h of well x was = subst (λ (l : Log). HoldsRest l (c ++
     well_taken : WellFormed s (c ++ taken)
     well_taken =
         well_formed_front s (c ++ taken) (drop was.taken old.events) (subst (WellFormed s) (x.history
-                    ∙ ap (λ (xs : List Event). c ++ xs) (sym (take-append-drop was.taken old.events))
-                    ∙ sym (append_assoc c taken (drop was.taken old.events)))
-                well)
+        ∙ ap (λ (xs : List Event). c ++ xs) (sym (take-append-drop was.taken old.events))
+        ∙ sym (append_assoc c taken (drop was.taken old.events)))
+        well)

@@ -36,7 +36,7 @@ not_before s j well p q l a b lt =
 pub holder_alone : (s : Sizes) (j : List Event) → WellFormed s j → (p q l : ℕ) → Holds j p l → Holds j q l → p ≡ q
 holder_alone s j well p q l a b = elim (cases_order a.place b.place) [
   | inl is ↦ (does_same j b.place p q (Acquire l) (Acquire l) (subst (λ m. Does j m p (Acquire l)) is a.acquires)
-          b.acquires).0
+      b.acquires).0
   | inr apart ↦ elim apart
       [ inl lt ↦ absurd (not_before s j well p q l a b lt) | inr lt ↦ absurd (not_before s j well q p l b a lt) ]
 ]
@@ -61,10 +61,22 @@ releases_ordered s j well m k p q l lt first second = elim (cases_order m h.plac
 
     between : m < h.place → HappensBefore j m k
     between before =
-        on (edge (record { before = before; from = event p (Release l); to = event q (Acquire l); from_at = first;
-                        to_at = taken; link = lets refl }))
-        (record { before = within; from = event q (Acquire l); to = event q (Release l); from_at = taken;
-                    to_at = second; link = same refl })
+        on (edge (record {
+          before = before;
+          from = event p (Release l);
+          to = event q (Acquire l);
+          from_at = first;
+          to_at = taken;
+          link = lets refl;
+        }))
+        (record {
+          before = within;
+          from = event q (Acquire l);
+          to = event q (Release l);
+          from_at = taken;
+          to_at = second;
+          link = same refl;
+        })
 
     held : h.place < m → ⊥
     held after =
@@ -73,12 +85,12 @@ releases_ordered s j well m k p q l lt first second = elim (cases_order m h.plac
           acquires = slice_get-take j m h.place after ∙ taken;
           keeps =
               λ x lt_x does. (let in_m = slice_get-take_within j m x (event q (Release l)) does in
-                      h.keeps x lt_x
-                          (slice_get-take j k x (omega arith) ∙ slice_get-from_take j m x (event q (Release l)) does));
+              h.keeps x lt_x
+              (slice_get-take j k x (omega arith) ∙ slice_get-from_take j m x (event q (Release l)) does));
         } in
         let is =
-            holder_alone s (take m j) (well_formed_take s j m well) q p l mine
-                (well m (event p (Release l)) first).allowed in
+        holder_alone s (take m j) (well_formed_take s j m well) q p l mine
+        (well m (event p (Release l)) first).allowed in
         h.keeps m after (slice_get-take j k m lt ∙ subst (λ x. Does j m x (Release l)) (sym is) first)
 
 -- after a release, what the lock keeps is the releaser's timestamp
@@ -87,8 +99,8 @@ pub release_time : (s : Sizes) (j : List Event) (e : Event) (l : ℕ) (t : ℕ �
     → IsTimeIn (j ++ e ∷ []) (UpToSome (j ++ e ∷ []) (SomeDoes (j ++ e ∷ []) (Release l))) t
 release_time s j e l t is well time =
     time_same (j ++ e ∷ []) (UpTo (j ++ e ∷ []) (length j))
-        (UpToSome (j ++ e ∷ []) (SomeDoes (j ++ e ∷ []) (Release l))) t (λ i. (there i, back i))
-        (time_at_last j e t time)
+    (UpToSome (j ++ e ∷ []) (SomeDoes (j ++ e ∷ []) (Release l))) t (λ i. (there i, back i))
+    (time_at_last j e t time)
   where
     releases : Does (j ++ e ∷ []) (length j) e.processor (Release l)
     releases = subst (λ k. Does (j ++ e ∷ []) (length j) e.processor k) is (at_last j e)

@@ -4,7 +4,15 @@ use Rattle.std.proofs.lemmas.Option.{same_Some}
 use Rattle.journal.specs.declared.event.Event.{Event}
 use Rattle.journal.specs.declared.event.Kind.{Kind}
 use Rattle.journal.specs.declared.event.Kind.TheVariants.{
-    Load, Store, Fetch, Ask, Acquire, Arrive, Depart, Watch, Await
+  Load,
+  Store,
+  Fetch,
+  Ask,
+  Acquire,
+  Arrive,
+  Depart,
+  Watch,
+  Await,
 }
 use Rattle.journal.specs.Did.{event}
 use Rattle.journal.specs.Sizes.{Sizes}
@@ -56,7 +64,7 @@ taking_follows s j p k well taking allowed =
       in_range = w.in_range call.in_range;
       answers =
           λ i b last. subst (λ a. Answers a k) (last_unique j p w.place i w.call b w.last last).1
-              (awaited_answers w.call k w.awaits);
+          (awaited_answers w.call k w.awaits);
       allowed = allowed;
     }
 
@@ -72,8 +80,12 @@ ready_exact s j p well = (
 pub idle_follows : (s : Sizes) (j : List Event) (p : ℕ) (k : Kind) → p < s.processors → IsIdle j p → KindInRange s k
     → Allowed s j p k → MayFollow s j (event p k)
 idle_follows s j p k within idle range allowed =
-    record { processor = within; in_range = range; answers = λ i a last. idle_answers a k (idle i a last);
-            allowed = allowed }
+    record {
+      processor = within;
+      in_range = range;
+      answers = λ i a last. idle_answers a k (idle i a last);
+      allowed = allowed;
+    }
 
 quiet_allowed : (s : Sizes) (j : List Event) (p : ℕ) (k : Kind) → is_taking k ≡ false → is_closing k ≡ false
     → Allowed s j p k
@@ -100,8 +112,8 @@ pub plain_block : (s : Sizes) (j block : List Event) (p : ℕ) → p < s.process
     → ((k : ℕ) (e : Event) → At block k e → IsPlainAt s p e) → WellFormed s (j ++ block) × IsIdle (j ++ block) p
 plain_block s j block p within well idle =
     push_induction
-        (λ es. ((k : ℕ) (e : Event) → At es k e → IsPlainAt s p e) → WellFormed s (j ++ es) × IsIdle (j ++ es) p)
-        start step block
+    (λ es. ((k : ℕ) (e : Event) → At es k e → IsPlainAt s p e) → WellFormed s (j ++ es) × IsIdle (j ++ es) p)
+    start step block
   where
     start : ((k : ℕ) (e : Event) → At [] k e → IsPlainAt s p e) → WellFormed s (j ++ []) × IsIdle (j ++ []) p
     start plain = rw append-nil (well, idle)
@@ -111,11 +123,13 @@ plain_block s j block p within well idle =
     pushed es e x w i =
         let same : (event p e.kind) ≡ e = ap (λ q. event q e.kind) (sym x.mine) in
         let may =
-            subst (λ f. MayFollow s es f) same
-                (idle_follows s es p e.kind within i x.in_range (quiet_allowed s es p e.kind x.takes x.closes)) in
-        let last = subst (λ q. LastIs (es ++ e ∷ []) q (length es) e.kind) x.mine (last_now es e) in
-        ((each_push s es e).1 (w, may), λ m a now. subst (λ b. awaited b ≡ None)
-                (last_unique (es ++ e ∷ []) p (length es) m e.kind a last now).1 (quiet_idle e.kind x.closes))
+        subst (λ f. MayFollow s es f) same
+        (idle_follows s es p e.kind within i x.in_range (quiet_allowed s es p e.kind x.takes x.closes)) in
+        let last = subst (λ q. LastIs (es ++ e ∷ []) q (length es) e.kind) x.mine (last_now es e) in (
+          (each_push s es e).1 (w, may),
+          λ m a now. subst (λ b. awaited b ≡ None)
+              (last_unique (es ++ e ∷ []) p (length es) m e.kind a last now).1 (quiet_idle e.kind x.closes),
+        )
 
     step : (es : List Event) (e : Event)
         → (((k : ℕ) (f : Event) → At es k f → IsPlainAt s p f) → WellFormed s (j ++ es) × IsIdle (j ++ es) p)

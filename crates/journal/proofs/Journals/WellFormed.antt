@@ -1,7 +1,26 @@
 -- What keeps a journal well formed, event by event.
 use Rattle.std.proofs.Common.{
-    ◌≡◌, ◌≢◌, ℕ, ◌≤◌, ◌⊎◌, inl, inr, ◌↔◌, List, [], ◌∷◌, ◌++◌, length, take, subst, sym, refl, ap, ◌∙◌, take-take,
-    arith
+  ◌≡◌,
+  ◌≢◌,
+  ℕ,
+  ◌≤◌,
+  ◌⊎◌,
+  inl,
+  inr,
+  ◌↔◌,
+  List,
+  [],
+  ◌∷◌,
+  ◌++◌,
+  length,
+  take,
+  subst,
+  sym,
+  refl,
+  ap,
+  ◌∙◌,
+  take-take,
+  arith,
 }
 use Rattle.std.proofs.lemmas.Option.{none-some}
 use Rattle.std.proofs.lemmas.Bool.{cases_eq, cases_order}
@@ -45,9 +64,9 @@ each_push s j e = ((λ well. (well_formed_front s j (e ∷ []) well, last well))
     back : WellFormed s j → MayFollow s j e → WellFormed s (j ++ e ∷ [])
     back well may k f at = elim (push_cases j e k f at) [
       | inl old ↦ (let lt = old.0 in
-              subst (λ xs. MayFollow s xs f) (sym (take-append-le k j (e ∷ []) (omega arith))) (well k f old.1))
+          subst (λ xs. MayFollow s xs f) (sym (take-append-le k j (e ∷ []) (omega arith))) (well k f old.1))
       | inr new ↦ subst (λ g. MayFollow s (take k (j ++ e ∷ [])) g) new.1 (subst (λ xs. MayFollow s xs e)
-              (sym (take-append_seam j (e ∷ [])) ∙ ap (λ m. take m (j ++ e ∷ [])) (sym new.0)) may)
+          (sym (take-append_seam j (e ∷ [])) ∙ ap (λ m. take m (j ++ e ∷ [])) (sym new.0)) may)
     ]
 
 -- a processor has one last event
@@ -63,10 +82,12 @@ last_unique j p i k a b x y = elim (cases_order i k) [
 -- the event that is pushed is its processor's last
 pub last_now : (j : List Event) (e : Event) → LastIs (j ++ e ∷ []) e.processor (length j) e.kind
 last_now j e =
-    record { does = at_last j e;
-            last = λ m f lt at. (let within = at_within (j ++ e ∷ []) m f at in
-                    elim (push_cases j e m f at)
-                        [ inl old ↦ absurd (omega (arith, old.0)) | inr new ↦ absurd (omega (arith, new.0)) ]) }
+    record {
+      does = at_last j e;
+      last = λ m f lt at. (let within = at_within (j ++ e ∷ []) m f at in
+          elim (push_cases j e m f at)
+          [ inl old ↦ absurd (omega (arith, old.0)) | inr new ↦ absurd (omega (arith, new.0)) ]);
+    }
 
 -- others' events leave a processor's last one
 pub last_longer : (j es : List Event) (p i : ℕ) (a : Kind) → ((m : ℕ) (f : Event) → At es m f → f.processor ≢ p)
@@ -89,24 +110,24 @@ pub last_or_none : (j : List Event) (p : ℕ)
     → ((i : ℕ) × (a : Kind) × LastIs j p i a) ⊎ ((m : ℕ) (f : Event) → At j m f → f.processor ≢ p)
 last_or_none j p =
     push_induction
-        (λ xs. ((i : ℕ) × (a : Kind) × LastIs xs p i a) ⊎ ((m : ℕ) (f : Event) → At xs m f → f.processor ≢ p))
-        (inr (λ m f at. absurd (none-some f at))) step j
+    (λ xs. ((i : ℕ) × (a : Kind) × LastIs xs p i a) ⊎ ((m : ℕ) (f : Event) → At xs m f → f.processor ≢ p))
+    (inr (λ m f at. absurd (none-some f at))) step j
   where
     away : (e : Event) → e.processor ≢ p → (m : ℕ) (f : Event) → At (e ∷ []) m f → f.processor ≢ p
     away e isnt m f at same =
         elim (push_cases [] e m f at)
-            [ inl old ↦ absurd (none-some f old.1) | inr new ↦ isnt (ap (λ x. x.processor) new.1 ∙ same) ]
+        [ inl old ↦ absurd (none-some f old.1) | inr new ↦ isnt (ap (λ x. x.processor) new.1 ∙ same) ]
 
     step : (xs : List Event) (e : Event)
         → ((i : ℕ) × (a : Kind) × LastIs xs p i a) ⊎ ((m : ℕ) (f : Event) → At xs m f → f.processor ≢ p)
         → ((i : ℕ) × (a : Kind) × LastIs (xs ++ e ∷ []) p i a)
-            ⊎ ((m : ℕ) (f : Event) → At (xs ++ e ∷ []) m f → f.processor ≢ p)
+        ⊎ ((m : ℕ) (f : Event) → At (xs ++ e ∷ []) m f → f.processor ≢ p)
     step xs e ih = elim (cases_eq e.processor p) [
       | inl is ↦ inl (length xs, e.kind, subst (λ q. LastIs (xs ++ e ∷ []) q (length xs) e.kind) is (last_now xs e))
       | inr isnt ↦ elim ih [
         | inl x ↦ inl (x.0, x.1, last_longer xs (e ∷ []) p x.0 x.1 (away e isnt) x.2)
         | inr none ↦ inr (λ m f at same. elim (push_cases xs e m f at)
-                [ inl old ↦ none m f old.1 same | inr new ↦ isnt (ap (λ x. x.processor) new.1 ∙ same) ])
+            [ inl old ↦ none m f old.1 same | inr new ↦ isnt (ap (λ x. x.processor) new.1 ∙ same) ])
       ]
     ]
 
@@ -117,7 +138,7 @@ holds_now j p l = record {
   acquires = at_last j (event p (Acquire l));
   keeps =
       λ k lt does. elim (push_cases j (event p (Acquire l)) k (event p (Release l)) does)
-          [ inl old ↦ omega (arith, old.0) | inr new ↦ omega (arith, new.0) ];
+      [ inl old ↦ omega (arith, old.0) | inr new ↦ omega (arith, new.0) ];
 }
 
 -- and holds it until its release
@@ -128,7 +149,7 @@ holds_longer j e p l isnt h = record {
   acquires = at_longer j (e ∷ []) h.place (event p (Acquire l)) h.acquires;
   keeps =
       λ k lt does. elim (push_cases j e k (event p (Release l)) does)
-          [ inl old ↦ h.keeps k lt old.1 | inr new ↦ isnt new.1 ];
+      [ inl old ↦ h.keeps k lt old.1 | inr new ↦ isnt new.1 ];
 }
 
 -- who holds a lock after an event held it before, and does not release it, or acquires it
@@ -136,8 +157,11 @@ pub holds_cases : (j : List Event) (e : Event) (p l : ℕ) → Holds (j ++ e ∷
     → (Holds j p l × (e ≢ (event p (Release l)))) ⊎ (e ≡ event p (Acquire l))
 holds_cases j e p l h = elim (push_cases j e h.place (event p (Acquire l)) h.acquires) [
   | inl old ↦ inl (
-    record { place = h.place; acquires = old.1;
-            keeps = λ k lt does. h.keeps k lt (at_longer j (e ∷ []) k (event p (Release l)) does) },
+    record {
+      place = h.place;
+      acquires = old.1;
+      keeps = λ k lt does. h.keeps k lt (at_longer j (e ∷ []) k (event p (Release l)) does);
+    },
     λ is. h.keeps (length j) old.0 (subst (λ f. At (j ++ e ∷ []) (length j) f) is (at_last j e)),
   )
   | inr new ↦ inr new.1
@@ -148,9 +172,12 @@ pub last_cases : (j : List Event) (e : Event) (p i : ℕ) (a : Kind) → LastIs 
     → ((e.processor ≡ p) × (i ≡ length j) × (a ≡ e.kind)) ⊎ ((e.processor ≢ p) × LastIs j p i a)
 last_cases j e p i a x = elim (cases_eq e.processor p) [
   | inl is ↦ (let same = last_unique (j ++ e ∷ []) p i (length j) a e.kind x
-              (subst (λ q. LastIs (j ++ e ∷ []) q (length j) e.kind) is (last_now j e)) in
-          inl (is, same.0, same.1))
-  | inr isnt ↦ inr (isnt, last_shorter j (e ∷ []) p i a (λ m f at same. elim (push_cases [] e m f at)
-              [ inl old ↦ absurd (none-some f old.1) | inr new ↦ isnt (ap (λ y. y.processor) new.1 ∙ same) ])
-          x)
+      (subst (λ q. LastIs (j ++ e ∷ []) q (length j) e.kind) is (last_now j e)) in
+      inl (is, same.0, same.1))
+  | inr isnt ↦ inr (
+    isnt,
+    last_shorter j (e ∷ []) p i a (λ m f at same. elim (push_cases [] e m f at)
+        [ inl old ↦ absurd (none-some f old.1) | inr new ↦ isnt (ap (λ y. y.processor) new.1 ∙ same) ])
+        x,
+  )
 ]

@@ -1,7 +1,25 @@
 -- The counts of fetches.
 use Rattle.std.proofs.Common.{
-    ℕ, ◌≡◌, ◌≢◌, ◌<◌, ◌↔◌, inl, inr, List, [], ◌∷◌, ◌++◌, Some, length, arith, sym, ap, subst, ◌∙◌, append_assoc,
-    append-nil
+  ℕ,
+  ◌≡◌,
+  ◌≢◌,
+  ◌<◌,
+  ◌↔◌,
+  inl,
+  inr,
+  List,
+  [],
+  ◌∷◌,
+  ◌++◌,
+  Some,
+  length,
+  arith,
+  sym,
+  ap,
+  subst,
+  ◌∙◌,
+  append_assoc,
+  append-nil,
 }
 use Rattle.std.proofs.lemmas.Option.{none-some}
 use Rattle.std.proofs.lemmas.List.{take-append-le}
@@ -25,8 +43,12 @@ use Rattle.journal.proofs.Missing.Gaps.{gap_others, stored_on}
 pub count_of_same : {A : Type 0} (values others : A → Type 0) (n : ℕ) → ((x : A) → values x ↔ others x)
     → HasCount values n → HasCount others n
 count_of_same values others n same c =
-    record { list = c.list; each = λ x. (λ h. (same x).0 ((c.each x).0 h), λ v. (c.each x).1 ((same x).1 v));
-            once = c.once; length_is = c.length_is }
+    record {
+      list = c.list;
+      each = λ x. (λ h. (same x).0 ((c.each x).0 h), λ v. (c.each x).1 ((same x).1 v));
+      once = c.once;
+      length_is = c.length_is;
+    }
 
 -- events that leave the gap leave its counts
 pub counts_on : (s : Sizes) (j es : List Event) (p n w r d : ℕ)
@@ -35,12 +57,12 @@ pub counts_on : (s : Sizes) (j es : List Event) (p n w r d : ℕ)
 counts_on s j es p n w r d same c = record {
   writers_are =
       count_of_same (λ (q : ℕ). (k : ℕ) × (a : ℕ) × StoredInGap s j p n (q, k, a))
-          (λ (q : ℕ). (k : ℕ) × (a : ℕ) × StoredInGap s (j ++ es) p n (q, k, a)) w
-          (λ q. (λ x. (x.0, x.1, (on (q, x.0, x.1)).1 x.2), λ x. (x.0, x.1, (on (q, x.0, x.1)).0 x.2))) c.writers_are;
+      (λ (q : ℕ). (k : ℕ) × (a : ℕ) × StoredInGap s (j ++ es) p n (q, k, a)) w
+      (λ q. (λ x. (x.0, x.1, (on (q, x.0, x.1)).1 x.2), λ x. (x.0, x.1, (on (q, x.0, x.1)).0 x.2))) c.writers_are;
   records_are =
       count_of_same (λ (x : ℕ × ℕ). (a : ℕ) × StoredInGap s j p n (x.0, x.1, a))
-          (λ (x : ℕ × ℕ). (a : ℕ) × StoredInGap s (j ++ es) p n (x.0, x.1, a)) r
-          (λ x. (λ g. (g.0, (on (x.0, x.1, g.0)).1 g.1), λ g. (g.0, (on (x.0, x.1, g.0)).0 g.1))) c.records_are;
+      (λ (x : ℕ × ℕ). (a : ℕ) × StoredInGap s (j ++ es) p n (x.0, x.1, a)) r
+      (λ x. (λ g. (g.0, (on (x.0, x.1, g.0)).1 g.1), λ g. (g.0, (on (x.0, x.1, g.0)).0 g.1))) c.records_are;
   words_are =
       count_of_same (StoredInGap s j p n) (StoredInGap s (j ++ es) p n) d (λ z. ((on z).1, (on z).0)) c.words_are;
 }
@@ -69,8 +91,10 @@ counted_push s j e new old k p n w r d f = elim (push_cases j e k (event p (Fetc
 -- a block without events has no fetch
 pub block_counts_start : (s : Sizes) (j : List Event) (p : ℕ) → BlockCounts s j [] p
 block_counts_start s j p =
-    record { counts = λ k n w r d f. absurd (none-some (event p (Fetch w n r d)) f);
-            first = λ i k n w r d w' r' d' less f. absurd (none-some (event p (Fetch w n r d)) f) }
+    record {
+      counts = λ k n w r d f. absurd (none-some (event p (Fetch w n r d)) f);
+      first = λ i k n w r d w' r' d' less f. absurd (none-some (event p (Fetch w n r d)) f);
+    }
 
 -- others' events leave what a block's fetches count
 pub block_counts_others : (s : Sizes) (j es block : List Event) (p : ℕ)
@@ -81,24 +105,24 @@ block_counts_others s j es block p away c =
 -- a further event of the block: if it is a fetch, it counts the gap before the block, and is the first of its page
 pub block_counts_push : (s : Sizes) (j block : List Event) (e : Event) (p : ℕ)
     → ((n w r d : ℕ) → e ≡ event p (Fetch w n r d)
-            → GapCounts s j p n w r d × ((i w' r' d' : ℕ) → ¬ Does block i p (Fetch w' n r' d')))
+    → GapCounts s j p n w r d × ((i w' r' d' : ℕ) → ¬ Does block i p (Fetch w' n r' d')))
     → BlockCounts s j block p → BlockCounts s j (block ++ e ∷ []) p
 block_counts_push s j block e p new c = record { counts = counts; first = first }
   where
     counts : (k n w r d : ℕ) → Does (block ++ e ∷ []) k p (Fetch w n r d) → GapCounts s j p n w r d
     counts k n w r d f =
         elim (push_cases block e k (event p (Fetch w n r d)) f)
-            [ inl h ↦ c.counts k n w r d h.1 | inr h ↦ (new n w r d h.1).0 ]
+        [ inl h ↦ c.counts k n w r d h.1 | inr h ↦ (new n w r d h.1).0 ]
 
     first : (i k n w r d w' r' d' : ℕ) → i < k → Does (block ++ e ∷ []) k p (Fetch w n r d)
         → ¬ Does (block ++ e ∷ []) i p (Fetch w' n r' d')
     first i k n w r d w' r' d' less f g = elim (push_cases block e k (event p (Fetch w n r d)) f) [
       | inl h ↦ (let within : k < length block = h.0 in
-              c.first i k n w r d w' r' d' less h.1
-                  (at_shorter block (e ∷ []) i (event p (Fetch w' n r' d')) (omega arith) g))
+          c.first i k n w r d w' r' d' less h.1
+          (at_shorter block (e ∷ []) i (event p (Fetch w' n r' d')) (omega arith) g))
       | inr h ↦ (let last : k ≡ length block = h.0 in
-              (new n w r d h.1).1 i w' r' d'
-                  (at_shorter block (e ∷ []) i (event p (Fetch w' n r' d')) (omega arith) g))
+          (new n w r d h.1).1 i w' r' d'
+          (at_shorter block (e ∷ []) i (event p (Fetch w' n r' d')) (omega arith) g))
     ]
 
 -- a block whose fetches count so is counted behind a counted journal
@@ -106,15 +130,15 @@ pub counted_block : (s : Sizes) (j block : List Event) (p : ℕ) → IsBlock p b
     → AreCounted s j → AreCounted s (j ++ block)
 counted_block s j block p is c old =
     push_induction (λ es. IsBlock p es → BlockCounts s j es p → AreCounted s (j ++ es)) (λ _ _. rw append-nil old)
-        step block is c
+    step block is c
   where
     front : (es : List Event) (e : Event) → BlockCounts s j (es ++ e ∷ []) p → BlockCounts s j es p
     front es e x = record {
       counts = λ k n w r d f. x.counts k n w r d (at_longer es (e ∷ []) k (event p (Fetch w n r d)) f);
       first =
           λ i k n w r d w' r' d' less f g. x.first i k n w r d w' r' d' less
-              (at_longer es (e ∷ []) k (event p (Fetch w n r d)) f)
-              (at_longer es (e ∷ []) i (event p (Fetch w' n r' d')) g);
+          (at_longer es (e ∷ []) k (event p (Fetch w n r d)) f)
+          (at_longer es (e ∷ []) i (event p (Fetch w' n r' d')) g);
     }
 
     last : (es : List Event) (e : Event) → IsBlock p (es ++ e ∷ []) → BlockCounts s j (es ++ e ∷ []) p
@@ -125,13 +149,13 @@ counted_block s j block p is c old =
         let own : Does (es ++ e ∷ []) (length es) p (Fetch w n r d) = at_last es e ∙ ap Some (i ∙ ap fetch mine) in
         let P : ℕ → Type 0 = λ m. GapCounts s (j ++ es) m n w r d in
         subst P (sym mine) (counts_on s j es p n w r d (λ k. gap_block s j es p n k (block_front p es (e ∷ []) more)
-                    (λ m w' r' d' g. x.first m (length es) n w r d w' r' d'
-                        (at_within es m (event p (Fetch w' n r' d')) g) own
-                        (at_longer es (e ∷ []) m (event p (Fetch w' n r' d')) g)))
-                (x.counts (length es) n w r d own))
+        (λ m w' r' d' g. x.first m (length es) n w r d w' r' d'
+        (at_within es m (event p (Fetch w' n r' d')) g) own
+        (at_longer es (e ∷ []) m (event p (Fetch w' n r' d')) g)))
+        (x.counts (length es) n w r d own))
 
     step : (es : List Event) (e : Event) → (IsBlock p es → BlockCounts s j es p → AreCounted s (j ++ es))
         → IsBlock p (es ++ e ∷ []) → BlockCounts s j (es ++ e ∷ []) p → AreCounted s (j ++ (es ++ e ∷ []))
     step es e ih more x =
         rw (← append_assoc j es (e ∷ []))
-            (counted_push s (j ++ es) e (last es e more x) (ih (block_front p es (e ∷ []) more) (front es e x)))
+        (counted_push s (j ++ es) e (last es e more x) (ih (block_front p es (e ∷ []) more) (front es e x)))

@@ -1,7 +1,29 @@
 -- The gap is what lies between two timestamps, and has intervals whole.
 use Rattle.std.proofs.Common.{
-    ℕ, ◌≡◌, ◌≢◌, ◌<◌, ◌≤◌, ◌⊎◌, ◌↔◌, ◌/◌, inl, inr, List, [], ◌∷◌, ◌++◌, true, length, arith, refl, sym, ap, subst,
-    ◌∙◌, true≢false, le_of_lt
+  ℕ,
+  ◌≡◌,
+  ◌≢◌,
+  ◌<◌,
+  ◌≤◌,
+  ◌⊎◌,
+  ◌↔◌,
+  ◌/◌,
+  inl,
+  inr,
+  List,
+  [],
+  ◌∷◌,
+  ◌++◌,
+  true,
+  length,
+  arith,
+  refl,
+  sym,
+  ap,
+  subst,
+  ◌∙◌,
+  true≢false,
+  le_of_lt,
 }
 use Rattle.std.proofs.lemmas.Bool.{cases_eq, cases_lt}
 use Rattle.journal.specs.declared.event.Event.{Event}
@@ -44,8 +66,12 @@ gap_others s j es p n i away = (there, back)
     there : InGap s (j ++ es) p n i → InGap s j p n i
     there g =
         let past = (others j es p i away).0 g.past in
-        (gap_is s j p n i).1 (past, stores_shorter s j es n i (past_within j p i past) g.store, λ b.
-                ((gap_is s (j ++ es) p n i).0 g).2 (brought_longer j es p n i b))
+        (gap_is s j p n i).1 (
+          past,
+          stores_shorter s j es n i (past_within j p i past) g.store,
+          λ b.
+              ((gap_is s (j ++ es) p n i).0 g).2 (brought_longer j es p n i b),
+        )
 
     old : InGap s j p n i → Brought (j ++ es) p n i → ⊥
     old g (inl m) = g.others (m.0, at_shorter j es i m.0 (past_within j p i g.past) m.1, m.2)
@@ -64,7 +90,7 @@ gap_others s j es p n i away = (there, back)
 pub gap_taken : (s : Sizes) (j : List Event) (p n q i a v : ℕ) (k : Kind) (t t' : ℕ → ℕ) → is_taking k ≡ true
     → IsTimeOf j p t → IsTimeOf (j ++ event p k ∷ []) p t' → Does j i q (Store a v) → a / s.words ≡ n → q ≢ p
     → InGap s (j ++ event p k ∷ []) p n i
-        ↔ (InGap s j p n i ⊎ ((t q ≤ interval_at j q i) × (interval_at j q i < t' q)))
+    ↔ (InGap s j p n i ⊎ ((t q ≤ interval_at j q i) × (interval_at j q i < t' q)))
 gap_taken s j p n q i a v k t t' takes time after does page apart = (there, back)
   where
     e : Event
@@ -91,30 +117,38 @@ gap_taken s j p n q i a v k t t' takes time after does page apart = (there, back
     brought_old : Brought (j ++ e ∷ []) p n i → Brought j p n i
     brought_old b =
         elim (brought_push s j e p n i not_fetch store b)
-            [ inl o ↦ o | inr m ↦ (let same = m.0 in absurd (omega (arith, within, same))) ]
+        [ inl o ↦ o | inr m ↦ (let same = m.0 in absurd (omega (arith, within, same))) ]
 
     there : InGap s (j ++ e ∷ []) p n i → InGap s j p n i ⊎ ((t q ≤ interval_at j q i) × (interval_at j q i < t' q))
     there g =
         let less = new.0 g.past in
         elim (cases_lt (interval_at j q i) (t q)) [
-          | inl known ↦ inl ((gap_is s j p n i).1 (old.1 known, stores_to s j n i q a v does page, λ b.
-                      ((gap_is s (j ++ e ∷ []) p n i).0 g).2 (brought_longer j (e ∷ []) p n i b)))
+          | inl known ↦ inl ((gap_is s j p n i).1 (
+            old.1 known,
+            stores_to s j n i q a v does page,
+            λ b.
+                ((gap_is s (j ++ e ∷ []) p n i).0 g).2 (brought_longer j (e ∷ []) p n i b),
+          ))
           | inr from ↦ inr (from, omega (arith, less, number))
         ]
 
     back : InGap s j p n i ⊎ ((t q ≤ interval_at j q i) × (interval_at j q i < t' q)) → InGap s (j ++ e ∷ []) p n i
     back (inl g) =
         (gap_is s (j ++ e ∷ []) p n i).1
-            (past_longer j (e ∷ []) p i g.past, store, λ b. ((gap_is s j p n i).0 g).2 (brought_old b))
+        (past_longer j (e ∷ []) p i g.past, store, λ b. ((gap_is s j p n i).0 g).2 (brought_old b))
     back (inr x) =
-        (gap_is s (j ++ e ∷ []) p n i).1 (new.1 (omega (arith, x.1, number)), store, λ b. let less = old.0
-                (brought_past j p n i (brought_old b)) in let le = x.0 in omega arith)
+        (gap_is s (j ++ e ∷ []) p n i).1 (
+          new.1 (omega (arith, x.1, number)),
+          store,
+          λ b. let less = old.0
+              (brought_past j p n i (brought_old b)) in let le = x.0 in omega arith,
+        )
 
 -- no store to the page between the timestamps: nothing comes to the past
 pub nothing_taken : (s : Sizes) (j : List Event) (p n : ℕ) (k : Kind) (t t' : ℕ → ℕ) → is_taking k ≡ true
     → IsTimeOf j p t → IsTimeOf (j ++ event p k ∷ []) p t'
     → ((q i a v : ℕ) → q ≢ p → Does j i q (Store a v) → a / s.words ≡ n → t q ≤ interval_at j q i
-            → interval_at j q i < t' q → ⊥)
+    → interval_at j q i < t' q → ⊥)
     → (i : ℕ) → StoresTo s (j ++ event p k ∷ []) n i → InPast (j ++ event p k ∷ []) p i → InPast j p i
 nothing_taken s j p n k t t' takes time after none i x past =
     elim (cases_lt i (length j)) [ inl within ↦ old within (cases_eq x.by p) | inr from ↦ absurd (last from) ]
@@ -127,15 +161,17 @@ nothing_taken s j p n k t t' takes time after none i x past =
 
     last : length j ≤ i → ⊥
     last from =
-        elim (push_cases j e i f x.does) [ inl h ↦ (let less = h.0 in omega arith)
-                | inr h ↦ true≢false (sym takes ∙ ap (λ (g : Event). is_taking g.kind) h.1) ]
+        elim (push_cases j e i f x.does) [
+          | inl h ↦ (let less = h.0 in omega arith)
+          | inr h ↦ true≢false (sym takes ∙ ap (λ (g : Event). is_taking g.kind) h.1)
+        ]
 
     old : i < length j → (x.by ≡ p) ⊎ (x.by ≢ p) → InPast j p i
     old within (inl mine) = own_in_past j p i f (at_shorter j (e ∷ []) i f within x.does) mine
     old within (inr apart) =
         let does : Does j i x.by (Store x.address x.value) = at_shorter j (e ∷ []) i f within x.does in
         let number : interval_at (j ++ e ∷ []) x.by i ≡ interval_at j x.by i =
-            count_of-front is_closing j (e ∷ []) i x.by (le_of_lt within) in
+        count_of-front is_closing j (e ∷ []) i x.by (le_of_lt within) in
         let less = (covered (j ++ e ∷ []) p x.by i (Store x.address x.value) t' after x.does apart).0 past in
         elim (cases_lt (interval_at j x.by i) (t x.by)) [
           | inl known ↦ (covered j p x.by i (Store x.address x.value) t time does apart).1 known
@@ -150,10 +186,10 @@ gap_whole s j p n q i m a b v w g does other page same = record {
   others = not_mine j p q m (Store b w) other apart;
   past =
       (closed_past j p q m c.0 (Store b w) second other apart).1
-          ((closed_past j p q i c.0 (Store a v) first does apart).0 g.past);
+      ((closed_past j p q i c.0 (Store a v) first does apart).0 g.past);
   new =
       λ f fetch h. g.new f fetch (before f fetch
-              (leaving_at j f p q m (Store b w) (Fetch fetch.0 n fetch.1 fetch.2) other fetch.3 apart (inr h)));
+      (leaving_at j f p q m (Store b w) (Fetch fetch.0 n fetch.1 fetch.2) other fetch.3 apart (inr h)));
 }
   where
     apart : q ≢ p
@@ -173,11 +209,10 @@ gap_whole s j p n q i m a b v w g does other page same = record {
         let least = closes_first j q m c.0 l.close (Store b w) second other l.from l.closes in
         let less = first.before in
         elim (up_to_back j i l.close f
-                (own_order j q i l.close (Store a v) l.closes.kind does l.closes.does (omega arith)) l.inside)
-            [
+        (own_order j q i l.close (Store a v) l.closes.kind does l.closes.does (omega arith)) l.inside) [
           | inl is ↦ (let P : ℕ
-                  → Type 0 = λ x. Does j x q (Store a v) in absurd (apart (does_same j f q p (Store a v)
-                              (Fetch fetch.0 n fetch.1 fetch.2) (subst P is does) fetch.3).0))
+              → Type 0 = λ x. Does j x q (Store a v) in absurd (apart (does_same j f q p (Store a v)
+              (Fetch fetch.0 n fetch.1 fetch.2) (subst P is does) fetch.3).0))
           | inr h ↦ h
         ]
 

@@ -1,7 +1,26 @@
 -- The missing intervals as groups of places: they are the gap, in an order that extends happens-before.
 use Rattle.std.proofs.Common.{
-    ℕ, ◌≡◌, ◌≢◌, ◌<◌, ◌↔◌, inl, List, [], ◌∷◌, Some, zero, suc, map, slice_get, arith, refl, sym, subst, subst₂, ◌∙◌,
-    true≢false
+  ℕ,
+  ◌≡◌,
+  ◌≢◌,
+  ◌<◌,
+  ◌↔◌,
+  inl,
+  List,
+  [],
+  ◌∷◌,
+  Some,
+  zero,
+  suc,
+  map,
+  slice_get,
+  arith,
+  refl,
+  sym,
+  subst,
+  subst₂,
+  ◌∙◌,
+  true≢false,
 }
 use Rattle.std.specs.List.{concat}
 use Rattle.std.proofs.lemmas.Option.{none-some, same_Some}
@@ -26,29 +45,33 @@ use Rattle.journal.proofs.Missing.Gaps.{gap_whole}
 
 -- these are the places of each interval's stores
 pub record AreGroups (s : Sizes) (j : List Event) (n : ℕ) (missing : List Missing) (groups : List (List ℕ)) : Type 0
-    where
-  pub records_of : AreRecordsOf (λ (i : ℕ). page_write s (slice_get j i)) groups
-      (map (λ (x : Missing). x.words) missing)
-  pub group_of : (m : ℕ) (x : Missing) → slice_get missing m ≡ Some x → (g : List ℕ) × (slice_get groups m ≡ Some g)
-  pub of : (m : ℕ) (g : List ℕ) → slice_get groups m ≡ Some g
-      → (x : Missing) × (slice_get missing m ≡ Some x) × ((i : ℕ) → Has g i ↔ StoresIn s j x.owner x.number n i)
-          × InOrder (λ i k. i < k) g
+  where
+    pub records_of : AreRecordsOf (λ (i : ℕ). page_write s (slice_get j i)) groups
+        (map (λ (x : Missing). x.words) missing)
+    pub group_of : (m : ℕ) (x : Missing) → slice_get missing m ≡ Some x → (g : List ℕ) × (slice_get groups m ≡ Some g)
+    pub of : (m : ℕ) (g : List ℕ) → slice_get groups m ≡ Some g
+        → (x : Missing) × (slice_get missing m ≡ Some x) × ((i : ℕ) → Has g i ↔ StoresIn s j x.owner x.number n i)
+        × InOrder (λ i k. i < k) g
 
 -- each list of contents has its groups
 pub groups_of : (s : Sizes) (j : List Event) (n : ℕ) (missing : List Missing)
     → ((x : Missing) → Has missing x → IsContent s j x.owner x.number n x.words)
     → (groups : List (List ℕ)) × AreGroups s j n missing groups
-groups_of s j n [] contents =
-    ([], record
-            { records_of = none; group_of = λ m x h. absurd (none-some x h); of = λ m g h. absurd (none-some g h) })
+groups_of s j n [] contents = (
+  [],
+  record
+      { records_of = none; group_of = λ m x h. absurd (none-some x h); of = λ m g h. absurd (none-some g h) },
+)
 groups_of s j n (y ∷ missing) contents =
     go (contents y (0, refl)) (groups_of s j n missing (λ x h. contents x (suc h.0, h.1)))
   where
     go : IsContent s j y.owner y.number n y.words → ((groups : List (List ℕ)) × AreGroups s j n missing groups)
         → (groups : List (List ℕ)) × AreGroups s j n (y ∷ missing) groups
-    go content rest =
-        (content.places
-                ∷ rest.0, record { records_of = more content.sums rest.1.records_of; group_of = group_of; of = of })
+    go content rest = (
+      content.places
+          ∷ rest.0,
+      record { records_of = more content.sums rest.1.records_of; group_of = group_of; of = of },
+    )
       where
         group_of : (m : ℕ) (x : Missing) → slice_get (y ∷ missing) m ≡ Some x
             → (g : List ℕ) × (slice_get (content.places ∷ rest.0) m ≡ Some g)
@@ -57,10 +80,10 @@ groups_of s j n (y ∷ missing) contents =
 
         of : (m : ℕ) (g : List ℕ) → slice_get (content.places ∷ rest.0) m ≡ Some g
             → (x : Missing) × (slice_get (y ∷ missing) m ≡ Some x)
-                × ((i : ℕ) → Has g i ↔ StoresIn s j x.owner x.number n i) × InOrder (λ i k. i < k) g
+            × ((i : ℕ) → Has g i ↔ StoresIn s j x.owner x.number n i) × InOrder (λ i k. i < k) g
         of zero g h =
             let P : List ℕ → Type 0 =
-                λ f. ((i : ℕ) → Has f i ↔ StoresIn s j y.owner y.number n i) × InOrder (λ i k. i < k) f in
+            λ f. ((i : ℕ) → Has f i ↔ StoresIn s j y.owner y.number n i) × InOrder (λ i k. i < k) f in
             let r = subst P (same_Some content.places g h) (content.each, content.rising) in
             (y, refl, r.0, r.1)
         of (suc m) g h = rest.1.of m g h
@@ -76,7 +99,7 @@ groups_gap s j p n missing groups are of i = (λ h. there ((has_concat groups i)
         let x = (r.2 i).0 h.2 in
         let stored = (are.each r.0.owner r.0.number).0 (r.0, (h.1.0, r.1), refl, refl) in
         gap_whole s j p n r.0.owner stored.1.0 i stored.0 x.0 stored.1.1 x.1 stored.1.3 stored.1.2 x.2 x.3
-            (x.4 ∙ sym stored.1.4)
+        (x.4 ∙ sym stored.1.4)
 
     back : InGap s j p n i → Has (concat groups) i
     back g =
@@ -88,7 +111,7 @@ groups_gap s j p n missing groups are of i = (λ h. there ((has_concat groups i)
         let P : Missing → Type 0 = λ x. StoresIn s j x.owner x.number n i in
         let Q : ℕ → ℕ → Type 0 = λ q k. StoresIn s j q k n i in
         let here : StoresIn s j m.0.owner m.0.number n i =
-            subst₂ Q (sym m.2) (sym m.3) (w.address, w.value, w.does, w.in_page, refl) in
+        subst₂ Q (sym m.2) (sym m.3) (w.address, w.value, w.does, w.in_page, refl) in
         (has_concat groups i).1 (f.0, (m.1.0, f.1), (r.2 i).1 (subst P (sym same) here))
 
 -- a store of a closed interval, with its closing event
@@ -106,7 +129,7 @@ groups_extend s j n missing groups placed order of = (
       (λ g h x y a b less at to same. let r = of.of h.0 g h.1 in let up = r.3 x y a b less at to in omega arith)
       apart,
   in_order_concat (λ i k. ¬ HappensBefore j k i) groups (λ g h x y a b less at to before. let r = of.of h.0 g h.1 in
-          let up = r.3 x y a b less at to in let down = goes_forward j before in omega arith)
+      let up = r.3 x y a b less at to in let down = goes_forward j before in omega arith)
       extends,
 )
   where
@@ -116,10 +139,15 @@ groups_extend s j n missing groups placed order of = (
         let r = of.of x g at in
         let t = of.of y h to in
         let c = placed r.0 (x, r.1) in
-        let d = placed t.0 (y, t.1) in
-        (c.at, d.at, store_closed s j r.0.owner r.0.number n a c.at ((r.2 a).0 in_g) c.closes c.number, store_closed s
-                j t.0.owner t.0.number n b d.at ((t.2 b).0 in_h) d.closes d.number, placed_before j r.0.owner
-                r.0.number r.0.place t.0.owner t.0.number t.0.place c d (order x y r.0 t.0 less r.1 t.1))
+        let d = placed t.0 (y, t.1) in (
+          c.at,
+          d.at,
+          store_closed s j r.0.owner r.0.number n a c.at ((r.2 a).0 in_g) c.closes c.number,
+          store_closed s
+              j t.0.owner t.0.number n b d.at ((t.2 b).0 in_h) d.closes d.number,
+          placed_before j r.0.owner
+              r.0.number r.0.place t.0.owner t.0.number t.0.place c d (order x y r.0 t.0 less r.1 t.1),
+        )
 
     apart : InOrder (λ (g h : List ℕ). (a b : ℕ) → Has g a → Has h b → a ≢ b) groups
     apart x y g h less at to a b in_g in_h same =

@@ -1,7 +1,27 @@
 -- What each kind of event does to the missing intervals.
 use Rattle.std.proofs.Common.{
-    ℕ, ◌≡◌, ◌≢◌, ◌<◌, ◌≤◌, ◌⊎◌, ◌↔◌, ◌/◌, inl, inr, List, [], ◌∷◌, ◌++◌, true, arith, refl, sym, ap, ◌∙◌, le_of_lt,
-    true≢false
+  ℕ,
+  ◌≡◌,
+  ◌≢◌,
+  ◌<◌,
+  ◌≤◌,
+  ◌⊎◌,
+  ◌↔◌,
+  ◌/◌,
+  inl,
+  inr,
+  List,
+  [],
+  ◌∷◌,
+  ◌++◌,
+  true,
+  arith,
+  refl,
+  sym,
+  ap,
+  ◌∙◌,
+  le_of_lt,
+  true≢false,
 }
 use Rattle.lists.proofs.Places.{push_cases}
 use Rattle.journal.specs.declared.event.Event.{Event}
@@ -29,8 +49,11 @@ use Rattle.journal.proofs.Intervals.Contents.{content_on, content_closed}
 -- nothing is missing where there is no gap
 pub none_missing : (s : Sizes) (j : List Event) (p n : ℕ) → NoGap s j p n → AreMissing s j p n []
 none_missing s j p n none =
-    record { each = λ q k. (λ x. absurd (has-nil x.0 x.1), λ x. absurd (none x.1.0 x.1.3));
-            placed = λ x h. absurd (has-nil x h); contents = λ x h. absurd (has-nil x h) }
+    record {
+      each = λ q k. (λ x. absurd (has-nil x.0 x.1), λ x. absurd (none x.1.0 x.1.3));
+      placed = λ x h. absurd (has-nil x h);
+      contents = λ x h. absurd (has-nil x h);
+    }
 
 -- and there is one where something is
 pub missing_some : (s : Sizes) (j : List Event) (p n : ℕ) (x : Missing) (missing : List Missing)
@@ -43,8 +66,11 @@ pub missing_same : (s : Sizes) (j : List Event) (p n : ℕ) (missing other : Lis
     → ((x : Missing) → Has missing x ↔ Has other x) → AreMissing s j p n missing → AreMissing s j p n other
 missing_same s j p n missing other same are = record {
   each =
-      λ q k. (λ x. (are.each q k).0 (x.0, (same x.0).1 x.1, x.2, x.3), λ g. let x = (are.each q k).1 g in
-              (x.0, (same x.0).0 x.1, x.2, x.3));
+      λ q k. (
+        λ x. (are.each q k).0 (x.0, (same x.0).1 x.1, x.2, x.3),
+        λ g. let x = (are.each q k).1 g in
+            (x.0, (same x.0).0 x.1, x.2, x.3),
+      );
   placed = λ x h. are.placed x ((same x).1 h);
   contents = λ x h. are.contents x ((same x).1 h);
 }
@@ -64,9 +90,12 @@ pub missing_on : (s : Sizes) (j es : List Event) (p n : ℕ) (missing : List Mis
     → AreMissing s (j ++ es) p n missing
 missing_on s j es p n missing same are = record {
   each =
-      λ q k. (λ x. let g = (are.each q k).0 x in
-              (g.0, (stored_on s j es p n same (q, k, g.0)).1 g.1), λ g. (are.each q k).1
-                  (g.0, (stored_on s j es p n same (q, k, g.0)).0 g.1));
+      λ q k. (
+        λ x. let g = (are.each q k).0 x in
+            (g.0, (stored_on s j es p n same (q, k, g.0)).1 g.1),
+        λ g. (are.each q k).1
+            (g.0, (stored_on s j es p n same (q, k, g.0)).0 g.1),
+      );
   placed = λ x h. placed_longer j es x.owner x.number x.place (are.placed x h);
   contents = contents_on s j es p n missing are;
 }
@@ -89,11 +118,13 @@ pub missing_taken : (s : Sizes) (j : List Event) (p n : ℕ) (k : Kind) (t t' : 
     → is_taking k ≡ true → IsTimeOf j p t → IsTimeOf (j ++ event p k ∷ []) p t' → AreNews s j p n t t' new
     → AreMissing s j p n missing → AreMissing s (j ++ event p k ∷ []) p n (missing ++ new)
 missing_taken s j p n k t t' missing new takes time after news are =
-    record { each = λ q m. (λ x. there q m x.0 x.2 x.3 ((has-append missing new x.0).0 x.1), back q m);
-            placed = λ x h. placed_longer j (e ∷ []) x.owner x.number x.place
-                (elim ((has-append missing new x).0 h) [ inl old ↦ are.placed x old | inr now ↦ news.placed x now ]);
-            contents = λ x h. elim ((has-append missing new x).0 h)
-                [ inl old ↦ contents_on s j (e ∷ []) p n missing are x old | inr now ↦ now_on x now ] }
+    record {
+      each = λ q m. (λ x. there q m x.0 x.2 x.3 ((has-append missing new x.0).0 x.1), back q m);
+      placed = λ x h. placed_longer j (e ∷ []) x.owner x.number x.place
+          (elim ((has-append missing new x).0 h) [ inl old ↦ are.placed x old | inr now ↦ news.placed x now ]);
+      contents = λ x h. elim ((has-append missing new x).0 h)
+          [ inl old ↦ contents_on s j (e ∷ []) p n missing are x old | inr now ↦ now_on x now ];
+    }
   where
     e : Event
     e = event p k
@@ -108,12 +139,12 @@ missing_taken s j p n k t t' missing new takes time after news are =
     old : (q i a v : ℕ) → Does (j ++ e ∷ []) i q (Store a v) → Does j i q (Store a v)
     old q i a v does =
         elim (push_cases j e i (event q (Store a v)) does)
-            [ inl h ↦ h.1 | inr h ↦ absurd (true≢false (sym takes ∙ ap (λ (f : Event). is_taking f.kind) h.1)) ]
+        [ inl h ↦ h.1 | inr h ↦ absurd (true≢false (sym takes ∙ ap (λ (f : Event). is_taking f.kind) h.1)) ]
 
     now_on : (x : Missing) → Has new x → IsContent s (j ++ e ∷ []) x.owner x.number n x.words
     now_on x h =
         content_on s j (e ∷ []) x.owner x.number n x.words
-            (λ i y. at_within j i (event x.owner (Store y.0 y.1)) (old x.owner i y.0 y.1 y.2)) (news.contents x h)
+        (λ i y. at_within j i (event x.owner (Store y.0 y.1)) (old x.owner i y.0 y.1 y.2)) (news.contents x h)
 
     from_gap : (q m : ℕ) → ((a : ℕ) × StoredInGap s j p n (q, m, a))
         → (a : ℕ) × StoredInGap s (j ++ e ∷ []) p n (q, m, a)
@@ -121,13 +152,20 @@ missing_taken s j p n k t t' missing new takes time after news are =
         let g = x.1 in
         let apart = gap_apart s j p n q g.0 x.0 g.1 g.3 g.2 in
         let page : x.0 / s.words ≡ n =
-            ap (λ (a : ℕ). a / s.words) (sym (store_same j g.0 g.3.store.by q g.3.store.address x.0 g.3.store.value
-                            g.1 g.3.store.does g.2).1)
-                ∙ g.3.store.in_page in
-        (x.0, (g.0, g.1, at_e q g.0 x.0 g.1 g.2,
-                        (gap_taken s j p n q g.0 x.0 g.1 k t t' takes time after g.2 page apart).1 (inl g.3), number q
-                        g.0 x.0 g.1 g.2
-                    ∙ g.4))
+        ap (λ (a : ℕ). a / s.words) (sym (store_same j g.0 g.3.store.by q g.3.store.address x.0 g.3.store.value
+        g.1 g.3.store.does g.2).1)
+        ∙ g.3.store.in_page in (
+          x.0,
+          (
+            g.0,
+            g.1,
+            at_e q g.0 x.0 g.1 g.2,
+            (gap_taken s j p n q g.0 x.0 g.1 k t t' takes time after g.2 page apart).1 (inl g.3),
+            number q
+                g.0 x.0 g.1 g.2
+                ∙ g.4,
+          ),
+        )
 
     from_new : (q m : ℕ) → ((i : ℕ) × StoresIn s j q m n i × (q ≢ p) × (t q ≤ m) × (m < t' q))
         → (a : ℕ) × StoredInGap s (j ++ e ∷ []) p n (q, m, a)
@@ -135,11 +173,18 @@ missing_taken s j p n k t t' missing new takes time after news are =
         let w = x.1 in
         let same = w.4 in
         let le = x.3 in
-        let less = x.4 in
-        (w.0, (x.0, w.1, at_e q x.0 w.0 w.1 w.2,
-                        (gap_taken s j p n q x.0 w.0 w.1 k t t' takes time after w.2 w.3 x.2).1
-                        (inr (omega arith, omega arith)), number q x.0 w.0 w.1 w.2
-                    ∙ w.4))
+        let less = x.4 in (
+          w.0,
+          (
+            x.0,
+            w.1,
+            at_e q x.0 w.0 w.1 w.2,
+            (gap_taken s j p n q x.0 w.0 w.1 k t t' takes time after w.2 w.3 x.2).1
+                (inr (omega arith, omega arith)),
+            number q x.0 w.0 w.1 w.2
+                ∙ w.4,
+          ),
+        )
 
     there : (q m : ℕ) (x : Missing) → x.owner ≡ q → x.number ≡ m → Has missing x ⊎ Has new x
         → (a : ℕ) × StoredInGap s (j ++ e ∷ []) p n (q, m, a)
@@ -148,7 +193,7 @@ missing_taken s j p n k t t' missing new takes time after news are =
 
     add : (q m : ℕ)
         → ((x : Missing) × Has missing x × (x.owner ≡ q) × (x.number ≡ m))
-            ⊎ ((x : Missing) × Has new x × (x.owner ≡ q) × (x.number ≡ m))
+        ⊎ ((x : Missing) × Has new x × (x.owner ≡ q) × (x.number ≡ m))
         → (x : Missing) × Has (missing ++ new) x × (x.owner ≡ q) × (x.number ≡ m)
     add q m (inl x) = (x.0, (has-append missing new x.0).1 (inl x.1), x.2, x.3)
     add q m (inr x) = (x.0, (has-append missing new x.0).1 (inr x.1), x.2, x.3)
@@ -161,13 +206,13 @@ missing_taken s j p n k t t' missing new takes time after news are =
         let does : Does j g.0 q (Store x.0 g.1) = old q g.0 x.0 g.1 g.2 in
         let apart = gap_apart s (j ++ e ∷ []) p n q g.0 x.0 g.1 g.3 g.2 in
         let page : x.0 / s.words ≡ n =
-            ap (λ (a : ℕ). a / s.words)
-                    (sym (store_same (j ++ e ∷ []) g.0 w.by q w.address x.0 w.value g.1 w.does g.2).1)
-                ∙ w.in_page in
+        ap (λ (a : ℕ). a / s.words)
+        (sym (store_same (j ++ e ∷ []) g.0 w.by q w.address x.0 w.value g.1 w.does g.2).1)
+        ∙ w.in_page in
         let same : interval_at j q g.0 ≡ m = sym (number q g.0 x.0 g.1 does) ∙ g.4 in
         elim ((gap_taken s j p n q g.0 x.0 g.1 k t t' takes time after does page apart).0 g.3) [
           | inl h ↦ add q m (inl ((are.each q m).1 (x.0, (g.0, g.1, does, h, same))))
           | inr h ↦ (let le = h.0 in let less = h.1 in
-                  add q m
-                      (inr ((news.each q m).1 (g.0, (x.0, g.1, does, page, same), apart, omega arith, omega arith))))
+              add q m
+              (inr ((news.each q m).1 (g.0, (x.0, g.1, does, page, same), apart, omega arith, omega arith))))
         ]

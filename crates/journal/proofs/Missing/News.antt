@@ -1,6 +1,22 @@
 -- The news of a page: of all intervals between two timestamps, those with words in the page.
 use Rattle.std.proofs.Common.{
-    ℕ, ◌≡◌, ◌≢◌, ◌<◌, ◌≤◌, ◌↔◌, List, [], ◌∷◌, true, filter, refl, sym, ap, subst₂, true≢false, arith
+  ℕ,
+  ◌≡◌,
+  ◌≢◌,
+  ◌<◌,
+  ◌≤◌,
+  ◌↔◌,
+  List,
+  [],
+  ◌∷◌,
+  true,
+  filter,
+  refl,
+  sym,
+  ap,
+  subst₂,
+  true≢false,
+  arith,
 }
 use Rattle.journal.specs.declared.event.Event.{Event}
 use Rattle.journal.specs.Sizes.{Sizes}
@@ -17,8 +33,11 @@ pub news_of : (s : Sizes) (j : List Event) (p n : ℕ) (t t' : ℕ → ℕ) (all
     → ((x : Missing) → Has all x → IsContent s j x.owner x.number n x.words)
     → AreNews s j p n t t' (filter has_words all)
 news_of s j p n t t' all own each placed contents =
-    record { each = λ q m. (there q m, back q m); placed = λ x h. placed x ((has-filter has_words all x).0 h).0;
-            contents = λ x h. contents x ((has-filter has_words all x).0 h).0 }
+    record {
+      each = λ q m. (there q m, back q m);
+      placed = λ x h. placed x ((has-filter has_words all x).0 h).0;
+      contents = λ x h. contents x ((has-filter has_words all x).0 h).0;
+    }
   where
     stores : (q k : ℕ) (words : List (ℕ × ℕ)) → some_words words ≡ true → IsContent s j q k n words
         → (i : ℕ) × StoresIn s j q k n i
@@ -46,6 +65,10 @@ news_of s j p n t t' all own each placed contents =
         → (x : Missing) × Has (filter has_words all) x × (x.owner ≡ q) × (x.number ≡ m)
     back q m x =
         let r = (each q m).1 (x.3, x.4) in
-        let P : ℕ → ℕ → Type 0 = λ o k. IsContent s j o k n r.0.words in
-        (r.0, (has-filter has_words all r.0).1
-                (r.1, filled q m x.0 r.0.words (subst₂ P r.2 r.3 (contents r.0 r.1)) x.1), r.2, r.3)
+        let P : ℕ → ℕ → Type 0 = λ o k. IsContent s j o k n r.0.words in (
+          r.0,
+          (has-filter has_words all r.0).1
+              (r.1, filled q m x.0 r.0.words (subst₂ P r.2 r.3 (contents r.0 r.1)) x.1),
+          r.2,
+          r.3,
+        )

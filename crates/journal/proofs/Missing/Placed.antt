@@ -22,16 +22,16 @@ pub placed_before : (j : List Event) (q k a r m b : ℕ) (x : IsPlaced j q k a) 
 placed_before j q k a r m b x y less = elim (cases_lt x.at y.at) [
   | inl h ↦ h
   | inr le ↦ (let up = count_by-mono (λ (e : Event). is_closing e.kind) j y.at x.at le in let here = x.before in
-          let there = y.before in absurd (omega arith))
+      let there = y.before in absurd (omega arith))
 ]
 
 -- an interval has one closing number
 pub placed_once : (j : List Event) (q k a b : ℕ) → IsPlaced j q k a → IsPlaced j q k b → a ≡ b
 placed_once j q k a b x y =
     sym x.before
-        ∙ ap (λ (m : ℕ). closed_count (take m j))
-            (same_closer j q x.at y.at x.closes y.closes (x.number ∙ sym y.number))
-        ∙ y.before
+    ∙ ap (λ (m : ℕ). closed_count (take m j))
+    (same_closer j q x.at y.at x.closes y.closes (x.number ∙ sym y.number))
+    ∙ y.before
 
 -- it keeps it as the journal goes on
 pub placed_longer : (j es : List Event) (q k a : ℕ) → IsPlaced j q k a → IsPlaced (j ++ es) q k a

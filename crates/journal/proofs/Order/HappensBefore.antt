@@ -31,36 +31,52 @@ link_longer : (j es : List Event) (i k : ℕ) (e f : Event) → i ≤ length j �
 link_longer j es i k e f hi hk (same s) = same s
 link_longer j es i k e f hi hk (lets l) = lets l
 link_longer j es i k e f hi hk (meets m) =
-    meets (record { arrives = m.arrives; departs = m.departs;
-                episode = count_of-front is_arrive j es i e.processor hi ∙ m.episode
-                    ∙ sym (count_of-front is_depart j es k f.processor hk) })
+    meets (record {
+      arrives = m.arrives;
+      departs = m.departs;
+      episode = count_of-front is_arrive j es i e.processor hi ∙ m.episode
+          ∙ sym (count_of-front is_depart j es k f.processor hk);
+    })
 
 link_shorter : (j es : List Event) (i k : ℕ) (e f : Event) → i ≤ length j → k ≤ length j → Link (j ++ es) i k e f
     → Link j i k e f
 link_shorter j es i k e f hi hk (same s) = same s
 link_shorter j es i k e f hi hk (lets l) = lets l
 link_shorter j es i k e f hi hk (meets m) =
-    meets (record { arrives = m.arrives; departs = m.departs;
-                episode = sym (count_of-front is_arrive j es i e.processor hi) ∙ m.episode
-                    ∙ count_of-front is_depart j es k f.processor hk })
+    meets (record {
+      arrives = m.arrives;
+      departs = m.departs;
+      episode = sym (count_of-front is_arrive j es i e.processor hi) ∙ m.episode
+          ∙ count_of-front is_depart j es k f.processor hk;
+    })
 
 -- edges stay
 pub edge_longer : (j es : List Event) {i k : ℕ} → Edge j i k → Edge (j ++ es) i k
 edge_longer j es {i} {k} e =
     let a = at_within j i e.from e.from_at in
     let b = at_within j k e.to e.to_at in
-    record { before = e.before; from = e.from; to = e.to; from_at = at_longer j es i e.from e.from_at;
-            to_at = at_longer j es k e.to e.to_at;
-            link = link_longer j es i k e.from e.to (omega arith) (omega arith) e.link }
+    record {
+      before = e.before;
+      from = e.from;
+      to = e.to;
+      from_at = at_longer j es i e.from e.from_at;
+      to_at = at_longer j es k e.to e.to_at;
+      link = link_longer j es i k e.from e.to (omega arith) (omega arith) e.link;
+    }
 
 -- and no new ones come between old places
 pub edge_shorter : (j es : List Event) {i k : ℕ} → k < length j → Edge (j ++ es) i k → Edge j i k
 edge_shorter j es {i} {k} h e =
     let lt = e.before in
     let hi : i < length j = omega arith in
-    record { before = e.before; from = e.from; to = e.to; from_at = at_shorter j es i e.from hi e.from_at;
-            to_at = at_shorter j es k e.to h e.to_at;
-            link = link_shorter j es i k e.from e.to (omega arith) (omega arith) e.link }
+    record {
+      before = e.before;
+      from = e.from;
+      to = e.to;
+      from_at = at_shorter j es i e.from hi e.from_at;
+      to_at = at_shorter j es k e.to h e.to_at;
+      link = link_shorter j es i k e.from e.to (omega arith) (omega arith) e.link;
+    }
 
 -- happens-before stays
 pub longer : (j es : List Event) {i k : ℕ} → HappensBefore j i k → HappensBefore (j ++ es) i k

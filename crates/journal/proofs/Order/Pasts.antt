@@ -1,6 +1,25 @@
 -- What a processor's past is, as the journal goes on.
 use Rattle.std.proofs.Common.{
-    ◌≡◌, ◌≢◌, ℕ, ◌<◌, ◌⊎◌, inl, inr, ◌↔◌, List, [], ◌∷◌, ◌++◌, length, false, subst, sym, refl, ap, ◌∙◌, arith
+  ◌≡◌,
+  ◌≢◌,
+  ℕ,
+  ◌<◌,
+  ◌⊎◌,
+  inl,
+  inr,
+  ◌↔◌,
+  List,
+  [],
+  ◌∷◌,
+  ◌++◌,
+  length,
+  false,
+  subst,
+  sym,
+  refl,
+  ap,
+  ◌∙◌,
+  arith,
 }
 use Rattle.std.proofs.Math.Seq.{take-append_seam}
 use Rattle.journal.specs.declared.event.Event.{Event}
@@ -55,8 +74,13 @@ own_in_past j p i e at mine = record { own = i; event = e; at = at; mine = mine;
 
 pub past_longer : (j es : List Event) (p i : ℕ) → InPast j p i → InPast (j ++ es) p i
 past_longer j es p i x =
-    record { own = x.own; event = x.event; at = at_longer j es x.own x.event x.at; mine = x.mine;
-            reaches = up_to_longer j es x.own i x.reaches }
+    record {
+      own = x.own;
+      event = x.event;
+      at = at_longer j es x.own x.event x.at;
+      mine = x.mine;
+      reaches = up_to_longer j es x.own i x.reaches;
+    }
 
 -- a past is the same in every journal that goes on without the processor
 pub others : (j es : List Event) (p i : ℕ) → ((m : ℕ) (e : Event) → At es m e → e.processor ≢ p)
@@ -65,8 +89,13 @@ others j es p i away = (back, past_longer j es p i)
   where
     back : InPast (j ++ es) p i → InPast j p i
     back x = elim (append_cases j es x.own x.event x.at) [
-      | inl a ↦ record { own = x.own; event = x.event; at = a.1; mine = x.mine;
-              reaches = up_to_shorter j es x.own i a.0 x.reaches }
+      | inl a ↦ record {
+        own = x.own;
+        event = x.event;
+        at = a.1;
+        mine = x.mine;
+        reaches = up_to_shorter j es x.own i a.0 x.reaches;
+      }
       | inr b ↦ absurd (away b.0 x.event b.2 x.mine)
     ]
 
@@ -84,7 +113,7 @@ link_source j e f m at lt (meets x) =
     let front = count_of-front is_arrive j (e ∷ []) m f.processor (omega arith) in
     let whole = ap (λ (xs : List Event). count_of is_depart xs e.processor) (take-append_seam j (e ∷ [])) in
     let now : ArrivesAt j (count_of is_depart j e.processor) f.processor m =
-        record { does = subst P x.arrives at; number = sym front ∙ x.episode ∙ whole } in
+    record { does = subst P x.arrives at; number = sym front ∙ x.episode ∙ whole } in
     inr (subst (λ k. Sources j e.processor k m) (sym x.departs) (f.processor, now))
 
 -- what an event brings reaches it
@@ -96,16 +125,25 @@ source_link j p m Depart h =
     let e : Event = event p Depart in
     let lt = at_within j m (event h.0 Arrive) h.1.does in
     let front = count_of-front is_arrive j (e ∷ []) m h.0 (omega arith) in
-    let whole = ap (λ (xs : List Event). count_of is_depart xs p) (take-append_seam j (e ∷ [])) in
-    (event h.0 Arrive, h.1.does, meets
-            (record { arrives = refl; departs = refl; episode = front ∙ h.1.number ∙ sym whole }))
+    let whole = ap (λ (xs : List Event). count_of is_depart xs p) (take-append_seam j (e ∷ [])) in (
+      event h.0 Arrive,
+      h.1.does,
+      meets
+          (record { arrives = refl; departs = refl; episode = front ∙ h.1.number ∙ sym whole }),
+    )
 source_link j p m _ h = absurd h
 
 last_edge : (j : List Event) (e f : Event) (m : ℕ) → At j m f → Link (j ++ e ∷ []) m (length j) f e
     → Edge (j ++ e ∷ []) m (length j)
 last_edge j e f m at l =
-    record { before = at_within j m f at; from = f; to = e; from_at = at_longer j (e ∷ []) m f at;
-            to_at = at_last j e; link = l }
+    record {
+      before = at_within j m f at;
+      from = f;
+      to = e;
+      from_at = at_longer j (e ∷ []) m f at;
+      to_at = at_last j e;
+      link = l;
+    }
 
 by_edge : (j : List Event) (e : Event) (i m : ℕ) → UpTo (j ++ e ∷ []) m i → Edge (j ++ e ∷ []) m (length j)
     → InPast j e.processor i ⊎ Brings j e.processor e.kind i
@@ -132,10 +170,10 @@ reaches_push j e i = (into_last j e i (length j) refl, ⊎_back)
     ⊎_back : InPast j e.processor i ⊎ Brings j e.processor e.kind i → HappensBefore (j ++ e ∷ []) i (length j)
     ⊎_back (inl x) =
         edge_on (j ++ e ∷ []) i x.own (length j) (up_to_longer j (e ∷ []) x.own i x.reaches)
-            (last_edge j e x.event x.own x.at (same x.mine))
+        (last_edge j e x.event x.own x.at (same x.mine))
     ⊎_back (inr b) =
         let s = source_link j e.processor b.0 e.kind b.1 in
-            edge_on (j ++ e ∷ []) i b.0 (length j) (up_to_longer j (e ∷ []) b.0 i b.2) (last_edge j e s.0 b.0 s.1 s.2)
+        edge_on (j ++ e ∷ []) i b.0 (length j) (up_to_longer j (e ∷ []) b.0 i b.2) (last_edge j e s.0 b.0 s.1 s.2)
 
 -- the past after an event: the past before it, what it brings, and itself
 pub past_push : (j : List Event) (e : Event) (i : ℕ)
@@ -149,8 +187,13 @@ past_push j e i = (there, back)
     there : InPast (j ++ e ∷ []) e.processor i
         → (i ≡ length j) ⊎ (InPast j e.processor i ⊎ Brings j e.processor e.kind i)
     there x = elim (push_cases j e x.own x.event x.at) [
-      | inl a ↦ inr (inl (record { own = x.own; event = x.event; at = a.1; mine = x.mine;
-                      reaches = up_to_shorter j (e ∷ []) x.own i a.0 x.reaches }))
+      | inl a ↦ inr (inl (record {
+        own = x.own;
+        event = x.event;
+        at = a.1;
+        mine = x.mine;
+        reaches = up_to_shorter j (e ∷ []) x.own i a.0 x.reaches;
+      }))
       | inr b ↦ last (subst (λ m. UpTo (j ++ e ∷ []) m i) b.0 x.reaches)
     ]
 
@@ -170,9 +213,10 @@ brings_none j p i _ h b = b.1
 -- what happens before a new event that takes nothing is its processor's past
 pub reaches_new : (j : List Event) (e : Event) (i : ℕ) → is_taking e.kind ≡ false
     → HappensBefore (j ++ e ∷ []) i (length j) ↔ InPast j e.processor i
-reaches_new j e i quiet =
-    (λ h. elim ((reaches_push j e i).0 h) [ inl x ↦ x | inr b ↦ absurd (brings_none j e.processor i e.kind quiet b) ],
-            λ x. (reaches_push j e i).1 (inl x))
+reaches_new j e i quiet = (
+  λ h. elim ((reaches_push j e i).0 h) [ inl x ↦ x | inr b ↦ absurd (brings_none j e.processor i e.kind quiet b) ],
+  λ x. (reaches_push j e i).1 (inl x),
+)
 
 -- the past after an event that takes nothing has that event besides
 pub own_past : (j : List Event) (e : Event) (i : ℕ) → is_taking e.kind ≡ false
@@ -181,8 +225,10 @@ own_past j e i quiet = (there, back)
   where
     there : InPast (j ++ e ∷ []) e.processor i → InPast j e.processor i ⊎ (i ≡ length j)
     there x =
-        elim ((past_push j e i).0 x) [ inl is ↦ inr is
-                | inr y ↦ elim y [ inl z ↦ inl z | inr b ↦ absurd (brings_none j e.processor i e.kind quiet b) ] ]
+        elim ((past_push j e i).0 x) [
+          | inl is ↦ inr is
+          | inr y ↦ elim y [ inl z ↦ inl z | inr b ↦ absurd (brings_none j e.processor i e.kind quiet b) ]
+        ]
 
     back : InPast j e.processor i ⊎ (i ≡ length j) → InPast (j ++ e ∷ []) e.processor i
     back (inl x) = (past_push j e i).1 (inr (inl x))

@@ -1,6 +1,25 @@
 -- Places of events in journals that go on, and counts of their fronts.
 use Rattle.std.proofs.Common.{
-    ◌≡◌, ℕ, ◌+◌, ◌<◌, ◌≤◌, List, [], ◌∷◌, ◌++◌, length, take, Bool, IsTrue, ◌==◌, ◌&&◌, ap, sym, ◌∙◌, subst, refl
+  ◌≡◌,
+  ℕ,
+  ◌+◌,
+  ◌<◌,
+  ◌≤◌,
+  List,
+  [],
+  ◌∷◌,
+  ◌++◌,
+  length,
+  take,
+  Bool,
+  IsTrue,
+  ◌==◌,
+  ◌&&◌,
+  ap,
+  sym,
+  ◌∙◌,
+  subst,
+  refl,
 }
 use Rattle.std.proofs.lemmas.Option.{slice_get_within, same_Some}
 use Rattle.std.proofs.lemmas.List.{take-append-le}
@@ -11,8 +30,15 @@ use Rattle.journal.specs.Did.{event}
 use Rattle.journal.specs.Events.{At, count_of}
 use Rattle.journal.specs.WellFormed.{Does}
 use Rattle.lists.proofs.Places.{
-    slice_get-append_left, slice_get-append_right, slice_get-last, count_by-append, count_by-mono, count_by-take-le,
-    count_by-past, count_by-within, counted
+  slice_get-append_left,
+  slice_get-append_right,
+  slice_get-last,
+  count_by-append,
+  count_by-mono,
+  count_by-take-le,
+  count_by-past,
+  count_by-within,
+  counted,
 }
 
 -- an event stands within its journal
@@ -71,13 +97,13 @@ pub count_of-past : (is : Kind → Bool) (j : List Event) (i k q : ℕ) (a : Kin
     → count_of is (take i j) q < count_of is (take k j) q
 count_of-past is j i k q a h yes_is lt =
     count_by-past (λ (e : Event). (e.processor == q) && is e.kind) j i k (event q a) h
-        (and_from (q == q) (is a) (eq-eqb q q refl) yes_is) lt
+    (and_from (q == q) (is a) (eq-eqb q q refl) yes_is) lt
 
 pub count_of-within : (is : Kind → Bool) (j : List Event) (i q : ℕ) (a : Kind) → Does j i q a → IsTrue (is a)
     → count_of is (take i j) q < count_of is j q
 count_of-within is j i q a h yes_is =
     count_by-within (λ (e : Event). (e.processor == q) && is e.kind) j i (event q a) h
-        (and_from (q == q) (is a) (eq-eqb q q refl) yes_is)
+    (and_from (q == q) (is a) (eq-eqb q q refl) yes_is)
 
 -- q does at this place what has number n of these kinds
 pub record NumberedAt (is : Kind → Bool) (j : List Event) (q n : ℕ) : Type 0 where
@@ -92,6 +118,10 @@ pub numbered : (is : Kind → Bool) (j : List Event) (q n : ℕ) → n < count_o
 numbered is j q n h =
     let c = counted (λ (e : Event). (e.processor == q) && is e.kind) j n h in
     let both = and_parts (c.item.processor == q) (is c.item.kind) c.counts in
-    record { place = c.place; kind = c.item.kind;
-            does = does_at j c.place q c.item c.at (eqb-true c.item.processor q both.0); counts = both.1;
-            number = c.before }
+    record {
+      place = c.place;
+      kind = c.item.kind;
+      does = does_at j c.place q c.item c.at (eqb-true c.item.processor q both.0);
+      counts = both.1;
+      number = c.before;
+    }

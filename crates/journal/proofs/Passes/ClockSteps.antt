@@ -1,7 +1,36 @@
 -- The race checker's timestamps after one more event.
 use Rattle.std.proofs.Common.{
-    ◌≡◌, ◌≢◌, ℕ, ◌+◌, ◌<◌, ◌≤◌, ◌-◌, ◌^◌, max, List, [], ◌∷◌, ◌++◌, length, take, inl, inr, Bool, false, cond, ◌==◌,
-    ◌&&◌, slice_index, vec_len, subst, sym, refl, ap, ◌∙◌, add-one, arith
+  ◌≡◌,
+  ◌≢◌,
+  ℕ,
+  ◌+◌,
+  ◌<◌,
+  ◌≤◌,
+  ◌-◌,
+  ◌^◌,
+  max,
+  List,
+  [],
+  ◌∷◌,
+  ◌++◌,
+  length,
+  take,
+  inl,
+  inr,
+  Bool,
+  false,
+  cond,
+  ◌==◌,
+  ◌&&◌,
+  slice_index,
+  vec_len,
+  subst,
+  sym,
+  refl,
+  ap,
+  ◌∙◌,
+  add-one,
+  arith,
 }
 use Rattle.std.specs.BTreeMap.{BTreeMap}
 use Rattle.std.proofs.lemmas.Bool.{cases_eq, cases_lt}
@@ -37,7 +66,7 @@ one_event e f k m at isnt same =
 one_other : (e f : Event) (p m : ℕ) → At (e ∷ []) m f → e.processor ≢ p → f.processor ≢ p
 one_other e f p m at isnt same =
     elim (push_cases [] e m f at)
-        [ inl old ↦ absurd (cc (old.1)) | inr new ↦ isnt (ap (λ x. x.processor) new.1 ∙ same) ]
+    [ inl old ↦ absurd (cc (old.1)) | inr new ↦ isnt (ap (λ x. x.processor) new.1 ∙ same) ]
 
 -- what the kept timestamps say that an event brings is the time of what it brings
 pub brought_time : (j : List Event) (c : Clocks) (p : ℕ) (k : Kind) → AreClocks j c → p < c.present
@@ -47,8 +76,8 @@ brought_time j c p (Await f) a h = a.flags f
 brought_time j c p Depart a h =
     let few = a.few in
     let P : ℕ → Type 0 =
-        λ n. IsTimeIn j (UpToSome j (SomeArrives j n)) (entry c.episodes.items (slice_index c.departures p - c.gone))
-            in
+    λ n. IsTimeIn j (UpToSome j (SomeArrives j n)) (entry c.episodes.items (slice_index c.departures p - c.gone))
+    in
     subst P (a.departures p (omega arith)) (a.episodes (slice_index c.departures p) (a.left p h))
 brought_time j c p _ a h = time_none j (UpToSome j (λ _. ⊥)) (λ i x. x.1)
 
@@ -64,15 +93,15 @@ kept_same : (j : List Event) (e : Event) (k : ℕ → Kind) (xs ys : ℕ → ℕ
     → AreKept j k xs → AreKept (j ++ e ∷ []) k ys
 kept_same j e k xs ys isnt same a n =
     subst (λ zs. IsTimeIn (j ++ e ∷ []) (UpToSome (j ++ e ∷ []) (SomeDoes (j ++ e ∷ []) (k n))) (zs n)) (sym same)
-        (kind_kept j (e ∷ []) (k n) (xs n) (λ m f at. one_event e f (k n) m at (isnt n)) (a n))
+    (kind_kept j (e ∷ []) (k n) (xs n) (λ m f at. one_event e f (k n) m at (isnt n)) (a n))
 
 kept_joined : (j : List Event) (p : ℕ) (k : ℕ → Kind) (m : ℕ) (xs ys : ℕ → ℕ → ℕ) (own : ℕ → ℕ)
     → ((n : ℕ) → n ≢ m → k m ≢ k n) → IsTimeOf (j ++ event p (k m) ∷ []) p own → IsJoinedAt xs ys m own
     → AreKept j k xs → AreKept (j ++ event p (k m) ∷ []) k ys
 kept_joined j p k m xs ys own apart time joined a n = elim (cases_eq n m) [
   | inl is ↦ subst (λ x. IsTimeIn now (UpToSome now (SomeDoes now (k x))) (ys x)) (sym is) (time_equal now
-          (UpToSome now (SomeDoes now (k m))) (λ q. max (xs m q) (own q)) (ys m) (λ q. sym (joined.joined q))
-          (kind_joins j e (xs m) own (a m) time))
+      (UpToSome now (SomeDoes now (k m))) (λ q. max (xs m q) (own q)) (ys m) (λ q. sym (joined.joined q))
+      (kind_joins j e (xs m) own (a m) time))
   | inr isnt ↦ time_equal now (UpToSome now (SomeDoes now (k n))) (xs n) (ys n) (λ q. sym (joined.same n q isnt))
       (kind_kept j (e ∷ []) (k n) (xs n) (λ i f at. one_event e f (k n) i at (apart n isnt)) (a n))
 ]
@@ -87,8 +116,8 @@ gathered_same : (j : List Event) (e : Event) (xs ys : List (List ℕ)) (gone : �
     → AreGathered j xs gone → AreGathered (j ++ e ∷ []) ys gone
 gathered_same j e xs ys gone isnt same a n le =
     subst (λ zs. IsTimeIn (j ++ e ∷ []) (UpToSome (j ++ e ∷ []) (SomeArrives (j ++ e ∷ []) n)) (entry zs (n - gone)))
-        (sym same)
-        (arrivals_kept j (e ∷ []) n (entry xs (n - gone)) (λ m f at. one_event e f Arrive m at isnt) (a n le))
+    (sym same)
+    (arrivals_kept j (e ∷ []) n (entry xs (n - gone)) (λ m f at. one_event e f Arrive m at isnt) (a n le))
 
 gathered_joined : (j : List Event) (p m : ℕ) (xs ys : List (List ℕ)) (gone : ℕ) (own : ℕ → ℕ)
     → m ≡ count_of is_arrive j p → IsTimeOf (j ++ event p Arrive ∷ []) p own
@@ -99,12 +128,12 @@ gathered_joined j p m xs ys gone own number time joined same a n le = elim (case
       (let here = joined (omega arith) in
       let place : n - gone ≡ m - gone = omega arith in
       let entries : (q : ℕ) → max (entry xs (n - gone) q) (own q) ≡ entry ys (n - gone) q =
-          λ q. sym (subst (λ x. entry ys x q ≡ max (entry xs x q) (own q)) (sym place) (here.joined q)) in
+      λ q. sym (subst (λ x. entry ys x q ≡ max (entry xs x q) (own q)) (sym place) (here.joined q)) in
       let old = subst (λ x. IsTimeIn j (UpToSome j (SomeArrives j x)) (entry xs (n - gone))) (is ∙ number) (a n le) in
       subst (λ x. IsTimeIn now (UpToSome now (SomeArrives now x)) (entry ys (n - gone))) (sym (is ∙ number))
-          (time_equal now (UpToSome now (SomeArrives now (count_of is_arrive j p)))
-              (λ q. max (entry xs (n - gone) q) (own q)) (entry ys (n - gone)) entries
-              (arrival_joins j e (entry xs (n - gone)) own refl old time)))
+      (time_equal now (UpToSome now (SomeArrives now (count_of is_arrive j p)))
+      (λ q. max (entry xs (n - gone) q) (own q)) (entry ys (n - gone)) entries
+      (arrival_joins j e (entry xs (n - gone)) own refl old time)))
   | inr isnt ↦ time_equal now (UpToSome now (SomeArrives now n)) (entry xs (n - gone)) (entry ys (n - gone))
       (others isnt) (arrivals_others j e n (entry xs (n - gone)) (λ eq. isnt (sym (number ∙ eq))) (a n le))
 ]
@@ -139,20 +168,20 @@ own_time : (j : List Event) (c d : Clocks) (p : ℕ) (k : Kind) (own : ℕ → �
     → AreNext c d p k own → IsTimeOf (j ++ event p k ∷ []) p own
 own_time j c d p k own h a n =
     time_equal (j ++ event p k ∷ []) (InPast (j ++ event p k ∷ []) p)
-        (λ q. max (entry c.processors.items p q) (brought_entry c p k q) + count_of is_closing (event p k ∷ []) q) own
-        (λ q. omega (arith, n.time q)) (time_push j (event p k) (entry c.processors.items p) (brought_entry c p k)
-            (a.times p (let few = a.few in omega arith)) (brought_time j c p k a h))
+    (λ q. max (entry c.processors.items p q) (brought_entry c p k q) + count_of is_closing (event p k ∷ []) q) own
+    (λ q. omega (arith, n.time q)) (time_push j (event p k) (entry c.processors.items p) (brought_entry c p k)
+    (a.times p (let few = a.few in omega arith)) (brought_time j c p k a h))
 
 times_next : (j : List Event) (c d : Clocks) (p : ℕ) (k : Kind) (own : ℕ → ℕ) → p < c.present → AreClocks j c
     → AreNext c d p k own → (m : ℕ) → m < 16 → IsTimeOf (j ++ event p k ∷ []) m (entry d.processors.items m)
 times_next j c d p k own h a n m within = elim (cases_eq m p) [
   | inl is ↦ subst (λ x. IsTimeOf (j ++ event p k ∷ []) x (entry d.processors.items x)) (sym is) (time_equal
-          (j ++ event p k ∷ []) (InPast (j ++ event p k ∷ []) p) own (entry d.processors.items p)
-          (λ q. sym (n.mine q)) (own_time j c d p k own h a n))
+      (j ++ event p k ∷ []) (InPast (j ++ event p k ∷ []) p) own (entry d.processors.items p)
+      (λ q. sym (n.mine q)) (own_time j c d p k own h a n))
   | inr isnt ↦ time_equal (j ++ event p k ∷ []) (InPast (j ++ event p k ∷ []) m) (entry c.processors.items m)
       (entry d.processors.items m) (λ q. sym (n.others m q isnt)) (others_keep j (event p k ∷ []) m
-          (entry c.processors.items m) (λ i f at. one_other (event p k) f m i at (λ same. isnt (sym same)))
-          (a.times m within))
+      (entry c.processors.items m) (λ i f at. one_other (event p k) f m i at (λ same. isnt (sym same)))
+      (a.times m within))
 ]
 
 counts_next : (is : Kind → Bool) (j : List Event) (p q : ℕ) (k : Kind) (x y : ℕ) → y ≡ x + cond ((p == q) && is k) 1 0
@@ -173,46 +202,46 @@ kept_next : (j : List Event) (c d : Clocks) (p : ℕ) (k : Kind) (own : ℕ → 
 kept_next j c d p (Release l) own number time gone a n = record {
   locks =
       kept_joined j p (λ m. Release m) l (kept_entry c.locks) (kept_entry d.locks) own (λ m isnt same. isnt cc) time
-          n.0 a.locks;
+      n.0 a.locks;
   flags =
       kept_same j (event p (Release l)) (λ f. Set f) (kept_entry c.flags) (kept_entry d.flags) (λ m same. absurd cc)
-          (ap kept_entry n.1) a.flags;
+      (ap kept_entry n.1) a.flags;
   episodes =
       subst (λ x. AreGathered (j ++ event p (Release l) ∷ []) d.episodes.items x) (sym gone) (gathered_same j
-              (event p (Release l)) c.episodes.items d.episodes.items c.gone (λ same. absurd cc) n.2 a.episodes);
+      (event p (Release l)) c.episodes.items d.episodes.items c.gone (λ same. absurd cc) n.2 a.episodes);
 }
 kept_next j c d p (Set f) own number time gone a n = record {
   locks =
       kept_same j (event p (Set f)) (λ m. Release m) (kept_entry c.locks) (kept_entry d.locks) (λ m same. absurd cc)
-          (ap kept_entry n.0) a.locks;
+      (ap kept_entry n.0) a.locks;
   flags =
       kept_joined j p (λ m. Set m) f (kept_entry c.flags) (kept_entry d.flags) own (λ m isnt same. isnt cc) time n.1
-          a.flags;
+      a.flags;
   episodes =
       subst (λ x. AreGathered (j ++ event p (Set f) ∷ []) d.episodes.items x) (sym gone) (gathered_same j
-              (event p (Set f)) c.episodes.items d.episodes.items c.gone (λ same. absurd cc) n.2 a.episodes);
+      (event p (Set f)) c.episodes.items d.episodes.items c.gone (λ same. absurd cc) n.2 a.episodes);
 }
 kept_next j c d p Arrive own number time gone a n = record {
   locks =
       kept_same j (event p Arrive) (λ m. Release m) (kept_entry c.locks) (kept_entry d.locks) (λ m same. absurd cc)
-          (ap kept_entry n.0) a.locks;
+      (ap kept_entry n.0) a.locks;
   flags =
       kept_same j (event p Arrive) (λ f. Set f) (kept_entry c.flags) (kept_entry d.flags) (λ m same. absurd cc)
-          (ap kept_entry n.1) a.flags;
+      (ap kept_entry n.1) a.flags;
   episodes =
       subst (λ x. AreGathered (j ++ event p Arrive ∷ []) d.episodes.items x) (sym gone) (gathered_joined j p
-              (slice_index c.arrivals p) c.episodes.items d.episodes.items c.gone own number time n.2 n.3 a.episodes);
+      (slice_index c.arrivals p) c.episodes.items d.episodes.items c.gone own number time n.2 n.3 a.episodes);
 }
 kept_next j c d p k own number time gone a n = record {
   locks =
       kept_same j (event p k) (λ m. Release m) (kept_entry c.locks) (kept_entry d.locks) (λ m same. absurd cc)
-          (ap kept_entry n.0) a.locks;
+      (ap kept_entry n.0) a.locks;
   flags =
       kept_same j (event p k) (λ f. Set f) (kept_entry c.flags) (kept_entry d.flags) (λ m same. absurd cc)
-          (ap kept_entry n.1) a.flags;
+      (ap kept_entry n.1) a.flags;
   episodes =
       subst (λ x. AreGathered (j ++ event p k ∷ []) d.episodes.items x) (sym gone)
-          (gathered_same j (event p k) c.episodes.items d.episodes.items c.gone (λ same. absurd cc) n.2 a.episodes);
+      (gathered_same j (event p k) c.episodes.items d.episodes.items c.gone (λ same. absurd cc) n.2 a.episodes);
 }
 
 -- after the event the timestamps are those of the journal with it
@@ -226,17 +255,17 @@ clocks_next j c d p k own h a n =
       few = (let same = n.present in omega arith);
       left =
           λ q within. (let old = a.left q (let same = n.present in omega arith) in let rise = n.departures q in
-                  let gone = n.gone in omega arith);
+          let gone = n.gone in omega arith);
       times = times_next j c d p k own h a n;
       locks = kept.locks;
       flags = kept.flags;
       episodes = kept.episodes;
       arrivals =
           λ q within. counts_next is_arrive j p q k (slice_index c.arrivals q) (slice_index d.arrivals q)
-              (n.arrivals q) (a.arrivals q within);
+          (n.arrivals q) (a.arrivals q within);
       departures =
           λ q within. counts_next is_depart j p q k (slice_index c.departures q) (slice_index d.departures q)
-              (n.departures q) (a.departures q within);
+          (n.departures q) (a.departures q within);
     }
 
 quiet_no_arrive : (k : Kind) → is_closing k ≡ false → is_arrive k ≡ false
@@ -257,19 +286,19 @@ clocks_plain j e c takes closes a = record {
   times = times;
   locks =
       kept_same j e (λ l. Release l) (kept_entry c.locks) (kept_entry c.locks)
-          (λ l same. absurd (cc (closes, ap (λ k. is_closing k) same))) refl a.locks;
+      (λ l same. absurd (cc (closes, ap (λ k. is_closing k) same))) refl a.locks;
   flags =
       kept_same j e (λ f. Set f) (kept_entry c.flags) (kept_entry c.flags)
-          (λ f same. absurd (cc (closes, ap (λ k. is_closing k) same))) refl a.flags;
+      (λ f same. absurd (cc (closes, ap (λ k. is_closing k) same))) refl a.flags;
   episodes =
       gathered_same j e c.episodes.items c.episodes.items c.gone
-          (λ same. absurd (cc (closes, ap (λ k. is_closing k) same))) refl a.episodes;
+      (λ same. absurd (cc (closes, ap (λ k. is_closing k) same))) refl a.episodes;
   arrivals =
       λ q h. (let none = none_of is_arrive q (quiet_no_arrive e.kind closes) in
-              let sum = count_of-append is_arrive j (e ∷ []) q in let now = a.arrivals q h in omega arith);
+      let sum = count_of-append is_arrive j (e ∷ []) q in let now = a.arrivals q h in omega arith);
   departures =
       λ q h. (let none = none_of is_depart q (quiet_no_depart e.kind takes) in
-              let sum = count_of-append is_depart j (e ∷ []) q in let now = a.departures q h in omega arith);
+      let sum = count_of-append is_depart j (e ∷ []) q in let now = a.departures q h in omega arith);
 }
   where
     none_of : (is : Kind → Bool) (q : ℕ) → is e.kind ≡ false → count_of is (e ∷ []) q ≡ 0
@@ -278,7 +307,7 @@ clocks_plain j e c takes closes a = record {
     times : (p : ℕ) → p < 16 → IsTimeOf (j ++ e ∷ []) p (entry c.processors.items p)
     times p h = elim (cases_eq p e.processor) [
       | inl is ↦ subst (λ x. IsTimeOf (j ++ e ∷ []) x (entry c.processors.items x)) (sym is) (own_quiet j e
-              (entry c.processors.items e.processor) takes closes (a.times e.processor (subst (λ x. x < 16) is h)))
+          (entry c.processors.items e.processor) takes closes (a.times e.processor (subst (λ x. x < 16) is h)))
       | inr isnt ↦ others_keep j (e ∷ []) p (entry c.processors.items p)
           (λ i f at. one_other e f p i at (λ same. isnt (sym same))) (a.times p h)
     ]
@@ -298,19 +327,19 @@ own_room j c p k q h few a =
     omega arith
 
 pub keeps_same : (c : Clocks) (p : ℕ) (own : ℕ → ℕ) (k : Kind) (locks flags locks' flags' : BTreeMap ℕ (List ℕ))
-        (episodes episodes' : List (List ℕ))
+    (episodes episodes' : List (List ℕ))
     → locks' ≡ locks → flags' ≡ flags → episodes' ≡ episodes → Keeps c locks flags episodes p own k
     → Keeps c locks' flags' episodes' p own k
 keeps_same c p own k locks flags locks' flags' episodes episodes' x y z h =
     subst (λ l. Keeps c l flags' episodes' p own k) (sym x) (subst (λ f. Keeps c locks f episodes' p own k) (sym y)
-            (subst (λ e. Keeps c locks flags e p own k) (sym z) h))
+    (subst (λ e. Keeps c locks flags e p own k) (sym z) h))
 
 -- letting go of an episode that every processor has departed from keeps them
 pub clocks_let_go : (j : List Event) (c d : Clocks) → AreClocks j c → d.processors ≡ c.processors → d.locks ≡ c.locks
     → d.flags ≡ c.flags → d.arrivals ≡ c.arrivals → d.departures ≡ c.departures → d.present ≡ c.present
     → ((p : ℕ) → p < c.present → c.gone ≤ slice_index c.departures p → d.gone ≤ slice_index c.departures p)
     → ((n q : ℕ) → d.gone ≤ n
-            → (c.gone ≤ n) × (entry d.episodes.items (n - d.gone) q ≡ entry c.episodes.items (n - c.gone) q))
+    → (c.gone ≤ n) × (entry d.episodes.items (n - d.gone) q ≡ entry c.episodes.items (n - c.gone) q))
     → AreClocks j d
 clocks_let_go j c d a processors locks flags arrivals departures present left episodes = record {
   long = ap (λ v. vec_len v) processors ∙ a.long;
@@ -320,7 +349,7 @@ clocks_let_go j c d a processors locks flags arrivals departures present left ep
   flags = λ f. subst (λ v. IsTimeIn j (UpToSome j (SomeDoes j (Set f))) (kept_entry v f)) (sym flags) (a.flags f);
   episodes =
       λ n le. time_equal j (UpToSome j (SomeArrives j n)) (entry c.episodes.items (n - c.gone))
-          (entry d.episodes.items (n - d.gone)) (λ q. sym (episodes n q le).1) (a.episodes n (episodes n 0 le).0);
+      (entry d.episodes.items (n - d.gone)) (λ q. sym (episodes n q le).1) (a.episodes n (episodes n 0 le).0);
   left =
       λ p h. subst (λ xs. d.gone ≤ slice_index xs p) (sym departures) (left p (omega arith) (a.left p (omega arith)));
   arrivals = λ p h. ap (λ xs. slice_index xs p) arrivals ∙ a.arrivals p h;

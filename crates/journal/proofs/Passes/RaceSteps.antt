@@ -1,7 +1,37 @@
 -- The race checker's steps.
 use Rattle.std.proofs.Common.{
-    ◌≡◌, ◌≢◌, ℕ, ◌+◌, ◌<◌, ◌≤◌, ◌⊎◌, inl, inr, ◌↔◌, List, [], ◌∷◌, ◌++◌, length, take, take-take, Bool, true, false,
-    cond, ◌==◌, ◌&&◌, Some, vec_len, subst, sym, refl, ap, ◌∙◌, add-one, arith
+  ◌≡◌,
+  ◌≢◌,
+  ℕ,
+  ◌+◌,
+  ◌<◌,
+  ◌≤◌,
+  ◌⊎◌,
+  inl,
+  inr,
+  ◌↔◌,
+  List,
+  [],
+  ◌∷◌,
+  ◌++◌,
+  length,
+  take,
+  take-take,
+  Bool,
+  true,
+  false,
+  cond,
+  ◌==◌,
+  ◌&&◌,
+  Some,
+  vec_len,
+  subst,
+  sym,
+  refl,
+  ap,
+  ◌∙◌,
+  add-one,
+  arith,
 }
 use Rattle.std.proofs.lemmas.Bool.{cases_eq, cases_lt}
 use Rattle.std.proofs.lemmas.Option.{same_Some}
@@ -38,17 +68,25 @@ race_by_time events place i e f t at to lt apart conflict time = (there, here)
     tells : HappensBefore events i place ↔ (interval_at events f.processor i < t f.processor)
     tells =
         ordered_before events place e.processor f.processor i f.kind e.kind t time to at
-            (access_quiet e.kind conflict.address conflict.second) apart lt
+        (access_quiet e.kind conflict.address conflict.second) apart lt
 
     there : Race events i place → t f.processor ≤ interval_at events f.processor i
     there r =
         elim (cases_lt (interval_at events f.processor i) (t f.processor))
-            [ inl below ↦ absurd (r.unordered (tells.1 below)) | inr le ↦ le ]
+        [ inl below ↦ absurd (r.unordered (tells.1 below)) | inr le ↦ le ]
 
     here : t f.processor ≤ interval_at events f.processor i → Race events i place
     here le =
-        record { before = lt; first = f; second = e; first_at = to; second_at = at; apart = apart;
-                conflict = conflict; unordered = λ h. (let below = tells.0 h in omega arith) }
+        record {
+          before = lt;
+          first = f;
+          second = e;
+          first_at = to;
+          second_at = at;
+          apart = apart;
+          conflict = conflict;
+          unordered = λ h. (let below = tells.0 h in omega arith);
+        }
 
 -- the events of a race
 pub race_events : (events : List Event) (place i : ℕ) (e f : Event) → At events place e → At events i f
@@ -57,14 +95,14 @@ race_events events place i e f at to r =
     let first = at_same events i r.first f r.first_at to in
     let second = at_same events place r.second e r.second_at at in
     subst (λ x. (x.processor ≢ e.processor) × Conflict x e) first
-        (subst (λ y. (r.first.processor ≢ y.processor) × Conflict r.first y) second (r.apart, r.conflict))
+    (subst (λ y. (r.first.processor ≢ y.processor) × Conflict r.first y) second (r.apart, r.conflict))
 
 -- a count one place on
 pub count_next : (is : Kind → Bool) (events : List Event) (i q : ℕ) (f : Event) → At events i f
     → count_of is (take (i + 1) events) q ≡ count_of is (take i events) q + cond ((f.processor == q) && is f.kind) 1 0
 count_next is events i q f at =
     let next : take (i + 1) events ≡ take i events ++ f ∷ [] =
-        ap (λ n. take n events) (add-one i) ∙ take-suc_at events i f at in
+    ap (λ n. take n events) (add-one i) ∙ take-suc_at events i f at in
     let sum = count_of-append is (take i events) (f ∷ []) q in
     rw next (omega arith)
 
@@ -95,7 +133,7 @@ counted_load x e a v t is = (
   λ h. record {
     stores =
         λ b q at apart. subst (λ m. entry x.stores.items m q ≤ t q)
-            (same_Some a b (sym (ap (λ k. address_of k) is) ∙ at)) (h q apart);
+        (same_Some a b (sym (ap (λ k. address_of k) is) ∙ at)) (h q apart);
     loads = λ b w q at. absurd (cc (is, at));
   },
   λ c q apart. c.stores a q (ap (λ k. address_of k) is) apart,
@@ -104,16 +142,16 @@ counted_load x e a v t is = (
 -- what a store needs counted
 pub counted_store : (x : Accesses) (e : Event) (a v : ℕ) (t : ℕ → ℕ) → e.kind ≡ Store a v
     → (((q : ℕ) → q ≢ e.processor → entry x.stores.items a q ≤ t q)
-                × ((q : ℕ) → q ≢ e.processor → entry x.loads.items a q ≤ t q))
-        ↔ ConflictsAreCounted x e t
+    × ((q : ℕ) → q ≢ e.processor → entry x.loads.items a q ≤ t q))
+    ↔ ConflictsAreCounted x e t
 counted_store x e a v t is = (
   λ h. record {
     stores =
         λ b q at apart. subst (λ m. entry x.stores.items m q ≤ t q)
-            (same_Some a b (sym (ap (λ k. address_of k) is) ∙ at)) (h.0 q apart);
+        (same_Some a b (sym (ap (λ k. address_of k) is) ∙ at)) (h.0 q apart);
     loads =
         λ b w q at apart. subst (λ m. entry x.loads.items m q ≤ t q)
-            (same_Some a b (ap (λ k. address_of k) (sym is ∙ at))) (h.1 q apart);
+        (same_Some a b (ap (λ k. address_of k) (sym is ∙ at))) (h.1 q apart);
   },
   λ c. (λ q apart. c.stores a q (ap (λ k. address_of k) is) apart, λ q apart. c.loads a v q is apart),
 )
@@ -124,12 +162,12 @@ pub no_race : (events : List Event) (place addresses : ℕ) (e : Event) (t : ℕ
     → ConflictsAreCounted x e t → (i : ℕ) → ¬ Race events i place
 no_race events place addresses e t x at time kept counted i r =
     elim (access_cases r.first.kind conflict.address conflict.first) [
-  | inl load ↦ loaded load.0 load.1
-  | inr store ↦ (let below = kept.stores conflict.address r.first.processor i store.0
-              (does store.0 (Store conflict.address store.0) store.1) in
+      | inl load ↦ loaded load.0 load.1
+      | inr store ↦ (let below = kept.stores conflict.address r.first.processor i store.0
+          (does store.0 (Store conflict.address store.0) store.1) in
           let le = counted.stores conflict.address r.first.processor conflict.second both.0 in
           absurd (omega (arith, late, front)))
-]
+    ]
   where
     both : (r.first.processor ≢ e.processor) × Conflict r.first e
     both = race_events events place i e r.first at r.first_at r
@@ -153,9 +191,9 @@ no_race events place addresses e t x at time kept counted i r =
       | inr second ↦ elim (access_cases e.kind conflict.address conflict.second) [
         | inl load ↦ absurd (cc (second, ap (λ k. is_store k) load.1))
         | inr store ↦ (let below = kept.loads conflict.address r.first.processor i v
-                    (does v (Load conflict.address v) is) in
-                let le = counted.loads conflict.address store.0 r.first.processor store.1 both.0 in
-                absurd (omega (arith, late, front)))
+            (does v (Load conflict.address v) is) in
+            let le = counted.loads conflict.address store.0 r.first.processor store.1 both.0 in
+            absurd (omega (arith, late, front)))
       ]
     ]
 
@@ -167,7 +205,7 @@ table_next : (j : List Event) (e : Event) (t : ℕ → ℕ) (k : ℕ → ℕ →
     → Does (j ++ e ∷ []) i q (k a v) → interval_at (j ++ e ∷ []) q i < entry ys a q
 table_next j e t k xs ys at time noted old a q i v does =
     elim (push_cases j e i (event q (k a v)) does)
-        [ inl before ↦ earlier before.0 before.1 | inr last ↦ latest last.0 last.1 ]
+    [ inl before ↦ earlier before.0 before.1 | inr last ↦ latest last.0 last.1 ]
   where
     own : t e.processor ≡ count_of is_closing j e.processor
     own = own_entry j e.processor t time
@@ -179,14 +217,14 @@ table_next j e t k xs ys at time noted old a q i v does =
         let entry_q = subst (λ x. t x ≡ count_of is_closing j x) mine own in
         let all = ap (λ (xs : List Event). count_of is_closing xs q) (take-append_seam j (e ∷ [])) in
         let number : interval_at (j ++ e ∷ []) q i ≡ count_of is_closing j q =
-            ap (λ x. interval_at (j ++ e ∷ []) q x) is ∙ all in
+        ap (λ x. interval_at (j ++ e ∷ []) q x) is ∙ all in
         omega arith
 
     mine : q ≡ e.processor → interval_at j q i < entry xs a q → interval_at j q i ≤ count_of is_closing j q
         → interval_at (j ++ e ∷ []) q i ≡ interval_at j q i → interval_at (j ++ e ∷ []) q i < entry ys a q
     mine is below top front = elim (at a) [
       | inl now ↦ (let set = subst (λ x. entry ys a x ≡ t x + 1) (sym is) (noted.set a now) in
-              let entry_q = subst (λ x. t x ≡ count_of is_closing j x) (sym is) own in omega arith)
+          let entry_q = subst (λ x. t x ≡ count_of is_closing j x) (sym is) own in omega arith)
       | inr not_now ↦ (let same = noted.same a q (inr not_now) in omega arith)
     ]
 
@@ -202,14 +240,18 @@ table_next j e t k xs ys at time noted old a q i v does =
 
 store_at : (k : Kind) (a : ℕ) → ((v : ℕ) × (k ≡ Store a v)) ⊎ (((v : ℕ) × (k ≡ Store a v)) → ⊥)
 store_at (Store b v) a =
-    elim (cases_eq b a) [ inl is ↦ inl (v, ap (λ x. Store x v) is)
-            | inr isnt ↦ inr (λ h. isnt (same_Some b a (ap (λ k. address_of k) h.1))) ]
+    elim (cases_eq b a) [
+      | inl is ↦ inl (v, ap (λ x. Store x v) is)
+      | inr isnt ↦ inr (λ h. isnt (same_Some b a (ap (λ k. address_of k) h.1)))
+    ]
 store_at _ a = inr (λ h. absurd (cc (h.1)))
 
 load_at : (k : Kind) (a : ℕ) → ((v : ℕ) × (k ≡ Load a v)) ⊎ (((v : ℕ) × (k ≡ Load a v)) → ⊥)
 load_at (Load b v) a =
-    elim (cases_eq b a) [ inl is ↦ inl (v, ap (λ x. Load x v) is)
-            | inr isnt ↦ inr (λ h. isnt (same_Some b a (ap (λ k. address_of k) h.1))) ]
+    elim (cases_eq b a) [
+      | inl is ↦ inl (v, ap (λ x. Load x v) is)
+      | inr isnt ↦ inr (λ h. isnt (same_Some b a (ap (λ k. address_of k) h.1)))
+    ]
 load_at _ a = inr (λ h. absurd (cc (h.1)))
 
 -- what is kept of the addresses, one event on

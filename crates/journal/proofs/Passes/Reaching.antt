@@ -1,7 +1,31 @@
 -- How a row of what happens before a place grows, a source at a time.
 use Rattle.std.proofs.Common.{
-    ◌≡◌, ◌↔◌, ◌⊎◌, ◌∙◌, ℕ, ◌+◌, ◌<◌, inl, inr, zero, suc, List, [], ◌∷◌, length, slice_index_or, Bool, true, false,
-    IsTrue, ◌||◌, ◌==◌, refl, sym, subst, arith
+  ◌≡◌,
+  ◌↔◌,
+  ◌⊎◌,
+  ◌∙◌,
+  ℕ,
+  ◌+◌,
+  ◌<◌,
+  inl,
+  inr,
+  zero,
+  suc,
+  List,
+  [],
+  ◌∷◌,
+  length,
+  slice_index_or,
+  Bool,
+  true,
+  false,
+  IsTrue,
+  ◌||◌,
+  ◌==◌,
+  refl,
+  sym,
+  subst,
+  arith,
 }
 use Rattle.std.proofs.lemmas.Bool.{cases_lt, eq-eqb, eqb-true}
 use Rattle.journal.specs.declared.event.Event.{Event}
@@ -27,7 +51,7 @@ reaches_past j place n i isnt = (
   λ r. elim (cases_lt r.source n) [
     | inl lt ↦ record { source = r.source; below = lt; up_to = r.up_to; edge = r.edge }
     | inr le ↦ (let is : r.source ≡ n = (let lt = r.below in omega arith) in
-            absurd (isnt (subst (λ m. Edge j m place) is r.edge)))
+        absurd (isnt (subst (λ m. Edge j m place) is r.edge)))
   ],
   reaches_longer j place n i,
 )
@@ -59,15 +83,19 @@ reaches_next j place n i old there new edge before here is = (to, from)
     to : new ≡ true → Reaches j place (n + 1) i
     to t = elim (or_cases old there (i == n) (sym is ∙ t)) [
       | inl o ↦ reaches_longer j place n i (before.0 o)
-      | inr rest ↦ record { source = n; below = omega arith;
-              up_to = elim rest [ inl h ↦ inr (here.0 h) | inr same ↦ inl (eqb-true i n same) ]; edge = edge }
+      | inr rest ↦ record {
+        source = n;
+        below = omega arith;
+        up_to = elim rest [ inl h ↦ inr (here.0 h) | inr same ↦ inl (eqb-true i n same) ];
+        edge = edge;
+      }
     ]
 
     from : Reaches j place (n + 1) i → new ≡ true
     from r = elim (cases_lt r.source n) [
       | inl lt ↦ is
           ∙ or_first old (there || (i == n))
-              (before.1 (record { source = r.source; below = lt; up_to = r.up_to; edge = r.edge }))
+          (before.1 (record { source = r.source; below = lt; up_to = r.up_to; edge = r.edge }))
       | inr le ↦ (let same : r.source ≡ n = (let lt = r.below in omega arith) in elim r.up_to [
         | inl eq ↦ is ∙ or_third old there (i == n) (eq-eqb i n (eq ∙ same))
         | inr h ↦ is ∙ or_second old there (i == n) (here.1 (subst (λ m. HappensBefore j i m) same h))

@@ -22,9 +22,13 @@ pub record ReplaysSoFar (start memory : List ℕ) (events : List Event) (n : ℕ
 pub memory_after-suc : (start : List ℕ) (events : List Event) (n : ℕ) (e : Event) → slice_get events n ≡ Some e
     → memory_after start (take (n + 1) events) ≡ wrote (memory_after start (take n events)) (flat_write e.kind)
 memory_after-suc start events n e at =
-    rw (add-one, take-suc_at events n e at, written-append (λ (x : Event). flat_write x.kind) start (take n events)
-            (e ∷ []))
-        refl
+    rw (
+      add-one,
+      take-suc_at events n e at,
+      written-append (λ (x : Event). flat_write x.kind) start (take n events)
+          (e ∷ []),
+    )
+    refl
 
 -- one more event that answers
 pub replays-suc : (start memory : List ℕ) (events : List Event) (n : ℕ) (e : Event) → slice_get events n ≡ Some e

@@ -14,8 +14,8 @@ pub block_time : (j block : List Event) (p : ℕ) (t : ℕ → ℕ) → IsBlock 
     → ((k : ℕ) (e : Event) → At block k e → is_closing e.kind ≡ false) → IsTimeOf j p t → IsTimeOf (j ++ block) p t
 block_time j block p t is inner time =
     push_induction
-        (λ es. IsBlock p es → ((k : ℕ) (e : Event) → At es k e → is_closing e.kind ≡ false) → IsTimeOf (j ++ es) p t)
-        (λ x y. rw append-nil time) step block is inner
+    (λ es. IsBlock p es → ((k : ℕ) (e : Event) → At es k e → is_closing e.kind ≡ false) → IsTimeOf (j ++ es) p t)
+    (λ x y. rw append-nil time) step block is inner
   where
     step : (es : List Event) (e : Event)
         → (IsBlock p es → ((k : ℕ) (f : Event) → At es k f → is_closing f.kind ≡ false) → IsTimeOf (j ++ es) p t)

@@ -27,7 +27,7 @@ closer_least j i c m x from closes =
     go less (inl e) =
         let P : ℕ → Type 0 = λ k. At j k x.event in
         x.open_at (ap (λ (g : Event). is_closing g.kind) (at_same j m x.event f (subst P e x.at) closes.does)
-                ∙ closes.closes)
+        ∙ closes.closes)
     go less (inr (inl after)) = x.none_between m f after less closes.does refl closes.closes
     go less (inr (inr before)) = omega arith
 
@@ -35,7 +35,7 @@ closer_least j i c m x from closes =
 pub closer_closes : (j : List Event) (i c : ℕ) (x : ClosedAt j i c) → ClosesAt j x.event.processor c
 closer_closes j i c x =
     record
-        { kind = x.closer.kind; does = does_at j c x.event.processor x.closer x.closer_at x.mine; closes = x.closes }
+    { kind = x.closer.kind; does = does_at j c x.event.processor x.closer x.closer_at x.mine; closes = x.closes }
 
 -- closing order extends happens-before
 pub closing_extends : (j : List Event) (i k c d : ℕ) → ClosedAt j i c → ClosedAt j k d → (c < d) ⊎ ((c ≡ d) × (i < k))
@@ -51,9 +51,9 @@ closing_extends j i k c d x y order before = go (cases_eq y.event.processor x.ev
     go : (y.event.processor ≡ x.event.processor) ⊎ (y.event.processor ≢ x.event.processor) → ⊥
     go (inl mine) =
         let P : ℕ
-            → Type 0 = λ q. ClosesAt j q c in late (closer_least j k d c y
-                    (let less = x.before in omega (arith, forward, less))
-                        (subst P (sym mine) (closer_closes j i c x)))
+        → Type 0 = λ q. ClosesAt j q c in late (closer_least j k d c y
+        (let less = x.before in omega (arith, forward, less))
+        (subst P (sym mine) (closer_closes j i c x)))
     go (inr apart) =
         let l = path_leaves j y.event.processor before y.event x.event y.at x.at refl (λ s. apart (sym s)) in
         let least = closer_least j k d l.close y l.from l.closes in
@@ -64,10 +64,12 @@ closing_extends j i k c d x y order before = go (cases_eq y.event.processor x.ev
 -- another processor's event is in a past exactly where the closing event of its interval is
 pub interval_past : (j : List Event) (p i c : ℕ) (x : ClosedAt j i c) → x.event.processor ≢ p
     → InPast j p i ↔ InPast j p c
-interval_past j p i c x apart =
-    (there, λ h. past_back j p i c (own_order j x.event.processor i c x.event.kind (closer_closes j i c x).kind x.at
-                (closer_closes j i c x).does x.before)
-            h)
+interval_past j p i c x apart = (
+  there,
+  λ h. past_back j p i c (own_order j x.event.processor i c x.event.kind (closer_closes j i c x).kind x.at
+      (closer_closes j i c x).does x.before)
+      h,
+)
   where
     there : InPast j p i → InPast j p c
     there h = go (cases_order c l.close)
@@ -79,8 +81,8 @@ interval_past j p i c x apart =
         go (inl e) = subst (InPast j p) (sym e) l.inside
         go (inr (inl less)) =
             past_back j p c l.close (own_order j x.event.processor c l.close (closer_closes j i c x).kind
-                    l.closes.kind (closer_closes j i c x).does l.closes.does less)
-                l.inside
+            l.closes.kind (closer_closes j i c x).does l.closes.does less)
+            l.inside
         go (inr (inr less)) = let least = closer_least j i c l.close x l.from l.closes in absurd (omega arith)
 
 -- whose interval is closed
@@ -92,8 +94,8 @@ pub closes_first : (j : List Event) (q i c m : ℕ) (a : Kind) → ClosedAt j i 
     → c ≤ m
 closes_first j q i c m a x does from closes =
     let P : ℕ
-        → Type 0 = λ r. ClosesAt j r m in closer_least j i c m x from
-            (subst P (sym (closed_of j q i c a x does)) closes)
+    → Type 0 = λ r. ClosesAt j r m in closer_least j i c m x from
+    (subst P (sym (closed_of j q i c a x does)) closes)
 
 -- q's event is in another's past exactly where the closing event of its interval is
 pub closed_past : (j : List Event) (p q i c : ℕ) (a : Kind) → ClosedAt j i c → Does j i q a → q ≢ p

@@ -27,15 +27,23 @@ same_closer j q c d x y same = elim (cases_order c d) [
 pub closed_by : (j : List Event) (q i c : ℕ) (a : Kind) → Does j i q a → is_closing a ≢ true → ClosesAt j q c
     → interval_at j q i ≡ interval_at j q c → ClosedAt j i c
 closed_by j q i c a does open_at closes same =
-    record { event = event q a; closer = event q closes.kind; at = does; closer_at = closes.does;
-            before = before (cases_order i c); mine = refl; open_at = open_at; closes = closes.closes;
-            none_between = none }
+    record {
+      event = event q a;
+      closer = event q closes.kind;
+      at = does;
+      closer_at = closes.does;
+      before = before (cases_order i c);
+      mine = refl;
+      open_at = open_at;
+      closes = closes.closes;
+      none_between = none;
+    }
   where
     before : (i ≡ c) ⊎ ((i < c) ⊎ (c < i)) → i < c
     before (inl e) =
         let P : ℕ → Type 0 = λ m. Does j m q a in
         absurd
-            (open_at (ap is_closing (does_same j c q q a closes.kind (subst P e does) closes.does).1 ∙ closes.closes))
+        (open_at (ap is_closing (does_same j c q q a closes.kind (subst P e does) closes.does).1 ∙ closes.closes))
     before (inr (inl less)) = less
     before (inr (inr less)) =
         let past = count_of-past is_closing j c i q closes.kind closes.does closes.closes less in absurd (omega arith)

@@ -1,6 +1,26 @@
 -- What a lock, a flag and an episode keep: the time of all up to their releases, sets and arrivals.
 use Rattle.std.proofs.Common.{
-    ◌≡◌, ◌≢◌, ℕ, ◌<◌, max, ◌⊎◌, inl, inr, ◌↔◌, List, [], ◌∷◌, ◌++◌, length, take, subst, sym, refl, ap, ◌∙◌, arith
+  ◌≡◌,
+  ◌≢◌,
+  ℕ,
+  ◌<◌,
+  max,
+  ◌⊎◌,
+  inl,
+  inr,
+  ◌↔◌,
+  List,
+  [],
+  ◌∷◌,
+  ◌++◌,
+  length,
+  take,
+  subst,
+  sym,
+  refl,
+  ap,
+  ◌∙◌,
+  arith,
 }
 use Rattle.std.proofs.Math.Seq.{take-append_seam}
 use Rattle.journal.specs.declared.event.Event.{Event}
@@ -23,7 +43,7 @@ pub kept_others : (j es : List Event) (some others : ℕ → Type 0) (t : ℕ �
     → IsTimeIn (j ++ es) (UpToSome (j ++ es) others) t
 kept_others j es some others t inside is a =
     time_longer j es (UpToSome j some) (UpToSome (j ++ es) others) t (λ i lt. (there i, back i))
-        (λ i h. (let b = back i h in up_to_within j b.0 i (inside b.0 b.1) b.2)) a
+    (λ i h. (let b = back i h in up_to_within j b.0 i (inside b.0 b.1) b.2)) a
   where
     there : (i : ℕ) → UpToSome j some i → UpToSome (j ++ es) others i
     there i h = (h.0, (is h.0).0 h.1, up_to_longer j es h.0 i h.2)
@@ -38,9 +58,9 @@ pub kept_now : (j : List Event) (e : Event) (some others : ℕ → Type 0) (t u 
     → IsTimeIn (j ++ e ∷ []) (UpToSome (j ++ e ∷ []) others) (λ q. max (t q) (u q))
 kept_now j e some others t u inside is a b =
     time_same (j ++ e ∷ []) (λ i. UpToSome (j ++ e ∷ []) some i ⊎ UpTo (j ++ e ∷ []) (length j) i)
-        (UpToSome (j ++ e ∷ []) others) (λ q. max (t q) (u q)) (λ i. (there i, back i))
+    (UpToSome (j ++ e ∷ []) others) (λ q. max (t q) (u q)) (λ i. (there i, back i))
     (time_joined (j ++ e ∷ []) (UpToSome (j ++ e ∷ []) some) (UpTo (j ++ e ∷ []) (length j)) t u
-            (kept_others j (e ∷ []) some some t inside (λ i. ((λ h. h), (λ h. h))) a) (time_at_last j e u b))
+    (kept_others j (e ∷ []) some some t inside (λ i. ((λ h. h), (λ h. h))) a) (time_at_last j e u b))
   where
     there : (i : ℕ) → UpToSome (j ++ e ∷ []) some i ⊎ UpTo (j ++ e ∷ []) (length j) i
         → UpToSome (j ++ e ∷ []) others i
@@ -50,7 +70,7 @@ kept_now j e some others t u inside is a b =
     back : (i : ℕ) → UpToSome (j ++ e ∷ []) others i → UpToSome (j ++ e ∷ []) some i ⊎ UpTo (j ++ e ∷ []) (length j) i
     back i h =
         elim ((is h.0).0 h.1)
-            [ inl old ↦ inl (h.0, old, h.2) | inr new ↦ inr (subst (λ m. UpTo (j ++ e ∷ []) m i) new h.2) ]
+        [ inl old ↦ inl (h.0, old, h.2) | inr new ↦ inr (subst (λ m. UpTo (j ++ e ∷ []) m i) new h.2) ]
 
 -- what someone does stands in the journal
 pub some_within : (j : List Event) (k : Kind) (i : ℕ) → SomeDoes j k i → i < length j
@@ -70,7 +90,7 @@ does_kept j es k i away = (there, back)
     back : SomeDoes (j ++ es) k i → SomeDoes j k i
     back h =
         elim (append_cases j es i (event h.0 k) h.1)
-            [ inl a ↦ (h.0, a.1) | inr b ↦ absurd (away b.0 (event h.0 k) b.2 refl) ]
+        [ inl a ↦ (h.0, a.1) | inr b ↦ absurd (away b.0 (event h.0 k) b.2 refl) ]
 
 -- an event of this kind is one more
 pub does_now : (j : List Event) (e : Event) (i : ℕ)
@@ -96,13 +116,17 @@ pub kind_joins : (j : List Event) (e : Event) (t u : ℕ → ℕ) → IsTimeIn j
     → IsTimeIn (j ++ e ∷ []) (UpToSome (j ++ e ∷ []) (SomeDoes (j ++ e ∷ []) e.kind)) (λ q. max (t q) (u q))
 kind_joins j e t u a b =
     kept_now j e (SomeDoes j e.kind) (SomeDoes (j ++ e ∷ []) e.kind) t u (some_within j e.kind) (λ i. does_now j e i)
-        a b
+    a b
 
 arrives_longer : (j es : List Event) (n i : ℕ) → SomeArrives j n i → SomeArrives (j ++ es) n i
 arrives_longer j es n i h =
-    let lt = arrives_within j n i h in
-    (h.0, record { does = at_longer j es i (event h.0 Arrive) h.1.does;
-                number = count_of-front is_arrive j es i h.0 (omega arith) ∙ h.1.number })
+    let lt = arrives_within j n i h in (
+      h.0,
+      record {
+        does = at_longer j es i (event h.0 Arrive) h.1.does;
+        number = count_of-front is_arrive j es i h.0 (omega arith) ∙ h.1.number;
+      },
+    )
 
 arrives_shorter : (j es : List Event) (n q i : ℕ) → i < length j → At j i (event q Arrive) → ArrivesAt (j ++ es) n q i
     → SomeArrives j n i
@@ -116,8 +140,10 @@ arrives_kept j es n i away = (arrives_longer j es n i, back)
   where
     back : SomeArrives (j ++ es) n i → SomeArrives j n i
     back h =
-        elim (append_cases j es i (event h.0 Arrive) h.1.does) [ inl a ↦ arrives_shorter j es n h.0 i a.0 a.1 h.1
-                | inr b ↦ absurd (away b.0 (event h.0 Arrive) b.2 refl) ]
+        elim (append_cases j es i (event h.0 Arrive) h.1.does) [
+          | inl a ↦ arrives_shorter j es n h.0 i a.0 a.1 h.1
+          | inr b ↦ absurd (away b.0 (event h.0 Arrive) b.2 refl)
+        ]
 
 last_number : (j : List Event) (e : Event) (n q i : ℕ) → i ≡ length j → e.processor ≡ q
     → ArrivesAt (j ++ e ∷ []) n q i → count_of is_arrive j e.processor ≡ n
@@ -140,20 +166,24 @@ arrives_others j e n i away = (arrives_longer j (e ∷ []) n i, back)
 -- an arrival at an episode is one more
 pub arrives_now : (j : List Event) (e : Event) (i : ℕ) → e.kind ≡ Arrive
     → SomeArrives (j ++ e ∷ []) (count_of is_arrive j e.processor) i
-        ↔ (SomeArrives j (count_of is_arrive j e.processor) i ⊎ (i ≡ length j))
+    ↔ (SomeArrives j (count_of is_arrive j e.processor) i ⊎ (i ≡ length j))
 arrives_now j e i arrive = (there, back)
   where
     there : SomeArrives (j ++ e ∷ []) (count_of is_arrive j e.processor) i
         → SomeArrives j (count_of is_arrive j e.processor) i ⊎ (i ≡ length j)
     there h =
-        elim (push_cases j e i (event h.0 Arrive) h.1.does) [ inl a ↦ inl
-                    (arrives_shorter j (e ∷ []) (count_of is_arrive j e.processor) h.0 i a.0 a.1 h.1)
-                | inr b ↦ inr b.0 ]
+        elim (push_cases j e i (event h.0 Arrive) h.1.does) [
+          | inl a ↦ inl
+              (arrives_shorter j (e ∷ []) (count_of is_arrive j e.processor) h.0 i a.0 a.1 h.1)
+          | inr b ↦ inr b.0
+        ]
 
     now : ArrivesAt (j ++ e ∷ []) (count_of is_arrive j e.processor) e.processor (length j)
     now =
-        record { does = subst (λ k. At (j ++ e ∷ []) (length j) (event e.processor k)) arrive (at_last j e);
-                number = ap (λ (xs : List Event). count_of is_arrive xs e.processor) (take-append_seam j (e ∷ [])) }
+        record {
+          does = subst (λ k. At (j ++ e ∷ []) (length j) (event e.processor k)) arrive (at_last j e);
+          number = ap (λ (xs : List Event). count_of is_arrive xs e.processor) (take-append_seam j (e ∷ []));
+        }
 
     back : SomeArrives j (count_of is_arrive j e.processor) i ⊎ (i ≡ length j)
         → SomeArrives (j ++ e ∷ []) (count_of is_arrive j e.processor) i
@@ -167,7 +197,7 @@ pub arrivals_kept : (j es : List Event) (n : ℕ) (t : ℕ → ℕ) → ((m : �
     → IsTimeIn (j ++ es) (UpToSome (j ++ es) (SomeArrives (j ++ es) n)) t
 arrivals_kept j es n t away a =
     kept_others j es (SomeArrives j n) (SomeArrives (j ++ es) n) t (arrives_within j n)
-        (λ i. arrives_kept j es n i away) a
+    (λ i. arrives_kept j es n i away) a
 
 -- and under arrivals at other episodes
 pub arrivals_others : (j : List Event) (e : Event) (n : ℕ) (t : ℕ → ℕ) → count_of is_arrive j e.processor ≢ n
@@ -175,15 +205,15 @@ pub arrivals_others : (j : List Event) (e : Event) (n : ℕ) (t : ℕ → ℕ) �
     → IsTimeIn (j ++ e ∷ []) (UpToSome (j ++ e ∷ []) (SomeArrives (j ++ e ∷ []) n)) t
 arrivals_others j e n t away a =
     kept_others j (e ∷ []) (SomeArrives j n) (SomeArrives (j ++ e ∷ []) n) t (arrives_within j n)
-        (λ i. arrives_others j e n i away) a
+    (λ i. arrives_others j e n i away) a
 
 -- an arrival joins its timestamp
 pub arrival_joins : (j : List Event) (e : Event) (t u : ℕ → ℕ) → e.kind ≡ Arrive
     → IsTimeIn j (UpToSome j (SomeArrives j (count_of is_arrive j e.processor))) t
     → IsTimeOf (j ++ e ∷ []) e.processor u
     → IsTimeIn (j ++ e ∷ []) (UpToSome (j ++ e ∷ []) (SomeArrives (j ++ e ∷ []) (count_of is_arrive j e.processor)))
-        (λ q. max (t q) (u q))
+    (λ q. max (t q) (u q))
 arrival_joins j e t u arrive a b =
     kept_now j e (SomeArrives j (count_of is_arrive j e.processor))
-        (SomeArrives (j ++ e ∷ []) (count_of is_arrive j e.processor)) t u
-        (arrives_within j (count_of is_arrive j e.processor)) (λ i. arrives_now j e i arrive) a b
+    (SomeArrives (j ++ e ∷ []) (count_of is_arrive j e.processor)) t u
+    (arrives_within j (count_of is_arrive j e.processor)) (λ i. arrives_now j e i arrive) a b

@@ -1,6 +1,21 @@
 -- A path from a processor's event to another processor leaves by an event that closes an interval.
 use Rattle.std.proofs.Common.{
-    ◌≡◌, ◌≢◌, ℕ, ◌<◌, ◌≤◌, inl, inr, List, IsTrue, subst, sym, refl, ap, ◌∙◌, le_refl, arith
+  ◌≡◌,
+  ◌≢◌,
+  ℕ,
+  ◌<◌,
+  ◌≤◌,
+  inl,
+  inr,
+  List,
+  IsTrue,
+  subst,
+  sym,
+  refl,
+  ap,
+  ◌∙◌,
+  le_refl,
+  arith,
 }
 use Rattle.std.proofs.lemmas.Bool.{cases_eq}
 use Rattle.journal.specs.declared.event.Event.{Event}
@@ -47,17 +62,21 @@ path_leaves j q {i} {k} (edge d) e f at to mine away =
     let from = at_same j i d.from e d.from_at at in
     let into = at_same j k d.to f d.to_at to in
     let apart : d.from.processor ≡ d.to.processor → ⊥ =
-        λ s. away (ap (λ x. x.processor) (sym into) ∙ sym s ∙ ap (λ x. x.processor) from ∙ mine) in
+    λ s. away (ap (λ x. x.processor) (sym into) ∙ sym s ∙ ap (λ x. x.processor) from ∙ mine) in
     let closing = link_leaves j i k d.from d.to d.link apart in
-    record { close = i; from = le_refl i;
-            closes = closes_from j q i d.from d.from_at (ap (λ x. x.processor) from ∙ mine) closing; inside = edge d }
+    record {
+      close = i;
+      from = le_refl i;
+      closes = closes_from j q i d.from d.from_at (ap (λ x. x.processor) from ∙ mine) closing;
+      inside = edge d;
+    }
 path_leaves j q {i} {k} (on {m = m} h d) e f at to mine away = elim (cases_eq d.from.processor q) [
   | inl is ↦ (let into = at_same j k d.to f d.to_at to in
       let apart : d.from.processor ≡ d.to.processor → ⊥ = λ s. away (ap (λ x. x.processor) (sym into) ∙ sym s ∙ is) in
       let closing = link_leaves j m k d.from d.to d.link apart in
       let lt = goes_forward j h in
       record
-          { close = m; from = omega arith; closes = closes_from j q m d.from d.from_at is closing; inside = edge d })
+      { close = m; from = omega arith; closes = closes_from j q m d.from d.from_at is closing; inside = edge d })
   | inr isnt ↦ (let ih = path_leaves j q h e d.from at d.from_at mine isnt in
       record { close = ih.close; from = ih.from; closes = ih.closes; inside = on ih.inside d })
 ]
@@ -76,8 +95,12 @@ leaving j p q i a does apart x = go x.reaches
         absurd (away (ap (λ y. y.processor) here))
     go (inr h) =
         let c = path_leaves j q h (event q a) x.event does x.at refl away in
-        record { close = c.close; from = c.from; closes = c.closes;
-                inside = record { own = x.own; event = x.event; at = x.at; mine = x.mine; reaches = inr c.inside } }
+        record {
+          close = c.close;
+          from = c.from;
+          closes = c.closes;
+          inside = record { own = x.own; event = x.event; at = x.at; mine = x.mine; reaches = inr c.inside };
+        }
 
 -- the same of an event's past
 pub leaving_at : (j : List Event) (k p q i : ℕ) (a b : Kind) → Does j i q a → Does j k p b → q ≢ p → UpTo j k i

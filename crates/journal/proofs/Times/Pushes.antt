@@ -1,7 +1,28 @@
 -- What each event does to the timestamps of processors and events.
 use Rattle.std.proofs.Common.{
-    ◌≡◌, ◌≢◌, ℕ, ◌+◌, ◌<◌, ◌≤◌, max, inl, inr, ◌↔◌, List, [], ◌∷◌, ◌++◌, length, false, IsTrue, subst, sym, refl, ap,
-    ◌∙◌, arith
+  ◌≡◌,
+  ◌≢◌,
+  ℕ,
+  ◌+◌,
+  ◌<◌,
+  ◌≤◌,
+  max,
+  inl,
+  inr,
+  ◌↔◌,
+  List,
+  [],
+  ◌∷◌,
+  ◌++◌,
+  length,
+  false,
+  IsTrue,
+  subst,
+  sym,
+  refl,
+  ap,
+  ◌∙◌,
+  arith,
 }
 use Rattle.std.proofs.lemmas.Bool.{cases_lt}
 use Rattle.std.proofs.Math.Seq.{take-append_seam}
@@ -16,7 +37,14 @@ use Rattle.journal.specs.Times.{ClosesAt, IsTimeIn, IsTimeOf, IsTimeAt}
 use Rattle.journal.specs.Brings.{Brings}
 use Rattle.lists.proofs.Places.{push_cases}
 use Rattle.journal.proofs.Order.Places.{
-    at_last, does_at, count_of-append, count_of-front, count_of-mono, count_of-past, count_of-within, numbered
+  at_last,
+  does_at,
+  count_of-append,
+  count_of-front,
+  count_of-mono,
+  count_of-past,
+  count_of-within,
+  numbered,
 }
 use Rattle.journal.proofs.Order.Pasts.{past_back, past_push, reaches_push, own_in_past, past_within, others, brings_none}
 use Rattle.journal.proofs.Times.Leaving.{LeavesAt, leaving, back_own}
@@ -39,8 +67,8 @@ pub others_keep : (j es : List Event) (p : ℕ) (t : ℕ → ℕ) → ((m : ℕ)
     → IsTimeOf j p t → IsTimeOf (j ++ es) p t
 others_keep j es p t away a =
     time_longer j es (InPast j p) (InPast (j ++ es) p) t
-        (λ i lt. ((others j es p i away).1, (others j es p i away).0))
-        (λ i h. past_within j p i ((others j es p i away).0 h)) a
+    (λ i lt. ((others j es p i away).1, (others j es p i away).0))
+    (λ i h. past_within j p i ((others j es p i away).0 h)) a
 
 -- what an event does to its processor's timestamp: it joins what the event brings, and counts the event where that closes an interval
 pub time_push : (j : List Event) (e : Event) (t u : ℕ → ℕ) → IsTimeOf j e.processor t
@@ -66,8 +94,10 @@ time_push j e t u a b = record { covers = covers; within = within }
         → interval_at j q i < max (t q) (u q) + count_of is_closing (e ∷ []) q
     there q i c lt x = elim ((past_push j e i).0 x) [
       | inl is ↦ absurd (omega arith)
-      | inr y ↦ elim y [ inl z ↦ (let below = (a.covers q i c).0 z in omega arith)
-              | inr z ↦ (let below = (b.covers q i c).0 z in omega arith) ]
+      | inr y ↦ elim y [
+        | inl z ↦ (let below = (a.covers q i c).0 z in omega arith)
+        | inr z ↦ (let below = (b.covers q i c).0 z in omega arith)
+      ]
     ]
 
     last : (q i : ℕ) → ClosesAt (j ++ e ∷ []) q i → i ≡ length j → (e.processor ≡ q) × IsTrue (is_closing e.kind)
@@ -77,13 +107,13 @@ time_push j e t u a b = record { covers = covers; within = within }
         let entry = subst (λ x. t x ≡ count_of is_closing j x) mine.0 own in
         let all = ap (λ (xs : List Event). count_of is_closing xs q) (take-append_seam j (e ∷ [])) in
         let number : interval_at (j ++ e ∷ []) q i ≡ count_of is_closing j q =
-            ap (λ x. interval_at (j ++ e ∷ []) q x) is ∙ all in
+        ap (λ x. interval_at (j ++ e ∷ []) q x) is ∙ all in
         let more = count_of-within is_closing (e ∷ []) 0 q e.kind (does_at (e ∷ []) 0 q e refl mine.0) mine.1 in
         omega arith
 
     covers : (q i : ℕ) → ClosesAt (j ++ e ∷ []) q i
         → InPast (j ++ e ∷ []) e.processor i
-            ↔ (interval_at (j ++ e ∷ []) q i < max (t q) (u q) + count_of is_closing (e ∷ []) q)
+        ↔ (interval_at (j ++ e ∷ []) q i < max (t q) (u q) + count_of is_closing (e ∷ []) q)
     covers q i c = elim (push_cases j e i (event q c.kind) c.does) [
       | inl old ↦
           (let number = count_of-front is_closing j (e ∷ []) i q (let lt = old.0 in omega arith) in
@@ -108,7 +138,7 @@ pub own_quiet : (j : List Event) (e : Event) (t : ℕ → ℕ) → is_taking e.k
     → IsTimeOf j e.processor t → IsTimeOf (j ++ e ∷ []) e.processor t
 own_quiet j e t quiet inner a =
     time_equal (j ++ e ∷ []) (InPast (j ++ e ∷ []) e.processor) (λ q. max (t q) 0 + count_of is_closing (e ∷ []) q) t
-        same (time_push j e t (λ _. 0) a (brings_no_time j e.processor e.kind quiet))
+    same (time_push j e t (λ _. 0) a (brings_no_time j e.processor e.kind quiet))
   where
     same : (q : ℕ) → max (t q) 0 + count_of is_closing (e ∷ []) q ≡ t q
     same q = elim (count_of-one is_closing e q) [ inl none ↦ omega arith | inr one ↦ cc (inner, one.1) ]
@@ -118,15 +148,15 @@ pub own_closing : (j : List Event) (e : Event) (t : ℕ → ℕ) → is_taking e
     → IsTimeOf (j ++ e ∷ []) e.processor (λ q. t q + count_of is_closing (e ∷ []) q)
 own_closing j e t quiet a =
     time_equal (j ++ e ∷ []) (InPast (j ++ e ∷ []) e.processor) (λ q. max (t q) 0 + count_of is_closing (e ∷ []) q)
-        (λ q. t q + count_of is_closing (e ∷ []) q) (λ q. omega arith)
-        (time_push j e t (λ _. 0) a (brings_no_time j e.processor e.kind quiet))
+    (λ q. t q + count_of is_closing (e ∷ []) q) (λ q. omega arith)
+    (time_push j e t (λ _. 0) a (brings_no_time j e.processor e.kind quiet))
 
 -- an event that closes nothing joins what it brings
 pub own_taking : (j : List Event) (e : Event) (t u : ℕ → ℕ) → is_closing e.kind ≡ false → IsTimeOf j e.processor t
     → IsTimeIn j (Brings j e.processor e.kind) u → IsTimeOf (j ++ e ∷ []) e.processor (λ q. max (t q) (u q))
 own_taking j e t u inner a b =
     time_equal (j ++ e ∷ []) (InPast (j ++ e ∷ []) e.processor)
-        (λ q. max (t q) (u q) + count_of is_closing (e ∷ []) q) (λ q. max (t q) (u q)) same (time_push j e t u a b)
+    (λ q. max (t q) (u q) + count_of is_closing (e ∷ []) q) (λ q. max (t q) (u q)) same (time_push j e t u a b)
   where
     same : (q : ℕ) → max (t q) (u q) + count_of is_closing (e ∷ []) q ≡ max (t q) (u q)
     same q = elim (count_of-one is_closing e q) [ inl none ↦ omega arith | inr one ↦ cc (inner, one.1) ]
@@ -167,8 +197,8 @@ covered_in j among t q i a time back does leaves = (there, here)
         let number = n.number in
         let inside = (time.covers q n.place closes).1 (omega arith) in
         let from : n.place < i → ⊥ =
-            λ before. (let up = count_of-past is_closing j n.place i q n.kind n.does n.counts before in omega arith)
-                in
+        λ before. (let up = count_of-past is_closing j n.place i q n.kind n.does n.counts before in omega arith)
+        in
         back_own j among q i n.place a n.kind back does n.does (omega arith) inside
 
 -- another's event is in a processor's past exactly where the timestamp counts its interval
@@ -176,4 +206,4 @@ pub covered : (j : List Event) (p q i : ℕ) (a : Kind) (t : ℕ → ℕ) → Is
     → InPast j p i ↔ (interval_at j q i < t q)
 covered j p q i a t time does apart =
     covered_in j (InPast j p) t q i a time (λ m n h x. past_back j p m n h x) does
-        (λ x. leaving j p q i a does apart x)
+    (λ x. leaving j p q i a does apart x)

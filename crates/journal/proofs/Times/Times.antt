@@ -1,7 +1,28 @@
 -- Timestamps over sets of places: they are unique, rise with the set, and stay as the journal goes on.
 use Rattle.std.proofs.Common.{
-    ◌≡◌, ℕ, ◌<◌, ◌≤◌, max, ◌⊎◌, inl, inr, ◌↔◌, List, [], ◌∷◌, ◌++◌, length, Bool, true, false, IsTrue, ◌==◌, ◌&&◌,
-    refl, ap, arith
+  ◌≡◌,
+  ℕ,
+  ◌<◌,
+  ◌≤◌,
+  max,
+  ◌⊎◌,
+  inl,
+  inr,
+  ◌↔◌,
+  List,
+  [],
+  ◌∷◌,
+  ◌++◌,
+  length,
+  Bool,
+  true,
+  false,
+  IsTrue,
+  ◌==◌,
+  ◌&&◌,
+  refl,
+  ap,
+  arith,
 }
 use Rattle.std.proofs.lemmas.Bool.{cases_lt, eqb-true, and_parts}
 use Rattle.std.proofs.Math.Seq.{take-append_seam}
@@ -60,7 +81,7 @@ pub time_equal : (j : List Event) (some : ℕ → Type 0) (t u : ℕ → ℕ) �
 time_equal j some t u is a = record {
   covers =
       λ q i c. (let e = is q in
-              (λ h. (let lt = (a.covers q i c).0 h in omega arith), λ lt. (a.covers q i c).1 (omega arith)));
+      (λ h. (let lt = (a.covers q i c).0 h in omega arith), λ lt. (a.covers q i c).1 (omega arith)));
   within = λ q. (let e = is q in let within = a.within q in omega arith);
 }
 
@@ -73,8 +94,10 @@ time_none j some none =
 pub time_joined : (j : List Event) (some others : ℕ → Type 0) (t u : ℕ → ℕ) → IsTimeIn j some t → IsTimeIn j others u
     → IsTimeIn j (λ i. some i ⊎ others i) (λ q. max (t q) (u q))
 time_joined j some others t u a b =
-    record { covers = λ q i c. (there q i c, back q i c);
-            within = λ q. (let x = a.within q in let y = b.within q in omega arith) }
+    record {
+      covers = λ q i c. (there q i c, back q i c);
+      within = λ q. (let x = a.within q in let y = b.within q in omega arith);
+    }
   where
     there : (q i : ℕ) → ClosesAt j q i → some i ⊎ others i → interval_at j q i < max (t q) (u q)
     there q i c (inl h) = let lt = (a.covers q i c).0 h in omega arith
@@ -83,7 +106,7 @@ time_joined j some others t u a b =
     back : (q i : ℕ) → ClosesAt j q i → interval_at j q i < max (t q) (u q) → some i ⊎ others i
     back q i c lt =
         elim (cases_lt (interval_at j q i) (t q))
-            [ inl x ↦ inl ((a.covers q i c).1 x) | inr y ↦ inr ((b.covers q i c).1 (omega arith)) ]
+        [ inl x ↦ inl ((a.covers q i c).1 x) | inr y ↦ inr ((b.covers q i c).1 (omega arith)) ]
 
 -- a set of places keeps its time as the journal goes on
 pub time_longer : (j es : List Event) (some others : ℕ → Type 0) (t : ℕ → ℕ)

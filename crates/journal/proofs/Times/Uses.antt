@@ -23,16 +23,16 @@ reaches_at j k p i b at quiet =
     let lt = at_within j k e at in
     let long : length (take k j) ≡ k = length-take-le k j (omega arith) in
     let split : (take k j ++ e ∷ []) ++ drop (suc k) j ≡ j =
-        ap (λ xs. xs ++ drop (suc k) j) (sym (take-suc_at j k e at)) ∙ take-append-drop (suc k) j in
+    ap (λ xs. xs ++ drop (suc k) j) (sym (take-suc_at j k e at)) ∙ take-append-drop (suc k) j in
     let new = reaches_new (take k j) e i quiet in
     let within : length (take k j) < length (take k j ++ e ∷ []) =
-        at_within (take k j ++ e ∷ []) (length (take k j)) e (at_last (take k j) e) in
+    at_within (take k j ++ e ∷ []) (length (take k j)) e (at_last (take k j) e) in
     let same = extension (take k j ++ e ∷ []) (drop (suc k) j) i (length (take k j)) within in
     let P : List Event → ℕ → Type 0 = λ xs m. HappensBefore xs i m in
     let there : HappensBefore ((take k j ++ e ∷ []) ++ drop (suc k) j) i (length (take k j)) → HappensBefore j i k =
-        λ h. subst (λ xs. P xs k) split (subst (λ m. P ((take k j ++ e ∷ []) ++ drop (suc k) j) m) long h) in
+    λ h. subst (λ xs. P xs k) split (subst (λ m. P ((take k j ++ e ∷ []) ++ drop (suc k) j) m) long h) in
     let back : HappensBefore j i k → HappensBefore ((take k j ++ e ∷ []) ++ drop (suc k) j) i (length (take k j)) =
-        λ h. subst (λ xs. P xs (length (take k j))) (sym split) (subst (λ m. P j m) (sym long) h) in
+    λ h. subst (λ xs. P xs (length (take k j))) (sym split) (subst (λ m. P j m) (sym long) h) in
     ((λ h. new.0 (same.0 (back h))), (λ x. there (same.1 (new.1 x))))
 
 -- an earlier event happens before another processor's that takes nothing exactly where its timestamp before that counts the event's interval
@@ -43,5 +43,5 @@ ordered_before j k p q i a b t time does at quiet apart lt =
     let counts = covered (take k j) p q i a t time (slice_get-take j k i lt ∙ does) apart in
     let le : i ≤ k = omega arith in
     let front : interval_at (take k j) q i ≡ interval_at j q i =
-        ap (λ (xs : List Event). count_of is_closing xs q) (take-take i k j le) in
+    ap (λ (xs : List Event). count_of is_closing xs q) (take-take i k j le) in
     ((λ h. (let below = counts.0 (past.0 h) in omega arith)), (λ below. past.1 (counts.1 (omega arith))))

@@ -1,7 +1,31 @@
 -- Instructions that are lawful wherever no lock is held.
 use Rattle.std.proofs.Common.{
-    ◌≡◌, ℕ, ◌+◌, ◌^◌, ◌<◌, ◌≤◌, Bool, true, false, cond, eqb, List, [], ◌∷◌, ◌++◌, length, refl, sym, ap, subst, ◌∙◌,
-    append_assoc, arith, inl, inr, ◌⊎◌
+  ◌≡◌,
+  ℕ,
+  ◌+◌,
+  ◌^◌,
+  ◌<◌,
+  ◌≤◌,
+  Bool,
+  true,
+  false,
+  cond,
+  eqb,
+  List,
+  [],
+  ◌∷◌,
+  ◌++◌,
+  length,
+  refl,
+  sym,
+  ap,
+  subst,
+  ◌∙◌,
+  append_assoc,
+  arith,
+  inl,
+  inr,
+  ◌⊎◌,
 }
 use Rattle.std.specs.Prelude.{fold}
 use Rattle.std.specs.List.{AllByRecursion}
@@ -36,7 +60,7 @@ All-append s (x ∷ xs) ys p q = (p.0, All-append s xs ys p.1 q)
 split_append : (xs ys front : List Instruction) (i : Instruction) (back : List Instruction)
     → xs ++ ys ≡ front ++ i ∷ back
     → ((rest : List Instruction) × (xs ≡ front ++ i ∷ rest))
-        ⊎ ((rest : List Instruction) × (front ≡ xs ++ rest) × (ys ≡ rest ++ i ∷ back))
+    ⊎ ((rest : List Instruction) × (front ≡ xs ++ rest) × (ys ≡ rest ++ i ∷ back))
 split_append [] ys front i back e = inr (front, refl, e)
 split_append (x ∷ xs) ys [] i back e = inl (xs, let head : x ≡ i = cc in ap (λ (y : Instruction). y ∷ xs) head)
 split_append (x ∷ xs) ys (f ∷ front) i back e =
@@ -79,7 +103,7 @@ safe_none s = record {
   in_range = tt;
   may =
       λ before none front i back e. absurd
-          (omega (arith, ap (λ (is : List Instruction). length is) e, length-append front (i ∷ back)));
+      (omega (arith, ap (λ (is : List Instruction). length is) e, length-append front (i ∷ back)));
   frees = λ before none. subst HoldsNone (sym (append-nil before)) none;
   barriers_are = refl;
 }
@@ -119,7 +143,7 @@ group_may : (l a v : ℕ) (before : List Instruction) → HoldsNone before
 group_may l a v before none [] i back e =
     let head : Acquire l ≡ i = cc in
     subst (λ (k : Instruction). MayStandAfter (before ++ []) k) head
-        (ap (λ (is : List Instruction). holds is l) (append-nil before) ∙ none l)
+    (ap (λ (is : List Instruction). holds is l) (append-nil before) ∙ none l)
 group_may l a v before none (f ∷ []) i back e =
     let head : Add a v ≡ i = cc in subst (λ (k : Instruction). MayStandAfter (before ++ f ∷ []) k) head tt
 group_may l a v before none (f ∷ g ∷ []) i back e =
@@ -127,10 +151,10 @@ group_may l a v before none (f ∷ g ∷ []) i back e =
     let second : Add a v ≡ g = cc in
     let third : Release l ≡ i = cc in
     let held : holds (before ++ Acquire l ∷ Add a v ∷ []) l ≡ true =
-        holds-append before (Acquire l ∷ Add a v ∷ []) l ∙ taken l (holds before l) in
+    holds-append before (Acquire l ∷ Add a v ∷ []) l ∙ taken l (holds before l) in
     subst (λ (k : Instruction). MayStandAfter (before ++ f ∷ g ∷ []) k) third (subst
-            (λ (k : Instruction). holds (before ++ k ∷ g ∷ []) l ≡ true) first
-            (subst (λ (k : Instruction). holds (before ++ Acquire l ∷ k ∷ []) l ≡ true) second held))
+    (λ (k : Instruction). holds (before ++ k ∷ g ∷ []) l ≡ true) first
+    (subst (λ (k : Instruction). holds (before ++ Acquire l ∷ k ∷ []) l ≡ true) second held))
 group_may l a v before none (f ∷ g ∷ h ∷ front) i back e =
     absurd (omega (arith, ap (λ (is : List Instruction). length is) e, length-append front (i ∷ back)))
 
@@ -142,14 +166,19 @@ safe_group s l a v lock address value = record {
   may = group_may l a v;
   frees =
       λ before none k. holds-append before (Acquire l ∷ Add a v ∷ Release l ∷ []) k
-          ∙ given_back (eqb l k) (holds before k) (none k);
+      ∙ given_back (eqb l k) (holds before k) (none k);
   barriers_are = refl;
 }
 
 pub longer : (s : Plan) (m n a : ℕ) (is : List Instruction) → m ≤ n → IsSafe s m a is → IsSafe s n a is
 longer s m n a is le h =
-    record { short = omega (arith, h.short, le); in_range = h.in_range; may = h.may; frees = h.frees;
-            barriers_are = h.barriers_are }
+    record {
+      short = omega (arith, h.short, le);
+      in_range = h.in_range;
+      may = h.may;
+      frees = h.frees;
+      barriers_are = h.barriers_are;
+    }
 
 pub safe_barrier : (s : Plan) → IsSafe s 1 1 (Barrier ∷ [])
 safe_barrier s = record {

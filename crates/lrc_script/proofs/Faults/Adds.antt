@@ -1,7 +1,40 @@
 -- What a line that is read adds to the lines before it.
 use Rattle.std.proofs.Common.{
-    ◌≡◌, ℕ, ◌+◌, ◌<◌, Bool, true, false, ◌&&◌, ◌||◌, cond, eqb, ltb, leb, List, [], ◌∷◌, ◌++◌, length, map, Option,
-    Some, None, Result, Ok, Err, refl, sym, ap, subst, ◌∙◌, append_assoc, arith, inl, inr, ◌⊎◌
+  ◌≡◌,
+  ℕ,
+  ◌+◌,
+  ◌<◌,
+  Bool,
+  true,
+  false,
+  ◌&&◌,
+  ◌||◌,
+  cond,
+  eqb,
+  ltb,
+  leb,
+  List,
+  [],
+  ◌∷◌,
+  ◌++◌,
+  length,
+  map,
+  Option,
+  Some,
+  None,
+  Result,
+  Ok,
+  Err,
+  refl,
+  sym,
+  ap,
+  subst,
+  ◌∙◌,
+  append_assoc,
+  arith,
+  inl,
+  inr,
+  ◌⊎◌,
 }
 use Rattle.std.specs.Prelude.{All, codes}
 use Rattle.std.specs.List.{AllByRecursion, list_any}
@@ -16,17 +49,42 @@ use Rattle.lrc_script.specs.declared.line.Keyword.{Keyword}
 use Rattle.lrc_script.specs.declared.line.Keyword.TheVariants as keyword
 use Rattle.lrc_script.specs.Plan.{Plan, head_plan}
 use Rattle.lrc_script.specs.Lawful.{
-    addresses, AreSizes, IsInRange, MayStandAfter, IsSection, address_of, lock_of, flag_of
+  addresses,
+  AreSizes,
+  IsInRange,
+  MayStandAfter,
+  IsSection,
+  address_of,
+  lock_of,
+  flag_of,
 }
 use Rattle.lrc_script.specs.Text.{Line, cluster_line, section_line, instruction_line, show_line, section_lines}
 use Rattle.lrc_script.specs.Front.{Front, Nothing, Headed, Within, Whole, IsBegun, IsHeaded, IsWithin, lines_before}
 use Rattle.lrc_script.specs.Reading.{
-    are_sizes, is_due, sized, headed, first_section, next_section, ended, is_past, takes_held, gives_unheld, refusal,
-    entered, closed, step
+  are_sizes,
+  is_due,
+  sized,
+  headed,
+  first_section,
+  next_section,
+  ended,
+  is_past,
+  takes_held,
+  gives_unheld,
+  refusal,
+  entered,
+  closed,
+  step,
 }
 use Rattle.lrc_script.proofs.Reading.Numbers.{AreWords}
 use Rattle.lrc_script.proofs.Lawful.{
-    sizes_from_test, sizes_small, section_with, sizes_with, section_over, sizes_over, nothing_stands
+  sizes_from_test,
+  sizes_small,
+  section_with,
+  sizes_with,
+  section_over,
+  sizes_over,
+  nothing_stands,
 }
 use Rattle.lrc_script.proofs.Text.{section_lines-append}
 use Rattle.lrc_script.proofs.Reading.Keywords.{spelled}
@@ -52,8 +110,10 @@ sized_adds : (s : Plan) (are : Bool) (l : Line) (g : Front) → (are ≡ true �
     → s.shown ≡ [] → cluster_line s ≡ l → sized are s ≡ Ok g → Adds Nothing l g
 sized_adds s are l g sizes none unshown line e =
     let t = guard_ok are (Headed s) g _ e in
-    subst (λ (x : Front). Adds Nothing l x) t.1 (record { lines_are = ap (λ (x : Line). x ∷ []) line;
-                begun = record { sizes = sizes t.0; no_sections = none; none_shown = unshown } })
+    subst (λ (x : Front). Adds Nothing l x) t.1 (record {
+      lines_are = ap (λ (x : Line). x ∷ []) line;
+      begun = record { sizes = sizes t.0; no_sections = none; none_shown = unshown };
+    })
 
 cluster_of_five : (p n w l g : ℕ) → eqb g 0 ≡ false
     → cluster_line (head_plan p n w l g) ≡ record { word = codes "cluster"; numbers = p ∷ n ∷ w ∷ l ∷ g ∷ [] }
@@ -68,7 +128,7 @@ headed_adds (p ∷ n ∷ []) g e = absurd cc
 headed_adds (p ∷ n ∷ w ∷ []) g e = absurd cc
 headed_adds (p ∷ n ∷ w ∷ l ∷ []) g e =
     sized_adds (head_plan p n w l 0) (are_sizes (head_plan p n w l 0)) _ g (sizes_from_test (head_plan p n w l 0))
-        refl refl refl e
+    refl refl refl e
 headed_adds (p ∷ n ∷ w ∷ l ∷ k ∷ []) g e =
     let s = head_plan p n w l k in
     let both = guard_ok (ltb 0 k && are_sizes s) (Headed s) g _ e in
@@ -76,7 +136,7 @@ headed_adds (p ∷ n ∷ w ∷ l ∷ k ∷ []) g e =
     let some = parts.0 in
     let other : eqb k 0 ≡ false = grind (arith, nat_tests, some) in
     sized_adds s (ltb 0 k && are_sizes s) _ g (λ t. sizes_from_test s (and_parts (ltb 0 k) (are_sizes s) t).1) refl
-        refl (cluster_of_five p n w l k other) e
+    refl (cluster_of_five p n w l k other) e
 headed_adds (p ∷ n ∷ w ∷ l ∷ k ∷ m ∷ ns) g e = absurd cc
 
 -- ---- a section line
@@ -89,15 +149,22 @@ first_adds s (k ∷ []) g h e =
     let test = t.0 in
     let zero-is : 0 ≡ k = grind (arith, nat_tests, test) in
     let lines : lines_before (Within s []) ≡ cluster_line s ∷ section_line k ∷ [] =
-        ap (λ (xs : List (List Instruction)). cluster_line s ∷ section_lines 0 (xs ++ [] ∷ [])) h.no_sections
-            ∙ ap (λ (n : ℕ). cluster_line s ∷ section_line n ∷ []) zero-is in
-    subst (λ (x : Front). Adds (Headed s) (section_line k) x) t.1 (record { lines_are = lines;
-                begun = record { sizes = h.sizes;
-                        sections = subst (All (IsSection s)) (sym h.no_sections) (All-nil (IsSection s));
-                        last = nothing_stands s;
-                        one_each = omega (arith, ap (λ (xs : List (List Instruction)). length xs) h.no_sections,
-                                (sizes_small s h.sizes).some);
-                        none_shown = h.none_shown } })
+    ap (λ (xs : List (List Instruction)). cluster_line s ∷ section_lines 0 (xs ++ [] ∷ [])) h.no_sections
+    ∙ ap (λ (n : ℕ). cluster_line s ∷ section_line n ∷ []) zero-is in
+    subst (λ (x : Front). Adds (Headed s) (section_line k) x) t.1 (record {
+      lines_are = lines;
+      begun = record {
+        sizes = h.sizes;
+        sections = subst (All (IsSection s)) (sym h.no_sections) (All-nil (IsSection s));
+        last = nothing_stands s;
+        one_each = omega (
+          arith,
+          ap (λ (xs : List (List Instruction)). length xs) h.no_sections,
+          (sizes_small s h.sizes).some,
+        );
+        none_shown = h.none_shown;
+      };
+    })
 first_adds s (k ∷ m ∷ ns) g h e = absurd cc
 
 next_adds : (s : Plan) (is : List Instruction) (ns : List ℕ) (g : Front) → IsWithin s is → next_section s is ns ≡ Ok g
@@ -109,18 +176,18 @@ next_adds s is (k ∷ []) g h e =
     let test = both.0 in
     let room = both.1 in
     let count : 0 + length (s.sections ++ is ∷ []) ≡ k =
-        grind (arith, nat_tests, test, length-append s.sections (is ∷ [])) in
+    grind (arith, nat_tests, test, length-append s.sections (is ∷ [])) in
     let sections = s.sections ++ is ∷ [] in
     let lines : section_lines 0 (sections ++ [] ∷ []) ≡ section_lines 0 sections ++ section_line k ∷ [] =
-        section_lines-append 0 sections ([] ∷ [])
-            ∙ ap (λ (n : ℕ). section_lines 0 sections ++ section_line n ∷ []) count in
+    section_lines-append 0 sections ([] ∷ [])
+    ∙ ap (λ (n : ℕ). section_lines 0 sections ++ section_line n ∷ []) count in
     subst (λ (x : Front). Adds (Within s is) (section_line k) x) t.1 (record {
       lines_are = ap (λ (ls : List Line). cluster_line s ∷ ls) lines;
       begun = record {
         sizes = sizes_with s sections h.sizes;
         sections =
             All-weaker (IsSection s) (IsSection (closed s is)) (section_with s sections) sections
-                (All-push (IsSection s) s.sections is h.sections h.last);
+            (All-push (IsSection s) s.sections is h.sections h.last);
         last = nothing_stands (closed s is);
         one_each = grind (arith, nat_tests, test, room, length-append s.sections (is ∷ []));
         none_shown = h.none_shown;
@@ -154,7 +221,7 @@ show_adds s is ns g h due e =
     let short = few.0 in
     let sections = s.sections ++ is ∷ [] in
     let as_whole : (is : List Instruction) → IsSection s is → IsSection whole is =
-        λ js k. section_over s sections ns js k in
+    λ js k. section_over s sections ns js k in
     subst (λ (x : Front). Adds (Within s is) (show_line ns) x) same (record {
       lines_are = refl;
       begun = record {
@@ -162,7 +229,7 @@ show_adds s is ns g h due e =
         one_each = grind (arith, nat_tests, all, length-append s.sections (is ∷ []));
         sections =
             All-weaker (IsSection s) (IsSection whole) as_whole sections
-                (All-push (IsSection s) s.sections is h.sections h.last);
+            (All-push (IsSection s) s.sections is h.sections h.last);
         some_shown = grind (arith, nat_tests, some);
         most_shown = grind (arith, nat_tests, short);
         shown = All-from_recursion (λ a. a < addresses s) ns (none_past (addresses s) ns near.0);
@@ -226,14 +293,14 @@ entered_adds s is i g None refused h ranges e =
     let start = section_lines-append 0 s.sections (is ∷ []) in
     let n = 0 + length s.sections in
     let lines : section_lines 0 (s.sections ++ (is ++ i ∷ []) ∷ [])
-        ≡ section_lines 0 (s.sections ++ is ∷ []) ++ instruction_line i ∷ [] =
+    ≡ section_lines 0 (s.sections ++ is ∷ []) ++ instruction_line i ∷ [] =
     section_lines-append 0 s.sections ((is ++ i ∷ []) ∷ [])
     ∙ ap (λ (ls : List Line). section_lines 0 s.sections ++ (section_line n ∷ ls)) (append-nil
-                (map instruction_line (is ++ i ∷ []))
-            ∙ map_push instruction_line is i
-            ∙ ap (λ (ls : List Line). ls ++ instruction_line i ∷ []) (sym (append-nil (map instruction_line is))))
+    (map instruction_line (is ++ i ∷ []))
+    ∙ map_push instruction_line is i
+    ∙ ap (λ (ls : List Line). ls ++ instruction_line i ∷ []) (sym (append-nil (map instruction_line is))))
     ∙ sym (append_assoc (section_lines 0 s.sections) (section_line n ∷ map instruction_line is ++ [])
-            (instruction_line i ∷ []))
+    (instruction_line i ∷ []))
     ∙ ap (λ (ls : List Line). ls ++ instruction_line i ∷ []) (sym start) in
     let may = may_from s is i p in
     let section : IsSection s (is ++ i ∷ []) = record {
@@ -248,8 +315,13 @@ entered_adds s is i g None refused h ranges e =
     subst (λ (x : Front). Adds (Within s is) (instruction_line i) x) same (record {
       lines_are = ap (λ (ls : List Line). cluster_line s ∷ ls) lines;
       begun =
-          record { sizes = h.sizes; sections = h.sections; last = section; one_each = h.one_each;
-                  none_shown = h.none_shown };
+          record {
+            sizes = h.sizes;
+            sections = h.sections;
+            last = section;
+            one_each = h.one_each;
+            none_shown = h.none_shown;
+          };
     })
 
 -- what a keyword and its numbers add

@@ -1,7 +1,27 @@
 -- Reading from line to line through the bytes of a script.
 use Rattle.std.proofs.Common.{
-    ◌≡◌, ◌≢◌, ℕ, ◌+◌, ◌<◌, ◌≤◌, map, List, [], ◌∷◌, ◌++◌, length, eqb, Ok, Err, refl, sym, ap, subst, ◌∙◌,
-    append_assoc, arith
+  ◌≡◌,
+  ◌≢◌,
+  ℕ,
+  ◌+◌,
+  ◌<◌,
+  ◌≤◌,
+  map,
+  List,
+  [],
+  ◌∷◌,
+  ◌++◌,
+  length,
+  eqb,
+  Ok,
+  Err,
+  refl,
+  sym,
+  ap,
+  subst,
+  ◌∙◌,
+  append_assoc,
+  arith,
 }
 use Rattle.std.specs.Prelude.{All}
 use Rattle.std.specs.Global.{Vec}
@@ -36,7 +56,7 @@ pub cut_from_parts : (bytes line rest : List ℕ) → parts_of 10 bytes ≡ line
 cut_from_parts bytes line rest e = record {
   bytes_are =
       parts_whole 10 bytes line (parts_of 10 rest) e
-          ∙ ap (λ (x : List ℕ). line ++ x) (joined_again rest (parts_of 10 rest) refl (parts_count 10 rest));
+      ∙ ap (λ (x : List ℕ). line ++ x) (joined_again rest (parts_of 10 rest) refl (parts_count 10 rest));
   one_line = (subst (λ (parts : List (List ℕ)). AllByRecursion (HasNo 10) parts) e (parts_clean 10 bytes)).0;
 }
 
@@ -44,7 +64,7 @@ pub uncut_from_parts : (bytes line : List ℕ) → parts_of 10 bytes ≡ line �
 uncut_from_parts bytes line e =
     let same : bytes ≡ line = parts_whole 10 bytes line [] e ∙ append-nil line in
     subst (HasNo 10) (sym same)
-        (subst (λ (parts : List (List ℕ)). AllByRecursion (HasNo 10) parts) e (parts_clean 10 bytes)).0
+    (subst (λ (parts : List (List ℕ)). AllByRecursion (HasNo 10) parts) e (parts_clean 10 bytes)).0
 
 pub at_start : (bytes : List ℕ) → IsAt bytes 1 Nothing bytes
 at_start bytes = record { begun = tt; whole = refl; number = refl }
@@ -55,20 +75,25 @@ at_next bytes n f g now line rest at cut read =
     let a = line_adds f line g at.begun read in
     let lines = a.adds.lines_are in
     let front : text_before g ≡ text_before f ++ (line_text a.added ++ []) =
-        ap (flat_map line_text) lines ∙ flat_map-append line_text (lines_before f) (a.added ∷ []) in
+    ap (flat_map line_text) lines ∙ flat_map-append line_text (lines_before f) (a.added ∷ []) in
     let added : line_text a.added ++ [] ≡ line ++ 10 ∷ [] =
-        append-nil (line_text a.added) ∙ ap (λ (x : List ℕ). x ++ 10 ∷ []) (sym a.line_is) in
+    append-nil (line_text a.added) ∙ ap (λ (x : List ℕ). x ++ 10 ∷ []) (sym a.line_is) in
     let front' : text_before g ≡ text_before f ++ (line ++ 10 ∷ []) =
-        front ∙ ap (λ (x : List ℕ). text_before f ++ x) added in
+    front ∙ ap (λ (x : List ℕ). text_before f ++ x) added in
     let joined' : text_before g ++ rest ≡ text_before f ++ (line ++ 10 ∷ rest) =
-        ap (λ (x : List ℕ). x ++ rest) front' ∙ append_assoc (text_before f) (line ++ 10 ∷ []) rest
-            ∙ ap (λ (x : List ℕ). text_before f ++ x) (append_assoc line (10 ∷ []) rest) in
+    ap (λ (x : List ℕ). x ++ rest) front' ∙ append_assoc (text_before f) (line ++ 10 ∷ []) rest
+    ∙ ap (λ (x : List ℕ). text_before f ++ x) (append_assoc line (10 ∷ []) rest) in
     record {
       begun = a.adds.begun;
       whole = at.whole ∙ ap (λ (x : List ℕ). text_before f ++ x) cut.bytes_are ∙ sym joined';
       number =
-          omega (arith, at.number, ap (λ (ls : List Line). length ls) lines, length-append (lines_before f)
-                  (a.added ∷ []));
+          omega (
+            arith,
+            at.number,
+            ap (λ (ls : List Line). length ls) lines,
+            length-append (lines_before f)
+                (a.added ∷ []),
+          );
     }
 
 -- the bytes are no lawful script's text
@@ -126,7 +151,7 @@ pub whole_text : (bytes : List ℕ) (n : ℕ) (f : Front) (rest : List ℕ) (s :
     → (f ≡ Whole s) × (rest ≡ []) → IsLawfulButUneven s × (bytes ≡ text s)
 whole_text bytes n f rest s at ends =
     let whole : bytes ≡ text_before (Whole s) ++ [] =
-        at.whole ∙ ap (λ (g : Front). text_before g ++ rest) ends.0 ∙ ap (λ (x : List ℕ). text s ++ x) ends.1 in
+    at.whole ∙ ap (λ (g : Front). text_before g ++ rest) ends.0 ∙ ap (λ (x : List ℕ). text s ++ x) ends.1 in
     (subst IsBegun ends.0 at.begun, whole ∙ append-nil (text s))
 
 -- the text of an uneven script is no lawful script's
@@ -143,15 +168,28 @@ uneven_fault bytes s n lawful text-is h = (
 lines_have : (ls : List Line) → length ls ≤ length (flat_map line_text ls)
 lines_have [] = omega arith
 lines_have (l ∷ ls) =
-    omega (arith, lines_have ls, length-append (line_text l) (flat_map line_text ls), length-append (line_bytes l)
-            (10 ∷ []))
+    omega (
+      arith,
+      lines_have ls,
+      length-append (line_text l) (flat_map line_text ls),
+      length-append (line_bytes l)
+          (10 ∷ []),
+    )
 
 -- there are no more lines than bytes
 pub number_fits : (bytes : List ℕ) (n : ℕ) (f : Front) (now line rest : List ℕ) → IsAt bytes n f now
     → IsCut now line rest → n ≤ length bytes
 number_fits bytes n f now line rest at cut =
-    omega (arith, at.number, lines_have (lines_before f), ap (λ (x : List ℕ). length x) at.whole, length-append
-            (text_before f) now, ap (λ (x : List ℕ). length x) cut.bytes_are, length-append line (10 ∷ rest))
+    omega (
+      arith,
+      at.number,
+      lines_have (lines_before f),
+      ap (λ (x : List ℕ). length x) at.whole,
+      length-append
+          (text_before f) now,
+      ap (λ (x : List ℕ). length x) cut.bytes_are,
+      length-append line (10 ∷ rest),
+    )
 
 pub cut_shorter : (now line rest : List ℕ) → IsCut now line rest → length rest < length now
 cut_shorter now line rest cut =
@@ -178,8 +216,8 @@ items_length : (sections : List (Vec Instruction))
     → All (λ section. length section.items ≤ 10000) sections
 items_length sections h =
     λ k d lt. subst (λ (is : List Instruction). length is ≤ 10000)
-        (get_or-map (λ section. section.items) sections k d [] lt)
-        (h k [] (omega (arith, lt, length-map sections (λ (section : Vec Instruction). section.items))))
+    (get_or-map (λ section. section.items) sections k d [] lt)
+    (h k [] (omega (arith, lt, length-map sections (λ (section : Vec Instruction). section.items))))
 
 -- what looking for an uneven section needs
 pub sections_fit : (s : Plan) (sections : List (Vec Instruction))
@@ -187,7 +225,14 @@ pub sections_fit : (s : Plan) (sections : List (Vec Instruction))
     → (length sections ≤ 16) × All (λ section. length section.items ≤ 10000) sections
 sections_fit s sections e h =
     let each : All (λ is. length is ≤ 10000) s.sections =
-        All-weaker (IsSection s) (λ is. length is ≤ 10000) (λ is k. k.most) s.sections h.sections in
-    (omega (arith, ap (λ (xs : List (List Instruction)). length xs) e, length-map sections
-                (λ (section : Vec Instruction). section.items), h.one_each, h.sizes.most_processors),
-            items_length sections (subst (All (λ is. length is ≤ 10000)) e each))
+    All-weaker (IsSection s) (λ is. length is ≤ 10000) (λ is k. k.most) s.sections h.sections in (
+      omega (
+        arith,
+        ap (λ (xs : List (List Instruction)). length xs) e,
+        length-map sections
+            (λ (section : Vec Instruction). section.items),
+        h.one_each,
+        h.sizes.most_processors,
+      ),
+      items_length sections (subst (All (λ is. length is ≤ 10000)) e each),
+    )

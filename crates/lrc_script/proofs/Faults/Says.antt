@@ -1,7 +1,39 @@
 -- What a fault says of the line that is refused.
 use Rattle.std.proofs.Common.{
-    ◌≡◌, ◌≢◌, ℕ, suc, ◌+◌, ◌≤◌, Bool, true, false, ◌&&◌, ◌||◌, cond, eqb, ltb, leb, List, [], ◌∷◌, length, Option,
-    Some, None, Result, Ok, Err, refl, sym, ap, subst, ◌∙◌, arith, inl, inr, ◌⊎◌
+  ◌≡◌,
+  ◌≢◌,
+  ℕ,
+  suc,
+  ◌+◌,
+  ◌≤◌,
+  Bool,
+  true,
+  false,
+  ◌&&◌,
+  ◌||◌,
+  cond,
+  eqb,
+  ltb,
+  leb,
+  List,
+  [],
+  ◌∷◌,
+  length,
+  Option,
+  Some,
+  None,
+  Result,
+  Ok,
+  Err,
+  refl,
+  sym,
+  ap,
+  subst,
+  ◌∙◌,
+  arith,
+  inl,
+  inr,
+  ◌⊎◌,
 }
 use Rattle.std.specs.Prelude.{Any, IsSomeAnd, codes}
 use Rattle.std.specs.List.{list_any}
@@ -18,11 +50,31 @@ use Rattle.lrc_script.specs.Lawful.{addresses, AreSizes, address_of, lock_of, fl
 use Rattle.lrc_script.specs.Text.{Line, line_bytes, section_line, instruction_line, show_line}
 use Rattle.lrc_script.specs.Front.{Front, Nothing, Headed, Within, Whole, IsBegun}
 use Rattle.lrc_script.specs.Faults.{
-    Allows, IsOutOfTurn, AreNoSizes, SaysWithin, Says, IsLineFault, IsFaultBehind, IsFaultAt, IsFault
+  Allows,
+  IsOutOfTurn,
+  AreNoSizes,
+  SaysWithin,
+  Says,
+  IsLineFault,
+  IsFaultBehind,
+  IsFaultAt,
+  IsFault,
 }
 use Rattle.lrc_script.specs.Reading.{
-    are_sizes, is_due, headed, first_section, next_section, ended, is_past, takes_held, gives_unheld, refusal,
-    entered, closed, step, after
+  are_sizes,
+  is_due,
+  headed,
+  first_section,
+  next_section,
+  ended,
+  is_past,
+  takes_held,
+  gives_unheld,
+  refusal,
+  entered,
+  closed,
+  step,
+  after,
 }
 use Rattle.lrc_script.proofs.Lawful.{sizes_test}
 use Rattle.lrc_script.proofs.Reading.Keywords.{spelled, keyword_spelled, due_allows, allows_due}
@@ -58,32 +110,38 @@ headed_says (p ∷ n ∷ w ∷ l ∷ []) g due e =
     (t.1, no_sizes s t.0)
 headed_says (p ∷ n ∷ w ∷ l ∷ k ∷ []) g due e =
     let s = head_plan p n w l k in
-    let t = refused_unless (ltb 0 k && are_sizes s) (Headed s) _ g e in
-    (t.1, elim (and_cases (ltb 0 k) (are_sizes s) t.0)
-            [ inl z ↦ inl (grind (arith, nat_tests, z)) | inr z ↦ inr (no_sizes s z) ])
+    let t = refused_unless (ltb 0 k && are_sizes s) (Headed s) _ g e in (
+      t.1,
+      elim (and_cases (ltb 0 k) (are_sizes s) t.0)
+          [ inl z ↦ inl (grind (arith, nat_tests, z)) | inr z ↦ inr (no_sizes s z) ],
+    )
 headed_says (p ∷ n ∷ w ∷ l ∷ k ∷ m ∷ ns) g due e = absurd (grind (arith, nat_tests, due))
 
 -- ---- a section line
 
 first_says : (s : Plan) (ns : List ℕ) (g : ScriptFault) → eqb (length ns) 1 ≡ true → first_section s ns ≡ Err g
     → (fault.BadLine ≡ g) × (k : ℕ)
-        × (line_bytes (record { word = codes "p"; numbers = ns }) ≡ line_bytes (section_line k)) × (k ≢ 0)
+    × (line_bytes (record { word = codes "p"; numbers = ns }) ≡ line_bytes (section_line k)) × (k ≢ 0)
 first_says s [] g due e = absurd cc
 first_says s (k ∷ []) g due e =
     let t = refused_unless (eqb k 0) (Within s []) _ g e in let test = t.0 in
-        (t.1, k, refl, λ z. grind (arith, nat_tests, test, z))
+    (t.1, k, refl, λ z. grind (arith, nat_tests, test, z))
 first_says s (k ∷ m ∷ ns) g due e = absurd (grind (arith, nat_tests, due))
 
 next_says : (s : Plan) (is : List Instruction) (ns : List ℕ) (g : ScriptFault) → eqb (length ns) 1 ≡ true
     → next_section s is ns ≡ Err g
     → (fault.BadLine ≡ g) × (k : ℕ)
-        × (line_bytes (record { word = codes "p"; numbers = ns }) ≡ line_bytes (section_line k))
-        × IsOutOfTurn (Within s is) k
+    × (line_bytes (record { word = codes "p"; numbers = ns }) ≡ line_bytes (section_line k))
+    × IsOutOfTurn (Within s is) k
 next_says s is [] g due e = absurd cc
 next_says s is (k ∷ []) g due e =
-    let t = refused_unless (eqb k (length s.sections + 1) && ltb k s.processors) (Within (closed s is) []) _ g e in
-    (t.1, k, refl, elim (and_cases (eqb k (length s.sections + 1)) (ltb k s.processors) t.0)
-            [ inl z ↦ inl (λ same. grind (arith, nat_tests, z, same)) | inr z ↦ inr (grind (arith, nat_tests, z)) ])
+    let t = refused_unless (eqb k (length s.sections + 1) && ltb k s.processors) (Within (closed s is) []) _ g e in (
+      t.1,
+      k,
+      refl,
+      elim (and_cases (eqb k (length s.sections + 1)) (ltb k s.processors) t.0)
+          [ inl z ↦ inl (λ same. grind (arith, nat_tests, z, same)) | inr z ↦ inr (grind (arith, nat_tests, z)) ],
+    )
 next_says s is (k ∷ m ∷ ns) g due e = absurd (grind (arith, nat_tests, due))
 
 -- ---- the show line
@@ -105,7 +163,7 @@ ended_says s is ns g e = elim (refused_if (list_any (λ a. leb (addresses s) a) 
   | inr t ↦ elim (refused_if (ltb 64 (length ns)) _ _ g t.1) [
     | inl u ↦ let long = u.0 in
         subst (λ (x : ScriptFault). SaysWithin x s is (line_bytes (show_line ns))) u.1
-            (inr (ns, refl, grind (arith, nat_tests, long)))
+        (inr (ns, refl, grind (arith, nat_tests, long)))
     | inr u ↦ absurd (let none = u.1 in cc)
   ]
 ]
@@ -172,18 +230,18 @@ pub command_says : (f : Front) (k : Keyword) (ns : List ℕ) (g : ScriptFault) �
 unfolding step
 command_says Nothing keyword.Cluster ns g due e =
     let t = headed_says ns g due e in
-        subst (λ (x : ScriptFault). Says x Nothing (line_bytes (record { word = codes "cluster"; numbers = ns }))) t.0
-            (ns, refl, t.1)
+    subst (λ (x : ScriptFault). Says x Nothing (line_bytes (record { word = codes "cluster"; numbers = ns }))) t.0
+    (ns, refl, t.1)
 command_says Nothing _ ns g due e = absurd cc
 command_says (Headed s) keyword.Section ns g due e =
     let t = first_says s ns g due e in
-        subst (λ (x : ScriptFault). Says x (Headed s) (line_bytes (record { word = codes "p"; numbers = ns }))) t.0
-            (inr (t.1, t.2, t.3))
+    subst (λ (x : ScriptFault). Says x (Headed s) (line_bytes (record { word = codes "p"; numbers = ns }))) t.0
+    (inr (t.1, t.2, t.3))
 command_says (Headed s) _ ns g due e = absurd cc
 command_says (Within s is) keyword.Section ns g due e =
     let t = next_says s is ns g due e in
-        subst (λ (x : ScriptFault). Says x (Within s is) (line_bytes (record { word = codes "p"; numbers = ns }))) t.0
-            (inr (t.1, t.2, t.3))
+    subst (λ (x : ScriptFault). Says x (Within s is) (line_bytes (record { word = codes "p"; numbers = ns }))) t.0
+    (inr (t.1, t.2, t.3))
 command_says (Within s is) keyword.Show ns g due e = within_says g s is _ (ended_says s is ns g e)
 command_says (Within s is) keyword.Load (a ∷ []) g due e =
     within_says g s is _ (entered_says s is (instruction.Load a) g _ refl e)
@@ -250,19 +308,19 @@ says_cases : (f : Front) (line : List ℕ) (g : ScriptFault) → Reading f line 
 says_cases f line g (Shapeless h e) =
     let same : fault.BadLine ≡ g = cc in
     subst (λ (x : ScriptFault). Says x f line) same (inl (λ word words split allowed. let d = allows_due f word
-                    (length words) allowed in
-                h word words d.0 split d.1 d.2))
+    (length words) allowed in
+    h word words d.0 split d.1 d.2))
 says_cases f line g (NoNumber other m e) =
     let same : fault.BadNumber ≡ g = sym m.refused.fault_is ∙ (let err : other ≡ g = cc in err) in
     let allowed =
-        subst (λ (w : List ℕ). Allows f w (length m.words)) (sym (keyword_spelled m.word m.key m.key_is))
-            (due_allows f m.key (length m.words) m.due) in
+    subst (λ (w : List ℕ). Allows f w (length m.words)) (sym (keyword_spelled m.word m.key m.key_is))
+    (due_allows f m.key (length m.words) m.due) in
     subst (λ (x : ScriptFault). Says x f line) same
-        (m.word, m.words, m.split, allowed, m.refused.word, m.refused.within, m.refused.none)
+    (m.word, m.words, m.split, allowed, m.refused.word, m.refused.within, m.refused.none)
 says_cases f line g (Reached c e) =
     let word = keyword_spelled c.word c.key c.key_is in
     let line-is : line ≡ line_bytes (record { word = spelled c.key; numbers = c.numbers }) =
-        c.line_is ∙ ap (λ (w : List ℕ). line_bytes (record { word = w; numbers = c.numbers })) word in
+    c.line_is ∙ ap (λ (w : List ℕ). line_bytes (record { word = w; numbers = c.numbers })) word in
     subst (λ (x : List ℕ). Says g f x) (sym line-is) (command_says f c.key c.numbers g c.due (sym e))
 
 pub line_says : (f : Front) (line : List ℕ) (g : ScriptFault) → after f line ≡ Err g → Says g f line

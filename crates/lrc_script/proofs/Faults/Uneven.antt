@@ -25,23 +25,23 @@ pub alike_more : (sections : List (Vec Instruction)) (count expected line : ℕ)
     → IsAlike sections (count + 1) expected (line + (length section.items + 1))
 alike_more sections count expected line section h lt read few same =
     let here : get_or (items_of sections) count [] ≡ section.items =
-        get_or-map (λ section. section.items) sections count section [] lt
-            ∙ ap (λ (v : Vec Instruction). v.items) (sym read) in
+    get_or-map (λ section. section.items) sections count section [] lt
+    ∙ ap (λ (v : Vec Instruction). v.items) (sym read) in
     let fits : count < length (items_of sections) =
-        omega (arith, lt, length-map sections (λ (section : Vec Instruction). section.items)) in
+    omega (arith, lt, length-map sections (λ (section : Vec Instruction). section.items)) in
     let front = take count (items_of sections) in
     let more : take (count + 1) (items_of sections) ≡ front ++ section.items ∷ [] =
-        take_more (items_of sections) count [] fits ∙ ap (λ (is : List Instruction). front ++ is ∷ []) here in
+    take_more (items_of sections) count [] fits ∙ ap (λ (is : List Instruction). front ++ is ∷ []) here in
     let lines : length (section_lines 0 (take (count + 1) (items_of sections)))
-        ≡ length (section_lines 0 front) + suc (length section.items) =
+    ≡ length (section_lines 0 front) + suc (length section.items) =
     ap (λ (xs : List (List Instruction)). length (section_lines 0 xs)) more
-        ∙ ap (λ (ls : List Line). length ls) (section_lines-append 0 front (section.items ∷ []))
-        ∙ length-append (section_lines 0 front) (section_lines (0 + length front) (section.items ∷ []))
+    ∙ ap (λ (ls : List Line). length ls) (section_lines-append 0 front (section.items ∷ []))
+    ∙ length-append (section_lines 0 front) (section_lines (0 + length front) (section.items ∷ []))
     ∙ ap (λ (n : ℕ). length (section_lines 0 front) + n) (section_lines-one (0 + length front) section.items) in
     record {
       same =
           below_more (λ k. barriers (get_or (items_of sections) k []) ≡ expected) count h.same
-              (ap barriers here ∙ same);
+          (ap barriers here ∙ same);
       line_is = omega (arith, h.line_is, lines);
       small = omega (arith, h.small, few);
     }
@@ -52,11 +52,17 @@ pub alike_all : (s : Plan) (sections : List (Vec Instruction)) (count expected l
 alike_all s sections count expected line e h all first = λ k d lt.
     let within : k < length s.sections = lt in
     let same =
-        h.same k (omega (arith, lt, all, ap (λ (xs : List (List Instruction)). length xs) e, length-map sections
-                    (λ (section : Vec Instruction). section.items)))
-            in
+    h.same k (omega (
+      arith,
+      lt,
+      all,
+      ap (λ (xs : List (List Instruction)). length xs) e,
+      length-map sections
+          (λ (section : Vec Instruction). section.items),
+    ))
+    in
     ap barriers (get_or_default s.sections k d [] lt)
-        ∙ ap (λ (xs : List (List Instruction)). barriers (get_or xs k [])) e ∙ same ∙ first
+    ∙ ap (λ (xs : List (List Instruction)). barriers (get_or xs k [])) e ∙ same ∙ first
 
 pub first_barriers : (sections : List (Vec Instruction)) (first : Vec Instruction) → Some first ≡ slice_get sections 0
     → barriers first.items ≡ barriers (get_or (items_of sections) 0 [])

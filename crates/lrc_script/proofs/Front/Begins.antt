@@ -1,13 +1,34 @@
 -- What is begun can be completed: the lines before begin the text of some script.
 use Rattle.std.proofs.Common.{
-    ◌≡◌, ◌+◌, ◌-◌, ◌<◌, ◌≤◌, List, [], ◌∷◌, ◌++◌, length, replicate, refl, sym, ap, ◌∙◌, append_assoc, arith
+  ◌≡◌,
+  ◌+◌,
+  ◌-◌,
+  ◌<◌,
+  ◌≤◌,
+  List,
+  [],
+  ◌∷◌,
+  ◌++◌,
+  length,
+  replicate,
+  refl,
+  sym,
+  ap,
+  ◌∙◌,
+  append_assoc,
+  arith,
 }
 use Rattle.std.specs.Prelude.{All}
 use Rattle.std.specs.List.{flat_map}
 use Rattle.std.proofs.lemmas.List.{append-nil, length-append, length-replicate}
 use Rattle.std.proofs.lemmas.List.Concat.{flat_map-append}
 use Rattle.std.proofs.lemmas.List.Elements.{
-    All-from_recursion, All-append, All-replicate, All-weaker, All-push, All-nil
+  All-from_recursion,
+  All-append,
+  All-replicate,
+  All-weaker,
+  All-push,
+  All-nil,
 }
 use Rattle.lrc_script.specs.declared.script.Instruction.{Instruction}
 use Rattle.lrc_script.specs.Plan.{Plan}
@@ -29,15 +50,20 @@ filled_lawful s sections sizes fit each =
     let small = sizes_small s sizes in
     let blanks = replicate (s.processors - length sections) [] in
     let as_whole : (is : List Instruction) → IsSection s is → IsSection whole is =
-        λ is k. section_over s (sections ++ blanks) (0 ∷ []) is k in
+    λ is k. section_over s (sections ++ blanks) (0 ∷ []) is k in
     record {
       sizes = sizes_over s (sections ++ blanks) (0 ∷ []) sizes;
       one_each =
-          omega (arith, length-append sections blanks, length-replicate {A = List Instruction}
-                  (s.processors - length sections) [], fit);
+          omega (
+            arith,
+            length-append sections blanks,
+            length-replicate {A = List Instruction}
+                (s.processors - length sections) [],
+            fit,
+          );
       sections =
           All-weaker (IsSection s) (IsSection whole) as_whole (sections ++ blanks) (All-append (IsSection s) sections
-                  blanks each (All-replicate (IsSection s) (s.processors - length sections) [] (nothing_stands s)));
+          blanks each (All-replicate (IsSection s) (s.processors - length sections) [] (nothing_stands s)));
       some_shown = omega arith;
       most_shown = omega arith;
       shown = All-from_recursion (λ a. a < addresses s) (0 ∷ []) (small.address, tt);
@@ -50,15 +76,15 @@ begins_from f t ls lawful e =
 
 filled_begins : (s : Plan) (sections : List (List Instruction))
     → lines_of (filled s sections)
-        ≡ (cluster_line s ∷ section_lines 0 sections)
-            ++ (section_lines (0 + length sections) (replicate (s.processors - length sections) [])
-                    ++ show_line (0 ∷ []) ∷ [])
+    ≡ (cluster_line s ∷ section_lines 0 sections)
+    ++ (section_lines (0 + length sections) (replicate (s.processors - length sections) [])
+    ++ show_line (0 ∷ []) ∷ [])
 filled_begins s sections =
     let blanks = replicate (s.processors - length sections) [] in
     let show = show_line (0 ∷ []) ∷ [] in
     ap (λ (ls : List Line). cluster_line s ∷ ls) (ap (λ (ls : List Line). ls ++ show)
-                (section_lines-append 0 sections blanks)
-            ∙ append_assoc (section_lines 0 sections) (section_lines (0 + length sections) blanks) show)
+    (section_lines-append 0 sections blanks)
+    ∙ append_assoc (section_lines 0 sections) (section_lines (0 + length sections) blanks) show)
 
 least : Plan
 least = record { processors = 1; pages = 1; words = 1; locks = 0; flags = 0; sections = [] ∷ []; shown = 0 ∷ [] }
@@ -67,9 +93,16 @@ least_lawful : IsLawfulButUneven least
 unfolding least
 least_lawful = record {
   sizes =
-      record { some_processors = omega arith; most_processors = omega arith; some_pages = omega arith;
-              most_pages = omega arith; some_words = omega arith; most_words = omega arith; locks = omega arith;
-              flags = omega arith };
+      record {
+        some_processors = omega arith;
+        most_processors = omega arith;
+        some_pages = omega arith;
+        most_pages = omega arith;
+        some_words = omega arith;
+        most_words = omega arith;
+        locks = omega arith;
+        flags = omega arith;
+      };
   one_each = refl;
   sections = All-from_recursion (IsSection least) ([] ∷ []) (nothing_stands least, tt);
   some_shown = omega arith;
@@ -81,11 +114,11 @@ pub front_begins : (f : Front) → IsBegun f → BeginsText (text_before f)
 front_begins Nothing h = begins_from Nothing least (lines_of least) least_lawful refl
 front_begins (Headed s) h =
     begins_from (Headed s) (filled s []) _ (filled_lawful s [] h.sizes (omega arith) (All-nil (IsSection s)))
-        (filled_begins s [])
+    (filled_begins s [])
 front_begins (Within s is) h =
     let sections = s.sections ++ is ∷ [] in
     begins_from (Within s is) (filled s sections) _ (filled_lawful s sections h.sizes
-            (omega (arith, h.one_each, length-append s.sections (is ∷ [])))
-            (All-push (IsSection s) s.sections is h.sections h.last))
-        (filled_begins s sections)
+    (omega (arith, h.one_each, length-append s.sections (is ∷ [])))
+    (All-push (IsSection s) s.sections is h.sections h.last))
+    (filled_begins s sections)
 front_begins (Whole s) h = (s, h, [], sym (append-nil (text s)))

@@ -1,7 +1,33 @@
 -- The lines of a script lead from nothing to the whole script.
 use Rattle.std.proofs.Common.{
-    ◌≡◌, ℕ, suc, ◌+◌, ◌<◌, ◌≤◌, Bool, true, false, ◌&&◌, cond, eqb, ltb, leb, List, [], ◌∷◌, ◌++◌, length, map, None,
-    refl, sym, ap, subst, ◌∙◌, append_assoc, arith
+  ◌≡◌,
+  ℕ,
+  suc,
+  ◌+◌,
+  ◌<◌,
+  ◌≤◌,
+  Bool,
+  true,
+  false,
+  ◌&&◌,
+  cond,
+  eqb,
+  ltb,
+  leb,
+  List,
+  [],
+  ◌∷◌,
+  ◌++◌,
+  length,
+  map,
+  None,
+  refl,
+  sym,
+  ap,
+  subst,
+  ◌∙◌,
+  append_assoc,
+  arith,
 }
 use Rattle.std.specs.Prelude.{All, codes}
 use Rattle.std.specs.List.{AllByRecursion, list_any}
@@ -15,43 +41,60 @@ use Rattle.lrc_script.specs.declared.line.Keyword.TheVariants as keyword
 use Rattle.lrc_script.specs.Plan.{Plan, head_plan}
 use Rattle.lrc_script.specs.Lawful.{addresses, AreSizes, IsInRange, MayStandAfter, IsSection, IsLawfulButUneven}
 use Rattle.lrc_script.specs.Text.{
-    Line, cluster_line, section_line, instruction_line, show_line, section_lines, lines_of
+  Line,
+  cluster_line,
+  section_line,
+  instruction_line,
+  show_line,
+  section_lines,
+  lines_of,
 }
 use Rattle.lrc_script.specs.Front.{Front, Nothing, Headed, Within, Whole, IsBegun, IsHeaded, IsWithin, lines_before}
 use Rattle.lrc_script.specs.Reading.{are_sizes, refusal, closed, step}
 use Rattle.lrc_script.proofs.Reading.Numbers.{AreWords}
 use Rattle.lrc_script.proofs.Reading.Lines.{Goes, goes}
 use Rattle.lrc_script.proofs.Lawful.{
-    sizes_test, sizes_small, sizes_over, section_over, with_sections, section_with, sizes_with
+  sizes_test,
+  sizes_small,
+  sizes_over,
+  section_over,
+  with_sections,
+  section_with,
+  sizes_with,
 }
 use Rattle.lrc_script.proofs.Front.Runs.{Passes, Passes-append}
 
 pub head_is : (s : Plan) → IsHeaded s → s ≡ head_plan s.processors s.pages s.words s.locks s.flags
 head_is s h =
     ap (λ (x : List (List Instruction)). record s { sections = x }) h.no_sections
-        ∙ ap (λ (x : List ℕ). record s { sections = []; shown = x }) h.none_shown
+    ∙ ap (λ (x : List ℕ). record s { sections = []; shown = x }) h.none_shown
 
 head_plan_goes : (p n w l g : ℕ) (b : Bool) → eqb g 0 ≡ b → AreSizes (head_plan p n w l g)
     → Goes Nothing (record { word = codes "cluster"; numbers = p ∷ n ∷ w ∷ l ∷ cond b [] (g ∷ []) })
-        (Headed (head_plan p n w l g))
+    (Headed (head_plan p n w l g))
 unfolding step
 head_plan_goes p n w l g true e h =
     let small = sizes_small (head_plan p n w l g) h in
     let none : g ≡ 0 = eqb-true g 0 e in
     let test : are_sizes (head_plan p n w l 0) ≡ true =
-        subst (λ (x : ℕ). are_sizes (head_plan p n w l x) ≡ true) none (sizes_test (head_plan p n w l g) h) in
-    goes Nothing (Headed (head_plan p n w l g)) keyword.Cluster (codes "cluster") (p ∷ n ∷ w ∷ l ∷ []) refl refl
-        (omega (arith, small.processors),
-            (omega (arith, small.pages), (omega (arith, small.words), (omega (arith, small.locks), tt))))
-        refl
+    subst (λ (x : ℕ). are_sizes (head_plan p n w l x) ≡ true) none (sizes_test (head_plan p n w l g) h) in
+    goes Nothing (Headed (head_plan p n w l g)) keyword.Cluster (codes "cluster") (p ∷ n ∷ w ∷ l ∷ []) refl refl (
+      omega (arith, small.processors),
+      (omega (arith, small.pages), (omega (arith, small.words), (omega (arith, small.locks), tt))),
+    )
+    refl
     (rw (test, none) refl)
 head_plan_goes p n w l g false e h =
     let small = sizes_small (head_plan p n w l g) h in
     let some : ltb 0 g ≡ true = grind (arith, nat_tests, e) in
-    goes Nothing (Headed (head_plan p n w l g)) keyword.Cluster (codes "cluster") (p ∷ n ∷ w ∷ l ∷ g ∷ []) refl refl
-        (omega (arith, small.processors), (omega (arith, small.pages),
-                (omega (arith, small.words), (omega (arith, small.locks), (omega (arith, small.flags), tt)))))
-        refl
+    goes Nothing (Headed (head_plan p n w l g)) keyword.Cluster (codes "cluster") (p ∷ n ∷ w ∷ l ∷ g ∷ []) refl refl (
+      omega (arith, small.processors),
+      (
+        omega (arith, small.pages),
+        (omega (arith, small.words), (omega (arith, small.locks), (omega (arith, small.flags), tt))),
+      ),
+    )
+    refl
     (rw (some, sizes_test (head_plan p n w l g) h) refl)
 
 -- the cluster line
@@ -59,7 +102,7 @@ pub head_goes : (s : Plan) → IsHeaded s → Goes Nothing (cluster_line s) (Hea
 head_goes s h =
     let plan = head_plan s.processors s.pages s.words s.locks s.flags in
     subst (λ (x : Plan). Goes Nothing (cluster_line x) (Headed x)) (sym (head_is s h)) (head_plan_goes s.processors
-            s.pages s.words s.locks s.flags (eqb s.flags 0) refl (subst AreSizes (head_is s h) h.sizes))
+    s.pages s.words s.locks s.flags (eqb s.flags 0) refl (subst AreSizes (head_is s h) h.sizes))
 
 -- no test refuses an instruction that may stand behind these
 refusal_none : (s : Plan) (before : List Instruction) (i : Instruction) → IsInRange s i → MayStandAfter before i
@@ -107,44 +150,44 @@ unfolding step
 instruction_goes s before (instruction.Load a) sizes range may room =
     let small = sizes_small s sizes in
     goes (Within s before) _ keyword.Load (codes "load") (a ∷ []) refl refl
-        (omega (arith, small.addresses_fit, range), tt) refl
-        (rw (refusal_none s before (instruction.Load a) range may room) refl)
+    (omega (arith, small.addresses_fit, range), tt) refl
+    (rw (refusal_none s before (instruction.Load a) range may room) refl)
 instruction_goes s before (instruction.Store a v) sizes range may room =
     let small = sizes_small s sizes in
     goes (Within s before) _ keyword.Store (codes "store") (a ∷ v ∷ []) refl refl
-        (omega (arith, small.addresses_fit, range.0), (range.1, tt)) refl
-        (rw (refusal_none s before (instruction.Store a v) range may room) refl)
+    (omega (arith, small.addresses_fit, range.0), (range.1, tt)) refl
+    (rw (refusal_none s before (instruction.Store a v) range may room) refl)
 instruction_goes s before (instruction.Add a v) sizes range may room =
     let small = sizes_small s sizes in
     goes (Within s before) _ keyword.Add (codes "add") (a ∷ v ∷ []) refl refl
-        (omega (arith, small.addresses_fit, range.0), (range.1, tt)) refl
-        (rw (refusal_none s before (instruction.Add a v) range may room) refl)
+    (omega (arith, small.addresses_fit, range.0), (range.1, tt)) refl
+    (rw (refusal_none s before (instruction.Add a v) range may room) refl)
 instruction_goes s before (instruction.Acquire l) sizes range may room =
     let small = sizes_small s sizes in
     goes (Within s before) _ keyword.Acquire (codes "acquire") (l ∷ []) refl refl
-        (omega (arith, small.locks, range), tt) refl
-        (rw (refusal_none s before (instruction.Acquire l) range may room) refl)
+    (omega (arith, small.locks, range), tt) refl
+    (rw (refusal_none s before (instruction.Acquire l) range may room) refl)
 instruction_goes s before (instruction.Release l) sizes range may room =
     let small = sizes_small s sizes in
     goes (Within s before) _ keyword.Release (codes "release") (l ∷ []) refl refl
-        (omega (arith, small.locks, range), tt) refl
-        (rw (refusal_none s before (instruction.Release l) range may room) refl)
+    (omega (arith, small.locks, range), tt) refl
+    (rw (refusal_none s before (instruction.Release l) range may room) refl)
 instruction_goes s before instruction.Barrier sizes range may room =
     let small = sizes_small s sizes in
     goes (Within s before) _ keyword.Barrier (codes "barrier") ([]) refl refl tt refl
-        (rw (refusal_none s before instruction.Barrier range may room) refl)
+    (rw (refusal_none s before instruction.Barrier range may room) refl)
 instruction_goes s before (instruction.Set f) sizes range may room =
     let small = sizes_small s sizes in
     goes (Within s before) _ keyword.Set (codes "set") (f ∷ []) refl refl (omega (arith, small.flags, range), tt) refl
-        (rw (refusal_none s before (instruction.Set f) range may room) refl)
+    (rw (refusal_none s before (instruction.Set f) range may room) refl)
 instruction_goes s before (instruction.Await f) sizes range may room =
     let small = sizes_small s sizes in
     goes (Within s before) _ keyword.Await (codes "await") (f ∷ []) refl refl (omega (arith, small.flags, range), tt)
-        refl (rw (refusal_none s before (instruction.Await f) range may room) refl)
+    refl (rw (refusal_none s before (instruction.Await f) range may room) refl)
 instruction_goes s before instruction.Cut sizes range may room =
     let small = sizes_small s sizes in
     goes (Within s before) _ keyword.Cut (codes "cut") ([]) refl refl tt refl
-        (rw (refusal_none s before instruction.Cut range may room) refl)
+    (rw (refusal_none s before instruction.Cut range may room) refl)
 
 section_goes : (s : Plan) (is : List Instruction) → AreSizes s → suc (length s.sections) < s.processors
     → Goes (Within s is) (section_line (suc (length s.sections))) (Within (closed s is) [])
@@ -152,10 +195,10 @@ unfolding step
 section_goes s is sizes lt =
     let small = sizes_small s sizes in
     let next : (eqb (suc (length s.sections)) (length s.sections + 1) && ltb (suc (length s.sections)) s.processors)
-            ≡ true =
-        grind (arith, nat_tests, lt) in
+    ≡ true =
+    grind (arith, nat_tests, lt) in
     goes (Within s is) (Within (closed s is) []) keyword.Section (codes "p") (suc (length s.sections) ∷ []) refl refl
-        (omega (arith, small.processors, lt), tt) refl (rw next refl)
+    (omega (arith, small.processors, lt), tt) refl (rw next refl)
 
 first_goes : (s : Plan) → AreSizes s → Goes (Headed s) (section_line 0) (Within s [])
 unfolding step
@@ -181,11 +224,11 @@ show_goes s is shown sizes one_each some most below =
     let small = sizes_small s sizes in
     let each = recursion_from_All (λ a. a < addresses s) shown below in
     let due : (leb 1 (length shown) && eqb (length s.sections + 1) s.processors) ≡ true =
-        grind (arith, nat_tests, some, one_each) in
+    grind (arith, nat_tests, some, one_each) in
     let few : ltb 64 (length shown) ≡ false = grind (arith, nat_tests, most) in
     goes (Within s is) (Whole (record (closed s is) { shown = shown })) keyword.Show (codes "show") shown refl refl
-        (all_words (addresses s) shown small.addresses_fit each) due
-        (rw (all_below (addresses s) shown each, few) refl)
+    (all_words (addresses s) shown small.addresses_fit each) due
+    (rw (all_below (addresses s) shown each, few) refl)
 
 -- ---- whole sections
 
@@ -193,25 +236,31 @@ show_goes s is shown sizes one_each some most below =
 abbrev pub StandAfter : Plan → List Instruction → List Instruction → Type 0
 StandAfter s before after = AllByRecursion (IsInRange s) after × (length before + length after ≤ 10000)
     × ((front : List Instruction) (i : Instruction) (back : List Instruction) → after ≡ front ++ i ∷ back
-            → MayStandAfter (before ++ front) i)
+    → MayStandAfter (before ++ front) i)
 
 instructions_pass : (s : Plan) (before after : List Instruction) → AreSizes s → StandAfter s before after
     → Passes (Within s before) (map instruction_line after) (Within s (before ++ after))
 instructions_pass s before [] sizes h = ap (λ (is : List Instruction). Within s is) (sym (append-nil before))
 instructions_pass s before (i ∷ after) sizes h =
     let first =
-        instruction_goes s before i sizes h.0.0
-            (subst (λ (is : List Instruction). MayStandAfter is i) (append-nil before) (h.2 [] i after refl))
-            (omega (arith, h.1)) in
+    instruction_goes s before i sizes h.0.0
+    (subst (λ (is : List Instruction). MayStandAfter is i) (append-nil before) (h.2 [] i after refl))
+    (omega (arith, h.1)) in
     let rest =
-        instructions_pass s (before ++ i ∷ []) after sizes (h.0.1, omega (arith, h.1, length-append before (i ∷ [])),
-                λ front j back e. subst (λ (is : List Instruction). MayStandAfter is j)
-                (sym (append_assoc before (i ∷ []) front))
-                (h.2 (i ∷ front) j back (ap (λ (is : List Instruction). i ∷ is) e)))
-            in
-    (Within s (before ++ i ∷ []), first, subst (λ (is : List Instruction). Passes (Within s (before ++ i ∷ []))
-                (map instruction_line after) (Within s is))
-            (append_assoc before (i ∷ []) after) rest)
+    instructions_pass s (before ++ i ∷ []) after sizes (
+      h.0.1,
+      omega (arith, h.1, length-append before (i ∷ [])),
+      λ front j back e. subst (λ (is : List Instruction). MayStandAfter is j)
+          (sym (append_assoc before (i ∷ []) front))
+          (h.2 (i ∷ front) j back (ap (λ (is : List Instruction). i ∷ is) e)),
+    )
+    in (
+      Within s (before ++ i ∷ []),
+      first,
+      subst (λ (is : List Instruction). Passes (Within s (before ++ i ∷ []))
+          (map instruction_line after) (Within s is))
+          (append_assoc before (i ∷ []) after) rest,
+    )
 
 section_passes : (s : Plan) (is : List Instruction) → AreSizes s → IsSection s is
     → Passes (Within s []) (map instruction_line is) (Within s is)
@@ -220,18 +269,21 @@ section_passes s is sizes h =
 
 -- the sections behind the one that is open
 sections_pass : (s : Plan) (done : List (List Instruction)) (open' : List Instruction)
-        (rest : List (List Instruction)) (last : List Instruction)
+    (rest : List (List Instruction)) (last : List Instruction)
     → AreSizes s → length done + length rest + 1 < s.processors → AllByRecursion (IsSection s) rest → IsSection s last
     → Passes (Within (with_sections s done) open') (section_lines (suc (length done)) (rest ++ last ∷ []))
-        (Within (with_sections s (done ++ open' ∷ rest)) last)
+    (Within (with_sections s (done ++ open' ∷ rest)) last)
 sections_pass s done open' [] last sizes room each h =
     let head = section_goes (with_sections s done) open' (sizes_with s done sizes) (omega (arith, room)) in
     let whole = with_sections s (done ++ open' ∷ []) in
     let body =
-        section_passes whole last (sizes_with s (done ++ open' ∷ []) sizes)
-            (section_with s (done ++ open' ∷ []) last h) in
-    (Within whole [], head, subst (λ (ls : List Line). Passes (Within whole []) ls (Within whole last))
-            (sym (append-nil (map instruction_line last))) body)
+    section_passes whole last (sizes_with s (done ++ open' ∷ []) sizes)
+    (section_with s (done ++ open' ∷ []) last h) in (
+      Within whole [],
+      head,
+      subst (λ (ls : List Line). Passes (Within whole []) ls (Within whole last))
+          (sym (append-nil (map instruction_line last))) body,
+    )
 sections_pass s done open' (is ∷ rest) last sizes room each h =
     let head = section_goes (with_sections s done) open' (sizes_with s done sizes) (omega (arith, room)) in
     let now = done ++ open' ∷ [] in
@@ -240,35 +292,44 @@ sections_pass s done open' (is ∷ rest) last sizes room each h =
     let longer : length now ≡ suc (length done) = omega (arith, length-append done (open' ∷ [])) in
     let others = sections_pass s now is rest last sizes (omega (arith, room, longer)) each.1 h in
     let others' =
-        subst (λ (n : ℕ). Passes (Within whole is) (section_lines (suc n) (rest ++ last ∷ []))
-                (Within (with_sections s (now ++ is ∷ rest)) last))
-            longer others in
+    subst (λ (n : ℕ). Passes (Within whole is) (section_lines (suc n) (rest ++ last ∷ []))
+    (Within (with_sections s (now ++ is ∷ rest)) last))
+    longer others in
     let both =
-        Passes-append (Within whole []) (Within whole is) (Within (with_sections s (now ++ is ∷ rest)) last)
-            (map instruction_line is) (section_lines (suc (suc (length done))) (rest ++ last ∷ [])) body others' in
-    (Within whole [], head, subst (λ (all : List (List Instruction)). Passes (Within whole [])
-                (map instruction_line is ++ section_lines (suc (suc (length done))) (rest ++ last ∷ []))
-                (Within (with_sections s all) last))
-            (append_assoc done (open' ∷ []) (is ∷ rest)) both)
+    Passes-append (Within whole []) (Within whole is) (Within (with_sections s (now ++ is ∷ rest)) last)
+    (map instruction_line is) (section_lines (suc (suc (length done))) (rest ++ last ∷ [])) body others' in (
+      Within whole [],
+      head,
+      subst (λ (all : List (List Instruction)). Passes (Within whole [])
+          (map instruction_line is ++ section_lines (suc (suc (length done))) (rest ++ last ∷ []))
+          (Within (with_sections s all) last))
+          (append_assoc done (open' ∷ []) (is ∷ rest)) both,
+    )
 
 -- the sections of a script, the last of which may be open
 all_sections_pass : (s : Plan) (sections : List (List Instruction)) (last : List Instruction) → AreSizes s
     → length sections < s.processors → AllByRecursion (IsSection s) sections → IsSection s last
     → Passes (Headed (with_sections s [])) (section_lines 0 (sections ++ last ∷ []))
-        (Within (with_sections s sections) last)
+    (Within (with_sections s sections) last)
 all_sections_pass s [] last sizes room each h =
     let none = with_sections s [] in
-    let body = section_passes none last (sizes_with s [] sizes) (section_with s [] last h) in
-    (Within none [], first_goes none (sizes_with s [] sizes), subst
-            (λ (ls : List Line). Passes (Within none []) ls (Within none last))
-            (sym (append-nil (map instruction_line last))) body)
+    let body = section_passes none last (sizes_with s [] sizes) (section_with s [] last h) in (
+      Within none [],
+      first_goes none (sizes_with s [] sizes),
+      subst
+          (λ (ls : List Line). Passes (Within none []) ls (Within none last))
+          (sym (append-nil (map instruction_line last))) body,
+    )
 all_sections_pass s (is ∷ rest) last sizes room each h =
     let none = with_sections s [] in
     let body = section_passes none is (sizes_with s [] sizes) (section_with s [] is each.0) in
-    let others = sections_pass s [] is rest last sizes (omega (arith, room)) each.1 h in
-    (Within none [], first_goes none (sizes_with s [] sizes), Passes-append (Within none []) (Within none is)
-            (Within (with_sections s (is ∷ rest)) last) (map instruction_line is)
-            (section_lines 1 (rest ++ last ∷ [])) body others)
+    let others = sections_pass s [] is rest last sizes (omega (arith, room)) each.1 h in (
+      Within none [],
+      first_goes none (sizes_with s [] sizes),
+      Passes-append (Within none []) (Within none is)
+          (Within (with_sections s (is ∷ rest)) last) (map instruction_line is)
+          (section_lines 1 (rest ++ last ∷ [])) body others,
+    )
 
 headed_with : (s : Plan) → AreSizes s → s.shown ≡ [] → IsHeaded (with_sections s [])
 headed_with s sizes none = record { sizes = sizes_with s [] sizes; no_sections = refl; none_shown = none }
@@ -276,9 +337,12 @@ headed_with s sizes none = record { sizes = sizes_with s [] sizes; no_sections =
 within_passes : (s : Plan) (is : List Instruction) → IsWithin s is
     → Passes Nothing (lines_before (Within s is)) (Within s is)
 within_passes s is h =
-    let head = head_goes (with_sections s []) (headed_with s h.sizes h.none_shown) in
-    (Headed (with_sections s []), head, all_sections_pass s s.sections is h.sizes h.one_each
-            (recursion_from_All (IsSection s) s.sections h.sections) h.last)
+    let head = head_goes (with_sections s []) (headed_with s h.sizes h.none_shown) in (
+      Headed (with_sections s []),
+      head,
+      all_sections_pass s s.sections is h.sizes h.one_each
+          (recursion_from_All (IsSection s) s.sections h.sections) h.last,
+    )
 
 -- a list that isn't empty has a last element
 abbrev pub Ends : List (List Instruction) → Type 0
@@ -304,16 +368,16 @@ whole_from s front last e h =
     let small = sizes_small s h.sizes in
     let before = unshown s front in
     let each =
-        AllByRecursion-split (IsSection s) front last (subst
-                (λ (xs : List (List Instruction)). AllByRecursion (IsSection s) xs) e
-                (recursion_from_All (IsSection s) s.sections h.sections))
-            in
+    AllByRecursion-split (IsSection s) front last (subst
+    (λ (xs : List (List Instruction)). AllByRecursion (IsSection s) xs) e
+    (recursion_from_All (IsSection s) s.sections h.sections))
+    in
     let count : suc (length front) ≡ s.processors =
-        omega (arith, ap (λ (xs : List (List Instruction)). length xs) e, length-append front (last ∷ []), h.one_each)
-            in
+    omega (arith, ap (λ (xs : List (List Instruction)). length xs) e, length-append front (last ∷ []), h.one_each)
+    in
     let sizes : AreSizes before = sizes_over s front [] h.sizes in
     let as_before : (is : List Instruction) → IsSection s is → IsSection before is =
-        λ is k. section_over s front [] is k in
+    λ is k. section_over s front [] is k in
     let within : IsWithin before last = record {
       sizes = sizes;
       sections =
@@ -324,14 +388,14 @@ whole_from s front last e h =
     } in
     let shows = show_goes before last s.shown sizes count h.some_shown h.most_shown h.shown in
     let same : record s { sections = front ++ last ∷ [] } ≡ s =
-        ap (λ (xs : List (List Instruction)). record s { sections = xs }) (sym e) in
+    ap (λ (xs : List (List Instruction)). record s { sections = xs }) (sym e) in
     let shows' = subst (λ (x : Plan). Goes (Within before last) (show_line s.shown) (Whole x)) same shows in
     let all =
-        Passes-append Nothing (Within before last) (Whole s) (cluster_line s ∷ section_lines 0 (front ++ last ∷ []))
-            (show_line s.shown ∷ []) (within_passes before last within) (Whole s, shows', refl) in
+    Passes-append Nothing (Within before last) (Whole s) (cluster_line s ∷ section_lines 0 (front ++ last ∷ []))
+    (show_line s.shown ∷ []) (within_passes before last within) (Whole s, shows', refl) in
     subst (λ (xs : List (List Instruction)). Passes Nothing
-            (cluster_line s ∷ section_lines 0 xs ++ show_line s.shown ∷ []) (Whole s))
-        (sym e) all
+    (cluster_line s ∷ section_lines 0 xs ++ show_line s.shown ∷ []) (Whole s))
+    (sym e) all
 
 whole_passes : (s : Plan) → IsLawfulButUneven s → Passes Nothing (lines_of s) (Whole s)
 whole_passes s h =

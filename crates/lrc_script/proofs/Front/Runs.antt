@@ -1,6 +1,24 @@
 -- Reading line after line: what stands behind the lines of a script is determined.
 use Rattle.std.proofs.Common.{
-    ◌≡◌, ℕ, Bool, true, false, cond, eqb, List, [], ◌∷◌, ◌++◌, Result, Ok, refl, sym, ap, subst, ◌∙◌, append_assoc
+  ◌≡◌,
+  ℕ,
+  Bool,
+  true,
+  false,
+  cond,
+  eqb,
+  List,
+  [],
+  ◌∷◌,
+  ◌++◌,
+  Result,
+  Ok,
+  refl,
+  sym,
+  ap,
+  subst,
+  ◌∙◌,
+  append_assoc,
 }
 use Rattle.std.specs.List.{flat_map, onto_first}
 use Rattle.lrc_script.specs.declared.fault.ScriptFault.{ScriptFault}
@@ -63,6 +81,6 @@ run_lines f g [] more p = ap (λ (x : Front). run x (parts_of 10 more)) p
 run_lines f g (l ∷ ls) more p =
     let rest = flat_map line_text ls ++ more in
     let bytes : flat_map line_text (l ∷ ls) ++ more ≡ line_bytes l ++ 10 ∷ rest =
-        append_assoc (line_text l) (flat_map line_text ls) more ∙ append_assoc (line_bytes l) (10 ∷ []) rest in
+    append_assoc (line_text l) (flat_map line_text ls) more ∙ append_assoc (line_bytes l) (10 ∷ []) rest in
     ap (λ (x : List ℕ). run f (parts_of 10 x)) bytes ∙ run_line f (line_bytes l) rest p.1.one_line
-        ∙ rw p.1.after_is (run_lines p.0 g ls more p.2)
+    ∙ rw p.1.after_is (run_lines p.0 g ls more p.2)

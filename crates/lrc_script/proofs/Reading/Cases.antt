@@ -1,7 +1,28 @@
 -- How a line is read, by cases.
 use Rattle.std.proofs.Common.{
-    ◌≡◌, ℕ, Bool, true, false, cond, List, [], ◌∷◌, ◌++◌, length, map, Option, Some, None, Result, Ok, Err, refl, sym,
-    ap, subst, ◌∙◌
+  ◌≡◌,
+  ℕ,
+  Bool,
+  true,
+  false,
+  cond,
+  List,
+  [],
+  ◌∷◌,
+  ◌++◌,
+  length,
+  map,
+  Option,
+  Some,
+  None,
+  Result,
+  Ok,
+  Err,
+  refl,
+  sym,
+  ap,
+  subst,
+  ◌∙◌,
 }
 use Rattle.std.specs.List.{list_all, flat_map}
 use Rattle.std.specs.Fmt.{decimal}
@@ -13,7 +34,16 @@ use Rattle.lrc_script.specs.Text.{line_bytes}
 use Rattle.lrc_script.specs.Front.{Front}
 use Rattle.lrc_script.specs.Faults.{IsSplit}
 use Rattle.lrc_script.specs.Reading.{
-    ◌>>=◌, parts_of, has_bytes, keyword_of, is_due, numbers_after, step, after, after_words, after_keyword
+  ◌>>=◌,
+  parts_of,
+  has_bytes,
+  keyword_of,
+  is_due,
+  numbers_after,
+  step,
+  after,
+  after_words,
+  after_keyword,
 }
 use Rattle.lrc_script.proofs.Reading.Numbers.{AreWords, NotNumber, numbers_take, numbers_refused}
 use Rattle.lrc_script.proofs.Reading.Words.{parts_from_split, split_from_parts}
@@ -43,7 +73,7 @@ pub record Misread (f : Front) (line : List ℕ) (fault : ScriptFault) : Type 0 
 abbrev pub IsShapeless : Front → List ℕ → Type 0
 IsShapeless f line =
     (word : List ℕ) (words : List (List ℕ)) (k : Keyword) → IsSplit line word words → keyword_of word ≡ Some k
-        → is_due f k (length words) ≡ true → ⊥
+    → is_due f k (length words) ≡ true → ⊥
 
 pub data Reading (f : Front) (line : List ℕ) (r : Result Front ScriptFault) : Type 0 where
   Shapeless : IsShapeless f line → r ≡ Err BadLine → Reading f line r
@@ -55,7 +85,7 @@ parts_injective w v ws vs e = (cc, cc)
 
 -- words read as numbers
 read_command : (f : Front) (line w : List ℕ) (ws : List (List ℕ)) (k : Keyword) (r : Result Front ScriptFault)
-        (ns : Result (List ℕ) ScriptFault)
+    (ns : Result (List ℕ) ScriptFault)
     → IsSplit line w ws → keyword_of w ≡ Some k → is_due f k (length ws) ≡ true → numbers_after [] ws ≡ ns
     → (ns >>= step f k) ≡ r → Reading f line r
 read_command f line w ws k r (Ok ns) split key due read e =
@@ -71,13 +101,20 @@ read_command f line w ws k r (Ok ns) split key due read e =
       small = subst AreWords (sym all) t.small;
       line_is =
           split.whole
-              ∙ ap (λ (t : List ℕ). w ++ t)
-                  (ap (λ (v : List (List ℕ)). flat_map (λ x. 32 ∷ x) v) words ∙ sym (flat_spaced ns));
+          ∙ ap (λ (t : List ℕ). w ++ t)
+          (ap (λ (v : List (List ℕ)). flat_map (λ x. 32 ∷ x) v) words ∙ sym (flat_spaced ns));
     }) (sym e)
 read_command f line w ws k r (Err fault) split key due read e =
-    NoNumber fault (record { word = w; words = ws; key = k; split = split; key_is = key; due = due;
-                refused = numbers_refused [] ws fault read })
-        (sym e)
+    NoNumber fault (record {
+      word = w;
+      words = ws;
+      key = k;
+      split = split;
+      key_is = key;
+      due = due;
+      refused = numbers_refused [] ws fault read;
+    })
+    (sym e)
 
 read_due : (f : Front) (line w : List ℕ) (ws : List (List ℕ)) (k : Keyword) (r : Result Front ScriptFault) (b : Bool)
     → IsSplit line w ws → keyword_of w ≡ Some k → is_due f k (length ws) ≡ b
@@ -86,12 +123,12 @@ read_due f line w ws k r true split key due e =
     read_command f line w ws k r (numbers_after [] ws) split key due refl e
 read_due f line w ws k r false split key due e = Shapeless (λ v vs k' other key' due'.
     let same =
-        parts_injective w v ws vs (sym (parts_from_split line w ws split).0 ∙ (parts_from_split line v vs other).0) in
+    parts_injective w v ws vs (sym (parts_from_split line w ws split).0 ∙ (parts_from_split line v vs other).0) in
     let keys : Some k ≡ Some k' = sym key ∙ ap keyword_of same.0 ∙ key' in
     let both : is_due f k (length ws) ≡ is_due f k' (length vs) =
-        let kk : k ≡ k' = cc in
-            ap (λ (x : Keyword). is_due f x (length ws)) kk
-                ∙ ap (λ (x : List (List ℕ)). is_due f k' (length x)) same.1 in
+    let kk : k ≡ k' = cc in
+    ap (λ (x : Keyword). is_due f x (length ws)) kk
+    ∙ ap (λ (x : List (List ℕ)). is_due f k' (length x)) same.1 in
     absurd cc) (sym e)
 
 read_key : (f : Front) (line w : List ℕ) (ws : List (List ℕ)) (r : Result Front ScriptFault) (o : Option Keyword)
@@ -99,7 +136,7 @@ read_key : (f : Front) (line w : List ℕ) (ws : List (List ℕ)) (r : Result Fr
 unfolding after_keyword
 read_key f line w ws r None split key e = Shapeless (λ v vs k other key' due.
     let same =
-        parts_injective w v ws vs (sym (parts_from_split line w ws split).0 ∙ (parts_from_split line v vs other).0) in
+    parts_injective w v ws vs (sym (parts_from_split line w ws split).0 ∙ (parts_from_split line v vs other).0) in
     let keys : None ≡ Some k = sym key ∙ ap keyword_of same.0 ∙ key' in
     absurd cc) (sym e)
 read_key f line w ws r (Some k) split key e = read_due f line w ws k r (is_due f k (length ws)) split key refl e
@@ -119,8 +156,8 @@ read_parts : (f : Front) (line : List ℕ) (r : Result Front ScriptFault) (parts
     → parts_of 32 line ≡ parts → after_words f parts ≡ r → Reading f line r
 read_parts f line r [] parts e =
     Shapeless (λ v vs k other key due. absurd
-            (let none : [] ≡ (v ∷ vs) = sym parts ∙ (parts_from_split line v vs other).0 in cc))
-        (sym e)
+    (let none : [] ≡ (v ∷ vs) = sym parts ∙ (parts_from_split line v vs other).0 in cc))
+    (sym e)
 read_parts f line r (w ∷ ws) parts e = read_words f line w ws r (list_all has_bytes (w ∷ ws)) parts refl e
 
 pub reading : (f : Front) (line : List ℕ) (r : Result Front ScriptFault) → after f line ≡ r → Reading f line r

@@ -1,7 +1,26 @@
 -- A line of a word and numbers.
 use Rattle.std.proofs.Common.{
-    ◌≡◌, ℕ, ◌<◌, cond, eqb, true, false, List, [], ◌∷◌, length, Option, Some, None, Ok, refl, sym, ap, subst, ◌∙◌,
-    arith
+  ◌≡◌,
+  ℕ,
+  ◌<◌,
+  cond,
+  eqb,
+  true,
+  false,
+  List,
+  [],
+  ◌∷◌,
+  length,
+  Option,
+  Some,
+  None,
+  Ok,
+  refl,
+  sym,
+  ap,
+  subst,
+  ◌∙◌,
+  arith,
 }
 use Rattle.std.specs.List.{list_all, onto_first, AllByRecursion}
 use Rattle.std.specs.Fmt.{decimal}
@@ -11,7 +30,14 @@ use Rattle.lrc_script.specs.declared.line.Keyword.{Keyword}
 use Rattle.lrc_script.specs.Front.{Front}
 use Rattle.lrc_script.specs.Faults.{IsWord}
 use Rattle.lrc_script.specs.Reading.{
-    parts_of, has_bytes, keyword_of, numbers_after, after, after_words, after_keyword, after_numbers
+  parts_of,
+  has_bytes,
+  keyword_of,
+  numbers_after,
+  after,
+  after_words,
+  after_keyword,
+  after_numbers,
 }
 use Rattle.lrc_script.proofs.Reading.Numbers.{numbers_take}
 use Rattle.lrc_script.proofs.Reading.Words.{words_have}
@@ -23,8 +49,8 @@ numbers_have : (ws : List (List ℕ)) (ns : List ℕ) → numbers_after [] ws �
 numbers_have ws ns e =
     let t = numbers_take [] ws ns e in
     let words : AllByRecursion IsWord ws =
-        subst (λ (vs : List (List ℕ)). AllByRecursion IsWord vs) (sym t.words_are) (decimals_words t.numbers t.small)
-            in
+    subst (λ (vs : List (List ℕ)). AllByRecursion IsWord vs) (sym t.words_are) (decimals_words t.numbers t.small)
+    in
     (words_have ws words, ap length t.words_are ∙ length-map t.numbers decimal ∙ ap length (sym t.all_is))
 
 keyed : (f : Front) (ws : List (List ℕ)) (ns : List ℕ) (o : Option Keyword) → numbers_after [] ws ≡ Ok ns
@@ -51,9 +77,9 @@ parts_some : (c : ℕ) (bytes : List ℕ) → 0 < length (parts_of c bytes)
 parts_some c [] = omega arith
 parts_some c (b ∷ bytes) =
     elim (eqb b c) as (λ t. 0 < length (cond t ([] ∷ parts_of c bytes) (onto_first b (parts_of c bytes)))) [
-  | true ↦ omega arith
-  | false ↦ onto_some b (parts_of c bytes)
-]
+      | true ↦ omega arith
+      | false ↦ onto_some b (parts_of c bytes)
+    ]
   where
     onto_some : (b : ℕ) (parts : List (List ℕ)) → 0 < length (onto_first b parts)
     onto_some b [] = omega arith

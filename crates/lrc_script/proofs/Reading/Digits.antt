@@ -1,7 +1,32 @@
 -- Digits summed as they come.
 use Rattle.std.proofs.Common.{
-    ◌≡◌, ℕ, ◌+◌, ◌*◌, ◌-◌, ◌^◌, ◌<◌, ◌≤◌, Bool, true, false, cond, ◌&&◌, ltb, List, length, get_or, take, Some, None,
-    inl, inr, refl, sym, ap, ◌∙◌, arith
+  ◌≡◌,
+  ℕ,
+  ◌+◌,
+  ◌*◌,
+  ◌-◌,
+  ◌^◌,
+  ◌<◌,
+  ◌≤◌,
+  Bool,
+  true,
+  false,
+  cond,
+  ◌&&◌,
+  ltb,
+  List,
+  length,
+  get_or,
+  take,
+  Some,
+  None,
+  inl,
+  inr,
+  refl,
+  sym,
+  ap,
+  ◌∙◌,
+  arith,
 }
 use Rattle.std.specs.Char.{is_ascii_digit, digit_value}
 use Rattle.std.specs.List.{list_all}
@@ -34,7 +59,7 @@ and_false false b x y e = refl
 pub sum_past : (w : List ℕ) (i : ℕ) → 2 ^ 32 ≤ digits_value 10 (take i w) → sum_of_digits w ≡ None
 sum_past w i big =
     and_false (list_all is_ascii_digit w) (ltb (digits_value 10 w) (2 ^ 32)) _ _
-        (le-ltb _ _ (omega (arith, digits_value-take-le 10 w i (omega arith), big)))
+    (le-ltb _ _ (omega (arith, digits_value-take-le 10 w i (omega arith), big)))
 
 pub sum_past_mul : (w : List ℕ) (i s : ℕ) → i < length w → is_ascii_digit (get_or w i 0) ≡ true
     → s ≡ digits_value 10 (take i w) → (s * 10 < 2 ^ 32 → ⊥) → sum_of_digits w ≡ None

@@ -1,6 +1,23 @@
 -- Keywords: how they are spelled, and where they are allowed.
 use Rattle.std.proofs.Common.{
-    ◌≡◌, ℕ, ◌+◌, true, false, cond, eqb, leb, List, length, Option, Some, refl, ap, ◌∙◌, arith, inl, inr
+  ◌≡◌,
+  ℕ,
+  ◌+◌,
+  true,
+  false,
+  cond,
+  eqb,
+  leb,
+  List,
+  length,
+  Option,
+  Some,
+  refl,
+  ap,
+  ◌∙◌,
+  arith,
+  inl,
+  inr,
 }
 use Rattle.std.specs.Prelude.{codes}
 use Rattle.std.specs.Str.{bytes_eq}
@@ -36,26 +53,28 @@ spelled_if : (w : List ℕ) (k : Keyword) (rest : Option Keyword) (found : Keywo
     → w ≡ spelled found
 spelled_if w k rest found later e =
     elim (bytes_eq w (spelled k)) as
-        (λ b. bytes_eq w (spelled k) ≡ b → cond b (Some k) rest ≡ Some found → w ≡ spelled found) [
-  | true ↦ λ t h. let same : k ≡ found = cc in (bytes_eq-Decides w (spelled k)).0 t ∙ ap spelled same
-  | false ↦ λ t h. later h
-] refl e
+    (λ b. bytes_eq w (spelled k) ≡ b → cond b (Some k) rest ≡ Some found → w ≡ spelled found) [
+      | true ↦ λ t h. let same : k ≡ found = cc in (bytes_eq-Decides w (spelled k)).0 t ∙ ap spelled same
+      | false ↦ λ t h. later h
+    ] refl e
 
 -- a keyword's word is its spelling
 pub keyword_spelled : (w : List ℕ) (k : Keyword) → keyword_of w ≡ Some k → w ≡ spelled k
 keyword_spelled w k e =
     spelled_if w keyword.Cluster _ k
-        (spelled_if w keyword.Section _ k (spelled_if w keyword.Load _ k (spelled_if w keyword.Store _ k (
+    (spelled_if w keyword.Section _ k (spelled_if w keyword.Load _ k (spelled_if w keyword.Store _ k (
     spelled_if w keyword.Add _ k
-        (spelled_if w keyword.Acquire _ k (spelled_if w keyword.Release _ k (spelled_if w keyword.Barrier _ k (
+    (spelled_if w keyword.Acquire _ k (spelled_if w keyword.Release _ k (spelled_if w keyword.Barrier _ k (
     spelled_if w keyword.Set _ k (spelled_if w keyword.Await _ k
-            (spelled_if w keyword.Cut _ k (spelled_if w keyword.Show _ k (λ h. absurd cc)))))))))))) e
+    (spelled_if w keyword.Cut _ k (spelled_if w keyword.Show _ k (λ h. absurd cc)))))))))))) e
 
 -- what is due is allowed
 pub due_allows : (f : Front) (k : Keyword) (n : ℕ) → is_due f k n ≡ true → Allows f (spelled k) n
-due_allows Nothing keyword.Cluster n e =
-    (refl, elim (or_cases (eqb n 4) (eqb n 5) e)
-            [ inl t ↦ inl (grind (arith, nat_tests, t)) | inr t ↦ inr (grind (arith, nat_tests, t)) ])
+due_allows Nothing keyword.Cluster n e = (
+  refl,
+  elim (or_cases (eqb n 4) (eqb n 5) e)
+      [ inl t ↦ inl (grind (arith, nat_tests, t)) | inr t ↦ inr (grind (arith, nat_tests, t)) ],
+)
 due_allows Nothing _ n e = absurd cc
 due_allows (Headed s) keyword.Section n e = (refl, grind (arith, nat_tests, e))
 due_allows (Headed s) _ n e = absurd cc
@@ -103,9 +122,12 @@ allowed_instruction s is w n instruction.Cut word count = (keyword.Cut, ap keywo
 
 -- what is allowed is due
 pub allows_due : (f : Front) (w : List ℕ) (n : ℕ) → Allows f w n → Due f w n
-allows_due Nothing w n a =
-    (keyword.Cluster, ap keyword_of a.0, elim a.1
-            [ inl e ↦ grind (arith, nat_tests, e) | inr e ↦ grind (arith, nat_tests, e) ])
+allows_due Nothing w n a = (
+  keyword.Cluster,
+  ap keyword_of a.0,
+  elim a.1
+      [ inl e ↦ grind (arith, nat_tests, e) | inr e ↦ grind (arith, nat_tests, e) ],
+)
 allows_due (Headed s) w n a = (keyword.Section, ap keyword_of a.0, ap (λ m. eqb m 1) a.1)
 allows_due (Within s is) w n (inl a) = (keyword.Section, ap keyword_of a.0, ap (λ m. eqb m 1) a.1)
 allows_due (Within s is) w n (inr (inl a)) =

@@ -1,7 +1,27 @@
 -- A line of a keyword and numbers is read as that keyword and those numbers.
 use Rattle.std.proofs.Common.{
-    ◌≡◌, ℕ, ◌^◌, ◌<◌, Bool, true, not, ◌&&◌, eqb, ltb, List, [], ◌∷◌, ◌++◌, length, map, Some, Ok, refl, ap, ◌∙◌,
-    arith
+  ◌≡◌,
+  ℕ,
+  ◌^◌,
+  ◌<◌,
+  Bool,
+  true,
+  not,
+  ◌&&◌,
+  eqb,
+  ltb,
+  List,
+  [],
+  ◌∷◌,
+  ◌++◌,
+  length,
+  map,
+  Some,
+  Ok,
+  refl,
+  ap,
+  ◌∙◌,
+  arith,
 }
 use Rattle.std.specs.Char.{is_ascii_digit}
 use Rattle.std.specs.List.{list_all, flat_map, AllByRecursion}
@@ -14,7 +34,14 @@ use Rattle.lrc_script.specs.Text.{Line, spaced, line_bytes}
 use Rattle.lrc_script.specs.Front.{Front}
 use Rattle.lrc_script.specs.Faults.{IsWord, IsSplit}
 use Rattle.lrc_script.specs.Reading.{
-    ◌>>=◌, keyword_of, is_due, numbers_after, step, after, after_words, after_keyword
+  ◌>>=◌,
+  keyword_of,
+  is_due,
+  numbers_after,
+  step,
+  after,
+  after_words,
+  after_keyword,
 }
 use Rattle.lrc_script.proofs.Reading.Numbers.{AreWords, numbers_again, Decimal-decimal}
 use Rattle.lrc_script.proofs.Reading.Words.{HasNo, HasNo-append, parts_from_split}
@@ -44,16 +71,19 @@ decimal_has_no c n lt small = digits_have_no c (decimal n) lt (Decimal-decimal n
 
 pub decimals_words : (ns : List ℕ) → AreWords ns → AllByRecursion IsWord (map decimal ns)
 decimals_words [] small = tt
-decimals_words (n ∷ ns) small =
-    (record { some = (Decimal-decimal n (omega (arith, small.0))).some;
-                no_space = decimal_has_no 32 n (omega arith) small.0 },
-            decimals_words ns small.1)
+decimals_words (n ∷ ns) small = (
+  record {
+    some = (Decimal-decimal n (omega (arith, small.0))).some;
+    no_space = decimal_has_no 32 n (omega arith) small.0;
+  },
+  decimals_words ns small.1,
+)
 
 spaced_has_no : (ns : List ℕ) → AreWords ns → HasNo 10 (flat_map spaced ns)
 spaced_has_no [] small = tt
 spaced_has_no (n ∷ ns) small =
     HasNo-append 10 (spaced n) (flat_map spaced ns)
-        (λ e. absurd (omega (arith, e)), decimal_has_no 10 n (omega arith) small.0) (spaced_has_no ns small.1)
+    (λ e. absurd (omega (arith, e)), decimal_has_no 10 n (omega arith) small.0) (spaced_has_no ns small.1)
 
 pub flat_spaced : (ns : List ℕ) → flat_map spaced ns ≡ flat_map (λ v. 32 ∷ v) (map decimal ns)
 flat_spaced [] = refl
@@ -93,7 +123,7 @@ goes f g k word ns key plain small due stepped =
     record {
       after_is =
           after_due f (line_bytes (record { word = word; numbers = ns })) word (map decimal ns) k
-                  (line_split word ns plain small) key due'
-              ∙ rw (numbers_again [] ns small) stepped;
+          (line_split word ns plain small) key due'
+          ∙ rw (numbers_again [] ns small) stepped;
       one_line = HasNo-append 10 word (flat_map spaced ns) (plain_bytes word both.1).1 (spaced_has_no ns small);
     }

@@ -1,7 +1,39 @@
 -- Numbers and their decimal digits.
 use Rattle.std.proofs.Common.{
-    ◌≡◌, ℕ, suc, ◌^◌, ◌<◌, ◌≢◌, true, false, not, ◌&&◌, cond, eqb, ltb, List, [], ◌∷◌, ◌++◌, length, get_or, map,
-    subst, append_assoc, Option, Some, None, Ok, Err, refl, sym, ap, ◌∙◌, zero, arith, rules
+  ◌≡◌,
+  ℕ,
+  suc,
+  ◌^◌,
+  ◌<◌,
+  ◌≢◌,
+  true,
+  false,
+  not,
+  ◌&&◌,
+  cond,
+  eqb,
+  ltb,
+  List,
+  [],
+  ◌∷◌,
+  ◌++◌,
+  length,
+  get_or,
+  map,
+  subst,
+  append_assoc,
+  Option,
+  Some,
+  None,
+  Ok,
+  Err,
+  refl,
+  sym,
+  ap,
+  ◌∙◌,
+  zero,
+  arith,
+  rules,
 }
 use Rattle.std.specs.Char.{is_ascii_digit}
 use Rattle.std.specs.Prelude.{Contains, is_some, unwrap_or}
@@ -12,7 +44,12 @@ use Rattle.std.proofs.lemmas.Bool.{ltb-true, lt-ltb, and_parts}
 use Rattle.std.proofs.lemmas.Bool.Decides.{nat_tests}
 use Rattle.std.proofs.lemmas.Str.Parse.{IsNumeralModel, numerals_by_value}
 use Rattle.std.proofs.lemmas.Fmt.{
-    decimal-digits_value, digits_decimal, digits_value-decimal, decimal_nonempty, first_decimal, decimal_digit
+  decimal-digits_value,
+  digits_decimal,
+  digits_value-decimal,
+  decimal_nonempty,
+  first_decimal,
+  decimal_digit,
 }
 use Rattle.std.proofs.lemmas.Option.{cond_some}
 use Rattle.std.proofs.lemmas.List.{append-nil}
@@ -34,8 +71,8 @@ pub record Decimal (w : List ℕ) : Type 0 where
 pub decimal_parts : (w : List ℕ) → is_decimal w ≡ true → Decimal w
 decimal_parts w e =
     let a =
-        and_parts (not (eqb (length w) 0) && not (eqb (get_or w 0 0) 48 && ltb 1 (length w)))
-            (list_all is_ascii_digit w) e in
+    and_parts (not (eqb (length w) 0) && not (eqb (get_or w 0 0) 48 && ltb 1 (length w)))
+    (list_all is_ascii_digit w) e in
     let b = and_parts (not (eqb (length w) 0)) (not (eqb (get_or w 0 0) 48 && ltb 1 (length w))) a.0 in
     record { digits = a.1; some = grind (arith, nat_tests, b.0); alone = λ z. grind (arith, nat_tests, b.0, b.1, z) }
 
@@ -43,8 +80,8 @@ pub decimal_whole : (w : List ℕ) → Decimal w → is_decimal w ≡ true
 decimal_whole w d =
     let some = d.some in
     let front : (not (eqb (length w) 0) && not (eqb (get_or w 0 0) 48 && ltb 1 (length w)))
-        ≡ true = elim (eqb (get_or w 0 0) 48) as
-            (λ b. eqb (get_or w 0 0) 48 ≡ b → (not (eqb (length w) 0) && not (b && ltb 1 (length w))) ≡ true) [
+    ≡ true = elim (eqb (get_or w 0 0) 48) as
+    (λ b. eqb (get_or w 0 0) 48 ≡ b → (not (eqb (length w) 0) && not (b && ltb 1 (length w))) ≡ true) [
       | true ↦ λ t. let one = d.alone (grind (arith, nat_tests, t)) in grind (arith, nat_tests, one)
       | false ↦ λ t. grind (arith, nat_tests, some)
     ] refl in
@@ -90,33 +127,40 @@ pub record Reads (front : List ℕ) (words : List (List ℕ)) (all : List ℕ) :
 pub numbers_take : (front : List ℕ) (words : List (List ℕ)) (all : List ℕ) → numbers_after front words ≡ Ok all
     → Reads front words all
 numbers_take front [] all e =
-    record { numbers = []; all_is = (let same : front ≡ all = cc in sym same ∙ sym (append-nil front));
-            words_are = refl; small = tt }
+    record {
+      numbers = [];
+      all_is = (let same : front ≡ all = cc in sym same ∙ sym (append-nil front));
+      words_are = refl;
+      small = tt;
+    }
 numbers_take front (w ∷ ws) all e =
     first_taken front w ws all (number_of w) refl e (numbers_take (front ++ unwrap_or (number_of w) 0 ∷ []) ws all)
   where
     first_taken : (front w : List ℕ) (ws : List (List ℕ)) (all : List ℕ) (o : Option ℕ) → number_of w ≡ o
         → cond (is_some o) (numbers_after (front ++ unwrap_or o 0 ∷ []) ws) (Err BadNumber) ≡ Ok all
         → (numbers_after (front ++ unwrap_or (number_of w) 0 ∷ []) ws ≡ Ok all
-                → Reads (front ++ unwrap_or (number_of w) 0 ∷ []) ws all)
+        → Reads (front ++ unwrap_or (number_of w) 0 ∷ []) ws all)
         → Reads front (w ∷ ws) all
     first_taken front w ws all None n e rest = absurd cc
     first_taken front w ws all (Some k) n e rest =
         let r : Reads (front ++ k ∷ []) ws all =
-            subst (λ (o : Option ℕ). numbers_after (front ++ unwrap_or o 0 ∷ []) ws ≡ Ok all
-                    → Reads (front ++ unwrap_or o 0 ∷ []) ws all)
-                n rest e in
+        subst (λ (o : Option ℕ). numbers_after (front ++ unwrap_or o 0 ∷ []) ws ≡ Ok all
+        → Reads (front ++ unwrap_or o 0 ∷ []) ws all)
+        n rest e in
         let t = number_takes w k n in
-        record { numbers = k ∷ r.numbers; all_is = r.all_is ∙ append_assoc front (k ∷ []) r.numbers;
-                words_are = ap (λ (v : List ℕ). v ∷ ws) t.0 ∙ ap (λ (vs : List (List ℕ)). decimal k ∷ vs) r.words_are;
-                small = (t.1, r.small) }
+        record {
+          numbers = k ∷ r.numbers;
+          all_is = r.all_is ∙ append_assoc front (k ∷ []) r.numbers;
+          words_are = ap (λ (v : List ℕ). v ∷ ws) t.0 ∙ ap (λ (vs : List (List ℕ)). decimal k ∷ vs) r.words_are;
+          small = (t.1, r.small);
+        }
 
 pub numbers_again : (front numbers : List ℕ) → AreWords numbers
     → numbers_after front (map decimal numbers) ≡ Ok (front ++ numbers)
 numbers_again front [] small = ap (λ (ns : List ℕ). Ok ns) (sym (append-nil front))
 numbers_again front (n ∷ ns) small =
     rw (number_again n small.0)
-        (numbers_again (front ++ n ∷ []) ns small.1 ∙ ap (λ (ms : List ℕ). Ok ms) (append_assoc front (n ∷ []) ns))
+    (numbers_again (front ++ n ∷ []) ns small.1 ∙ ap (λ (ms : List ℕ). Ok ms) (append_assoc front (n ∷ []) ns))
 
 -- a word that is no number
 pub record NotNumber (words : List (List ℕ)) (fault : ScriptFault) : Type 0 where
@@ -130,18 +174,26 @@ pub numbers_refused : (front : List ℕ) (words : List (List ℕ)) (fault : Scri
 numbers_refused front [] fault e = absurd cc
 numbers_refused front (w ∷ ws) fault e =
     first_refused front w ws fault (number_of w) refl e
-        (numbers_refused (front ++ unwrap_or (number_of w) 0 ∷ []) ws fault)
+    (numbers_refused (front ++ unwrap_or (number_of w) 0 ∷ []) ws fault)
   where
     first_refused : (front w : List ℕ) (ws : List (List ℕ)) (fault : ScriptFault) (o : Option ℕ) → number_of w ≡ o
         → cond (is_some o) (numbers_after (front ++ unwrap_or o 0 ∷ []) ws) (Err BadNumber) ≡ Err fault
         → (numbers_after (front ++ unwrap_or (number_of w) 0 ∷ []) ws ≡ Err fault → NotNumber ws fault)
         → NotNumber (w ∷ ws) fault
     first_refused front w ws fault None n e rest =
-        record { fault_is = cc; word = w; within = (0, omega arith, refl);
-                none = λ k lt same. let again = number_again k lt in absurd (cc) }
+        record {
+          fault_is = cc;
+          word = w;
+          within = (0, omega arith, refl);
+          none = λ k lt same. let again = number_again k lt in absurd (cc);
+        }
     first_refused front w ws fault (Some k) n e rest =
         let r : NotNumber ws fault =
-            subst (λ (o : Option ℕ). numbers_after (front ++ unwrap_or o 0 ∷ []) ws ≡ Err fault → NotNumber ws fault)
-                n rest e in
-        record { fault_is = r.fault_is; word = r.word; within = Contains-append_right (w ∷ []) ws r.word r.within;
-                none = r.none }
+        subst (λ (o : Option ℕ). numbers_after (front ++ unwrap_or o 0 ∷ []) ws ≡ Err fault → NotNumber ws fault)
+        n rest e in
+        record {
+          fault_is = r.fault_is;
+          word = r.word;
+          within = Contains-append_right (w ∷ []) ws r.word r.within;
+          none = r.none;
+        }

@@ -1,7 +1,27 @@
 -- What is cut at a separator.
 use Rattle.std.proofs.Common.{
-    ◌≡◌, ℕ, suc, ◌+◌, ◌≤◌, Bool, true, false, not, cond, ltb, List, [], ◌∷◌, length, take, drop, Some, None, refl, ap,
-    arith
+  ◌≡◌,
+  ℕ,
+  suc,
+  ◌+◌,
+  ◌≤◌,
+  Bool,
+  true,
+  false,
+  not,
+  cond,
+  ltb,
+  List,
+  [],
+  ◌∷◌,
+  length,
+  take,
+  drop,
+  Some,
+  None,
+  refl,
+  ap,
+  arith,
 }
 use Rattle.std.specs.List.{slice_split, position_or_len, onto_first}
 use Rattle.std.proofs.lemmas.List.Splits.{slice_split_first}
@@ -25,20 +45,18 @@ pub split_from_some : (p : ℕ → Bool) (xs : List ℕ) (i : ℕ)
     → slice_split p xs ≡ take i xs ∷ slice_split p (drop (i + 1) xs)
 split_from_some p xs i e =
     elim (ltb (position_or_len p xs) (length xs)) as (λ b. ltb (position_or_len p xs) (length xs) ≡ b
-            → Some i ≡ cond b (Some (position_or_len p xs)) None
-            → slice_split p xs ≡ take i xs ∷ slice_split p (drop (i + 1) xs))
-        [
-  | true ↦ λ t h. let same : i ≡ position_or_len p xs = cc in rw same (slice_split_first p xs 0 (ltb-true _ _ t))
-  | false ↦ λ t h. absurd cc
-] refl e
+    → Some i ≡ cond b (Some (position_or_len p xs)) None
+    → slice_split p xs ≡ take i xs ∷ slice_split p (drop (i + 1) xs)) [
+      | true ↦ λ t h. let same : i ≡ position_or_len p xs = cc in rw same (slice_split_first p xs 0 (ltb-true _ _ t))
+      | false ↦ λ t h. absurd cc
+    ] refl e
 
 pub split_from_none : (p : ℕ → Bool) (xs : List ℕ)
     → None ≡ cond (ltb (position_or_len p xs) (length xs)) (Some (position_or_len p xs)) None
     → slice_split p xs ≡ xs ∷ []
 split_from_none p xs e =
     elim (ltb (position_or_len p xs) (length xs)) as (λ b. ltb (position_or_len p xs) (length xs) ≡ b
-            → None ≡ cond b (Some (position_or_len p xs)) None → slice_split p xs ≡ xs ∷ [])
-        [
-  | true ↦ λ t h. absurd cc
-  | false ↦ λ t h. slice_split_past p xs (ltb-false _ _ t)
-] refl e
+    → None ≡ cond b (Some (position_or_len p xs)) None → slice_split p xs ≡ xs ∷ []) [
+      | true ↦ λ t h. absurd cc
+      | false ↦ λ t h. slice_split_past p xs (ltb-false _ _ t)
+    ] refl e

@@ -1,6 +1,23 @@
 -- The words of a line, and what stands between separators.
 use Rattle.std.proofs.Common.{
-    ◌≡◌, ◌≢◌, ℕ, Bool, true, false, cond, eqb, List, [], ◌∷◌, ◌++◌, refl, sym, ap, subst, ◌∙◌, arith
+  ◌≡◌,
+  ◌≢◌,
+  ℕ,
+  Bool,
+  true,
+  false,
+  cond,
+  eqb,
+  List,
+  [],
+  ◌∷◌,
+  ◌++◌,
+  refl,
+  sym,
+  ap,
+  subst,
+  ◌∙◌,
+  arith,
 }
 use Rattle.std.specs.List.{onto_first, list_all, flat_map, join_with_byte, AllByRecursion}
 use Rattle.std.proofs.lemmas.Bool.{ltb-true, lt-ltb, and_parts, ne_eqb, eq-eqb}
@@ -28,7 +45,7 @@ pub parts_first : (c : ℕ) (bytes rest : List ℕ) → HasNo c bytes
     → parts_of c (bytes ++ c ∷ rest) ≡ bytes ∷ parts_of c rest
 parts_first c bytes rest h =
     slice_split_at (λ b. eqb b c) bytes c rest
-        (All-from_recursion (λ b. eqb b c ≡ false) bytes (tests_false c bytes h)) (eq-eqb c c refl)
+    (All-from_recursion (λ b. eqb b c ≡ false) bytes (tests_false c bytes h)) (eq-eqb c c refl)
 
 -- where there is none, the bytes are the one part
 pub parts_none : (c : ℕ) (bytes : List ℕ) → HasNo c bytes → parts_of c bytes ≡ bytes ∷ []
@@ -87,15 +104,17 @@ words_clean (w ∷ ws) h = (h.0.no_space, words_clean ws h.1)
 -- a line is cut into the words that it is split into
 pub parts_from_split : (line w : List ℕ) (ws : List (List ℕ)) → IsSplit line w ws
     → (parts_of 32 line ≡ w ∷ ws) × (list_all has_bytes (w ∷ ws) ≡ true)
-parts_from_split line w ws h =
-    (ap (parts_of 32) h.whole
-            ∙ parts_joined 32 w ws h.first.no_space (words_clean ws h.others), words_have (w ∷ ws)
-                (h.first, h.others))
+parts_from_split line w ws h = (
+  ap (parts_of 32) h.whole
+      ∙ parts_joined 32 w ws h.first.no_space (words_clean ws h.others),
+  words_have (w ∷ ws)
+      (h.first, h.others),
+)
 
 pub split_from_parts : (line w : List ℕ) (ws : List (List ℕ)) → parts_of 32 line ≡ w ∷ ws
     → list_all has_bytes (w ∷ ws) ≡ true → IsSplit line w ws
 split_from_parts line w ws e h =
     let clean : AllByRecursion (HasNo 32) (w ∷ ws) =
-        subst (λ (ps : List (List ℕ)). AllByRecursion (HasNo 32) ps) e (parts_clean 32 line) in
+    subst (λ (ps : List (List ℕ)). AllByRecursion (HasNo 32) ps) e (parts_clean 32 line) in
     let words = words_from (w ∷ ws) h clean in
     record { first = words.0; others = words.1; whole = parts_whole 32 line w ws e }

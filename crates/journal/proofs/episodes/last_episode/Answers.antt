@@ -1,6 +1,24 @@
 use Rattle.std.proofs.Common.{
-    ◌≡◌, ℕ, ◌+◌, ◌≤◌, List, [], ◌∷◌, ◌++◌, Option, MatchOption, length, take, slice_index, slice_index_or, subst,
-    subst₂, sym, ap, ◌∙◌, arith
+  ◌≡◌,
+  ℕ,
+  ◌+◌,
+  ◌≤◌,
+  List,
+  [],
+  ◌∷◌,
+  ◌++◌,
+  Option,
+  MatchOption,
+  length,
+  take,
+  slice_index,
+  slice_index_or,
+  subst,
+  subst₂,
+  sym,
+  ap,
+  ◌∙◌,
+  arith,
 }
 use Rattle.std.proofs.lemmas.Option.{slice_get-get_or}
 use Rattle.std.proofs.lemmas.List.{length-take-le}
@@ -24,12 +42,12 @@ loop-place-preserved c =
     let front = take place events in
     let next : take (place + 1) events ≡ front ++ e ∷ [] = front_next events place e at in
     let counts : (q : ℕ)
-            → slice_index c.ends_episode.new.arrivals q ≡ count_of is_arrive (take (place + 1) events) q =
-        λ q. (let old = c.loop-place.invariant.counts q in let step = count_next is_arrive events place q e at in
-                let new = c.ends_episode.ensures.counts q in omega arith)
-            in
+    → slice_index c.ends_episode.new.arrivals q ≡ count_of is_arrive (take (place + 1) events) q =
+    λ q. (let old = c.loop-place.invariant.counts q in let step = count_next is_arrive events place q e at in
+    let new = c.ends_episode.ensures.counts q in omega arith)
+    in
     let pushed : (q : ℕ) → slice_index c.ends_episode.new.arrivals q ≡ count_of is_arrive (front ++ e ∷ []) q =
-        λ q. counts q ∙ ap (λ (xs : List Event). count_of is_arrive xs q) next in
+    λ q. counts q ∙ ap (λ (xs : List Event). count_of is_arrive xs q) next in
     let ends = ends_push c.args.processors front e in
     let long : length front ≡ place = length-take-le place events (let lt = c.loop-place-test.true in omega arith) in
     record {
@@ -38,23 +56,26 @@ loop-place-preserved c =
         | then-ends_episode w ↦
             (let is = c.ends_episode.ensures.ends.0 w.if-ends_episode.true in
             let here : EndsEpisode c.args.processors (front ++ e ∷ []) =
-                ends.1 (is.0, λ q h. subst₂ (λ (x y : ℕ). x ≤ y) (pushed e.processor) (pushed q) (is.1 q h)) in
+            ends.1 (is.0, λ q h. subst₂ (λ (x y : ℕ). x ≤ y) (pushed e.processor) (pushed q) (is.1 q h)) in
             let now =
-                subst₂ (λ (xs : List Event) (n : ℕ). IsCut c.args.processors xs n) (sym next) (ap (λ n. n + 1) long)
-                    (cut_now c.args.processors front e here) in
+            subst₂ (λ (xs : List Event) (n : ℕ). IsCut c.args.processors xs n) (sym next) (ap (λ n. n + 1) long)
+            (cut_now c.args.processors front e here) in
             subst (λ (o : Option ℕ). MatchOption o (NoCut c.args.processors (take (place + 1) events))
-                    (λ n. IsCut c.args.processors (take (place + 1) events) n))
-                (sym w.last-is) now)
+            (λ n. IsCut c.args.processors (take (place + 1) events) n))
+            (sym w.last-is) now)
         | else-ends_episode w ↦
             (let isnt : ¬ EndsEpisode c.args.processors (front ++ e ∷ []) = λ here. (let x = ends.0 here in
-                        let yes_ends = c.ends_episode.ensures.ends.1 (x.0, λ q h. subst₂ (λ (y z : ℕ). y ≤ z)
-                                (sym (pushed e.processor)) (sym (pushed q)) (x.1 q h))
-                            in
-                        cc (yes_ends, w.if-ends_episode.false))
-                    in
+            let yes_ends = c.ends_episode.ensures.ends.1 (
+              x.0,
+              λ q h. subst₂ (λ (y z : ℕ). y ≤ z)
+                  (sym (pushed e.processor)) (sym (pushed q)) (x.1 q h),
+            )
+            in
+            cc (yes_ends, w.if-ends_episode.false))
+            in
             let later = cut_later c.args.processors front e c.loop-place.last isnt c.loop-place.invariant.so_far in
             subst₂ (λ (o : Option ℕ) (xs : List Event). MatchOption o (NoCut c.args.processors xs)
-                    (λ n. IsCut c.args.processors xs n))
-                (sym w.last-is) (sym next) later)
+            (λ n. IsCut c.args.processors xs n))
+            (sym w.last-is) (sym next) later)
       ];
     }

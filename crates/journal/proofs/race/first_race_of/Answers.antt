@@ -35,15 +35,15 @@ pub race_at-requires-clause-stores : goal.race_at-requires-clause-stores
 race_at-requires-clause-stores c =
     let at = slice_get-get_or c.args.events.now c.loop-place.place (event 0 (Load 0 0)) (omega arith) in
     subst (λ n. AddressInRange n (here c.args.events.now c.loop-place.place).kind)
-        (sym c.loop-place.invariant.1.stores_long)
-        (c.requires.addresses c.loop-place.place (here c.args.events.now c.loop-place.place) at)
+    (sym c.loop-place.invariant.1.stores_long)
+    (c.requires.addresses c.loop-place.place (here c.args.events.now c.loop-place.place) at)
 
 pub race_at-requires-clause-loads : goal.race_at-requires-clause-loads
 race_at-requires-clause-loads c =
     let at = slice_get-get_or c.args.events.now c.loop-place.place (event 0 (Load 0 0)) (omega arith) in
     subst (λ n. AddressInRange n (here c.args.events.now c.loop-place.place).kind)
-        (sym c.loop-place.invariant.1.loads_long)
-        (c.requires.addresses c.loop-place.place (here c.args.events.now c.loop-place.place) at)
+    (sym c.loop-place.invariant.1.loads_long)
+    (c.requires.addresses c.loop-place.place (here c.args.events.now c.loop-place.place) at)
 
 pub race_at-requires-clause-time : goal.race_at-requires-clause-time
 race_at-requires-clause-time c =
@@ -52,16 +52,16 @@ race_at-requires-clause-time c =
     let present = c.requires.processors c.loop-place.place e at in
     let lt : e.processor < 16 = omega (arith, c.requires.few_processors) in
     time_equal (take c.loop-place.place c.args.events.now)
-        (InPast (take c.loop-place.place c.args.events.now) e.processor)
-        (entry c.loop-place.clocks.processors.items e.processor) (slice_index c.of.result.now)
-        (λ q. sym (c.of.ensures q)) (c.loop-place.invariant.0.times e.processor lt)
+    (InPast (take c.loop-place.place c.args.events.now) e.processor)
+    (entry c.loop-place.clocks.processors.items e.processor) (slice_index c.of.result.now)
+    (λ q. sym (c.of.ensures q)) (c.loop-place.invariant.0.times e.processor lt)
 
 pub returns-in-Some : goal.returns-in-Some
 returns-in-Some c = record {
   race = c.in-Some.ensures.0;
   least_second =
       λ m n r. elim (cases_lt n c.loop-place.place)
-          [ inl lt ↦ absurd (c.loop-place.invariant.2 m n lt r) | inr le ↦ le ];
+      [ inl lt ↦ absurd (c.loop-place.invariant.2 m n lt r) | inr le ↦ le ];
   least_first = λ m r. c.in-Some.ensures.1 m r;
 }
 
@@ -78,10 +78,10 @@ note-requires-clause-interval c =
     let present = c.requires.processors c.loop-place.place e at in
     let lt : e.processor < 16 = omega (arith, c.requires.few_processors) in
     let small =
-        time_small (take c.loop-place.place c.args.events.now)
-            (InPast (take c.loop-place.place c.args.events.now) e.processor)
-            (entry c.loop-place.clocks.processors.items e.processor) e.processor
-            (c.loop-place.invariant.0.times e.processor lt) in
+    time_small (take c.loop-place.place c.args.events.now)
+    (InPast (take c.loop-place.place c.args.events.now) e.processor)
+    (entry c.loop-place.clocks.processors.items e.processor) e.processor
+    (c.loop-place.invariant.0.times e.processor lt) in
     let long = length-take-le c.loop-place.place c.args.events.now (omega arith) in
     let is = c.of.ensures e.processor in
     let few = c.requires.few in
@@ -91,15 +91,15 @@ pub note-requires-clause-stores : goal.note-requires-clause-stores
 note-requires-clause-stores c =
     let at = slice_get-get_or c.args.events.now c.loop-place.place (event 0 (Load 0 0)) (omega arith) in
     subst (λ n. AddressInRange n (here c.args.events.now c.loop-place.place).kind)
-        (sym c.loop-place.invariant.1.stores_long)
-        (c.requires.addresses c.loop-place.place (here c.args.events.now c.loop-place.place) at)
+    (sym c.loop-place.invariant.1.stores_long)
+    (c.requires.addresses c.loop-place.place (here c.args.events.now c.loop-place.place) at)
 
 pub note-requires-clause-loads : goal.note-requires-clause-loads
 note-requires-clause-loads c =
     let at = slice_get-get_or c.args.events.now c.loop-place.place (event 0 (Load 0 0)) (omega arith) in
     subst (λ n. AddressInRange n (here c.args.events.now c.loop-place.place).kind)
-        (sym c.loop-place.invariant.1.loads_long)
-        (c.requires.addresses c.loop-place.place (here c.args.events.now c.loop-place.place) at)
+    (sym c.loop-place.invariant.1.loads_long)
+    (c.requires.addresses c.loop-place.place (here c.args.events.now c.loop-place.place) at)
 
 pub loop-place-preserved : goal.loop-place-preserved
 loop-place-preserved c =
@@ -109,13 +109,13 @@ loop-place-preserved c =
     let lt : e.processor < 16 = omega (arith, c.requires.few_processors) in
     let front = take c.loop-place.place c.args.events.now in
     let time : IsTimeOf front e.processor (slice_index c.of.result.now) =
-        time_equal front (InPast front e.processor) (entry c.loop-place.clocks.processors.items e.processor)
-            (slice_index c.of.result.now) (λ q. sym (c.of.ensures q)) (c.loop-place.invariant.0.times e.processor lt)
-            in
+    time_equal front (InPast front e.processor) (entry c.loop-place.clocks.processors.items e.processor)
+    (slice_index c.of.result.now) (λ q. sym (c.of.ensures q)) (c.loop-place.invariant.0.times e.processor lt)
+    in
     let accesses =
-        accesses_next front e (slice_index c.of.result.now) c.args.addresses c.loop-place.accesses c.note.new.self
-            time c.loop-place.invariant.1 c.note.ensures.stores_long c.note.ensures.loads_long c.note.ensures.stores
-            c.note.ensures.loads in
+    accesses_next front e (slice_index c.of.result.now) c.args.addresses c.loop-place.accesses c.note.new.self
+    time c.loop-place.invariant.1 c.note.ensures.stores_long c.note.ensures.loads_long c.note.ensures.stores
+    c.note.ensures.loads in
     let here_none : (i : ℕ) → Race c.args.events.now i c.loop-place.place → ⊥ = c.in_default.ensures in (
       c.in_ok-note.ensures.clocks,
       subst (λ xs. AreAccesses xs c.args.addresses c.note.new.self)
@@ -123,7 +123,7 @@ loop-place-preserved c =
       λ m n h r. elim (cases_lt n c.loop-place.place) [
         | inl below ↦ c.loop-place.invariant.2 m n below r
         | inr le ↦ (let is : n ≡ c.loop-place.place = omega arith in
-                here_none m (subst (λ x. Race c.args.events.now m x) is r))
+            here_none m (subst (λ x. Race c.args.events.now m x) is r))
       ],
       c.in_ok-note.ensures.present ∙ c.loop-place.invariant.3,
     )
@@ -131,4 +131,4 @@ loop-place-preserved c =
 pub returns : goal.returns
 returns c =
     λ i k r. (let within = slice_get_within c.args.events.now k r.second r.second_at in
-            let over = c.loop-place-test.false in c.loop-place.invariant.2 i k (omega arith) r)
+    let over = c.loop-place-test.false in c.loop-place.invariant.2 i k (omega arith) r)

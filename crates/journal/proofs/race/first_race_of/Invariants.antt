@@ -7,4 +7,4 @@ use Rattle.journal.proofs.race.first_race_of.Given as goal
 abbrev pub invariant-loop-place : goal.invariant-loop-place
 invariant-loop-place l =
     AreClocks (take l.place l.events) l.clocks × AreAccesses (take l.place l.events) l.addresses l.accesses
-        × ((m n : ℕ) → n < l.place → ¬ Race l.events m n) × (l.clocks.present ≡ l.processors)
+    × ((m n : ℕ) → n < l.place → ¬ Race l.events m n) × (l.clocks.present ≡ l.processors)

@@ -1,5 +1,21 @@
 use Rattle.std.proofs.Common.{
-    ◌≡◌, ℕ, ◌+◌, ◌<◌, inl, inr, length, take, List, slice_index, slice_index_or, ◌==◌, sym, refl, ap, ◌∙◌, arith
+  ◌≡◌,
+  ℕ,
+  ◌+◌,
+  ◌<◌,
+  inl,
+  inr,
+  length,
+  take,
+  List,
+  slice_index,
+  slice_index_or,
+  ◌==◌,
+  sym,
+  refl,
+  ap,
+  ◌∙◌,
+  arith,
 }
 use borrow.Author.Count.{below_more}
 use Rattle.std.proofs.lemmas.Option.{slice_get-get_or, slice_get_within}
@@ -12,8 +28,10 @@ use Rattle.journal.specs.Races.{Race}
 use Rattle.journal.proofs.Passes.RaceSteps.{race_by_time, race_events, count_next, cond-and_true, cond-and_false}
 use Rattle.journal.proofs.race.first_racing.Goals as goal
 use Rattle.journal.proofs.race.first_racing.Goals.{
-    else-is_conflict-via-then-is_conflict+else-time-earlier, else-is_conflict-via-else-is_conflict, then-closes,
-    else-closes
+  else-is_conflict-via-then-is_conflict+else-time-earlier,
+  else-is_conflict-via-else-is_conflict,
+  then-closes,
+  else-closes,
 }
 
 -- the event at this place
@@ -30,7 +48,7 @@ returns-then-time-earlier c =
     let count = c.loop-i.invariant.1 e.processor (c.requires.processors c.loop-i.i e at) in
     let le = c.if-time-earlier.true in (
       (race_by_time c.args.events.now c.args.place c.loop-i.i c.args.event e (slice_index c.args.time.now)
-              c.requires.at at lt both.0 both.1 c.requires.time).1
+          c.requires.at at lt both.0 both.1 c.requires.time).1
           (omega arith),
       λ m r. elim (cases_lt m c.loop-i.i) [ inl below ↦ absurd (c.loop-i.invariant.2 m below r) | inr le_m ↦ le_m ],
     )
@@ -48,30 +66,30 @@ loop-i-preserved c =
       | else-closes w ↦ ap (λ xs. length xs) w.closings-is ∙ c.loop-i.invariant.0
     ] in
     let counts : (q : ℕ) → q < 16
-        → slice_index c.if-closes.closings q
-            ≡ count_of is_closing (take (c.loop-i.i + 1) c.args.events.now) q = λ q h. elim c.if-closes.branch [
+    → slice_index c.if-closes.closings q
+    ≡ count_of is_closing (take (c.loop-i.i + 1) c.args.events.now) q = λ q h. elim c.if-closes.branch [
       | then-closes w ↦ (let old = c.loop-i.invariant.1 q h in let step = next q in let one = w.tick.ensures q in
-              let is = cond-and_true (e.processor == q) (is_closing e.kind) (sym c.closes.ensures ∙ w.if-closes.true)
-                  in
-              let same = ap (λ xs. slice_index xs q) w.closings-is in omega arith)
+          let is = cond-and_true (e.processor == q) (is_closing e.kind) (sym c.closes.ensures ∙ w.if-closes.true)
+          in
+          let same = ap (λ xs. slice_index xs q) w.closings-is in omega arith)
       | else-closes w ↦ (let old = c.loop-i.invariant.1 q h in let step = next q in
-              let is = cond-and_false (e.processor == q) (is_closing e.kind)
-                  (sym c.closes.ensures ∙ w.if-closes.false) in
-              let same = ap (λ xs. slice_index xs q) w.closings-is in omega arith)
+          let is = cond-and_false (e.processor == q) (is_closing e.kind)
+          (sym c.closes.ensures ∙ w.if-closes.false) in
+          let same = ap (λ xs. slice_index xs q) w.closings-is in omega arith)
     ] in
     let none : Race c.args.events.now c.loop-i.i c.args.place → ⊥ = elim c.else-is_conflict.branch [
       | else-is_conflict-via-then-is_conflict+else-time-earlier w ↦ (λ r.
           let both = c.is_conflict.ensures.0 w.if-is_conflict.true in
           let le =
-              (race_by_time c.args.events.now c.args.place c.loop-i.i c.args.event e (slice_index c.args.time.now)
-                      c.requires.at at lt both.0 both.1 c.requires.time).0
-                  r in
+          (race_by_time c.args.events.now c.args.place c.loop-i.i c.args.event e (slice_index c.args.time.now)
+          c.requires.at at lt both.0 both.1 c.requires.time).0
+          r in
           let above = w.if-time-earlier.false in
           omega arith)
       | else-is_conflict-via-else-is_conflict w ↦ (λ r.
           let conflicts =
-              c.is_conflict.ensures.1
-                  (race_events c.args.events.now c.args.place c.loop-i.i c.args.event e c.requires.at at r) in
+          c.is_conflict.ensures.1
+          (race_events c.args.events.now c.args.place c.loop-i.i c.args.event e c.requires.at at r) in
           let isnt = w.if-is_conflict.false in
           absurd (cc (conflicts, isnt)))
     ] in

@@ -6,5 +6,5 @@ use Rattle.journal.proofs.race.first_racing.Given as goal
 abbrev pub invariant-loop-i : goal.invariant-loop-i
 invariant-loop-i l =
     (length l.closings ≡ 16)
-        × ((q : ℕ) → q < 16 → slice_index l.closings q ≡ count_of is_closing (take l.i l.events) q)
-        × ((m : ℕ) → m < l.i → ¬ Race l.events m l.place)
+    × ((q : ℕ) → q < 16 → slice_index l.closings q ≡ count_of is_closing (take l.i l.events) q)
+    × ((m : ℕ) → m < l.i → ¬ Race l.events m l.place)

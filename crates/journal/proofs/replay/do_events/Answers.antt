@@ -7,7 +7,7 @@ pub loop-event-preserved : goal.loop-event-preserved
 loop-event-preserved c =
     let at = slice_get-get_or c.args.events.now c.loop-event.event-index _ c.loop-event-test.true in
     rw c.do_event.ensures.memory
-        (replays-suc _ _ _ _ _ at c.loop-event.invariant (c.do_event.ensures.answers.0 c.if-not-do_event.false))
+    (replays-suc _ _ _ _ _ at c.loop-event.invariant (c.do_event.ensures.answers.0 c.if-not-do_event.false))
 
 pub returns-clause-replays : goal.returns-clause-replays
 returns-clause-replays c = (

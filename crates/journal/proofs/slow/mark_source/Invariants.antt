@@ -5,6 +5,6 @@ abbrev pub invariant-loop-i : goal.invariant-loop-i
 invariant-loop-i l = record {
   marked : (k : ℕ) → k < l.i
       → slice_index_or l.row k false
-          ≡ (slice_index_or l.fn.row k false || (slice_index_or l.other k false || (k == l.source)));
+      ≡ (slice_index_or l.fn.row k false || (slice_index_or l.other k false || (k == l.source)));
   same : (k : ℕ) → l.i ≤ k → slice_index_or l.row k false ≡ slice_index_or l.fn.row k false;
 }

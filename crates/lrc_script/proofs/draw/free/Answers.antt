@@ -10,7 +10,7 @@ use Rattle.lrc_script.proofs.draw.free.Goals as goal
 pub returns-clause-lawful : goal.returns-clause-lawful
 returns-clause-lawful c =
     IfOk-weaker c.script.result (λ s. plan_of s ≡ drawn Free (seeded c.args.seed)) (λ s. IsLawful (plan_of s))
-        (λ s e. lawful_from Free (seeded c.args.seed) (plan_of s) e) c.script.ensures
+    (λ s e. lawful_from Free (seeded c.args.seed) (plan_of s) e) c.script.ensures
 
 pub returns-clause-drawn : goal.returns-clause-drawn
 returns-clause-drawn c = c.script.ensures

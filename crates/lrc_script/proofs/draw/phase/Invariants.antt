@@ -7,5 +7,5 @@ use Rattle.lrc_script.proofs.draw.phase.Given as goal
 abbrev pub invariant-loop : goal.invariant-loop
 invariant-loop l =
     IsAhead (λ n. pieces n l.style l.shape) (l.count - l.counter) l.section.items l.rng
-        (l.initial.section.items ++ (pieces l.count l.style l.shape l.initial.rng).0)
-        (pieces l.count l.style l.shape l.initial.rng).1
+    (l.initial.section.items ++ (pieces l.count l.style l.shape l.initial.rng).0)
+    (pieces l.count l.style l.shape l.initial.rng).1

@@ -7,5 +7,5 @@ use Rattle.lrc_script.proofs.draw.section.Given as goal
 abbrev pub invariant-loop : goal.invariant-loop
 invariant-loop l =
     IsAhead (λ n. more_phases n l.style l.shape) (l.end - l.counter) l.section.items l.rng
-        (l.initial.section.items ++ (more_phases l.end l.style l.shape l.initial.rng).0)
-        (more_phases l.end l.style l.shape l.initial.rng).1
+    (l.initial.section.items ++ (more_phases l.end l.style l.shape l.initial.rng).0)
+    (more_phases l.end l.style l.shape l.initial.rng).1

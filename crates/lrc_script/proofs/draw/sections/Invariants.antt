@@ -7,5 +7,5 @@ use Rattle.lrc_script.proofs.draw.sections.Given as goal
 abbrev pub invariant-loop : goal.invariant-loop
 invariant-loop l =
     IsAhead (λ n. drawn_sections n l.style l.shape) (l.end - l.counter)
-        (map (λ section. section.items) l.sections.items) l.rng (drawn_sections l.end l.style l.shape l.initial.rng).0
-        (drawn_sections l.end l.style l.shape l.initial.rng).1
+    (map (λ section. section.items) l.sections.items) l.rng (drawn_sections l.end l.style l.shape l.initial.rng).0
+    (drawn_sections l.end l.style l.shape l.initial.rng).1

@@ -6,4 +6,4 @@ returns-in-Some-rest-2-clause-others c = λ ns e.
     let first = rw c.in-Some-rest.is at c.split_at_byte.ensures.parts in
     let second = rw c.in-Some-rest-2.is at c.split_at_byte-2.ensures.parts in
     more_than_two c.split_at_byte.result.0.now c.split_at_byte-2.result.0.now c.in-Some-rest-2.field-0.now ns
-        (rw (c.in-Some.is, first, second) at e)
+    (rw (c.in-Some.is, first, second) at e)

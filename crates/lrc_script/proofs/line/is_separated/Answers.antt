@@ -8,6 +8,6 @@ use Rattle.lrc_script.proofs.line.is_separated.Goals as goal
 pub returns : goal.returns
 returns c =
     all_from_yields_List has_bytes _ _ _ c.all.ensures.ran (YieldsList-from_slice_split _ (λ b. eqb b 32)
-            c.args.line.now c.split.ensures.rest c.split.ensures.done c.split.ensures.closure
-            (λ x b q k. search (rules, tests)))
-        (λ x b q k. search (rules, tests))
+    c.args.line.now c.split.ensures.rest c.split.ensures.done c.split.ensures.closure
+    (λ x b q k. search (rules, tests)))
+    (λ x b q k. search (rules, tests))

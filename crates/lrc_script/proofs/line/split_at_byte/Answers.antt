@@ -9,14 +9,14 @@ use Rattle.lrc_script.proofs.line.split_at_byte.Goals as goal
 pub returns-in-Some-clause-parts : goal.returns-in-Some-clause-parts
 returns-in-Some-clause-parts c =
     let found =
-        position_from_yields_List (λ b. eqb b c.args.separator) _ _ c.position.result c.position.ensures.ran
-            (YieldsList-from_slice c.args.bytes.now c.iter.ensures.rest) (λ x b q k. search (rules, tests)) in
+    position_from_yields_List (λ b. eqb b c.args.separator) _ _ c.position.result c.position.ensures.ran
+    (YieldsList-from_slice c.args.bytes.now c.iter.ensures.rest) (λ x b q k. search (rules, tests)) in
     rw take_rest
-        (split_from_some (λ b. eqb b c.args.separator) c.args.bytes.now c.in-Some.at (sym c.in-Some.is ∙ found))
+    (split_from_some (λ b. eqb b c.args.separator) c.args.bytes.now c.in-Some.at (sym c.in-Some.is ∙ found))
 
 pub returns-in-None-clause-parts : goal.returns-in-None-clause-parts
 returns-in-None-clause-parts c =
     let found =
-        position_from_yields_List (λ b. eqb b c.args.separator) _ _ c.position.result c.position.ensures.ran
-            (YieldsList-from_slice c.args.bytes.now c.iter.ensures.rest) (λ x b q k. search (rules, tests)) in
+    position_from_yields_List (λ b. eqb b c.args.separator) _ _ c.position.result c.position.ensures.ran
+    (YieldsList-from_slice c.args.bytes.now c.iter.ensures.rest) (λ x b q k. search (rules, tests)) in
     split_from_none (λ b. eqb b c.args.separator) c.args.bytes.now (sym c.in-None.is ∙ found)

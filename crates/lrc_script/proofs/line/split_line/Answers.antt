@@ -4,7 +4,7 @@ use Rattle.lrc_script.proofs.line.split_line.Goals as goal
 pub returns-in-Some : goal.returns-in-Some
 returns-in-Some c =
     cut_from_parts c.args.bytes.now c.split_at_byte.result.0.now c.in-Some.rest.now
-        (rw c.in-Some.is at c.split_at_byte.ensures.parts)
+    (rw c.in-Some.is at c.split_at_byte.ensures.parts)
 
 pub returns-in-None : goal.returns-in-None
 returns-in-None c =

@@ -1,8 +1,16 @@
 use Rattle.std.proofs.Common.{arith, refl}
 use Rattle.lrc_script.specs.Plan.{plan_of}
 use Rattle.lrc_script.proofs.Faults.Places.{
-    at_start, at_next, failed_fault, truncated_fault, whole_text, uneven_fault, read_again, sections_fit, number_fits,
-    cut_shorter
+  at_start,
+  at_next,
+  failed_fault,
+  truncated_fault,
+  whole_text,
+  uneven_fault,
+  read_again,
+  sections_fit,
+  number_fits,
+  cut_shorter,
 }
 use Rattle.lrc_script.proofs.script.parse.Goals as goal
 
@@ -32,32 +40,32 @@ returns-in-Err-clause-fault c =
 pub returns-in_default-whole-clause-only : goal.returns-in_default-whole-clause-only
 returns-in_default-whole-clause-only c =
     λ ne. (truncated_fault c.args.bytes.now c.loop-line.number _ c.loop-line.rest.now c.loop-line.invariant
-            c.in_default.ensures c.in_default-whole.ensures.none).1
+    c.in_default.ensures c.in_default-whole.ensures.none).1
 
 pub returns-in_default-whole-clause-fault : goal.returns-in_default-whole-clause-fault
 returns-in_default-whole-clause-fault c =
     (truncated_fault c.args.bytes.now c.loop-line.number _ c.loop-line.rest.now c.loop-line.invariant
-            c.in_default.ensures c.in_default-whole.ensures.none).0
+    c.in_default.ensures c.in_default-whole.ensures.none).0
 
 pub uneven_line-requires-clause-instructions : goal.uneven_line-requires-clause-instructions
 uneven_line-requires-clause-instructions c =
     let whole =
-        whole_text c.args.bytes.now c.loop-line.number _ c.loop-line.rest.now (plan_of c.in-Some-whole.script)
-            c.loop-line.invariant c.in-Some-whole.ensures.found in
+    whole_text c.args.bytes.now c.loop-line.number _ c.loop-line.rest.now (plan_of c.in-Some-whole.script)
+    c.loop-line.invariant c.in-Some-whole.ensures.found in
     (sections_fit (plan_of c.in-Some-whole.script) c.in-Some-whole.script.sections.items refl whole.0).1
 
 pub returns-in-Some-uneven_line-clause-only : goal.returns-in-Some-uneven_line-clause-only
 returns-in-Some-uneven_line-clause-only c =
     let whole =
-        whole_text c.args.bytes.now c.loop-line.number _ c.loop-line.rest.now (plan_of c.in-Some-whole.script)
-            c.loop-line.invariant c.in-Some-whole.ensures.found in
+    whole_text c.args.bytes.now c.loop-line.number _ c.loop-line.rest.now (plan_of c.in-Some-whole.script)
+    c.loop-line.invariant c.in-Some-whole.ensures.found in
     λ ne. (uneven_fault c.args.bytes.now (plan_of c.in-Some-whole.script) _ whole.0 whole.1
-            c.in-Some-uneven_line.ensures.uneven).1
+    c.in-Some-uneven_line.ensures.uneven).1
 
 pub returns-in-None-clause-again : goal.returns-in-None-clause-again
 returns-in-None-clause-again c =
     let whole =
-        whole_text c.args.bytes.now c.loop-line.number _ c.loop-line.rest.now (plan_of c.in-Some-whole.script)
-            c.loop-line.invariant c.in-Some-whole.ensures.found in
+    whole_text c.args.bytes.now c.loop-line.number _ c.loop-line.rest.now (plan_of c.in-Some-whole.script)
+    c.loop-line.invariant c.in-Some-whole.ensures.found in
     read_again c.args.bytes.now (plan_of c.in-Some-whole.script)
-        (record { but_uneven = whole.0; even = c.in-None.ensures.even }, whole.1)
+    (record { but_uneven = whole.0; even = c.in-None.ensures.even }, whole.1)

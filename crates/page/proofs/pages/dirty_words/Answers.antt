@@ -21,8 +21,8 @@ loop-rest-preserved c =
       below = below_more words l.offset l.rest l.invariant.below;
       so_far =
           rw c.in_ok-push.ensures.items (found_more l.found.items words
-                  (harvest 0 words (marks_of (length words) c.args.dirty)) l.offset l.rest (omega arith) (omega arith)
-                  l.invariant.below l.invariant.so_far);
+          (harvest 0 words (marks_of (length words) c.args.dirty)) l.offset l.rest (omega arith) (omega arith)
+          l.invariant.below l.invariant.so_far);
     }
 
 pub returns : goal.returns

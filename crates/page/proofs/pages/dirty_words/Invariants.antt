@@ -8,7 +8,7 @@ invariant-loop-rest l = record {
   within : l.offset ≤ length l.words;
   below : IsBelow (length (drop l.offset l.words)) l.rest;
   so_far : l.found.items
-          ++ harvest l.offset (drop l.offset l.words) (marks_of (length (drop l.offset l.words)) l.rest)
+      ++ harvest l.offset (drop l.offset l.words) (marks_of (length (drop l.offset l.words)) l.rest)
       ≡ harvest 0 l.words (marks_of (length l.words) l.dirty);
 }
 

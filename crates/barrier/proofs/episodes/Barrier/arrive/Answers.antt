@@ -1,5 +1,20 @@
 use Rattle.std.proofs.Common.{
-    ℕ, ◌≡◌, Bool, Some, List, [], ◌∷◌, ◌++◌, length, set, slice_get, refl, ap, sym, ◌∙◌, subst
+  ℕ,
+  ◌≡◌,
+  Bool,
+  Some,
+  List,
+  [],
+  ◌∷◌,
+  ◌++◌,
+  length,
+  set,
+  slice_get,
+  refl,
+  ap,
+  sym,
+  ◌∙◌,
+  subst,
 }
 use Rattle.std.specs.List.{list_all, refill}
 use Rattle.barrier.specs.declared.episodes.Stage.{Stage}
@@ -14,9 +29,9 @@ returns-then-full-clause-complete c =
     let old = c.args.self.now.stages in
     let stages = c.self.inside.stages.items in
     let now : c.as_slice.result.now ≡ set old c.args.processor Here =
-        c.as_slice.ensures
-            ∙ read_set c.args.processor Here stages c.deref_mut.result.now old c.deref_mut.ensures.value
-                (ap (λ (b : Episodes). b.stages) c.self.view_is) in
+    c.as_slice.ensures
+    ∙ read_set c.args.processor Here stages c.deref_mut.result.now old c.deref_mut.ensures.value
+    (ap (λ (b : Episodes). b.stages) c.self.view_is) in
     let full = c.all_here-full.ensures ∙ ap (λ (ss : List Stage). list_all is_here ss) now in
     let law = last_arrival old c.args.processor c.requires.away in
     (λ e. law.0 (sym full ∙ e), λ e. full ∙ law.1 e)
@@ -26,9 +41,9 @@ returns-else-full-clause-complete c =
     let old = c.args.self.now.stages in
     let stages = c.self.inside.stages.items in
     let now : c.as_slice.result.now ≡ set old c.args.processor Here =
-        c.as_slice.ensures
-            ∙ read_set c.args.processor Here stages c.deref_mut.result.now old c.deref_mut.ensures.value
-                (ap (λ (b : Episodes). b.stages) c.self.view_is) in
+    c.as_slice.ensures
+    ∙ read_set c.args.processor Here stages c.deref_mut.result.now old c.deref_mut.ensures.value
+    (ap (λ (b : Episodes). b.stages) c.self.view_is) in
     let full = c.all_here-full.ensures ∙ ap (λ (ss : List Stage). list_all is_here ss) now in
     let law = last_arrival old c.args.processor c.requires.away in
     (λ e. law.0 (sym full ∙ e), λ e. full ∙ law.1 e)
@@ -42,19 +57,22 @@ returns-else-full-clause-gathers c times has =
     let Had : Episodes → Type 0 = λ b. HasGathered b times in
     let IsAway : Episodes → Type 0 = λ b. slice_get b.stages p ≡ Some Away in
     let gathered =
-        gathered-more old p time times (subst IsAway (sym c.self.view_is) c.requires.away)
-            (subst Had (sym c.self.view_is) has) in
+    gathered-more old p time times (subst IsAway (sym c.self.view_is) c.requires.away)
+    (subst Had (sym c.self.view_is) has) in
     let Stages : List Stage → Type 0 =
-        λ ss. HasGathered (record { stages = ss; gathered = join i.gathered time; last = i.last })
-            (times ++ time ∷ []) in
+    λ ss. HasGathered (record { stages = ss; gathered = join i.gathered time; last = i.last })
+    (times ++ time ∷ []) in
     let staged =
-        subst Stages
-            (sym (read_set p Here old.stages c.deref_mut.result.now old.stages c.deref_mut.ensures.value refl))
-            gathered in
+    subst Stages
+    (sym (read_set p Here old.stages c.deref_mut.result.now old.stages c.deref_mut.ensures.value refl))
+    gathered in
     let new : List ℕ → Episodes =
-        λ g. record { stages = refill (length old.stages) old.stages (set c.deref_mut.result.now p Here);
-                gathered = g; last = i.last }
-            in
+    λ g. record {
+      stages = refill (length old.stages) old.stages (set c.deref_mut.result.now p Here);
+      gathered = g;
+      last = i.last;
+    }
+    in
     let Joined : List ℕ → Type 0 = λ g. HasGathered (new g) (times ++ time ∷ []) in
     let Answered : Bool → Type 0 = λ full. Gathers full (new c.join.new.self) time times in
     subst Answered (sym c.if-full.false) (subst Joined (sym c.join.ensures.value) staged)

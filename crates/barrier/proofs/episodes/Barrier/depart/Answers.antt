@@ -12,9 +12,9 @@ returns-clause-gathers c times has =
     let Had : Episodes → Type 0 = λ b. HasGathered b times in
     let IsFree : Episodes → Type 0 = λ b. slice_get b.stages c.args.processor ≡ Some Free in
     let gathered =
-        gathered-departed old c.args.processor times (subst IsFree (sym c.self.view_is) c.requires)
-            (subst Had (sym c.self.view_is) has) in
+    gathered-departed old c.args.processor times (subst IsFree (sym c.self.view_is) c.requires)
+    (subst Had (sym c.self.view_is) has) in
     let Gathered : List Stage → Type 0 = λ ss. HasGathered (record old { stages = ss }) times in
     subst Gathered (sym (read_set c.args.processor Away old.stages c.deref_mut.result.now old.stages
-                c.deref_mut.ensures.value refl))
-        gathered
+    c.deref_mut.ensures.value refl))
+    gathered

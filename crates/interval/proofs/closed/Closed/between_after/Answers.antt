@@ -11,7 +11,7 @@ returns-clause-in_order c =
       | then-covers+then-not-covers+in_ok-send w ↦
           let sent = ap (λ v. v.items) w.sent-is ∙ w.in_ok-send.ensures in
           after_in_order c.self.inside.queues.items c.self.inside.pushed c.args.self.now c.args.interval.now
-              c.args.old.now c.args.new.now c.in_ok-sent.sent.items c.if-covers.sent.items
+          c.args.old.now c.args.new.now c.in_ok-sent.sent.items c.if-covers.sent.items
           c.self.view_is c.self.invariant c.requires.pages c.in_ok-sent.ensures.value sent
       | else-covers w ↦ subst P (ap (λ v. v.items) (sym w.sent-is)) c.in_ok-sent.ensures.in_order
     ]

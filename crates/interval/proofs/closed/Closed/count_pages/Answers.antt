@@ -16,17 +16,17 @@ count_pages-requires-clause-room c =
     let zeros : (i : ℕ) → i < length c.fill.new.self → slice_index c.fill.new.self i ≡ 0 = λ i inside.
     let long = c.fill.ensures.len in
     ap (λ (ns : List ℕ). slice_index ns i) (c.fill.ensures.after (λ y e. e))
-        ∙ get_or-replicate (length c.args.counts.now) i 0 0 (omega arith) in
+    ∙ get_or-replicate (length c.args.counts.now) i 0 0 (omega arith) in
     let all =
-        news_room queues items c.self.inside.pushed c.args.self.now c.args.base old new c.fill.new.self
-            c.deref-queue-items.ensures.value c.self.view_is c.self.invariant (omega arith) zeros in
+    news_room queues items c.self.inside.pushed c.args.self.now c.args.base old new c.fill.new.self
+    c.deref-queue-items.ensures.value c.self.view_is c.self.invariant (omega arith) zeros in
     let room =
-        room_more c.args.base (news_pages old new) items c.loop-owner.owner c.queue-item.result c.fill.new.self
-            c.loop-owner.counts c.loop-owner-test.true c.queue-item.is all c.loop-owner.invariant in
+    room_more c.args.base (news_pages old new) items c.loop-owner.owner c.queue-item.result c.fill.new.self
+    c.loop-owner.counts c.loop-owner-test.true c.queue-item.is all c.loop-owner.invariant in
     let read = news_read queues items c.self.inside.pushed old new c.loop-owner.owner c.entry.result
-        c.entry-in-loop-owner.result c.queue-item.result
+    c.entry-in-loop-owner.result c.queue-item.result
     c.deref-queue-items.ensures.value c.self.invariant c.loop-owner-test.true c.queue-item.is c.entry.ensures
-        c.entry-in-loop-owner.ensures in
+    c.entry-in-loop-owner.ensures in
     let Room : List ℕ → Type 0 = λ ps. HasRoom c.args.base ps c.loop-owner.counts in
     subst Room read room
 
@@ -36,12 +36,12 @@ loop-owner-preserved c =
     let new = c.args.new.now in
     let items = c.deref-queue-items.result.now in
     let read = news_read c.self.inside.queues.items items c.self.inside.pushed old new c.loop-owner.owner
-        c.entry.result c.entry-in-loop-owner.result c.queue-item.result
+    c.entry.result c.entry-in-loop-owner.result c.queue-item.result
     c.deref-queue-items.ensures.value c.self.invariant c.loop-owner-test.true c.queue-item.is c.entry.ensures
-        c.entry-in-loop-owner.ensures in
+    c.entry-in-loop-owner.ensures in
     let Counted : List ℕ → Type 0 = λ ps. AreCounted c.args.base ps c.loop-owner.counts c.count_pages.new.counts in
     counted_more c.args.base (news_pages old new) items c.loop-owner.owner c.queue-item.result c.fill.new.self
-        c.loop-owner.counts c.count_pages.new.counts
+    c.loop-owner.counts c.count_pages.new.counts
     c.loop-owner-test.true c.queue-item.is c.loop-owner.invariant (subst Counted (sym read) c.count_pages.ensures)
 
 pub returns-clause-each : goal.returns-clause-each
@@ -53,13 +53,13 @@ returns-clause-each c i inside =
     let long = c.loop-owner.invariant.long in
     let filled = c.fill.ensures.len in
     let none : slice_index c.fill.new.self i ≡ 0 =
-        ap (λ (ns : List ℕ). slice_index ns i) (c.fill.ensures.after (λ y e. e))
-            ∙ get_or-replicate (length c.args.counts.now) i 0 0 (omega arith) in
+    ap (λ (ns : List ℕ). slice_index ns i) (c.fill.ensures.after (λ y e. e))
+    ∙ get_or-replicate (length c.args.counts.now) i 0 0 (omega arith) in
     let now = c.loop-owner.invariant.each i (omega arith) in
     let all =
-        ap (λ (qs : List Queue). count_by (λ (p : ℕ). p == n) (flat_map (news_pages old new) qs))
-            (take_all c.loop-owner.owner items (omega arith)) in
+    ap (λ (qs : List Queue). count_by (λ (p : ℕ). p == n) (flat_map (news_pages old new) qs))
+    (take_all c.loop-owner.owner items (omega arith)) in
     let total =
-        news_total c.self.inside.queues.items items c.self.inside.pushed c.args.self.now old new n
-            c.deref-queue-items.ensures.value c.self.view_is c.self.invariant in
+    news_total c.self.inside.queues.items items c.self.inside.pushed c.args.self.now old new n
+    c.deref-queue-items.ensures.value c.self.view_is c.self.invariant in
     omega arith

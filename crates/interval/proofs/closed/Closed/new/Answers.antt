@@ -9,7 +9,7 @@ loop-init c = rw c.in_ok-queues.ensures.items (record { none = refl; first = ref
 pub loop-preserved : goal.loop-preserved
 loop-preserved c =
     rw c.in_ok-push.ensures.items (one_more_empty c.loop.counter c.loop.queues.items c.new.result c.new.ensures.first
-            c.new.ensures.kept c.loop.invariant)
+    c.new.ensures.kept c.loop.invariant)
 
 all : (c : goal.After-loop) → c.loop.counter ≡ c.args.owners
 all c = omega arith

@@ -7,28 +7,28 @@ use Rattle.interval.proofs.closed.Closed.push.Goals as goal
 
 comes : (c : goal.After-self-2-1)
     → Comes c.self.inside.queues.items c.self.inside.pushed c.interval.inside.owner c.index_mut.result.now
-        (record { place = c.self.inside.pushed; interval = c.args.interval })
+    (record { place = c.self.inside.pushed; interval = c.args.interval })
 comes c =
     comes_next c.self.inside.queues.items c.self.inside.pushed c.args.self.now c.args.interval c.interval.inside.owner
-        c.index_mut.result.now
+    c.index_mut.result.now
     c.self.view_is (ap (λ (i : ClosedInterval). i.owner) c.interval.view_is) c.requires.owner c.requires.number
-        c.requires.pages c.index_mut.ensures.value
+    c.requires.pages c.index_mut.ensures.value
 
 pub invariant_of-self-2 : goal.invariant_of-self-2
 invariant_of-self-2 c =
     let are =
-        are_pushed c.self.inside.queues.items c.self.inside.pushed c.interval.inside.owner c.index_mut.result.now
-            (record { place = c.self.inside.pushed; interval = c.args.interval }) c.self.invariant (comes c) in
+    are_pushed c.self.inside.queues.items c.self.inside.pushed c.interval.inside.owner c.index_mut.result.now
+    (record { place = c.self.inside.pushed; interval = c.args.interval }) c.self.invariant (comes c) in
     rw c.in_ok-push.ensures.ok are
 
 pub returns-clause-ok : goal.returns-clause-ok
 returns-clause-ok c =
     let done = closings_pushed c.self.inside.queues.items c.self.inside.pushed c.args.self.now c.args.interval
-        c.interval.inside.owner c.index_mut.result.now
+    c.interval.inside.owner c.index_mut.result.now
     c.self.view_is (ap (λ (i : ClosedInterval). i.owner) c.interval.view_is) c.self.invariant (comes c) in
     rw c.in_ok-push.ensures.ok done
 
 pub returns-clause-same_news : goal.returns-clause-same_news
 returns-clause-same_news c = λ old new uncovered.
     ap (λ (v : Closings). between v old new) (returns-clause-ok c)
-        ∙ between-pushed c.args.self.now c.args.interval old new uncovered
+    ∙ between-pushed c.args.self.now c.args.interval old new uncovered

@@ -11,54 +11,54 @@ returns-in_err-queue c =
     let past : length c.self.inside.queues.items ≤ c.args.notice.now.owner = omega arith in
     let none = none_of c.self.inside.queues.items c.self.inside.pushed c.args.notice.now c.self.invariant past in
     ap option_copied c.from_residual.ensures
-        ∙ sym (record_found c.self.inside.queues.items c.self.inside.pushed c.args.self.now c.args.notice.now None
-                c.self.view_is none)
+    ∙ sym (record_found c.self.inside.queues.items c.self.inside.pushed c.args.self.now c.args.notice.now None
+    c.self.view_is none)
 
 pub returns-then-notice-first : goal.returns-then-notice-first
 returns-then-notice-first c =
     let look = c.in_ok-queue.ensures.lookup in
     let owned =
-        queue_read c.self.inside.queues.items c.deref.result.now c.args.notice.now.owner c.in_ok-queue.queue.now
-            c.deref.ensures.value look.3.0 look.1 in
+    queue_read c.self.inside.queues.items c.deref.result.now c.args.notice.now.owner c.in_ok-queue.queue.now
+    c.deref.ensures.value look.3.0 look.1 in
     let first = c.first.ensures in
     let test = c.if-notice-first.true in
     let below : c.args.notice.now.number < c.in_ok-queue.queue.now.first = omega arith in
     let none =
-        none_below c.self.inside.queues.items c.self.inside.pushed c.args.notice.now c.in_ok-queue.queue.now
-            c.self.invariant owned below in
+    none_below c.self.inside.queues.items c.self.inside.pushed c.args.notice.now c.in_ok-queue.queue.now
+    c.self.invariant owned below in
     sym (record_found c.self.inside.queues.items c.self.inside.pushed c.args.self.now c.args.notice.now None
-            c.self.view_is none)
+    c.self.view_is none)
 
 pub returns-in_err-numbered : goal.returns-in_err-numbered
 returns-in_err-numbered c =
     let look = c.in_ok-queue.ensures.lookup in
     let owned =
-        queue_read c.self.inside.queues.items c.deref.result.now c.args.notice.now.owner c.in_ok-queue.queue.now
-            c.deref.ensures.value look.3.0 look.1 in
+    queue_read c.self.inside.queues.items c.deref.result.now c.args.notice.now.owner c.in_ok-queue.queue.now
+    c.deref.ensures.value look.3.0 look.1 in
     let first = c.first.ensures in
     let test = c.if-notice-first.false in
     let from : c.in_ok-queue.queue.now.first ≤ c.args.notice.now.number = omega arith in
     let none =
-        noticed_at c.self.inside.queues.items c.self.inside.pushed c.args.notice.now c.in_ok-queue.queue.now
-                c.self.invariant owned from
-            ∙ sym c.in_err-numbered.ensures in
+    noticed_at c.self.inside.queues.items c.self.inside.pushed c.args.notice.now c.in_ok-queue.queue.now
+    c.self.invariant owned from
+    ∙ sym c.in_err-numbered.ensures in
     ap option_copied c.from_residual-in_err-numbered.ensures
-        ∙ sym (record_found c.self.inside.queues.items c.self.inside.pushed c.args.self.now c.args.notice.now None
-                c.self.view_is none)
+    ∙ sym (record_found c.self.inside.queues.items c.self.inside.pushed c.args.self.now c.args.notice.now None
+    c.self.view_is none)
 
 pub returns : goal.returns
 returns c =
     let look = c.in_ok-queue.ensures.lookup in
     let owned =
-        queue_read c.self.inside.queues.items c.deref.result.now c.args.notice.now.owner c.in_ok-queue.queue.now
-            c.deref.ensures.value look.3.0 look.1 in
+    queue_read c.self.inside.queues.items c.deref.result.now c.args.notice.now.owner c.in_ok-queue.queue.now
+    c.deref.ensures.value look.3.0 look.1 in
     let first = c.first.ensures in
     let test = c.if-notice-first.false in
     let from : c.in_ok-queue.queue.now.first ≤ c.args.notice.now.number = omega arith in
     let found =
-        noticed_at c.self.inside.queues.items c.self.inside.pushed c.args.notice.now c.in_ok-queue.queue.now
-                c.self.invariant owned from
-            ∙ sym c.in_ok-numbered.ensures in
+    noticed_at c.self.inside.queues.items c.self.inside.pushed c.args.notice.now c.in_ok-queue.queue.now
+    c.self.invariant owned from
+    ∙ sym c.in_ok-numbered.ensures in
     c.record.ensures
-        ∙ sym (record_found c.self.inside.queues.items c.self.inside.pushed c.args.self.now c.args.notice.now
-                (Some c.in_ok-numbered.field-0.now) c.self.view_is found)
+    ∙ sym (record_found c.self.inside.queues.items c.self.inside.pushed c.args.self.now c.args.notice.now
+    (Some c.in_ok-numbered.field-0.now) c.self.view_is found)

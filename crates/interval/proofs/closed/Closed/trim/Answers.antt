@@ -8,19 +8,19 @@ use Rattle.interval.proofs.closed.Closed.trim.Goals as goal
 owned : (c : goal.After-self-1) → slice_get c.self.inside.queues.items c.args.owner ≡ Some c.index_mut.result.now
 owned c =
     owned_queue c.self.inside.queues.items c.self.inside.pushed c.args.self.now c.args.owner c.index_mut.result.now
-        c.self.view_is c.requires c.index_mut.ensures.value
+    c.self.view_is c.requires c.index_mut.ensures.value
 
 pub invariant_of-self : goal.invariant_of-self
 invariant_of-self c =
     rw c.trim.ensures (are_trimmed c.self.inside.queues.items c.self.inside.pushed c.args.owner c.index_mut.result.now
-            c.args.to c.self.invariant (owned c))
+    c.args.to c.self.invariant (owned c))
 
 pub returns-clause-value : goal.returns-clause-value
 returns-clause-value c =
     rw c.trim.ensures (closings_trimmed c.self.inside.queues.items c.self.inside.pushed c.args.self.now c.args.owner
-            c.index_mut.result.now c.args.to c.self.view_is c.self.invariant (owned c))
+    c.index_mut.result.now c.args.to c.self.view_is c.self.invariant (owned c))
 
 pub returns-clause-same_news : goal.returns-clause-same_news
 returns-clause-same_news c = λ old new performed.
     ap (λ (v : Closings). between v old new) (returns-clause-value c)
-        ∙ between-trimmed c.args.self.now c.args.owner c.args.to old new performed
+    ∙ between-trimmed c.args.self.now c.args.owner c.args.to old new performed

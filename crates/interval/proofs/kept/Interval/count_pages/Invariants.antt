@@ -9,4 +9,4 @@ use Rattle.interval.proofs.kept.Interval.count_pages.Given as goal
 abbrev pub invariant-loop-record : goal.invariant-loop-record
 invariant-loop-record l =
     AreCounted l.base (flat_map (λ (r : Changes). r.page ∷ []) (take l.record-index (map arc_value l.record-items)))
-        l.initial.counts l.counts
+    l.initial.counts l.counts

@@ -12,25 +12,25 @@ loop-record-init c = ap (find (λ (r : Changes). r.page == c.args.page)) c.share
 pub returns-then-page : goal.returns-then-page
 returns-then-page c =
     let step =
-        find_more arc_value (λ (r : Changes). r.page == c.args.page) c.shared_records-record-items.result.now
-            c.loop-record.record-index c.record-item.result c.loop-record-test.true c.record-item.is in
+    find_more arc_value (λ (r : Changes). r.page == c.args.page) c.shared_records-record-items.result.now
+    c.loop-record.record-index c.record-item.result c.loop-record-test.true c.record-item.is in
     let same = c.deref-record.ensures in
     let page : (arc_value c.record-item.result).page ≡ c.args.page =
-        ap (λ (r : Changes). r.page) (sym same) ∙ sym c.page.ensures ∙ c.if-page.true in
+    ap (λ (r : Changes). r.page) (sym same) ∙ sym c.page.ensures ∙ c.if-page.true in
     ap Some same ∙ sym (cond-true _ _ _ (eq-eqb _ _ page)) ∙ sym step ∙ c.loop-record.invariant
 
 pub loop-record-preserved : goal.loop-record-preserved
 loop-record-preserved c =
     let step =
-        find_more arc_value (λ (r : Changes). r.page == c.args.page) c.shared_records-record-items.result.now
-            c.loop-record.record-index c.record-item.result c.loop-record-test.true c.record-item.is in
+    find_more arc_value (λ (r : Changes). r.page == c.args.page) c.shared_records-record-items.result.now
+    c.loop-record.record-index c.record-item.result c.loop-record-test.true c.record-item.is in
     let same = c.deref-record.ensures in
     let other : (arc_value c.record-item.result).page ≡ c.args.page → ⊥ =
-        λ e. c.if-page.false (c.page.ensures ∙ ap (λ (r : Changes). r.page) same ∙ e) in
+    λ e. c.if-page.false (c.page.ensures ∙ ap (λ (r : Changes). r.page) same ∙ e) in
     sym (cond-false _ _ _ (ne_eqb _ _ other)) ∙ sym step ∙ c.loop-record.invariant
 
 pub returns : goal.returns
 returns c =
     let none =
-        drop_all c.loop-record.record-index c.shared_records-record-items.result.now c.loop-record-test.false in
+    drop_all c.loop-record.record-index c.shared_records-record-items.result.now c.loop-record-test.false in
     ap (λ ys. find (λ (r : Changes). r.page == c.args.page) (map arc_value ys)) (sym none) ∙ c.loop-record.invariant

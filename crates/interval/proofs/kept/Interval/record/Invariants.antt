@@ -7,4 +7,4 @@ use Rattle.interval.proofs.kept.Interval.record.Given as goal
 abbrev pub invariant-loop-record : goal.invariant-loop-record
 invariant-loop-record l =
     find (λ (r : Changes). r.page == l.page) (map arc_value (drop l.record-index l.record-items))
-        ≡ find (λ (r : Changes). r.page == l.page) l.self.records
+    ≡ find (λ (r : Changes). r.page == l.page) l.self.records

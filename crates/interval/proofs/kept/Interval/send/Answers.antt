@@ -11,10 +11,10 @@ loop-record-init c = sym (append-nil c.args.sent.now.items)
 pub loop-record-preserved : goal.loop-record-preserved
 loop-record-preserved c =
     let more =
-        pushed_more arc_value (sent_record (record { place = c.args.place; interval = c.args.self.now }))
-            c.shared_records-record-items.result.now c.loop-record.record-index c.record-item.result
-            c.args.sent.now.items c.loop-record.sent.items c.loop-record-test.true c.record-item.is
-            c.loop-record.invariant in
+    pushed_more arc_value (sent_record (record { place = c.args.place; interval = c.args.self.now }))
+    c.shared_records-record-items.result.now c.loop-record.record-index c.record-item.result
+    c.args.sent.now.items c.loop-record.sent.items c.loop-record-test.true c.record-item.is
+    c.loop-record.invariant in
     cc (more, c.in_ok-push.ensures.items, c.in_ok-announced.ensures)
 
 pub returns : goal.returns
@@ -22,6 +22,6 @@ returns c =
     let all = take_all c.loop-record.record-index c.shared_records-record-items.result.now c.loop-record-test.false in
     let records = ap (map arc_value) all ∙ c.shared_records-record-items.ensures in
     c.loop-record.invariant
-        ∙ ap (λ rs. c.args.sent.now.items
-                ++ map (sent_record (record { place = c.args.place; interval = c.args.self.now })) rs)
-            records
+    ∙ ap (λ rs. c.args.sent.now.items
+    ++ map (sent_record (record { place = c.args.place; interval = c.args.self.now })) rs)
+    records

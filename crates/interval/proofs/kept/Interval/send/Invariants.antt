@@ -7,6 +7,6 @@ use Rattle.interval.proofs.kept.Interval.send.Given as goal
 abbrev pub invariant-loop-record : goal.invariant-loop-record
 invariant-loop-record l =
     l.sent.items
-        ≡ l.initial.sent.items
-            ++ map (sent_record (record { place = l.place; interval = l.self }))
-                (map arc_value (take l.record-index l.record-items))
+    ≡ l.initial.sent.items
+    ++ map (sent_record (record { place = l.place; interval = l.self }))
+    (map arc_value (take l.record-index l.record-items))

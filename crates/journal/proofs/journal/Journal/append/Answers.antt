@@ -22,14 +22,14 @@ invariant_of-self c =
       few_processors = held.few_processors;
       opening =
           subst (λ (xs : List Event). IsOpening j.processors (take j.processors xs)) (sym items)
-              (opening_longer j.processors j.events.items (c.args.event ∷ []) le held.opening);
+          (opening_longer j.processors j.events.items (c.args.event ∷ []) le held.opening);
       by_processors =
           subst (ProcessorsInRange j.processors) (sym items) (processors_push j.processors j.events.items c.args.event
-                  held.by_processors (subst (λ (l : Log). c.args.event.processor < l.processors) (sym c.self.view_is)
-                      c.requires.processor));
+          held.by_processors (subst (λ (l : Log). c.args.event.processor < l.processors) (sym c.self.view_is)
+          c.requires.processor));
       in_range =
           subst (AddressesInRange j.addresses) (sym items) (addresses_push j.addresses j.events.items c.args.event
-                  held.in_range (subst (λ (l : Log). AddressInRange l.addresses c.args.event.kind)
-                      (sym c.self.view_is) c.requires.address));
+          held.in_range (subst (λ (l : Log). AddressInRange l.addresses c.args.event.kind)
+          (sym c.self.view_is) c.requires.address));
       kept = held.kept;
     }

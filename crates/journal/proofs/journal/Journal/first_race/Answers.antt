@@ -1,5 +1,18 @@
 use Rattle.std.proofs.Common.{
-    ◌≡◌, ℕ, List, Option, Some, None, IfOk, MatchOption, IfSome, length, take, subst, ap, ◌∙◌
+  ◌≡◌,
+  ℕ,
+  List,
+  Option,
+  Some,
+  None,
+  IfOk,
+  MatchOption,
+  IfSome,
+  length,
+  take,
+  subst,
+  ap,
+  ◌∙◌,
 }
 use Rattle.std.proofs.Math.Seq.{take-length}
 use Rattle.std.proofs.lemmas.Result.{IfOk-weaker}
@@ -18,10 +31,10 @@ pub returns-clause-first : goal.returns-clause-first
 returns-clause-first c =
     let log = c.args.self.now in
     let whole : take c.len.result log.events ≡ log.events =
-        ap (λ n. take n log.events) c.len.ensures.value ∙ take-length log.events in
+    ap (λ n. take n log.events) c.len.ensures.value ∙ take-length log.events in
     subst (λ (xs : List Event). IfOk c.race_before.result
-            (λ o. MatchOption o (RaceFreeFrom log.base xs) (λ r. IsFirstRaceFrom log.base xs r.0 r.1)))
-        whole c.race_before.ensures.race
+    (λ o. MatchOption o (RaceFreeFrom log.base xs) (λ r. IsFirstRaceFrom log.base xs r.0 r.1)))
+    whole c.race_before.ensures.race
 
 -- up to the second event of the first race an explained journal replays
 flat_before : (b : Base) (events : List Event) → AddressesInRange (length b.memory) events → (o : Option (ℕ × ℕ))
@@ -35,7 +48,7 @@ pub returns-clause-flat : goal.returns-clause-flat
 returns-clause-flat c =
     let log = c.args.self.now in
     IfOk-weaker c.race_before.result
-        (λ o. MatchOption o (RaceFreeFrom log.base log.events) (λ r. IsFirstRaceFrom log.base log.events r.0 r.1))
-        (λ o. IfSome o (λ r. ExplainedFrom log.base log.events → Replays log.base.memory (take r.1 log.events)))
+    (λ o. MatchOption o (RaceFreeFrom log.base log.events) (λ r. IsFirstRaceFrom log.base log.events r.0 r.1))
+    (λ o. IfSome o (λ r. ExplainedFrom log.base log.events → Replays log.base.memory (take r.1 log.events)))
     (flat_before log.base log.events c.race_before.ensures.in_range)
     (returns-clause-first c)

@@ -9,14 +9,14 @@ use Rattle.journal.proofs.journal.Journal.race_before.Goals.{then-self-eq0, else
 pub first_race_of-requires-clause-addresses : goal.first_race_of-requires-clause-addresses
 first_race_of-requires-clause-addresses c =
     rw c.deref.ensures.value (addresses_part c.self.inside.addresses c.if-self-eq0.first
-            (c.self.inside.processors + c.args.count - c.if-self-eq0.first) c.self.inside.events.items
-            c.self.invariant.in_range)
+    (c.self.inside.processors + c.args.count - c.if-self-eq0.first) c.self.inside.events.items
+    c.self.invariant.in_range)
 
 pub first_race_of-requires-clause-processors : goal.first_race_of-requires-clause-processors
 first_race_of-requires-clause-processors c =
     rw c.deref.ensures.value (processors_part c.self.inside.processors c.if-self-eq0.first
-            (c.self.inside.processors + c.args.count - c.if-self-eq0.first) c.self.inside.events.items
-            c.self.invariant.by_processors)
+    (c.self.inside.processors + c.args.count - c.if-self-eq0.first) c.self.inside.events.items
+    c.self.invariant.by_processors)
 
 pub returns-in_err-first-clause-in_range : goal.returns-in_err-first-clause-in_range
 returns-in_err-first-clause-in_range c = in_base c.self.inside c.self.invariant c.args.self.now c.self.view_is
@@ -31,10 +31,12 @@ pub returns-in-None-clause-race : goal.returns-in-None-clause-race
 returns-in-None-clause-race c =
     let j = c.self.inside in
     let here =
-        checked j c.self.invariant c.if-self-eq0.first c.args.count c.deref.result.now c.deref.ensures.value (elim
-                c.if-self-eq0.branch [ then-self-eq0 w ↦ inl (w.if-self-eq0.true, w.first-is)
-                    | else-self-eq0 w ↦ inr (w.if-self-eq0.false, w.first-is) ])
-            in
+    checked j c.self.invariant c.if-self-eq0.first c.args.count c.deref.result.now c.deref.ensures.value (elim
+    c.if-self-eq0.branch [
+      | then-self-eq0 w ↦ inl (w.if-self-eq0.true, w.first-is)
+      | else-self-eq0 w ↦ inr (w.if-self-eq0.false, w.first-is)
+    ])
+    in
     let none = rw c.in-None.is at c.in_ok-first.ensures in
     subst (λ (l : Log). RaceFreeFrom l.base (take c.args.count l.events)) c.self.view_is (free_from _ _ _ _ here none)
 
@@ -42,10 +44,12 @@ pub overflow_sub-result : goal.overflow_sub-result
 overflow_sub-result c =
     let j = c.self.inside in
     let here =
-        checked j c.self.invariant c.if-self-eq0.first c.args.count c.deref.result.now c.deref.ensures.value (elim
-                c.if-self-eq0.branch [ then-self-eq0 w ↦ inl (w.if-self-eq0.true, w.first-is)
-                    | else-self-eq0 w ↦ inr (w.if-self-eq0.false, w.first-is) ])
-            in
+    checked j c.self.invariant c.if-self-eq0.first c.args.count c.deref.result.now c.deref.ensures.value (elim
+    c.if-self-eq0.branch [
+      | then-self-eq0 w ↦ inl (w.if-self-eq0.true, w.first-is)
+      | else-self-eq0 w ↦ inr (w.if-self-eq0.false, w.first-is)
+    ])
+    in
     let some = rw c.in-Some.is at c.in_ok-first.ensures in
     (first_from _ _ _ _ here _ _ some).0
 
@@ -53,10 +57,12 @@ pub overflow_sub-result-in-Some : goal.overflow_sub-result-in-Some
 overflow_sub-result-in-Some c =
     let j = c.self.inside in
     let here =
-        checked j c.self.invariant c.if-self-eq0.first c.args.count c.deref.result.now c.deref.ensures.value (elim
-                c.if-self-eq0.branch [ then-self-eq0 w ↦ inl (w.if-self-eq0.true, w.first-is)
-                    | else-self-eq0 w ↦ inr (w.if-self-eq0.false, w.first-is) ])
-            in
+    checked j c.self.invariant c.if-self-eq0.first c.args.count c.deref.result.now c.deref.ensures.value (elim
+    c.if-self-eq0.branch [
+      | then-self-eq0 w ↦ inl (w.if-self-eq0.true, w.first-is)
+      | else-self-eq0 w ↦ inr (w.if-self-eq0.false, w.first-is)
+    ])
+    in
     let some = rw c.in-Some.is at c.in_ok-first.ensures in
     (first_from _ _ _ _ here _ _ some).1
 
@@ -65,11 +71,13 @@ returns-in-Some-clause-race c =
     let j = c.self.inside in
     let size = j.processors - c.if-self-eq0.first in
     let here =
-        checked j c.self.invariant c.if-self-eq0.first c.args.count c.deref.result.now c.deref.ensures.value (elim
-                c.if-self-eq0.branch [ then-self-eq0 w ↦ inl (w.if-self-eq0.true, w.first-is)
-                    | else-self-eq0 w ↦ inr (w.if-self-eq0.false, w.first-is) ])
-            in
+    checked j c.self.invariant c.if-self-eq0.first c.args.count c.deref.result.now c.deref.ensures.value (elim
+    c.if-self-eq0.branch [
+      | then-self-eq0 w ↦ inl (w.if-self-eq0.true, w.first-is)
+      | else-self-eq0 w ↦ inr (w.if-self-eq0.false, w.first-is)
+    ])
+    in
     let some = rw c.in-Some.is at c.in_ok-first.ensures in
     subst (λ (l : Log). IsFirstRaceFrom l.base (take c.args.count l.events) (c.in-Some.first - size)
-            (c.in-Some.second - size))
-        c.self.view_is (first_from _ _ _ _ here _ _ some).2
+    (c.in-Some.second - size))
+    c.self.view_is (first_from _ _ _ _ here _ _ some).2

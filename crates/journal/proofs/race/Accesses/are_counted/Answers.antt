@@ -10,11 +10,11 @@ returns-in-Load c =
     let lt = subst (λ k. AddressInRange (vec_len table) k) c.in-Load.is c.requires.stores in
     let inside : c.in-Load.address < length table.items = omega (arith, table.ok.0) in
     let read =
-        λ (q : ℕ). ap (λ xs. slice_index xs q)
-            (get_or_read table.items c.in-Load.address c.index.result.now inside c.index.ensures []) in
+    λ (q : ℕ). ap (λ xs. slice_index xs q)
+    (get_or_read table.items c.in-Load.address c.index.result.now inside c.index.ensures []) in
     let counted =
-        counted_load c.args.self.now c.args.event c.in-Load.address c.in-Load.field-1 (slice_index c.args.time.now)
-            c.in-Load.is in
+    counted_load c.args.self.now c.args.event c.in-Load.address c.in-Load.field-1 (slice_index c.args.time.now)
+    c.in-Load.is in
     let within = c.others_are_within.ensures in (
       λ t. counted.0 (λ q apart. (let le = within.0 t q apart in let same = read q in omega arith)),
       λ h. within.1 (λ q apart. (let le = counted.1 h q apart in let same = read q in omega arith)),
@@ -30,15 +30,15 @@ returns-then-others_are_within c =
     let inside : address < length stores.items = omega (arith, stores.ok.0) in
     let inside_loads : address < length loads.items = omega (arith, loads.ok.0) in
     let store =
-        λ (q : ℕ). ap (λ xs. slice_index xs q)
-            (get_or_read stores.items address c.index-in-Store.result.now inside c.index-in-Store.ensures []) in
+    λ (q : ℕ). ap (λ xs. slice_index xs q)
+    (get_or_read stores.items address c.index-in-Store.result.now inside c.index-in-Store.ensures []) in
     let load =
-        λ (q : ℕ). ap (λ xs. slice_index xs q) (get_or_read loads.items address
-                c.index-then-others_are_within.result.now inside_loads c.index-then-others_are_within.ensures [])
-            in
+    λ (q : ℕ). ap (λ xs. slice_index xs q) (get_or_read loads.items address
+    c.index-then-others_are_within.result.now inside_loads c.index-then-others_are_within.ensures [])
+    in
     let counted =
-        counted_store c.args.self.now c.args.event address c.in-Store.field-1 (slice_index c.args.time.now)
-            c.in-Store.is in
+    counted_store c.args.self.now c.args.event address c.in-Store.field-1 (slice_index c.args.time.now)
+    c.in-Store.is in
     let in_stores = c.others_are_within-in-Store.ensures.0 c.if-others_are_within.true in
     let in_loads = c.others_are_within-then-others_are_within.ensures in (
       λ t. counted.0 (
@@ -54,12 +54,12 @@ returns-else-others_are_within c =
     let lt = subst (λ k. AddressInRange (vec_len stores) k) c.in-Store.is c.requires.stores in
     let inside : c.in-Store.address < length stores.items = omega (arith, stores.ok.0) in
     let store =
-        λ (q : ℕ). ap (λ xs. slice_index xs q) (get_or_read stores.items c.in-Store.address
-                c.index-in-Store.result.now inside c.index-in-Store.ensures [])
-            in
+    λ (q : ℕ). ap (λ xs. slice_index xs q) (get_or_read stores.items c.in-Store.address
+    c.index-in-Store.result.now inside c.index-in-Store.ensures [])
+    in
     let counted =
-        counted_store c.args.self.now c.args.event c.in-Store.address c.in-Store.field-1 (slice_index c.args.time.now)
-            c.in-Store.is in
+    counted_store c.args.self.now c.args.event c.in-Store.address c.in-Store.field-1 (slice_index c.args.time.now)
+    c.in-Store.is in
     let within = c.others_are_within-in-Store.ensures in (
       λ t. absurd (cc (t, c.if-others_are_within.false)),
       λ h. within.1 (λ q apart. (let le = (counted.1 h).0 q apart in let same = store q in omega arith)),

@@ -10,7 +10,7 @@ returns-else-first-len c = λ j table.
     let row = c.in-Some.row.now in
     let at = slice_get-get_or c.deref.result.now c.args.second row found.3.0 ∙ ap Some (sym found.1) in
     let theirs =
-        table.rows c.args.second row (subst (λ xs. slice_get xs c.args.second ≡ Some row) c.deref.ensures.value at) in
+    table.rows c.args.second row (subst (λ xs. slice_get xs c.args.second ≡ Some row) c.deref.ensures.value at) in
     let over = c.if-first-len.false in
     let long = theirs.long in
     let len = c.len.ensures in (

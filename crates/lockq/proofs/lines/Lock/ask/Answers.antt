@@ -26,7 +26,7 @@ invariant_of-self-2 c =
     let fits = subst Fits (sym c.self.view_is) c.requires.processor in
     let held : k.holder ≢ None = λ e. false≢true (ap is_some (sym e) ∙ c.if-is_none.ensures) in
     rw c.push_back_reserved.ensures.items
-        (orderly-queued (length i.time) k c.args.processor c.self.invariant.0 held apart fits, omega arith)
+    (orderly-queued (length i.time) k c.args.processor c.self.invariant.0 held apart fits, omega arith)
 
 pub returns-clause-due : goal.returns-clause-due
 returns-clause-due c = (

@@ -11,14 +11,16 @@ invariant_of-self c =
     let k : Lock = record { holder = i.holder; queue = i.queue.items; time = i.time } in
     let popped = c.pop_front-self-inside in
     let long : length c.args.time ≡ length i.time =
-        c.requires.long ∙ ap (λ (s : Lock). length s.time) (sym c.self.view_is) in
+    c.requires.long ∙ ap (λ (s : Lock). length s.time) (sym c.self.view_is) in
     let Orderly : ℕ → Type 0 = λ n. IsOrderly n k in
     let orderly = subst Orderly (sym long) c.self.invariant.0 in
     let left = popped.new.self in
     let none : popped.result ≡ None → left.items ≡ [] =
-        λ e. nil_from_length left.items (let both = MatchOption-at_none _ _ e popped.ensures.cases in omega arith) in
-    (orderly-passed (length c.args.time) k popped.result left.items c.args.time orderly popped.ensures.items none
-            refl, omega (arith, c.self.invariant.1))
+    λ e. nil_from_length left.items (let both = MatchOption-at_none _ _ e popped.ensures.cases in omega arith) in (
+      orderly-passed (length c.args.time) k popped.result left.items c.args.time orderly popped.ensures.items none
+          refl,
+      omega (arith, c.self.invariant.1),
+    )
 
 pub returns-clause-orderly : goal.returns-clause-orderly
 returns-clause-orderly c = (invariant_of-self c).0

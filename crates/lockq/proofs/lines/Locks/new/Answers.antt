@@ -8,6 +8,6 @@ pub invariant_of-result : goal.invariant_of-result
 invariant_of-result c l k at =
     let n = c.args.processors in
     let same =
-        slice_get-replicate_found c.loop.counter (unheld n) k l
-            (ap (λ (ks : List Lock). slice_get ks l) (sym c.loop.invariant) ∙ at) in
+    slice_get-replicate_found c.loop.counter (unheld n) k l
+    (ap (λ (ks : List Lock). slice_get ks l) (sym c.loop.invariant) ∙ at) in
     ap (λ (s : Lock). length s.time) (sym same) ∙ length-replicate n 0

@@ -8,6 +8,6 @@ returns-clause-long c =
     let items = c.self.inside.locks.items in
     ap (λ (s : Lock). length s.time) c.lock.view_is
     ∙ c.self.invariant c.args.lock c.index-lock.result.now (slice_get_read items (length items) c.args.lock
-            c.index-lock.result.now refl (let e = ap (λ (s : Locks). length s.locks) c.self.view_is in omega arith)
-            c.index-lock.ensures)
+    c.index-lock.result.now refl (let e = ap (λ (s : Locks). length s.locks) c.self.view_is in omega arith)
+    c.index-lock.ensures)
     ∙ ap (λ (s : Locks). s.processors) c.self.view_is

@@ -22,8 +22,8 @@ loop-processor-preserved c =
     let l = c.loop-processor in
     let k = lock_at l.locks c.args.lock in
     let long =
-        ap (λ (s : Locks). length s.locks) c.ask.ensures.locks
-            ∙ length-set l.locks.locks c.args.lock (asked k l.processor) in
+    ap (λ (s : Locks). length s.locks) c.ask.ensures.locks
+    ∙ length-set l.locks.locks c.args.lock (asked k l.processor) in
     let now : lock_at c.ask.new.self c.args.lock ≡ record k { queue = k.queue ++ l.processor ∷ [] } =
     ap (λ (s : Locks). lock_at s c.args.lock) c.ask.ensures.locks
     ∙ lock_at-with_lock l.locks c.args.lock (asked k l.processor) l.invariant.lock
@@ -36,5 +36,5 @@ loop-processor-preserved c =
       holder = ap (λ (s : Lock). s.holder) now ∙ l.invariant.holder;
       below =
           subst Below (sym now) (within-push (l.processor + 1) k.queue l.processor
-                  (λ q has. let lt = l.invariant.below q has in omega arith) (omega arith));
+          (λ q has. let lt = l.invariant.below q has in omega arith) (omega arith));
     }

@@ -7,5 +7,5 @@ use Rattle.lrc_script.proofs.display.InstructionsDisplay.fmt.Given as goal
 abbrev pub invariant-loop-instruction : goal.invariant-loop-instruction
 invariant-loop-instruction g l =
     IsPlainFormatter l.initial.f
-        → HasWritten g.W.Write.write_str_gives l.initial.f
-            (flat_map line_text (map instruction_line (take l.instruction-index l.instruction-items))) l.f
+    → HasWritten g.W.Write.write_str_gives l.initial.f
+    (flat_map line_text (map instruction_line (take l.instruction-index l.instruction-items))) l.f

@@ -7,6 +7,6 @@ use Rattle.lrc_script.proofs.display.ScriptDisplay.fmt.Given as goal
 abbrev pub invariant-loop-k : goal.invariant-loop-k
 invariant-loop-k g l =
     IsPlainFormatter l.initial.f
-        → HasWritten g.W.Write.write_str_gives l.initial.f
-            (flat_map line_text (section_lines 0 (map (λ section. section.items) (take l.k-counter l.section-items))))
-            l.f
+    → HasWritten g.W.Write.write_str_gives l.initial.f
+    (flat_map line_text (section_lines 0 (map (λ section. section.items) (take l.k-counter l.section-items))))
+    l.f

@@ -7,5 +7,5 @@ use Rattle.lrc_script.proofs.display.ShownDisplay.fmt.Given as goal
 abbrev pub invariant-loop-address : goal.invariant-loop-address
 invariant-loop-address g l =
     IsPlainFormatter l.initial.f
-        → HasWritten g.W.Write.write_str_gives l.initial.f (flat_map spaced (take l.address-index l.address-items))
-            l.f
+    → HasWritten g.W.Write.write_str_gives l.initial.f (flat_map spaced (take l.address-index l.address-items))
+    l.f

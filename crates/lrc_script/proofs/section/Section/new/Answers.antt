@@ -6,4 +6,4 @@ use Rattle.lrc_script.proofs.section.Section.new.Goals as goal
 pub invariant_of-result : goal.invariant_of-result
 invariant_of-result c =
     record
-        { follows = λ l lt. get_or-replicate 32 l false false lt ∙ sym (ap (λ is. holds is l) c.new.ensures.items) }
+    { follows = λ l lt. get_or-replicate 32 l false false lt ∙ sym (ap (λ is. holds is l) c.new.ensures.items) }

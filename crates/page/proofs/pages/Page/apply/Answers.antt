@@ -9,7 +9,7 @@ index_mut-requires c =
     let k = c.loop-offset.offset-index in
     let at = slice_get-get_or xs k (0, 0) (omega arith) in
     let fits =
-        c.requires.in_range (get_or xs k (0, 0))
-            (k, ap (λ (ws : List (ℕ × ℕ)). slice_get ws k) (sym c.words-offset-items.ensures.words) ∙ at) in
+    c.requires.in_range (get_or xs k (0, 0))
+    (k, ap (λ (ws : List (ℕ × ℕ)). slice_get ws k) (sym c.words-offset-items.ensures.words) ∙ at) in
     let e = ap (λ (q : Contents). length q.words) c.self.view_is in
     omega (arith, c.loop-offset.invariant.long, c.loop-offset.self-inside.words.small)

@@ -10,7 +10,7 @@ invariant_of-self c =
     let n = length p.words.items in
     let within : c.args.offset < n = let e = ap (λ (q : Contents). length q.words) c.self.view_is in omega arith in
     rw (length-set p.words.items c.args.offset c.args.value)
-        (c.self.invariant.0, IsBelow-set n p.dirty c.args.offset within c.self.invariant.0 c.self.invariant.1)
+    (c.self.invariant.0, IsBelow-set n p.dirty c.args.offset within c.self.invariant.0 c.self.invariant.1)
 
 pub returns-clause-dirty : goal.returns-clause-dirty
 returns-clause-dirty c =
@@ -18,5 +18,5 @@ returns-clause-dirty c =
     let n = length p.words.items in
     let within : c.args.offset < n = let e = ap (λ (q : Contents). length q.words) c.self.view_is in omega arith in
     rw (length-set p.words.items c.args.offset c.args.value) (marks_of-set n p.dirty c.args.offset within
-                c.self.invariant.0
-            ∙ ap (λ (q : Contents). set q.dirty c.args.offset true) c.self.view_is)
+    c.self.invariant.0
+    ∙ ap (λ (q : Contents). set q.dirty c.args.offset true) c.self.view_is)
