@@ -1,31 +1,5 @@
 -- An episode is full exactly where as many are here as there are processors.
-use Rattle.std.proofs.Common.{
-  ℕ,
-  ◌≡◌,
-  ◌+◌,
-  ◌↔◌,
-  true,
-  cond,
-  nat_eq,
-  inl,
-  inr,
-  Some,
-  List,
-  [],
-  ◌∷◌,
-  ◌++◌,
-  length,
-  set,
-  drop,
-  replicate,
-  count_by,
-  slice_get,
-  refl,
-  sym,
-  ap,
-  ◌∙◌,
-  arith,
-}
+use Rattle.std.proofs.Common.{ℕ, ◌≡◌, ◌+◌, ◌↔◌, true, cond, nat_eq, inl, inr, Some, List, [], ◌∷◌, ◌++◌, length, set, drop, replicate, count_by, slice_get, refl, sym, ap, ◌∙◌, arith}
 use Rattle.std.specs.List.{list_all, refill}
 use Rattle.std.proofs.lemmas.Bool.{false≢true, cases_Bool, both_ways, eq-eqb, ne_eqb}
 use Rattle.std.proofs.lemmas.List.{length-set, length_push, take_at}

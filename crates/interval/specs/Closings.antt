@@ -1,26 +1,5 @@
 -- The closed intervals that are kept, as one list in closing order.
-use Rattle.std.specs.Prelude.{
-  ℕ,
-  ◌+◌,
-  ◌==◌,
-  ◌&&◌,
-  nat_lt,
-  nat_le,
-  not,
-  min,
-  max,
-  Bool,
-  Option,
-  List,
-  [],
-  ◌∷◌,
-  ◌++◌,
-  map,
-  filter,
-  find,
-  slice_index,
-  slice_set,
-}
+use Rattle.std.specs.Prelude.{ℕ, ◌+◌, ◌==◌, ◌&&◌, nat_lt, nat_le, not, min, max, Bool, Option, List, [], ◌∷◌, ◌++◌, map, filter, find, slice_index, slice_set}
 use Rattle.std.specs.List.{flat_map}
 use Rattle.std.specs.Option.{option_and_then}
 use Rattle.page.specs.Changes.{Changes}

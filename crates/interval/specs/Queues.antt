@@ -1,26 +1,5 @@
 -- How the kept intervals lie: one queue for each owner.
-use Rattle.std.specs.Prelude.{
-  ℕ,
-  ◌≡◌,
-  ◌+◌,
-  ◌-◌,
-  ◌<◌,
-  min,
-  max,
-  drop,
-  take,
-  nat_lt,
-  cond,
-  Option,
-  Some,
-  None,
-  List,
-  [],
-  ◌∷◌,
-  map,
-  length,
-  slice_get,
-}
+use Rattle.std.specs.Prelude.{ℕ, ◌≡◌, ◌+◌, ◌-◌, ◌<◌, min, max, drop, take, nat_lt, cond, Option, Some, None, List, [], ◌∷◌, map, length, slice_get}
 use Rattle.std.specs.List.{flat_map}
 use Rattle.lists.specs.Places.{Has, InOrder}
 use Rattle.interval.specs.declared.kept.Kept.{Kept}

@@ -1,35 +1,8 @@
 -- Words on single events and on lists of events.
-use Rattle.std.specs.Prelude.{
-  ℕ,
-  ◌≡◌,
-  ◌==◌,
-  Bool,
-  true,
-  false,
-  ◌&&◌,
-  Option,
-  Some,
-  None,
-  List,
-  filter,
-  count_by,
-  take,
-  slice_get,
-}
+use Rattle.std.specs.Prelude.{ℕ, ◌≡◌, ◌==◌, Bool, true, false, ◌&&◌, Option, Some, None, List, filter, count_by, take, slice_get}
 use Rattle.journal.specs.declared.event.Event.{Event}
 use Rattle.journal.specs.declared.event.Kind.{Kind}
-use Rattle.journal.specs.declared.event.Kind.TheVariants.{
-  Load,
-  Store,
-  Ask,
-  Acquire,
-  Release,
-  Arrive,
-  Depart,
-  Set,
-  Watch,
-  Await,
-}
+use Rattle.journal.specs.declared.event.Kind.TheVariants.{Load, Store, Ask, Acquire, Release, Arrive, Depart, Set, Watch, Await}
 
 -- the event e stands at place i
 abbrev pub At : List Event → ℕ → Event → Type 0

@@ -1,18 +1,5 @@
 -- Tables of what happens before what.
-use Rattle.std.specs.Prelude.{
-  ℕ,
-  ◌≡◌,
-  ◌↔◌,
-  Bool,
-  false,
-  IsTrue,
-  List,
-  Some,
-  length,
-  slice_get,
-  slice_index_or,
-  vec_len,
-}
+use Rattle.std.specs.Prelude.{ℕ, ◌≡◌, ◌↔◌, Bool, false, IsTrue, List, Some, length, slice_get, slice_index_or, vec_len}
 use Rattle.std.specs.Global.{Vec}
 use Rattle.journal.specs.declared.event.Event.{Event}
 use Rattle.journal.specs.declared.slow.ReachTable.{ReachTable}

@@ -2,19 +2,7 @@
 use Rattle.std.specs.Prelude.{ℕ, ◌≡◌, ◌≢◌, ◌+◌, ◌<◌, ◌≤◌, IsTrue, List, take}
 use Rattle.journal.specs.declared.event.Event.{Event}
 use Rattle.journal.specs.declared.event.Kind.{Kind}
-use Rattle.journal.specs.declared.event.Kind.TheVariants.{
-  Load,
-  Store,
-  Fetch,
-  Ask,
-  Acquire,
-  Release,
-  Arrive,
-  Depart,
-  Set,
-  Watch,
-  Await,
-}
+use Rattle.journal.specs.declared.event.Kind.TheVariants.{Load, Store, Fetch, Ask, Acquire, Release, Arrive, Depart, Set, Watch, Await}
 use Rattle.journal.specs.Did.{event}
 use Rattle.journal.specs.Sizes.{Sizes, addresses}
 use Rattle.journal.specs.Events.{At, count_of, is_arrive, is_depart, is_taking}

@@ -1,25 +1,5 @@
 -- Filters and searches by tests that agree, or that pass nothing.
-use Rattle.std.proofs.Common.{
-  suc,
-  ◌≡◌,
-  Bool,
-  true,
-  false,
-  cond,
-  inl,
-  inr,
-  Some,
-  None,
-  List,
-  [],
-  ◌∷◌,
-  filter,
-  find,
-  refl,
-  sym,
-  ap,
-  ◌∙◌,
-}
+use Rattle.std.proofs.Common.{suc, ◌≡◌, Bool, true, false, cond, inl, inr, Some, None, List, [], ◌∷◌, filter, find, refl, sym, ap, ◌∙◌}
 use Rattle.std.proofs.lemmas.Bool.{cases_Bool, cond-true, cond-false, both_ways}
 use Rattle.lists.specs.Places.{Has}
 

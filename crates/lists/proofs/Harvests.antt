@@ -1,39 +1,5 @@
 -- The dirty words of a page are the record of the writes that made them.
-use Rattle.std.proofs.Common.{
-  ℕ,
-  zero,
-  suc,
-  ◌+◌,
-  ◌≡◌,
-  ◌<◌,
-  ◌⊎◌,
-  inl,
-  inr,
-  List,
-  [],
-  ◌∷◌,
-  ◌++◌,
-  Option,
-  Some,
-  None,
-  Bool,
-  true,
-  false,
-  slice_get,
-  slice_set,
-  ap₂,
-  add-zero,
-  zero-add,
-  length,
-  replicate,
-  length-set,
-  arith,
-  refl,
-  sym,
-  ap,
-  ◌∙◌,
-  true≢false,
-}
+use Rattle.std.proofs.Common.{ℕ, zero, suc, ◌+◌, ◌≡◌, ◌<◌, ◌⊎◌, inl, inr, List, [], ◌∷◌, ◌++◌, Option, Some, None, Bool, true, false, slice_get, slice_set, ap₂, add-zero, zero-add, length, replicate, length-set, arith, refl, sym, ap, ◌∙◌, true≢false}
 use Rattle.std.proofs.lemmas.Bool.{cases_eq}
 use Rattle.std.proofs.lemmas.List.{length-replicate}
 use Rattle.std.proofs.lemmas.Option.{slice_get_within, same_Some, none-some, some_pair_parts}

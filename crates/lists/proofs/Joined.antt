@@ -1,33 +1,5 @@
 -- Lists joined end to end: what they have, their order, and that nothing stands in them twice.
-use Rattle.std.proofs.Common.{
-  ℕ,
-  zero,
-  suc,
-  ◌+◌,
-  ◌≡◌,
-  ◌≢◌,
-  ◌<◌,
-  ◌⊎◌,
-  ◌↔◌,
-  inl,
-  inr,
-  List,
-  [],
-  ◌∷◌,
-  ◌++◌,
-  Some,
-  slice_get,
-  length,
-  map,
-  flat_map,
-  option_map,
-  sym,
-  subst,
-  arith,
-  refl,
-  ap,
-  ◌∙◌,
-}
+use Rattle.std.proofs.Common.{ℕ, zero, suc, ◌+◌, ◌≡◌, ◌≢◌, ◌<◌, ◌⊎◌, ◌↔◌, inl, inr, List, [], ◌∷◌, ◌++◌, Some, slice_get, length, map, flat_map, option_map, sym, subst, arith, refl, ap, ◌∙◌}
 use Rattle.std.proofs.lemmas.Bool.{cases_eq}
 use Rattle.std.proofs.lemmas.Option.{slice_get-map, slice_get_within, same_Some, none-some}
 use Rattle.std.specs.List.{concat}

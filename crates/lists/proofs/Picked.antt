@@ -1,28 +1,5 @@
 -- What a filter and a function make of a list's items and their order.
-use Rattle.std.proofs.Common.{
-  suc,
-  ◌≡◌,
-  ◌↔◌,
-  inl,
-  inr,
-  List,
-  [],
-  ◌∷◌,
-  Bool,
-  true,
-  false,
-  cond,
-  filter,
-  map,
-  Some,
-  arith,
-  refl,
-  sym,
-  ap,
-  ap₂,
-  ◌∙◌,
-  true≢false,
-}
+use Rattle.std.proofs.Common.{suc, ◌≡◌, ◌↔◌, inl, inr, List, [], ◌∷◌, Bool, true, false, cond, filter, map, Some, arith, refl, sym, ap, ap₂, ◌∙◌, true≢false}
 use Rattle.lists.specs.Places.{Has, InOrder}
 use Rattle.lists.proofs.Joined.{has-nil, has-cons, in_order-nil, in_order-cons, in_order_tail}
 

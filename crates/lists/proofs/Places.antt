@@ -1,38 +1,5 @@
 -- Places of lists that are put together of others, and counts of their fronts.
-use Rattle.std.proofs.Common.{
-  ◌≡◌,
-  ℕ,
-  zero,
-  suc,
-  ◌+◌,
-  ◌<◌,
-  ◌≤◌,
-  ◌⊎◌,
-  inl,
-  inr,
-  List,
-  [],
-  ◌∷◌,
-  ◌++◌,
-  length,
-  take,
-  drop,
-  Bool,
-  true,
-  false,
-  count_by,
-  Some,
-  slice_get,
-  refl,
-  ap,
-  sym,
-  ◌∙◌,
-  cond,
-  append_assoc,
-  append-nil,
-  take-take,
-  arith,
-}
+use Rattle.std.proofs.Common.{◌≡◌, ℕ, zero, suc, ◌+◌, ◌<◌, ◌≤◌, ◌⊎◌, inl, inr, List, [], ◌∷◌, ◌++◌, length, take, drop, Bool, true, false, count_by, Some, slice_get, refl, ap, sym, ◌∙◌, cond, append_assoc, append-nil, take-take, arith}
 use Rattle.std.proofs.lemmas.Option.{slice_get_within, same_Some, none-some}
 use Rattle.std.proofs.lemmas.List.{take-append-le}
 use Rattle.std.proofs.lemmas.List.Sums.{sum_by-append, sum_by-take-le}

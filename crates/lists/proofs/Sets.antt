@@ -1,25 +1,5 @@
 -- The item at a place after a write to a place, and lists that agree at every place.
-use Rattle.std.proofs.Common.{
-  ℕ,
-  zero,
-  suc,
-  ◌≡◌,
-  ◌≢◌,
-  ◌<◌,
-  List,
-  [],
-  ◌∷◌,
-  Some,
-  slice_get,
-  slice_set,
-  slice_index,
-  length,
-  replicate,
-  arith,
-  refl,
-  sym,
-  ap,
-}
+use Rattle.std.proofs.Common.{ℕ, zero, suc, ◌≡◌, ◌≢◌, ◌<◌, List, [], ◌∷◌, Some, slice_get, slice_set, slice_index, length, replicate, arith, refl, sym, ap}
 use Rattle.std.proofs.lemmas.Option.{same_Some, none-some}
 
 -- a write within the list is found where it was written

@@ -1,20 +1,5 @@
 -- Distributed locks. An asker holds a lock from the moment when its grant is due.
-use Rattle.std.specs.Prelude.{
-  ℕ,
-  ◌≡◌,
-  ◌<◌,
-  Option,
-  Some,
-  None,
-  List,
-  [],
-  ◌∷◌,
-  ◌++◌,
-  length,
-  replicate,
-  slice_index_or,
-  slice_set,
-}
+use Rattle.std.specs.Prelude.{ℕ, ◌≡◌, ◌<◌, Option, Some, None, List, [], ◌∷◌, ◌++◌, length, replicate, slice_index_or, slice_set}
 use Rattle.std.specs.Option.{option_to_list}
 use Rattle.lists.specs.Places.{Has, IsOnce}
 

@@ -1,66 +1,14 @@
 -- What each fault says of the bytes.
-use Rattle.std.specs.Prelude.{
-  ◌≡◌,
-  ◌≢◌,
-  ℕ,
-  suc,
-  ◌^◌,
-  ◌<◌,
-  ◌≤◌,
-  ◌⊎◌,
-  true,
-  false,
-  List,
-  [],
-  ◌∷◌,
-  ◌++◌,
-  length,
-  take,
-  slice_index_or,
-  codes,
-  Contains,
-  IsSomeAnd,
-  Any,
-}
+use Rattle.std.specs.Prelude.{◌≡◌, ◌≢◌, ℕ, suc, ◌^◌, ◌<◌, ◌≤◌, ◌⊎◌, true, false, List, [], ◌∷◌, ◌++◌, length, take, slice_index_or, codes, Contains, IsSomeAnd, Any}
 use Rattle.std.specs.List.{flat_map, AllByRecursion}
 use Rattle.std.specs.Fmt.{decimal}
 use Rattle.lrc_script.specs.declared.fault.ScriptFault.{ScriptFault}
-use Rattle.lrc_script.specs.declared.fault.ScriptFault.TheVariants.{
-  Truncated,
-  BadLine,
-  BadNumber,
-  BadSize,
-  OutOfRange,
-  BadLock,
-  BadFlag,
-  AlreadyHeld,
-  NotHeld,
-  TooLong,
-  Uneven,
-  NoMemory,
-}
+use Rattle.lrc_script.specs.declared.fault.ScriptFault.TheVariants.{Truncated, BadLine, BadNumber, BadSize, OutOfRange, BadLock, BadFlag, AlreadyHeld, NotHeld, TooLong, Uneven, NoMemory}
 use Rattle.lrc_script.specs.declared.script.Instruction.{Instruction}
 use Rattle.lrc_script.specs.declared.script.Instruction.TheVariants.{Acquire, Release}
 use Rattle.lrc_script.specs.Plan.{Plan, head_plan}
-use Rattle.lrc_script.specs.Lawful.{
-  addresses,
-  address_of,
-  lock_of,
-  flag_of,
-  holds,
-  barriers,
-  AreSizes,
-  IsLawfulButUneven,
-}
-use Rattle.lrc_script.specs.Text.{
-  cluster_line,
-  section_lines,
-  line_bytes,
-  section_line,
-  instruction_line,
-  show_line,
-  text,
-}
+use Rattle.lrc_script.specs.Lawful.{addresses, address_of, lock_of, flag_of, holds, barriers, AreSizes, IsLawfulButUneven}
+use Rattle.lrc_script.specs.Text.{cluster_line, section_lines, line_bytes, section_line, instruction_line, show_line, text}
 use Rattle.lrc_script.specs.Front.{Front, Nothing, Headed, Within, Whole, IsBegun, lines_before, text_before}
 
 -- a word has a byte, and no space

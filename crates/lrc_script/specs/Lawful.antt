@@ -1,40 +1,6 @@
-use Rattle.std.specs.Prelude.{
-  ◌≡◌,
-  ℕ,
-  ◌*◌,
-  ◌^◌,
-  ◌<◌,
-  ◌≤◌,
-  ◌==◌,
-  Bool,
-  true,
-  false,
-  if◌then◌else◌,
-  List,
-  [],
-  ◌∷◌,
-  ◌++◌,
-  length,
-  fold,
-  All,
-  count_by,
-  slice_index_or,
-  Option,
-  Some,
-  None,
-}
+use Rattle.std.specs.Prelude.{◌≡◌, ℕ, ◌*◌, ◌^◌, ◌<◌, ◌≤◌, ◌==◌, Bool, true, false, if◌then◌else◌, List, [], ◌∷◌, ◌++◌, length, fold, All, count_by, slice_index_or, Option, Some, None}
 use Rattle.lrc_script.specs.declared.script.Instruction.{Instruction}
-use Rattle.lrc_script.specs.declared.script.Instruction.TheVariants.{
-  Load,
-  Store,
-  Add,
-  Acquire,
-  Release,
-  Barrier,
-  Set,
-  Await,
-  Cut,
-}
+use Rattle.lrc_script.specs.declared.script.Instruction.TheVariants.{Load, Store, Add, Acquire, Release, Barrier, Set, Await, Cut}
 use Rattle.lrc_script.specs.Plan.{Plan}
 
 -- how many words the pages have together: addresses are below it

@@ -1,52 +1,12 @@
 -- What reading a line does, as a function of its bytes.
-use Rattle.std.specs.Prelude.{
-  ◌≡◌,
-  ℕ,
-  ◌+◌,
-  ◌^◌,
-  ◌==◌,
-  nat_lt,
-  nat_le,
-  Bool,
-  false,
-  not,
-  ◌&&◌,
-  ◌||◌,
-  if◌then◌else◌,
-  List,
-  [],
-  ◌∷◌,
-  ◌++◌,
-  length,
-  slice_index,
-  codes,
-  Option,
-  Some,
-  None,
-  is_some,
-  unwrap_or,
-  Result,
-  Ok,
-  Err,
-}
+use Rattle.std.specs.Prelude.{◌≡◌, ℕ, ◌+◌, ◌^◌, ◌==◌, nat_lt, nat_le, Bool, false, not, ◌&&◌, ◌||◌, if◌then◌else◌, List, [], ◌∷◌, ◌++◌, length, slice_index, codes, Option, Some, None, is_some, unwrap_or, Result, Ok, Err}
 use Rattle.std.specs.Borrow.{Bor}
 use Rattle.std.specs.Char.{is_ascii_digit}
 use Rattle.std.specs.List.{slice_split, list_all, list_any}
 use Rattle.std.specs.Str.{bytes_eq}
 use Rattle.std.specs.Str.Parse.{digits_value}
 use Rattle.lrc_script.specs.declared.fault.ScriptFault.{ScriptFault}
-use Rattle.lrc_script.specs.declared.fault.ScriptFault.TheVariants.{
-  BadLine,
-  BadNumber,
-  BadSize,
-  OutOfRange,
-  BadLock,
-  BadFlag,
-  AlreadyHeld,
-  NotHeld,
-  TooLong,
-  NoMemory,
-}
+use Rattle.lrc_script.specs.declared.fault.ScriptFault.TheVariants.{BadLine, BadNumber, BadSize, OutOfRange, BadLock, BadFlag, AlreadyHeld, NotHeld, TooLong, NoMemory}
 use Rattle.lrc_script.specs.declared.line.Few.{Few}
 use Rattle.lrc_script.specs.declared.line.Few.TheVariants as few
 use Rattle.lrc_script.specs.declared.line.Keyword.{Keyword}

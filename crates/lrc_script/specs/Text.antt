@@ -2,17 +2,7 @@ use Rattle.std.specs.Prelude.{ℕ, ◌==◌, suc, if◌then◌else◌, List, [],
 use Rattle.std.specs.List.{flat_map}
 use Rattle.std.specs.Fmt.{decimal}
 use Rattle.lrc_script.specs.declared.script.Instruction.{Instruction}
-use Rattle.lrc_script.specs.declared.script.Instruction.TheVariants.{
-  Load,
-  Store,
-  Add,
-  Acquire,
-  Release,
-  Barrier,
-  Set,
-  Await,
-  Cut,
-}
+use Rattle.lrc_script.specs.declared.script.Instruction.TheVariants.{Load, Store, Add, Acquire, Release, Barrier, Set, Await, Cut}
 use Rattle.lrc_script.specs.Plan.{Plan}
 
 -- a line of a script: its first word, and the numbers after it

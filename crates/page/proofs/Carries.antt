@@ -1,28 +1,5 @@
 -- A record carries what stores did: the dirty words of one page, put into another.
-use Rattle.std.proofs.Common.{
-  ℕ,
-  zero,
-  suc,
-  ◌≡◌,
-  Bool,
-  true,
-  false,
-  Some,
-  None,
-  List,
-  [],
-  ◌∷◌,
-  ◌++◌,
-  length,
-  set,
-  replicate,
-  refl,
-  sym,
-  ap,
-  ◌∙◌,
-  append_assoc,
-  arith,
-}
+use Rattle.std.proofs.Common.{ℕ, zero, suc, ◌≡◌, Bool, true, false, Some, None, List, [], ◌∷◌, ◌++◌, length, set, replicate, refl, sym, ap, ◌∙◌, append_assoc, arith}
 use Rattle.std.proofs.lemmas.List.{set_at, length-set, length_push, length-replicate}
 use Rattle.lists.specs.Records.{record_applied, marked, harvest}
 use Rattle.lists.proofs.LastWrites.{length-written}

@@ -1,45 +1,7 @@
 -- The marks that a machine word's bits are.
-use Rattle.std.proofs.Common.{
-  ℕ,
-  zero,
-  suc,
-  ◌≡◌,
-  ◌<◌,
-  ◌≤◌,
-  ◌*◌,
-  ◌/◌,
-  ◌%◌,
-  ◌^◌,
-  ◌==◌,
-  Bool,
-  true,
-  false,
-  List,
-  ◌∷◌,
-  length,
-  get_or,
-  set,
-  replicate,
-  bit_or,
-  w64,
-  refl,
-  sym,
-  ap,
-  ◌∙◌,
-  arith,
-  inl,
-  inr,
-}
+use Rattle.std.proofs.Common.{ℕ, zero, suc, ◌≡◌, ◌<◌, ◌≤◌, ◌*◌, ◌/◌, ◌%◌, ◌^◌, ◌==◌, Bool, true, false, List, ◌∷◌, length, get_or, set, replicate, bit_or, w64, refl, sym, ap, ◌∙◌, arith, inl, inr}
 use Rattle.std.specs.Int.{bit_at}
-use Rattle.std.proofs.lemmas.Nat.Bits.{
-  bit_at_lowest,
-  bit_at-suc,
-  bit_at-lt,
-  bit_at-zero,
-  bit_at_set_same,
-  bit_at_set_other,
-  same_from_bits,
-}
+use Rattle.std.proofs.lemmas.Nat.Bits.{bit_at_lowest, bit_at-suc, bit_at-lt, bit_at-zero, bit_at_set_same, bit_at_set_other, same_from_bits}
 use Rattle.std.proofs.lemmas.List.{same_lists, length-set, get_or-set_same, get_or-set_other, get_or-replicate}
 use Rattle.std.proofs.lemmas.Bool.{cases_lt, cases_eq}
 use Rattle.std.proofs.lemmas.Bool.Decides.{nat_tests}

@@ -1,23 +1,5 @@
 -- The join of two timestamps, entry by entry.
-use Rattle.std.proofs.Common.{
-  ◌≡◌,
-  ℕ,
-  zero,
-  suc,
-  ◌<◌,
-  List,
-  [],
-  ◌∷◌,
-  length,
-  max,
-  get_or,
-  set,
-  take,
-  refl,
-  ap,
-  sym,
-  arith,
-}
+use Rattle.std.proofs.Common.{◌≡◌, ℕ, zero, suc, ◌<◌, List, [], ◌∷◌, length, max, get_or, set, take, refl, ap, sym, arith}
 use Rattle.std.proofs.Math.Nat.{max-zero, zero-max}
 use Rattle.vtime.specs.Times.{join}
 

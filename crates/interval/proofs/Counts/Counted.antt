@@ -1,48 +1,8 @@
 -- Counts of pages, built up by a loop over what has the pages.
-use Rattle.std.proofs.Common.{
-  ◌≡◌,
-  ℕ,
-  ◌+◌,
-  ◌-◌,
-  ◌<◌,
-  ◌≤◌,
-  ◌==◌,
-  ◌^◌,
-  Bool,
-  cond,
-  inl,
-  inr,
-  List,
-  [],
-  ◌∷◌,
-  ◌++◌,
-  map,
-  take,
-  drop,
-  get_or,
-  set,
-  length,
-  count_by,
-  slice_index,
-  refl,
-  sym,
-  ap,
-  subst,
-  arith,
-  ◌∙◌,
-}
+use Rattle.std.proofs.Common.{◌≡◌, ℕ, ◌+◌, ◌-◌, ◌<◌, ◌≤◌, ◌==◌, ◌^◌, Bool, cond, inl, inr, List, [], ◌∷◌, ◌++◌, map, take, drop, get_or, set, length, count_by, slice_index, refl, sym, ap, subst, arith, ◌∙◌}
 use Rattle.std.specs.List.{flat_map}
 use Rattle.std.proofs.lemmas.Bool.{cases_eq, eq-eqb, ne_eqb}
-use Rattle.std.proofs.lemmas.List.{
-  take_more,
-  append-nil,
-  take-append-drop,
-  length-set,
-  get_or-set_same,
-  get_or-set_other,
-  length-map,
-  get_or-map,
-}
+use Rattle.std.proofs.lemmas.List.{take_more, append-nil, take-append-drop, length-set, get_or-set_same, get_or-set_other, length-map, get_or-map}
 use Rattle.std.proofs.lemmas.List.Sums.{sum_by-cons}
 use Rattle.std.proofs.lemmas.Grind.{flat_map-append}
 use Rattle.lists.proofs.Places.{count_by-append}

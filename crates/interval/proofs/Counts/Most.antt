@@ -1,29 +1,5 @@
 -- No page has more notices among what is sent than intervals were closed.
-use Rattle.std.proofs.Common.{
-  ◌≡◌,
-  ℕ,
-  ◌+◌,
-  ◌<◌,
-  ◌≤◌,
-  suc,
-  Bool,
-  true,
-  false,
-  ◌==◌,
-  cond,
-  inl,
-  inr,
-  List,
-  [],
-  ◌∷◌,
-  map,
-  filter,
-  length,
-  count_by,
-  refl,
-  ap,
-  arith,
-}
+use Rattle.std.proofs.Common.{◌≡◌, ℕ, ◌+◌, ◌<◌, ◌≤◌, suc, Bool, true, false, ◌==◌, cond, inl, inr, List, [], ◌∷◌, map, filter, length, count_by, refl, ap, arith}
 use Rattle.std.specs.List.{flat_map}
 use Rattle.std.proofs.lemmas.Bool.{cases_Bool, eqb-true, ne_eqb}
 use Rattle.std.proofs.lemmas.List.Sums.{sum_by-cons, length-filter, count_by-le-length}

@@ -1,58 +1,8 @@
 -- The earliest of the intervals that one timestamp covers and another doesn't.
-use Rattle.std.proofs.Common.{
-  ◌≡◌,
-  ◌≢◌,
-  ℕ,
-  ◌<◌,
-  ◌≤◌,
-  ◌+◌,
-  ◌-◌,
-  Bool,
-  true,
-  false,
-  nat_lt,
-  nat_le,
-  ◌&&◌,
-  ◌⊎◌,
-  inl,
-  inr,
-  Option,
-  Some,
-  None,
-  List,
-  [],
-  ◌∷◌,
-  map,
-  filter,
-  slice_get,
-  slice_index,
-  get_or,
-  length,
-  refl,
-  sym,
-  ap,
-  subst,
-  arith,
-  ◌∙◌,
-}
+use Rattle.std.proofs.Common.{◌≡◌, ◌≢◌, ℕ, ◌<◌, ◌≤◌, ◌+◌, ◌-◌, Bool, true, false, nat_lt, nat_le, ◌&&◌, ◌⊎◌, inl, inr, Option, Some, None, List, [], ◌∷◌, map, filter, slice_get, slice_index, get_or, length, refl, sym, ap, subst, arith, ◌∙◌}
 use Rattle.std.specs.Option.{MatchOption, option_copied}
 use Rattle.std.specs.Borrow.{Bor}
-use Rattle.std.proofs.lemmas.Bool.{
-  cases_eq,
-  cases_lt,
-  cases_order,
-  cases_Bool,
-  and_parts,
-  and_from,
-  and_left,
-  cond_both,
-  ltb-true,
-  ltb-false,
-  leb-true,
-  lt-ltb,
-  le-leb,
-  lt-leb,
-}
+use Rattle.std.proofs.lemmas.Bool.{cases_eq, cases_lt, cases_order, cases_Bool, and_parts, and_from, and_left, cond_both, ltb-true, ltb-false, leb-true, lt-ltb, le-leb, lt-leb}
 use Rattle.std.proofs.lemmas.List.{length-map, get_or_past, get_or-set_same, get_or-set_other}
 use Rattle.std.proofs.lemmas.Option.{slice_get_within, slice_get-get_or, slice_get_read, get_or_from_slice_get}
 use Rattle.vtime.specs.Times.{tick}

@@ -2,14 +2,7 @@
 use Rattle.std.proofs.Common.{ℕ, ◌≡◌, ◌<◌, inl, inr, List, ◌++◌, filter, refl, sym, ap, subst, arith, ◌∙◌}
 use Rattle.std.specs.List.{flat_map}
 use Rattle.lists.specs.Places.{Has}
-use Rattle.lists.proofs.Joined.{
-  has-map,
-  has-flat_map,
-  in_order-map,
-  in_order_weaker,
-  in_order-append,
-  in_order-flat_map,
-}
+use Rattle.lists.proofs.Joined.{has-map, has-flat_map, in_order-map, in_order_weaker, in_order-append, in_order-flat_map}
 use Rattle.lists.proofs.Picked.{has-filter, in_order-filter}
 use Rattle.page.specs.Changes.{Changes}
 use Rattle.interval.specs.declared.kept.Kept.{Kept}

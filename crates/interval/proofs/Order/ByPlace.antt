@@ -1,37 +1,8 @@
 -- Lists of intervals by rising closing number.
-use Rattle.std.proofs.Common.{
-  ◌≡◌,
-  ◌<◌,
-  suc,
-  true,
-  cond,
-  nat_lt,
-  Some,
-  ◌⊎◌,
-  inl,
-  inr,
-  List,
-  [],
-  ◌∷◌,
-  ◌++◌,
-  refl,
-  sym,
-  ap,
-  subst,
-  arith,
-  ◌∙◌,
-}
+use Rattle.std.proofs.Common.{◌≡◌, ◌<◌, suc, true, cond, nat_lt, Some, ◌⊎◌, inl, inr, List, [], ◌∷◌, ◌++◌, refl, sym, ap, subst, arith, ◌∙◌}
 use Rattle.std.proofs.lemmas.Bool.{cond_both, ltb-true, ltb-false}
 use Rattle.lists.specs.Places.{Has, InOrder}
-use Rattle.lists.proofs.Joined.{
-  has-nil,
-  has-cons,
-  in_order-nil,
-  in_order-cons,
-  in_order_single,
-  in_order_tail,
-  in_order-append,
-}
+use Rattle.lists.proofs.Joined.{has-nil, has-cons, in_order-nil, in_order-cons, in_order_single, in_order_tail, in_order-append}
 use Rattle.interval.specs.declared.kept.Kept.{Kept}
 use Rattle.interval.specs.Queues.{placed, by_place}
 

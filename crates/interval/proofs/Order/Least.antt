@@ -1,26 +1,5 @@
 -- The earliest of the intervals of a rising list that pass a test.
-use Rattle.std.proofs.Common.{
-  ◌≡◌,
-  ◌≢◌,
-  ◌≤◌,
-  suc,
-  Bool,
-  true,
-  false,
-  inl,
-  inr,
-  Some,
-  List,
-  ◌∷◌,
-  [],
-  filter,
-  find,
-  refl,
-  sym,
-  ap,
-  arith,
-  ◌∙◌,
-}
+use Rattle.std.proofs.Common.{◌≡◌, ◌≢◌, ◌≤◌, suc, Bool, true, false, inl, inr, Some, List, ◌∷◌, [], filter, find, refl, sym, ap, arith, ◌∙◌}
 use Rattle.std.proofs.lemmas.Bool.{cond-true, cond-false, cases_Bool}
 use Rattle.lists.specs.Places.{Has}
 use Rattle.lists.proofs.Joined.{has-nil, has-cons}

@@ -1,49 +1,6 @@
 -- The queues after a trim.
-use Rattle.std.proofs.Common.{
-  ◌≡◌,
-  ◌≢◌,
-  ℕ,
-  ◌<◌,
-  ◌≤◌,
-  ◌+◌,
-  ◌-◌,
-  min,
-  max,
-  Bool,
-  true,
-  not,
-  ◌⊎◌,
-  inl,
-  inr,
-  Some,
-  List,
-  map,
-  filter,
-  drop,
-  slice_get,
-  slice_index,
-  set,
-  length,
-  refl,
-  sym,
-  ap,
-  arith,
-  ◌∙◌,
-}
-use Rattle.std.proofs.lemmas.Bool.{
-  cases_eq,
-  cases_lt,
-  and_left,
-  and_right,
-  and_from,
-  eq-eqb,
-  ne_eqb,
-  lt-ltb,
-  le-ltb,
-  not_from_false,
-  not-true,
-  both_ways,
-}
+use Rattle.std.proofs.Common.{◌≡◌, ◌≢◌, ℕ, ◌<◌, ◌≤◌, ◌+◌, ◌-◌, min, max, Bool, true, not, ◌⊎◌, inl, inr, Some, List, map, filter, drop, slice_get, slice_index, set, length, refl, sym, ap, arith, ◌∙◌}
+use Rattle.std.proofs.lemmas.Bool.{cases_eq, cases_lt, and_left, and_right, and_from, eq-eqb, ne_eqb, lt-ltb, le-ltb, not_from_false, not-true, both_ways}
 use Rattle.std.proofs.lemmas.List.{map-set, set-get_or, length-drop}
 use Rattle.std.proofs.lemmas.Option.{slice_get_within, get_or_from_slice_get}
 use Rattle.lists.specs.Places.{Has}

@@ -1,25 +1,5 @@
 -- Steps of loops over the records of an interval.
-use Rattle.std.proofs.Common.{
-  ◌≡◌,
-  ℕ,
-  ◌<◌,
-  ◌+◌,
-  Bool,
-  cond,
-  Some,
-  List,
-  [],
-  ◌∷◌,
-  ◌++◌,
-  map,
-  find,
-  take,
-  drop,
-  get_or,
-  length,
-  refl,
-  ap,
-}
+use Rattle.std.proofs.Common.{◌≡◌, ℕ, ◌<◌, ◌+◌, Bool, cond, Some, List, [], ◌∷◌, ◌++◌, map, find, take, drop, get_or, length, refl, ap}
 use Rattle.std.proofs.lemmas.List.{drop_more, take_more, append_assoc, map-append}
 
 -- what a search finds from index i on

@@ -1,33 +1,5 @@
 -- All that was cut off happens before all that is left.
-use Rattle.std.proofs.Common.{
-  ◌≡◌,
-  ◌≢◌,
-  ℕ,
-  zero,
-  suc,
-  ◌+◌,
-  ◌-◌,
-  ◌<◌,
-  ◌≤◌,
-  ◌⊎◌,
-  inl,
-  inr,
-  List,
-  [],
-  ◌∷◌,
-  ◌++◌,
-  length,
-  take,
-  get_or,
-  Bool,
-  refl,
-  sym,
-  ap,
-  subst,
-  ◌∙◌,
-  length-append,
-  arith,
-}
+use Rattle.std.proofs.Common.{◌≡◌, ◌≢◌, ℕ, zero, suc, ◌+◌, ◌-◌, ◌<◌, ◌≤◌, ◌⊎◌, inl, inr, List, [], ◌∷◌, ◌++◌, length, take, get_or, Bool, refl, sym, ap, subst, ◌∙◌, length-append, arith}
 use Rattle.std.proofs.Math.Seq.{take-append-add}
 use Rattle.std.proofs.lemmas.Bool.{cases_eq, cases_lt, cases_order}
 use Rattle.std.proofs.lemmas.Option.{none-some, same_Some, slice_get-get_or}
@@ -45,16 +17,7 @@ use Rattle.journal.specs.Base.{Base, arrived}
 use Rattle.journal.specs.WellFormedFrom.{IsAway}
 use Rattle.journal.specs.Cuts.{IsBaseOf}
 use Rattle.lists.proofs.Places.{slice_get-take_within, slice_get-from_take}
-use Rattle.journal.proofs.Order.Places.{
-  at_within,
-  at_longer,
-  at_behind,
-  count_of-past,
-  count_of-within,
-  count_of-front,
-  NumberedAt,
-  numbered,
-}
+use Rattle.journal.proofs.Order.Places.{at_within, at_longer, at_behind, count_of-past, count_of-within, count_of-front, NumberedAt, numbered}
 use Rattle.journal.proofs.Order.HappensBefore.{transitive}
 use Rattle.journal.proofs.Journals.WellFormed.{well_formed_front, last_longer}
 use Rattle.journal.proofs.Bases.Order.{IsEven, count_left}

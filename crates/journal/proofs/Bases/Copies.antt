@@ -1,39 +1,5 @@
 -- A copy that is lawful by the history is the base's page after the stores to it in the past within what is left.
-use Rattle.std.proofs.Common.{
-  ◌≡◌,
-  ℕ,
-  suc,
-  ◌+◌,
-  ◌*◌,
-  ◌-◌,
-  ◌/◌,
-  ◌%◌,
-  ◌<◌,
-  ◌≤◌,
-  ◌⊎◌,
-  inl,
-  inr,
-  ◌↔◌,
-  List,
-  ◌++◌,
-  Option,
-  Some,
-  option_map,
-  length,
-  map,
-  take,
-  drop,
-  replicate,
-  get_or,
-  slice_get,
-  subst,
-  sym,
-  refl,
-  ap,
-  ◌∙◌,
-  length-append,
-  arith,
-}
+use Rattle.std.proofs.Common.{◌≡◌, ℕ, suc, ◌+◌, ◌*◌, ◌-◌, ◌/◌, ◌%◌, ◌<◌, ◌≤◌, ◌⊎◌, inl, inr, ◌↔◌, List, ◌++◌, Option, Some, option_map, length, map, take, drop, replicate, get_or, slice_get, subst, sym, refl, ap, ◌∙◌, length-append, arith}
 use Rattle.std.proofs.Math.Nat.{mul-le-mul_right}
 use Rattle.std.proofs.lemmas.Nat.{div-mul-add, mod-mul-add}
 use Rattle.std.proofs.lemmas.Bool.{cases_lt, cases_order}
@@ -55,38 +21,14 @@ use Rattle.journal.specs.Copies.{StoresTo, page_write, page_after, Lawful}
 use Rattle.journal.specs.Base.{Base}
 use Rattle.journal.specs.OrderFrom.{InPastFrom}
 use Rattle.journal.specs.CopiesFrom.{LawfulFrom}
-use Rattle.lists.proofs.Places.{
-  slice_get-append_left,
-  slice_get-append_right,
-  slice_get-take,
-  slice_get-drop,
-  append_cases,
-}
+use Rattle.lists.proofs.Places.{slice_get-append_left, slice_get-append_right, slice_get-take, slice_get-drop, append_cases}
 use Rattle.lists.proofs.Sets.{slice_get-replicate_found, same_places}
-use Rattle.lists.proofs.LastWrites.{
-  word_written,
-  last_word,
-  last_alone,
-  last_exists,
-  length-written,
-  written-append,
-  written_map,
-  written_same,
-}
+use Rattle.lists.proofs.LastWrites.{word_written, last_word, last_alone, last_exists, length-written, written-append, written_map, written_same}
 use Rattle.lists.proofs.Joined.{has-map}
 use Rattle.lists.proofs.Halves.{Halves, halves}
 use Rattle.journal.proofs.Order.Places.{at_behind}
 use Rattle.journal.proofs.Order.HappensBefore.{longer}
-use Rattle.journal.proofs.Copies.Stores.{
-  does_kind,
-  store_writes,
-  stores_to,
-  store_at,
-  stores_longer,
-  stores_shorter,
-  stores_within,
-  page_after_longer,
-}
+use Rattle.journal.proofs.Copies.Stores.{does_kind, store_writes, stores_to, store_at, stores_longer, stores_shorter, stores_within, page_after_longer}
 use Rattle.journal.proofs.Flat.Stores.{flat_store, not_unordered}
 use Rattle.journal.proofs.Bases.Order.{IsEven, at_left, before_back, past_from, past_back}
 use Rattle.journal.proofs.Bases.Loads.{flat}

@@ -1,31 +1,5 @@
 -- Loads of what is left are explained from the base exactly where they are by the history.
-use Rattle.std.proofs.Common.{
-  ◌≡◌,
-  ℕ,
-  suc,
-  ◌+◌,
-  ◌<◌,
-  ◌⊎◌,
-  inl,
-  inr,
-  ◌↔◌,
-  List,
-  ◌++◌,
-  Option,
-  Some,
-  length,
-  replicate,
-  get_or,
-  slice_get,
-  slice_index,
-  unwrap_or,
-  subst,
-  sym,
-  refl,
-  ap,
-  ◌∙◌,
-  arith,
-}
+use Rattle.std.proofs.Common.{◌≡◌, ℕ, suc, ◌+◌, ◌<◌, ◌⊎◌, inl, inr, ◌↔◌, List, ◌++◌, Option, Some, length, replicate, get_or, slice_get, slice_index, unwrap_or, subst, sym, refl, ap, ◌∙◌, arith}
 use Rattle.std.proofs.lemmas.Bool.{cases_lt, cases_order}
 use Rattle.std.proofs.lemmas.List.{length-replicate}
 use Rattle.std.proofs.lemmas.Option.{slice_get-get_or, get_or_from_slice_get, slice_get_past, unwrap_or-slice_get}

@@ -1,36 +1,5 @@
 -- What is kept after one more event.
-use Rattle.std.proofs.Common.{
-  ◌≡◌,
-  ◌≢◌,
-  ℕ,
-  suc,
-  ◌+◌,
-  inl,
-  inr,
-  ◌↔◌,
-  List,
-  [],
-  ◌∷◌,
-  ◌++◌,
-  take,
-  Bool,
-  true,
-  false,
-  cond,
-  Some,
-  ◌==◌,
-  ◌&&◌,
-  not,
-  subst,
-  subst₂,
-  sym,
-  refl,
-  ap,
-  ap₂,
-  ◌∙◌,
-  length,
-  arith,
-}
+use Rattle.std.proofs.Common.{◌≡◌, ◌≢◌, ℕ, suc, ◌+◌, inl, inr, ◌↔◌, List, [], ◌∷◌, ◌++◌, take, Bool, true, false, cond, Some, ◌==◌, ◌&&◌, not, subst, subst₂, sym, refl, ap, ap₂, ◌∙◌, length, arith}
 use Rattle.std.specs.List.{list_any}
 use Rattle.std.proofs.lemmas.Bool.{cases_Bool, eq-eqb, eqb-true, and_parts, and_from, or_cases}
 use Rattle.std.proofs.lemmas.Option.{none-some, slice_get_within}

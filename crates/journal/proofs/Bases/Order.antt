@@ -1,26 +1,5 @@
 -- Happens-before and pasts of what is left, read from the history or from the base.
-use Rattle.std.proofs.Common.{
-  ◌≡◌,
-  ℕ,
-  ◌+◌,
-  ◌-◌,
-  ◌<◌,
-  inl,
-  inr,
-  ◌↔◌,
-  List,
-  ◌++◌,
-  length,
-  take,
-  Bool,
-  sym,
-  ap,
-  subst,
-  subst₂,
-  ◌∙◌,
-  refl,
-  arith,
-}
+use Rattle.std.proofs.Common.{◌≡◌, ℕ, ◌+◌, ◌-◌, ◌<◌, inl, inr, ◌↔◌, List, ◌++◌, length, take, Bool, sym, ap, subst, subst₂, ◌∙◌, refl, arith}
 use Rattle.std.proofs.Math.Seq.{take-append-add}
 use Rattle.journal.specs.declared.event.Event.{Event}
 use Rattle.journal.specs.declared.event.Kind.{Kind}

@@ -1,23 +1,5 @@
 -- Where nothing was cut off, what is said from the base is what is said without one.
-use Rattle.std.proofs.Common.{
-  ◌≡◌,
-  ℕ,
-  ◌<◌,
-  inl,
-  inr,
-  ◌↔◌,
-  List,
-  [],
-  replicate,
-  subst,
-  subst₂,
-  sym,
-  refl,
-  ap,
-  ◌∙◌,
-  zero-add,
-  arith,
-}
+use Rattle.std.proofs.Common.{◌≡◌, ℕ, ◌<◌, inl, inr, ◌↔◌, List, [], replicate, subst, subst₂, sym, refl, ap, ◌∙◌, zero-add, arith}
 use Rattle.std.proofs.lemmas.Option.{none-some}
 use Rattle.journal.specs.declared.event.Event.{Event}
 use Rattle.journal.specs.declared.event.Kind.TheVariants.{Store}

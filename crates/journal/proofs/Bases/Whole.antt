@@ -17,16 +17,7 @@ use Rattle.journal.specs.WellFormedFrom.{IsAway}
 use Rattle.journal.specs.LoadsFrom.{ExplainedFrom}
 use Rattle.journal.specs.CopiesFrom.{LawfulFrom}
 use Rattle.journal.specs.Cuts.{IsBaseOf}
-use Rattle.journal.specs.BaseLaws.{
-  SaysTheSame,
-  SameLaw,
-  WellFormedLaw,
-  ReplaysFrom,
-  FlatLaw,
-  CopyLaw,
-  CutLaw,
-  UncutLaw,
-}
+use Rattle.journal.specs.BaseLaws.{SaysTheSame, SameLaw, WellFormedLaw, ReplaysFrom, FlatLaw, CopyLaw, CutLaw, UncutLaw}
 use Rattle.lists.proofs.LastWrites.{length-written}
 use Rattle.journal.proofs.Order.Places.{at_within, at_behind}
 use Rattle.journal.proofs.Journals.WellFormed.{well_formed_front, last_or_none}
@@ -38,15 +29,7 @@ use Rattle.journal.proofs.Bases.Races.{race_from, race_back, none_begins, race_f
 use Rattle.journal.proofs.Bases.Loads.{same_explained}
 use Rattle.journal.proofs.Bases.Copies.{lawful_from}
 use Rattle.journal.proofs.Bases.Cutting.{replays_append, base_after}
-use Rattle.journal.proofs.Bases.Uncut.{
-  uncut_base,
-  uncut_order,
-  uncut_past,
-  uncut_race,
-  uncut_explained,
-  uncut_well_formed,
-  uncut_lawful,
-}
+use Rattle.journal.proofs.Bases.Uncut.{uncut_base, uncut_order, uncut_past, uncut_race, uncut_explained, uncut_well_formed, uncut_lawful}
 
 module _ (s : Sizes) (b : Base) (c j : List Event) (well : WellFormed s (c ++ j))
     (base : IsBaseOf s.processors (addresses s) c b) where

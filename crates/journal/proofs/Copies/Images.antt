@@ -1,41 +1,5 @@
 -- What keeps an image, and a lawful copy.
-use Rattle.std.proofs.Common.{
-  ℕ,
-  ◌≡◌,
-  ◌≢◌,
-  ◌<◌,
-  ◌⊎◌,
-  ◌↔◌,
-  ◌/◌,
-  ◌%◌,
-  inl,
-  inr,
-  List,
-  [],
-  ◌∷◌,
-  ◌++◌,
-  Option,
-  Some,
-  replicate,
-  slice_get,
-  slice_set,
-  length,
-  Bool,
-  true,
-  false,
-  ◌==◌,
-  cond,
-  None,
-  eqb-true,
-  eq-eqb,
-  true≢false,
-  arith,
-  refl,
-  sym,
-  ap,
-  subst,
-  ◌∙◌,
-}
+use Rattle.std.proofs.Common.{ℕ, ◌≡◌, ◌≢◌, ◌<◌, ◌⊎◌, ◌↔◌, ◌/◌, ◌%◌, inl, inr, List, [], ◌∷◌, ◌++◌, Option, Some, replicate, slice_get, slice_set, length, Bool, true, false, ◌==◌, cond, None, eqb-true, eq-eqb, true≢false, arith, refl, sym, ap, subst, ◌∙◌}
 use Rattle.journal.specs.declared.event.Event.{Event}
 use Rattle.journal.specs.declared.event.Kind.{Kind}
 use Rattle.journal.specs.declared.event.Kind.TheVariants.{Store}
@@ -54,14 +18,7 @@ use Rattle.lists.proofs.LastWrites.{written-append}
 use Rattle.journal.proofs.Order.Places.{at_last}
 use Rattle.journal.proofs.Order.HappensBefore.{shorter}
 use Rattle.journal.proofs.Order.Pasts.{past_back, past_within, past_longer, own_past, others}
-use Rattle.journal.proofs.Copies.Stores.{
-  stores_longer,
-  stores_shorter,
-  stores_within,
-  stores_to,
-  stores_at,
-  page_after_longer,
-}
+use Rattle.journal.proofs.Copies.Stores.{stores_longer, stores_shorter, stores_within, stores_to, stores_at, page_after_longer}
 
 -- an image stays one, of any places that have the same stores to the page
 pub image_kept : (s : Sizes) (j es : List Event) (among among' : ℕ → Type 0) (n : ℕ) (page : List ℕ)

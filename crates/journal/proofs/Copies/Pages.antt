@@ -1,35 +1,5 @@
 -- What each call does to a processor's copies under its open block.
-use Rattle.std.proofs.Common.{
-  ℕ,
-  ◌≡◌,
-  ◌≢◌,
-  ◌/◌,
-  ◌%◌,
-  inl,
-  inr,
-  List,
-  [],
-  ◌∷◌,
-  ◌++◌,
-  Some,
-  None,
-  true,
-  replicate,
-  map,
-  length,
-  sum_by,
-  slice_get,
-  ne_eqb,
-  refl,
-  sym,
-  ap,
-  subst,
-  subst₂,
-  ◌∙◌,
-  append_assoc,
-  append-nil,
-  true≢false,
-}
+use Rattle.std.proofs.Common.{ℕ, ◌≡◌, ◌≢◌, ◌/◌, ◌%◌, inl, inr, List, [], ◌∷◌, ◌++◌, Some, None, true, replicate, map, length, sum_by, slice_get, ne_eqb, refl, sym, ap, subst, subst₂, ◌∙◌, append_assoc, append-nil, true≢false}
 use Rattle.std.proofs.lemmas.Option.{none-some}
 use Rattle.journal.specs.declared.event.Event.{Event}
 use Rattle.journal.specs.declared.event.Kind.{Kind}
@@ -57,14 +27,7 @@ use Rattle.journal.proofs.Copies.Images.{lawful_others, lawful_on}
 use Rattle.journal.proofs.Copies.OpenBlocks.{block_done-push, lawful_block, answers_push, answers_with_page}
 use Rattle.journal.proofs.Copies.Brought.{copy_start, copy_kept}
 use Rattle.journal.proofs.Copies.OwnSteps.{copy_lawful}
-use Rattle.journal.proofs.Copies.Complete.{
-  copy_of_lawful,
-  complete_no_gap,
-  complete_on,
-  complete_others,
-  complete_block,
-  complete_fetched,
-}
+use Rattle.journal.proofs.Copies.Complete.{copy_of_lawful, complete_no_gap, complete_on, complete_others, complete_block, complete_fetched}
 use Rattle.journal.proofs.Missing.Gaps.{nothing_taken}
 use Rattle.journal.proofs.Missing.Counted.{block_counts_push}
 use Rattle.journal.proofs.Missing.Fetches.{missing_fetched, missing_counts}

@@ -1,25 +1,5 @@
 -- Stores at places of a journal.
-use Rattle.std.proofs.Common.{
-  ℕ,
-  ◌≡◌,
-  ◌<◌,
-  List,
-  ◌++◌,
-  length,
-  Some,
-  slice_get,
-  ap,
-  ap₂,
-  sym,
-  subst,
-  subst₂,
-  ◌∙◌,
-  ◌+◌,
-  ◌*◌,
-  ◌/◌,
-  ◌%◌,
-  div-add-mod',
-}
+use Rattle.std.proofs.Common.{ℕ, ◌≡◌, ◌<◌, List, ◌++◌, length, Some, slice_get, ap, ap₂, sym, subst, subst₂, ◌∙◌, ◌+◌, ◌*◌, ◌/◌, ◌%◌, div-add-mod'}
 use Rattle.std.proofs.lemmas.Option.{some_pair_parts}
 use Rattle.journal.specs.declared.event.Event.{Event}
 use Rattle.journal.specs.declared.event.Kind.{Kind}

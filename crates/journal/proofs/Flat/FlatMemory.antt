@@ -1,30 +1,5 @@
 -- Before its first race an explained journal is one of a flat memory.
-use Rattle.std.proofs.Common.{
-  ℕ,
-  ◌≡◌,
-  ◌<◌,
-  ◌≤◌,
-  ◌⊎◌,
-  inl,
-  inr,
-  refl,
-  List,
-  Option,
-  Some,
-  take,
-  replicate,
-  slice_get,
-  get_or,
-  length,
-  arith,
-  sym,
-  ap,
-  subst,
-  ◌∙◌,
-  take-take,
-  take_all,
-  le_refl,
-}
+use Rattle.std.proofs.Common.{ℕ, ◌≡◌, ◌<◌, ◌≤◌, ◌⊎◌, inl, inr, refl, List, Option, Some, take, replicate, slice_get, get_or, length, arith, sym, ap, subst, ◌∙◌, take-take, take_all, le_refl}
 use Rattle.std.proofs.lemmas.Option.{slice_get-get_or, get_or_from_slice_get}
 use Rattle.std.proofs.lemmas.List.{length-replicate}
 use Rattle.std.proofs.lemmas.Bool.{cases_order}

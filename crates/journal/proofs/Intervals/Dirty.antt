@@ -1,35 +1,5 @@
 -- What each call does to a page's dirty bits, and what they are harvested for.
-use Rattle.std.proofs.Common.{
-  ℕ,
-  ◌≡◌,
-  ◌≢◌,
-  ◌<◌,
-  ◌%◌,
-  List,
-  [],
-  ◌∷◌,
-  ◌++◌,
-  Bool,
-  true,
-  false,
-  cond,
-  Option,
-  Some,
-  None,
-  length,
-  replicate,
-  slice_get,
-  ◌/◌,
-  ◌==◌,
-  mod-lt,
-  true≢false,
-  arith,
-  refl,
-  sym,
-  ap,
-  subst,
-  ◌∙◌,
-}
+use Rattle.std.proofs.Common.{ℕ, ◌≡◌, ◌≢◌, ◌<◌, ◌%◌, List, [], ◌∷◌, ◌++◌, Bool, true, false, cond, Option, Some, None, length, replicate, slice_get, ◌/◌, ◌==◌, mod-lt, true≢false, arith, refl, sym, ap, subst, ◌∙◌}
 use Rattle.std.proofs.lemmas.Option.{none-some, some_pair_parts}
 use Rattle.std.proofs.lemmas.List.{length-replicate}
 use Rattle.journal.specs.declared.event.Event.{Event}

@@ -1,42 +1,5 @@
 -- The places of a processor's events since its last closing one.
-use Rattle.std.proofs.Common.{
-  ℕ,
-  suc,
-  ◌≡◌,
-  ◌≢◌,
-  ◌<◌,
-  ◌≤◌,
-  ◌⊎◌,
-  ◌↔◌,
-  ◌==◌,
-  inl,
-  inr,
-  List,
-  [],
-  ◌∷◌,
-  ◌++◌,
-  Bool,
-  true,
-  false,
-  cond,
-  fold,
-  map,
-  Option,
-  Some,
-  slice_get,
-  length,
-  arith,
-  refl,
-  sym,
-  ap,
-  ap₂,
-  subst,
-  ◌∙◌,
-  eqb-true,
-  eq-eqb,
-  ne_eqb,
-  true≢false,
-}
+use Rattle.std.proofs.Common.{ℕ, suc, ◌≡◌, ◌≢◌, ◌<◌, ◌≤◌, ◌⊎◌, ◌↔◌, ◌==◌, inl, inr, List, [], ◌∷◌, ◌++◌, Bool, true, false, cond, fold, map, Option, Some, slice_get, length, arith, refl, sym, ap, ap₂, subst, ◌∙◌, eqb-true, eq-eqb, ne_eqb, true≢false}
 use Rattle.std.proofs.lemmas.Bool.{cases_eq}
 use Rattle.std.proofs.lemmas.List.{map-append}
 use Rattle.std.proofs.lemmas.List.Sums.{fold-append}
@@ -48,14 +11,7 @@ use Rattle.lists.specs.Places.{Has, InOrder}
 use Rattle.lists.proofs.Places.{push_cases, push_induction, slice_get-append_left}
 use Rattle.lists.proofs.Joined.{has-nil, has-append, has-cons, in_order-nil, in_order-append, in_order_single}
 use Rattle.lists.proofs.Picked.{map_same}
-use Rattle.journal.proofs.Order.Places.{
-  at_within,
-  at_last,
-  at_longer,
-  count_of-append,
-  count_of-front,
-  count_of-take-le,
-}
+use Rattle.journal.proofs.Order.Places.{at_within, at_last, at_longer, count_of-append, count_of-front, count_of-take-le}
 use Rattle.journal.proofs.Times.Times.{count_of-one}
 
 -- p's event at place i is of its open interval, and closes none

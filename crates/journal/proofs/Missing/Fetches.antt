@@ -1,29 +1,5 @@
 -- A fetch of the missing intervals: the copy that it gives, and its three counts.
-use Rattle.std.proofs.Common.{
-  ℕ,
-  ◌≡◌,
-  ◌≢◌,
-  ◌<◌,
-  ◌+◌,
-  ◌*◌,
-  ◌/◌,
-  ◌%◌,
-  div-add-mod',
-  ◌↔◌,
-  List,
-  map,
-  length,
-  flat_map,
-  sum_by,
-  arith,
-  refl,
-  sym,
-  ap,
-  ap₂,
-  subst,
-  subst₂,
-  ◌∙◌,
-}
+use Rattle.std.proofs.Common.{ℕ, ◌≡◌, ◌≢◌, ◌<◌, ◌+◌, ◌*◌, ◌/◌, ◌%◌, div-add-mod', ◌↔◌, List, map, length, flat_map, sum_by, arith, refl, sym, ap, ap₂, subst, subst₂, ◌∙◌}
 use Rattle.std.proofs.lemmas.List.{length-map}
 use Rattle.std.proofs.lemmas.List.Concat.{length-flat_map}
 use Rattle.journal.specs.declared.event.Event.{Event}

@@ -1,27 +1,5 @@
 -- The missing intervals as groups of places: they are the gap, in an order that extends happens-before.
-use Rattle.std.proofs.Common.{
-  ℕ,
-  ◌≡◌,
-  ◌≢◌,
-  ◌<◌,
-  ◌↔◌,
-  inl,
-  List,
-  [],
-  ◌∷◌,
-  Some,
-  zero,
-  suc,
-  map,
-  slice_get,
-  arith,
-  refl,
-  sym,
-  subst,
-  subst₂,
-  ◌∙◌,
-  true≢false,
-}
+use Rattle.std.proofs.Common.{ℕ, ◌≡◌, ◌≢◌, ◌<◌, ◌↔◌, inl, List, [], ◌∷◌, Some, zero, suc, map, slice_get, arith, refl, sym, subst, subst₂, ◌∙◌, true≢false}
 use Rattle.std.specs.List.{concat}
 use Rattle.std.proofs.lemmas.Option.{none-some, same_Some}
 use Rattle.journal.specs.declared.event.Event.{Event}

@@ -1,23 +1,5 @@
 -- The news of a page: of all intervals between two timestamps, those with words in the page.
-use Rattle.std.proofs.Common.{
-  ℕ,
-  ◌≡◌,
-  ◌≢◌,
-  ◌<◌,
-  ◌≤◌,
-  ◌↔◌,
-  List,
-  [],
-  ◌∷◌,
-  true,
-  filter,
-  refl,
-  sym,
-  ap,
-  subst₂,
-  true≢false,
-  arith,
-}
+use Rattle.std.proofs.Common.{ℕ, ◌≡◌, ◌≢◌, ◌<◌, ◌≤◌, ◌↔◌, List, [], ◌∷◌, true, filter, refl, sym, ap, subst₂, true≢false, arith}
 use Rattle.journal.specs.declared.event.Event.{Event}
 use Rattle.journal.specs.Sizes.{Sizes}
 use Rattle.journal.specs.Groups.{StoresIn, IsContent}

@@ -1,37 +1,5 @@
 -- The race checker's timestamps after one more event.
-use Rattle.std.proofs.Common.{
-  ◌≡◌,
-  ◌≢◌,
-  ℕ,
-  ◌+◌,
-  ◌<◌,
-  ◌≤◌,
-  ◌-◌,
-  ◌^◌,
-  max,
-  List,
-  [],
-  ◌∷◌,
-  ◌++◌,
-  length,
-  take,
-  inl,
-  inr,
-  Bool,
-  false,
-  cond,
-  ◌==◌,
-  ◌&&◌,
-  slice_index,
-  vec_len,
-  subst,
-  sym,
-  refl,
-  ap,
-  ◌∙◌,
-  add-one,
-  arith,
-}
+use Rattle.std.proofs.Common.{◌≡◌, ◌≢◌, ℕ, ◌+◌, ◌<◌, ◌≤◌, ◌-◌, ◌^◌, max, List, [], ◌∷◌, ◌++◌, length, take, inl, inr, Bool, false, cond, ◌==◌, ◌&&◌, slice_index, vec_len, subst, sym, refl, ap, ◌∙◌, add-one, arith}
 use Rattle.std.specs.BTreeMap.{BTreeMap}
 use Rattle.std.proofs.lemmas.Bool.{cases_eq, cases_lt}
 use Rattle.std.proofs.lemmas.List.Sums.{count_by-le-length}

@@ -1,32 +1,5 @@
 -- How a row of what happens before a place grows, a source at a time.
-use Rattle.std.proofs.Common.{
-  ◌≡◌,
-  ◌↔◌,
-  ◌⊎◌,
-  ◌∙◌,
-  ℕ,
-  ◌+◌,
-  ◌<◌,
-  inl,
-  inr,
-  zero,
-  suc,
-  List,
-  [],
-  ◌∷◌,
-  length,
-  slice_index_or,
-  Bool,
-  true,
-  false,
-  IsTrue,
-  ◌||◌,
-  ◌==◌,
-  refl,
-  sym,
-  subst,
-  arith,
-}
+use Rattle.std.proofs.Common.{◌≡◌, ◌↔◌, ◌⊎◌, ◌∙◌, ℕ, ◌+◌, ◌<◌, inl, inr, zero, suc, List, [], ◌∷◌, length, slice_index_or, Bool, true, false, IsTrue, ◌||◌, ◌==◌, refl, sym, subst, arith}
 use Rattle.std.proofs.lemmas.Bool.{cases_lt, eq-eqb, eqb-true}
 use Rattle.journal.specs.declared.event.Event.{Event}
 use Rattle.journal.specs.Order.{Edge, HappensBefore}

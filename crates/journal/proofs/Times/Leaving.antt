@@ -1,22 +1,5 @@
 -- A path from a processor's event to another processor leaves by an event that closes an interval.
-use Rattle.std.proofs.Common.{
-  ◌≡◌,
-  ◌≢◌,
-  ℕ,
-  ◌<◌,
-  ◌≤◌,
-  inl,
-  inr,
-  List,
-  IsTrue,
-  subst,
-  sym,
-  refl,
-  ap,
-  ◌∙◌,
-  le_refl,
-  arith,
-}
+use Rattle.std.proofs.Common.{◌≡◌, ◌≢◌, ℕ, ◌<◌, ◌≤◌, inl, inr, List, IsTrue, subst, sym, refl, ap, ◌∙◌, le_refl, arith}
 use Rattle.std.proofs.lemmas.Bool.{cases_eq}
 use Rattle.journal.specs.declared.event.Event.{Event}
 use Rattle.journal.specs.declared.event.Kind.{Kind}

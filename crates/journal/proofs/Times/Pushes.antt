@@ -1,29 +1,5 @@
 -- What each event does to the timestamps of processors and events.
-use Rattle.std.proofs.Common.{
-  ◌≡◌,
-  ◌≢◌,
-  ℕ,
-  ◌+◌,
-  ◌<◌,
-  ◌≤◌,
-  max,
-  inl,
-  inr,
-  ◌↔◌,
-  List,
-  [],
-  ◌∷◌,
-  ◌++◌,
-  length,
-  false,
-  IsTrue,
-  subst,
-  sym,
-  refl,
-  ap,
-  ◌∙◌,
-  arith,
-}
+use Rattle.std.proofs.Common.{◌≡◌, ◌≢◌, ℕ, ◌+◌, ◌<◌, ◌≤◌, max, inl, inr, ◌↔◌, List, [], ◌∷◌, ◌++◌, length, false, IsTrue, subst, sym, refl, ap, ◌∙◌, arith}
 use Rattle.std.proofs.lemmas.Bool.{cases_lt}
 use Rattle.std.proofs.Math.Seq.{take-append_seam}
 use Rattle.journal.specs.declared.event.Event.{Event}
@@ -36,16 +12,7 @@ use Rattle.journal.specs.Pasts.{UpTo, InPast}
 use Rattle.journal.specs.Times.{ClosesAt, IsTimeIn, IsTimeOf, IsTimeAt}
 use Rattle.journal.specs.Brings.{Brings}
 use Rattle.lists.proofs.Places.{push_cases}
-use Rattle.journal.proofs.Order.Places.{
-  at_last,
-  does_at,
-  count_of-append,
-  count_of-front,
-  count_of-mono,
-  count_of-past,
-  count_of-within,
-  numbered,
-}
+use Rattle.journal.proofs.Order.Places.{at_last, does_at, count_of-append, count_of-front, count_of-mono, count_of-past, count_of-within, numbered}
 use Rattle.journal.proofs.Order.Pasts.{past_back, past_push, reaches_push, own_in_past, past_within, others, brings_none}
 use Rattle.journal.proofs.Times.Leaving.{LeavesAt, leaving, back_own}
 use Rattle.journal.proofs.Times.Times.{time_longer, time_equal, time_none, count_of-one}

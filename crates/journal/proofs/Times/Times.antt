@@ -1,29 +1,5 @@
 -- Timestamps over sets of places: they are unique, rise with the set, and stay as the journal goes on.
-use Rattle.std.proofs.Common.{
-  ◌≡◌,
-  ℕ,
-  ◌<◌,
-  ◌≤◌,
-  max,
-  ◌⊎◌,
-  inl,
-  inr,
-  ◌↔◌,
-  List,
-  [],
-  ◌∷◌,
-  ◌++◌,
-  length,
-  Bool,
-  true,
-  false,
-  IsTrue,
-  ◌==◌,
-  ◌&&◌,
-  refl,
-  ap,
-  arith,
-}
+use Rattle.std.proofs.Common.{◌≡◌, ℕ, ◌<◌, ◌≤◌, max, ◌⊎◌, inl, inr, ◌↔◌, List, [], ◌∷◌, ◌++◌, length, Bool, true, false, IsTrue, ◌==◌, ◌&&◌, refl, ap, arith}
 use Rattle.std.proofs.lemmas.Bool.{cases_lt, eqb-true, and_parts}
 use Rattle.std.proofs.Math.Seq.{take-append_seam}
 use Rattle.journal.specs.declared.event.Event.{Event}

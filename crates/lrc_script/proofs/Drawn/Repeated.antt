@@ -8,19 +8,7 @@ use Rattle.lrc_script.specs.declared.script.Instruction.{Instruction}
 use Rattle.lrc_script.specs.declared.script.Instruction.TheVariants.{Barrier}
 use Rattle.std.specs.List.{range_with_len}
 use Rattle.lrc_script.specs.Plan.{Plan}
-use Rattle.lrc_script.specs.Draw.{
-  below,
-  shape,
-  most_pieces,
-  piece,
-  pieces,
-  phase,
-  more_phases,
-  section,
-  drawn_sections,
-  drawn,
-  seeded,
-}
+use Rattle.lrc_script.specs.Draw.{below, shape, most_pieces, piece, pieces, phase, more_phases, section, drawn_sections, drawn, seeded}
 
 -- draws of one after the other
 pub record IsRepeated {X : Type 0} (one : Lcg → List X × Lcg) (many : ℕ → Lcg → List X × Lcg) : Type 0 where

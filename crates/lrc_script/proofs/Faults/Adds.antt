@@ -1,41 +1,5 @@
 -- What a line that is read adds to the lines before it.
-use Rattle.std.proofs.Common.{
-  ◌≡◌,
-  ℕ,
-  ◌+◌,
-  ◌<◌,
-  Bool,
-  true,
-  false,
-  ◌&&◌,
-  ◌||◌,
-  cond,
-  eqb,
-  ltb,
-  leb,
-  List,
-  [],
-  ◌∷◌,
-  ◌++◌,
-  length,
-  map,
-  Option,
-  Some,
-  None,
-  Result,
-  Ok,
-  Err,
-  refl,
-  sym,
-  ap,
-  subst,
-  ◌∙◌,
-  append_assoc,
-  arith,
-  inl,
-  inr,
-  ◌⊎◌,
-}
+use Rattle.std.proofs.Common.{◌≡◌, ℕ, ◌+◌, ◌<◌, Bool, true, false, ◌&&◌, ◌||◌, cond, eqb, ltb, leb, List, [], ◌∷◌, ◌++◌, length, map, Option, Some, None, Result, Ok, Err, refl, sym, ap, subst, ◌∙◌, append_assoc, arith, inl, inr, ◌⊎◌}
 use Rattle.std.specs.Prelude.{All, codes}
 use Rattle.std.specs.List.{AllByRecursion, list_any}
 use Rattle.std.proofs.lemmas.Bool.{and_parts, not-false, leb-false}
@@ -48,44 +12,12 @@ use Rattle.lrc_script.specs.declared.script.Instruction.TheVariants as instructi
 use Rattle.lrc_script.specs.declared.line.Keyword.{Keyword}
 use Rattle.lrc_script.specs.declared.line.Keyword.TheVariants as keyword
 use Rattle.lrc_script.specs.Plan.{Plan, head_plan}
-use Rattle.lrc_script.specs.Lawful.{
-  addresses,
-  AreSizes,
-  IsInRange,
-  MayStandAfter,
-  IsSection,
-  address_of,
-  lock_of,
-  flag_of,
-}
+use Rattle.lrc_script.specs.Lawful.{addresses, AreSizes, IsInRange, MayStandAfter, IsSection, address_of, lock_of, flag_of}
 use Rattle.lrc_script.specs.Text.{Line, cluster_line, section_line, instruction_line, show_line, section_lines}
 use Rattle.lrc_script.specs.Front.{Front, Nothing, Headed, Within, Whole, IsBegun, IsHeaded, IsWithin, lines_before}
-use Rattle.lrc_script.specs.Reading.{
-  are_sizes,
-  is_due,
-  sized,
-  headed,
-  first_section,
-  next_section,
-  ended,
-  is_past,
-  takes_held,
-  gives_unheld,
-  refusal,
-  entered,
-  closed,
-  step,
-}
+use Rattle.lrc_script.specs.Reading.{are_sizes, is_due, sized, headed, first_section, next_section, ended, is_past, takes_held, gives_unheld, refusal, entered, closed, step}
 use Rattle.lrc_script.proofs.Reading.Numbers.{AreWords}
-use Rattle.lrc_script.proofs.Lawful.{
-  sizes_from_test,
-  sizes_small,
-  section_with,
-  sizes_with,
-  section_over,
-  sizes_over,
-  nothing_stands,
-}
+use Rattle.lrc_script.proofs.Lawful.{sizes_from_test, sizes_small, section_with, sizes_with, section_over, sizes_over, nothing_stands}
 use Rattle.lrc_script.proofs.Text.{section_lines-append}
 use Rattle.lrc_script.proofs.Reading.Keywords.{spelled}
 

@@ -1,40 +1,5 @@
 -- What a fault says of the line that is refused.
-use Rattle.std.proofs.Common.{
-  ◌≡◌,
-  ◌≢◌,
-  ℕ,
-  suc,
-  ◌+◌,
-  ◌≤◌,
-  Bool,
-  true,
-  false,
-  ◌&&◌,
-  ◌||◌,
-  cond,
-  eqb,
-  ltb,
-  leb,
-  List,
-  [],
-  ◌∷◌,
-  length,
-  Option,
-  Some,
-  None,
-  Result,
-  Ok,
-  Err,
-  refl,
-  sym,
-  ap,
-  subst,
-  ◌∙◌,
-  arith,
-  inl,
-  inr,
-  ◌⊎◌,
-}
+use Rattle.std.proofs.Common.{◌≡◌, ◌≢◌, ℕ, suc, ◌+◌, ◌≤◌, Bool, true, false, ◌&&◌, ◌||◌, cond, eqb, ltb, leb, List, [], ◌∷◌, length, Option, Some, None, Result, Ok, Err, refl, sym, ap, subst, ◌∙◌, arith, inl, inr, ◌⊎◌}
 use Rattle.std.specs.Prelude.{Any, IsSomeAnd, codes}
 use Rattle.std.specs.List.{list_any}
 use Rattle.std.proofs.lemmas.Bool.{and_cases, both_ways, not-true}
@@ -49,33 +14,8 @@ use Rattle.lrc_script.specs.Plan.{Plan, head_plan}
 use Rattle.lrc_script.specs.Lawful.{addresses, AreSizes, address_of, lock_of, flag_of, holds}
 use Rattle.lrc_script.specs.Text.{Line, line_bytes, section_line, instruction_line, show_line}
 use Rattle.lrc_script.specs.Front.{Front, Nothing, Headed, Within, Whole, IsBegun}
-use Rattle.lrc_script.specs.Faults.{
-  Allows,
-  IsOutOfTurn,
-  AreNoSizes,
-  SaysWithin,
-  Says,
-  IsLineFault,
-  IsFaultBehind,
-  IsFaultAt,
-  IsFault,
-}
-use Rattle.lrc_script.specs.Reading.{
-  are_sizes,
-  is_due,
-  headed,
-  first_section,
-  next_section,
-  ended,
-  is_past,
-  takes_held,
-  gives_unheld,
-  refusal,
-  entered,
-  closed,
-  step,
-  after,
-}
+use Rattle.lrc_script.specs.Faults.{Allows, IsOutOfTurn, AreNoSizes, SaysWithin, Says, IsLineFault, IsFaultBehind, IsFaultAt, IsFault}
+use Rattle.lrc_script.specs.Reading.{are_sizes, is_due, headed, first_section, next_section, ended, is_past, takes_held, gives_unheld, refusal, entered, closed, step, after}
 use Rattle.lrc_script.proofs.Lawful.{sizes_test}
 use Rattle.lrc_script.proofs.Reading.Keywords.{spelled, keyword_spelled, due_allows, allows_due}
 use Rattle.lrc_script.proofs.Reading.Cases.{Reading, Shapeless, NoNumber, Reached, reading}

@@ -1,35 +1,10 @@
 -- What is begun can be completed: the lines before begin the text of some script.
-use Rattle.std.proofs.Common.{
-  ◌≡◌,
-  ◌+◌,
-  ◌-◌,
-  ◌<◌,
-  ◌≤◌,
-  List,
-  [],
-  ◌∷◌,
-  ◌++◌,
-  length,
-  replicate,
-  refl,
-  sym,
-  ap,
-  ◌∙◌,
-  append_assoc,
-  arith,
-}
+use Rattle.std.proofs.Common.{◌≡◌, ◌+◌, ◌-◌, ◌<◌, ◌≤◌, List, [], ◌∷◌, ◌++◌, length, replicate, refl, sym, ap, ◌∙◌, append_assoc, arith}
 use Rattle.std.specs.Prelude.{All}
 use Rattle.std.specs.List.{flat_map}
 use Rattle.std.proofs.lemmas.List.{append-nil, length-append, length-replicate}
 use Rattle.std.proofs.lemmas.List.Concat.{flat_map-append}
-use Rattle.std.proofs.lemmas.List.Elements.{
-  All-from_recursion,
-  All-append,
-  All-replicate,
-  All-weaker,
-  All-push,
-  All-nil,
-}
+use Rattle.std.proofs.lemmas.List.Elements.{All-from_recursion, All-append, All-replicate, All-weaker, All-push, All-nil}
 use Rattle.lrc_script.specs.declared.script.Instruction.{Instruction}
 use Rattle.lrc_script.specs.Plan.{Plan}
 use Rattle.lrc_script.specs.Lawful.{addresses, AreSizes, IsSection, IsLawfulButUneven}

@@ -1,34 +1,5 @@
 -- The lines of a script lead from nothing to the whole script.
-use Rattle.std.proofs.Common.{
-  ◌≡◌,
-  ℕ,
-  suc,
-  ◌+◌,
-  ◌<◌,
-  ◌≤◌,
-  Bool,
-  true,
-  false,
-  ◌&&◌,
-  cond,
-  eqb,
-  ltb,
-  leb,
-  List,
-  [],
-  ◌∷◌,
-  ◌++◌,
-  length,
-  map,
-  None,
-  refl,
-  sym,
-  ap,
-  subst,
-  ◌∙◌,
-  append_assoc,
-  arith,
-}
+use Rattle.std.proofs.Common.{◌≡◌, ℕ, suc, ◌+◌, ◌<◌, ◌≤◌, Bool, true, false, ◌&&◌, cond, eqb, ltb, leb, List, [], ◌∷◌, ◌++◌, length, map, None, refl, sym, ap, subst, ◌∙◌, append_assoc, arith}
 use Rattle.std.specs.Prelude.{All, codes}
 use Rattle.std.specs.List.{AllByRecursion, list_any}
 use Rattle.std.proofs.lemmas.Bool.{eqb-true}
@@ -40,28 +11,12 @@ use Rattle.lrc_script.specs.declared.script.Instruction.TheVariants as instructi
 use Rattle.lrc_script.specs.declared.line.Keyword.TheVariants as keyword
 use Rattle.lrc_script.specs.Plan.{Plan, head_plan}
 use Rattle.lrc_script.specs.Lawful.{addresses, AreSizes, IsInRange, MayStandAfter, IsSection, IsLawfulButUneven}
-use Rattle.lrc_script.specs.Text.{
-  Line,
-  cluster_line,
-  section_line,
-  instruction_line,
-  show_line,
-  section_lines,
-  lines_of,
-}
+use Rattle.lrc_script.specs.Text.{Line, cluster_line, section_line, instruction_line, show_line, section_lines, lines_of}
 use Rattle.lrc_script.specs.Front.{Front, Nothing, Headed, Within, Whole, IsBegun, IsHeaded, IsWithin, lines_before}
 use Rattle.lrc_script.specs.Reading.{are_sizes, refusal, closed, step}
 use Rattle.lrc_script.proofs.Reading.Numbers.{AreWords}
 use Rattle.lrc_script.proofs.Reading.Lines.{Goes, goes}
-use Rattle.lrc_script.proofs.Lawful.{
-  sizes_test,
-  sizes_small,
-  sizes_over,
-  section_over,
-  with_sections,
-  section_with,
-  sizes_with,
-}
+use Rattle.lrc_script.proofs.Lawful.{sizes_test, sizes_small, sizes_over, section_over, with_sections, section_with, sizes_with}
 use Rattle.lrc_script.proofs.Front.Runs.{Passes, Passes-append}
 
 pub head_is : (s : Plan) → IsHeaded s → s ≡ head_plan s.processors s.pages s.words s.locks s.flags

@@ -1,29 +1,5 @@
 -- How a line is read, by cases.
-use Rattle.std.proofs.Common.{
-  ◌≡◌,
-  ℕ,
-  Bool,
-  true,
-  false,
-  cond,
-  List,
-  [],
-  ◌∷◌,
-  ◌++◌,
-  length,
-  map,
-  Option,
-  Some,
-  None,
-  Result,
-  Ok,
-  Err,
-  refl,
-  sym,
-  ap,
-  subst,
-  ◌∙◌,
-}
+use Rattle.std.proofs.Common.{◌≡◌, ℕ, Bool, true, false, cond, List, [], ◌∷◌, ◌++◌, length, map, Option, Some, None, Result, Ok, Err, refl, sym, ap, subst, ◌∙◌}
 use Rattle.std.specs.List.{list_all, flat_map}
 use Rattle.std.specs.Fmt.{decimal}
 use Rattle.std.proofs.lemmas.List.{length-map}
@@ -33,18 +9,7 @@ use Rattle.lrc_script.specs.declared.line.Keyword.{Keyword}
 use Rattle.lrc_script.specs.Text.{line_bytes}
 use Rattle.lrc_script.specs.Front.{Front}
 use Rattle.lrc_script.specs.Faults.{IsSplit}
-use Rattle.lrc_script.specs.Reading.{
-  ◌>>=◌,
-  parts_of,
-  has_bytes,
-  keyword_of,
-  is_due,
-  numbers_after,
-  step,
-  after,
-  after_words,
-  after_keyword,
-}
+use Rattle.lrc_script.specs.Reading.{◌>>=◌, parts_of, has_bytes, keyword_of, is_due, numbers_after, step, after, after_words, after_keyword}
 use Rattle.lrc_script.proofs.Reading.Numbers.{AreWords, NotNumber, numbers_take, numbers_refused}
 use Rattle.lrc_script.proofs.Reading.Words.{parts_from_split, split_from_parts}
 use Rattle.lrc_script.proofs.Reading.Lines.{flat_spaced}

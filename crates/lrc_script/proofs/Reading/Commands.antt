@@ -1,27 +1,5 @@
 -- A line of a word and numbers.
-use Rattle.std.proofs.Common.{
-  ◌≡◌,
-  ℕ,
-  ◌<◌,
-  cond,
-  eqb,
-  true,
-  false,
-  List,
-  [],
-  ◌∷◌,
-  length,
-  Option,
-  Some,
-  None,
-  Ok,
-  refl,
-  sym,
-  ap,
-  subst,
-  ◌∙◌,
-  arith,
-}
+use Rattle.std.proofs.Common.{◌≡◌, ℕ, ◌<◌, cond, eqb, true, false, List, [], ◌∷◌, length, Option, Some, None, Ok, refl, sym, ap, subst, ◌∙◌, arith}
 use Rattle.std.specs.List.{list_all, onto_first, AllByRecursion}
 use Rattle.std.specs.Fmt.{decimal}
 use Rattle.std.proofs.lemmas.Bool.{lt-ltb}
@@ -29,16 +7,7 @@ use Rattle.std.proofs.lemmas.List.{length-map}
 use Rattle.lrc_script.specs.declared.line.Keyword.{Keyword}
 use Rattle.lrc_script.specs.Front.{Front}
 use Rattle.lrc_script.specs.Faults.{IsWord}
-use Rattle.lrc_script.specs.Reading.{
-  parts_of,
-  has_bytes,
-  keyword_of,
-  numbers_after,
-  after,
-  after_words,
-  after_keyword,
-  after_numbers,
-}
+use Rattle.lrc_script.specs.Reading.{parts_of, has_bytes, keyword_of, numbers_after, after, after_words, after_keyword, after_numbers}
 use Rattle.lrc_script.proofs.Reading.Numbers.{numbers_take}
 use Rattle.lrc_script.proofs.Reading.Words.{words_have}
 use Rattle.lrc_script.proofs.Reading.Lines.{decimals_words}

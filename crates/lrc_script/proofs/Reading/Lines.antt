@@ -1,28 +1,5 @@
 -- A line of a keyword and numbers is read as that keyword and those numbers.
-use Rattle.std.proofs.Common.{
-  ◌≡◌,
-  ℕ,
-  ◌^◌,
-  ◌<◌,
-  Bool,
-  true,
-  not,
-  ◌&&◌,
-  eqb,
-  ltb,
-  List,
-  [],
-  ◌∷◌,
-  ◌++◌,
-  length,
-  map,
-  Some,
-  Ok,
-  refl,
-  ap,
-  ◌∙◌,
-  arith,
-}
+use Rattle.std.proofs.Common.{◌≡◌, ℕ, ◌^◌, ◌<◌, Bool, true, not, ◌&&◌, eqb, ltb, List, [], ◌∷◌, ◌++◌, length, map, Some, Ok, refl, ap, ◌∙◌, arith}
 use Rattle.std.specs.Char.{is_ascii_digit}
 use Rattle.std.specs.List.{list_all, flat_map, AllByRecursion}
 use Rattle.std.specs.Fmt.{decimal}
@@ -33,16 +10,7 @@ use Rattle.lrc_script.specs.declared.line.Keyword.{Keyword}
 use Rattle.lrc_script.specs.Text.{Line, spaced, line_bytes}
 use Rattle.lrc_script.specs.Front.{Front}
 use Rattle.lrc_script.specs.Faults.{IsWord, IsSplit}
-use Rattle.lrc_script.specs.Reading.{
-  ◌>>=◌,
-  keyword_of,
-  is_due,
-  numbers_after,
-  step,
-  after,
-  after_words,
-  after_keyword,
-}
+use Rattle.lrc_script.specs.Reading.{◌>>=◌, keyword_of, is_due, numbers_after, step, after, after_words, after_keyword}
 use Rattle.lrc_script.proofs.Reading.Numbers.{AreWords, numbers_again, Decimal-decimal}
 use Rattle.lrc_script.proofs.Reading.Words.{HasNo, HasNo-append, parts_from_split}
 

@@ -1,40 +1,5 @@
 -- Numbers and their decimal digits.
-use Rattle.std.proofs.Common.{
-  ◌≡◌,
-  ℕ,
-  suc,
-  ◌^◌,
-  ◌<◌,
-  ◌≢◌,
-  true,
-  false,
-  not,
-  ◌&&◌,
-  cond,
-  eqb,
-  ltb,
-  List,
-  [],
-  ◌∷◌,
-  ◌++◌,
-  length,
-  get_or,
-  map,
-  subst,
-  append_assoc,
-  Option,
-  Some,
-  None,
-  Ok,
-  Err,
-  refl,
-  sym,
-  ap,
-  ◌∙◌,
-  zero,
-  arith,
-  rules,
-}
+use Rattle.std.proofs.Common.{◌≡◌, ℕ, suc, ◌^◌, ◌<◌, ◌≢◌, true, false, not, ◌&&◌, cond, eqb, ltb, List, [], ◌∷◌, ◌++◌, length, get_or, map, subst, append_assoc, Option, Some, None, Ok, Err, refl, sym, ap, ◌∙◌, zero, arith, rules}
 use Rattle.std.specs.Char.{is_ascii_digit}
 use Rattle.std.specs.Prelude.{Contains, is_some, unwrap_or}
 use Rattle.std.specs.List.{list_all, AllByRecursion}
@@ -43,14 +8,7 @@ use Rattle.std.specs.Str.Parse.{digits_value}
 use Rattle.std.proofs.lemmas.Bool.{ltb-true, lt-ltb, and_parts}
 use Rattle.std.proofs.lemmas.Bool.Decides.{nat_tests}
 use Rattle.std.proofs.lemmas.Str.Parse.{IsNumeralModel, numerals_by_value}
-use Rattle.std.proofs.lemmas.Fmt.{
-  decimal-digits_value,
-  digits_decimal,
-  digits_value-decimal,
-  decimal_nonempty,
-  first_decimal,
-  decimal_digit,
-}
+use Rattle.std.proofs.lemmas.Fmt.{decimal-digits_value, digits_decimal, digits_value-decimal, decimal_nonempty, first_decimal, decimal_digit}
 use Rattle.std.proofs.lemmas.Option.{cond_some}
 use Rattle.std.proofs.lemmas.List.{append-nil}
 use Rattle.std.proofs.lemmas.List.Elements.{Contains-append_right}

@@ -1,25 +1,4 @@
-use Rattle.std.proofs.Common.{
-  ◌≡◌,
-  ℕ,
-  ◌+◌,
-  ◌≤◌,
-  List,
-  [],
-  ◌∷◌,
-  ◌++◌,
-  Option,
-  MatchOption,
-  length,
-  take,
-  slice_index,
-  slice_index_or,
-  subst,
-  subst₂,
-  sym,
-  ap,
-  ◌∙◌,
-  arith,
-}
+use Rattle.std.proofs.Common.{◌≡◌, ℕ, ◌+◌, ◌≤◌, List, [], ◌∷◌, ◌++◌, Option, MatchOption, length, take, slice_index, slice_index_or, subst, subst₂, sym, ap, ◌∙◌, arith}
 use Rattle.std.proofs.lemmas.Option.{slice_get-get_or}
 use Rattle.std.proofs.lemmas.List.{length-take-le}
 use Rattle.journal.specs.declared.event.Event.{Event}

@@ -1,22 +1,4 @@
-use Rattle.std.proofs.Common.{
-  ◌≡◌,
-  ℕ,
-  ◌+◌,
-  ◌<◌,
-  inl,
-  inr,
-  length,
-  take,
-  List,
-  slice_index,
-  slice_index_or,
-  ◌==◌,
-  sym,
-  refl,
-  ap,
-  ◌∙◌,
-  arith,
-}
+use Rattle.std.proofs.Common.{◌≡◌, ℕ, ◌+◌, ◌<◌, inl, inr, length, take, List, slice_index, slice_index_or, ◌==◌, sym, refl, ap, ◌∙◌, arith}
 use borrow.Author.Count.{below_more}
 use Rattle.std.proofs.lemmas.Option.{slice_get-get_or, slice_get_within}
 use Rattle.std.proofs.lemmas.Bool.{cases_lt}
@@ -27,12 +9,7 @@ use Rattle.journal.specs.Events.{count_of, is_closing}
 use Rattle.journal.specs.Races.{Race}
 use Rattle.journal.proofs.Passes.RaceSteps.{race_by_time, race_events, count_next, cond-and_true, cond-and_false}
 use Rattle.journal.proofs.race.first_racing.Goals as goal
-use Rattle.journal.proofs.race.first_racing.Goals.{
-  else-is_conflict-via-then-is_conflict+else-time-earlier,
-  else-is_conflict-via-else-is_conflict,
-  then-closes,
-  else-closes,
-}
+use Rattle.journal.proofs.race.first_racing.Goals.{else-is_conflict-via-then-is_conflict+else-time-earlier, else-is_conflict-via-else-is_conflict, then-closes, else-closes}
 
 -- the event at this place
 abbrev here : List Event → ℕ → Event

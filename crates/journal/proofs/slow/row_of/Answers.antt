@@ -1,20 +1,4 @@
-use Rattle.std.proofs.Common.{
-  ◌≡◌,
-  ◌↔◌,
-  ◌+◌,
-  ◌<◌,
-  false,
-  IsTrue,
-  Some,
-  ap,
-  ◌∙◌,
-  sym,
-  subst,
-  length,
-  slice_index_or,
-  vec_len,
-  arith,
-}
+use Rattle.std.proofs.Common.{◌≡◌, ◌↔◌, ◌+◌, ◌<◌, false, IsTrue, Some, ap, ◌∙◌, sym, subst, length, slice_index_or, vec_len, arith}
 use Rattle.std.proofs.lemmas.List.{with_items_is}
 use Rattle.std.proofs.lemmas.Option.{slice_get-get_or}
 use Rattle.journal.specs.Order.{HappensBefore}

@@ -1,17 +1,6 @@
 use Rattle.std.proofs.Common.{arith, refl}
 use Rattle.lrc_script.specs.Plan.{plan_of}
-use Rattle.lrc_script.proofs.Faults.Places.{
-  at_start,
-  at_next,
-  failed_fault,
-  truncated_fault,
-  whole_text,
-  uneven_fault,
-  read_again,
-  sections_fit,
-  number_fits,
-  cut_shorter,
-}
+use Rattle.lrc_script.proofs.Faults.Places.{at_start, at_next, failed_fault, truncated_fault, whole_text, uneven_fault, read_again, sections_fit, number_fits, cut_shorter}
 use Rattle.lrc_script.proofs.script.parse.Goals as goal
 
 pub loop-line-init : goal.loop-line-init

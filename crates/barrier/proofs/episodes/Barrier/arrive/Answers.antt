@@ -1,21 +1,4 @@
-use Rattle.std.proofs.Common.{
-  ℕ,
-  ◌≡◌,
-  Bool,
-  Some,
-  List,
-  [],
-  ◌∷◌,
-  ◌++◌,
-  length,
-  set,
-  slice_get,
-  refl,
-  ap,
-  sym,
-  ◌∙◌,
-  subst,
-}
+use Rattle.std.proofs.Common.{ℕ, ◌≡◌, Bool, Some, List, [], ◌∷◌, ◌++◌, length, set, slice_get, refl, ap, sym, ◌∙◌, subst}
 use Rattle.std.specs.List.{list_all, refill}
 use Rattle.barrier.specs.declared.episodes.Stage.{Stage}
 use Rattle.barrier.specs.declared.episodes.Stage.TheVariants.{Away, Here}

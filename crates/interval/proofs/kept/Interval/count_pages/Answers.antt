@@ -5,22 +5,9 @@ use Rattle.std.proofs.lemmas.List.{take_all, length-map}
 use Rattle.std.proofs.lemmas.List.Concat.{flat_map_single}
 use Rattle.page.specs.Changes.{Changes}
 use Rattle.interval.specs.Counts.{AreCounted, HasRoom}
-use Rattle.interval.proofs.Counts.Counted.{
-  counted-nil,
-  counted-one,
-  counted-out,
-  counted_more,
-  room_one,
-  room_more,
-  mapped_at,
-}
+use Rattle.interval.proofs.Counts.Counted.{counted-nil, counted-one, counted-out, counted_more, room_one, room_more, mapped_at}
 use Rattle.interval.proofs.kept.Interval.count_pages.Goals as goal
-use Rattle.interval.proofs.kept.Interval.count_pages.Goals.{
-  then-base-page+then-page-base,
-  else-base-page,
-  else-base-page-via-then-base-page+else-page-base,
-  else-base-page-via-else-base-page,
-}
+use Rattle.interval.proofs.kept.Interval.count_pages.Goals.{then-base-page+then-page-base, else-base-page, else-base-page-via-then-base-page+else-page-base, else-base-page-via-else-base-page}
 
 abbrev own : Changes → List ℕ
 own r = r.page ∷ []

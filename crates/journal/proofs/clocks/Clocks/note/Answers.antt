@@ -1,27 +1,4 @@
-use Rattle.std.proofs.Common.{
-  ℕ,
-  ◌+◌,
-  ◌<◌,
-  ◌^◌,
-  length,
-  take,
-  List,
-  [],
-  ◌∷◌,
-  ◌++◌,
-  slice_index,
-  slice_index_or,
-  subst,
-  sym,
-  refl,
-  ap,
-  ◌∙◌,
-  cond,
-  ◌==◌,
-  ◌&&◌,
-  vec_len,
-  arith,
-}
+use Rattle.std.proofs.Common.{ℕ, ◌+◌, ◌<◌, ◌^◌, length, take, List, [], ◌∷◌, ◌++◌, slice_index, slice_index_or, subst, sym, refl, ap, ◌∙◌, cond, ◌==◌, ◌&&◌, vec_len, arith}
 use Rattle.std.proofs.lemmas.Option.{slice_get-get_or}
 use Rattle.std.proofs.lemmas.List.{length-take-le}
 use Rattle.journal.specs.declared.event.Event.{Event}
@@ -31,15 +8,7 @@ use Rattle.journal.specs.Events.{is_arrive, is_depart}
 use Rattle.journal.specs.Entries.{entry}
 use Rattle.journal.specs.Clocks.{AreClocks}
 use Rattle.journal.proofs.Passes.Entries.{entry-set_same, entry-set_other}
-use Rattle.journal.proofs.Passes.ClockSteps.{
-  clocks_plain,
-  clocks_next,
-  AreNext,
-  front_next,
-  own_room,
-  keeps_same,
-  clocks_let_go,
-}
+use Rattle.journal.proofs.Passes.ClockSteps.{clocks_plain, clocks_next, AreNext, front_next, own_room, keeps_same, clocks_let_go}
 use Rattle.journal.proofs.clocks.Clocks.note.Goals as goal
 
 -- the event at this place
