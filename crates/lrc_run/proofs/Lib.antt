@@ -1,0 +1,4 @@
+pub mod Making
+pub mod Concluding
+pub mod Failing
+pub mod Joining

@@ -1,2 +1,5 @@
 pub mod Walks
+pub mod Endings
 pub mod Runs
+pub mod Faults
+pub mod Threads

@@ -28,6 +28,9 @@ pub enum Cause {
     /// Its thread couldn't be started.
     #[error("thread not started")]
     Thread,
+    /// A `cut` is to be done, which the cluster doesn't do yet.
+    #[error("cut not served yet")]
+    Unserved,
     /// A call was refused.
     #[error("{0}")]
     Refused(Refused),

@@ -1,0 +1,221 @@
+-- What the processors of a cluster have made at the end of a run, and what the report says of it.
+use Rattle.std.proofs.Common.{ℕ, ◌≡◌, ◌≢◌, ◌<◌, ◌↔◌, Bool, true, false, cond, Option, Some, None, List, [], ◌∷◌, ◌++◌, length, map, slice_get, slice_set, get_or, zero-add, ◌+◌, refl, sym, ap, subst, subst₂, ◌∙◌, inl, inr, append_assoc, ne_eqb, arith}
+use Rattle.std.specs.Prelude.{◌==◌, IsTrue, is_some, MatchOption}
+use Rattle.std.proofs.lemmas.Bool.{cases_eq, cond-false}
+use Rattle.std.proofs.lemmas.List.{length-set}
+use Rattle.std.proofs.lemmas.Option.{slice_get_within, slice_get-get_or, slice_get_read}
+use Rattle.lists.proofs.Sets.{slice_get-set_found, slice_get-set_other}
+use Rattle.journal.specs.declared.event.Event.{Event}
+use Rattle.journal.specs.declared.event.Kind.TheVariants.{Arrive, Depart}
+use Rattle.journal.specs.declared.event.Kind.{Kind}
+use Rattle.journal.specs.Base.{Base, no_base}
+use Rattle.journal.specs.Events.{part}
+use Rattle.journal.specs.RacesFrom.{IsFirstRaceFrom, RaceFreeFrom}
+use Rattle.journal.specs.Sizes.{Sizes, addresses}
+use Rattle.journal.specs.Traffic.{messages, records, words}
+use Rattle.journal.specs.WellFormed.{WellFormed}
+use Rattle.journal.proofs.Bases.Uncut.{uncut_race}
+use Rattle.lrc_script.specs.declared.script.Instruction.{Instruction}
+use Rattle.lrc_script.specs.Lawful.{IsLawful}
+use Rattle.lrc_script.specs.Plan.{Plan}
+use Rattle.follows.specs.Follows.{Follows, FollowsSection, calls_of, kinds_of, load_of, sizes_of}
+use Rattle.replicas.specs.Local.{Local, calls}
+use Rattle.cluster.specs.Clusters.{Shared}
+use Rattle.cluster.specs.Finishing.{AreAllOf, HasCallsOf, IsFinished, IsProcessorOf}
+use Rattle.lrc_run.specs.declared.report.Report.{Report}
+use Rattle.lrc_run.specs.Endings.{HasFollowed, HaveFollowed}
+use Rattle.lrc_run.specs.Runs.{HasRace, IsReportOf}
+use Rattle.lrc_run.specs.Walks.{AreWalked, Loads, Walks, made, new_at}
+
+-- one that walked is its cluster's
+pub walked_of : (c : Shared) (p : ℕ) (m : Local) (section : List Instruction) → Walks (new_at c p) m section → IsProcessorOf c p m
+walked_of c p m section walks = record {
+  lock = walks.makes.same.lock;
+  number = walks.makes.same.number;
+  sizes = walks.makes.same.sizes;
+}
+
+-- it made its section and the closing barrier
+pub walked_made : (c : Shared) (p : ℕ) (m : Local) (section : List Instruction) → Walks (new_at c p) m section → HasFollowed section [] m
+walked_made c p m section walks = record { own = walks.kinds; are = walks.are; made_is = walks.makes.more }
+
+-- and then these loads
+pub loads_made : (section : List Instruction) (m n : Local) (shown : List (ℕ × ℕ)) → HasFollowed section [] m → Loads m n shown
+    → HasFollowed section shown n
+loads_made section m n shown walked loads = record {
+  own = walked.own;
+  are = walked.are;
+  made_is = loads.more ∙ ap (λ ks. ks ++ map load_of shown) walked.made_is
+      ∙ append_assoc walked.own (Arrive ∷ Depart ∷ []) (map load_of shown);
+}
+
+-- a script's processor has a section
+pub walks_at : (s : Plan) (c : Shared) (ms : List Local) → IsLawful s → c.sizes ≡ sizes_of s → AreWalked c s.sections ms
+    → (p : ℕ) (m : Local) → slice_get ms p ≡ Some m → (section : List Instruction) × Walks (new_at c p) m section
+walks_at s c ms lawful sizes walked p m here =
+    let within = slice_get_within ms p m here in
+    let one_each = lawful.but_uneven.one_each in
+    let same = ap (λ (x : Sizes). x.processors) sizes in
+    let many = walked.all in
+    let below : p < length s.sections = omega arith in
+    let section = get_or s.sections p [] in
+    (section, walked.each p section m (slice_get-get_or s.sections p [] below) here)
+
+-- a script has a processor 0
+pub first_at : (s : Plan) (c : Shared) (ms : List Local) (m : Local) → IsLawful s → c.sizes ≡ sizes_of s
+    → AreWalked c s.sections ms → m ≡ get_or ms 0 m → slice_get ms 0 ≡ Some m
+first_at s c ms m lawful sizes walked is =
+    let some = lawful.but_uneven.sizes.some_processors in
+    let same = ap (λ (x : Sizes). x.processors) sizes in
+    let many = walked.all in
+    slice_get_read ms (length ms) 0 m refl (omega arith) is
+
+-- all have walked, and processor 0 has loaded what is shown
+pub have_followed : (s : Plan) (c : Shared) (ms : List Local) (m n : Local) (shown : List (ℕ × ℕ)) → IsLawful s
+    → c.sizes ≡ sizes_of s → AreWalked c s.sections ms → slice_get ms 0 ≡ Some m → Loads m n shown
+    → map (λ (x : ℕ × ℕ). x.0) shown ≡ s.shown → HaveFollowed s c (slice_set ms 0 n) shown
+have_followed s c ms m n shown lawful sizes walked at loads shows = record {
+  lawful = lawful;
+  sizes = sizes;
+  all = record { all = length-set ms 0 n ∙ walked.all; each = own };
+  each = each;
+  addresses_are = shows;
+}
+  where
+    own : (p : ℕ) (x : Local) → slice_get (slice_set ms 0 n) p ≡ Some x → IsProcessorOf c p x
+    own p x here = elim (cases_eq p 0) [
+      | inl is ↦ (let P : ℕ → Type 0 = λ q. slice_get (slice_set ms 0 n) q ≡ Some x in
+          let w = walks_at s c ms lawful sizes walked 0 m at in
+          let first = walked_of c 0 m w.0 w.1 in
+          let last : IsProcessorOf c 0 n = record {
+            lock = loads.same.lock ∙ first.lock;
+            number = loads.same.number ∙ first.number;
+            sizes = loads.same.sizes ∙ first.sizes;
+          } in
+          let Q : ℕ → Type 0 = λ q. IsProcessorOf c q x in
+          subst Q (sym is) (subst (IsProcessorOf c 0) (slice_get-set_found ms 0 n x (subst P is here)) last))
+      | inr isnt ↦ (let w = walks_at s c ms lawful sizes walked p x (sym (slice_get-set_other ms 0 p n isnt) ∙ here) in walked_of c p x w.0 w.1)
+    ]
+
+    each : (p : ℕ) (section : List Instruction) (x : Local) → slice_get s.sections p ≡ Some section
+        → slice_get (slice_set ms 0 n) p ≡ Some x → HasFollowed section (cond (p == 0) shown []) x
+    each p section x its here = elim (cases_eq p 0) [
+      | inl is ↦ (let P : ℕ → Type 0 = λ q. slice_get (slice_set ms 0 n) q ≡ Some x in
+          let S : ℕ → Type 0 = λ q. slice_get s.sections q ≡ Some section in
+          let first = walked_made c 0 m section (walked.each 0 section m (subst S is its) at) in
+          let last = loads_made section m n shown first loads in
+          let Q : ℕ → Type 0 = λ q. HasFollowed section (cond (q == 0) shown []) x in
+          subst Q (sym is) (subst (HasFollowed section shown) (slice_get-set_found ms 0 n x (subst P is here)) last))
+      | inr isnt ↦ (let there = sym (slice_get-set_other ms 0 p n isnt) ∙ here in
+          let R : List (ℕ × ℕ) → Type 0 = λ loads. HasFollowed section loads x in
+          subst R (sym (cond-false (p == 0) shown [] (ne_eqb p 0 isnt))) (walked_made c p x section (walked.each p section x its there)))
+    ]
+
+-- a history with these processors' calls follows the script
+pub follows_all : (s : Plan) (c : Shared) (ms : List Local) (shown : List (ℕ × ℕ)) (h : List Event) → HaveFollowed s c ms shown
+    → ((p : ℕ) (m : Local) → slice_get ms p ≡ Some m → HasCallsOf h m) → Follows s h
+follows_all s c ms shown h all has p section at = record {
+  own = its.own;
+  loads = cond (p == 0) shown [];
+  kinds_are = ap kinds_of (ap (part h) (sym (all.all.each p m here).number) ∙ (has p m here).calls_are) ∙ its.made_is;
+  follows = its.are;
+  addresses_are = shows (p == 0);
+}
+  where
+    within : p < length ms
+    within =
+        let below = slice_get_within s.sections p section at in
+        let one_each = all.lawful.but_uneven.one_each in
+        let many = all.all.all in
+        let sizes = ap (λ (x : Sizes). x.processors) all.sizes in
+        omega arith
+
+    m : Local
+    m = get_or ms p (new_at c p)
+
+    here : slice_get ms p ≡ Some m
+    here = slice_get-get_or ms p (new_at c p) within
+
+    its : HasFollowed section (cond (p == 0) shown []) m
+    its = all.each p section m at here
+
+    shows : (b : Bool) → map (λ (x : ℕ × ℕ). x.0) (cond b shown []) ≡ cond b s.shown []
+    shows true = all.addresses_are
+    shows false = refl
+
+-- what processor 0 called
+pub first_calls : (s : Plan) (c : Shared) (ms : List Local) (shown : List (ℕ × ℕ)) (h : List Event) → HaveFollowed s c ms shown
+    → ((p : ℕ) (m : Local) → slice_get ms p ≡ Some m → HasCallsOf h m)
+    → (own : List Kind) × (calls_of h 0 ≡ own ++ Arrive ∷ Depart ∷ map load_of shown)
+first_calls s c ms shown h all has =
+    let sizes = all.lawful.but_uneven.sizes.some_processors in
+    let same = ap (λ (x : Sizes). x.processors) all.sizes in
+    let many = all.all.all in
+    let one_each = all.lawful.but_uneven.one_each in
+    let some : 0 < length ms = omega arith in
+    let listed : 0 < length s.sections = omega arith in
+    let m = get_or ms 0 (new_at c 0) in
+    let here = slice_get-get_or ms 0 (new_at c 0) some in
+    let section = get_or s.sections 0 [] in
+    let its = all.each 0 section m (slice_get-get_or s.sections 0 [] listed) here in
+    (its.own, ap kinds_of (ap (part h) (sym (all.all.each 0 m here).number) ∙ (has 0 m here).calls_are) ∙ its.made_is)
+
+-- by the first race, if there is one, there is a race
+pub has_race : (size : ℕ) (h : List Event) (o : Option (ℕ × ℕ))
+    → MatchOption o (RaceFreeFrom (no_base size) h) (λ r. IsFirstRaceFrom (no_base size) h r.0 r.1)
+    → IsTrue (is_some o) ↔ HasRace h
+has_race size h None free = ((λ t. absurd (cc)), λ r. absurd (free r.0 r.1 ((uncut_race size h r.0 r.1).0 r.2)))
+has_race size h (Some r) first = ((λ t. (r.0, r.1, (uncut_race size h r.0 r.1).1 first.race)), λ r. refl)
+
+-- the report of a finished cluster whose processors followed the script
+pub report_is : (s : Plan) (c : Shared) (ms : List Local) (r : Report) (o : Option (ℕ × ℕ))
+    → HaveFollowed s c ms r.shown.items → IsFinished c.sizes ms r.journal
+    → MatchOption o (RaceFreeFrom r.journal.base r.journal.events)
+    (λ x. IsFirstRaceFrom r.journal.base r.journal.events x.0 x.1)
+    → r.racy ≡ is_some o
+    → r.traffic.messages ≡ r.journal.base.spent.messages + messages r.journal.events
+    → r.traffic.records ≡ r.journal.base.spent.records + records r.journal.events
+    → r.traffic.words ≡ r.journal.base.spent.words + words r.journal.events
+    → IsReportOf s r
+report_is s c ms r o all finished race racy messages_are records_are words_are = record {
+  processors = finished.journal.processors ∙ ap (λ (x : Sizes). x.processors) all.sizes;
+  addresses_are = finished.journal.addresses_are ∙ ap addresses all.sizes;
+  history = h;
+  holds = finished.journal.holds;
+  tells = record {
+    well_formed = subst (λ (x : Sizes). WellFormed x h) all.sizes finished.faithful.well_formed;
+    explained = finished.faithful.explained;
+    follows = follows;
+    racy = let P : Bool → Type 0 = λ b. IsTrue b ↔ HasRace h in
+        subst P (sym racy) (has_race r.journal.addresses h o (subst₂ Verdict base events race));
+    shown_addresses = all.addresses_are;
+    replies = record {
+      front = first.0 ++ Arrive ∷ Depart ∷ [];
+      ends = first.1 ∙ sym (append_assoc first.0 (Arrive ∷ Depart ∷ []) (map load_of r.shown.items));
+    };
+    messages_are = messages_are ∙ ap (λ (b : Base). b.spent.messages + messages r.journal.events) base
+        ∙ zero-add (messages r.journal.events) ∙ ap messages events;
+    records_are = records_are ∙ ap (λ (b : Base). b.spent.records + records r.journal.events) base
+        ∙ zero-add (records r.journal.events) ∙ ap records events;
+    words_are = words_are ∙ ap (λ (b : Base). b.spent.words + words r.journal.events) base
+        ∙ zero-add (words r.journal.events) ∙ ap words events;
+  };
+}
+  where
+    h : List Event
+    h = finished.history
+
+    base : r.journal.base ≡ no_base r.journal.addresses
+    base = finished.journal.holds.whole
+
+    events : r.journal.events ≡ h
+    events = finished.journal.holds.history
+
+    Verdict : Base → List Event → Type 0
+    Verdict b j = MatchOption o (RaceFreeFrom b j) (λ x. IsFirstRaceFrom b j x.0 x.1)
+
+    follows : Follows s h
+    follows = follows_all s c ms r.shown.items h all finished.each
+
+    first : (own : List Kind) × (calls_of h 0 ≡ own ++ Arrive ∷ Depart ∷ map load_of r.shown.items)
+    first = first_calls s c ms r.shown.items h all finished.each

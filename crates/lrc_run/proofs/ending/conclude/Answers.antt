@@ -1,0 +1,33 @@
+use Rattle.std.proofs.Common.{◌≡◌, ◌∙◌, refl, sym, get_or, slice_get, Some}
+use Rattle.lrc_script.specs.Plan.{Plan, plan_of}
+use Rattle.lrc_run.specs.Endings.{HaveFollowed}
+use Rattle.lrc_run.proofs.Concluding.{first_at, have_followed, walked_of, walks_at}
+use Rattle.lrc_run.proofs.ending.conclude.Goals as goal
+
+pub show-requires-clause-own : goal.show-requires-clause-own
+show-requires-clause-own g c κs within =
+    let s = plan_of c.args.script.now in
+    let ms = c.args.processors.items in
+    let m = c.index_mut.result.now in
+    let at = first_at s c.args.cluster ms m c.requires.lawful c.requires.sizes c.requires.walked c.index_mut.ensures.value in
+    let w = walks_at s c.args.cluster ms c.requires.lawful c.requires.sizes c.requires.walked 0 m at in
+    (walked_of c.args.cluster 0 m w.0 w.1).lock
+
+pub report-requires-after_bounds : goal.report-requires-after_bounds
+report-requires-after_bounds g c κs within =
+    let s = plan_of c.args.script.now in
+    let ms = c.args.processors.items in
+    let m = c.index_mut.result.now in
+    let at = first_at s c.args.cluster ms m c.requires.lawful c.requires.sizes c.requires.walked c.index_mut.ensures.value in
+    (have_followed s c.args.cluster ms m c.show.new.processor c.in_ok-shown.shown.items c.requires.lawful c.requires.sizes
+    c.requires.walked at c.in_ok-shown.ensures.ok (c.in_ok-shown.ensures.addresses ∙ c.deref.ensures.value)).all
+
+pub returns : goal.returns
+returns g c =
+    let s = plan_of c.args.script.now in
+    let ms = c.args.processors.items in
+    let m = c.index_mut.result.now in
+    let at = first_at s c.args.cluster ms m c.requires.lawful c.requires.sizes c.requires.walked c.index_mut.ensures.value in
+    c.in_ok-report.ensures s (have_followed s c.args.cluster ms m c.show.new.processor c.in_ok-shown.shown.items
+    c.requires.lawful c.requires.sizes c.requires.walked at c.in_ok-shown.ensures.ok
+    (c.in_ok-shown.ensures.addresses ∙ c.deref.ensures.value))

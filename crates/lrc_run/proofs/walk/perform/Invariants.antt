@@ -1,0 +1,6 @@
+use Rattle.std.proofs.Common.{◌≡◌}
+use Rattle.lrc_run.specs.Walks.{Begins}
+use Rattle.lrc_run.proofs.walk.perform.Given as goal
+
+abbrev pub invariant-loop : goal.invariant-loop
+invariant-loop g l = record { own : l.processor.lock ≡ l.cluster.lock; begun : Begins l.fn.processor l.processor l.fn.instruction }

@@ -1,0 +1,28 @@
+-- The end of a run.
+use Rattle.std.specs.Prelude.{ℕ, ◌≡◌, ◌==◌, cond, Some, List, [], ◌∷◌, ◌++◌, map, slice_get}
+use Rattle.journal.specs.declared.event.Kind.TheVariants.{Arrive, Depart}
+use Rattle.journal.specs.declared.event.Kind.{Kind}
+use Rattle.lrc_script.specs.declared.script.Instruction.{Instruction}
+use Rattle.lrc_script.specs.Lawful.{IsLawful}
+use Rattle.lrc_script.specs.Plan.{Plan}
+use Rattle.follows.specs.Follows.{load_of, sizes_of}
+use Rattle.follows.specs.Instructions.{AreEventsOfAll}
+use Rattle.replicas.specs.Local.{Local}
+use Rattle.cluster.specs.Clusters.{Shared}
+use Rattle.cluster.specs.Finishing.{AreAllOf}
+use Rattle.lrc_run.specs.Walks.{made}
+
+-- all that a processor made is its section, the closing barrier and these loads
+pub record HasFollowed (section : List Instruction) (loads : List (ℕ × ℕ)) (m : Local) : Type 0 where
+  pub own : List Kind
+  pub are : AreEventsOfAll section own
+  pub made_is : made m ≡ own ++ Arrive ∷ Depart ∷ map load_of loads
+
+-- all processors of the script's cluster, and processor 0 has loaded what is shown
+pub record HaveFollowed (s : Plan) (c : Shared) (ms : List Local) (shown : List (ℕ × ℕ)) : Type 0 where
+  pub lawful : IsLawful s
+  pub sizes : c.sizes ≡ sizes_of s
+  pub all : AreAllOf c ms
+  pub each : (p : ℕ) (section : List Instruction) (m : Local) → slice_get s.sections p ≡ Some section
+      → slice_get ms p ≡ Some m → HasFollowed section (cond (p == 0) shown []) m
+  pub addresses_are : map (λ (x : ℕ × ℕ). x.0) shown ≡ s.shown

@@ -1,0 +1,41 @@
+-- All processors of a new cluster, each on its way through its section.
+use Rattle.std.specs.Prelude.{ℕ, ◌≡◌, Option, Some, None, List, Result, Ok, Err, length, slice_get}
+use Rattle.lrc_script.specs.declared.script.Instruction.{Instruction}
+use Rattle.replicas.specs.Local.{Local}
+use Rattle.cluster.specs.Clusters.{Shared}
+use Rattle.lrc_run.specs.declared.report.Cause.{Cause}
+use Rattle.lrc_run.specs.declared.report.Cause.TheVariants.{Thread}
+use Rattle.lrc_run.specs.Walks.{Walks, new_at}
+
+-- each has, or went no further
+pub record AreOutcomes (c : Shared) (sections : List (List Instruction)) (outcomes : List (Result Local Cause))
+    : Type 0 where
+  pub all : length outcomes ≡ c.sizes.processors
+  pub each : (p : ℕ) (section : List Instruction) (m : Local) → slice_get sections p ≡ Some section
+      → slice_get outcomes p ≡ Some (Ok m) → Walks (new_at c p) m section
+
+-- what a thread is started with
+pub record Errand : Type 0 where
+  pub processor : Local
+  pub section : List Instruction
+
+-- a thread for each processor, with its section, or None where it couldn't be started
+pub record AreStarted (ms : List Local) (sections : List (List Instruction)) (threads : List (Option Errand))
+    : Type 0 where
+  pub all : length threads ≡ length ms
+  pub processors : (p : ℕ) (e : Errand) → slice_get threads p ≡ Some (Some e) → slice_get ms p ≡ Some e.processor
+  pub sections_are : (p : ℕ) (e : Errand) → slice_get threads p ≡ Some (Some e)
+      → slice_get sections p ≡ Some e.section
+
+-- what a thread gives back
+abbrev pub IsOutcomeOf : Option Errand → Result Local Cause → Type 0
+IsOutcomeOf (Some e) (Ok m) = Walks e.processor m e.section
+IsOutcomeOf (Some e) (Err cause) = Unit {0}
+IsOutcomeOf None (Ok m) = ⊥
+IsOutcomeOf None (Err cause) = cause ≡ Thread
+
+-- each of them
+pub record AreOutcomesOf (threads : List (Option Errand)) (outcomes : List (Result Local Cause)) : Type 0 where
+  pub all : length outcomes ≡ length threads
+  pub each : (p : ℕ) (thread : Option Errand) (outcome : Result Local Cause) → slice_get threads p ≡ Some thread
+      → slice_get outcomes p ≡ Some outcome → IsOutcomeOf thread outcome

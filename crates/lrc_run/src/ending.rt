@@ -1,0 +1,56 @@
+//! The end of a run: the shown loads, the journal and what the report says of it.
+ghost use Rattle.std.specs.Prelude.{◌≡◌, IfOk, ℕ, List, slice_set, slice_get, Some};
+ghost use Rattle.cluster.specs.Finishing.{AreAllOf};
+ghost use Rattle.follows.specs.Follows.{sizes_of};
+ghost use Rattle.lrc_script.specs.Lawful.{IsLawful};
+ghost use Rattle.lrc_script.specs.Plan.{Plan, plan_of};
+ghost use Rattle.lrc_run.specs.Endings.{HaveFollowed};
+ghost use Rattle.lrc_run.specs.Runs.{IsReportOf};
+ghost use Rattle.lrc_run.specs.Walks.{AreWalked};
+
+use crate::report::{Cause, Report};
+use crate::shown::show;
+use book::Book;
+use cluster::{Cluster, Processor, Rule};
+use lrc_script::script::Script;
+use std::alloc::{AllocError, Global};
+use std::sync::Wait;
+use turn::Turn;
+
+/// Where all processors have walked their sections: processor 0 loads what the script shows, and the cluster is
+/// finished. Refused as the loads are, and where memory is.
+pub(crate) fn conclude<T: Turn<Book, Rule> + Drop, R: Wait>(
+    rt: &R,
+    alloc: Global,
+    cluster: Cluster<T>,
+    mut processors: Vec<Processor<T>>,
+    script: &Script,
+) -> Result<Report, Cause>
+    requires lawful { IsLawful (plan_of script.now) }
+    requires sizes { cluster.sizes ≡ sizes_of (plan_of script.now) }
+    requires walked { AreWalked cluster (plan_of script.now).sections processors.items }
+    ensures { IfOk result (IsReportOf (plan_of script.now)) }
+{
+    let shown = show(rt, alloc, &cluster, &mut processors[0], &script.shown)?;
+    Ok(report(cluster, processors, shown)?)
+}
+
+/// Finishes the cluster, and reports of its journal. Refused only where memory is.
+fn report<T: Turn<Book, Rule>>(
+    cluster: Cluster<T>,
+    processors: Vec<Processor<T>>,
+    shown: Vec<(usize, u32)>,
+) -> Result<Report, AllocError>
+    requires { AreAllOf cluster processors.items }
+    ensures { (s : Plan) → HaveFollowed s cluster processors.items shown.items → IfOk result (IsReportOf s) }
+{
+    let journal = cluster.finish(processors);
+    let racy = journal.first_race()?.is_some();
+    let traffic = journal.traffic();
+    Ok(Report {
+        shown,
+        racy,
+        traffic,
+        journal,
+    })
+}

@@ -1,0 +1,75 @@
+//! What came of all processors of a run.
+ghost use Rattle.std.specs.Prelude.{◌≡◌, ◌⊎◌, IfErr, IfNone, IfOk, IfSome, Ok, map};
+ghost use Rattle.lrc_run.specs.Faults.{is_stuck, IsFaultOf, IsFirstSo, NoneFailed, NoneFailedSo};
+
+use crate::report::{Cause, RunFault};
+use std::alloc::{AllocError, Global};
+
+/// Whether the processor only waited too long.
+fn is_stuck(cause: Cause) -> bool
+    ensures { result ≡ is_stuck cause }
+{
+    matches!(cause, Cause::Stuck)
+}
+
+/// The fault of the least processor of those that are stuck, or of those that failed and aren't.
+fn first_fault<X>(outcomes: &[Result<X, Cause>], stuck: bool) -> Option<RunFault>
+    ensures some { IfSome result (λ fault. IsFirstSo outcomes.now stuck fault) }
+    ensures none { IfNone result (NoneFailedSo outcomes.now stuck) }
+{
+    for processor in 0..outcomes.len() {
+        if let Err(cause) = &outcomes[processor] {
+            if is_stuck(*cause) == stuck {
+                let cause = *cause;
+                return Some(RunFault { processor, cause });
+            }
+        }
+    }
+    None
+}
+
+/// The fault of a run: that of the least processor whose cause isn't Stuck, and where there is none, that of
+/// the least with Stuck; None where none failed.
+fn fault_of<X>(outcomes: &[Result<X, Cause>]) -> Option<RunFault>
+    ensures some { IfSome result (λ fault. IsFaultOf outcomes.now fault) }
+    ensures none { IfNone result (NoneFailed outcomes.now) }
+{
+    match first_fault(outcomes, false) {
+        Some(fault) => Some(fault),
+        None => first_fault(outcomes, true),
+    }
+}
+
+/// What they all came to, where none failed.
+fn all_of<X: Drop>(alloc: Global, outcomes: Vec<Result<X, Cause>>) -> Result<Vec<X>, AllocError>
+    requires { NoneFailed outcomes.items }
+    ensures { IfOk result (λ all. map Ok all.items ≡ outcomes.items) }
+{
+    let mut all = Vec::with_capacity(alloc, outcomes.len())?;
+    for outcome in outcomes {
+        let Ok(x) = outcome else {
+            unreachable!("none failed")
+        };
+        all.push(x)?;
+    }
+    Ok(all)
+}
+
+/// What all processors came to, by what came of them in the order of their numbers. An error is the fault of
+/// the least processor whose cause isn't Stuck, and where there is none, of the least with Stuck; or
+/// [`NoMemory`](book::Refused::NoMemory) with processor 0, where none failed.
+pub(crate) fn gathered<X: Drop>(
+    alloc: Global,
+    outcomes: Vec<Result<X, Cause>>,
+) -> Result<Vec<X>, RunFault>
+    ensures ok { IfOk result (λ all. map Ok all.items ≡ outcomes.items) }
+    ensures err { IfErr result (λ fault. IsFaultOf outcomes.items fault ⊎ NoneFailed outcomes.items) }
+{
+    if let Some(fault) = fault_of(outcomes.as_slice()) {
+        return Err(fault);
+    }
+    all_of(alloc, outcomes).map_err(|error| RunFault {
+        processor: 0,
+        cause: Cause::from(error),
+    })
+}

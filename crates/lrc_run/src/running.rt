@@ -1,0 +1,97 @@
+//! Runs of scripts with each processor on a thread of its own.
+ghost use Rattle.std.specs.Prelude.{◌≡◌, ◌^◌, ◌<◌, ◌≤◌, IfOk};
+ghost use Rattle.follows.specs.Follows.{sizes_of};
+ghost use Rattle.lrc_script.specs.Lawful.{IsLawful};
+ghost use Rattle.lrc_script.specs.Plan.{plan_of};
+ghost use Rattle.lrc_run.specs.Runs.{IsReportOf};
+ghost use Rattle.lrc_run.specs.Threads.{AreOutcomes};
+
+mod threads;
+
+use self::threads::walk_all;
+use crate::ending::conclude;
+use crate::faults::gathered;
+use crate::gate::Gate;
+use crate::report::{Cause, Report, RunFault};
+use book::Book;
+use cluster::{BookLock, Cluster, Processor, Rule};
+use lrc_script::script::Script;
+use std::alloc::Global;
+use std::sync::Wait;
+use std::thread::Threads;
+use turn::Turn;
+
+/// Runs the script as [`run_with`] does, with the array lock round the book.
+pub fn run<R: Threads + Wait + Sync, G: Gate + Sync>(
+    rt: &R,
+    alloc: Global,
+    script: &Script,
+    gate: &G,
+    tries: u64,
+) -> Result<Report, RunFault>
+    requires tries { 0 < tries }
+    requires lawful { IsLawful (plan_of script.now) }
+    ensures { IfOk result (λ report. IsReportOf (plan_of script.now) report) }
+{
+    run_with::<BookLock, R, G>(rt, alloc, script, gate, tries)
+}
+
+/// Runs the script with each processor on a thread of its own and the lock `T` round the book: each does its
+/// section, behind the gate at each instruction, and passes the closing barrier. When all threads have ended,
+/// processor 0 loads what is shown, and the cluster is finished.
+///
+/// What a processor waits for is tried for `tries` times, and then it ends with [`Stuck`](Cause::Stuck). An error is
+/// the fault of the least processor whose cause isn't Stuck, and where there is none, of the least with Stuck. Memory
+/// that is refused outside of the threads is told with processor 0.
+pub fn run_with<T: Turn<Book, Rule> + Send + Drop, R: Threads + Wait + Sync, G: Gate + Sync>(
+    rt: &R,
+    alloc: Global,
+    script: &Script,
+    gate: &G,
+    tries: u64,
+) -> Result<Report, RunFault>
+    requires tries { 0 < tries }
+    requires lawful { IsLawful (plan_of script.now) }
+    requires entries { T.ENTRIES ≤ 2 ^ 40 }
+    ensures { IfOk result (λ report. IsReportOf (plan_of script.now) report) }
+{
+    let (cluster, outcomes) = walk_script::<T, R, G>(rt, alloc, script, gate, tries).map_err(
+        of_first,
+    )?;
+    let processors = gathered(alloc, outcomes)?;
+    conclude(rt, alloc, cluster, processors, script).map_err(of_first)
+}
+
+/// Outside of the threads a cause is told with processor 0.
+fn of_first(cause: Cause) -> RunFault {
+    RunFault {
+        processor: 0,
+        cause,
+    }
+}
+
+/// The script's cluster, and what came of its processors when all threads have ended.
+fn walk_script<T: Turn<Book, Rule> + Send + Drop, R: Threads + Wait + Sync, G: Gate + Sync>(
+    rt: &R,
+    alloc: Global,
+    script: &Script,
+    gate: &G,
+    tries: u64,
+) -> Result<(Cluster<T>, Vec<Result<Processor<T>, Cause>>), Cause>
+    requires lawful { IsLawful (plan_of script.now) }
+    requires entries { T.ENTRIES ≤ 2 ^ 40 }
+    ensures sizes { IfOk result (λ r. r.0.sizes ≡ sizes_of (plan_of script.now)) }
+    ensures outcomes { IfOk result (λ r. AreOutcomes r.0 (plan_of script.now).sections r.1.items) }
+{
+    let (cluster, processors) = Cluster::<T>::new(
+        alloc,
+        script.processors,
+        script.pages,
+        script.words,
+        script.locks,
+        script.flags,
+    )?;
+    let sections = script.sections.as_slice();
+    let outcomes = walk_all(rt, alloc, &cluster, processors, gate, sections, tries)?;
+    Ok((cluster, outcomes))
+}

@@ -1,0 +1,200 @@
+//! Processors on threads.
+ghost use Rattle.std.specs.Prelude.{◌≡◌, ◌≤◌, [], IfOk, IfSome, length, vec_len, vec_capacity};
+ghost use Rattle.std.specs.Thread.{IsSend, IsSync};
+ghost use Rattle.lrc_script.specs.Plan.{items_of};
+ghost use Rattle.cluster.specs.Clusters.{AreNew};
+ghost use Rattle.lrc_run.specs.Threads.{AreOutcomes, AreOutcomesOf, AreStarted, IsOutcomeOf};
+ghost use Rattle.lrc_run.specs.Walks.{Walks};
+
+use crate::gate::Gate;
+use crate::report::Cause;
+use crate::walk::walk;
+use book::Book;
+use cluster::{Cluster, Processor, Rule};
+use lrc_script::script::Instruction;
+use std::alloc::{AllocError, Global};
+use std::marker::Model;
+use std::snapshot::Snapshot;
+use std::sync::Wait;
+use std::thread::{Promise, PromisedHandle, Scope, Threads, scope, scope_env};
+use turn::Turn;
+
+/// What came of a processor: itself, past the closing barrier, or why it went no further.
+type Outcome<T> = Result<Processor<T>, Cause>;
+
+/// What a thread promises: the processor that it gives back was this one, and has walked this section.
+#[derive(Drop)]
+struct SectionWalked<T: Turn<Book, Rule>> {
+    was: Snapshot<Processor<T>>,
+    section: Snapshot<Vec<Instruction>>,
+}
+
+impl<T: Turn<Book, Rule>> Promise<Result<Processor<T>, Cause>> for SectionWalked<T> {
+    ghost use Rattle.std.specs.Prelude.{IfOk};
+    ghost use Rattle.lrc_run.specs.Walks.{Walks};
+
+    ghost kept_by = { λ p r. IfOk r (λ m. Walks p.was.value m p.section.value.items) };
+}
+
+/// A processor's thread, where it could be started. Contracts see it as what it was started with.
+#[derive(Drop)]
+struct Thread<T: Turn<Book, Rule>> {
+    handle: Option<PromisedHandle<Result<Processor<T>, Cause>, SectionWalked<T>>>,
+}
+
+impl<T: Turn<Book, Rule>> Model for Thread<T> {
+    ghost use Rattle.std.specs.Prelude.{Option};
+    ghost use Rattle.std.specs.Option.{option_map};
+    ghost use Rattle.lrc_run.specs.Threads.{Errand};
+
+    ghost Value = { Option Errand };
+
+    ghost view = { λ t. option_map (λ h. record {
+      processor = h.promise.was.value;
+      section = h.promise.section.value.items;
+    }) t.handle };
+}
+
+impl<T: Turn<Book, Rule> + Drop> Thread<T> {
+    /// Waits for the thread's end, and answers what came of its processor.
+    fn join<R: Threads>(self, rt: &R) -> Outcome<T>
+        ensures { IsOutcomeOf self result }
+    {
+        match self.handle {
+            Some(handle) => handle.join(rt),
+            None => Err(Cause::Thread),
+        }
+    }
+}
+
+/// Walks the section with this processor, and gives it back.
+fn walked<T: Turn<Book, Rule>, R: Wait, G: Gate>(
+    rt: &R,
+    cluster: &Cluster<T>,
+    mut processor: Processor<T>,
+    gate: &G,
+    section: &[Instruction],
+    tries: u64,
+) -> Outcome<T>
+    requires own { processor.lock ≡ cluster.now.lock }
+    ensures { IfOk result (λ m. Walks processor m section.now) }
+{
+    walk(rt, cluster, &mut processor, gate, section, tries)?;
+    Ok(processor)
+}
+
+/// Waits for all threads, and answers what came of their processors.
+fn join_all<T: Turn<Book, Rule> + Drop, R: Threads>(
+    rt: &R,
+    threads: Vec<Thread<T>>,
+    mut outcomes: Vec<Outcome<T>>,
+) -> Vec<Outcome<T>>
+    requires room { (outcomes.items ≡ []) × (vec_len threads ≤ vec_capacity outcomes) }
+    ensures { AreOutcomesOf threads.items result.items }
+{
+    for thread in threads {
+        outcomes.push_reserved(thread.join(rt));
+    }
+    outcomes
+}
+
+/// Moves the processor into a thread of its own, which walks the section.
+fn start<'s, 'x: 's, T: Turn<Book, Rule> + Send + Drop, R: Threads + Wait + Sync, G: Gate + Sync>(
+    scope: &'s Scope<'s, &'x ()>,
+    rt: &'x R,
+    cluster: &'x Cluster<T>,
+    processor: Processor<T>,
+    gate: &'x G,
+    section: &'x Vec<Instruction>,
+    tries: u64,
+) -> Thread<T>
+    requires own { processor.lock ≡ cluster.now.lock }
+    ensures { IfSome result (λ e. (e.processor ≡ processor) × (e.section ≡ section.now.items)) }
+{
+    let promise = SectionWalked {
+        was: Snapshot::of(&processor),
+        section: Snapshot::of(section),
+    };
+    let section = section.as_slice();
+    let started = scope.spawn_with(
+        promise,
+        move || -> Outcome<T>
+            requires own { processor.lock ≡ cluster.now.lock }
+            ensures { IfOk result (λ m. Walks processor m section.entry.now) }
+        { walked(rt, cluster, processor, gate, section, tries) },
+    );
+    let handle = started.ok();
+    Thread { handle }
+}
+
+/// Moves each processor into a thread of its own, which walks the processor's section.
+fn start_all<
+    's,
+    'x: 's,
+    T: Turn<Book, Rule> + Send + Drop,
+    R: Threads + Wait + Sync,
+    G: Gate + Sync,
+>(
+    scope: &'s Scope<'s, &'x ()>,
+    rt: &'x R,
+    cluster: &'x Cluster<T>,
+    processors: Vec<Processor<T>>,
+    gate: &'x G,
+    sections: &'x [Vec<Instruction>],
+    tries: u64,
+    mut threads: Vec<Thread<T>>,
+) -> Vec<Thread<T>>
+    requires new { AreNew cluster.now processors.items }
+    requires sections { length sections.now ≡ vec_len processors }
+    requires room { (threads.items ≡ []) × (vec_len processors ≤ vec_capacity threads) }
+    ensures { AreStarted processors.items (items_of sections.now) result.items }
+{
+    for processor in processors {
+        let section = &sections[threads.len()];
+        let thread = start(scope, rt, cluster, processor, gate, section, tries);
+        threads.push_reserved(thread);
+    }
+    threads
+}
+
+/// Moves each processor into a thread of its own, which walks the processor's section, and waits for all threads:
+/// what came of the processors, in their order. [`Thread`](Cause::Thread) came of one whose thread couldn't be
+/// started; the others go their way.
+pub(super) fn walk_all<
+    'x,
+    T: Turn<Book, Rule> + Send + Drop,
+    R: Threads + Wait + Sync,
+    G: Gate + Sync,
+>(
+    rt: &'x R,
+    alloc: Global,
+    cluster: &'x Cluster<T>,
+    processors: Vec<Processor<T>>,
+    gate: &'x G,
+    sections: &'x [Vec<Instruction>],
+    tries: u64,
+) -> Result<Vec<Outcome<T>>, AllocError>
+    requires new { AreNew cluster.now processors.items }
+    requires sections { length sections.now ≡ vec_len processors }
+    ensures { IfOk result (λ outcomes. AreOutcomes cluster.now (items_of sections.now) outcomes.items) }
+{
+    let threads = Vec::with_capacity(alloc, processors.len())?;
+    let outcomes = Vec::with_capacity(alloc, processors.len())?;
+    Ok(scope(
+        scope_env(),
+        rt,
+        move |scope| -> Vec<Outcome<T>>
+            requires bounds { IsSend T.row × IsSync T.row × IsSync R.row × IsSync G.row }
+            requires new { AreNew cluster.now processors.items }
+            requires sections { length sections.now ≡ vec_len processors }
+            requires threads { (threads.items ≡ []) × (vec_len processors ≤ vec_capacity threads) }
+            requires outcomes { (outcomes.items ≡ []) × (vec_len processors ≤ vec_capacity outcomes) }
+            ensures { AreOutcomes cluster.entry.now (items_of sections.entry.now) result.items }
+        {
+            let threads = start_all(
+                scope, rt, cluster, processors, gate, sections, tries, threads,
+            );
+            join_all(rt, threads, outcomes)
+        },
+    ))
+}

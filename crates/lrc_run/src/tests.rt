@@ -1,0 +1,3 @@
+//! Runs of whole scripts.
+
+mod runs;

@@ -1,0 +1,275 @@
+//! Scripts with each processor on a thread of its own.
+ghost use Rattle.std.specs.Prelude.{◌<◌};
+
+use crate::{Cause, Gate, Open, Report, RunFault, Stopped, run, run_with};
+use cluster::TicketBookLock;
+use lrc_script::script::parse;
+use std::alloc::Global;
+use std::process::Abort;
+use std::sync::Wait;
+use std::sync::atomic::AtomicUsize;
+use std::sync::atomic::Ordering::SeqCst;
+use std::test::Fail;
+use std::thread::{Threads, yield_now};
+
+/// What the script's run answers, under the array lock and under the ticket lock.
+fn both<R: Threads + Wait + Sync, G: Gate + Sync>(
+    rt: &R,
+    alloc: Global,
+    text: &[u8],
+    gate: &G,
+    tries: u64,
+) -> Result<[Result<Report, RunFault>; 2], Fail>
+    requires { 0 < tries }
+{
+    let script = parse(alloc, text)?;
+    let array = run(rt, alloc, &script, gate, tries);
+    let ticket = run_with::<TicketBookLock, R, G>(rt, alloc, &script, gate, tries);
+    Ok([array, ticket])
+}
+
+/// Runs a script that shows these words and is racy or not.
+fn shows<R: Threads + Wait + Sync + Abort>(
+    rt: &R,
+    alloc: Global,
+    text: &[u8],
+    words: &[(usize, u32)],
+    racy: bool,
+) -> Result<(), Fail> {
+    let [array, ticket] = both(rt, alloc, text, &Open, 1_000_000)?;
+    let (array, ticket) = (array?, ticket?);
+    assert!(rt; array.shown.as_slice() == words);
+    assert!(rt; ticket.shown.as_slice() == words);
+    assert!(rt; array.racy == racy && ticket.racy == racy);
+    Ok(())
+}
+
+/// Runs a script that ends with this fault.
+fn fails<R: Threads + Wait + Sync + Abort, G: Gate + Sync>(
+    rt: &R,
+    alloc: Global,
+    text: &[u8],
+    gate: &G,
+    tries: u64,
+    processor: usize,
+    cause: Cause,
+) -> Result<(), Fail>
+    requires { 0 < tries }
+{
+    let [array, ticket] = both(rt, alloc, text, gate, tries)?;
+    let fault = RunFault { processor, cause };
+    assert!(rt; array.err() == Some(fault));
+    assert!(rt; ticket.err() == Some(fault));
+    Ok(())
+}
+
+#[test]
+fn a_barrier(rt: HostRuntime) -> Result<(), Fail> {
+    let text = b"cluster 2 1 2 0\np 0\nstore 0 5\nbarrier\np 1\nbarrier\nload 0\nshow 0\n";
+    shows(&rt, rt.alloc(), text, &[(0, 5)], false)
+}
+
+#[test]
+fn a_counter_under_a_lock(rt: HostRuntime) -> Result<(), Fail> {
+    let text =
+        b"cluster 3 1 1 1\np 0\nacquire 0\nadd 0 1\nrelease 0\np 1\nacquire 0\nadd 0 1\nrelease 0\np 2\nacquire 0\nadd 0 1\nrelease 0\nshow 0\n";
+    shows(&rt, rt.alloc(), text, &[(0, 3)], false)
+}
+
+#[test]
+fn a_flag(rt: HostRuntime) -> Result<(), Fail> {
+    let text = b"cluster 2 1 2 0 1\np 0\nstore 0 5\nset 0\np 1\nawait 0\nadd 0 2\nshow 0\n";
+    shows(&rt, rt.alloc(), text, &[(0, 7)], false)
+}
+
+#[test]
+fn words_of_one_page(rt: HostRuntime) -> Result<(), Fail> {
+    let text =
+        b"cluster 4 1 4 0\np 0\nstore 0 1\np 1\nstore 1 2\np 2\nstore 2 3\np 3\nstore 3 4\nshow 3 0 1 2\n";
+    shows(
+        &rt,
+        rt.alloc(),
+        text,
+        &[(3, 4), (0, 1), (1, 2), (2, 3)],
+        false,
+    )
+}
+
+#[test]
+fn a_race(rt: HostRuntime) -> Result<(), Fail> {
+    let text = b"cluster 2 1 1 0\np 0\nload 0\np 1\nstore 0 4\nshow 0\n";
+    shows(&rt, rt.alloc(), text, &[(0, 4)], true)
+}
+
+#[test]
+fn one_try_is_enough_alone(rt: HostRuntime) -> Result<(), Fail> {
+    let alloc = rt.alloc();
+    let text = b"cluster 1 1 1 1\np 0\nacquire 0\nstore 0 7\nrelease 0\nshow 0\n";
+    let [array, ticket] = both(&rt, alloc, text, &Open, 1)?;
+    assert!(&rt; array?.shown.as_slice() == [(0, 7)].as_slice());
+    assert!(&rt; ticket?.shown.as_slice() == [(0, 7)].as_slice());
+    Ok(())
+}
+
+#[test]
+fn stuck_at_a_lock(rt: HostRuntime) -> Result<(), Fail> {
+    let text = b"cluster 2 1 1 1\np 0\nacquire 0\np 1\nacquire 0\nshow 0\n";
+    fails(&rt, rt.alloc(), text, &Open, 1000, 0, Cause::Stuck)
+}
+
+#[test]
+fn stuck_at_a_flag_after_one_try(rt: HostRuntime) -> Result<(), Fail> {
+    let text = b"cluster 1 1 1 0 1\np 0\nawait 0\nshow 0\n";
+    fails(&rt, rt.alloc(), text, &Open, 1, 0, Cause::Stuck)
+}
+
+/// Stops the processors from one number on at the instruction with this number.
+#[derive(Clone, Copy)]
+struct StopsAt {
+    from: usize,
+    instruction: usize,
+}
+
+impl Gate for StopsAt {
+    fn pass(&self, processor: usize, instruction: usize) -> Result<(), Stopped> {
+        if processor >= self.from && instruction == self.instruction {
+            return Err(Stopped);
+        }
+        Ok(())
+    }
+}
+
+#[test]
+fn stopped_and_not_stuck(rt: HostRuntime) -> Result<(), Fail> {
+    // Processor 0 is stuck at the closing barrier, and processors 1 and 2 are stopped.
+    let text = b"cluster 3 1 1 0\np 0\nload 0\np 1\nload 0\np 2\nload 0\nload 0\nshow 0\n";
+    let gate = StopsAt {
+        from: 1,
+        instruction: 1,
+    };
+    fails(&rt, rt.alloc(), text, &gate, 1000, 1, Cause::Gate)?;
+    let gate = StopsAt {
+        from: 0,
+        instruction: 2,
+    };
+    fails(&rt, rt.alloc(), text, &gate, 1000, 2, Cause::Gate)
+}
+
+/// Counts the calls of processor 0 at instruction 2, and stops processor 1 at its first.
+#[derive(Drop)]
+struct Watching {
+    calls: AtomicUsize,
+}
+
+impl Gate for Watching {
+    fn pass(&self, processor: usize, instruction: usize) -> Result<(), Stopped> {
+        if processor == 0 && instruction == 2 {
+            self.calls.fetch_add(1, SeqCst);
+        }
+        if processor == 1 && instruction == 1 {
+            return Err(Stopped);
+        }
+        Ok(())
+    }
+}
+
+#[test]
+fn the_gate_comes_before_its_instruction(rt: HostRuntime) -> Result<(), Fail> {
+    // Were it called after processor 1's barrier, processor 0 would come to its second instruction.
+    let text = b"cluster 2 1 1 0\np 0\nbarrier\nload 0\np 1\nbarrier\nshow 0\n";
+    let gate = Watching {
+        calls: AtomicUsize::new(0),
+    };
+    fails(&rt, rt.alloc(), text, &gate, 1000, 1, Cause::Gate)?;
+    assert_eq!(&rt; gate.calls.load(SeqCst), 0);
+    Ok(())
+}
+
+/// Adds up the numbers of the instructions at which processor 1 passes.
+#[derive(Drop)]
+struct Counting {
+    calls: AtomicUsize,
+    sum: AtomicUsize,
+}
+
+impl Gate for Counting {
+    fn pass(&self, processor: usize, instruction: usize) -> Result<(), Stopped> {
+        if processor == 1 {
+            self.calls.fetch_add(1, SeqCst);
+            self.sum.fetch_add(instruction, SeqCst);
+        }
+        Ok(())
+    }
+}
+
+#[test]
+fn the_gate_is_called_once_an_instruction(rt: HostRuntime) -> Result<(), Fail> {
+    // Under each of the two locks at the instructions 1, 2 and 3, and not for the closing barrier.
+    let text = b"cluster 2 1 1 0\np 0\nload 0\np 1\nload 0\nload 0\nload 0\nshow 0\n";
+    let gate = Counting {
+        calls: AtomicUsize::new(0),
+        sum: AtomicUsize::new(0),
+    };
+    let [array, ticket] = both(&rt, rt.alloc(), text, &gate, 1_000_000)?;
+    assert!(&rt; array.is_ok() && ticket.is_ok());
+    assert_eq!(&rt; gate.calls.load(SeqCst), 6);
+    assert_eq!(&rt; gate.sum.load(SeqCst), 12);
+    Ok(())
+}
+
+/// Lets a processor pass where the other one is at the gate at the same time.
+#[derive(Drop)]
+struct Meeting {
+    first: AtomicUsize,
+    second: AtomicUsize,
+}
+
+/// Says that one is there, and looks whether the other is.
+fn meet(mine: &AtomicUsize, other: &AtomicUsize) -> Result<(), Stopped> {
+    mine.store(1, SeqCst);
+    for _ in 0..1_000_000 {
+        if other.load(SeqCst) == 1 {
+            return Ok(());
+        }
+        yield_now();
+    }
+    Err(Stopped)
+}
+
+impl Gate for Meeting {
+    fn pass(&self, processor: usize, _instruction: usize) -> Result<(), Stopped> {
+        if processor == 0 {
+            meet(&self.first, &self.second)
+        } else {
+            meet(&self.second, &self.first)
+        }
+    }
+}
+
+/// A meeting to which nobody has come.
+fn nobody_there() -> Meeting {
+    Meeting {
+        first: AtomicUsize::new(0),
+        second: AtomicUsize::new(0),
+    }
+}
+
+#[test]
+fn processors_run_at_the_same_time(rt: HostRuntime) -> Result<(), Fail> {
+    // On one thread neither would be let through.
+    let alloc = rt.alloc();
+    let script = parse(
+        alloc,
+        b"cluster 2 1 1 0\np 0\nload 0\np 1\nload 0\nshow 0\n",
+    )?;
+    assert!(&rt; run(&rt, alloc, &script, &nobody_there(), 1_000_000).is_ok());
+    let ticket = run_with::<TicketBookLock, HostRuntime, Meeting>(
+        &rt,
+        alloc,
+        &script,
+        &nobody_there(),
+        1_000_000,
+    );
+    assert!(&rt; ticket.is_ok());
+    Ok(())
+}

@@ -1,0 +1,68 @@
+//! A processor's way through its section.
+ghost use Rattle.std.specs.Prelude.{◌≡◌, OnOk};
+ghost use Rattle.cluster.specs.Calls.{IsSameProcessor};
+ghost use Rattle.lrc_run.specs.Walks.{Does, Walks};
+
+mod accesses;
+mod instructions;
+
+pub(crate) use self::accesses::load;
+use self::instructions::{begin, end};
+use crate::gate::Gate;
+use crate::report::Cause;
+use book::Book;
+use cluster::{Cluster, Processor, Rule};
+use crossbeam_utils::Backoff;
+use lrc_script::script::Instruction;
+use std::sync::Wait;
+use turn::Turn;
+
+/// Does the section's instructions in order, each after its gate, and then passes the closing barrier, which
+/// has no gate. What the processor waits for is taken as soon as it has come.
+///
+/// [`Gate`](Cause::Gate) where the gate stops it, [`Stuck`](Cause::Stuck) after `tries` answers in a row that
+/// what it waits for hasn't come, and else [`Refused`](Cause::Refused) with a call's refusal.
+pub(crate) fn walk<T: Turn<Book, Rule>, R: Wait, G: Gate>(
+    rt: &R,
+    cluster: &Cluster<T>,
+    processor: &mut Processor<T>,
+    gate: &G,
+    section: &[Instruction],
+    tries: u64,
+) -> Result<(), Cause>
+    requires own { processor.old.lock ≡ cluster.now.lock }
+    ensures same { IsSameProcessor processor.old processor.new }
+    ensures ok { OnOk result (Walks processor.old processor.new section.now) }
+{
+    for (index, instruction) in section.iter().enumerate() {
+        gate.pass(processor.number(), index + 1)?;
+        perform(rt, cluster, processor, *instruction, tries)?;
+    }
+    perform(rt, cluster, processor, Instruction::Barrier, tries)
+}
+
+/// Does the instruction to its end. What it waits for is tried for `tries` times, and other threads get their
+/// chance between two tries.
+fn perform<T: Turn<Book, Rule>, R: Wait>(
+    rt: &R,
+    cluster: &Cluster<T>,
+    processor: &mut Processor<T>,
+    instruction: Instruction,
+    tries: u64,
+) -> Result<(), Cause>
+    requires own { processor.old.lock ≡ cluster.now.lock }
+    ensures same { IsSameProcessor processor.old processor.new }
+    ensures ok { OnOk result (Does processor.old processor.new instruction) }
+{
+    if begin(rt, cluster, processor, instruction)? {
+        return Ok(());
+    }
+    let backoff = Backoff::new();
+    for _ in 0..tries {
+        if end(rt, cluster, processor)? {
+            return Ok(());
+        }
+        backoff.snooze();
+    }
+    Err(Cause::Stuck)
+}

@@ -1,0 +1,126 @@
+//! Loads and stores of a script. A copy that lacks records is fetched, and a block that is full is handed in;
+//! else nothing is fetched or handed in.
+ghost use Rattle.std.specs.Prelude.{◌≡◌, ◌+◌, ◌%◌, ◌^◌, OnOk, ℕ, [], ◌∷◌};
+ghost use Rattle.journal.specs.declared.event.Kind.TheVariants as kind;
+ghost use Rattle.cluster.specs.Calls.{IsSameProcessor};
+ghost use Rattle.lrc_run.specs.Walks.{Makes, Tries};
+
+use book::{Book, Refused};
+use cluster::{Cluster, Processor, Rule};
+use std::sync::Wait;
+use turn::Turn;
+
+/// The word at the address, of a copy that is fetched where it is stale. Refused as the load, the fetch or the
+/// flush is; neither as [`Invalid`](Refused::Invalid) nor as [`BlockFull`](Refused::BlockFull).
+pub(crate) fn load<T: Turn<Book, Rule>, R: Wait>(
+    rt: &R,
+    cluster: &Cluster<T>,
+    processor: &mut Processor<T>,
+    address: usize,
+) -> Result<u32, Refused>
+    requires own { processor.old.lock ≡ cluster.now.lock }
+    ensures { Tries processor.old processor.new result (λ v. kind.Load address v ∷ []) }
+{
+    match load_roomy(rt, cluster, processor, address) {
+        Err(Refused::Invalid(page)) => {
+            fetch(rt, cluster, processor, page)?;
+            load_roomy(rt, cluster, processor, address)
+        }
+        answer => answer,
+    }
+}
+
+/// Stores the value at the address, as [`load`] loads.
+pub(crate) fn store<T: Turn<Book, Rule>, R: Wait>(
+    rt: &R,
+    cluster: &Cluster<T>,
+    processor: &mut Processor<T>,
+    address: usize,
+    value: u32,
+) -> Result<(), Refused>
+    requires own { processor.old.lock ≡ cluster.now.lock }
+    ensures { Tries processor.old processor.new result (λ _. kind.Store address value ∷ []) }
+{
+    match store_roomy(rt, cluster, processor, address, value) {
+        Err(Refused::Invalid(page)) => {
+            fetch(rt, cluster, processor, page)?;
+            store_roomy(rt, cluster, processor, address, value)
+        }
+        answer => answer,
+    }
+}
+
+/// Adds the value to the word at the address, modulo 2^32: a load and a store.
+pub(crate) fn add<T: Turn<Book, Rule>, R: Wait>(
+    rt: &R,
+    cluster: &Cluster<T>,
+    processor: &mut Processor<T>,
+    address: usize,
+    value: u32,
+) -> Result<(), Refused>
+    requires own { processor.old.lock ≡ cluster.now.lock }
+    ensures same { IsSameProcessor processor.old processor.new }
+    ensures ok { OnOk result ((reply : ℕ) × Makes processor.old processor.new
+        (kind.Load address reply ∷ kind.Store address ((reply + value) % 2 ^ 32) ∷ [])) }
+{
+    let reply = load(rt, cluster, processor, address)?;
+    store(rt, cluster, processor, address, reply.wrapping_add(value))
+}
+
+/// Fetches the page, after a flush where the block is full.
+fn fetch<T: Turn<Book, Rule>, R: Wait>(
+    rt: &R,
+    cluster: &Cluster<T>,
+    processor: &mut Processor<T>,
+    page: usize,
+) -> Result<(), Refused>
+    requires own { processor.old.lock ≡ cluster.now.lock }
+    ensures { Tries processor.old processor.new result (λ _. []) }
+{
+    match processor.fetch(page) {
+        Err(Refused::BlockFull) => {
+            cluster.flush(rt, processor)?;
+            processor.fetch(page)
+        }
+        answer => answer,
+    }
+}
+
+/// Loads, after a flush where the block is full.
+fn load_roomy<T: Turn<Book, Rule>, R: Wait>(
+    rt: &R,
+    cluster: &Cluster<T>,
+    processor: &mut Processor<T>,
+    address: usize,
+) -> Result<u32, Refused>
+    requires own { processor.old.lock ≡ cluster.now.lock }
+    ensures { Tries processor.old processor.new result (λ v. kind.Load address v ∷ []) }
+{
+    match processor.load(address) {
+        Err(Refused::BlockFull) => {
+            cluster.flush(rt, processor)?;
+            processor.load(address)
+        }
+        answer => answer,
+    }
+}
+
+/// Stores, after a flush where the block is full.
+fn store_roomy<T: Turn<Book, Rule>, R: Wait>(
+    rt: &R,
+    cluster: &Cluster<T>,
+    processor: &mut Processor<T>,
+    address: usize,
+    value: u32,
+) -> Result<(), Refused>
+    requires own { processor.old.lock ≡ cluster.now.lock }
+    ensures { Tries processor.old processor.new result (λ _. kind.Store address value ∷ []) }
+{
+    match processor.store(address, value) {
+        Err(Refused::BlockFull) => {
+            cluster.flush(rt, processor)?;
+            processor.store(address, value)
+        }
+        answer => answer,
+    }
+}

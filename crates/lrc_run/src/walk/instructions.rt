@@ -1,0 +1,81 @@
+//! The instructions of a script. One that waits is begun by one call, and ended by a take that finds what it
+//! waits for.
+ghost use Rattle.std.specs.Prelude.{◌≡◌, IfOk};
+ghost use Rattle.cluster.specs.Calls.{IsSameProcessor};
+ghost use Rattle.lrc_run.specs.Walks.{IsOnItsWay, Takes};
+
+use super::accesses::{add, load, store};
+use crate::report::Cause;
+use book::{Book, Refused};
+use cluster::{Cluster, Processor, Rule};
+use lrc_script::script::Instruction;
+use std::sync::Wait;
+use turn::Turn;
+
+/// Does the instruction, or begins it where it waits for something: answers whether it is done.
+///
+/// [`Refused`](Cause::Refused) as its calls are, and [`Unserved`](Cause::Unserved) for a `cut`, until the
+/// cluster cuts.
+pub(crate) fn begin<T: Turn<Book, Rule>, R: Wait>(
+    rt: &R,
+    cluster: &Cluster<T>,
+    processor: &mut Processor<T>,
+    instruction: Instruction,
+) -> Result<bool, Cause>
+    requires own { processor.old.lock ≡ cluster.now.lock }
+    ensures same { IsSameProcessor processor.old processor.new }
+    ensures ok { IfOk result (λ done. IsOnItsWay processor.old processor.new instruction done) }
+{
+    match instruction {
+        Instruction::Load(address) => {
+            load(rt, cluster, processor, address)?;
+            Ok(true)
+        }
+        Instruction::Store(address, value) => {
+            store(rt, cluster, processor, address, value)?;
+            Ok(true)
+        }
+        Instruction::Add(address, value) => {
+            add(rt, cluster, processor, address, value)?;
+            Ok(true)
+        }
+        Instruction::Acquire(lock) => {
+            cluster.ask(rt, processor, lock)?;
+            Ok(false)
+        }
+        Instruction::Release(lock) => {
+            cluster.release(rt, processor, lock)?;
+            Ok(true)
+        }
+        Instruction::Barrier => {
+            cluster.arrive(rt, processor)?;
+            Ok(false)
+        }
+        Instruction::Set(flag) => {
+            cluster.set(rt, processor, flag)?;
+            Ok(true)
+        }
+        Instruction::Await(flag) => {
+            cluster.watch(rt, processor, flag)?;
+            Ok(false)
+        }
+        Instruction::Cut => Err(Cause::Unserved),
+    }
+}
+
+/// Takes what the processor waits for: answers whether it had come. Refused as the take is.
+pub(crate) fn end<T: Turn<Book, Rule>, R: Wait>(
+    rt: &R,
+    cluster: &Cluster<T>,
+    processor: &mut Processor<T>,
+) -> Result<bool, Refused>
+    requires own { processor.old.lock ≡ cluster.now.lock }
+    ensures same { IsSameProcessor processor.old processor.new }
+    ensures ok { IfOk result (λ taken. Takes processor.old processor.new taken) }
+{
+    match cluster.take(rt, processor) {
+        Ok(()) => Ok(true),
+        Err(Refused::NotYet) => Ok(false),
+        Err(refused) => Err(refused),
+    }
+}
