@@ -1,4 +1,6 @@
 pub mod Making
+pub mod Stepping
+pub mod Exchanging
 pub mod Concluding
 pub mod Failing
 pub mod Joining

@@ -1,3 +1,4 @@
 //! Runs of whole scripts.
 
 mod runs;
+mod steps;

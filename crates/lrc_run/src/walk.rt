@@ -7,7 +7,7 @@ mod accesses;
 mod instructions;
 
 pub(crate) use self::accesses::load;
-use self::instructions::{begin, end};
+pub(crate) use self::instructions::{begin, end};
 use crate::gate::Gate;
 use crate::report::Cause;
 use book::Book;

@@ -1,0 +1,167 @@
+-- How far a processor is after a turn.
+use Rattle.std.proofs.Common.{ℕ, ◌≡◌, ◌≢◌, ◌+◌, ◌<◌, ◌≤◌, Bool, true, false, cond, Option, Some, List, [], ◌∷◌, ◌++◌, length, replicate, take, get_or, slice_get, slice_set, refl, sym, ap, subst, ◌∙◌, inl, inr, add-one, arith}
+use Rattle.std.specs.Prelude.{nat_lt, All}
+use Rattle.std.specs.Global.{Vec}
+use Rattle.std.specs.Option.{option_map}
+use Rattle.std.proofs.Math.Seq.{take-length}
+use Rattle.std.proofs.lemmas.Bool.{ltb-true, ltb-false, cases_eq}
+use Rattle.std.proofs.lemmas.List.{get_or_past, length-map, length-replicate, length-set}
+use Rattle.std.proofs.lemmas.Option.{slice_get-get_or, slice_get-map, slice_get_within, slice_get_read, same_Some}
+use Rattle.lists.proofs.Places.{take-suc_at}
+use Rattle.lists.proofs.Sets.{slice_get-replicate_found, slice_get-set_found, slice_get-set_other}
+use Rattle.journal.specs.Sizes.{Sizes}
+use Rattle.lrc_script.specs.declared.script.Instruction.{Instruction}
+use Rattle.lrc_script.specs.declared.script.Instruction.TheVariants.{Barrier}
+use Rattle.lrc_script.specs.Lawful.{IsLawful}
+use Rattle.lrc_script.specs.Plan.{Plan, items_of}
+use Rattle.follows.specs.Follows.{sizes_of}
+use Rattle.replicas.specs.Local.{Local}
+use Rattle.cluster.specs.Calls.{IsSameProcessor}
+use Rattle.cluster.specs.Clusters.{AreNew, Shared}
+use Rattle.lrc_run.specs.declared.steps.turns.Progress.{Progress}
+use Rattle.lrc_run.specs.declared.steps.turns.Progress.TheVariants.{Next, Waits, Passed}
+use Rattle.lrc_run.specs.Steps.{AreOnTheirWay, HasBegun, IsAt, instruction_at, progress_after}
+use Rattle.lrc_run.specs.Walks.{AreWalked, DoesAll, Does, IsOnItsWay, Takes, Walks, new_at}
+use Rattle.lrc_run.proofs.Making.{does_more, does_none, on_its_way, same_then, walks_by}
+
+-- after instruction k was done, or begun
+pub after_instruction : (l m n : Local) (section : List Instruction) (k : ℕ) (done : Bool) → DoesAll l m (take k section)
+    → k ≤ length section → IsOnItsWay m n (instruction_at section k) done → IsAt l n section (progress_after section k done)
+after_instruction l m n section k false all within way = (record { between = m; done = all; begins = way }, within)
+after_instruction l m n section k true all within way = cases (nat_lt k (length section)) refl
+  where
+    cases : (b : Bool) → nat_lt k (length section) ≡ b → IsAt l n section (cond b (Next (k + 1)) Passed)
+    cases true e =
+        let below : k < length section = ltb-true k (length section) e in
+        let more = does_more l m n (take k section) (instruction_at section k) all way in
+        let P : List Instruction → Type 0 = λ is. DoesAll l n is in
+        (rw add-one (subst P (sym (take-suc_at section k (instruction_at section k) (slice_get-get_or section k Barrier below))) more), omega arith)
+    cases false e =
+        let past : length section ≤ k = ltb-false k (length section) e in
+        let same : k ≡ length section = omega arith in
+        let P : List Instruction → Type 0 = λ is. DoesAll l m is in
+        let Q : Instruction → Type 0 = λ i. Does m n i in
+        walks_by l m n section (subst P (ap (λ j. take j section) same ∙ take-length section) all)
+        (subst Q (get_or_past section k Barrier past) way)
+
+-- and after a look for what it waits for
+pub after_look : (l m n : Local) (section : List Instruction) (k : ℕ) (taken : Bool) → IsAt l m section (Waits k)
+    → Takes m n taken → IsAt l n section (progress_after section k taken)
+after_look l m n section k taken at took =
+    let begun = at.0 in
+    after_instruction l begun.between n section k taken begun.done at.1
+    (on_its_way begun.between m n (instruction_at section k) taken begun.begins took)
+
+-- whoever is on its way is the same processor
+pub same_on_its_way : (m n : Local) (section : List Instruction) (at : Progress) → IsAt m n section at → IsSameProcessor m n
+same_on_its_way m n section (Next k) at = at.0.makes.same
+same_on_its_way m n section (Waits k) at =
+    same_then m at.0.between n at.0.done.makes.same at.0.begins.makes.same
+same_on_its_way m n section Passed at = at.makes.same
+
+-- at the start each processor's next instruction is its first
+pub all_start : (c : Shared) (sections : List (List Instruction)) (ms : List Local) (all : List Progress) → AreNew c ms
+    → length all ≡ c.sizes.processors → ((p : ℕ) (at : Progress) → slice_get all p ≡ Some at → at ≡ Next 0)
+    → AreOnTheirWay c sections ms all
+all_start c sections ms all new long first = record { many = new.all; long = long; each = each }
+  where
+    each : (p : ℕ) (section : List Instruction) (m : Local) (at : Progress) → slice_get sections p ≡ Some section
+        → slice_get ms p ≡ Some m → slice_get all p ≡ Some at → IsAt (new_at c p) m section at
+    each p section m at its here there =
+        let P : Progress → Type 0 = λ x. IsAt (new_at c p) m section x in
+        let none : DoesAll (new_at c p) m (take 0 section) = does_none (new_at c p) m (new.each p m here) in
+        subst P (sym (first p at there)) (none, omega arith)
+
+-- after the turn of one processor
+pub all_turned : (c : Shared) (sections : List (List Instruction)) (ms : List Local) (all : List Progress) (p : ℕ)
+    (section : List Instruction) (m n : Local) (at to : Progress) → AreOnTheirWay c sections ms all
+    → slice_get sections p ≡ Some section → slice_get ms p ≡ Some m → slice_get all p ≡ Some at
+    → ((start : Local) → IsAt start m section at → IsAt start n section to)
+    → AreOnTheirWay c sections (slice_set ms p n) (slice_set all p to)
+all_turned c sections ms all p section m n at to way its here there turned = record {
+  many = length-set ms p n ∙ way.many;
+  long = length-set all p to ∙ way.long;
+  each = each;
+}
+  where
+    mine : IsAt (new_at c p) n section to
+    mine = turned (new_at c p) (way.each p section m at its here there)
+
+    each : (q : ℕ) (other : List Instruction) (x : Local) (y : Progress) → slice_get sections q ≡ Some other
+        → slice_get (slice_set ms p n) q ≡ Some x → slice_get (slice_set all p to) q ≡ Some y → IsAt (new_at c q) x other y
+    each q other x y its_too before after = elim (cases_eq q p) [
+      | inl is ↦ (let S : ℕ → Type 0 = λ k. slice_get sections k ≡ Some other in
+          let M : ℕ → Type 0 = λ k. slice_get (slice_set ms p n) k ≡ Some x in
+          let A : ℕ → Type 0 = λ k. slice_get (slice_set all p to) k ≡ Some y in
+          let one = same_Some section other (sym its ∙ subst S is its_too) in
+          let two = slice_get-set_found ms p n x (subst M is before) in
+          let three = slice_get-set_found all p to y (subst A is after) in
+          let first : IsAt (new_at c p) n other to = subst (λ (z : List Instruction). IsAt (new_at c p) n z to) one mine in
+          let second : IsAt (new_at c p) x other to = subst (λ (z : Local). IsAt (new_at c p) z other to) two first in
+          let third : IsAt (new_at c p) x other y = subst (λ (z : Progress). IsAt (new_at c p) x other z) three second in
+          subst (λ (k : ℕ). IsAt (new_at c k) x other y) (sym is) third)
+      | inr isnt ↦ way.each q other x y its_too (sym (slice_get-set_other ms p q n isnt) ∙ before)
+          (sym (slice_get-set_other all p q to isnt) ∙ after)
+    ]
+
+-- all have passed the closing barrier
+pub all_passed : (c : Shared) (sections : List (List Instruction)) (ms : List Local) (all : List Progress)
+    → AreOnTheirWay c sections ms all → All (λ x. x ≡ Passed) all → AreWalked c sections ms
+all_passed c sections ms all way passed = record { all = way.many; each = each }
+  where
+    each : (p : ℕ) (section : List Instruction) (m : Local) → slice_get sections p ≡ Some section
+        → slice_get ms p ≡ Some m → Walks (new_at c p) m section
+    each p section m its here =
+        let within = slice_get_within ms p m here in
+        let many = way.many in
+        let long = way.long in
+        let below : p < length all = omega arith in
+        let there = slice_get-get_or all p Passed below in
+        let P : Progress → Type 0 = λ x. IsAt (new_at c p) m section x in
+        subst P (passed p Passed below) (way.each p section m (get_or all p Passed) its here there)
+
+-- the same, where the list has it over and over
+pub all_begin : (c : Shared) (sections : List (List Instruction)) (ms : List Local) (all : List Progress) (n : ℕ) → AreNew c ms
+    → n ≡ length ms → all ≡ replicate n (Next 0) → AreOnTheirWay c sections ms all
+all_begin c sections ms all n new many are = all_start c sections ms all new
+    (ap length are ∙ length-replicate n (Next 0) ∙ many ∙ new.all)
+    (λ p at here. sym (slice_get-replicate_found n (Next 0) at p (ap (λ xs. slice_get xs p) (sym are) ∙ here)))
+
+-- each that is on its way is the cluster's
+pub own_at : (s : Plan) (c : Shared) (ms : List Local) (all : List Progress) (p : ℕ) (m : Local) → IsLawful s
+    → c.sizes ≡ sizes_of s → AreOnTheirWay c s.sections ms all → slice_get ms p ≡ Some m → m.lock ≡ c.lock
+own_at s c ms all p m lawful sizes way here =
+    let inside = slice_get_within ms p m here in
+    let one_each = lawful.but_uneven.one_each in
+    let same = ap (λ (x : Sizes). x.processors) sizes in
+    let many = way.many in
+    let long = way.long in
+    let listed : p < length s.sections = omega arith in
+    let known : p < length all = omega arith in
+    let section = get_or s.sections p [] in
+    let at = get_or all p Passed in
+    (same_on_its_way (new_at c p) m section at
+    (way.each p section m at (slice_get-get_or s.sections p [] listed) here (slice_get-get_or all p Passed known))).lock
+
+-- the section that is read at this place
+pub section_read : (s : Plan) (c : Shared) (ms : List Local) (all : List Progress) (sections : List (Vec Instruction)) (p : ℕ)
+    (v : Vec Instruction) (section : List Instruction) → IsLawful s → c.sizes ≡ sizes_of s → s.sections ≡ items_of sections
+    → AreOnTheirWay c s.sections ms all → p < length ms → v ≡ get_or sections p v → section ≡ v.items
+    → slice_get (items_of sections) p ≡ Some section
+section_read s c ms all sections p v section lawful sizes are way inside read is =
+    let one_each = lawful.but_uneven.one_each in
+    let same = ap (λ (x : Sizes). x.processors) sizes in
+    let many = way.many in
+    let long = ap length are ∙ length-map sections (λ (w : Vec Instruction). w.items) in
+    let listed : p < length sections = omega arith in
+    slice_get-map (λ (w : Vec Instruction). w.items) sections p
+    ∙ ap (option_map (λ (w : Vec Instruction). w.items)) (slice_get_read sections (length sections) p v refl listed read)
+    ∙ ap Some (sym is)
+
+-- where each processor is, as it is read
+pub progress_read : (c : Shared) (sections : List (List Instruction)) (ms : List Local) (all : List Progress) (p : ℕ) (at : Progress)
+    → AreOnTheirWay c sections ms all → p < length ms → at ≡ get_or all p at → slice_get all p ≡ Some at
+progress_read c sections ms all p at way inside read =
+    let many = way.many in
+    let long = way.long in
+    slice_get_read all (length all) p at refl (omega arith) read

@@ -1,0 +1,222 @@
+//! All processors by turns on one thread.
+ghost use Rattle.std.specs.Prelude.{◌≡◌, ◌≤◌, ◌<◌, ◌^◌, ◌↔◌, All, IfOk, IsTrue, OnOk, length, replicate, vec_len};
+ghost use Rattle.cluster.specs.Clusters.{AreNew};
+ghost use Rattle.follows.specs.Follows.{sizes_of};
+ghost use Rattle.lrc_script.specs.Lawful.{IsLawful};
+ghost use Rattle.lrc_script.specs.Plan.{plan_of};
+ghost use Rattle.lrc_run.specs.Orders.{AreBelow};
+ghost use Rattle.lrc_run.specs.Runs.{IsReportOf};
+ghost use Rattle.lrc_run.specs.Steps.{AreOnTheirWay};
+ghost use Rattle.lrc_run.specs.Walks.{AreWalked};
+
+mod turns;
+
+use self::turns::{Progress, take_turn};
+use crate::ending::conclude;
+use crate::orders::order;
+use crate::report::{Cause, Report, RunFault};
+use book::Book;
+use cluster::{BookLock, Cluster, Processor, Rule};
+use lrc_script::script::Script;
+use rand_core::SeedableRng;
+use rand_pcg::Pcg32;
+use std::alloc::{AllocError, Global};
+use std::sync::Wait;
+use turn::Turn;
+
+/// Runs the script on one thread, in rounds in which each processor has a turn: by rising number, or with a seed
+/// in orders that are drawn by it. Two calls with the same script and seed give the same report.
+///
+/// The fault is [`Stuck`](Cause::Stuck) of the least processor that waits, after a round in which none got on;
+/// a call's refusal with the processor whose turn it was; and what is refused outside of turns with processor 0.
+pub fn step<R: Wait>(
+    rt: &R,
+    alloc: Global,
+    script: &Script,
+    seed: Option<u64>,
+) -> Result<Report, RunFault>
+    requires { IsLawful (plan_of script.now) }
+    ensures { IfOk result (IsReportOf (plan_of script.now)) }
+{
+    step_with::<BookLock, R>(rt, alloc, script, seed)
+}
+
+/// The same with a lock of the caller's choice round the book.
+pub fn step_with<T: Turn<Book, Rule> + Drop, R: Wait>(
+    rt: &R,
+    alloc: Global,
+    script: &Script,
+    seed: Option<u64>,
+) -> Result<Report, RunFault>
+    requires entries { T.ENTRIES ≤ 2 ^ 40 }
+    requires lawful { IsLawful (plan_of script.now) }
+    ensures { IfOk result (IsReportOf (plan_of script.now)) }
+{
+    let (cluster, mut processors) = new_cluster::<T>(alloc, script)?;
+    go_round(rt, alloc, &cluster, &mut processors, script, seed)?;
+    conclude(rt, alloc, cluster, processors, script).map_err(outside)
+}
+
+/// A fault outside of turns.
+fn outside(cause: Cause) -> RunFault {
+    RunFault {
+        processor: 0,
+        cause,
+    }
+}
+
+/// The script's cluster.
+fn new_cluster<T: Turn<Book, Rule>>(
+    alloc: Global,
+    script: &Script,
+) -> Result<(Cluster<T>, Vec<Processor<T>>), RunFault>
+    requires { T.ENTRIES ≤ 2 ^ 40 }
+    ensures sizes { IfOk result (λ r. r.0.sizes ≡ sizes_of (plan_of script.now)) }
+    ensures new { IfOk result (λ r. AreNew r.0 r.1.items) }
+{
+    match Cluster::new(
+        alloc,
+        script.processors,
+        script.pages,
+        script.words,
+        script.locks,
+        script.flags,
+    ) {
+        Ok(made) => Ok(made),
+        Err(refused) => Err(outside(Cause::Refused(refused))),
+    }
+}
+
+/// Rounds, until all have passed the closing barrier.
+fn go_round<T: Turn<Book, Rule>, R: Wait>(
+    rt: &R,
+    alloc: Global,
+    cluster: &Cluster<T>,
+    processors: &mut Vec<Processor<T>>,
+    script: &Script,
+    seed: Option<u64>,
+) -> Result<(), RunFault>
+    requires lawful { IsLawful (plan_of script.now) }
+    requires sizes { cluster.now.sizes ≡ sizes_of (plan_of script.now) }
+    requires new { AreNew cluster.now processors.old.items }
+    ensures { OnOk result (AreWalked cluster.now (plan_of script.now).sections processors.new.items) }
+{
+    let (mut all, mut list) = match beginnings(alloc, processors.len()) {
+        Ok(beginnings) => beginnings,
+        Err(error) => return Err(outside(Cause::from(error))),
+    };
+    let mut generator = generator_of(seed);
+    for _ in rt.forever() {
+        if have_passed(&all) {
+            return Ok(());
+        }
+        draw(&mut generator, &mut list);
+        if !round(rt, cluster, processors, &mut all, script, &list)? {
+            return Err(stuck(&all));
+        }
+    }
+    unreachable!()
+}
+
+/// Where each processor is at the start, and memory for the order of a round.
+fn beginnings(alloc: Global, count: usize) -> Result<(Vec<Progress>, Vec<usize>), AllocError>
+    ensures all { IfOk result (λ r. r.0.items ≡ replicate count (Progress.Next 0)) }
+    ensures list { IfOk result (λ r. vec_len r.1 ≡ count) }
+{
+    Ok((
+        vec![in alloc; Progress::Next(0); count]?,
+        vec![in alloc; 0; count]?,
+    ))
+}
+
+/// The generator of this seed.
+fn generator_of(seed: Option<u64>) -> Option<Pcg32> {
+    match seed {
+        Some(seed) => Some(Pcg32::seed_from_u64(seed)),
+        None => None,
+    }
+}
+
+/// Whether all have passed the closing barrier.
+fn have_passed(all: &[Progress]) -> bool
+    ensures { IsTrue result ↔ All (λ x. x ≡ Progress.Passed) all.now }
+{
+    all.iter().all(|progress| *progress == Progress::Passed)
+}
+
+/// The fault of the least processor that waits.
+fn stuck(all: &[Progress]) -> RunFault {
+    let waits = all
+        .iter()
+        .position(|progress| matches!(progress, Progress::Waits(_)));
+    RunFault {
+        processor: waits.unwrap_or(0),
+        cause: Cause::Stuck,
+    }
+}
+
+/// The order of the next round: rising numbers, exchanged as the generator draws.
+fn draw(generator: &mut Option<Pcg32>, list: &mut [usize])
+    ensures { AreBelow (length list.old) list.new × (length list.new ≡ length list.old) }
+{
+    for place in 0..list.len() {
+        list[place] = place;
+    }
+    if let Some(generator) = generator {
+        order(generator, list);
+    }
+}
+
+/// A round: each processor of the list has its turn. Answers whether one got on.
+fn round<T: Turn<Book, Rule>, R: Wait>(
+    rt: &R,
+    cluster: &Cluster<T>,
+    processors: &mut Vec<Processor<T>>,
+    all: &mut Vec<Progress>,
+    script: &Script,
+    list: &[usize],
+) -> Result<bool, RunFault>
+    requires lawful { IsLawful (plan_of script.now) }
+    requires sizes { cluster.now.sizes ≡ sizes_of (plan_of script.now) }
+    requires list { AreBelow (vec_len processors.old) list.now }
+    requires way { AreOnTheirWay cluster.now (plan_of script.now).sections processors.old.items all.old.items }
+    ensures { IfOk result (λ _. AreOnTheirWay cluster.now (plan_of script.now).sections processors.new.items all.new.items) }
+{
+    let mut moved = false;
+    for p in list {
+        if turn_at(rt, cluster, processors, all, script, *p)? {
+            moved = true;
+        }
+    }
+    Ok(moved)
+}
+
+/// The turn of processor `p`: whether it got on.
+fn turn_at<T: Turn<Book, Rule>, R: Wait>(
+    rt: &R,
+    cluster: &Cluster<T>,
+    processors: &mut Vec<Processor<T>>,
+    all: &mut Vec<Progress>,
+    script: &Script,
+    p: usize,
+) -> Result<bool, RunFault>
+    requires lawful { IsLawful (plan_of script.now) }
+    requires sizes { cluster.now.sizes ≡ sizes_of (plan_of script.now) }
+    requires within { p < vec_len processors.old }
+    requires way { AreOnTheirWay cluster.now (plan_of script.now).sections processors.old.items all.old.items }
+    ensures long { vec_len processors.new ≡ vec_len processors.old }
+    ensures way { IfOk result (λ _. AreOnTheirWay cluster.now (plan_of script.now).sections processors.new.items all.new.items) }
+{
+    let section = &script.sections[p];
+    match take_turn(rt, cluster, &mut processors[p], section, all[p]) {
+        Ok(outcome) => {
+            let (progress, moved) = outcome;
+            all[p] = progress;
+            Ok(moved)
+        }
+        Err(cause) => Err(RunFault {
+            processor: p,
+            cause,
+        }),
+    }
+}

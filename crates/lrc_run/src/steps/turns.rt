@@ -1,0 +1,89 @@
+//! A processor's turn.
+ghost use Rattle.std.specs.Prelude.{◌≡◌, ◌≤◌, IfOk, length, All, IsTrue, ◌↔◌};
+ghost use Rattle.replicas.specs.Local.{Local};
+ghost use Rattle.lrc_run.specs.Steps.{IsAt, instruction_at, progress_after};
+ghost use Rattle.lrc_run.specs.Walks.{IsOnItsWay};
+
+use crate::report::Cause;
+use crate::walk::{begin, end};
+use book::Book;
+use cluster::{Cluster, Processor, Rule};
+use lrc_script::script::Instruction;
+use std::sync::Wait;
+use turn::Turn;
+
+/// How far a processor is in its section.
+#[derive(Clone, Copy, Debug, PartialEq, Eq)]
+pub(crate) enum Progress {
+    /// Its next instruction is this one, or the closing barrier after the last.
+    Next(usize),
+    /// It waits in this one.
+    Waits(usize),
+    /// It has passed the closing barrier.
+    Passed,
+}
+
+/// The instruction at this place of the section, or the closing barrier after the last.
+fn instruction_at(section: &[Instruction], n: usize) -> Instruction
+    ensures { result ≡ instruction_at section.now n }
+{
+    match section.get(n) {
+        Some(instruction) => *instruction,
+        None => Instruction::Barrier,
+    }
+}
+
+/// Where the processor is after its instruction `n` was done, or begun.
+fn progress_after(section: &[Instruction], n: usize, done: bool) -> Progress
+    ensures { result ≡ progress_after section.now n done }
+{
+    if !done {
+        Progress::Waits(n)
+    } else if n < section.len() {
+        Progress::Next(n + 1)
+    } else {
+        Progress::Passed
+    }
+}
+
+/// A turn: does the next instruction, or looks once for what the processor waits for. Answers where it is then,
+/// and whether it did more than to look in vain. Refused as its calls are.
+pub(crate) fn take_turn<T: Turn<Book, Rule>, R: Wait>(
+    rt: &R,
+    cluster: &Cluster<T>,
+    processor: &mut Processor<T>,
+    section: &[Instruction],
+    progress: Progress,
+) -> Result<(Progress, bool), Cause>
+    requires own { processor.old.lock ≡ cluster.now.lock }
+    ensures { IfOk result (λ r. (start : Local) → IsAt start processor.old section.now progress
+        → IsAt start processor.new section.now r.0) }
+{
+    match progress {
+        Progress::Next(n) => {
+            let done = go_on(rt, cluster, processor, instruction_at(section, n))?;
+            Ok((progress_after(section, n, done), true))
+        }
+        Progress::Waits(n) => {
+            let done = end(rt, cluster, processor)?;
+            Ok((progress_after(section, n, done), done))
+        }
+        Progress::Passed => Ok((Progress::Passed, false)),
+    }
+}
+
+/// Does the instruction, or begins it and looks once for what it waits for: whether it is done.
+fn go_on<T: Turn<Book, Rule>, R: Wait>(
+    rt: &R,
+    cluster: &Cluster<T>,
+    processor: &mut Processor<T>,
+    instruction: Instruction,
+) -> Result<bool, Cause>
+    requires own { processor.old.lock ≡ cluster.now.lock }
+    ensures { IfOk result (λ done. IsOnItsWay processor.old processor.new instruction done) }
+{
+    if begin(rt, cluster, processor, instruction)? {
+        return Ok(true);
+    }
+    Ok(end(rt, cluster, processor)?)
+}
