@@ -36,10 +36,12 @@ impl ProgramFault {
         match self {
             ProgramFault::Unreadable => 5,
             ProgramFault::Script(..) => 2,
-            ProgramFault::Run(RunFault {
-                cause: Cause::Stuck,
-                ..
-            }) => 3,
+            ProgramFault::Run(
+                RunFault {
+                    cause: Cause::Stuck,
+                    ..
+                },
+            ) => 3,
             ProgramFault::Run(_) | ProgramFault::Output | ProgramFault::NoMemory => 4,
         }
     }

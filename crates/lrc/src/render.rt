@@ -8,7 +8,6 @@ ghost use Rattle.lrc.specs.ReportText.{piece_text, word_line, verdict_line, traf
 ghost use Rattle.lrc.specs.Writing.{Writes, Takes};
 
 use crate::pending::Pending;
-
 use itoa::Buffer;
 use journal::{Event, Kind, Traffic};
 use lrc_run::Report;

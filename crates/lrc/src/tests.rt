@@ -197,6 +197,7 @@ fn unreadable(rt: HostRuntime) {
     let mut printed = Vec::new(rt.alloc());
     let mut said = Vec::new(rt.alloc());
     let status = program(
+        &rt,
         rt.alloc(),
         &plain(false),
         &mut Broken,
@@ -225,6 +226,7 @@ fn longer_than_any_script(rt: HostRuntime) {
     let mut printed = Vec::new(rt.alloc());
     let mut said = Vec::new(rt.alloc());
     let status = program(
+        &rt,
         rt.alloc(),
         &plain(false),
         &mut Endless,
@@ -265,9 +267,12 @@ impl Write for Narrow {
 /// Of a text that doesn't fit, just the bytes that fit are written.
 #[test]
 fn failed_writes(rt: HostRuntime) -> Result<(), Fail> {
-    let text = b"word 0 7\nverdict race-free\ntraffic 2 0 0\nevent 0 0 store 0 7\nevent 1 0 arrive\nevent 2 0 depart\nevent 3 0 load 0 7\n";
+    let text =
+        b"word 0 7\nverdict race-free\ntraffic 2 0 0\nevent 0 0 store 0 7\nevent 1 0 arrive\nevent 2 0 depart\nevent 3 0 load 0 7\n";
     let script = parse(rt.alloc(), SEVEN).map_err(|_| "not parsed")?;
-    let report = step_with::<BookLock, HostRuntime>(&rt, rt.alloc(), &script, None).map_err(|_| "not run")?;
+    let report = step_with::<BookLock, HostRuntime>(&rt, rt.alloc(), &script, None).map_err(
+        |_| "not run",
+    )?;
     for left in 0..text.len() {
         let mut out = Narrow {
             left,
@@ -293,7 +298,14 @@ fn failed_output(rt: HostRuntime) {
         taken: Vec::new(rt.alloc()),
     };
     let mut said = Vec::new(rt.alloc());
-    let status = program(&rt, rt.alloc(), &plain(false), &mut source, &mut out, &mut said);
+    let status = program(
+        &rt,
+        rt.alloc(),
+        &plain(false),
+        &mut source,
+        &mut out,
+        &mut said,
+    );
     assert_eq!(rt; status, 4);
     assert_eq!(rt; said.as_slice(), b"lrc: output failed\n".as_slice());
 }
@@ -318,6 +330,7 @@ fn failed_flush(rt: HostRuntime) {
     let mut source = SEVEN;
     let mut said = Vec::new(rt.alloc());
     let status = program(
+        &rt,
         rt.alloc(),
         &plain(false),
         &mut source,
@@ -338,6 +351,7 @@ fn failed_error_output(rt: HostRuntime) {
         taken: Vec::new(rt.alloc()),
     };
     let status = program(
+        &rt,
         rt.alloc(),
         &plain(false),
         &mut source,

@@ -12,22 +12,58 @@ use std::thread::Threads;
 
 /// Scripts of which every schedule prints the same.
 const ROWS: [(&[u8], &[u8]); 6] = [
-    (b"cluster 1 1 1 0\np 0\nstore 0 7\nshow 0\n", b"word 0 7\nverdict race-free\ntraffic 2 0 0\n"),
-    (b"cluster 2 1 2 0\np 0\nstore 0 5\nbarrier\np 1\nbarrier\nload 0\nshow 0\n", b"word 0 5\nverdict race-free\ntraffic 10 1 1\n"),
-    (b"cluster 2 1 2 0\np 0\nstore 0 1\np 1\nstore 1 2\nshow 0 1\n", b"word 0 1\nword 1 2\nverdict race-free\ntraffic 6 1 1\n"),
-    (b"cluster 2 1 2 0\np 0\nstore 0 0\nbarrier\np 1\nbarrier\nload 0\nshow 0\n", b"word 0 0\nverdict race-free\ntraffic 10 1 1\n"),
-    (b"cluster 2 1 2 0\np 0\nstore 0 1\nstore 0 2\nstore 0 3\nbarrier\np 1\nbarrier\nload 0\nshow 0\n", b"word 0 3\nverdict race-free\ntraffic 10 1 1\n"),
-    (b"cluster 4 1 4 0\np 0\nstore 0 1\np 1\nstore 1 2\np 2\nstore 2 3\np 3\nstore 3 4\nshow 0 1 2 3\n", b"word 0 1\nword 1 2\nword 2 3\nword 3 4\nverdict race-free\ntraffic 14 3 3\n"),
+    (
+        b"cluster 1 1 1 0\np 0\nstore 0 7\nshow 0\n",
+        b"word 0 7\nverdict race-free\ntraffic 2 0 0\n",
+    ),
+    (
+        b"cluster 2 1 2 0\np 0\nstore 0 5\nbarrier\np 1\nbarrier\nload 0\nshow 0\n",
+        b"word 0 5\nverdict race-free\ntraffic 10 1 1\n",
+    ),
+    (
+        b"cluster 2 1 2 0\np 0\nstore 0 1\np 1\nstore 1 2\nshow 0 1\n",
+        b"word 0 1\nword 1 2\nverdict race-free\ntraffic 6 1 1\n",
+    ),
+    (
+        b"cluster 2 1 2 0\np 0\nstore 0 0\nbarrier\np 1\nbarrier\nload 0\nshow 0\n",
+        b"word 0 0\nverdict race-free\ntraffic 10 1 1\n",
+    ),
+    (
+        b"cluster 2 1 2 0\np 0\nstore 0 1\nstore 0 2\nstore 0 3\nbarrier\np 1\nbarrier\nload 0\nshow 0\n",
+        b"word 0 3\nverdict race-free\ntraffic 10 1 1\n",
+    ),
+    (
+        b"cluster 4 1 4 0\np 0\nstore 0 1\np 1\nstore 1 2\np 2\nstore 2 3\np 3\nstore 3 4\nshow 0 1 2 3\n",
+        b"word 0 1\nword 1 2\nword 2 3\nword 3 4\nverdict race-free\ntraffic 14 3 3\n",
+    ),
 ];
 
 /// Scripts of which the schedule of turns without a seed prints this.
 const BY_TURNS: [(&[u8], &[u8]); 6] = [
-    (b"cluster 2 1 1 1\np 0\nacquire 0\nadd 0 1\nrelease 0\np 1\nacquire 0\nadd 0 1\nrelease 0\nshow 0\n", b"word 0 2\nverdict race-free\ntraffic 12 2 2\n"),
-    (b"cluster 3 1 1 2\np 0\nacquire 0\nstore 0 9\nrelease 0\np 1\nacquire 1\nacquire 0\nrelease 0\nrelease 1\np 2\nacquire 1\nload 0\nrelease 1\nshow 0\n", b"word 0 9\nverdict race-free\ntraffic 16 1 1\n"),
-    (b"cluster 2 1 1 0\np 0\nstore 0 1\np 1\nstore 0 2\nshow 0\n", b"word 0 2\nverdict racy\ntraffic 6 1 1\n"),
-    (b"cluster 2 1 1 0\np 0\nload 0\np 1\nstore 0 4\nshow 0\n", b"word 0 4\nverdict racy\ntraffic 6 1 1\n"),
-    (b"cluster 2 1 2 0 1\np 0\nstore 0 5\nset 0\np 1\nawait 0\nload 0\nshow 0\n", b"word 0 5\nverdict race-free\ntraffic 8 1 1\n"),
-    (b"cluster 2 1 2 1\np 0\np 1\nacquire 0\nstore 0 1\nrelease 0\nstore 1 2\nshow 0 1\n", b"word 0 1\nword 1 2\nverdict race-free\ntraffic 8 2 2\n"),
+    (
+        b"cluster 2 1 1 1\np 0\nacquire 0\nadd 0 1\nrelease 0\np 1\nacquire 0\nadd 0 1\nrelease 0\nshow 0\n",
+        b"word 0 2\nverdict race-free\ntraffic 12 2 2\n",
+    ),
+    (
+        b"cluster 3 1 1 2\np 0\nacquire 0\nstore 0 9\nrelease 0\np 1\nacquire 1\nacquire 0\nrelease 0\nrelease 1\np 2\nacquire 1\nload 0\nrelease 1\nshow 0\n",
+        b"word 0 9\nverdict race-free\ntraffic 16 1 1\n",
+    ),
+    (
+        b"cluster 2 1 1 0\np 0\nstore 0 1\np 1\nstore 0 2\nshow 0\n",
+        b"word 0 2\nverdict racy\ntraffic 6 1 1\n",
+    ),
+    (
+        b"cluster 2 1 1 0\np 0\nload 0\np 1\nstore 0 4\nshow 0\n",
+        b"word 0 4\nverdict racy\ntraffic 6 1 1\n",
+    ),
+    (
+        b"cluster 2 1 2 0 1\np 0\nstore 0 5\nset 0\np 1\nawait 0\nload 0\nshow 0\n",
+        b"word 0 5\nverdict race-free\ntraffic 8 1 1\n",
+    ),
+    (
+        b"cluster 2 1 2 1\np 0\np 1\nacquire 0\nstore 0 1\nrelease 0\nstore 1 2\nshow 0 1\n",
+        b"word 0 1\nword 1 2\nverdict race-free\ntraffic 8 2 2\n",
+    ),
 ];
 
 /// Scripts that come to no end.
@@ -77,8 +113,18 @@ fn check_stuck<R: Abort + Threads + Wait + Sync>(rt: &R, alloc: Global, options:
 
 #[test]
 fn on_threads(rt: HostRuntime) {
-    check_all(&rt, rt.alloc(), &with_lock(false, false, 1_000_000_000), &ROWS);
-    check_all(&rt, rt.alloc(), &with_lock(false, true, 1_000_000_000), &ROWS);
+    check_all(
+        &rt,
+        rt.alloc(),
+        &with_lock(false, false, 1_000_000_000),
+        &ROWS,
+    );
+    check_all(
+        &rt,
+        rt.alloc(),
+        &with_lock(false, true, 1_000_000_000),
+        &ROWS,
+    );
 }
 
 #[test]
