@@ -8,7 +8,7 @@ use Rattle.journal.specs.declared.event.Kind.TheVariants.{Load, Store, Fetch, As
 use Rattle.journal.specs.declared.traffic.Traffic.{Traffic}
 use Rattle.lrc.specs.declared.render.Piece.{Piece}
 use Rattle.lrc.specs.declared.render.Piece.TheVariants.{Text, Number}
-use Rattle.lrc.specs.declared.report.Report.{Report}
+use Rattle.lrc_run.specs.declared.report.Report.{Report}
 
 -- a piece of a line: a text, or a number in decimal
 abbrev pub piece_text : Piece → List ℕ

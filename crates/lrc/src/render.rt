@@ -8,9 +8,9 @@ ghost use Rattle.lrc.specs.ReportText.{piece_text, word_line, verdict_line, traf
 ghost use Rattle.lrc.specs.Writing.{Writes, Takes};
 
 use crate::pending::Pending;
-use crate::report::Report;
 use itoa::Buffer;
 use journal::{Event, Kind, Traffic};
+use lrc_run::Report;
 use std::io::Write;
 use thiserror::Error;
 
