@@ -10,8 +10,11 @@ use std::process::Abort;
 use std::sync::Wait;
 use std::thread::Threads;
 
+/// A barrier, and then a cut.
+const CUT: &[u8] = b"cluster 2 1 2 0\np 0\nstore 0 5\nbarrier\ncut\np 1\nbarrier\nload 0\nshow 0\n";
+
 /// Scripts of which every schedule prints the same.
-const ROWS: [(&[u8], &[u8]); 6] = [
+const ROWS: [(&[u8], &[u8]); 7] = [
     (
         b"cluster 1 1 1 0\np 0\nstore 0 7\nshow 0\n",
         b"word 0 7\nverdict race-free\ntraffic 2 0 0\n",
@@ -36,6 +39,7 @@ const ROWS: [(&[u8], &[u8]); 6] = [
         b"cluster 4 1 4 0\np 0\nstore 0 1\np 1\nstore 1 2\np 2\nstore 2 3\np 3\nstore 3 4\nshow 0 1 2 3\n",
         b"word 0 1\nword 1 2\nword 2 3\nword 3 4\nverdict race-free\ntraffic 14 3 3\n",
     ),
+    (CUT, b"word 0 5\nverdict race-free\ntraffic 10 1 1\n"),
 ];
 
 /// Scripts of which the schedule of turns without a seed prints this.
@@ -144,6 +148,18 @@ fn by_drawn_turns(rt: HostRuntime) {
         };
         check_all(&rt, rt.alloc(), &options, &ROWS);
     }
+}
+
+/// What was cut off is counted, and the events that are left are numbered from there.
+#[test]
+fn numbers_after_a_cut(rt: HostRuntime) {
+    let options = Options {
+        journal: true,
+        ..plain(true)
+    };
+    let out =
+        b"word 0 5\nverdict race-free\ntraffic 10 1 1\ncut 3\nevent 3 0 depart\nevent 4 1 depart\nevent 5 1 fetch 0 1 1 1\nevent 6 0 arrive\nevent 7 1 load 0 5\nevent 8 1 arrive\nevent 9 1 depart\nevent 10 0 depart\nevent 11 0 load 0 5\n";
+    check_with(&rt, rt.alloc(), &options, CUT, (0, out, b""));
 }
 
 #[test]
