@@ -22,23 +22,24 @@ taken (y ∷ ys) zero x at = refl
 taken (y ∷ ys) (suc i) x at = ap suc (taken ys i x at)
 
 -- one more
-lines_next : (xs : List Event) (i : ℕ) (x : Event) → slice_get xs i ≡ Some x → event_lines 0 (take (i + 1) xs) ≡ event_lines 0 (take i xs) ++ event_line i x
-lines_next xs i x at =
-    let place : 0 + length (take i xs) ≡ i = omega (arith, taken xs i x at) in
-    ap (event_lines 0) (ap (λ n. take n xs) (add-one i) ∙ take-suc_at xs i x at) ∙ lines_append 0 (take i xs) (x ∷ [])
-    ∙ ap (λ l. event_lines 0 (take i xs) ++ l) (append-nil (event_line (0 + length (take i xs)) x) ∙ ap (λ n. event_line n x) place)
+lines_next : (j : ℕ) (xs : List Event) (i : ℕ) (x : Event) → slice_get xs i ≡ Some x
+    → event_lines j (take (i + 1) xs) ≡ event_lines j (take i xs) ++ event_line (j + i) x
+lines_next j xs i x at =
+    let place : j + length (take i xs) ≡ j + i = omega (arith, taken xs i x at) in
+    ap (event_lines j) (ap (λ n. take n xs) (add-one i) ∙ take-suc_at xs i x at) ∙ lines_append j (take i xs) (x ∷ [])
+    ∙ ap (λ l. event_lines j (take i xs) ++ l) (append-nil (event_line (j + length (take i xs)) x) ∙ ap (λ n. event_line n x) place)
 
 -- the lines of the events so far, and of one more
-pub events_next : (xs : List Event) (i : ℕ) (x : Event) (a b c : Option (List ℕ)) (k l m : List ℕ) → slice_get xs i ≡ Some x
-    → Passes a b k l (event_lines 0 (take i xs)) → Passes b c l m (event_line i x) → Passes a c k m (event_lines 0 (take (i + 1) xs))
-events_next xs i x a b c k l m at before this = rw (lines_next xs i x at) (passes_then a b c k l m _ _ before this)
+pub events_next : (j : ℕ) (xs : List Event) (i : ℕ) (x : Event) (a b c : Option (List ℕ)) (k l m : List ℕ) → slice_get xs i ≡ Some x
+    → Passes a b k l (event_lines j (take i xs)) → Passes b c l m (event_line (j + i) x) → Passes a c k m (event_lines j (take (i + 1) xs))
+events_next j xs i x a b c k l m at before this = rw (lines_next j xs i x at) (passes_then a b c k l m _ _ before this)
 
 -- a beginning of one more is one of the whole
-pub events_front : (xs : List Event) (i : ℕ) (x : Event) (a b c : Option (List ℕ)) (k l : List ℕ) → slice_get xs i ≡ Some x
-    → Passes a b k l (event_lines 0 (take i xs)) → AppendsFront b c (l ++ event_line i x) → AppendsFront a c (k ++ event_lines 0 xs)
-events_front xs i x a b c k l at before this =
-    let rest = event_lines (0 + length (take (i + 1) xs)) (drop (i + 1) xs) in
-    let whole : event_lines 0 xs ≡ event_lines 0 (take i xs) ++ (event_line i x ++ rest) =
-    ap (event_lines 0) (sym (take-append-drop (i + 1) xs)) ∙ lines_append 0 (take (i + 1) xs) (drop (i + 1) xs)
-    ∙ ap (λ t. t ++ rest) (lines_next xs i x at) ∙ append_assoc (event_lines 0 (take i xs)) (event_line i x) rest in
-    rw whole (passes_front a b c k l (event_lines 0 (take i xs)) _ before (pending_longer b c l (event_line i x) rest this))
+pub events_front : (j : ℕ) (xs : List Event) (i : ℕ) (x : Event) (a b c : Option (List ℕ)) (k l : List ℕ) → slice_get xs i ≡ Some x
+    → Passes a b k l (event_lines j (take i xs)) → AppendsFront b c (l ++ event_line (j + i) x) → AppendsFront a c (k ++ event_lines j xs)
+events_front j xs i x a b c k l at before this =
+    let rest = event_lines (j + length (take (i + 1) xs)) (drop (i + 1) xs) in
+    let whole : event_lines j xs ≡ event_lines j (take i xs) ++ (event_line (j + i) x ++ rest) =
+    ap (event_lines j) (sym (take-append-drop (i + 1) xs)) ∙ lines_append j (take (i + 1) xs) (drop (i + 1) xs)
+    ∙ ap (λ t. t ++ rest) (lines_next j xs i x at) ∙ append_assoc (event_lines j (take i xs)) (event_line (j + i) x) rest in
+    rw whole (passes_front a b c k l (event_lines j (take i xs)) _ before (pending_longer b c l (event_line (j + i) x) rest this))

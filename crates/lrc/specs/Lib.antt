@@ -1,10 +1,3 @@
-pub mod Machine
-pub mod History
-pub mod Holding
-pub mod Follows
-pub mod Alone
-pub mod Served
-pub mod Runs
 pub mod Writing
 pub mod ReportText
 pub mod Words

@@ -1,19 +1,21 @@
 -- The lines of a report.
-use Rattle.std.specs.Prelude.{ℕ, ◌+◌, Bool, List, [], ◌∷◌, ◌++◌, if◌then◌else◌, codes}
+use Rattle.std.specs.Prelude.{ℕ, ◌+◌, Bool, List, [], ◌∷◌, ◌++◌, if◌then◌else◌, codes, nat_lt}
 use Rattle.std.specs.List.{flat_map}
 use Rattle.std.specs.Fmt.{decimal}
 use Rattle.journal.specs.declared.event.Event.{Event}
 use Rattle.journal.specs.declared.event.Kind.{Kind}
 use Rattle.journal.specs.declared.event.Kind.TheVariants.{Load, Store, Fetch, Ask, Acquire, Release, Arrive, Depart, Set, Watch, Await}
 use Rattle.journal.specs.declared.traffic.Traffic.{Traffic}
+use Rattle.journal.specs.Log.{Log}
 use Rattle.lrc.specs.declared.render.Piece.{Piece}
-use Rattle.lrc.specs.declared.render.Piece.TheVariants.{Text, Number}
-use Rattle.lrc.specs.declared.report.Report.{Report}
+use Rattle.lrc.specs.declared.render.Piece.TheVariants.{Text, Number, Place}
+use Rattle.lrc_run.specs.declared.report.Report.{Report}
 
--- a piece of a line: a text, or a number in decimal
+-- a piece of a line: a text, or a number or a place in decimal
 abbrev pub piece_text : Piece → List ℕ
 piece_text (Text t) = t.now
 piece_text (Number n) = decimal n
+piece_text (Place n) = decimal n
 
 -- a shown address with its word
 abbrev pub word_line : ℕ × ℕ → List ℕ
@@ -60,9 +62,17 @@ event_lines i (e ∷ es) = event_line i e ++ event_lines (i + 1) es
 abbrev pub summary_text : Report → List ℕ
 summary_text r = flat_map word_line r.shown.items ++ verdict_line r.racy ++ traffic_line r.traffic
 
+-- how many events were cut off, where any was
+abbrev pub cut_line : ℕ → List ℕ
+cut_line n = if nat_lt 0 n then codes "cut " ++ decimal n ++ codes "\n" else []
+
+-- how many events were cut off, where any was, and a line for each that is left, numbered on from there
+abbrev pub left_text : Log → List ℕ
+left_text j = cut_line j.base.cut ++ event_lines j.base.cut j.events
+
 -- the lines of the journal, where they are asked for
 abbrev pub journal_text : Report → Bool → List ℕ
-journal_text r journal = if journal then event_lines 0 r.journal.events else []
+journal_text r journal = if journal then left_text r.journal else []
 
 -- a report, with its journal where that is asked for
 abbrev pub report_text : Report → Bool → List ℕ

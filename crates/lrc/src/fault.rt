@@ -1,8 +1,8 @@
 //! Why the program ends without a report.
 
-use crate::one_processor::Refused;
 use crate::render::OutFault;
-use crate::report::{Cause, RunFault};
+use book::Refused;
+use lrc_run::{Cause, RunFault};
 use lrc_script::fault::ScriptFault;
 use std::alloc::AllocError;
 use std::io;
@@ -18,9 +18,6 @@ pub enum ProgramFault {
     /// The script has a fault, in this line.
     #[error("line {0}: {1}")]
     Script(usize, ScriptFault),
-    /// The script's cluster isn't served yet.
-    #[error("cluster not served yet")]
-    Unserved,
     /// A processor went no further.
     #[error("{0}")]
     Run(RunFault),
@@ -33,15 +30,19 @@ pub enum ProgramFault {
 }
 
 impl ProgramFault {
-    /// The exit status: 5 for a file that can't be read, 2 for a script that is refused, else 4.
+    /// The exit status: 5 for a file that can't be read, 2 for a script that is refused, 3 for a run without
+    /// progress, else 4.
     pub fn status(self) -> u8 {
         match self {
             ProgramFault::Unreadable => 5,
             ProgramFault::Script(..) => 2,
-            ProgramFault::Unserved
-            | ProgramFault::Run(_)
-            | ProgramFault::Output
-            | ProgramFault::NoMemory => 4,
+            ProgramFault::Run(
+                RunFault {
+                    cause: Cause::Stuck,
+                    ..
+                },
+            ) => 3,
+            ProgramFault::Run(_) | ProgramFault::Output | ProgramFault::NoMemory => 4,
         }
     }
 }
@@ -74,7 +75,6 @@ impl From<(usize, ScriptFault)> for ProgramFault {
 impl From<RunFault> for ProgramFault {
     fn from(fault: RunFault) -> ProgramFault {
         match fault.cause {
-            Cause::Unserved => ProgramFault::Unserved,
             Cause::Refused(Refused::NoMemory) => ProgramFault::NoMemory,
             _ => ProgramFault::Run(fault),
         }

@@ -1,27 +1,23 @@
 //! `lrc`: runs scripts of a shared memory and prints the final words, a race verdict and the traffic.
 //!
-//! **What contracts see.** A run's `Report` is one of a script's plan (`IsReportOf`): its journal has the
-//! plan's sizes and holds a history that is well formed, explained and follows the plan, and the report
-//! tells of that history alone. `report_text` is the text of a report, `file_given` the file that the words
-//! give. What goes with the stand-in of one processor is in `Machine`, `History`, `Holding`, `Alone` and
-//! `Served`.
+//! **What contracts see.** A run's `Report` is one of a script's plan (`IsReportOf` of `lrc_run`). `report_text`
+//! is the text of a report, with its journal where that is asked for; `AreGiven` says what options the words
+//! give, by the matches that clap states for a simple command.
 //!
-//! **What is proved.** `run::run` answers such a report, or refuses the script by name; `render::render`
-//! writes its text and nothing else, after a fault a beginning of it; `words::options` reads the file.
+//! **What is proved.** The report that is written is one of the script that was read; `render::render` writes
+//! its text and nothing else, after a fault a beginning of it; `words::options` reads the words.
 //!
-//! **What is only tested.** The texts of faults, help and usage, the exit statuses, the gate, and that
-//! memory isn't wanted needlessly.
+//! **What is only tested.** The texts of faults, help and usage, the exit statuses, and that memory isn't wanted
+//! needlessly.
 #![tactic(auto)]
 
+ghost use Rattle.std.specs.Prelude.{◌<◌};
+
 mod fault;
-mod gate;
-mod one_processor;
 mod options;
 mod pending;
 mod program;
 mod render;
-mod report;
-mod run;
 #[cfg(test)]
 mod tests;
 mod words;
@@ -34,6 +30,8 @@ use clap::Error;
 use clap::error::ErrorKind;
 use std::fs::File;
 use std::process::ExitCode;
+use std::sync::Wait;
+use std::thread::Threads;
 
 /// Says why the program doesn't start, and answers its status.
 fn refuse(rt: &HostRuntime, fault: ProgramFault) -> u8 {
@@ -53,37 +51,40 @@ fn answer_words(rt: &HostRuntime, error: &Error) -> u8 {
     }
 }
 
-/// Runs the script of the file, or of standard input where no file is given.
-fn run_file(rt: &HostRuntime, options: &Options) -> u8 {
+/// Runs the script of the file, or of standard input where no file is given. The handle is what threads are
+/// started by.
+fn run_file<R: Threads + Wait + Sync>(rt: &HostRuntime, handle: &R, options: &Options) -> u8
+    requires { 0 < options.now.tries }
+{
     let alloc = rt.alloc();
     let (mut out, mut err) = (rt.stdout(), rt.stderr());
     match options.file.as_deref() {
-        None => program(alloc, options, &mut rt.stdin(), &mut out, &mut err),
+        None => program(handle, alloc, options, &mut rt.stdin(), &mut out, &mut err),
         Some(path) => match File::open(rt, path) {
-            Ok(mut source) => program(alloc, options, &mut source, &mut out, &mut err),
+            Ok(mut source) => program(handle, alloc, options, &mut source, &mut out, &mut err),
             Err(error) => refuse(rt, ProgramFault::from(error)),
         },
     }
 }
 
 /// Does what the words ask for.
-fn start(rt: &HostRuntime, words: &[&str]) -> u8 {
+fn start<R: Threads + Wait + Sync>(rt: &HostRuntime, handle: &R, words: &[&str]) -> u8 {
     match options(rt.alloc(), words) {
-        Ok(options) => run_file(rt, &options),
+        Ok(options) => run_file(rt, handle, &options),
         Err(error) => answer_words(rt, &error),
     }
 }
 
 /// Reads the program's words and does what they ask for.
-fn read_words(rt: &HostRuntime) -> Result<u8, ProgramFault> {
+fn read_words<R: Threads + Wait + Sync>(rt: &HostRuntime, handle: &R) -> Result<u8, ProgramFault> {
     let alloc = rt.alloc();
     let words: Vec<String> = std::env::args(rt)?.collect(alloc)?;
     let words: Vec<&str> = words.iter().map(|word| word.as_str()).collect(alloc)?;
-    Ok(start(rt, &words))
+    Ok(start(rt, handle, &words))
 }
 
 fn main(rt: HostRuntime) -> ExitCode {
-    let status = match read_words(&rt) {
+    let status = match read_words(&rt, &rt) {
         Ok(status) => status,
         Err(fault) => refuse(&rt, fault),
     };

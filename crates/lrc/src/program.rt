@@ -1,48 +1,77 @@
 //! The program over its reader and its writers.
 
-ghost use Rattle.std.specs.Prelude.{IfOk};
+ghost use Rattle.std.specs.Prelude.{◌<◌, IfOk};
 ghost use Rattle.lrc_script.specs.Lawful.{IsLawful};
 ghost use Rattle.lrc_script.specs.Plan.{plan_of};
-ghost use Rattle.lrc.specs.Runs.{IsReportOf};
+ghost use Rattle.lrc_run.specs.Runs.{IsReportOf};
 
 use crate::fault::ProgramFault;
-use crate::gate::Open;
 use crate::options::Options;
 use crate::render::render;
-use crate::report::{Cause, Report, RunFault};
-use crate::run::run;
+use cluster::{BookLock, TicketBookLock};
+use lrc_run::{Open, Report, RunFault, run_with, step_with};
 use lrc_script::script::{MOST_BYTES, Script, parse};
 use std::alloc::Global;
 use std::io::{Read, Write};
+use std::sync::Wait;
+use std::thread::Threads;
 
 /// One byte more than the longest script has: what is longer is refused without its rest.
 const MOST_READ: u64 = MOST_BYTES as u64 + 1;
 
-/// Runs the script as the options say.
-fn report_of(alloc: Global, options: &Options, script: &Script) -> Result<Report, RunFault>
+/// Runs the script by turns on one thread, with the lock that is asked for.
+fn step_report<R: Wait>(
+    rt: &R,
+    alloc: Global,
+    options: &Options,
+    script: &Script,
+) -> Result<Report, RunFault>
     requires { IsLawful (plan_of script.now) }
     ensures { IfOk result (IsReportOf (plan_of script.now)) }
 {
-    if options.step {
-        return Err(RunFault {
-            processor: 0,
-            cause: Cause::Unserved,
-        });
+    if options.ticket {
+        step_with::<TicketBookLock, R>(rt, alloc, script, options.seed)
+    } else {
+        step_with::<BookLock, R>(rt, alloc, script, options.seed)
     }
-    run(alloc, script, &Open)
+}
+
+/// Runs the script with a thread for each processor and the lock that is asked for.
+fn run_report<R: Threads + Wait + Sync>(
+    rt: &R,
+    alloc: Global,
+    options: &Options,
+    script: &Script,
+) -> Result<Report, RunFault>
+    requires tries { 0 < options.now.tries }
+    requires lawful { IsLawful (plan_of script.now) }
+    ensures { IfOk result (IsReportOf (plan_of script.now)) }
+{
+    if options.ticket {
+        run_with::<TicketBookLock, R, Open>(rt, alloc, script, &Open, options.tries)
+    } else {
+        run_with::<BookLock, R, Open>(rt, alloc, script, &Open, options.tries)
+    }
 }
 
 /// Reads a script, runs it and writes its report.
-fn run_script<R: Read, W: Write>(
+fn run_script<R: Threads + Wait + Sync, S: Read, W: Write>(
+    rt: &R,
     alloc: Global,
     options: &Options,
-    source: &mut R,
+    source: &mut S,
     out: &mut W,
-) -> Result<(), ProgramFault> {
+) -> Result<(), ProgramFault>
+    requires { 0 < options.now.tries }
+{
     let mut bytes = Vec::new(alloc);
     source.by_ref().take(MOST_READ).read_to_end(&mut bytes)?;
     let script = parse(alloc, &bytes)?;
-    let report = report_of(alloc, options, &script)?;
+    let report = if options.step {
+        step_report(rt, alloc, options, &script)?
+    } else {
+        run_report(rt, alloc, options, &script)?
+    };
     render(&report, options.journal, out)?;
     out.flush().map_err(|_| ProgramFault::Output)
 }
@@ -65,14 +94,17 @@ pub fn say<E: Write>(alloc: Global, fault: ProgramFault, err: &mut E) -> u8 {
 
 /// Runs the script of `source` as the options say: writes its report to `out`, or one line to `err`, and
 /// answers the exit status. The file that the options name isn't opened here.
-pub fn program<R: Read, W: Write, E: Write>(
+pub fn program<R: Threads + Wait + Sync, S: Read, W: Write, E: Write>(
+    rt: &R,
     alloc: Global,
     options: &Options,
-    source: &mut R,
+    source: &mut S,
     out: &mut W,
     err: &mut E,
-) -> u8 {
-    match run_script(alloc, options, source, out) {
+) -> u8
+    requires { 0 < options.now.tries }
+{
+    match run_script(rt, alloc, options, source, out) {
         Ok(()) => 0,
         Err(fault) => say(alloc, fault, err),
     }

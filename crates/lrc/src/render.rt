@@ -4,13 +4,13 @@ ghost use Rattle.std.specs.Prelude.{◌++◌, codes};
 ghost use Rattle.std.specs.List.{flat_map};
 ghost use Rattle.std.specs.Fmt.{decimal};
 ghost use Rattle.journal.specs.declared.event.Kind.TheVariants as kind;
-ghost use Rattle.lrc.specs.ReportText.{piece_text, word_line, verdict_line, traffic_line, kind_text, head_text, event_line, event_lines, summary_text, journal_text, report_text};
+ghost use Rattle.lrc.specs.ReportText.{piece_text, word_line, verdict_line, traffic_line, cut_line, kind_text, head_text, event_line, event_lines, summary_text, left_text, journal_text, report_text};
 ghost use Rattle.lrc.specs.Writing.{Writes, Takes};
 
 use crate::pending::Pending;
-use crate::report::Report;
 use itoa::Buffer;
-use journal::{Event, Kind, Traffic};
+use journal::{Event, Journal, Kind, Traffic};
+use lrc_run::Report;
 use std::io::Write;
 use thiserror::Error;
 
@@ -19,11 +19,12 @@ use thiserror::Error;
 #[error("output failed")]
 pub struct OutFault;
 
-/// A piece of a line: a text, or a number in decimal.
+/// A piece of a line: a text, or a number or the place of an event in decimal.
 #[derive(Clone, Copy)]
 enum Piece<'a> {
     Text(&'a [u8]),
     Number(u64),
+    Place(u128),
 }
 
 /// Writes a piece of a line.
@@ -33,6 +34,7 @@ fn write_piece<W: Write>(out: &mut W, pending: &mut Pending, piece: Piece) -> Re
     match piece {
         Piece::Text(text) => pending.take(out, text),
         Piece::Number(number) => pending.take(out, Buffer::new().format(number).as_bytes()),
+        Piece::Place(place) => pending.take(out, Buffer::new().format(place).as_bytes()),
     }
 }
 
@@ -204,14 +206,14 @@ fn write_kind<W: Write>(out: &mut W, pending: &mut Pending, kind: Kind) -> Resul
 fn write_head<W: Write>(
     out: &mut W,
     pending: &mut Pending,
-    place: usize,
+    place: u128,
     processor: usize,
 ) -> Result<(), OutFault>
     ensures { Takes (W.contents out.old) (W.contents out.new) pending.old pending.new (head_text place processor) result }
 {
     let pieces = [
         Piece::Text(b"event "),
-        Piece::Number(place as u64),
+        Piece::Place(place),
         Piece::Text(b" "),
         Piece::Number(processor as u64),
     ];
@@ -222,7 +224,7 @@ fn write_head<W: Write>(
 fn write_event<W: Write>(
     out: &mut W,
     pending: &mut Pending,
-    place: usize,
+    place: u128,
     event: &Event,
 ) -> Result<(), OutFault>
     ensures { Takes (W.contents out.old) (W.contents out.new) pending.old pending.new (event_line place event.now) result }
@@ -231,18 +233,31 @@ fn write_event<W: Write>(
     write_kind(out, pending, event.kind)
 }
 
-/// Writes a line for each event, the first at place 0.
+/// Writes a line for each event, the first at this place.
 pub fn write_events<W: Write>(
     out: &mut W,
     pending: &mut Pending,
+    first: u64,
     events: &[Event],
 ) -> Result<(), OutFault>
-    ensures { Takes (W.contents out.old) (W.contents out.new) pending.old pending.new (event_lines 0 events.now) result }
+    ensures { Takes (W.contents out.old) (W.contents out.new) pending.old pending.new (event_lines first events.now) result }
 {
-    for (place, event) in events.iter().enumerate() {
-        write_event(out, pending, place, event)?;
+    for (index, event) in events.iter().enumerate() {
+        write_event(out, pending, first as u128 + index as u128, event)?;
     }
     Ok(())
+}
+
+/// Writes how many events were cut off, where any was.
+fn write_cut<W: Write>(out: &mut W, pending: &mut Pending, cut: u64) -> Result<(), OutFault>
+    ensures { Takes (W.contents out.old) (W.contents out.new) pending.old pending.new (cut_line cut) result }
+{
+    if 0 < cut {
+        let pieces = [Piece::Text(b"cut "), Piece::Number(cut), Piece::Text(b"\n")];
+        write_pieces(out, pending, &pieces)
+    } else {
+        Ok(())
+    }
 }
 
 /// Writes the shown words, the verdict and the traffic.
@@ -258,6 +273,19 @@ fn write_summary<W: Write>(
     write_traffic(out, pending, report.traffic)
 }
 
+/// Writes how many events were cut off, where any was, and a line for each that is left.
+fn write_left<W: Write>(
+    out: &mut W,
+    pending: &mut Pending,
+    journal: &Journal,
+) -> Result<(), OutFault>
+    ensures { Takes (W.contents out.old) (W.contents out.new) pending.old pending.new (left_text journal.now) result }
+{
+    let cut = journal.cut_events();
+    write_cut(out, pending, cut)?;
+    write_events(out, pending, cut, journal.events())
+}
+
 /// Writes the lines of the journal, where they are asked for.
 fn write_journal<W: Write>(
     out: &mut W,
@@ -268,15 +296,15 @@ fn write_journal<W: Write>(
     ensures { Takes (W.contents out.old) (W.contents out.new) pending.old pending.new (journal_text report.now journal) result }
 {
     if journal {
-        write_events(out, pending, report.journal.events())
+        write_left(out, pending, &report.journal)
     } else {
         Ok(())
     }
 }
 
 /// Writes the report: a line `word ADDRESS VALUE` for each shown address, the verdict, the traffic, and where
-/// the journal is asked for a line for each of its events, numbered from 0. It writes some thousand bytes at
-/// a time, and takes no memory.
+/// the journal is asked for a line `cut NUMBER` where events were cut off, and a line for each event that is
+/// left, numbered from that number. It writes some thousand bytes at a time, and takes no memory.
 ///
 /// # Errors
 ///

@@ -1,34 +1,58 @@
 //! Scripts from their bytes to what is printed, and the faults on the way.
 
+ghost use Rattle.std.specs.Prelude.{◌<◌};
+
+mod endings;
 mod events;
+mod rows;
 mod words;
 
 use self::words::plain;
-use crate::gate::{Gate, Open, Stopped};
+use crate::options::Options;
 use crate::program::program;
 use crate::render::{OutFault, render};
-use crate::report::{Cause, RunFault};
-use crate::run::run;
-use journal::{Event, Kind};
+use cluster::BookLock;
+use lrc_run::step_with;
 use lrc_script::script::parse;
 use std::alloc::Global;
-use std::cell::Cell;
 use std::io;
 use std::io::{ErrorKind, Read, Write};
 use std::process::Abort;
+use std::sync::Wait;
 use std::test::Fail;
+use std::thread::Threads;
 
 const SEVEN: &[u8] = b"cluster 1 1 1 0\np 0\nstore 0 7\nshow 0\n";
 
 /// Checks the status and both texts of the program on a script.
-fn check<R: Abort>(rt: &R, alloc: Global, script: &[u8], status: u8, out: &[u8], err: &[u8]) {
+fn check_with<R: Abort + Threads + Wait + Sync>(
+    rt: &R,
+    alloc: Global,
+    options: &Options,
+    script: &[u8],
+    wanted: (u8, &[u8], &[u8]),
+)
+    requires { 0 < options.now.tries }
+{
     let mut source = script;
     let mut printed = Vec::new(alloc);
     let mut said = Vec::new(alloc);
-    let answer = program(alloc, &plain(false), &mut source, &mut printed, &mut said);
-    assert_eq!(rt; answer, status);
-    assert_eq!(rt; printed.as_slice(), out);
-    assert_eq!(rt; said.as_slice(), err);
+    let status = program(rt, alloc, options, &mut source, &mut printed, &mut said);
+    assert_eq!(rt; status, wanted.0);
+    assert_eq!(rt; printed.as_slice(), wanted.1);
+    assert_eq!(rt; said.as_slice(), wanted.2);
+}
+
+/// Checks them for `run` without an option.
+fn check<R: Abort + Threads + Wait + Sync>(
+    rt: &R,
+    alloc: Global,
+    script: &[u8],
+    status: u8,
+    out: &[u8],
+    err: &[u8],
+) {
+    check_with(rt, alloc, &plain(false), script, (status, out, err));
 }
 
 #[test]
@@ -140,28 +164,6 @@ fn barrier_alone(rt: HostRuntime) {
     check(&rt, rt.alloc(), script, 0, out, b"");
 }
 
-/// Clusters of more than one processor and one page, or with locks or flags, and cuts aren't served yet.
-#[test]
-fn not_served(rt: HostRuntime) {
-    let scripts: [&[u8]; 5] = [
-        b"cluster 1 1 1 0\np 0\nbarrier\ncut\nshow 0\n",
-        b"cluster 2 1 2 0\np 0\nstore 0 5\nbarrier\np 1\nbarrier\nload 0\nshow 0\n",
-        b"cluster 1 2 1 0\np 0\nshow 0\n",
-        b"cluster 1 1 1 1\np 0\nacquire 0\nshow 0\n",
-        b"cluster 1 1 1 0 1\np 0\nset 0\nshow 0\n",
-    ];
-    for script in scripts {
-        check(
-            &rt,
-            rt.alloc(),
-            script,
-            4,
-            b"",
-            b"lrc: cluster not served yet\n",
-        );
-    }
-}
-
 #[test]
 fn too_long(rt: HostRuntime) -> Result<(), Fail> {
     let mut script = Vec::from_slice(rt.alloc(), b"cluster 1 1 1 0\np 0\n")?;
@@ -195,6 +197,7 @@ fn unreadable(rt: HostRuntime) {
     let mut printed = Vec::new(rt.alloc());
     let mut said = Vec::new(rt.alloc());
     let status = program(
+        &rt,
         rt.alloc(),
         &plain(false),
         &mut Broken,
@@ -223,6 +226,7 @@ fn longer_than_any_script(rt: HostRuntime) {
     let mut printed = Vec::new(rt.alloc());
     let mut said = Vec::new(rt.alloc());
     let status = program(
+        &rt,
         rt.alloc(),
         &plain(false),
         &mut Endless,
@@ -263,22 +267,25 @@ impl Write for Narrow {
 /// Of a text that doesn't fit, just the bytes that fit are written.
 #[test]
 fn failed_writes(rt: HostRuntime) -> Result<(), Fail> {
-    let text = b"word 0 7\nverdict race-free\ntraffic 2 0 0\n";
+    let text =
+        b"word 0 7\nverdict race-free\ntraffic 2 0 0\nevent 0 0 store 0 7\nevent 1 0 arrive\nevent 2 0 depart\nevent 3 0 load 0 7\n";
     let script = parse(rt.alloc(), SEVEN).map_err(|_| "not parsed")?;
-    let report = run(rt.alloc(), &script, &Open).map_err(|_| "not run")?;
+    let report = step_with::<BookLock, HostRuntime>(&rt, rt.alloc(), &script, None).map_err(
+        |_| "not run",
+    )?;
     for left in 0..text.len() {
         let mut out = Narrow {
             left,
             taken: Vec::new(rt.alloc()),
         };
-        assert_eq!(rt; render(&report, false, &mut out), Err(OutFault));
+        assert_eq!(rt; render(&report, true, &mut out), Err(OutFault));
         assert_eq!(rt; out.taken.as_slice(), &text[..left]);
     }
     let mut out = Narrow {
         left: text.len(),
         taken: Vec::new(rt.alloc()),
     };
-    assert_eq!(rt; render(&report, false, &mut out), Ok(()));
+    assert_eq!(rt; render(&report, true, &mut out), Ok(()));
     assert_eq!(rt; out.taken.as_slice(), text.as_slice());
     Ok(())
 }
@@ -291,7 +298,14 @@ fn failed_output(rt: HostRuntime) {
         taken: Vec::new(rt.alloc()),
     };
     let mut said = Vec::new(rt.alloc());
-    let status = program(rt.alloc(), &plain(false), &mut source, &mut out, &mut said);
+    let status = program(
+        &rt,
+        rt.alloc(),
+        &plain(false),
+        &mut source,
+        &mut out,
+        &mut said,
+    );
     assert_eq!(rt; status, 4);
     assert_eq!(rt; said.as_slice(), b"lrc: output failed\n".as_slice());
 }
@@ -316,6 +330,7 @@ fn failed_flush(rt: HostRuntime) {
     let mut source = SEVEN;
     let mut said = Vec::new(rt.alloc());
     let status = program(
+        &rt,
         rt.alloc(),
         &plain(false),
         &mut source,
@@ -336,6 +351,7 @@ fn failed_error_output(rt: HostRuntime) {
         taken: Vec::new(rt.alloc()),
     };
     let status = program(
+        &rt,
         rt.alloc(),
         &plain(false),
         &mut source,
@@ -344,71 +360,4 @@ fn failed_error_output(rt: HostRuntime) {
     );
     assert_eq!(rt; status, 2);
     assert_eq!(rt; said.taken.is_empty(), true);
-}
-
-#[test]
-fn whole_journal(rt: HostRuntime) -> Result<(), Fail> {
-    let script = parse(rt.alloc(), SEVEN).map_err(|_| "not parsed")?;
-    let report = run(rt.alloc(), &script, &Open).map_err(|_| "not run")?;
-    let kinds = [
-        Kind::Store(0, 7),
-        Kind::Arrive,
-        Kind::Depart,
-        Kind::Load(0, 7),
-    ];
-    assert_eq!(rt; report.journal.len(), kinds.len());
-    for (place, kind) in kinds.iter().enumerate() {
-        let event = Event {
-            processor: 0,
-            kind: *kind,
-        };
-        assert_eq!(rt; report.journal.at(place).copied(), Some(event));
-    }
-    assert_eq!(rt; report.racy, false);
-    Ok(())
-}
-
-/// A gate that counts the instructions and stops at one of them.
-#[derive(Drop)]
-struct StopsAt {
-    instruction: usize,
-    passed: Cell<usize>,
-}
-
-impl Gate for StopsAt {
-    fn pass(&self, processor: usize, instruction: usize) -> Result<(), Stopped> {
-        if processor != 0 || instruction == self.instruction {
-            return Err(Stopped);
-        }
-        self.passed.set(instruction);
-        Ok(())
-    }
-}
-
-/// The fault of a section of three loads behind the gate.
-fn fault_behind<G: Gate>(alloc: Global, gate: &G) -> Result<Option<RunFault>, Fail> {
-    let script = b"cluster 1 1 1 0\np 0\nload 0\nload 0\nload 0\nshow 0\n";
-    let script = parse(alloc, script).map_err(|_| "not parsed")?;
-    Ok(run(alloc, &script, gate).err())
-}
-
-#[test]
-fn stopped_at_the_gate(rt: HostRuntime) -> Result<(), Fail> {
-    let gate = StopsAt {
-        instruction: 3,
-        passed: Cell::new(0),
-    };
-    let stopped = RunFault {
-        processor: 0,
-        cause: Cause::Gate,
-    };
-    assert_eq!(rt; fault_behind(rt.alloc(), &gate)?, Some(stopped));
-    assert_eq!(rt; gate.passed.get(), 2);
-    let gate = StopsAt {
-        instruction: 4,
-        passed: Cell::new(0),
-    };
-    assert_eq!(rt; fault_behind(rt.alloc(), &gate)?, None);
-    assert_eq!(rt; gate.passed.get(), 3);
-    Ok(())
 }

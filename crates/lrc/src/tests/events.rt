@@ -51,7 +51,7 @@ fn all_events(alloc: Global) -> Result<(Vec<Event>, Vec<u8>), Fail> {
 /// Writes the events' lines and all that waits.
 fn write_all<W: Write>(out: &mut W, events: &[Event]) -> Result<(), OutFault> {
     let mut pending = Pending::new();
-    write_events(out, &mut pending, events)?;
+    write_events(out, &mut pending, 0, events)?;
     pending.flush(out)
 }
 
@@ -92,6 +92,26 @@ fn a_line_of_each_kind(rt: HostRuntime) -> Result<(), Fail> {
     let (events, text) = all_events(rt.alloc())?;
     let mut out = Vec::new(rt.alloc());
     assert_eq!(rt; write_all(&mut out, &events), Ok(()));
+    assert_eq!(rt; out.as_slice(), text.as_slice());
+    Ok(())
+}
+
+/// After a cut the places go on from the number of the events that were cut off, as far as that goes.
+#[test]
+fn places_after_a_cut(rt: HostRuntime) -> Result<(), Fail> {
+    let event = Event {
+        processor: 1,
+        kind: Kind::Arrive,
+    };
+    let mut out = Vec::new(rt.alloc());
+    let mut pending = Pending::new();
+    let first = u64::MAX;
+    assert_eq!(rt;
+        write_events(&mut out, &mut pending, first, &[event, event]),
+        Ok(())
+    );
+    assert_eq!(rt; pending.flush(&mut out), Ok(()));
+    let text = b"event 18446744073709551615 1 arrive\nevent 18446744073709551616 1 arrive\n";
     assert_eq!(rt; out.as_slice(), text.as_slice());
     Ok(())
 }

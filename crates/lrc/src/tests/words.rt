@@ -1,5 +1,7 @@
 //! What the words give, and what clap answers to others.
 
+ghost use Rattle.std.specs.Prelude.{◌≡◌};
+
 use crate::options::Options;
 use crate::words::options;
 use std::alloc::Global;
@@ -7,7 +9,9 @@ use std::process::Abort;
 use std::test::Fail;
 
 /// What is asked for where nothing is given but the command.
-pub fn plain(step: bool) -> Options {
+pub fn plain(step: bool) -> Options
+    ensures { result.tries ≡ 1000000 }
+{
     Options {
         step,
         file: None,

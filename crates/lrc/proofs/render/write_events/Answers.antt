@@ -6,10 +6,10 @@ use Rattle.lrc.proofs.render.write_events.Goals as goal
 pub returns-in_err-write_event : goal.returns-in_err-write_event
 returns-in_err-write_event g c =
     let p = err_from_is_err_and c.from_residual.result c.from_residual.ensures.1 in
-    let at = slice_get-get_or c.args.events.now c.loop-place.place _ c.loop-place-test.true in
-    rw p.1 (events_front c.args.events.now c.loop-place.place _ _ (g.W.Write.contents c.loop-place.out) _ _ c.loop-place.pending at c.loop-place.invariant c.in_err-write_event.ensures)
+    let at = slice_get-get_or c.args.events.now c.loop-index.index _ c.loop-index-test.true in
+    rw p.1 (events_front c.args.first c.args.events.now c.loop-index.index _ _ (g.W.Write.contents c.loop-index.out) _ _ c.loop-index.pending at c.loop-index.invariant c.in_err-write_event.ensures)
 
-pub loop-place-preserved : goal.loop-place-preserved
-loop-place-preserved g c =
-    let at = slice_get-get_or c.args.events.now c.loop-place.place _ c.loop-place-test.true in
-    events_next c.args.events.now c.loop-place.place _ _ (g.W.Write.contents c.loop-place.out) _ _ c.loop-place.pending _ at c.loop-place.invariant c.in_ok-write_event.ensures
+pub loop-index-preserved : goal.loop-index-preserved
+loop-index-preserved g c =
+    let at = slice_get-get_or c.args.events.now c.loop-index.index _ c.loop-index-test.true in
+    events_next c.args.first c.args.events.now c.loop-index.index _ _ (g.W.Write.contents c.loop-index.out) _ _ c.loop-index.pending _ at c.loop-index.invariant c.in_ok-write_event.ensures
