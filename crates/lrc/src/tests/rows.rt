@@ -158,7 +158,7 @@ fn numbers_after_a_cut(rt: HostRuntime) {
         ..plain(true)
     };
     let out =
-        b"word 0 5\nverdict race-free\ntraffic 10 1 1\ncut 3\nevent 3 0 depart\nevent 4 1 depart\nevent 5 1 fetch 0 1 1 1\nevent 6 0 arrive\nevent 7 1 load 0 5\nevent 8 1 arrive\nevent 9 1 depart\nevent 10 0 depart\nevent 11 0 load 0 5\n";
+        b"word 0 5\nverdict race-free\ntraffic 10 1 1\ncut 3\nevent 3 0 depart\nevent 4 1 depart\nevent 5 0 arrive\nevent 6 1 fetch 0 1 1 1\nevent 7 1 load 0 5\nevent 8 1 arrive\nevent 9 1 depart\nevent 10 0 depart\nevent 11 0 load 0 5\n";
     check_with(&rt, rt.alloc(), &options, CUT, (0, out, b""));
 }
 
