@@ -163,24 +163,23 @@ void *calloc(size_t count, size_t size) {
     return block;
 }
 
-void *memalign(size_t alignment, size_t size) {
-    void *asker = __builtin_return_address(0);
+/* A block at a multiple of `alignment`, for who asked for it. */
+static void *aligned(void *asker, size_t alignment, size_t size) {
     void *block = refuses(asker) ? NULL : __libc_memalign(alignment, size);
     note(block, asker);
     return block;
+}
+
+void *memalign(size_t alignment, size_t size) {
+    return aligned(__builtin_return_address(0), alignment, size);
 }
 
 void *aligned_alloc(size_t alignment, size_t size) {
-    void *asker = __builtin_return_address(0);
-    void *block = refuses(asker) ? NULL : __libc_memalign(alignment, size);
-    note(block, asker);
-    return block;
+    return aligned(__builtin_return_address(0), alignment, size);
 }
 
 int posix_memalign(void **block, size_t alignment, size_t size) {
-    void *asker = __builtin_return_address(0);
-    *block = refuses(asker) ? NULL : __libc_memalign(alignment, size);
-    note(*block, asker);
+    *block = aligned(__builtin_return_address(0), alignment, size);
     return *block ? 0 : ENOMEM;
 }
 
