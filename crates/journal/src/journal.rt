@@ -1,7 +1,7 @@
 //! The journal: a list of events with room for more.
 
 ghost use Rattle.std.specs.Prelude.{drop, vec_len, vec_capacity, ◌+◌, ◌≡◌, ◌-◌, ◌^◌, ◌<◌, ◌≤◌, ◌++◌, ◌∷◌, [], ◌↔◌, IfOk, IfErr, OnOk, OnErr, IfSome, IsSome, IsTrue, MatchOption, length, replicate, max, option_copied, slice_get, take};
-ghost use Rattle.lists.specs.Limits.{most_held, most_processors};
+ghost use Rattle.lists.specs.Limits.{most_held, most_processors, most_cut};
 ghost use Rattle.journal.specs.InRange.{AddressInRange, AddressesInRange};
 ghost use Rattle.journal.specs.Log.{new_log};
 ghost use Rattle.journal.specs.LoadsFrom.{ExplainedFrom};
@@ -131,9 +131,10 @@ impl Journal {
         memory.as_slice()
     }
 
-    /// How many events were cut off, in all cuts together. It takes no memory.
+    /// How many events were cut off, in all cuts together, at most `MOST_CUT`. It takes no memory.
     pub fn cut_events(&self) -> u64
-        ensures { result ≡ self.now.base.cut }
+        ensures value { result ≡ self.now.base.cut }
+        ensures limit { result ≤ most_cut }
     {
         self.kept.cut
     }
