@@ -1,34 +1,72 @@
--- What a call of an idle processor may rest on.
-use Rattle.std.specs.Prelude.{ℕ, ◌≡◌, ◌<◌, ◌≤◌, Option, List, [], Some, None, length, slice_get, slice_index, slice_index_or, slice_set}
+-- When a call of the book may be made: what some history that tells the book says.
+use Rattle.std.specs.Prelude.{ℕ, ◌≡◌, ◌≢◌, ◌<◌, ◌≤◌, false, Option, List, [], Some, None, length, slice_get, slice_index, slice_index_or, slice_set}
 use Rattle.journal.specs.declared.event.Event.{Event}
 use Rattle.journal.specs.declared.event.Kind.{Kind}
 use Rattle.journal.specs.Sizes.{Sizes}
+use Rattle.journal.specs.Events.{At, is_closing, is_taking}
+use Rattle.journal.specs.WellFormed.{KindInRange, Holds}
 use Rattle.interval.specs.Closings.{Closings}
-use Rattle.transit.specs.Letters.{Letter, letter}
-use Rattle.transit.specs.declared.message.Message.{Message}
-use Rattle.book.specs.Transitions.{grant_after, book_took}
-use Rattle.journal.specs.WellFormed.{Holds}
 use Rattle.book.specs.State.{State, time_of}
 use Rattle.book.specs.ClosedIntervals.{AreFromFirst, IsTight}
-use Rattle.book.specs.Told.{IsTold}
-use Rattle.book.specs.Brought.{message_for}
-use Rattle.book.specs.Laws.{MayHandIn, MayGive}
+use Rattle.book.specs.Told.{IsToldBySome}
 
--- by some history that tells the book, p may hand in this block, which is empty where p waits
-abbrev pub MayFlush : State → ℕ → List Event → Type 0
-MayFlush b p block = (s : Sizes) × (h : List Event) × IsTold s h b × MayGive s b p block
+-- the event is a load, a store or a fetch of p within the sizes
+pub record IsInner (s : Sizes) (p : ℕ) (e : Event) : Type 0 where
+  pub mine : e.processor ≡ p
+  pub takes : is_taking e.kind ≡ false
+  pub closes : is_closing e.kind ≡ false
+  pub in_range : KindInRange s e.kind
 
--- by some history that tells the book, p waits for nothing and may hand in this block
-abbrev pub MayCall : State → ℕ → List Event → Type 0
-MayCall b p block = (s : Sizes) × (h : List Event) × IsTold s h b × MayHandIn s b p block
+-- a block of p: loads, stores and fetches
+abbrev pub IsBlockOf : Sizes → ℕ → List Event → Type 0
+IsBlockOf s p block = (k : ℕ) (e : Event) → At block k e → IsInner s p e
 
--- by some history that tells the book, p may hand in this block and ask for lock l
-abbrev pub MayAsk : State → ℕ → ℕ → List Event → Type 0
-MayAsk b p l block = (s : Sizes) × (h : List Event) × IsTold s h b × MayHandIn s b p block × (l < s.locks) × ¬ Holds h p l
+-- p waits for nothing, and hands in a block
+pub record MayHandIn (s : Sizes) (b : State) (p : ℕ) (block : List Event) : Type 0 where
+  pub idle : slice_get b.awaits p ≡ Some None
+  pub inner : IsBlockOf s p block
 
--- by some history that tells the book, p may hand in this block and release lock l
-abbrev pub MayRelease : State → ℕ → ℕ → List Event → Type 0
-MayRelease b p l block = (s : Sizes) × (h : List Event) × IsTold s h b × MayHandIn s b p block × (l < s.locks) × Holds h p l
+-- p is a processor, and hands in a block, which is empty where it waits
+pub record MayGive (s : Sizes) (b : State) (p : ℕ) (block : List Event) : Type 0 where
+  pub waits : (w : Option Kind) × (slice_get b.awaits p ≡ Some w) × (w ≢ None → block ≡ [])
+  pub inner : IsBlockOf s p block
+
+-- by some history, p may hand in this block, which is empty where p waits
+pub record MayFlush (b : State) (p : ℕ) (block : List Event) : Type 0 where
+  pub by : IsToldBySome b
+  pub gives : MayGive by.sizes b p block
+
+-- by some history, p waits for nothing and may hand in this block
+pub record MayCall (b : State) (p : ℕ) (block : List Event) : Type 0 where
+  pub by : IsToldBySome b
+  pub hands_in : MayHandIn by.sizes b p block
+
+-- p may hand in this block and ask for lock l, which it doesn't hold by the same history
+pub record MayAsk (b : State) (p l : ℕ) (block : List Event) : Type 0 where
+  pub call : MayCall b p block
+  pub range : l < call.by.sizes.locks
+  pub free : ¬ Holds call.by.history p l
+
+-- p may hand in this block and release lock l, which it holds by the same history
+pub record MayRelease (b : State) (p l : ℕ) (block : List Event) : Type 0 where
+  pub call : MayCall b p block
+  pub range : l < call.by.sizes.locks
+  pub held : Holds call.by.history p l
+
+-- by some history, p is a processor
+pub record MayLook (b : State) (p : ℕ) : Type 0 where
+  pub by : IsToldBySome b
+  pub processor : p < by.sizes.processors
+
+-- some history tells the book, and p waits for this
+pub record MayTake (b : State) (p : ℕ) (k : Kind) : Type 0 where
+  pub by : IsToldBySome b
+  pub waits : slice_get b.awaits p ≡ Some (Some k)
+
+-- p waits for something
+pub record MayTakeSome (b : State) (p : ℕ) : Type 0 where
+  pub kind : Kind
+  pub take : MayTake b p kind
 
 -- p has a timestamp, with an entry of its own
 pub record IsOpen (b : State) (p : ℕ) : Type 0 where
@@ -57,30 +95,3 @@ pub record MayTrim (c : Closings) (times : List (List ℕ)) (p : ℕ) (before : 
   pub old_long : length before ≡ length times
   pub from : AreFromFirst c
   pub tight : 1 < length times → IsTight c.first (slice_set times p before)
-
--- a message and who is to have it
-abbrev pub addressed : ℕ × Message → ℕ × Letter
-addressed x = (x.0, letter x.1)
-
--- who holds a lock next that is released at this time, and its grant
-abbrev pub grant_for : Closings → List (List ℕ) → List ℕ → ℕ → ℕ × Letter
-grant_for c times t r = (r, grant_after c (slice_index_or times r []) t)
-
--- by some history that tells the book, p is a processor
-abbrev pub MayLook : State → ℕ → Type 0
-MayLook b p = (s : Sizes) × (h : List Event) × IsTold s h b × (p < s.processors)
-
--- by some history that tells the book, p waits for this
-abbrev pub MayTake : State → ℕ → Kind → Type 0
-MayTake b p k = (s : Sizes) × (h : List Event) × IsTold s h b × (slice_get b.awaits p ≡ Some (Some k))
-
--- and p waits for something
-abbrev pub MayTakeSome : State → ℕ → Type 0
-MayTakeSome b p = (k : Kind) × MayTake b p k
-
--- p takes this message, which has come for what it waits for
-pub record Takes (old : State) (p : ℕ) (m : Letter) (new : State) : Type 0 where
-  pub kind : Kind
-  pub awaits : slice_get old.awaits p ≡ Some (Some kind)
-  pub message : message_for old p kind ≡ Some m
-  pub after : new ≡ book_took old p kind m

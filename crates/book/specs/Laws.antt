@@ -1,11 +1,11 @@
 -- The laws of the transitions: a book that is told by a history is told, after the transition, by the history with the block and the event after it.
-use Rattle.std.specs.Prelude.{ℕ, ◌≡◌, ◌≢◌, ◌<◌, false, Option, Some, None, List, [], ◌++◌, slice_get, slice_index}
+use Rattle.std.specs.Prelude.{ℕ, ◌≡◌, ◌<◌, Some, List, [], ◌++◌, slice_get, slice_index}
 use Rattle.journal.specs.declared.event.Event.{Event}
 use Rattle.journal.specs.declared.event.Kind.{Kind}
 use Rattle.journal.specs.declared.event.Kind.TheVariants.{Ask, Release, Arrive, Set, Watch}
 use Rattle.journal.specs.Sizes.{Sizes}
-use Rattle.journal.specs.Events.{At, count_of, is_closing, is_taking}
-use Rattle.journal.specs.WellFormed.{KindInRange, Holds, Allowed}
+use Rattle.journal.specs.Events.{count_of, is_closing}
+use Rattle.journal.specs.WellFormed.{Holds, Allowed}
 use Rattle.journal.specs.Brings.{Brings}
 use Rattle.journal.specs.Missing.{InClosingOrder, AreNews}
 use Rattle.vtime.specs.Times.{join}
@@ -18,26 +18,10 @@ use Rattle.book.specs.ClosedIntervals.{AreContents}
 use Rattle.book.specs.State.{State, time_of}
 use Rattle.book.specs.Stamps.{IsStamp}
 use Rattle.book.specs.News.{missing_in}
-use Rattle.book.specs.Transitions.{new_book, handed_in, handed_last, book_asked, book_released, book_arrived, book_set, book_watched, book_took}
+use Rattle.book.specs.Transitions.{new_book, handed_in, handed_last, book_asked, book_released, book_arrived, book_set, book_watched, book_taken}
 use Rattle.book.specs.Cutting.{WasBookCut}
+use Rattle.book.specs.Calls.{MayHandIn, MayGive}
 use Rattle.book.specs.Told.{IsTold}
-
--- the event is a load, a store or a fetch of p within the sizes
-pub record IsInner (s : Sizes) (p : ℕ) (e : Event) : Type 0 where
-  pub mine : e.processor ≡ p
-  pub takes : is_taking e.kind ≡ false
-  pub closes : is_closing e.kind ≡ false
-  pub in_range : KindInRange s e.kind
-
--- p waits for nothing, and hands in a block of loads, stores and fetches
-pub record MayHandIn (s : Sizes) (b : State) (p : ℕ) (block : List Event) : Type 0 where
-  pub idle : slice_get b.awaits p ≡ Some None
-  pub inner : (k : ℕ) (e : Event) → At block k e → IsInner s p e
-
--- p is a processor, and hands in a block of loads, stores and fetches, or none where it waits
-pub record MayGive (s : Sizes) (b : State) (p : ℕ) (block : List Event) : Type 0 where
-  pub waits : (w : Option Kind) × (slice_get b.awaits p ≡ Some w) × (w ≢ None → block ≡ [])
-  pub inner : (k : ℕ) (e : Event) → At block k e → IsInner s p e
 
 -- the records are those of p's open interval
 abbrev pub AreOpenRecords : Sizes → List Event → ℕ → List Changes → Type 0
@@ -94,7 +78,7 @@ MessageLaw = (s : Sizes) (h : List Event) (b : State) (p : ℕ) (k : Kind) (m : 
 -- a take of a grant, a departure or a flag's signal, with the trim after it
 abbrev pub TakeLaw : Type 0
 TakeLaw = (s : Sizes) (h : List Event) (b : State) (p : ℕ) (k : Kind) (m : Letter) → IsTold s h b → slice_get b.awaits p ≡ Some (Some k) → message_for b p k ≡ Some m
-    → IsTold s (did h p k) (book_took b p k m)
+    → IsTold s (did h p k) (book_taken b p k m)
 
 -- a cut, after which the same history tells the book
 abbrev pub CutLaw : Type 0

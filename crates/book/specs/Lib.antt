@@ -13,4 +13,5 @@ pub mod Brought
 pub mod Cutting
 pub mod Laws
 pub mod Holding
+pub mod Refusals
 pub mod Calls

@@ -42,3 +42,9 @@ pub record IsTold (s : Sizes) (h : List Event) (b : State) : Type 0 where
   pub notices : (p : ℕ) (m : Letter) (t : List ℕ) → slice_get b.transit p ≡ Some (Some m) → slice_get b.times p ≡ Some t → m.notices ≡ between b.closed t m.time
   pub within : IsWithin b.closed.first b.times
   pub tight : 1 < s.processors → IsTight b.closed.first b.times
+
+-- some history tells the book
+pub record IsToldBySome (b : State) : Type 0 where
+  pub sizes : Sizes
+  pub history : List Event
+  pub told : IsTold sizes history b

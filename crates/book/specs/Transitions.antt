@@ -1,5 +1,9 @@
 -- The transitions of the book, as functions of its value.
-use Rattle.std.specs.Prelude.{ℕ, zero, suc, ◌-◌, ◌*◌, min, Bool, true, false, cond, Option, Some, None, List, [], ◌∷◌, ◌++◌, map, length, slice_index, slice_index_or, slice_set, replicate, fold}
+-- Names: a value after something is a past participle, as in the crates below (`asked` is a lock's). Where a crate below
+-- has the participle, the whole book's has `book_` before it; what a transition makes of one part has that part's name
+-- before it (`mail_`, `barrier_`, `flag_`). A message is its kind and `_to`, of the closed intervals, the message's time
+-- and the receiver's timestamp.
+use Rattle.std.specs.Prelude.{ℕ, zero, suc, ◌≡◌, ◌-◌, ◌*◌, min, Bool, true, false, cond, Option, Some, None, List, [], ◌∷◌, ◌++◌, map, length, slice_get, slice_index, slice_index_or, slice_set, replicate, fold}
 use Rattle.journal.specs.declared.event.Event.{Event}
 use Rattle.journal.specs.declared.event.Kind.{Kind}
 use Rattle.journal.specs.declared.event.Kind.TheVariants.{Ask, Release, Arrive, Depart, Set, Watch}
@@ -12,10 +16,12 @@ use Rattle.interval.specs.Intervals.{ClosedInterval}
 use Rattle.interval.specs.Closings.{Closings, pushed, trimmed, between}
 use Rattle.lockq.specs.Lock.{unheld, lock_at, with_lock, asked, released}
 use Rattle.barrier.specs.Episodes.{Episodes, unmet, is_full, joined, arrived, departed}
-use Rattle.transit.specs.Letters.{Letter}
+use Rattle.transit.specs.Letters.{Letter, letter}
+use Rattle.transit.specs.declared.message.Message.{Message}
 use Rattle.transit.specs.Letters.Kind.{grant, departure}
 use Rattle.journal.specs.Did.{event}
 use Rattle.book.specs.State.{State, time_of}
+use Rattle.book.specs.Brought.{message_for}
 
 -- an empty book, with room for 256 last events of each processor
 abbrev pub new_book : Sizes → State
@@ -52,90 +58,95 @@ abbrev pub open_interval : State → ℕ → List Changes → ClosedInterval
 open_interval b p records = record { owner = p; number = slice_index (time_of b p) p; records = records }
 
 -- p does this and closes its interval
-abbrev pub closing : State → ℕ → Kind → List Changes → State
-closing b p k records = record (logged b p k) {
+abbrev pub closed_by : State → ℕ → Kind → List Changes → State
+closed_by b p k records = record (logged b p k) {
   closed = pushed b.closed (open_interval b p records);
   times = slice_set b.times p (tick (time_of b p) p);
 }
 
 -- a grant, at this time, to a processor with that timestamp
-abbrev pub grant_after : Closings → List ℕ → List ℕ → Letter
-grant_after c own t = record { kind = grant; time = t; notices = between c own t }
+abbrev pub grant_to : Closings → List ℕ → List ℕ → Letter
+grant_to c t own = record { kind = grant; time = t; notices = between c own t }
 
--- a grant to p of a lock that was released at this time
-abbrev pub granted : State → ℕ → List ℕ → Letter
-granted b p t = grant_after b.closed (time_of b p) t
+-- the book's grant to p of a lock that was released at this time
+abbrev pub grant_from : State → ℕ → List ℕ → Letter
+grant_from b p t = grant_to b.closed t (time_of b p)
 
--- the grant is due where nobody holds the lock
-abbrev pub due : Option ℕ → Letter → Option Letter
-due None m = Some m
-due (Some q) m = None
+-- the message, where nobody holds the lock
+abbrev pub if_free : Option ℕ → Letter → Option Letter
+if_free None m = Some m
+if_free (Some q) m = None
 
 -- p asks for a lock
 abbrev pub book_asked : State → ℕ → ℕ → List Changes → State
-book_asked b p l records = record (closing b p (Ask l) records) {
+book_asked b p l records = record (closed_by b p (Ask l) records) {
   locks = with_lock b.locks l (asked (lock_at b.locks l) p);
-  transit = slice_set b.transit p (due (lock_at b.locks l).holder (granted (closing b p (Ask l) records) p (lock_at b.locks l).time));
+  transit = slice_set b.transit p (if_free (lock_at b.locks l).holder (grant_from (closed_by b p (Ask l) records) p (lock_at b.locks l).time));
 }
 
+-- a message and who is to have it
+abbrev pub addressed : ℕ × Message → ℕ × Letter
+addressed x = (x.0, letter x.1)
+
+-- who holds a lock next that is released at this time, and its grant
+abbrev pub addressed_grant : Closings → List (List ℕ) → List ℕ → ℕ → ℕ × Letter
+addressed_grant c times t r = (r, grant_to c t (slice_index_or times r []))
+
 -- the first of the queue is granted the lock
-abbrev pub passed_on : State → List ℕ → List ℕ → List (Option Letter)
-passed_on b [] t = b.transit
-passed_on b (r ∷ queue) t = slice_set b.transit r (Some (granted b r t))
+abbrev pub mail_passed_on : State → List ℕ → List ℕ → List (Option Letter)
+mail_passed_on b [] t = b.transit
+mail_passed_on b (r ∷ queue) t = slice_set b.transit r (Some (grant_from b r t))
 
 -- p releases a lock
 abbrev pub book_released : State → ℕ → ℕ → List Changes → State
-book_released b p l records = record (closing b p (Release l) records) {
+book_released b p l records = record (closed_by b p (Release l) records) {
   locks = with_lock b.locks l (released (lock_at b.locks l) (tick (time_of b p) p));
-  transit = passed_on (closing b p (Release l) records) (lock_at b.locks l).queue (tick (time_of b p) p);
+  transit = mail_passed_on (closed_by b p (Release l) records) (lock_at b.locks l).queue (tick (time_of b p) p);
 }
 
 -- a departure, at this time, to a processor with that timestamp
 abbrev pub departure_to : Closings → List ℕ → List ℕ → Letter
 departure_to c t own = record { kind = departure; time = t; notices = between c own t }
 
-abbrev pub departing : State → List ℕ → List ℕ → Letter
-departing b t own = departure_to b.closed t own
-
--- the departures of those with these timestamps that p's arrival at this time brings
-abbrev pub departures_after : Closings → Episodes → List (List ℕ) → ℕ → List ℕ → Option (List Letter)
-departures_after c b times p t = cond (is_full (joined b p t)) (Some (map (departure_to c (join b.gathered t)) times)) None
+-- the departures that p's arrival at this time brings to those with these timestamps
+abbrev pub departures_to : Closings → Episodes → List (List ℕ) → ℕ → List ℕ → Option (List Letter)
+departures_to c b times p t = cond (is_full (joined b p t)) (Some (map (departure_to c (join b.gathered t)) times)) None
 
 -- a complete episode lets all depart
-abbrev pub met : Bool → State → List ℕ → List (Option Letter)
-met false b t = b.transit
-met true b t = map (λ (own : List ℕ). Some (departing b t own)) b.times
+abbrev pub mail_met : Bool → State → List ℕ → List (Option Letter)
+mail_met false b t = b.transit
+mail_met true b t = map (λ (own : List ℕ). Some (departure_to b.closed t own)) b.times
 
 -- p arrives at the barrier
 abbrev pub book_arrived : State → ℕ → List Changes → State
-book_arrived b p records = record (closing b p Arrive records) {
+book_arrived b p records = record (closed_by b p Arrive records) {
   barrier = arrived b.barrier p (tick (time_of b p) p);
-  transit = met (is_full (joined b.barrier p (tick (time_of b p) p))) (closing b p Arrive records) (join b.barrier.gathered (tick (time_of b p) p));
+  transit = mail_met (is_full (joined b.barrier p (tick (time_of b p) p))) (closed_by b p Arrive records) (join b.barrier.gathered (tick (time_of b p) p));
 }
 
 -- the time of a flag after one more set
-abbrev pub set_at : Option (List ℕ) → List ℕ → List ℕ
-set_at None t = t
-set_at (Some u) t = join u t
+abbrev pub flag_joined : Option (List ℕ) → List ℕ → List ℕ
+flag_joined None t = t
+flag_joined (Some u) t = join u t
 
 -- p sets a flag
 abbrev pub book_set : State → ℕ → ℕ → List Changes → State
-book_set b p f records = record (closing b p (Set f) records) {
-  flags = slice_set b.flags f (Some (set_at (slice_index_or b.flags f None) (tick (time_of b p) p)));
+book_set b p f records = record (closed_by b p (Set f) records) {
+  flags = slice_set b.flags f (Some (flag_joined (slice_index_or b.flags f None) (tick (time_of b p) p)));
 }
 
 -- p watches a flag
 abbrev pub book_watched : State → ℕ → ℕ → List Changes → State
-book_watched b p f records = closing b p (Watch f) records
+book_watched b p f records = closed_by b p (Watch f) records
 
 -- p does this, which takes this time over
-abbrev pub taken : State → ℕ → Kind → List ℕ → State
-taken b p k t = record (logged b p k) { times = slice_set b.times p (join (time_of b p) t) }
+abbrev pub book_joined : State → ℕ → Kind → List ℕ → State
+book_joined b p k t = record (logged b p k) { times = slice_set b.times p (join (time_of b p) t) }
 
 -- the barrier after p takes a grant or a departure
-abbrev pub left : Kind → Episodes → ℕ → Episodes
-left Depart b p = departed b p
-left _ b p = b
+abbrev pub barrier_left : Kind → Episodes → ℕ → Episodes
+barrier_left Depart b p = departed b p
+barrier_left _ b p = b
 
 -- the lesser of a number and an entry for q
 abbrev pub lesser : ℕ → ℕ → List ℕ → ℕ
@@ -151,13 +162,20 @@ trimmed_by c times zero = c
 trimmed_by c times (suc n) = trimmed (trimmed_by c times n) n (least times n)
 
 -- the book with the intervals trimmed that everyone's timestamp covers
-abbrev pub trimmed_book : State → State
-trimmed_book b = record b { closed = trimmed_by b.closed b.times (length b.times) }
+abbrev pub book_trimmed : State → State
+book_trimmed b = record b { closed = trimmed_by b.closed b.times (length b.times) }
 
 -- p takes this message, for which it waited
-abbrev pub took : State → ℕ → Kind → Letter → State
-took b p k m = record (taken b p k m.time) { transit = slice_set b.transit p None; barrier = left k b.barrier p }
+abbrev pub book_received : State → ℕ → Kind → Letter → State
+book_received b p k m = record (book_joined b p k m.time) { transit = slice_set b.transit p None; barrier = barrier_left k b.barrier p }
 
 -- and what everyone has performed then is trimmed
-abbrev pub book_took : State → ℕ → Kind → Letter → State
-book_took b p k m = trimmed_book (took b p k m)
+abbrev pub book_taken : State → ℕ → Kind → Letter → State
+book_taken b p k m = book_trimmed (book_received b p k m)
+
+-- p takes this message, which has come for what it waits for
+pub record Takes (old : State) (p : ℕ) (m : Letter) (new : State) : Type 0 where
+  pub kind : Kind
+  pub awaits : slice_get old.awaits p ≡ Some (Some kind)
+  pub message : message_for old p kind ≡ Some m
+  pub after : new ≡ book_taken old p kind m

@@ -11,8 +11,9 @@ ghost use Rattle.interval.specs.Closings.{is_of_page};
 ghost use Rattle.transit.specs.Letters.{letter};
 ghost use Rattle.book.specs.Brought.{brought};
 ghost use Rattle.book.specs.Cutting.{WasBookCut};
-ghost use Rattle.book.specs.Calls.{MayFlush, MayCall, MayAsk, MayRelease, MayTakeSome, MayLook, Takes};
-ghost use Rattle.book.specs.Transitions.{new_book, handed_in, handed_last, book_watched, book_set, book_asked, book_released, book_arrived};
+ghost use Rattle.book.specs.Calls.{MayFlush, MayCall, MayAsk, MayRelease, MayTakeSome, MayLook};
+ghost use Rattle.book.specs.Transitions.{new_book, handed_in, handed_last, book_watched, book_set, book_asked, book_released, book_arrived, Takes};
+ghost use Rattle.book.specs.Refusals.{IsFullExactlyBy, IsWantOfRoom};
 ghost use Rattle.book.specs.Told.{IsTold};
 
 use crate::protocol::Protocol;
@@ -75,8 +76,8 @@ impl Book {
         requires short { length block.now ≤ most_in_block }
         ensures ok { OnOk result (self.new ≡ handed_in self.old block.now) }
         ensures err { OnErr result (self.new ≡ self.old) }
-        ensures full { result ≡ Err Refused.JournalFull ↔ (most_events < length self.old.journal.events + length block.now) }
-        ensures only { IfErr result (λ e. (e ≡ Refused.JournalFull) ⊎ (e ≡ Refused.NoMemory)) }
+        ensures full { IsFullExactlyBy (length self.old.journal.events + length block.now) result }
+        ensures only { IfErr result IsWantOfRoom }
     {
         self.protocol.hand_in(p, block)
     }
@@ -88,8 +89,8 @@ impl Book {
         ensures ok { OnOk result (self.new ≡ handed_in self.old block.now) }
         ensures copy { IfOk result (λ j. j ≡ record self.new.journal { room = j.room }) }
         ensures err { OnErr result (self.new ≡ self.old) }
-        ensures full { result ≡ Err Refused.JournalFull ↔ (most_events < length self.old.journal.events + length block.now) }
-        ensures only { IfErr result (λ e. (e ≡ Refused.JournalFull) ⊎ (e ≡ Refused.NoMemory)) }
+        ensures full { IsFullExactlyBy (length self.old.journal.events + length block.now) result }
+        ensures only { IfErr result IsWantOfRoom }
     {
         self.protocol.audit(p, block)
     }
@@ -108,8 +109,8 @@ impl Book {
         requires rising { HasRisingPages (map arc_value records.items) }
         ensures ok { OnOk result (self.new ≡ book_watched (handed_in self.old block.now) p f (map arc_value records.items)) }
         ensures err { OnErr result (self.new ≡ self.old) }
-        ensures full { result ≡ Err Refused.JournalFull ↔ (most_events < length self.old.journal.events + length block.now + 1) }
-        ensures only { IfErr result (λ e. (e ≡ Refused.JournalFull) ⊎ (e ≡ Refused.NoMemory)) }
+        ensures full { IsFullExactlyBy (length self.old.journal.events + length block.now + 1) result }
+        ensures only { IfErr result IsWantOfRoom }
     {
         self.protocol.watch(p, f, block, records)
     }
@@ -129,8 +130,8 @@ impl Book {
         requires rising { HasRisingPages (map arc_value records.items) }
         ensures ok { OnOk result (self.new ≡ book_set (handed_in self.old block.now) p f (map arc_value records.items)) }
         ensures err { OnErr result (self.new ≡ self.old) }
-        ensures full { result ≡ Err Refused.JournalFull ↔ (most_events < length self.old.journal.events + length block.now + 1) }
-        ensures only { IfErr result (λ e. (e ≡ Refused.JournalFull) ⊎ (e ≡ Refused.NoMemory)) }
+        ensures full { IsFullExactlyBy (length self.old.journal.events + length block.now + 1) result }
+        ensures only { IfErr result IsWantOfRoom }
     {
         self.protocol.set(p, f, block, records)
     }
@@ -150,8 +151,8 @@ impl Book {
         requires rising { HasRisingPages (map arc_value records.items) }
         ensures ok { OnOk result (self.new ≡ book_asked (handed_in self.old block.now) p l (map arc_value records.items)) }
         ensures err { OnErr result (self.new ≡ self.old) }
-        ensures full { result ≡ Err Refused.JournalFull ↔ (most_events < length self.old.journal.events + length block.now + 1) }
-        ensures only { IfErr result (λ e. (e ≡ Refused.JournalFull) ⊎ (e ≡ Refused.NoMemory)) }
+        ensures full { IsFullExactlyBy (length self.old.journal.events + length block.now + 1) result }
+        ensures only { IfErr result IsWantOfRoom }
     {
         self.protocol.ask(p, l, block, records)
     }
@@ -171,8 +172,8 @@ impl Book {
         requires rising { HasRisingPages (map arc_value records.items) }
         ensures ok { OnOk result (self.new ≡ book_released (handed_in self.old block.now) p l (map arc_value records.items)) }
         ensures err { OnErr result (self.new ≡ self.old) }
-        ensures full { result ≡ Err Refused.JournalFull ↔ (most_events < length self.old.journal.events + length block.now + 1) }
-        ensures only { IfErr result (λ e. (e ≡ Refused.JournalFull) ⊎ (e ≡ Refused.NoMemory)) }
+        ensures full { IsFullExactlyBy (length self.old.journal.events + length block.now + 1) result }
+        ensures only { IfErr result IsWantOfRoom }
     {
         self.protocol.release(p, l, block, records)
     }
@@ -191,8 +192,8 @@ impl Book {
         requires rising { HasRisingPages (map arc_value records.items) }
         ensures ok { OnOk result (self.new ≡ book_arrived (handed_in self.old block.now) p (map arc_value records.items)) }
         ensures err { OnErr result (self.new ≡ self.old) }
-        ensures full { result ≡ Err Refused.JournalFull ↔ (most_events < length self.old.journal.events + length block.now + 1) }
-        ensures only { IfErr result (λ e. (e ≡ Refused.JournalFull) ⊎ (e ≡ Refused.NoMemory)) }
+        ensures full { IsFullExactlyBy (length self.old.journal.events + length block.now + 1) result }
+        ensures only { IfErr result IsWantOfRoom }
     {
         self.protocol.arrive(p, block, records)
     }
@@ -207,8 +208,8 @@ impl Book {
         ensures brings { IfOk result (λ m. (letter m).notices ≡ brought self.old p) }
         ensures err { OnErr result (self.new ≡ self.old) }
         ensures absent { (s : Sizes) (h : List AnEvent) → IsTold s h self.old → result ≡ Err Refused.NotYet ↔ (¬ Ready s h p) }
-        ensures full { result ≢ Err Refused.NotYet → result ≡ Err Refused.JournalFull ↔ (most_events < length self.old.journal.events + 1) }
-        ensures only { IfErr result (λ e. (e ≡ Refused.NotYet) ⊎ (e ≡ Refused.JournalFull) ⊎ (e ≡ Refused.NoMemory)) }
+        ensures full { result ≢ Err Refused.NotYet → IsFullExactlyBy (length self.old.journal.events + 1) result }
+        ensures only { IfErr result (λ e. (e ≡ Refused.NotYet) ⊎ IsWantOfRoom e) }
     {
         self.protocol.take(p)
     }

@@ -1,13 +1,13 @@
 //! Messages that are made before the interval is closed with which they come.
-ghost use Rattle.std.specs.Prelude.{◌≡◌, ℕ, ◌<◌, ◌≤◌, IfOk, IfSome, IsSome, OnOk, OnErr, None, Some, true, length, map, replicate, slice_index, slice_set};
+ghost use Rattle.std.specs.Prelude.{◌≡◌, ℕ, ◌<◌, ◌≤◌, IfOk, IfSome, IsSome, List, OnOk, OnErr, None, Some, true, length, map, replicate, slice_index, slice_set};
 ghost use Rattle.std.specs.Option.{option_map};
 ghost use Rattle.interval.specs.Intervals.{HasRisingPages};
 ghost use Rattle.interval.specs.Closings.{pushed};
 ghost use Rattle.transit.specs.Letters.{letter};
-ghost use Rattle.book.specs.Transitions.{departure_to};
+ghost use Rattle.book.specs.Transitions.{addressed, addressed_grant, departure_to};
 ghost use Rattle.book.specs.Awaiting.{kind_of};
-ghost use Rattle.book.specs.Brought.{has_come, message_among, signal_after};
-ghost use Rattle.book.specs.Calls.{MayBeSent, MaySignal, addressed, grant_for};
+ghost use Rattle.book.specs.Brought.{has_come, message_among, signal_to};
+ghost use Rattle.book.specs.Calls.{MayBeSent, MaySignal};
 
 use crate::awaited::Awaited;
 use interval::{Closed, Interval};
@@ -28,7 +28,7 @@ pub(crate) fn grant_to(
     requires pages { HasRisingPages interval.now.records }
     requires long { length time.now ≡ length closed.now.first }
     requires next { IfSome next (λ r. MayBeSent closed.now times.now r) }
-    ensures { IfOk result (λ g. option_map addressed g ≡ option_map (grant_for (pushed closed.now interval.now) times.now time.now) next) }
+    ensures { IfOk result (λ g. option_map addressed g ≡ option_map (addressed_grant (pushed closed.now interval.now) times.now time.now) next) }
 {
     let Some(next) = next else {
         return Ok(None);
@@ -124,7 +124,7 @@ fn signal(closed: &Closed, flag: &Option<VTime>, own: &VTime) -> Result<Message,
     requires time { IfSome flag.now (λ t. length t ≡ length closed.now.first) }
     requires own { length own.now ≡ length closed.now.first }
     requires kept { (q : ℕ) → slice_index closed.now.first q ≤ slice_index own.now q }
-    ensures { IfOk result (λ m. option_map (signal_after closed.now own.now) flag.now ≡ Some (letter m)) }
+    ensures { IfOk result (λ m. option_map (λ (t : List ℕ). signal_to closed.now t own.now) flag.now ≡ Some (letter m)) }
 {
     let Some(time) = flag else {
         unreachable!("the flag is set")

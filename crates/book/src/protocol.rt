@@ -8,8 +8,9 @@ ghost use Rattle.journal.specs.Cutting.{IsCutFault};
 ghost use Rattle.interval.specs.Intervals.{HasRisingPages};
 ghost use Rattle.book.specs.Brought.{brought};
 ghost use Rattle.book.specs.Cutting.{WasBookCut};
-ghost use Rattle.book.specs.Calls.{MayFlush, MayCall, MayAsk, MayRelease, IsOpen, MayBeSent, MayTakeSome, Takes};
-ghost use Rattle.book.specs.Transitions.{new_book, handed_in, handed_last, open_interval, closing, due, granted, left, set_at, book_watched, book_set, book_asked, book_released, book_arrived, departures_after};
+ghost use Rattle.book.specs.Calls.{MayFlush, MayCall, MayAsk, MayRelease, IsOpen, MayBeSent, MayTakeSome};
+ghost use Rattle.book.specs.Transitions.{new_book, handed_in, handed_last, open_interval, closed_by, if_free, grant_from, barrier_left, flag_joined, book_watched, book_set, book_asked, book_released, book_arrived, departures_to, Takes};
+ghost use Rattle.book.specs.Refusals.{IsFullExactlyBy, IsWantOfRoom};
 ghost use Rattle.book.specs.State.{time_of};
 ghost use Rattle.book.specs.Told.{IsTold};
 ghost use Rattle.journal.specs.Sizes.{Sizes};
@@ -111,8 +112,8 @@ impl Protocol {
         requires short { length block.now ≤ most_in_block }
         ensures ok { OnOk result (self.new ≡ handed_in self.old block.now) }
         ensures err { OnErr result (self.new ≡ self.old) }
-        ensures full { result ≡ Err Refused.JournalFull ↔ (most_events < length self.old.journal.events + length block.now) }
-        ensures only { IfErr result (λ e. (e ≡ Refused.JournalFull) ⊎ (e ≡ Refused.NoMemory)) }
+        ensures full { IsFullExactlyBy (length self.old.journal.events + length block.now) result }
+        ensures only { IfErr result IsWantOfRoom }
     {
         make_room(&mut self.journal, self.owing, block.len())?;
         append_all(&mut self.journal, block);
@@ -126,8 +127,8 @@ impl Protocol {
         ensures ok { OnOk result (self.new ≡ handed_in self.old block.now) }
         ensures copy { IfOk result (λ j. j ≡ record self.new.journal { room = j.room }) }
         ensures err { OnErr result (self.new ≡ self.old) }
-        ensures full { result ≡ Err Refused.JournalFull ↔ (most_events < length self.old.journal.events + length block.now) }
-        ensures only { IfErr result (λ e. (e ≡ Refused.JournalFull) ⊎ (e ≡ Refused.NoMemory)) }
+        ensures full { IsFullExactlyBy (length self.old.journal.events + length block.now) result }
+        ensures only { IfErr result IsWantOfRoom }
     {
         make_room(&mut self.journal, self.owing, block.len())?;
         let mut copy = self.journal.copy_with_room(block.len())?;
@@ -150,8 +151,8 @@ impl Protocol {
         requires rising { HasRisingPages (map arc_value records.items) }
         ensures ok { OnOk result (self.new ≡ book_watched (handed_in self.old block.now) p f (map arc_value records.items)) }
         ensures err { OnErr result (self.new ≡ self.old) }
-        ensures full { result ≡ Err Refused.JournalFull ↔ (most_events < length self.old.journal.events + length block.now + 1) }
-        ensures only { IfErr result (λ e. (e ≡ Refused.JournalFull) ⊎ (e ≡ Refused.NoMemory)) }
+        ensures full { IsFullExactlyBy (length self.old.journal.events + length block.now + 1) result }
+        ensures only { IfErr result IsWantOfRoom }
     {
         let interval = self.open_interval(p, records);
         self.close(p, Kind::Watch(f), block, interval)
@@ -171,8 +172,8 @@ impl Protocol {
         requires rising { HasRisingPages (map arc_value records.items) }
         ensures ok { OnOk result (self.new ≡ book_set (handed_in self.old block.now) p f (map arc_value records.items)) }
         ensures err { OnErr result (self.new ≡ self.old) }
-        ensures full { result ≡ Err Refused.JournalFull ↔ (most_events < length self.old.journal.events + length block.now + 1) }
-        ensures only { IfErr result (λ e. (e ≡ Refused.JournalFull) ⊎ (e ≡ Refused.NoMemory)) }
+        ensures full { IsFullExactlyBy (length self.old.journal.events + length block.now + 1) result }
+        ensures only { IfErr result IsWantOfRoom }
     {
         let interval = self.open_interval(p, records);
         self.close(p, Kind::Set(f), block, interval)?;
@@ -194,8 +195,8 @@ impl Protocol {
         requires rising { HasRisingPages (map arc_value records.items) }
         ensures ok { OnOk result (self.new ≡ book_asked (handed_in self.old block.now) p l (map arc_value records.items)) }
         ensures err { OnErr result (self.new ≡ self.old) }
-        ensures full { result ≡ Err Refused.JournalFull ↔ (most_events < length self.old.journal.events + length block.now + 1) }
-        ensures only { IfErr result (λ e. (e ≡ Refused.JournalFull) ⊎ (e ≡ Refused.NoMemory)) }
+        ensures full { IsFullExactlyBy (length self.old.journal.events + length block.now + 1) result }
+        ensures only { IfErr result IsWantOfRoom }
     {
         make_room(&mut self.journal, self.owing, block.len() + 1)?;
         let grant = self.grant_if_free(p, l)?;
@@ -222,8 +223,8 @@ impl Protocol {
         requires rising { HasRisingPages (map arc_value records.items) }
         ensures ok { OnOk result (self.new ≡ book_released (handed_in self.old block.now) p l (map arc_value records.items)) }
         ensures err { OnErr result (self.new ≡ self.old) }
-        ensures full { result ≡ Err Refused.JournalFull ↔ (most_events < length self.old.journal.events + length block.now + 1) }
-        ensures only { IfErr result (λ e. (e ≡ Refused.JournalFull) ⊎ (e ≡ Refused.NoMemory)) }
+        ensures full { IsFullExactlyBy (length self.old.journal.events + length block.now + 1) result }
+        ensures only { IfErr result IsWantOfRoom }
     {
         make_room(&mut self.journal, self.owing, block.len() + 1)?;
         let interval = self.open_interval(p, records);
@@ -251,8 +252,8 @@ impl Protocol {
         requires rising { HasRisingPages (map arc_value records.items) }
         ensures ok { OnOk result (self.new ≡ book_arrived (handed_in self.old block.now) p (map arc_value records.items)) }
         ensures err { OnErr result (self.new ≡ self.old) }
-        ensures full { result ≡ Err Refused.JournalFull ↔ (most_events < length self.old.journal.events + length block.now + 1) }
-        ensures only { IfErr result (λ e. (e ≡ Refused.JournalFull) ⊎ (e ≡ Refused.NoMemory)) }
+        ensures full { IsFullExactlyBy (length self.old.journal.events + length block.now + 1) result }
+        ensures only { IfErr result IsWantOfRoom }
     {
         make_room(&mut self.journal, self.owing, block.len() + 1)?;
         let interval = self.open_interval(p, records);
@@ -281,7 +282,7 @@ impl Protocol {
         requires own_long { length own.now ≡ length self.now.barrier.stages }
         requires long { length self.now.barrier.stages ≡ length self.now.closed.first }
         requires all { (r : ℕ) → r < length self.now.times → MayBeSent self.now.closed (slice_set self.now.times interval.now.owner own.now) r }
-        ensures { IfOk result (λ o. option_map (λ ms. map letter ms.items) o ≡ departures_after
+        ensures { IfOk result (λ o. option_map (λ ms. map letter ms.items) o ≡ departures_to
             (pushed self.now.closed interval.now) self.now.barrier (slice_set self.now.times interval.now.owner own.now) interval.now.owner own.now) }
     {
         let barrier = &self.barrier;
@@ -304,7 +305,7 @@ impl Protocol {
         requires time_long { length (lock_at self.now.locks l).time ≡ length self.now.closed.first }
         requires kept { (q : ℕ) → slice_index self.now.closed.first q ≤ slice_index (time_of self.now p) q }
         ensures { IfOk result (λ m. option_map letter m
-            ≡ due (lock_at self.now.locks l).holder (granted self.now p (lock_at self.now.locks l).time)) }
+            ≡ if_free (lock_at self.now.locks l).holder (grant_from self.now p (lock_at self.now.locks l).time)) }
     {
         let locks = &self.locks;
         if locks.holder(l).is_some() {
@@ -323,8 +324,8 @@ impl Protocol {
         ensures brings { IfOk result (λ m. (letter m).notices ≡ brought self.old p) }
         ensures err { OnErr result (self.new ≡ self.old) }
         ensures absent { (s : Sizes) (h : List AnEvent) → IsTold s h self.old → result ≡ Err Refused.NotYet ↔ (¬ Ready s h p) }
-        ensures full { result ≢ Err Refused.NotYet → result ≡ Err Refused.JournalFull ↔ (most_events < length self.old.journal.events + 1) }
-        ensures only { IfErr result (λ e. (e ≡ Refused.NotYet) ⊎ (e ≡ Refused.JournalFull) ⊎ (e ≡ Refused.NoMemory)) }
+        ensures full { result ≢ Err Refused.NotYet → IsFullExactlyBy (length self.old.journal.events + 1) result }
+        ensures only { IfErr result (λ e. (e ≡ Refused.NotYet) ⊎ IsWantOfRoom e) }
     {
         let Some(awaited) = self.awaits[p] else {
             unreachable!("the processor waits")
@@ -401,10 +402,10 @@ impl Protocol {
         requires open { interval ≡ open_interval self.old p interval.records }
         requires rising { HasRisingPages interval.records }
         requires kind { is_closing kind ≡ true }
-        ensures ok { OnOk result (self.new ≡ closing (handed_in self.old block.now) p kind interval.records) }
+        ensures ok { OnOk result (self.new ≡ closed_by (handed_in self.old block.now) p kind interval.records) }
         ensures err { OnErr result (self.new ≡ self.old) }
-        ensures full { result ≡ Err Refused.JournalFull ↔ (most_events < length self.old.journal.events + length block.now + 1) }
-        ensures only { IfErr result (λ e. (e ≡ Refused.JournalFull) ⊎ (e ≡ Refused.NoMemory)) }
+        ensures full { IsFullExactlyBy (length self.old.journal.events + length block.now + 1) result }
+        ensures only { IfErr result IsWantOfRoom }
     {
         make_room(&mut self.journal, self.owing, block.len() + 1)?;
         self.closed.push(interval)?;
@@ -442,7 +443,7 @@ impl Protocol {
 /// The time of a flag after one more set.
 fn with_set(kept: &Option<VTime>, time: &VTime) -> VTime
     requires { IfSome kept.now (λ t. length t ≡ length time.now) }
-    ensures { result ≡ set_at kept.now time.now }
+    ensures { result ≡ flag_joined kept.now time.now }
 {
     match kept {
         Some(kept) => {
@@ -468,7 +469,7 @@ fn unset(alloc: Global, flags: usize) -> Result<Vec<Option<VTime>>, AllocError>
 /// The barrier's part of a take.
 fn leave(barrier: &mut Barrier, awaited: Awaited, p: usize)
     requires { awaited ≡ Awaited.Departure → slice_get barrier.old.stages p ≡ Some Stage.Free }
-    ensures { barrier.new ≡ left (kind_of awaited) barrier.old p }
+    ensures { barrier.new ≡ barrier_left (kind_of awaited) barrier.old p }
 {
     match awaited {
         Awaited::Departure => barrier.depart(p),

@@ -1,7 +1,8 @@
 //! Room in the journal.
-ghost use Rattle.std.specs.Prelude.{◌≡◌, ◌⊎◌, ◌+◌, ◌-◌, ◌^◌, ◌<◌, ◌≤◌, ◌++◌, ◌↔◌, All, IfErr, OnOk, length, Err};
+ghost use Rattle.std.specs.Prelude.{◌≡◌, ◌+◌, ◌-◌, ◌^◌, ◌≤◌, ◌<◌, ◌++◌, All, IfErr, OnOk, length, Err};
 ghost use Rattle.lists.specs.Limits.{most_events};
 ghost use Rattle.journal.specs.InRange.{AddressInRange};
+ghost use Rattle.book.specs.Refusals.{IsFullExactlyBy, IsWantOfRoom};
 
 use crate::refused::Refused;
 use journal::{Event, Journal};
@@ -20,8 +21,8 @@ pub(crate) fn make_room(
     ensures ok { OnOk result ((owing + additional ≤ journal.new.room) × (length journal.old.events + additional ≤ most_events)) }
     ensures same { journal.new ≡ record journal.old { room = journal.new.room } }
     ensures grows { journal.old.room ≤ journal.new.room }
-    ensures full { result ≡ Err Refused.JournalFull ↔ (most_events < length journal.old.events + additional) }
-    ensures only { IfErr result (λ e. (e ≡ Refused.JournalFull) ⊎ (e ≡ Refused.NoMemory)) }
+    ensures full { IsFullExactlyBy (length journal.old.events + additional) result }
+    ensures only { IfErr result IsWantOfRoom }
 {
     if journal.len() + additional > LIMIT {
         return Err(Refused::JournalFull);

@@ -13,11 +13,10 @@ use Rattle.journal.specs.Log.{Log}
 use Rattle.page.specs.Changes.{Changes}
 use Rattle.transit.specs.Letters.{Letter}
 use Rattle.book.specs.State.{State}
-use Rattle.book.specs.Told.{IsTold}
+use Rattle.book.specs.Told.{IsTold, IsToldBySome}
 use Rattle.book.specs.Cutting.{WasBookCut}
-use Rattle.book.specs.Laws.{MayHandIn, MayGive}
-use Rattle.book.specs.Calls.{Takes}
-use Rattle.book.specs.Transitions.{new_book, handed_in, handed_last, book_asked, book_released, book_arrived, book_set, book_watched, book_took}
+use Rattle.book.specs.Calls.{MayHandIn, MayGive, MayFlush, MayCall, MayAsk, MayRelease, MayLook}
+use Rattle.book.specs.Transitions.{new_book, handed_in, handed_last, book_asked, book_released, book_arrived, book_set, book_watched, book_taken, Takes}
 use Rattle.book.proofs.Keeps.Whole.{new_law, hand_in_law, last_law, ask_law, release_law, arrive_law, set_law, watch_law, take_law, cut_law}
 use Rattle.book_uses.specs.declared.told.Told.TheInside.{Inside}
 use Rattle.book_uses.specs.Telling.{Telling, IsTelling, MayClose}
@@ -25,6 +24,26 @@ use Rattle.book_uses.specs.Keeping.{telling_of, IsKept}
 use Rattle.book_uses.specs.Records.{AreOpenBelow}
 use Rattle.book_uses.proofs.Opened.{open_contents}
 use Rattle.book_uses.proofs.Reading.{since_block}
+
+-- what calls of a book rest on that is told by a history
+module _ (s : Sizes) (h : List Event) (b : State) (p : ℕ) (told : IsTold s h b) where
+  abbrev by_some : IsToldBySome b
+  by_some = record { sizes = s; history = h; told = told }
+
+  pub may_look : p < s.processors → MayLook b p
+  may_look lt = record { by = by_some; processor = lt }
+
+  pub may_flush : (block : List Event) → MayGive s b p block → MayFlush b p block
+  may_flush block gives = record { by = by_some; gives = gives }
+
+  abbrev pub may_call : (block : List Event) → MayHandIn s b p block → MayCall b p block
+  may_call block hands_in = record { by = by_some; hands_in = hands_in }
+
+  pub may_ask : (l : ℕ) (block : List Event) → MayHandIn s b p block → l < s.locks → ¬ Holds h p l → MayAsk b p l block
+  may_ask l block hands_in range free = record { call = may_call block hands_in; range = range; free = free }
+
+  pub may_release : (l : ℕ) (block : List Event) → MayHandIn s b p block → l < s.locks → Holds h p l → MayRelease b p l block
+  may_release l block hands_in range held = record { call = may_call block hands_in; range = range; held = held }
 
 -- a new book is told by the empty history
 pub kept_new : (t : Inside) → 1 ≤ t.processors → 1 ≤ t.words → t.words ≤ 64 → t.history.items ≡ [] → t.book ≡ new_book (telling_of t).sizes → t.owing ≡ 256 * t.processors → IsKept t
@@ -87,7 +106,7 @@ module _ (t : Telling) (new : State) (p : ℕ) (block : List Event) (records : L
 pub follows_take : (s : Sizes) (h : List Event) (b new : State) (p : ℕ) (k : Kind) (m : Letter) → IsTold s h b → slice_get b.awaits p ≡ Some (Some k) → Takes b p m new → Follows s (did h p k) b new
 follows_take s h b new p k m told waits takes =
     let same : takes.kind ≡ k = same_Some takes.kind k (same_Some (Some takes.kind) (Some k) (sym takes.awaits ∙ waits)) in
-    subst (λ x. Follows s (did h p x) b new) same (follows s (did h p takes.kind) b new (book_took b p takes.kind m) (take_law s h b p takes.kind m told takes.awaits takes.message) refl takes.after)
+    subst (λ x. Follows s (did h p x) b new) same (follows s (did h p takes.kind) b new (book_taken b p takes.kind m) (take_law s h b p takes.kind m told takes.awaits takes.message) refl takes.after)
 
 -- the records of p's open interval, made of its events and the block's
 pub may_close : (t : Telling) (p : ℕ) (block events : List Event) (records : List Changes) → IsTelling t → MayHandIn t.sizes t.book p block → length block ≤ 256 → events ≡ since t.history p ++ block

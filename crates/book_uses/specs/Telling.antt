@@ -4,7 +4,8 @@ use Rattle.journal.specs.declared.event.Event.{Event}
 use Rattle.journal.specs.Sizes.{Sizes}
 use Rattle.page.specs.Changes.{Changes}
 use Rattle.interval.specs.Intervals.{HasRisingPages}
-use Rattle.book.specs.Laws.{MayHandIn, AreOpenRecords}
+use Rattle.book.specs.Calls.{MayHandIn}
+use Rattle.book.specs.Laws.{AreOpenRecords}
 use Rattle.book.specs.State.{State}
 use Rattle.book.specs.Told.{IsTold}
 

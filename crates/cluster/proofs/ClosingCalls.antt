@@ -52,8 +52,8 @@ module _ (m : Local) (sound : IsSound m) (b : State) (f : Finds m b) where
 
   -- the book lets it
   pub may_close : (k : Kind) → MayMake m k → MayClose k b m.number m.block
-  may_close (Ask l) may = (m.sizes, h, f.kept.told, may_hand_in m sound b f may.idle, may.in_range, lacks l may.in_range may.held)
-  may_close (Release l) may = (m.sizes, h, f.kept.told, may_hand_in m sound b f may.idle, may.in_range, has l may.in_range may.held)
+  may_close (Ask l) may = record { call = may_call m sound b f may.idle; range = may.in_range; free = lacks l may.in_range may.held }
+  may_close (Release l) may = record { call = may_call m sound b f may.idle; range = may.in_range; held = has l may.in_range may.held }
   may_close (Set f') may = (may_call m sound b f may.idle, (let long = f.kept.told.flags.long in let within = may.in_range in omega arith))
   may_close _ may = may_call m sound b f may.idle
 

@@ -8,8 +8,8 @@ use Rattle.journal.specs.Pasts.{InPast}
 use Rattle.journal.proofs.Times.Times.{time_unique}
 use Rattle.book.specs.State.{State, time_of}
 use Rattle.book.specs.Stamps.{IsStamp, IsAwaited}
-use Rattle.book.specs.Laws.{MayGive, MayHandIn}
-use Rattle.book.specs.Calls.{MayFlush, MayCall}
+use Rattle.book.specs.Calls.{MayGive, MayHandIn, MayFlush, MayCall}
+use Rattle.book.specs.Told.{IsToldBySome}
 use Rattle.replicas.specs.Local.{Local}
 use Rattle.replicas.specs.Sound.{IsSound}
 use Rattle.replicas.specs.Steps.{found}
@@ -55,12 +55,15 @@ module _ (m : Local) (sound : IsSound m) (b : State) (f : Finds m b) where
   pub may_give : MayGive m.sizes b m.number m.block
   may_give = record { waits = (m.awaits, awaits_found, sound.quiet); inner = sound.inner }
 
+  abbrev told_by_some : IsToldBySome b
+  told_by_some = record { sizes = m.sizes; history = m.seen ++ f.rest; told = f.kept.told }
+
   pub may_flush : MayFlush b m.number m.block
-  may_flush = (m.sizes, m.seen ++ f.rest, f.kept.told, may_give)
+  may_flush = record { by = told_by_some; gives = may_give }
 
   module _ (idle : m.awaits ≡ None) where
     pub may_hand_in : MayHandIn m.sizes b m.number m.block
     may_hand_in = record { idle = awaits_found ∙ ap (λ (w : Option Kind). Some w) idle; inner = sound.inner }
 
-    pub may_call : MayCall b m.number m.block
-    may_call = (m.sizes, m.seen ++ f.rest, f.kept.told, may_hand_in)
+    abbrev pub may_call : MayCall b m.number m.block
+    may_call = record { by = told_by_some; hands_in = may_hand_in }

@@ -11,8 +11,7 @@ use Rattle.journal.specs.Sizes.{Sizes}
 use Rattle.journal.specs.Events.{At}
 use Rattle.lists.proofs.Places.{append_cases, take-suc_at}
 use Rattle.book.specs.State.{State}
-use Rattle.book.specs.Calls.{MayFlush}
-use Rattle.book.specs.Laws.{MayGive}
+use Rattle.book.specs.Calls.{MayFlush, MayGive}
 use Rattle.book.specs.Transitions.{handed_last}
 use Rattle.book.proofs.Keeps.Whole.{last_law}
 use Rattle.replicas.specs.Local.{Local}
@@ -52,7 +51,7 @@ module _ (s : Sizes) (ms : List Local) (k : ℕ) (b : State) (m : Local) (at : s
 
   -- the block may be handed in
   pub may_flush_last : MayFlush b k m.block
-  may_flush_last = rw (← number) (s, h, fin.told, may_give_last)
+  may_flush_last = rw (← number) (record { by = record { sizes = s; history = h; told = fin.told }; gives = may_give_last })
 
   -- and there is room for it
   pub room_last : length m.block ≤ b.journal.room

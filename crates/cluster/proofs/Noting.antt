@@ -20,7 +20,7 @@ use Rattle.lists.proofs.Places.{push_cases}
 use Rattle.lists.proofs.Sets.{slice_get-set_found, slice_get-set_other}
 use Rattle.page.specs.declared.pages.Access.TheVariants.{Valid, Invalid}
 use Rattle.page.specs.Contents.{IsClean}
-use Rattle.book.specs.Laws.{IsInner}
+use Rattle.book.specs.Calls.{IsInner}
 use Rattle.replicas.specs.Copies.{Copied, IsReplica, written_at}
 use Rattle.replicas.specs.Local.{Local, noted}
 use Rattle.cluster.specs.Accesses.{stored_at}

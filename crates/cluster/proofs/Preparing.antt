@@ -10,7 +10,8 @@ use Rattle.interval.specs.Intervals.{SentRecord}
 use Rattle.transit.specs.Letters.{Letter, letter}
 use Rattle.transit.specs.declared.message.Message.{Message}
 use Rattle.book.specs.Brought.{brought, message_for}
-use Rattle.book.specs.Calls.{MayTakeSome}
+use Rattle.book.specs.Calls.{MayLook, MayTakeSome}
+use Rattle.book.proofs.Parts.Told.{is_processor}
 use Rattle.book.specs.State.{State}
 use Rattle.book.specs.Told.{IsTold}
 use Rattle.book.proofs.Keeps.Whole.{message_law}
@@ -45,11 +46,17 @@ comes s h b p k m told at come =
 
 -- so nothing is brought to one who isn't ready
 pub nothing_brought : (s : Sizes) (h : List Event) (b : State) (p : ℕ) → IsTold s h b → MayTakeSome b p → ¬ Ready s h p → brought b p ≡ []
-nothing_brought s h b p told may late = go (message_for b p may.0) refl
+nothing_brought s h b p told may late = go (message_for b p may.kind) refl
   where
-    kind : slice_index_or b.awaits p None ≡ Some may.0
-    kind = let here = slice_get-get_or b.awaits p None (slice_get_within b.awaits p (Some may.0) may.1.3) in cc (here, may.1.3)
+    kind : slice_index_or b.awaits p None ≡ Some may.kind
+    kind = let here = slice_get-get_or b.awaits p None (slice_get_within b.awaits p (Some may.kind) may.take.waits) in cc (here, may.take.waits)
 
-    go : (o : Option Letter) → message_for b p may.0 ≡ o → brought b p ≡ []
+    go : (o : Option Letter) → message_for b p may.kind ≡ o → brought b p ≡ []
     go None none = rw (kind, none) refl
-    go (Some m) come = absurd (late (comes s h b p may.0 m told may.1.3 come))
+    go (Some m) come = absurd (late (comes s h b p may.kind m told may.take.waits come))
+
+-- who waits for something is a processor
+pub may_look : (b : State) (p : ℕ) → MayTakeSome b p → MayLook b p
+may_look b p may =
+    let by = may.take.by in
+    record { by = by; processor = is_processor by.sizes by.history b p (Some may.kind) by.told may.take.waits }

@@ -21,11 +21,11 @@ use Rattle.vtime.specs.Times.{join}
 use Rattle.interval.specs.Closings.{between, is_of_page}
 use Rattle.interval.specs.Intervals.{SentRecord}
 use Rattle.book.specs.Brought.{message_for}
-use Rattle.book.specs.Calls.{MayTakeSome, Takes}
+use Rattle.book.specs.Calls.{MayTakeSome}
 use Rattle.book.specs.Laws.{IsMessage}
 use Rattle.book.specs.News.{missing_in}
 use Rattle.book.specs.State.{State, time_of}
-use Rattle.book.specs.Transitions.{book_took}
+use Rattle.book.specs.Transitions.{book_taken, Takes}
 use Rattle.book.specs.declared.refused.Refused.{Refused}
 use Rattle.book.specs.declared.refused.Refused.TheVariants.{NotYet, JournalFull}
 use Rattle.book.proofs.Keeps.Whole.{take_law, message_law, news_law, news_order_law}
@@ -66,18 +66,18 @@ module _ (m : Local) (sound : IsSound m) (b : State) (k : Kind) (waits : m.await
 
   -- p may take
   pub may_take : Finds m b → MayTakeSome b m.number
-  may_take f = (k, (m.sizes, m.seen ++ f.rest, f.kept.told, awaits_kind f))
+  may_take f = record { kind = k; take = record { by = record { sizes = m.sizes; history = m.seen ++ f.rest; told = f.kept.told }; waits = awaits_kind f } }
 
   -- what it takes is what has come for this
-  pub taken_message : (x : Letter) (new : State) → Finds m b → Takes b m.number x new → (message_for b m.number k ≡ Some x) × (new ≡ book_took b m.number k x)
+  pub taken_message : (x : Letter) (new : State) → Finds m b → Takes b m.number x new → (message_for b m.number k ≡ Some x) × (new ≡ book_taken b m.number k x)
   taken_message x new f t =
       let same = same_kind (slice_get b.awaits m.number) t.kind k t.awaits (awaits_kind f) in
-      (subst (λ j. message_for b m.number j ≡ Some x) same t.message, subst (λ j. new ≡ book_took b m.number j x) same t.after)
+      (subst (λ j. message_for b m.number j ≡ Some x) same t.message, subst (λ j. new ≡ book_taken b m.number j x) same t.after)
 
   module _ (x : Letter) (come : message_for b m.number k ≡ Some x) where
     -- it is a call of p
-    pub call_of_take : length b.journal.events + 1 ≤ most_events → IsCallOf m b (event m.number k ∷ []) (book_took b m.number k x)
-    call_of_take fits = call_of_event_alone m sound b k (book_took b m.number k x) (taking_no_load k takes) (taking_no_fetch k takes) fits refl refl refl (λ f. take_law m.sizes (m.seen ++ f.rest) b m.number k x f.kept.told (awaits_kind f) come)
+    pub call_of_take : length b.journal.events + 1 ≤ most_events → IsCallOf m b (event m.number k ∷ []) (book_taken b m.number k x)
+    call_of_take fits = call_of_event_alone m sound b k (book_taken b m.number k x) (taking_no_load k takes) (taking_no_fetch k takes) fits refl refl refl (λ f. take_law m.sizes (m.seen ++ f.rest) b m.number k x f.kept.told (awaits_kind f) come)
 
     module _ (f : Finds m b) where
       pub message : IsMessage m.sizes (m.seen ++ f.rest) b m.number k x
@@ -152,7 +152,7 @@ refused_take e Late P late full = (
 )
 
 module _ (v : Visit) (after : ChairToken State View) (left : HasLeft v.mid after) (k : Kind) (waits : v.was.awaits ≡ Some k) (x : Letter)
-    (come : message_for v.book v.was.number k ≡ Some x) (new : State) (is : new ≡ book_took v.book v.was.number k x)
+    (come : message_for v.book v.was.number k ≡ Some x) (new : State) (is : new ≡ book_taken v.book v.was.number k x)
     (fits : length v.book.journal.events + 1 ≤ most_events) (sees : HasSeen v new after) (cs : List Copied) (told : AreAfterNews v.was.copies x.notices cs) where
   -- the processor after it took
   abbrev taken_now : Local
@@ -165,7 +165,7 @@ module _ (v : Visit) (after : ChairToken State View) (left : HasLeft v.mid after
       let call = call_of_take was v.sound v.book k waits x come fits in
       let seen = subst (λ (n : State). HasSeen v n after) is sees in
       let es = event was.number k ∷ [] in
-      let last = book_took v.book was.number k x in
+      let last = book_taken v.book was.number k x in
       let same : taken_now ≡ took (entered was v.finds.rest v.book.journal.base.cut) k x.time cs = now_is v after left es last call seen was.block cs was.stored (join was.time x.time) (held_after k was.held) None in
       let good = subst IsSound (sym same) (taken_sound was v.sound v.book k waits x come v.finds cs told (told_few was.sizes ((was.seen ++ v.finds.rest) ++ es) last (call.told v.finds) (call.few v.finds)) v.book.journal.base.cut) in
       let done = subst (IsTaken (entered was v.finds.rest v.book.journal.base.cut)) (sym same) (taken was v.sound v.book k waits x come v.finds cs told v.book.journal.base.cut) in

@@ -10,7 +10,7 @@ use Rattle.journal.specs.Counted.{BlockCounts}
 use Rattle.lists.specs.Limits.{most_processors, most_events, most_cut, most_in_block}
 use Rattle.page.specs.Contents.{IsClean}
 use Rattle.book.specs.Stamps.{AreAll, IsStamp, IsAwaited}
-use Rattle.book.specs.Laws.{IsInner}
+use Rattle.book.specs.Calls.{IsInner}
 use Rattle.replicas.specs.Copies.{Copied, IsReplica}
 use Rattle.replicas.specs.Local.{Local}
 

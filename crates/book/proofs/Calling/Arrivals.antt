@@ -26,7 +26,7 @@ use Rattle.book.specs.Stamps.{AreAll}
 use Rattle.book.specs.Mail.{IsPosted}
 use Rattle.book.specs.Meetings.{IsAtStage}
 use Rattle.book.specs.State.{State, time_of}
-use Rattle.book.specs.Transitions.{handed_in, open_interval, closing, departure_to, departures_after, met, book_arrived}
+use Rattle.book.specs.Transitions.{handed_in, open_interval, closed_by, departure_to, departures_to, mail_met, book_arrived}
 use Rattle.book.specs.Calls.{MayCall, MayBeSent}
 use Rattle.book.specs.Told.{IsTold}
 use Rattle.book.proofs.Parts.Each.{item_at, is_at}
@@ -83,8 +83,9 @@ pub record IsArriving (b : State) (p : ℕ) : Type 0 where
   pub sent : (r : ℕ) → r < length b.times → MayBeSent b.closed (slice_set b.times p (tick (time_of b p) p)) r
   pub none : is_full (joined b.barrier p (tick (time_of b p) p)) ≡ true → b.transit ≡ replicate (length b.times) None
 
-pub arriving : (b : State) (p : ℕ) (block : List Event) → MayCall b p block → IsArriving b p
-arriving b p block (s, h, told, may) =
+arriving_by : (s : Sizes) (h : List Event) (b : State) (p : ℕ) → IsTold s h b → slice_get b.awaits p ≡ Some None
+    → IsArriving b p
+arriving_by s h b p told idle =
     let own = (own_stamp s h b p told lt).long in
     let first = told.closed.first_long in
     let stages = told.barrier.stages.long in
@@ -97,10 +98,10 @@ arriving b p block (s, h, told, may) =
     }
   where
     lt : p < s.processors
-    lt = is_processor s h b p None told may.idle
+    lt = is_processor s h b p None told idle
 
     away : Away ≡ slice_index_or b.barrier.stages p Away
-    away = stage_away h told.barrier.complete p (slice_index_or b.barrier.stages p Away) (idle_counts s h p told.well_formed (is_idle s h b p told may.idle)) (is_at s.processors (IsAtStage h told.barrier.complete) b.barrier.stages p Away told.barrier.stages lt)
+    away = stage_away h told.barrier.complete p (slice_index_or b.barrier.stages p Away) (idle_counts s h p told.well_formed (is_idle s h b p told idle)) (is_at s.processors (IsAtStage h told.barrier.complete) b.barrier.stages p Away told.barrier.stages lt)
 
     after : List (List ℕ)
     after = slice_set b.times p (tick (time_of b p) p)
@@ -140,7 +141,10 @@ arriving b p block (s, h, told, may) =
         nothing all_here q less =
             let transit = told.transit.long in
             let read = slice_get-get_or b.transit q None (omega arith) in
-            read ∙ ap (λ (x : Option Letter). Some x) (sym (no_mail s h q (slice_index_or b.transit q None) (nobody_goes s h b p q (tick (time_of b p) p) told may.idle all_here less) (told.transit.each q (slice_index_or b.transit q None) read)))
+            read ∙ ap (λ (x : Option Letter). Some x) (sym (no_mail s h q (slice_index_or b.transit q None) (nobody_goes s h b p q (tick (time_of b p) p) told idle all_here less) (told.transit.each q (slice_index_or b.transit q None) read)))
+
+pub arriving : (b : State) (p : ℕ) (block : List Event) → MayCall b p block → IsArriving b p
+arriving b p block may = arriving_by may.by.sizes may.by.history b p may.by.told may.hands_in.idle
 
 pub arrives : (b now : State) (p : ℕ) (block : List Event) → b ≡ now → MayCall now p block → IsArriving b p
 arrives b now p block same may = subst (λ x. IsArriving x p) (sym same) (arriving now p block may)
@@ -150,48 +154,48 @@ map_twice : {A B C : Type 0} (f : A → B) (g : B → C) (xs : List A) → map g
 map_twice f g [] = refl
 map_twice f g (x ∷ xs) = ap (λ ys. g (f x) ∷ ys) (map_twice f g xs)
 
-arrived_is : (old b : State) (p : ℕ) (block : List Event) (records : List Changes) (barrier : Episodes) (transit : List (Option Letter)) (t : List ℕ) → b ≡ closing (handed_in old block) p Arrive records → t ≡ tick (time_of old p) p
-    → barrier ≡ arrived b.barrier p t → transit ≡ met (is_full (joined b.barrier p t)) b (join b.barrier.gathered t)
+arrived_is : (old b : State) (p : ℕ) (block : List Event) (records : List Changes) (barrier : Episodes) (transit : List (Option Letter)) (t : List ℕ) → b ≡ closed_by (handed_in old block) p Arrive records → t ≡ tick (time_of old p) p
+    → barrier ≡ arrived b.barrier p t → transit ≡ mail_met (is_full (joined b.barrier p t)) b (join b.barrier.gathered t)
     → record b { barrier = barrier; transit = transit } ≡ book_arrived (handed_in old block) p records
 arrived_is old b p block records barrier transit t is time here mail =
-    let c : State = closing (handed_in old block) p Arrive records in
+    let c : State = closed_by (handed_in old block) p Arrive records in
     ap (λ (x : Episodes). record b { barrier = x; transit = transit }) here
     ∙ ap (λ (x : List (Option Letter)). record b { barrier = arrived b.barrier p t; transit = x }) mail
-    ∙ ap (λ (x : State). record x { barrier = arrived x.barrier p t; transit = met (is_full (joined x.barrier p t)) x (join x.barrier.gathered t) }) is
-    ∙ ap (λ (u : List ℕ). record c { barrier = arrived old.barrier p u; transit = met (is_full (joined old.barrier p u)) c (join old.barrier.gathered u) }) time
+    ∙ ap (λ (x : State). record x { barrier = arrived x.barrier p t; transit = mail_met (is_full (joined x.barrier p t)) x (join x.barrier.gathered t) }) is
+    ∙ ap (λ (u : List ℕ). record c { barrier = arrived old.barrier p u; transit = mail_met (is_full (joined old.barrier p u)) c (join old.barrier.gathered u) }) time
 
 -- the departures of all, or none
-met_some : (full : Bool) (c : State) (u : List ℕ) (ms : List Letter) → Some ms ≡ cond full (Some (map (departure_to c.closed u) c.times)) None → map (λ (m : Letter). Some m) ms ≡ met full c u
+met_some : (full : Bool) (c : State) (u : List ℕ) (ms : List Letter) → Some ms ≡ cond full (Some (map (departure_to c.closed u) c.times)) None → map (λ (m : Letter). Some m) ms ≡ mail_met full c u
 met_some true c u ms made = ap (λ (xs : List Letter). map (λ (m : Letter). Some m) xs) (same_Some ms (map (departure_to c.closed u) c.times) made) ∙ map_twice (departure_to c.closed u) (λ (m : Letter). Some m) c.times
 met_some false c u ms made = absurd (none-some ms (sym made))
 
-met_none : (full : Bool) (c : State) (u : List ℕ) → None ≡ cond full (Some (map (departure_to c.closed u) c.times)) None → c.transit ≡ met full c u
+met_none : (full : Bool) (c : State) (u : List ℕ) → None ≡ cond full (Some (map (departure_to c.closed u) c.times)) None → c.transit ≡ mail_met full c u
 met_none true c u made = absurd (none-some (map (departure_to c.closed u) c.times) made)
 met_none false c u made = refl
 
 -- what stands of the departures when the interval is closed
-departures_read : (old b : State) (p : ℕ) (block : List Event) (records : List Changes) (t : List ℕ) (o : Option (List Letter)) → b ≡ closing (handed_in old block) p Arrive records → t ≡ tick (time_of old p) p
-    → o ≡ departures_after (pushed old.closed (open_interval old p records)) old.barrier (slice_set old.times p t) p t → o ≡ departures_after b.closed b.barrier b.times p t
+departures_read : (old b : State) (p : ℕ) (block : List Event) (records : List Changes) (t : List ℕ) (o : Option (List Letter)) → b ≡ closed_by (handed_in old block) p Arrive records → t ≡ tick (time_of old p) p
+    → o ≡ departures_to (pushed old.closed (open_interval old p records)) old.barrier (slice_set old.times p t) p t → o ≡ departures_to b.closed b.barrier b.times p t
 departures_read old b p block records t o is time made =
-    made ∙ ap (λ (u : List ℕ). departures_after (pushed old.closed (open_interval old p records)) old.barrier (slice_set old.times p u) p t) time
-    ∙ sym (ap (λ (x : State). departures_after x.closed x.barrier x.times p t) is)
+    made ∙ ap (λ (u : List ℕ). departures_to (pushed old.closed (open_interval old p records)) old.barrier (slice_set old.times p u) p t) time
+    ∙ sym (ap (λ (x : State). departures_to x.closed x.barrier x.times p t) is)
 
 -- an arrival that completes the episode
-pub arrived_met : (old b : State) (p : ℕ) (block : List Event) (records : List Changes) (barrier : Episodes) (transit : List (Option Letter)) (t : List ℕ) (ms : List Letter) → b ≡ closing (handed_in old block) p Arrive records → t ≡ tick (time_of old p) p
-    → barrier ≡ arrived b.barrier p t → transit ≡ map (λ (m : Letter). Some m) ms → Some ms ≡ departures_after (pushed old.closed (open_interval old p records)) old.barrier (slice_set old.times p t) p t
+pub arrived_met : (old b : State) (p : ℕ) (block : List Event) (records : List Changes) (barrier : Episodes) (transit : List (Option Letter)) (t : List ℕ) (ms : List Letter) → b ≡ closed_by (handed_in old block) p Arrive records → t ≡ tick (time_of old p) p
+    → barrier ≡ arrived b.barrier p t → transit ≡ map (λ (m : Letter). Some m) ms → Some ms ≡ departures_to (pushed old.closed (open_interval old p records)) old.barrier (slice_set old.times p t) p t
     → record b { barrier = barrier; transit = transit } ≡ book_arrived (handed_in old block) p records
 arrived_met old b p block records barrier transit t ms is time here post made =
     arrived_is old b p block records barrier transit t is time here (post ∙ met_some (is_full (joined b.barrier p t)) b (join b.barrier.gathered t) ms (departures_read old b p block records t (Some ms) is time made))
 
 -- an arrival that leaves it open
-pub arrived_alone : (old b : State) (p : ℕ) (block : List Event) (records : List Changes) (barrier : Episodes) (t : List ℕ) → b ≡ closing (handed_in old block) p Arrive records → t ≡ tick (time_of old p) p
-    → barrier ≡ arrived b.barrier p t → None ≡ departures_after (pushed old.closed (open_interval old p records)) old.barrier (slice_set old.times p t) p t
+pub arrived_alone : (old b : State) (p : ℕ) (block : List Event) (records : List Changes) (barrier : Episodes) (t : List ℕ) → b ≡ closed_by (handed_in old block) p Arrive records → t ≡ tick (time_of old p) p
+    → barrier ≡ arrived b.barrier p t → None ≡ departures_to (pushed old.closed (open_interval old p records)) old.barrier (slice_set old.times p t) p t
     → record b { barrier = barrier } ≡ book_arrived (handed_in old block) p records
 arrived_alone old b p block records barrier t is time here made =
     arrived_is old b p block records barrier b.transit t is time here (met_none (is_full (joined b.barrier p t)) b (join b.barrier.gathered t) (departures_read old b p block records t None is time made))
 
 -- all have no message when all departures are made
-pub none_waits : (old : State) (p : ℕ) (c : Closings) (t : List ℕ) (ms : List Letter) → IsArriving old p → t ≡ tick (time_of old p) p → Some ms ≡ departures_after c old.barrier (slice_set old.times p t) p t → old.transit ≡ replicate (length ms) None
+pub none_waits : (old : State) (p : ℕ) (c : Closings) (t : List ℕ) (ms : List Letter) → IsArriving old p → t ≡ tick (time_of old p) p → Some ms ≡ departures_to c old.barrier (slice_set old.times p t) p t → old.transit ≡ replicate (length ms) None
 none_waits old p c t ms is time made = go (is_full (joined old.barrier p t)) refl made
   where
     go : (full : Bool) → is_full (joined old.barrier p t) ≡ full → Some ms ≡ cond full (Some (map (departure_to c (join old.barrier.gathered t)) (slice_set old.times p t))) None → old.transit ≡ replicate (length ms) None
@@ -202,11 +206,11 @@ none_waits old p c t ms is time made = go (is_full (joined old.barrier p t)) ref
 
 -- the departures as they were made, read off the book before the call
 pub departures_made : (old b : State) (p : ℕ) (records : List Changes) (i : ClosedInterval) (t : List ℕ) (o : Option (List Letter)) → b ≡ old → i ≡ open_interval b p records
-    → o ≡ departures_after (pushed b.closed i) b.barrier (slice_set b.times i.owner t) i.owner t → o ≡ departures_after (pushed old.closed (open_interval old p records)) old.barrier (slice_set old.times p t) p t
+    → o ≡ departures_to (pushed b.closed i) b.barrier (slice_set b.times i.owner t) i.owner t → o ≡ departures_to (pushed old.closed (open_interval old p records)) old.barrier (slice_set old.times p t) p t
 departures_made old b p records i t o same opened made =
     made
-    ∙ ap (λ (x : ClosedInterval). departures_after (pushed b.closed x) b.barrier (slice_set b.times x.owner t) x.owner t) opened
-    ∙ ap (λ (x : State). departures_after (pushed x.closed (open_interval x p records)) x.barrier (slice_set x.times p t) p t) same
+    ∙ ap (λ (x : ClosedInterval). departures_to (pushed b.closed x) b.barrier (slice_set b.times x.owner t) x.owner t) opened
+    ∙ ap (λ (x : State). departures_to (pushed x.closed (open_interval x p records)) x.barrier (slice_set x.times p t) p t) same
 
 -- each one's timestamp once p has closed its interval
 pub read_after : (times : List (List ℕ)) (p q : ℕ) (own old t : List ℕ) → p < length times → q < length times → t ≡ slice_index_or times q t → ((q ≡ p) × (old ≡ own)) ⊎ ((q ≢ p) × (old ≡ t)) → old ≡ slice_index_or (slice_set times p own) q []
@@ -223,10 +227,10 @@ departing_step c u times q old ms ns m made less is one more =
     ∙ ap (λ (ts : List (List ℕ)). map (departure_to c u) ts) (sym (take-suc_at times q old at) ∙ ap (λ (n : ℕ). take n times) (sym next))
 
 -- the departures, where the arrival completes the episode, and none where it doesn't
-pub departures_are : (c : Closings) (b : Episodes) (times : List (List ℕ)) (p : ℕ) (own u : List ℕ) (full : Bool) (ms : List Letter) → full ≡ is_full (joined b p own) → full ≡ true → u ≡ join b.gathered own → ms ≡ map (departure_to c u) times → Some ms ≡ departures_after c b times p own
+pub departures_are : (c : Closings) (b : Episodes) (times : List (List ℕ)) (p : ℕ) (own u : List ℕ) (full : Bool) (ms : List Letter) → full ≡ is_full (joined b p own) → full ≡ true → u ≡ join b.gathered own → ms ≡ map (departure_to c u) times → Some ms ≡ departures_to c b times p own
 departures_are c b times p own u full ms is all time made =
     ap (λ (xs : List Letter). Some xs) (made ∙ ap (λ (t : List ℕ). map (departure_to c t) times) time)
     ∙ ap (λ (f : Bool). cond f (Some (map (departure_to c (join b.gathered own)) times)) None) (sym all ∙ is)
 
-pub none_depart : (c : Closings) (b : Episodes) (times : List (List ℕ)) (p : ℕ) (own : List ℕ) (full : Bool) → full ≡ is_full (joined b p own) → full ≡ false → None ≡ departures_after c b times p own
+pub none_depart : (c : Closings) (b : Episodes) (times : List (List ℕ)) (p : ℕ) (own : List ℕ) (full : Bool) → full ≡ is_full (joined b p own) → full ≡ false → None ≡ departures_to c b times p own
 none_depart c b times p own full is some = ap (λ (f : Bool). cond f (Some (map (departure_to c (join b.gathered own)) times)) None) (sym some ∙ is)

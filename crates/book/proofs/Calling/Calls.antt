@@ -16,7 +16,7 @@ use Rattle.vtime.specs.Times.{tick}
 use Rattle.interval.specs.Intervals.{ClosedInterval}
 use Rattle.interval.specs.Closings.{Closings, pushed}
 use Rattle.journal.specs.Did.{event}
-use Rattle.book.specs.Transitions.{handed_in, open_interval, closing}
+use Rattle.book.specs.Transitions.{handed_in, open_interval, closed_by}
 use Rattle.book.specs.State.{State, time_of}
 use Rattle.book.specs.Calls.{MayFlush, MayCall, IsOpen}
 use Rattle.book.proofs.Parts.History.{happened, history_long}
@@ -34,8 +34,11 @@ pub record IsStanding (b : State) (p : ℕ) : Type 0 where
   pub pushed : b.closed.pushed ≤ happened b.journal
 
 pub standing : (b : State) (p : ℕ) (block : List Event) → MayCall b p block → IsStanding b p
-standing b p block (s, h, told, may) =
-    let lt = is_processor s h b p None told may.idle in
+standing b p block may =
+    let s = may.by.sizes in
+    let h = may.by.history in
+    let told = may.by.told in
+    let lt = is_processor s h b p None told may.hands_in.idle in
     let processors = told.sizes.processors in
     let times = told.times.long in
     let awaits = told.awaits.long in
@@ -68,21 +71,25 @@ address_within s _ range = tt
 
 -- who may call may flush
 pub flushes : (b : State) (p : ℕ) (block : List Event) → MayCall b p block → MayFlush b p block
-flushes b p block (s, h, told, may) = (s, h, told, record { waits = (None, may.idle, λ some. absurd (some refl)); inner = may.inner })
+flushes b p block may = let hands_in = may.hands_in in record {
+  by = may.by;
+  gives = record { waits = (None, hands_in.idle, λ some. absurd (some refl)); inner = hands_in.inner };
+}
 
 -- the block's events may be appended
 pub block_processors : (b : State) (p n : ℕ) (block : List Event) → MayFlush b p block → n ≡ b.journal.processors → (k : ℕ) (d : Event) → k < length block → (slice_index_or block k d).processor < n
-block_processors b p n block (s, h, told, may) same k d lt =
-    let x = may.inner k (slice_index_or block k d) (slice_get-get_or block k d lt) in
+block_processors b p n block may same k d lt =
+    let told = may.by.told in
+    let x = may.gives.inner k (slice_index_or block k d) (slice_get-get_or block k d lt) in
     let mine = x.mine in
-    let within = is_processor s h b p may.waits.0 told may.waits.1 in
+    let within = is_processor may.by.sizes may.by.history b p may.gives.waits.0 told may.gives.waits.1 in
     let processors = told.sizes.processors in
     omega arith
 
 pub block_addresses : (b : State) (p n : ℕ) (block : List Event) → MayFlush b p block → n ≡ b.journal.addresses → (k : ℕ) (d : Event) → k < length block → AddressInRange n (slice_index_or block k d).kind
-block_addresses b p n block (s, h, told, may) same k d lt =
-    let x = may.inner k (slice_index_or block k d) (slice_get-get_or block k d lt) in
-    subst (λ m. AddressInRange m (slice_index_or block k d).kind) (sym (same ∙ told.sizes.addresses)) (address_within s (slice_index_or block k d).kind x.in_range)
+block_addresses b p n block may same k d lt =
+    let x = may.gives.inner k (slice_index_or block k d) (slice_get-get_or block k d lt) in
+    subst (λ m. AddressInRange m (slice_index_or block k d).kind) (sym (same ∙ may.by.told.sizes.addresses)) (address_within may.by.sizes (slice_index_or block k d).kind x.in_range)
 
 -- an event that closes an interval has no address
 pub closing_address : (n : ℕ) (k : Kind) → is_closing k ≡ true → AddressInRange n k
@@ -103,7 +110,7 @@ logs_are a b c d owing block e first second third =
 -- the book after a block and an event that closes an interval, part by part
 pub closing_is : (b : State) (p : ℕ) (k : Kind) (block : List Event) (records : List Changes) (log : Log) (c : Closings) (t : List ℕ) (waits : List (Option Kind))
     → log ≡ record b.journal { events = (b.journal.events ++ block) ++ event p k ∷ [] } → c ≡ pushed b.closed (open_interval b p records) → t ≡ tick (time_of b p) p → waits ≡ slice_set b.awaits p (awaited k)
-    → record b { journal = log; closed = c; times = slice_set b.times p t; awaits = waits } ≡ closing (handed_in b block) p k records
+    → record b { journal = log; closed = c; times = slice_set b.times p t; awaits = waits } ≡ closed_by (handed_in b block) p k records
 closing_is b p k block records log c t waits one two three four =
     ap (λ (l : Log). record b { journal = l; closed = c; times = slice_set b.times p t; awaits = waits }) one
     ∙ ap (λ (x : Closings). record b { journal = record b.journal { events = (b.journal.events ++ block) ++ event p k ∷ [] }; closed = x; times = slice_set b.times p t; awaits = waits }) two
@@ -125,8 +132,8 @@ pub opens : (b now : State) (p : ℕ) (block : List Event) → b ≡ now → May
 opens b now p block same may = let st = stands b now p block same may in record { within = st.times; own = st.own }
 
 -- and closes with its records
-pub closed_records : (b : State) (block : List Event) (p : ℕ) (k : Kind) (i : ClosedInterval) (records : List Changes) → i ≡ open_interval b p records → closing (handed_in b block) p k i.records ≡ closing (handed_in b block) p k records
-closed_records b block p k i records is = ap (λ (x : ClosedInterval). closing (handed_in b block) p k x.records) is
+pub closed_records : (b : State) (block : List Event) (p : ℕ) (k : Kind) (i : ClosedInterval) (records : List Changes) → i ≡ open_interval b p records → closed_by (handed_in b block) p k i.records ≡ closed_by (handed_in b block) p k records
+closed_records b block p k i records is = ap (λ (x : ClosedInterval). closed_by (handed_in b block) p k x.records) is
 
 pub still_open : (b : State) (p : ℕ) (i : ClosedInterval) (records : List Changes) → i ≡ open_interval b p records → i ≡ open_interval b p i.records
 still_open b p i records is = is ∙ sym (ap (λ (x : ClosedInterval). open_interval b p x.records) is)

@@ -29,8 +29,8 @@ use Rattle.book.specs.Flags.{IsFlag}
 use Rattle.book.specs.ClosedIntervals.{AreFromFirst, IsTight}
 use Rattle.book.specs.Meetings.{IsAtStage}
 use Rattle.book.specs.State.{State, time_of}
-use Rattle.book.specs.Brought.{signal_after, message_among, message_for, has_come, sent_with, brought}
-use Rattle.book.specs.Transitions.{trimmed_by, left, book_took}
+use Rattle.book.specs.Brought.{signal_to, message_among, message_for, has_come, sent_with, brought}
+use Rattle.book.specs.Transitions.{trimmed_by, barrier_left, book_taken}
 use Rattle.book.specs.Told.{IsTold}
 use Rattle.book.specs.Calls.{MaySignal, MayTake, MayTakeSome, MayTrim}
 use Rattle.book.proofs.Parts.Each.{is_at, item_at}
@@ -59,8 +59,9 @@ pub record IsReceiving (b : State) (p : ℕ) (k : Kind) : Type 0 where
   pub from : AreFromFirst b.closed
   pub tight : 1 < length b.times → IsTight b.closed.first b.times
 
-pub receiving : (b : State) (p : ℕ) (k : Kind) → MayTake b p k → IsReceiving b p k
-receiving b p k (s, h, told, waits) =
+receiving_by : (s : Sizes) (h : List Event) (b : State) (p : ℕ) (k : Kind) → IsTold s h b
+    → slice_get b.awaits p ≡ Some (Some k) → IsReceiving b p k
+receiving_by s h b p k told waits =
     let lt = is_processor s h b p (Some k) told waits in
     let transit_long = told.transit.long in
     let times_long = told.times.long in
@@ -112,13 +113,16 @@ receiving b p k (s, h, told, waits) =
           kept = λ q. told.within p q (time_of b p) (slice_get-get_or b.times p [] (omega arith));
         }
 
+pub receiving : (b : State) (p : ℕ) (k : Kind) → MayTake b p k → IsReceiving b p k
+receiving b p k may = receiving_by may.by.sizes may.by.history b p k may.by.told may.waits
+
 -- what was read is what p waits for
 pub reading : (b now : State) (all : List (Option Awaited)) (p : ℕ) (o : Option Awaited) → b.awaits ≡ map (option_map kind_of) all → b ≡ now → MayTakeSome now p → o ≡ slice_index_or all p o → (a : Awaited) → o ≡ Some a → IsReceiving b p (kind_of a)
 reading b now all p o kept same may is a some =
-    let r = receiving now p may.0 may.1 in
-    let read = ap (option_map kind_of) is ∙ sym (get_or-map (option_map kind_of) all p o) ∙ ap (λ (ks : List (Option Kind)). slice_index_or ks p (option_map kind_of o)) (sym kept) ∙ get_or_from_slice_get b.awaits p (Some may.0) (option_map kind_of o) (ap (λ (x : State). slice_get x.awaits p) same ∙ r.waits) in
+    let r = receiving now p may.kind may.take in
+    let read = ap (option_map kind_of) is ∙ sym (get_or-map (option_map kind_of) all p o) ∙ ap (λ (ks : List (Option Kind)). slice_index_or ks p (option_map kind_of o)) (sym kept) ∙ get_or_from_slice_get b.awaits p (Some may.kind) (option_map kind_of o) (ap (λ (x : State). slice_get x.awaits p) same ∙ r.waits) in
     let P : Kind → Type 0 = λ k. IsReceiving b p k in
-    subst P (same_Some may.0 (kind_of a) (sym read ∙ ap (option_map kind_of) some)) (subst (λ x. IsReceiving x p may.0) (sym same) r)
+    subst P (same_Some may.kind (kind_of a) (sym read ∙ ap (option_map kind_of) some)) (subst (λ x. IsReceiving x p may.kind) (sym same) r)
 
 -- a list of timestamps with another one of the same length
 pub all_long_set : (times : List (List ℕ)) (p : ℕ) (u : List ℕ) (n : ℕ) → length u ≡ n → ((i : ℕ) (t : List ℕ) → slice_get times i ≡ Some t → length t ≡ n) → (i : ℕ) (t : List ℕ) → slice_get (slice_set times p u) i ≡ Some t → length t ≡ n
@@ -156,16 +160,16 @@ taking_address n _ takes = tt
 
 -- the book after the take of a message, part by part
 pub took_is : (b : State) (p : ℕ) (k : Kind) (m : Letter) (u : List ℕ) (log : Log) (c : Closings) (waits : List (Option Kind)) (transit : List (Option Letter)) (barrier : Episodes) → log ≡ record b.journal { events = b.journal.events ++ event p k ∷ [] } → u ≡ join (time_of b p) m.time
-    → c ≡ trimmed_by b.closed (slice_set b.times p u) (length (slice_set b.times p u)) → waits ≡ slice_set b.awaits p None → transit ≡ slice_set b.transit p None → barrier ≡ left k b.barrier p → IsTrue (is_taking k)
-    → record b { journal = log; closed = c; times = slice_set b.times p u; awaits = waits; transit = transit; barrier = barrier } ≡ book_took b p k m
+    → c ≡ trimmed_by b.closed (slice_set b.times p u) (length (slice_set b.times p u)) → waits ≡ slice_set b.awaits p None → transit ≡ slice_set b.transit p None → barrier ≡ barrier_left k b.barrier p → IsTrue (is_taking k)
+    → record b { journal = log; closed = c; times = slice_set b.times p u; awaits = waits; transit = transit; barrier = barrier } ≡ book_taken b p k m
 took_is b p k m u log c waits transit barrier one two three set four five six =
     ap (λ (ws : List (Option Kind)). record b { journal = log; closed = c; times = slice_set b.times p u; awaits = ws; transit = transit; barrier = barrier }) set
     ∙ ap (λ (l : Log). record b { journal = l; closed = c; times = slice_set b.times p u; awaits = slice_set b.awaits p None; transit = transit; barrier = barrier }) one
     ∙ ap (λ (x : Closings). record b { journal = record b.journal { events = b.journal.events ++ event p k ∷ [] }; closed = x; times = slice_set b.times p u; awaits = slice_set b.awaits p None; transit = transit; barrier = barrier }) three
     ∙ ap (λ (v : List ℕ). record b { journal = record b.journal { events = b.journal.events ++ event p k ∷ [] }; closed = trimmed_by b.closed (slice_set b.times p v) (length (slice_set b.times p v)); times = slice_set b.times p v; awaits = slice_set b.awaits p None; transit = transit; barrier = barrier }) two
-    ∙ ap (λ (x : List (Option Letter)). record (book_took b p k m) { awaits = slice_set b.awaits p None; transit = x; barrier = barrier }) four
-    ∙ ap (λ (x : Episodes). record (book_took b p k m) { awaits = slice_set b.awaits p None; barrier = x }) five
-    ∙ ap (λ (w : Option Kind). record (book_took b p k m) { awaits = slice_set b.awaits p w }) (sym (takes_on k six))
+    ∙ ap (λ (x : List (Option Letter)). record (book_taken b p k m) { awaits = slice_set b.awaits p None; transit = x; barrier = barrier }) four
+    ∙ ap (λ (x : Episodes). record (book_taken b p k m) { awaits = slice_set b.awaits p None; barrier = x }) five
+    ∙ ap (λ (w : Option Kind). record (book_taken b p k m) { awaits = slice_set b.awaits p w }) (sym (takes_on k six))
   where
     takes_on : (a : Kind) → IsTrue (is_taking a) → awaited a ≡ None
     takes_on (Acquire l) takes = refl
@@ -214,6 +218,6 @@ signalled b now p f own time o same may own_is flag_is set =
       new_long = flag.time time at;
       kept = subst (λ (t : List ℕ). (q : ℕ) → slice_index b.closed.first q ≤ slice_index t q) (sym read) flag.kept;
       brings = ap (λ (t : List ℕ). between b.closed t time) read
-          ∙ ap (λ (x : Option (List ℕ)). sent_with (option_map (signal_after b.closed (time_of b p)) x)) (sym at)
+          ∙ ap (λ (x : Option (List ℕ)). sent_with (option_map (λ (t : List ℕ). signal_to b.closed t (time_of b p)) x)) (sym at)
           ∙ ap (λ (x : State). sent_with (message_for x p (Await f))) same;
     }

@@ -24,7 +24,7 @@ use Rattle.book.specs.Flags.{IsFlag}
 use Rattle.book.specs.Meetings.{IsBarrier}
 use Rattle.book.specs.ClosedIntervals.{AreContents}
 use Rattle.book.specs.State.{State, time_of}
-use Rattle.book.specs.Transitions.{closing, departing, met, book_arrived}
+use Rattle.book.specs.Transitions.{closed_by, departure_to, mail_met, book_arrived}
 use Rattle.book.specs.Told.{IsTold}
 use Rattle.book.proofs.Parts.Each.{each_kept, each_own}
 use Rattle.book.proofs.Parts.Doings.{last_cases, last_none, count_others, count_kept}
@@ -79,7 +79,7 @@ arrived_none s h p n same lacks _ posted allowed = absurd posted
 
 -- everyone's mail after an arrival
 arrived_mail : (s : Sizes) (h : List Event) (b c : State) (p : ℕ) (u : List ℕ) (full : Bool) → IsTold s h b → c.transit ≡ b.transit → length c.times ≡ s.processors → slice_get b.awaits p ≡ Some None → MayFollow s h (event p Arrive) → WellFormed s (did h p Arrive) → p < s.processors
-    → IsStamp s.processors (did h p Arrive) (InPast (did h p Arrive) p) u → is_full (joined b.barrier p u) ≡ full → AreAll s.processors (IsMail s (did h p Arrive)) (met full c (join b.barrier.gathered u))
+    → IsStamp s.processors (did h p Arrive) (InPast (did h p Arrive) p) u → is_full (joined b.barrier p u) ≡ full → AreAll s.processors (IsMail s (did h p Arrive)) (mail_met full c (join b.barrier.gathered u))
 arrived_mail s h b c p u false told same long idle may next lt time full = subst (λ ms. AreAll s.processors (IsMail s (did h p Arrive)) ms) (sym same)
     (each_own s.processors (IsMail s h) (IsMail s (did h p Arrive)) b.transit p told.transit
     (λ r o isnt at is. waits_mail s h p r waits.0.complete o may isnt waits.1 waits.0.lacks is)
@@ -93,20 +93,20 @@ arrived_mail s h b c p u false told same long idle may next lt time full = subst
 
     counts : count_of is_depart h p ≡ waits.0.complete
     counts = sym (idle_counts s h p told.well_formed free) ∙ waits.2
-arrived_mail s h b c p u true told same long idle may next lt time full = record { long = length-map c.times (λ (own : List ℕ). Some (departing c (join b.barrier.gathered u) own)) ∙ long; each = each }
+arrived_mail s h b c p u true told same long idle may next lt time full = record { long = length-map c.times (λ (own : List ℕ). Some (departure_to c.closed (join b.barrier.gathered u) own)) ∙ long; each = each }
   where
-    carries : (q : ℕ) → q < s.processors → (own : List ℕ) → IsMail s (did h p Arrive) q (Some (departing c (join b.barrier.gathered u) own))
+    carries : (q : ℕ) → q < s.processors → (own : List ℕ) → IsMail s (did h p Arrive) q (Some (departure_to c.closed (join b.barrier.gathered u) own))
     carries q less own =
         let x = completes_all s h p b.barrier u told.well_formed next (is_idle s h b p told idle) lt told.barrier time full q less in
         record { kind = Depart; lets = tt; allowed = x.0; time = x.1 }
 
-    each : (q : ℕ) (o : Option Letter) → slice_get (map (λ (own : List ℕ). Some (departing c (join b.barrier.gathered u) own)) c.times) q ≡ Some o → IsMail s (did h p Arrive) q o
+    each : (q : ℕ) (o : Option Letter) → slice_get (map (λ (own : List ℕ). Some (departure_to c.closed (join b.barrier.gathered u) own)) c.times) q ≡ Some o → IsMail s (did h p Arrive) q o
     each q o at =
-        let within = slice_get_within (map (λ (own : List ℕ). Some (departing c (join b.barrier.gathered u) own)) c.times) q o at in
-        let mapped = length-map c.times (λ (own : List ℕ). Some (departing c (join b.barrier.gathered u) own)) in
-        let there = slice_get-map (λ (own : List ℕ). Some (departing c (join b.barrier.gathered u) own)) c.times q in
+        let within = slice_get_within (map (λ (own : List ℕ). Some (departure_to c.closed (join b.barrier.gathered u) own)) c.times) q o at in
+        let mapped = length-map c.times (λ (own : List ℕ). Some (departure_to c.closed (join b.barrier.gathered u) own)) in
+        let there = slice_get-map (λ (own : List ℕ). Some (departure_to c.closed (join b.barrier.gathered u) own)) c.times q in
         let read = slice_get-get_or c.times q [] (omega arith) in
-        let is = same_Some (Some (departing c (join b.barrier.gathered u) (slice_index_or c.times q []))) o (sym (there ∙ ap (λ x. option_map (λ (own : List ℕ). Some (departing c (join b.barrier.gathered u) own)) x) read) ∙ at) in
+        let is = same_Some (Some (departure_to c.closed (join b.barrier.gathered u) (slice_index_or c.times q []))) o (sym (there ∙ ap (λ x. option_map (λ (own : List ℕ). Some (departure_to c.closed (join b.barrier.gathered u) own)) x) read) ∙ at) in
         subst (λ x. IsMail s (did h p Arrive) q x) is (carries q (omega arith) (slice_index_or c.times q []))
 
 -- the barrier after an arrival
@@ -116,12 +116,12 @@ arrived_barrier s h b p u false told idle next lt time full = (barrier_waits s h
 arrived_barrier s h b p u true told idle next lt time full = barrier_completes s h p b.barrier u told.well_formed next (is_idle s h b p told idle) lt told.barrier time full
 
 -- a departure that is made now has the notices that its receiver lacks
-met_notices : (full : Bool) (c : State) (u : List ℕ) (r : ℕ) (m : Letter) (t : List ℕ) → slice_get (met full c u) r ≡ Some (Some m) → slice_get c.times r ≡ Some t → (slice_get c.transit r ≡ Some (Some m) → m.notices ≡ between c.closed t m.time) → m.notices ≡ between c.closed t m.time
+met_notices : (full : Bool) (c : State) (u : List ℕ) (r : ℕ) (m : Letter) (t : List ℕ) → slice_get (mail_met full c u) r ≡ Some (Some m) → slice_get c.times r ≡ Some t → (slice_get c.transit r ≡ Some (Some m) → m.notices ≡ between c.closed t m.time) → m.notices ≡ between c.closed t m.time
 met_notices false c u r m t at time old = old at
 met_notices true c u r m t at time old =
-    let there = slice_get-map (λ (own : List ℕ). Some (departing c u own)) c.times r in
-    let is = same_Some (Some (departing c u t)) (Some m) (sym (there ∙ ap (λ x. option_map (λ (own : List ℕ). Some (departing c u own)) x) time) ∙ at) in
-    subst (λ x. x.notices ≡ between c.closed t x.time) (same_Some (departing c u t) m is) refl
+    let there = slice_get-map (λ (own : List ℕ). Some (departure_to c.closed u own)) c.times r in
+    let is = same_Some (Some (departure_to c.closed u t)) (Some m) (sym (there ∙ ap (λ x. option_map (λ (own : List ℕ). Some (departure_to c.closed u own)) x) time) ∙ at) in
+    subst (λ x. x.notices ≡ between c.closed t x.time) (same_Some (departure_to c.closed u t) m is) refl
 
 -- p arrives at the barrier
 pub told_arrive : (s : Sizes) (h : List Event) (b : State) (p : ℕ) (records : List Changes) → IsTold s h b → slice_get b.awaits p ≡ Some None → AreContents s h p (count_of is_closing h p) records → IsTold s (did h p Arrive) (book_arrived b p records)
@@ -135,8 +135,8 @@ told_arrive s h b p records told idle stored = record {
   barrier = arrived_barrier s h b p (tick (time_of b p) p) (is_full (joined b.barrier p (tick (time_of b p) p))) told idle well lt time refl;
   flags = each_kept s.flags (IsFlag s.processors h) (IsFlag s.processors (did h p Arrive)) b.flags told.flags (λ f o at is. flag_kept s.processors h p Arrive f o (λ e. absurd cc) is);
   awaits = awaits_set s h b p Arrive told;
-  transit = arrived_mail s h b (closing b p Arrive records) p (tick (time_of b p) p) (is_full (joined b.barrier p (tick (time_of b p) p))) told refl times.long idle may well lt time refl;
-  notices = λ r m t at now. met_notices (is_full (joined b.barrier p (tick (time_of b p) p))) (closing b p Arrive records) (join b.barrier.gathered (tick (time_of b p) p)) r m t at now (λ there. old_notices s h b p records r m t told lt (apart r m there) there now);
+  transit = arrived_mail s h b (closed_by b p Arrive records) p (tick (time_of b p) p) (is_full (joined b.barrier p (tick (time_of b p) p))) told refl times.long idle may well lt time refl;
+  notices = λ r m t at now. met_notices (is_full (joined b.barrier p (tick (time_of b p) p))) (closed_by b p Arrive records) (join b.barrier.gathered (tick (time_of b p) p)) r m t at now (λ there. old_notices s h b p records r m t told lt (apart r m there) there now);
   within = within_closing s h b p told lt;
   tight = tight_closing s h b p told lt;
 }

@@ -21,7 +21,7 @@ use Rattle.book.specs.Mail.{IsPosted, IsMail}
 use Rattle.book.specs.Flags.{IsFlag}
 use Rattle.book.specs.ClosedIntervals.{AreContents}
 use Rattle.book.specs.State.{State, time_of}
-use Rattle.book.specs.Transitions.{closing, set_at, book_set, book_watched, taken}
+use Rattle.book.specs.Transitions.{closed_by, flag_joined, book_set, book_watched, book_joined}
 use Rattle.book.specs.Told.{IsTold}
 use Rattle.book.proofs.Parts.Each.{each_set, each_kept, each_own, is_at}
 use Rattle.book.proofs.Parts.Stamps.{stamp_closing}
@@ -47,7 +47,7 @@ record IsPlainClosing (k : Kind) : Type 0 where
   arrive : k ≢ Arrive
 
 told_closing : (s : Sizes) (h : List Event) (b : State) (p : ℕ) (k : Kind) (records : List Changes) (flags : List (Option (List ℕ))) → IsTold s h b → slice_get b.awaits p ≡ Some None → MayFollow s h (event p k) → IsPlainClosing k
-    → AreAll s.flags (IsFlag s.processors (did h p k)) flags → AreContents s h p (count_of is_closing h p) records → IsTold s (did h p k) (record (closing b p k records) { flags = flags })
+    → AreAll s.flags (IsFlag s.processors (did h p k)) flags → AreContents s h p (count_of is_closing h p) records → IsTold s (did h p k) (record (closed_by b p k records) { flags = flags })
 told_closing s h b p k records flags told idle may plain all stored = record {
   well_formed = still_formed s h b p k told may;
   sizes = record { processors = told.sizes.processors; words = told.sizes.words; addresses = told.sizes.addresses; lockers = told.sizes.lockers };
@@ -75,9 +75,9 @@ told_closing s h b p k records flags told idle may plain all stored = record {
 
 -- p sets a flag
 pub told_set : (s : Sizes) (h : List Event) (b : State) (p f : ℕ) (records : List Changes) → IsTold s h b → f < s.flags → slice_get b.awaits p ≡ Some None → AreContents s h p (count_of is_closing h p) records → IsTold s (did h p (Set f)) (book_set b p f records)
-told_set s h b p f records told range idle stored = told_closing s h b p (Set f) records (slice_set b.flags f (Some (set_at (slice_index_or b.flags f None) (tick (time_of b p) p)))) told idle (follows s h b p (Set f) told idle range tt)
+told_set s h b p f records told range idle stored = told_closing s h b p (Set f) records (slice_set b.flags f (Some (flag_joined (slice_index_or b.flags f None) (tick (time_of b p) p)))) told idle (follows s h b p (Set f) told idle range tt)
     (record { takes = refl; closes = refl; arrives = refl; departs = refl; ask = λ l e. absurd cc; acquire = λ l e. absurd cc; release = λ l e. absurd cc; arrive = λ e. absurd cc })
-    (each_set s.flags (IsFlag s.processors h) (IsFlag s.processors (did h p (Set f))) b.flags f (Some (set_at (slice_index_or b.flags f None) (tick (time_of b p) p))) told.flags
+    (each_set s.flags (IsFlag s.processors h) (IsFlag s.processors (did h p (Set f))) b.flags f (Some (flag_joined (slice_index_or b.flags f None) (tick (time_of b p) p))) told.flags
     (λ g o isnt at is. flag_kept s.processors h p (Set f) g o (λ e. isnt (cc e)) is)
     (flag_set s.processors h p f (slice_index_or b.flags f None) (tick (time_of b p) p) (is_at s.flags (IsFlag s.processors h) b.flags f None told.flags range)
     (let lt = is_processor s h b p None told idle in stamp_closing s.processors h p (Set f) (time_of b p) lt refl refl (own_stamp s h b p told lt))))
@@ -111,7 +111,7 @@ watching_mail s h p i f (Some m) last mail = absurd (go mail.kind (lets_posted m
     go _ posted allowed = absurd posted
 
 -- p awaits a flag that is set
-pub told_signal : (s : Sizes) (h : List Event) (b : State) (p f : ℕ) (t : List ℕ) → IsTold s h b → slice_get b.awaits p ≡ Some (Some (Await f)) → slice_get b.flags f ≡ Some (Some t) → IsLoose s (did h p (Await f)) (taken b p (Await f) t)
+pub told_signal : (s : Sizes) (h : List Event) (b : State) (p f : ℕ) (t : List ℕ) → IsTold s h b → slice_get b.awaits p ≡ Some (Some (Await f)) → slice_get b.flags f ≡ Some (Some t) → IsLoose s (did h p (Await f)) (book_joined b p (Await f) t)
 told_signal s h b p f t told waits set = record {
   well_formed = still_formed s h b p (Await f) told may;
   sizes = record { processors = told.sizes.processors; words = told.sizes.words; addresses = told.sizes.addresses; lockers = told.sizes.lockers };

@@ -29,7 +29,7 @@ use Rattle.book.specs.Mail.{IsPosted, IsMail}
 use Rattle.book.specs.Flags.{IsFlag}
 use Rattle.book.specs.ClosedIntervals.{AreContents}
 use Rattle.book.specs.State.{State, time_of}
-use Rattle.book.specs.Transitions.{closing, granted, due, passed_on, book_asked, book_released}
+use Rattle.book.specs.Transitions.{closed_by, grant_from, if_free, mail_passed_on, book_asked, book_released}
 use Rattle.book.specs.Told.{IsTold}
 use Rattle.book.proofs.Parts.Each.{each_set, each_kept, each_own, is_at}
 use Rattle.book.proofs.Parts.Doings.{last_cases, last_none, holds_back}
@@ -91,7 +91,7 @@ line_passed n h p l o xs t none held is =
 
 -- the mail of one who asks: a grant where nobody stands before it
 asked_mail : (s : Sizes) (h : List Event) (p l : ℕ) (o : Option ℕ) (xs t : List ℕ) (notices : List SentRecord) → NoAsk h p l → ¬ Holds h p l → IsLock s.processors h l (record { holder = o; queue = xs; time = t })
-    → IsMail s (did h p (Ask l)) p (due o (record { kind = grant; time = t; notices = notices }))
+    → IsMail s (did h p (Ask l)) p (if_free o (record { kind = grant; time = t; notices = notices }))
 asked_mail s h p l None (y ∷ xs) t notices none free is = absurd (cc (is.held refl))
 asked_mail s h p l None [] t notices none free is =
     let now = lock_asked s.processors h p l None [] t none free is in
@@ -115,12 +115,12 @@ asked_mail s h p l (Some q) xs t notices none free is = mail
     mail Depart posted allowed = last_none h p (Ask l) allowed.0 Arrive (λ e. absurd cc) allowed.1
     mail _ posted allowed = absurd posted
 
-due_is : (o : Option ℕ) (m n : Letter) → due o m ≡ Some n → m ≡ n
+due_is : (o : Option ℕ) (m n : Letter) → if_free o m ≡ Some n → m ≡ n
 due_is None m n e = same_Some m n e
 due_is (Some q) m n e = absurd (none-some n e)
 
 -- a message that is made now has the notices that its receiver lacks
-pub granted_notices : (c : State) (r : ℕ) (u t : List ℕ) (m : Letter) → slice_get c.times r ≡ Some t → granted c r u ≡ m → m.notices ≡ between c.closed t m.time
+pub granted_notices : (c : State) (r : ℕ) (u t : List ℕ) (m : Letter) → slice_get c.times r ≡ Some t → grant_from c r u ≡ m → m.notices ≡ between c.closed t m.time
 granted_notices c r u t m at is = subst (λ x. x.notices ≡ between c.closed t x.time) is (ap (λ own. between c.closed own u) (get_or_from_slice_get c.times r t [] at))
 
 -- p asks for a lock
@@ -137,16 +137,16 @@ told_ask s h b p l records told range idle free stored = record {
   barrier = barrier_kept s h p (Ask l) b.barrier refl refl told.barrier;
   flags = each_kept s.flags (IsFlag s.processors h) (IsFlag s.processors (did h p (Ask l))) b.flags told.flags (λ f o at is. flag_kept s.processors h p (Ask l) f o (λ e. absurd cc) is);
   awaits = awaits_set s h b p (Ask l) told;
-  transit = each_set s.processors (IsMail s h) (IsMail s (did h p (Ask l))) b.transit p (due (lock_at b.locks l).holder (granted c p (lock_at b.locks l).time)) told.transit
+  transit = each_set s.processors (IsMail s h) (IsMail s (did h p (Ask l))) b.transit p (if_free (lock_at b.locks l).holder (grant_from c p (lock_at b.locks l).time)) told.transit
       (λ r o isnt at is. mail_kept s h p (Ask l) r o may isnt (λ m e. absurd cc) (λ e. absurd cc) is)
-      (asked_mail s h p l (lock_at b.locks l).holder (lock_at b.locks l).queue (lock_at b.locks l).time (granted c p (lock_at b.locks l).time).notices none free lock);
+      (asked_mail s h p l (lock_at b.locks l).holder (lock_at b.locks l).queue (lock_at b.locks l).time (grant_from c p (lock_at b.locks l).time).notices none free lock);
   notices = notices;
   within = within_closing s h b p told lt;
   tight = tight_closing s h b p told lt;
 }
   where
     c : State
-    c = closing b p (Ask l) records
+    c = closed_by b p (Ask l) records
 
     lt : p < s.processors
     lt = is_processor s h b p None told idle
@@ -160,14 +160,14 @@ told_ask s h b p l records told range idle free stored = record {
     lock : IsLock s.processors h l (lock_at b.locks l)
     lock = is_at s.locks (IsLock s.processors h) b.locks.locks l (unheld b.locks.processors) told.locks range
 
-    notices : (r : ℕ) (m : Letter) (t : List ℕ) → slice_get (slice_set b.transit p (due (lock_at b.locks l).holder (granted (closing b p (Ask l) records) p (lock_at b.locks l).time))) r ≡ Some (Some m) → slice_get (closing b p (Ask l) records).times r ≡ Some t → m.notices ≡ between (closing b p (Ask l) records).closed t m.time
+    notices : (r : ℕ) (m : Letter) (t : List ℕ) → slice_get (slice_set b.transit p (if_free (lock_at b.locks l).holder (grant_from (closed_by b p (Ask l) records) p (lock_at b.locks l).time))) r ≡ Some (Some m) → slice_get (closed_by b p (Ask l) records).times r ≡ Some t → m.notices ≡ between (closed_by b p (Ask l) records).closed t m.time
     notices r m t at time = elim (cases_eq r p) [
       | inl is ↦ (
-          let P : ℕ → Type 0 = λ x. slice_get (slice_set b.transit p (due (lock_at b.locks l).holder (granted (closing b p (Ask l) records) p (lock_at b.locks l).time))) x ≡ Some (Some m) in
-          let Q : ℕ → Type 0 = λ x. slice_get (closing b p (Ask l) records).times x ≡ Some t in
-          let found = slice_get-set_found b.transit p (due (lock_at b.locks l).holder (granted (closing b p (Ask l) records) p (lock_at b.locks l).time)) (Some m) (subst P is at) in
-          granted_notices (closing b p (Ask l) records) p (lock_at b.locks l).time t m (subst Q is time) (due_is (lock_at b.locks l).holder (granted (closing b p (Ask l) records) p (lock_at b.locks l).time) m found))
-      | inr isnt ↦ old_notices s h b p records r m t told lt isnt (sym (slice_get-set_other b.transit p r (due (lock_at b.locks l).holder (granted (closing b p (Ask l) records) p (lock_at b.locks l).time)) isnt) ∙ at) time
+          let P : ℕ → Type 0 = λ x. slice_get (slice_set b.transit p (if_free (lock_at b.locks l).holder (grant_from (closed_by b p (Ask l) records) p (lock_at b.locks l).time))) x ≡ Some (Some m) in
+          let Q : ℕ → Type 0 = λ x. slice_get (closed_by b p (Ask l) records).times x ≡ Some t in
+          let found = slice_get-set_found b.transit p (if_free (lock_at b.locks l).holder (grant_from (closed_by b p (Ask l) records) p (lock_at b.locks l).time)) (Some m) (subst P is at) in
+          granted_notices (closed_by b p (Ask l) records) p (lock_at b.locks l).time t m (subst Q is time) (due_is (lock_at b.locks l).holder (grant_from (closed_by b p (Ask l) records) p (lock_at b.locks l).time) m found))
+      | inr isnt ↦ old_notices s h b p records r m t told lt isnt (sym (slice_get-set_other b.transit p r (if_free (lock_at b.locks l).holder (grant_from (closed_by b p (Ask l) records) p (lock_at b.locks l).time)) isnt) ∙ at) time
     ]
 
 -- the others' mail when p releases the lock: news for the first of the queue alone
@@ -175,9 +175,9 @@ released_mail : (s : Sizes) (h : List Event) (p l r : ℕ) (xs : List ℕ) (o : 
 released_mail s h p l r xs o may isnt line behind mail = mail_unless s h p (Release l) r o may isnt never mail
   where
     never : (a : Kind) → IsPosted a → News (Release l) a → ¬ Allowed s (did h p (Release l)) r a
-    never (Acquire m) posted news (i, last, granted) =
+    never (Acquire m) posted news (i, last, grant_from) =
         let same : m ≡ l = cc in
-        behind (first_allowed (did h p (Release l)) r l i xs (subst (λ x. LastIs (did h p (Release l)) r i (Ask x)) same last) (subst (λ x. MayBeGranted (did h p (Release l)) i x) same granted) line)
+        behind (first_allowed (did h p (Release l)) r l i xs (subst (λ x. LastIs (did h p (Release l)) r i (Ask x)) same last) (subst (λ x. MayBeGranted (did h p (Release l)) i x) same grant_from) line)
     never Depart posted news allowed = absurd cc
     never _ posted news allowed = absurd posted
 
@@ -190,11 +190,11 @@ released_free s h p l well held q after = elim (holds_cases h (event p (Release 
 
 -- everyone's mail after a release
 mail_released : (s : Sizes) (h : List Event) (c : State) (p l : ℕ) (xs u : List ℕ) → WellFormed s h → MayFollow s h (event p (Release l)) → IsIdle h p → Holds h p l → IsLine (did h p (Release l)) l xs
-    → IsStamp s.processors (did h p (Release l)) (UpToSome (did h p (Release l)) (SomeDoes (did h p (Release l)) (Release l))) u → AreAll s.processors (IsMail s h) c.transit → AreAll s.processors (IsMail s (did h p (Release l))) (passed_on c xs u)
+    → IsStamp s.processors (did h p (Release l)) (UpToSome (did h p (Release l)) (SomeDoes (did h p (Release l)) (Release l))) u → AreAll s.processors (IsMail s h) c.transit → AreAll s.processors (IsMail s (did h p (Release l))) (mail_passed_on c xs u)
 mail_released s h c p l [] u well may idle held line time all = each_own s.processors (IsMail s h) (IsMail s (did h p (Release l))) c.transit p all
     (λ r o isnt at is. released_mail s h p l r [] o may isnt line (none-some r) is)
     (λ o at is. own_idle s h p (Release l) o idle (λ m e. absurd cc) (λ e. absurd cc) is)
-mail_released s h c p l (q ∷ xs) u well may idle held line time all = each_set s.processors (IsMail s h) (IsMail s (did h p (Release l))) c.transit q (Some (granted c q u)) all others
+mail_released s h c p l (q ∷ xs) u well may idle held line time all = each_set s.processors (IsMail s h) (IsMail s (did h p (Release l))) c.transit q (Some (grant_from c q u)) all others
     (record { kind = Acquire l; lets = tt; allowed = allowed_first (did h p (Release l)) q l (q ∷ xs) (released_free s h p l well held) refl line; time = time })
   where
     others : (r : ℕ) (o : Option Letter) → r ≢ q → slice_get c.transit r ≡ Some o → IsMail s h r o → IsMail s (did h p (Release l)) r o
@@ -204,15 +204,15 @@ mail_released s h c p l (q ∷ xs) u well may idle held line time all = each_set
     ]
 
 -- the notices of messages that were there, and of the one that is posted
-passed_notices : (c : State) (xs u : List ℕ) (r : ℕ) (m : Letter) (t : List ℕ) → slice_get (passed_on c xs u) r ≡ Some (Some m) → slice_get c.times r ≡ Some t → (slice_get c.transit r ≡ Some (Some m) → m.notices ≡ between c.closed t m.time) → m.notices ≡ between c.closed t m.time
+passed_notices : (c : State) (xs u : List ℕ) (r : ℕ) (m : Letter) (t : List ℕ) → slice_get (mail_passed_on c xs u) r ≡ Some (Some m) → slice_get c.times r ≡ Some t → (slice_get c.transit r ≡ Some (Some m) → m.notices ≡ between c.closed t m.time) → m.notices ≡ between c.closed t m.time
 passed_notices c [] u r m t at time old = old at
 passed_notices c (q ∷ xs) u r m t at time old = elim (cases_eq r q) [
   | inl is ↦ (
-      let P : ℕ → Type 0 = λ x. slice_get (slice_set c.transit q (Some (granted c q u))) x ≡ Some (Some m) in
+      let P : ℕ → Type 0 = λ x. slice_get (slice_set c.transit q (Some (grant_from c q u))) x ≡ Some (Some m) in
       let Q : ℕ → Type 0 = λ x. slice_get c.times x ≡ Some t in
-      let found = slice_get-set_found c.transit q (Some (granted c q u)) (Some m) (subst P is at) in
-      granted_notices c q u t m (subst Q is time) (same_Some (granted c q u) m found))
-  | inr isnt ↦ old (sym (slice_get-set_other c.transit q r (Some (granted c q u)) isnt) ∙ at)
+      let found = slice_get-set_found c.transit q (Some (grant_from c q u)) (Some m) (subst P is at) in
+      granted_notices c q u t m (subst Q is time) (same_Some (grant_from c q u) m found))
+  | inr isnt ↦ old (sym (slice_get-set_other c.transit q r (Some (grant_from c q u)) isnt) ∙ at)
 ]
 
 -- p releases a lock that it holds
@@ -229,8 +229,8 @@ told_release s h b p l records told range idle held stored = record {
   barrier = barrier_kept s h p (Release l) b.barrier refl refl told.barrier;
   flags = each_kept s.flags (IsFlag s.processors h) (IsFlag s.processors (did h p (Release l))) b.flags told.flags (λ f o at is. flag_kept s.processors h p (Release l) f o (λ e. absurd cc) is);
   awaits = awaits_set s h b p (Release l) told;
-  transit = mail_released s h (closing b p (Release l) records) p l (lock_at b.locks l).queue (tick (time_of b p) p) told.well_formed may free held line_now time told.transit;
-  notices = λ r m t at now. passed_notices (closing b p (Release l) records) (lock_at b.locks l).queue (tick (time_of b p) p) r m t at now (λ there. old_notices s h b p records r m t told lt (apart r m there) there now);
+  transit = mail_released s h (closed_by b p (Release l) records) p l (lock_at b.locks l).queue (tick (time_of b p) p) told.well_formed may free held line_now time told.transit;
+  notices = λ r m t at now. passed_notices (closed_by b p (Release l) records) (lock_at b.locks l).queue (tick (time_of b p) p) r m t at now (λ there. old_notices s h b p records r m t told lt (apart r m there) there now);
   within = within_closing s h b p told lt;
   tight = tight_closing s h b p told lt;
 }

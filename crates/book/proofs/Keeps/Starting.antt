@@ -30,7 +30,7 @@ use Rattle.book.specs.Flags.{IsFlag}
 use Rattle.book.specs.State.{State}
 use Rattle.book.specs.Transitions.{new_book, appended, handed_in, least, trimmed_by}
 use Rattle.book.specs.Told.{HoldsSome, IsTold}
-use Rattle.book.specs.Laws.{IsInner}
+use Rattle.book.specs.Calls.{IsInner, IsBlockOf}
 use Rattle.book.proofs.Parts.Each.{each_kept, each_own, each_replicate}
 use Rattle.book.proofs.Parts.Doings.{awaited_on, awaited_now}
 use Rattle.book.proofs.Parts.Stamps.{stamp_none, stamp_others, stamp_quiet}
@@ -160,10 +160,10 @@ told_quiet s h b p k log same told idle takes closes range holds = record {
     may = follows s h b p k told idle range (plain.allowed s h p)
 
 -- p hands in a block of loads, stores and fetches
-pub told_block : (s : Sizes) (h block : List Event) (b : State) (p : ℕ) → IsTold s h b → slice_get b.awaits p ≡ Some None → ((k : ℕ) (e : Event) → At block k e → IsInner s p e) → IsTold s (h ++ block) (handed_in b block)
-told_block s h block b p told idle all = push_induction (λ es. ((k : ℕ) (e : Event) → At es k e → IsInner s p e) → IsTold s (h ++ es) (handed_in b es)) start step block all
+pub told_block : (s : Sizes) (h block : List Event) (b : State) (p : ℕ) → IsTold s h b → slice_get b.awaits p ≡ Some None → IsBlockOf s p block → IsTold s (h ++ block) (handed_in b block)
+told_block s h block b p told idle all = push_induction (λ es. IsBlockOf s p es → IsTold s (h ++ es) (handed_in b es)) start step block all
   where
-    start : ((k : ℕ) (e : Event) → At [] k e → IsInner s p e) → IsTold s (h ++ []) (handed_in b [])
+    start : IsBlockOf s p [] → IsTold s (h ++ []) (handed_in b [])
     start plain = told_journal s (h ++ []) b (appended b.journal []) (refl, refl) (history_on b.journal h [] told.holds) (rw append-nil told)
 
     pushed : (es : List Event) (e : Event) → IsInner s p e → IsTold s (h ++ es) (handed_in b es) → IsTold s (h ++ (es ++ e ∷ [])) (handed_in b (es ++ e ∷ []))
@@ -173,7 +173,7 @@ told_block s h block b p told idle all = push_induction (λ es. ((k : ℕ) (e : 
         let read = subst (λ f. IsTold s ((h ++ es) ++ f ∷ []) (record b { journal = record b.journal { events = (b.journal.events ++ es) ++ f ∷ [] } })) same one in
         subst₂ (λ xs ys. IsTold s xs (record b { journal = record b.journal { events = ys } })) (append_assoc h es (e ∷ [])) (append_assoc b.journal.events es (e ∷ [])) read
 
-    step : (es : List Event) (e : Event) → (((k : ℕ) (f : Event) → At es k f → IsInner s p f) → IsTold s (h ++ es) (handed_in b es)) → ((k : ℕ) (f : Event) → At (es ++ e ∷ []) k f → IsInner s p f) → IsTold s (h ++ (es ++ e ∷ [])) (handed_in b (es ++ e ∷ []))
+    step : (es : List Event) (e : Event) → (IsBlockOf s p es → IsTold s (h ++ es) (handed_in b es)) → IsBlockOf s p (es ++ e ∷ []) → IsTold s (h ++ (es ++ e ∷ [])) (handed_in b (es ++ e ∷ []))
     step es e ih plain = pushed es e (plain (length es) e (at_last es e)) (ih (λ k f at. plain k f (at_longer es (e ∷ []) k f at)))
 
 -- one owner's intervals that everyone's timestamp covers are trimmed

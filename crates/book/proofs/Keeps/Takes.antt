@@ -4,7 +4,7 @@ use Rattle.std.proofs.lemmas.List.{set-get_or}
 use Rattle.std.specs.Option.{option_map, is_some}
 use Rattle.journal.specs.Waits.{awaited}
 use Rattle.journal.specs.Pasts.{InPast}
-use Rattle.book.specs.Brought.{signal_after, message_for, has_come}
+use Rattle.book.specs.Brought.{signal_to, message_for, has_come}
 use Rattle.book.specs.Laws.{IsMessage}
 use Rattle.book.proofs.Keeps.Flags.{last_watch, watching_mail, told_signal, signal_ready}
 use Rattle.std.proofs.Common.{◌⊎◌, true, slice_index_or, ◌≡◌, ◌≢◌, ℕ, ◌<◌, inl, inr, ◌↔◌, List, [], ◌∷◌, false, Option, Some, None, IsTrue, slice_get, slice_set, subst, sym, refl, ap, ◌∙◌}
@@ -31,7 +31,7 @@ use Rattle.book.specs.Flags.{IsFlag}
 use Rattle.book.specs.Meetings.{IsBarrier}
 use Rattle.lockq.specs.Lock.{Lock}
 use Rattle.book.specs.State.{State, time_of}
-use Rattle.book.specs.Transitions.{left, taken, took}
+use Rattle.book.specs.Transitions.{barrier_left, book_joined, book_received}
 use Rattle.book.specs.Told.{IsTold}
 use Rattle.book.proofs.Parts.Each.{each_set, each_kept, item_at, is_at}
 use Rattle.book.proofs.Parts.Mail.{lets_posted, mail_kept, own_none}
@@ -68,7 +68,7 @@ took_lock s h p (Acquire m) l x posted (i, last, granted) is = elim (cases_eq m 
 took_lock s h p Depart l x posted (i, last, all) is = lock_kept s.processors h p Depart l x (λ e. absurd cc) (λ e. absurd cc) (λ e. absurd cc) (λ n ask. absurd (cc ((last_unique h p i n Arrive (Ask l) last ask).1))) is
 took_lock s h p _ l x posted allowed is = absurd posted
 
-took_barrier : (s : Sizes) (h : List Event) (b : State) (p : ℕ) (k : Kind) → IsTold s h b → p < s.processors → IsPosted k → Allowed s h p k → IsBarrier s (did h p k) (left k b.barrier p)
+took_barrier : (s : Sizes) (h : List Event) (b : State) (p : ℕ) (k : Kind) → IsTold s h b → p < s.processors → IsPosted k → Allowed s h p k → IsBarrier s (did h p k) (barrier_left k b.barrier p)
 took_barrier s h b p (Acquire l) told lt posted allowed = barrier_kept s h p (Acquire l) b.barrier refl refl told.barrier
 took_barrier s h b p Depart told lt posted allowed = barrier_departed s h p b.barrier told.well_formed allowed lt told.barrier
 took_barrier s h b p _ told lt posted allowed = absurd posted
@@ -88,7 +88,7 @@ takes_posted Depart posted = record { takes = refl; closes = refl; ask = λ m e.
 takes_posted _ posted = absurd posted
 
 -- p takes its mail
-pub told_take : (s : Sizes) (h : List Event) (b : State) (p : ℕ) (k : Kind) (m : Letter) → IsTold s h b → slice_get b.awaits p ≡ Some (Some k) → slice_get b.transit p ≡ Some (Some m) → IsLoose s (did h p k) (took b p k m)
+pub told_take : (s : Sizes) (h : List Event) (b : State) (p : ℕ) (k : Kind) (m : Letter) → IsTold s h b → slice_get b.awaits p ≡ Some (Some k) → slice_get b.transit p ≡ Some (Some m) → IsLoose s (did h p k) (book_received b p k m)
 told_take s h b p k m told waits mail = record {
   well_formed = still_formed s h b p k told may;
   sizes = record { processors = told.sizes.processors; words = told.sizes.words; addresses = told.sizes.addresses; lockers = told.sizes.lockers };
@@ -169,12 +169,12 @@ flag_at s h b p f told waits =
     let last = last_watch h p f (told.awaits.each p (Some (Await f)) waits) in
     item_at s.flags (IsFlag s.processors h) b.flags f None told.flags (told.well_formed last.0 (event p (Watch f)) last.1.does).in_range
 
-signal_is : (s : Sizes) (h : List Event) (b : State) (p f : ℕ) (m : Letter) (o : Option (List ℕ)) → IsTold s h b → slice_get b.awaits p ≡ Some (Some (Await f)) → slice_get b.flags f ≡ Some o → option_map (signal_after b.closed (time_of b p)) o ≡ Some m → IsMessage s h b p (Await f) m
+signal_is : (s : Sizes) (h : List Event) (b : State) (p f : ℕ) (m : Letter) (o : Option (List ℕ)) → IsTold s h b → slice_get b.awaits p ≡ Some (Some (Await f)) → slice_get b.flags f ≡ Some o → option_map (λ (t : List ℕ). signal_to b.closed t (time_of b p)) o ≡ Some m → IsMessage s h b p (Await f) m
 signal_is s h b p f m None told waits at is = absurd (none-some m is)
 signal_is s h b p f m (Some t) told waits at is =
     let last = last_watch h p f (told.awaits.each p (Some (Await f)) waits) in
     let flag : IsFlag s.processors h f (Some t) = told.flags.each f (Some t) at in
-    subst (IsMessage s h b p (Await f)) (same_Some (signal_after b.closed (time_of b p) t) m is) (record { allowed = (last.0, flag.0.0, flag.0.1.0, last.1, flag.0.1.1); time = flag.1; notices = refl })
+    subst (IsMessage s h b p (Await f)) (same_Some (signal_to b.closed t (time_of b p)) m is) (record { allowed = (last.0, flag.0.0, flag.0.1.0, last.1, flag.0.1.1); time = flag.1; notices = refl })
 
 -- p's message lets p go on
 pub message_is : (s : Sizes) (h : List Event) (b : State) (p : ℕ) (k : Kind) (m : Letter) → IsTold s h b → slice_get b.awaits p ≡ Some (Some k) → message_for b p k ≡ Some m → IsMessage s h b p k m
@@ -189,14 +189,14 @@ no_mail_waits s h b p f told waits =
     let none = watching_mail s h p last.0 f (slice_index_or b.transit p None) last.1 (is_at s.processors (IsMail s h) b.transit p None told.transit lt) in
     sym (set-get_or b.transit p None) ∙ ap (λ (o : Option Letter). slice_set b.transit p o) (sym none)
 
-signal_took : (s : Sizes) (h : List Event) (b : State) (p f : ℕ) (m : Letter) (o : Option (List ℕ)) → IsTold s h b → slice_get b.awaits p ≡ Some (Some (Await f)) → slice_get b.flags f ≡ Some o → option_map (signal_after b.closed (time_of b p)) o ≡ Some m → IsLoose s (did h p (Await f)) (took b p (Await f) m)
+signal_took : (s : Sizes) (h : List Event) (b : State) (p f : ℕ) (m : Letter) (o : Option (List ℕ)) → IsTold s h b → slice_get b.awaits p ≡ Some (Some (Await f)) → slice_get b.flags f ≡ Some o → option_map (λ (t : List ℕ). signal_to b.closed t (time_of b p)) o ≡ Some m → IsLoose s (did h p (Await f)) (book_received b p (Await f) m)
 signal_took s h b p f m None told waits at is = absurd (none-some m is)
 signal_took s h b p f m (Some t) told waits at is =
-    subst (λ x. IsLoose s (did h p (Await f)) (took b p (Await f) x)) (same_Some (signal_after b.closed (time_of b p) t) m is)
-    (subst (λ ts. IsLoose s (did h p (Await f)) (record (taken b p (Await f) t) { transit = ts })) (no_mail_waits s h b p f told waits) (told_signal s h b p f t told waits at))
+    subst (λ x. IsLoose s (did h p (Await f)) (book_received b p (Await f) x)) (same_Some (signal_to b.closed t (time_of b p)) m is)
+    (subst (λ ts. IsLoose s (did h p (Await f)) (record (book_joined b p (Await f) t) { transit = ts })) (no_mail_waits s h b p f told waits) (told_signal s h b p f t told waits at))
 
 -- p takes its message
-pub told_took : (s : Sizes) (h : List Event) (b : State) (p : ℕ) (k : Kind) (m : Letter) → IsTold s h b → slice_get b.awaits p ≡ Some (Some k) → message_for b p k ≡ Some m → IsLoose s (did h p k) (took b p k m)
+pub told_took : (s : Sizes) (h : List Event) (b : State) (p : ℕ) (k : Kind) (m : Letter) → IsTold s h b → slice_get b.awaits p ≡ Some (Some k) → message_for b p k ≡ Some m → IsLoose s (did h p k) (book_received b p k m)
 told_took s h b p (Await f) m told waits is = signal_took s h b p f m (slice_index_or b.flags f None) told waits (flag_at s h b p f told waits) is
 told_took s h b p _ m told waits is = told_take s h b p _ m told waits (mail_at s h b p m told (is_processor s h b p (Some _) told waits) is)
 

@@ -14,9 +14,10 @@ use Rattle.journal.specs.WellFormed.{Holds}
 use Rattle.journal.proofs.Order.Places.{at_longer, at_last}
 use Rattle.journal.specs.Did.{did}
 use Rattle.book.specs.State.{State}
-use Rattle.book.specs.Transitions.{handed_in, handed_last, took, book_took}
+use Rattle.book.specs.Transitions.{handed_in, handed_last, book_received, book_taken}
 use Rattle.book.specs.Told.{IsTold}
-use Rattle.book.specs.Laws.{IsInner, MayHandIn, NewLaw, HandInLaw, LastLaw, AskLaw, ReleaseLaw, ArriveLaw, SetLaw, WatchLaw, TakeLaw, CutLaw, MessageLaw, NewsLaw, NewsOrderLaw}
+use Rattle.book.specs.Calls.{IsBlockOf, MayHandIn}
+use Rattle.book.specs.Laws.{NewLaw, HandInLaw, LastLaw, AskLaw, ReleaseLaw, ArriveLaw, SetLaw, WatchLaw, TakeLaw, CutLaw, MessageLaw, NewsLaw, NewsOrderLaw}
 use Rattle.book.proofs.Parts.History.{history_room, history_cut}
 use Rattle.book.proofs.Parts.Loose.{tightened, least_few}
 use Rattle.book.proofs.Parts.Tight.{tight_trimmed}
@@ -30,10 +31,10 @@ use Rattle.book.proofs.Keeps.Flags.{told_set, told_watch}
 use Rattle.book.proofs.Keeps.Takes.{told_took, message_is}
 
 -- a block of loads, stores and fetches leaves who holds a lock
-pub holds_block : (s : Sizes) (h block : List Event) (p l : ℕ) → ((k : ℕ) (e : Event) → At block k e → IsInner s p e) → Holds (h ++ block) p l ↔ Holds h p l
-holds_block s h block p l = push_induction (λ es. ((k : ℕ) (e : Event) → At es k e → IsInner s p e) → Holds (h ++ es) p l ↔ Holds h p l) (λ inner. rw append-nil ((λ x. x), (λ x. x))) step block
+pub holds_block : (s : Sizes) (h block : List Event) (p l : ℕ) → IsBlockOf s p block → Holds (h ++ block) p l ↔ Holds h p l
+holds_block s h block p l = push_induction (λ es. IsBlockOf s p es → Holds (h ++ es) p l ↔ Holds h p l) (λ inner. rw append-nil ((λ x. x), (λ x. x))) step block
   where
-    step : (es : List Event) (e : Event) → (((k : ℕ) (f : Event) → At es k f → IsInner s p f) → Holds (h ++ es) p l ↔ Holds h p l) → ((k : ℕ) (f : Event) → At (es ++ e ∷ []) k f → IsInner s p f) → Holds (h ++ (es ++ e ∷ [])) p l ↔ Holds h p l
+    step : (es : List Event) (e : Event) → (IsBlockOf s p es → Holds (h ++ es) p l ↔ Holds h p l) → IsBlockOf s p (es ++ e ∷ []) → Holds (h ++ (es ++ e ∷ [])) p l ↔ Holds h p l
     step es e ih inner =
         let old = ih (λ k f at. inner k f (at_longer es (e ∷ []) k f at)) in
         let x = inner (length es) e (at_last es e) in
@@ -51,7 +52,7 @@ new_law s some = told_new s some
 nothing_told : (s : Sizes) (h : List Event) (b : State) → IsTold s h b → IsTold s (h ++ []) (handed_in b [])
 nothing_told s h b told = subst (λ es. IsTold s es (handed_in b [])) (sym (append-nil h)) (subst (λ (es : List Event). IsTold s h (record b { journal = record b.journal { events = es } })) (sym (append-nil b.journal.events)) told)
 
-given_told : (s : Sizes) (h block : List Event) (b : State) (p : ℕ) (w : Option Kind) → IsTold s h b → slice_get b.awaits p ≡ Some w → (w ≢ None → block ≡ []) → ((k : ℕ) (e : Event) → At block k e → IsInner s p e) → IsTold s (h ++ block) (handed_in b block)
+given_told : (s : Sizes) (h block : List Event) (b : State) (p : ℕ) (w : Option Kind) → IsTold s h b → slice_get b.awaits p ≡ Some w → (w ≢ None → block ≡ []) → IsBlockOf s p block → IsTold s (h ++ block) (handed_in b block)
 given_told s h block b p None told at none inner = block_told s h block b p told (record { idle = at; inner = inner })
 given_told s h block b p (Some k) told at none inner = subst (λ es. IsTold s (h ++ es) (handed_in b es)) (sym (none (λ e. none-some k (sym e)))) (nothing_told s h b told)
 
@@ -84,8 +85,8 @@ take_law s h b p k m told waits is =
     let long = next.times.long in
     let lt = is_processor s h b p (Some k) told waits in
     let first = next.closed.first_long in
-    let trimmed = told_trimmed s (did h p k) (took b p k m) (length (took b p k m).times) (omega arith) next in
-    tightened s (did h p k) (book_took b p k m) trimmed (tight_trimmed b.closed (took b p k m).times (length (took b p k m).times) (omega arith) (omega arith) (λ q less. least_few s (did h p k) (took b p k m) q next (omega arith)))
+    let trimmed = told_trimmed s (did h p k) (book_received b p k m) (length (book_received b p k m).times) (omega arith) next in
+    tightened s (did h p k) (book_taken b p k m) trimmed (tight_trimmed b.closed (book_received b p k m).times (length (book_received b p k m).times) (omega arith) (omega arith) (λ q less. least_few s (did h p k) (book_received b p k m) q next (omega arith)))
 
 pub cut_law : CutLaw
 cut_law s h old new told was =

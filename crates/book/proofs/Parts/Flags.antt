@@ -12,7 +12,7 @@ use Rattle.journal.proofs.Times.Kept.{does_kept, kind_kept, kind_joins}
 use Rattle.journal.specs.Did.{event, did}
 use Rattle.book.specs.Stamps.{IsStamp}
 use Rattle.book.specs.Flags.{IsFlag}
-use Rattle.book.specs.Transitions.{set_at}
+use Rattle.book.specs.Transitions.{flag_joined}
 use Rattle.book.proofs.Parts.Stamps.{stamp_equal, stamp_join}
 use Rattle.book.proofs.Parts.Mail.{other_kind}
 
@@ -25,7 +25,7 @@ flag_kept n h p k f (Some t) isnt x = (
 )
 
 -- a set joins its timestamp
-pub flag_set : (n : ℕ) (h : List Event) (p f : ℕ) (o : Option (List ℕ)) (t : List ℕ) → IsFlag n h f o → IsStamp n (did h p (Set f)) (InPast (did h p (Set f)) p) t → IsFlag n (did h p (Set f)) f (Some (set_at o t))
+pub flag_set : (n : ℕ) (h : List Event) (p f : ℕ) (o : Option (List ℕ)) (t : List ℕ) → IsFlag n h f o → IsStamp n (did h p (Set f)) (InPast (did h p (Set f)) p) t → IsFlag n (did h p (Set f)) f (Some (flag_joined o t))
 flag_set n h p f None t none x = (
   (length h, (p, at_last h (event p (Set f)))),
   stamp_equal n (did h p (Set f)) (UpToSome (did h p (Set f)) (SomeDoes (did h p (Set f)) (Set f))) t (λ q. max 0 (slice_index t q)) x.long (λ q. zero-max (slice_index t q))

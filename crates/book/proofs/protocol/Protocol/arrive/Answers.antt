@@ -8,7 +8,7 @@ use Rattle.transit.specs.Letters.{letter}
 use Rattle.transit.specs.declared.message.Message.{Message}
 use Rattle.vtime.specs.Times.{tick}
 use Rattle.book.specs.State.{State, time_of}
-use Rattle.book.specs.Transitions.{handed_in, open_interval, closing}
+use Rattle.book.specs.Transitions.{handed_in, open_interval, closed_by}
 use Rattle.interval.specs.Intervals.{ClosedInterval}
 use Rattle.interval.specs.Closings.{pushed}
 use Rattle.barrier.specs.declared.episodes.Stage.TheVariants.{Away}
@@ -66,7 +66,7 @@ departures_with-requires-clause-all c =
 pub arrive-requires-clause-away : goal.arrive-requires-clause-away
 arrive-requires-clause-away c =
     let same = ap (λ (l : Log). record (state_of c.self.inside) { journal = record l { room = c.self.inside.owing } }) c.in_ok-make_room.ensures.same ∙ c.self.view_is in
-    let is = c.self-2.view_is ∙ c.in_ok-close.ensures.ok ∙ closed_records _ c.args.block.now c.args.p Arrive c.open_interval-interval.result (map arc_value c.args.records.items) c.open_interval-interval.ensures ∙ ap (λ (b : State). closing (handed_in b c.args.block.now) c.args.p Arrive (map arc_value c.args.records.items)) same in
+    let is = c.self-2.view_is ∙ c.in_ok-close.ensures.ok ∙ closed_records _ c.args.block.now c.args.p Arrive c.open_interval-interval.result (map arc_value c.args.records.items) c.open_interval-interval.ensures ∙ ap (λ (b : State). closed_by (handed_in b c.args.block.now) c.args.p Arrive (map arc_value c.args.records.items)) same in
     ap (λ (b : State). slice_get b.barrier.stages c.args.p) is ∙ (arriving c.args.self.now c.args.p c.args.block.now c.requires.call).away
 
 pub arrive-requires-clause-long : goal.arrive-requires-clause-long
@@ -74,14 +74,14 @@ arrive-requires-clause-long c =
     let arr = arrives (state_of c.self.inside) c.args.self.now c.args.p c.args.block.now c.self.view_is c.requires.call in
     let ticked : c.closing_time-time.result ≡ tick (time_of (state_of c.self.inside) c.args.p) c.args.p = c.closing_time-time.ensures in
     let same = ap (λ (l : Log). record (state_of c.self.inside) { journal = record l { room = c.self.inside.owing } }) c.in_ok-make_room.ensures.same ∙ c.self.view_is in
-    let is = c.self-2.view_is ∙ c.in_ok-close.ensures.ok ∙ closed_records _ c.args.block.now c.args.p Arrive c.open_interval-interval.result (map arc_value c.args.records.items) c.open_interval-interval.ensures ∙ ap (λ (b : State). closing (handed_in b c.args.block.now) c.args.p Arrive (map arc_value c.args.records.items)) same in
+    let is = c.self-2.view_is ∙ c.in_ok-close.ensures.ok ∙ closed_records _ c.args.block.now c.args.p Arrive c.open_interval-interval.result (map arc_value c.args.records.items) c.open_interval-interval.ensures ∙ ap (λ (b : State). closed_by (handed_in b c.args.block.now) c.args.p Arrive (map arc_value c.args.records.items)) same in
     ap (λ (t : List ℕ). length t) ticked ∙ length-set (time_of (state_of c.self.inside) c.args.p) c.args.p (slice_index (time_of (state_of c.self.inside) c.args.p) c.args.p + 1) ∙ arr.own_long ∙ sym arr.stages ∙ ap (λ (b : State). length b.barrier.stages) c.self.view_is ∙ sym (ap (λ (b : State). length b.barrier.stages) is)
 
 pub post_all-requires : goal.post_all-requires
 post_all-requires c =
     let ticked : c.closing_time-time.result ≡ tick (time_of (state_of c.self.inside) c.args.p) c.args.p = c.closing_time-time.ensures in
     let same = ap (λ (l : Log). record (state_of c.self.inside) { journal = record l { room = c.self.inside.owing } }) c.in_ok-make_room.ensures.same ∙ c.self.view_is in
-    let is = c.self-2.view_is ∙ c.in_ok-close.ensures.ok ∙ closed_records _ c.args.block.now c.args.p Arrive c.open_interval-interval.result (map arc_value c.args.records.items) c.open_interval-interval.ensures ∙ ap (λ (b : State). closing (handed_in b c.args.block.now) c.args.p Arrive (map arc_value c.args.records.items)) same in
+    let is = c.self-2.view_is ∙ c.in_ok-close.ensures.ok ∙ closed_records _ c.args.block.now c.args.p Arrive c.open_interval-interval.result (map arc_value c.args.records.items) c.open_interval-interval.ensures ∙ ap (λ (b : State). closed_by (handed_in b c.args.block.now) c.args.p Arrive (map arc_value c.args.records.items)) same in
     let time = ticked ∙ ap (λ (b : State). tick (time_of b c.args.p) c.args.p) c.self.view_is in
     let made = departures_made c.args.self.now (state_of c.self.inside) c.args.p (map arc_value c.args.records.items) c.open_interval-interval.result c.closing_time-time.result (option_map (λ (ms : Vec Message Global). map letter ms.items) c.in_ok-departures.departures) c.self.view_is c.open_interval-interval.ensures c.in_ok-departures.ensures in
     let some = sym (ap (λ (o : Option (Vec Message Global)). option_map (λ (ms : Vec Message Global). map letter ms.items) o) c.in-Some.is) ∙ made in
@@ -91,7 +91,7 @@ pub returns-clause-ok : goal.returns-clause-ok
 returns-clause-ok c =
     let ticked : c.closing_time-time.result ≡ tick (time_of (state_of c.self.inside) c.args.p) c.args.p = c.closing_time-time.ensures in
     let same = ap (λ (l : Log). record (state_of c.self.inside) { journal = record l { room = c.self.inside.owing } }) c.in_ok-make_room.ensures.same ∙ c.self.view_is in
-    let is = c.self-2.view_is ∙ c.in_ok-close.ensures.ok ∙ closed_records _ c.args.block.now c.args.p Arrive c.open_interval-interval.result (map arc_value c.args.records.items) c.open_interval-interval.ensures ∙ ap (λ (b : State). closing (handed_in b c.args.block.now) c.args.p Arrive (map arc_value c.args.records.items)) same in
+    let is = c.self-2.view_is ∙ c.in_ok-close.ensures.ok ∙ closed_records _ c.args.block.now c.args.p Arrive c.open_interval-interval.result (map arc_value c.args.records.items) c.open_interval-interval.ensures ∙ ap (λ (b : State). closed_by (handed_in b c.args.block.now) c.args.p Arrive (map arc_value c.args.records.items)) same in
     let time = ticked ∙ ap (λ (b : State). tick (time_of b c.args.p) c.args.p) c.self.view_is in
     let made = departures_made c.args.self.now (state_of c.self.inside) c.args.p (map arc_value c.args.records.items) c.open_interval-interval.result c.closing_time-time.result (option_map (λ (ms : Vec Message Global). map letter ms.items) c.in_ok-departures.departures) c.self.view_is c.open_interval-interval.ensures c.in_ok-departures.ensures in
     elim c.match-departures-2.branch [

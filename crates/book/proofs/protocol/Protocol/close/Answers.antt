@@ -8,7 +8,7 @@ use Rattle.interval.specs.Closings.{pushed}
 use Rattle.journal.specs.Did.{event}
 use Rattle.book.specs.Awaiting.{kind_of}
 use Rattle.book.specs.State.{State}
-use Rattle.book.specs.Transitions.{handed_in, open_interval, closing}
+use Rattle.book.specs.Transitions.{handed_in, open_interval, closed_by}
 use Rattle.book.specs.Holding.{state_of}
 use Rattle.book.proofs.Parts.History.{happened_fits}
 use Rattle.book.proofs.Calling.Calls.{stands, own_read, flushes, block_processors, block_addresses, closing_address, logs_are, closing_is}
@@ -66,4 +66,4 @@ returns-clause-ok c =
     let time = c.tick.ensures ∙ ap (λ ts. tick ts c.args.p) (own_read c.self.inside.times.items c.args.p c.index_mut.result.now (stands (state_of c.self.inside) c.args.self.now c.args.p c.args.block.now c.self.view_is c.requires.call).times c.index_mut.ensures.value) in
     let waits = map-set (option_map kind_of) c.self.inside.awaits.items c.args.p c.after.result ∙ ap (λ w. slice_set (map (option_map kind_of) c.self.inside.awaits.items) c.args.p w) c.after.ensures in
     let whole = closing_is (state_of c.self.inside) c.args.p c.args.kind c.args.block.now records (record c.append.new.self { room = c.self.inside.owing }) c.push.new.self c.tick.new.self (map (option_map kind_of) (slice_set c.self.inside.awaits.items c.args.p c.after.result)) log closed time waits in
-    whole ∙ ap (λ (b : State). closing (handed_in b c.args.block.now) c.args.p c.args.kind records) c.self.view_is
+    whole ∙ ap (λ (b : State). closed_by (handed_in b c.args.block.now) c.args.p c.args.kind records) c.self.view_is

@@ -12,7 +12,7 @@ use Rattle.book.specs.Brought.{message_for}
 use Rattle.book.specs.Calls.{MaySignal}
 use Rattle.book.specs.Holding.{state_of}
 use Rattle.book.specs.State.{State}
-use Rattle.book.specs.Transitions.{trimmed_by, book_took}
+use Rattle.book.specs.Transitions.{trimmed_by, book_taken}
 use Rattle.book.proofs.Calling.Calls.{own_read}
 use Rattle.book.proofs.Calling.Takes.{reading, may_trim, log_is, taking_address, took_is, comes, received_is, brings_is}
 use Rattle.book.proofs.protocol.Protocol.take.Goals as goal
@@ -113,7 +113,7 @@ returns-clause-ok c =
       kind = (kind_of c.in-Some.awaited);
       awaits = ap (λ (b : State). slice_get b.awaits c.args.p) (sym c.self.view_is) ∙ w.waits;
       message = ap (λ (b : State). message_for b c.args.p (kind_of c.in-Some.awaited)) (sym c.self.view_is) ∙ received_is (state_of c.self.inside) (state_of c.self.inside) c.args.p (kind_of c.in-Some.awaited) c.deref-2.result.now c.index-2.result.now (letter c.in_ok-message.message) refl c.deref-2.ensures.value (own_read c.self.inside.times.items c.args.p c.index-2.result.now w.times c.index-2.ensures) c.in_ok-message.ensures.ok;
-      after = whole ∙ ap (λ (b : State). book_took b c.args.p (kind_of c.in-Some.awaited) m) c.self.view_is;
+      after = whole ∙ ap (λ (b : State). book_taken b c.args.p (kind_of c.in-Some.awaited) m) c.self.view_is;
     }
 
 pub returns-clause-brings : goal.returns-clause-brings

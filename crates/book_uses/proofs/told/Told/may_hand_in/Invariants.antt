@@ -1,7 +1,7 @@
 use Rattle.std.proofs.Common.{ℕ, ◌<◌}
 use Rattle.journal.specs.declared.event.Event.{Event}
 use Rattle.journal.specs.Events.{At}
-use Rattle.book.specs.Laws.{IsInner}
+use Rattle.book.specs.Calls.{IsInner}
 use Rattle.book_uses.proofs.told.Told.may_hand_in.Given as goal
 
 abbrev pub invariant-loop-event : goal.invariant-loop-event
