@@ -1,6 +1,6 @@
 //! Vector timestamps of sixteen processors, for the race checker.
 
-ghost use Rattle.std.specs.Prelude.{◌≡◌, ◌⊎◌, ℕ, ◌+◌, ◌<◌, ◌≤◌, ◌^◌, ◌≢◌, ◌↔◌, ◌==◌, IsTrue, IfOk, OnOk, cond, max, length, slice_index, slice_index_or};
+ghost use Rattle.std.specs.Prelude.{◌≡◌, ℕ, ◌+◌, ◌<◌, ◌≤◌, ◌^◌, ◌≢◌, ◌↔◌, ◌==◌, IsTrue, IfOk, OnOk, cond, max, length, slice_index, slice_index_or};
 ghost use Rattle.std.specs.VecDeque.{deque_len};
 ghost use Rattle.journal.specs.Entries.{entry, kept_entry, IsJoinedAt};
 
@@ -98,15 +98,4 @@ pub(crate) fn join_in(
     join(&mut kept, clock);
     clocks[place] = kept;
     Ok(())
-}
-
-/// Sets the processor's entry of the timestamp at this place.
-pub(crate) fn set_at(clocks: &mut [Clock], place: usize, processor: usize, value: u32)
-    requires place { place < length clocks.old }
-    requires processor { processor < 16 }
-    ensures set { entry clocks.new place processor ≡ value }
-    ensures same { (n q : ℕ) → (n ≢ place) ⊎ (q ≢ processor) → entry clocks.new n q ≡ entry clocks.old n q }
-{
-    let clock = &mut clocks[place];
-    clock[processor] = value;
 }

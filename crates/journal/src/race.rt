@@ -1,25 +1,126 @@
-//! The first race of a journal, by vector timestamps (Mattern 1989; Fidge 1988).
+//! The first race of a journal, by vector timestamps (Mattern 1989; Fidge 1988) and by the last accesses of
+//! each address (FastTrack: Flanagan and Freund 2009).
 
-ghost use Rattle.std.specs.Prelude.{◌≡◌, ◌≢◌, ◌↔◌, ◌==◌, ℕ, ◌+◌, ◌<◌, ◌≤◌, ◌^◌, [], IsTrue, IfOk, MatchOption, cond, Some, length, take, slice_get, slice_index, vec_len};
+ghost use Rattle.std.specs.Prelude.{◌≡◌, ◌≢◌, ◌↔◌, ◌==◌, ℕ, ◌+◌, ◌<◌, ◌≤◌, ◌^◌, ◌%◌, [], IsTrue, IfOk, MatchOption, cond, Some, length, take, slice_get, slice_index, vec_len};
 ghost use Rattle.lists.specs.Limits.{most_held, most_processors};
 ghost use Rattle.journal.specs.Events.{address_of, is_closing};
 ghost use Rattle.journal.specs.Times.{IsTimeOf};
 ghost use Rattle.journal.specs.Races.{Conflict, Race, IsFirstRace, RaceFree};
 ghost use Rattle.journal.specs.InRange.{AddressInRange, AddressesInRange, ProcessorsInRange};
 ghost use Rattle.journal.specs.Entries.{entry};
-ghost use Rattle.journal.specs.Accesses.{AreAccesses, ConflictsAreCounted, IsNoted};
+ghost use Rattle.journal.specs.Accesses.{epoch_entry, loads_entry, AreWithin, AreLoadsAfter, AreAccesses, ConflictsAreCounted, IsNoted};
 
-use crate::clock::{Clock, others_are_within, set_at, tick};
+use crate::clock::{Clock, others_are_within, tick};
 use crate::clocks::Clocks;
 use crate::event::{Event, Kind};
 use crate::kinds::closes;
 use std::alloc::{AllocError, Global};
 
-/// Of each address and processor, one more than the interval of the processor's latest store to it and
-/// of its latest load of it; 0 where there is none.
+/// An access, as FastTrack's epoch: who made it, and one more than the number of its interval; 0 where there
+/// is none.
+#[derive(Clone, Copy)]
+struct Epoch {
+    processor: u8,
+    number: u32,
+}
+
+/// No access.
+const NONE: Epoch = Epoch {
+    processor: 0,
+    number: 0,
+};
+
+impl Epoch {
+    /// The processor, below 16.
+    fn processor(self) -> usize
+        ensures { result ≡ self.processor % 16 }
+    {
+        (self.processor % 16) as usize
+    }
+
+    /// Whether the access is the processor's own, or the timestamp counts its interval.
+    fn is_within(self, time: &Clock, processor: usize) -> bool
+        ensures { IsTrue result ↔ AreWithin (epoch_entry self) (slice_index time.now) processor }
+    {
+        let by = self.processor();
+        by == processor || self.number <= time[by]
+    }
+}
+
+/// The loads of an address since its last store.
+#[derive(Clone, Copy)]
+enum Loads {
+    /// All of them happen before the last one, or are it.
+    Last(Epoch),
+    /// Each happens before one of several, whose numbers stand in `Accesses::loads`.
+    Several,
+}
+
+/// The last accesses of an address, which all others of its accesses happen before.
+#[derive(Clone, Copy)]
+struct Access {
+    store: Epoch,
+    loads: Loads,
+}
+
+impl Access {
+    /// Whether the loads are the processor's own, or the timestamp counts their intervals.
+    fn loads_are_within(&self, several: &Clock, time: &Clock, processor: usize) -> bool
+        ensures { IsTrue result ↔ AreWithin (loads_entry self.now.loads several.now) (slice_index time.now) processor }
+    {
+        match self.loads {
+            Loads::Last(load) => load.is_within(time, processor),
+            Loads::Several => others_are_within(several, time, processor),
+        }
+    }
+
+    /// Takes note of a load by the processor, whose timestamp is this before it.
+    fn note_load(&mut self, several: &mut Clock, time: &Clock, processor: usize)
+        requires processor { processor < 16 }
+        requires interval { slice_index time.now processor < 2 ^ 22 }
+        ensures store { self.new.store ≡ self.old.store }
+        ensures loads { AreLoadsAfter (loads_entry self.old.loads several.old) (loads_entry self.new.loads several.new) (slice_index time.now) processor }
+    {
+        let number = time[processor] + 1;
+        match self.loads {
+            Loads::Last(load) if load.is_within(time, processor) => {
+                let processor = processor as u8;
+                self.loads = Loads::Last(Epoch { processor, number });
+            }
+            Loads::Last(load) => {
+                *several = [0; 16];
+                several[load.processor()] = load.number;
+                several[processor] = number;
+                self.loads = Loads::Several;
+            }
+            Loads::Several => several[processor] = number,
+        }
+    }
+
+    /// After a store by the processor, whose timestamp is this before it: all earlier accesses happen before
+    /// it.
+    fn of_store(time: &Clock, processor: usize) -> Access
+        requires processor { processor < 16 }
+        requires interval { slice_index time.now processor < 2 ^ 22 }
+        ensures { slice_index time.now processor < epoch_entry result.store processor }
+    {
+        let store = Epoch {
+            processor: processor as u8,
+            number: time[processor] + 1,
+        };
+        Access {
+            store,
+            loads: Loads::Last(NONE),
+        }
+    }
+}
+
+/// The last accesses of each address.
 #[derive(Drop)]
 struct Accesses {
-    stores: Vec<Clock>,
+    last: Vec<Access>,
+    /// Of each address with several last loads, of each processor the number of one of them, 0 where there is
+    /// none.
     loads: Vec<Clock>,
 }
 
@@ -28,25 +129,29 @@ impl Accesses {
     fn new(alloc: Global, addresses: usize) -> Result<Accesses, AllocError>
         ensures { IfOk result (λ x. AreAccesses [] addresses x) }
     {
+        let none = Access {
+            store: NONE,
+            loads: Loads::Last(NONE),
+        };
         Ok(Accesses {
-            stores: vec![in alloc; [0; 16]; addresses]?,
+            last: vec![in alloc; none; addresses]?,
             loads: vec![in alloc; [0; 16]; addresses]?,
         })
     }
 
-    /// Whether the timestamp counts the intervals of all earlier accesses by others that conflict with the
-    /// event.
+    /// Whether the timestamp counts the intervals of the last accesses by others that conflict with the event.
     fn are_counted(&self, event: Event, time: &Clock) -> bool
-        requires stores { AddressInRange (vec_len self.now.stores) event.kind }
+        requires last { AddressInRange (vec_len self.now.last) event.kind }
         requires loads { AddressInRange (vec_len self.now.loads) event.kind }
-        ensures { IsTrue result ↔ ConflictsAreCounted self.now event (slice_index time.now) }
+        ensures { IsTrue result ↔ ConflictsAreCounted self.now event.processor (slice_index time.now) event.kind }
     {
         let processor = event.processor;
         match event.kind {
-            Kind::Load(address, _) => others_are_within(&self.stores[address], time, processor),
+            Kind::Load(address, _) => self.last[address].store.is_within(time, processor),
             Kind::Store(address, _) => {
-                others_are_within(&self.stores[address], time, processor)
-                    && others_are_within(&self.loads[address], time, processor)
+                let access = &self.last[address];
+                access.store.is_within(time, processor)
+                    && access.loads_are_within(&self.loads[address], time, processor)
             }
             _ => true,
         }
@@ -56,21 +161,18 @@ impl Accesses {
     fn note(&mut self, event: Event, time: &Clock)
         requires processor { event.processor < 16 }
         requires interval { slice_index time.now event.processor < 2 ^ 22 }
-        requires stores { AddressInRange (vec_len self.old.stores) event.kind }
+        requires last { AddressInRange (vec_len self.old.last) event.kind }
         requires loads { AddressInRange (vec_len self.old.loads) event.kind }
-        ensures stores_long { vec_len self.new.stores ≡ vec_len self.old.stores }
+        ensures last_long { vec_len self.new.last ≡ vec_len self.old.last }
         ensures loads_long { vec_len self.new.loads ≡ vec_len self.old.loads }
-        ensures stores { IsNoted self.old.stores.items self.new.stores.items event.processor (slice_index time.now event.processor + 1) (λ a. (v : ℕ) × (event.kind ≡ Kind.Store a v)) }
-        ensures loads { IsNoted self.old.loads.items self.new.loads.items event.processor (slice_index time.now event.processor + 1) (λ a. (v : ℕ) × (event.kind ≡ Kind.Load a v)) }
+        ensures noted { IsNoted self.old self.new event.processor (slice_index time.now) event.kind }
     {
-        let interval = time[event.processor];
         match event.kind {
             Kind::Load(address, _) => {
-                set_at(&mut self.loads, address, event.processor, interval + 1);
+                let access = &mut self.last[address];
+                access.note_load(&mut self.loads[address], time, event.processor);
             }
-            Kind::Store(address, _) => {
-                set_at(&mut self.stores, address, event.processor, interval + 1);
-            }
+            Kind::Store(address, _) => self.last[address] = Access::of_store(time, event.processor),
             _ => {}
         }
     }
@@ -116,10 +218,10 @@ impl Accesses {
         requires at { slice_get events.now place ≡ Some event }
         requires few { length events.now ≤ most_held + most_processors }
         requires processors { ProcessorsInRange 16 events.now }
-        requires stores { AddressInRange (vec_len self.now.stores) event.kind }
+        requires last { AddressInRange (vec_len self.now.last) event.kind }
         requires loads { AddressInRange (vec_len self.now.loads) event.kind }
         requires time { IsTimeOf (take place events.now) event.processor (slice_index time.now) }
-        requires kept { AreAccesses (take place events.now) (vec_len self.now.stores) self.now }
+        requires kept { AreAccesses (take place events.now) (vec_len self.now.last) self.now }
         ensures { MatchOption result ((i : ℕ) → ¬ Race events.now i place) (λ i. Race events.now i place × ((m : ℕ) → Race events.now m place → i ≤ m)) }
     {
         if self.are_counted(event, time) {
@@ -133,11 +235,15 @@ impl Accesses {
 /// The pair of the first race of these events: the least second place, and with it the least first one;
 /// None where no events race. The only error is want of memory.
 ///
-/// It takes time in the order of the events times the processors; an event of a lock or a flag takes the
-/// logarithm of how many of these occur besides. A timestamp tells which intervals an event's past has, so
-/// of each address and processor only the latest store and load are looked at; the least first place is
-/// looked for once, at the end. It takes memory in the order of the addresses, the locks and flags that
-/// occur and the open episodes, times the processors, however great the locks' and flags' numbers are.
+/// Before the first race all stores of an address happen before the last one, or are it. So a timestamp that
+/// counts the last store's interval counts them all, and of the loads since then mostly the last one is enough
+/// too; only where these are unordered, the last one of each processor is looked at. The least first place is
+/// looked for once, at the end.
+///
+/// An access takes a constant time, but for unordered loads; such a load, and an event of a lock, a flag or the
+/// barrier, takes time in the order of the processors, and for a lock or a flag the logarithm of how many of
+/// these occur besides. It takes memory in the order of the addresses, the locks and flags that occur and the
+/// open episodes, times the processors, however great the locks' and flags' numbers are.
 pub(crate) fn first_race_of(
     alloc: Global,
     processors: usize,

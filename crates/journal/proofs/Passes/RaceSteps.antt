@@ -1,6 +1,8 @@
 -- The race checker's steps.
-use Rattle.std.proofs.Common.{◌≡◌, ◌≢◌, ℕ, ◌+◌, ◌<◌, ◌≤◌, ◌⊎◌, inl, inr, ◌↔◌, List, [], ◌∷◌, ◌++◌, length, take, take-take, Bool, true, false, cond, ◌==◌, ◌&&◌, Some, vec_len, subst, sym, refl, ap, ◌∙◌, add-one, arith}
+use Rattle.std.proofs.Common.{◌≡◌, ◌≢◌, ℕ, ◌+◌, ◌<◌, ◌≤◌, ◌⊎◌, inl, inr, ◌↔◌, List, [], ◌∷◌, ◌++◌, length, take, drop, take-take, take-append-drop, suc, Bool, true, false, cond, ◌==◌, ◌&&◌, Some, vec_len, subst, sym, refl, ap, ◌∙◌, add-one, arith}
 use Rattle.std.proofs.lemmas.Bool.{cases_eq, cases_lt}
+use Rattle.std.proofs.lemmas.List.{length-take-le}
+use Rattle.std.specs.Prelude.{None}
 use Rattle.std.proofs.lemmas.Option.{same_Some}
 use Rattle.std.proofs.Math.Seq.{take-append_seam}
 use Rattle.journal.specs.declared.event.Event.{Event}
@@ -10,13 +12,17 @@ use Rattle.journal.specs.declared.race.Accesses.{Accesses}
 use Rattle.journal.specs.Did.{event}
 use Rattle.journal.specs.Events.{At, count_of, interval_at, address_of, is_store, is_closing, is_taking}
 use Rattle.journal.specs.Order.{HappensBefore}
+use Rattle.journal.specs.Order.Link.{same}
+use Rattle.journal.specs.Order.HappensBefore.{edge}
+use Rattle.journal.specs.Pasts.{UpTo}
 use Rattle.journal.specs.WellFormed.{Does}
 use Rattle.journal.specs.Times.{IsTimeOf}
 use Rattle.journal.specs.Races.{Conflict, Race}
-use Rattle.journal.specs.Entries.{entry}
-use Rattle.journal.specs.Accesses.{AreAccesses, ConflictsAreCounted, IsNoted}
-use Rattle.lists.proofs.Places.{slice_get-take, push_cases, take-suc_at}
-use Rattle.journal.proofs.Order.Places.{at_same, count_of-append, count_of-front, count_of-take-le}
+use Rattle.journal.specs.Accesses.{store_entry, load_entry, IsReached, AreAccesses, AreWithin, ConflictsAreCounted, AreLoadsAfter, IsStoreNoted, IsLoadNoted, IsNoted}
+use Rattle.lists.proofs.Places.{slice_get-take, slice_get-take_within, push_cases, take-suc_at}
+use Rattle.journal.proofs.Order.Places.{at_within, at_same, at_longer, at_last, count_of-append, count_of-front}
+use Rattle.journal.proofs.Order.HappensBefore.{transitive, longer}
+use Rattle.journal.proofs.Order.Pasts.{up_to_longer}
 use Rattle.journal.proofs.Times.Pushes.{own_entry}
 use Rattle.journal.proofs.Times.Uses.{ordered_before}
 
@@ -93,145 +99,331 @@ interval_front events place q i lt =
     let le : i ≤ place = omega arith in
     ap (λ (xs : List Event). count_of is_closing xs q) (take-take i place events le)
 
--- what a load needs counted
-pub counted_load : (x : Accesses) (e : Event) (a v : ℕ) (t : ℕ → ℕ) → e.kind ≡ Load a v
-    → ((q : ℕ) → q ≢ e.processor → entry x.stores.items a q ≤ t q) ↔ ConflictsAreCounted x e t
-counted_load x e a v t is = (
-  λ h. record {
-    stores =
-        λ b q at apart. subst (λ m. entry x.stores.items m q ≤ t q)
-        (same_Some a b (sym (ap (λ k. address_of k) is) ∙ at)) (h q apart);
-    loads = λ b w q at. absurd (cc (is, at));
-  },
-  λ c q apart. c.stores a q (ap (λ k. address_of k) is) apart,
-)
+-- what is up to a place is before what that is before
+up_to_before : (j : List Event) (e : Event) (i m k : ℕ) → UpTo j m i → HappensBefore (j ++ e ∷ []) m k
+    → HappensBefore (j ++ e ∷ []) i k
+up_to_before j e i m k (inl is) h = subst (λ x. HappensBefore (j ++ e ∷ []) x k) (sym is) h
+up_to_before j e i m k (inr before) h = transitive (j ++ e ∷ []) (longer j (e ∷ []) before) h
 
--- what a store needs counted
-pub counted_store : (x : Accesses) (e : Event) (a v : ℕ) (t : ℕ → ℕ) → e.kind ≡ Store a v
-    → (((q : ℕ) → q ≢ e.processor → entry x.stores.items a q ≤ t q)
-    × ((q : ℕ) → q ≢ e.processor → entry x.loads.items a q ≤ t q))
-    ↔ ConflictsAreCounted x e t
-counted_store x e a v t is = (
-  λ h. record {
-    stores =
-        λ b q at apart. subst (λ m. entry x.stores.items m q ≤ t q)
-        (same_Some a b (sym (ap (λ k. address_of k) is) ∙ at)) (h.0 q apart);
-    loads =
-        λ b w q at apart. subst (λ m. entry x.loads.items m q ≤ t q)
-        (same_Some a b (ap (λ k. address_of k) (sym is ∙ at))) (h.1 q apart);
-  },
-  λ c. (λ q apart. c.stores a q (ap (λ k. address_of k) is) apart, λ q apart. c.loads a v q is apart),
-)
+-- what is done before the last event is before it: by its own processor, or where its timestamp counts the interval
+before_last : (j : List Event) (e : Event) (t : ℕ → ℕ) (q i : ℕ) (k : Kind) → is_taking e.kind ≡ false
+    → IsTimeOf j e.processor t → Does j i q k → (q ≢ e.processor → interval_at j q i < t q)
+    → HappensBefore (j ++ e ∷ []) i (length j)
+before_last j e t q i k quiet time does counted =
+    elim (cases_eq q e.processor) [ inl is ↦ mine is | inr isnt ↦ others isnt ]
+  where
+    lt : i < length j
+    lt = at_within j i (event q k) does
 
--- an event doesn't end a race where its timestamp counts all intervals of earlier accesses by others that conflict with it
+    does_now : Does (j ++ e ∷ []) i q k
+    does_now = at_longer j (e ∷ []) i (event q k) does
+
+    mine : q ≡ e.processor → HappensBefore (j ++ e ∷ []) i (length j)
+    mine is =
+        edge (record {
+          before = lt;
+          from = event q k;
+          to = e;
+          from_at = does_now;
+          to_at = at_last j e;
+          link = same is;
+        })
+
+    others : q ≢ e.processor → HappensBefore (j ++ e ∷ []) i (length j)
+    others isnt =
+        let front = take-append_seam j (e ∷ []) in
+        let time_now = subst (λ xs. IsTimeOf xs e.processor t) (sym front) time in
+        let number = count_of-front is_closing j (e ∷ []) i q (omega (arith, lt)) in
+        let below = counted isnt in
+        (ordered_before (j ++ e ∷ []) (length j) e.processor q i k e.kind t time_now does_now (at_last j e) quiet isnt
+        lt).1
+        (omega arith)
+
+-- what numbers within its timestamp reach is before the last event
+reached_last : (j : List Event) (e : Event) (t n : ℕ → ℕ) (i : ℕ) → is_taking e.kind ≡ false
+    → IsTimeOf j e.processor t → AreWithin n t e.processor → IsReached j n i
+    → HappensBefore (j ++ e ∷ []) i (length j)
+reached_last j e t n i quiet time within r =
+    up_to_before j e i r.last (length j) r.reaches (before_last j e t r.by r.last r.kind quiet time r.does
+    (λ apart. (let le = within r.by apart in let below = r.number in omega arith)))
+
+-- the last event is reached by a number above its interval, and so is what is up to it
+reached_by_last : (j : List Event) (e : Event) (t n : ℕ → ℕ) (i : ℕ) → IsTimeOf j e.processor t
+    → t e.processor < n e.processor → UpTo (j ++ e ∷ []) (length j) i → IsReached (j ++ e ∷ []) n i
+reached_by_last j e t n i time above up_to = record {
+  by = e.processor;
+  last = length j;
+  kind = e.kind;
+  does = at_last j e;
+  number = number;
+  reaches = up_to;
+}
+  where
+    number : interval_at (j ++ e ∷ []) e.processor (length j) < n e.processor
+    number =
+        let own = own_entry j e.processor t time in
+        let all = ap (λ (xs : List Event). count_of is_closing xs e.processor) (take-append_seam j (e ∷ [])) in
+        omega arith
+
+-- what is reached stays so, by a number as great
+reached_longer : (j : List Event) (e : Event) (m n : ℕ → ℕ) (i : ℕ) (r : IsReached j m i) → m r.by ≤ n r.by
+    → IsReached (j ++ e ∷ []) n i
+reached_longer j e m n i r le = record {
+  by = r.by;
+  last = r.last;
+  kind = r.kind;
+  does = at_longer j (e ∷ []) r.last (event r.by r.kind) r.does;
+  number = number;
+  reaches = up_to_longer j (e ∷ []) r.last i r.reaches;
+}
+  where
+    number : interval_at (j ++ e ∷ []) r.by r.last < n r.by
+    number =
+        let lt = at_within j r.last (event r.by r.kind) r.does in
+        let front = count_of-front is_closing j (e ∷ []) r.last r.by (omega arith) in
+        let below = r.number in
+        omega arith
+
+reached_same : (j : List Event) (e : Event) (m n : ℕ → ℕ) (i : ℕ) → ((q : ℕ) → n q ≡ m q) → IsReached j m i
+    → IsReached (j ++ e ∷ []) n i
+reached_same j e m n i is r = reached_longer j e m n i r (let eq = is r.by in omega arith)
+
+-- what the loads' numbers reach is reached by those after a load
+reached_next : (j : List Event) (e : Event) (t m n : ℕ → ℕ) (i : ℕ) → is_taking e.kind ≡ false
+    → IsTimeOf j e.processor t → AreLoadsAfter m n t e.processor → IsReached j m i → IsReached (j ++ e ∷ []) n i
+reached_next j e t m n i quiet time after r = elim (cases_eq r.by e.processor) [
+  | inl is ↦ through (λ apart. absurd (apart is))
+  | inr isnt ↦ elim (after.others r.by isnt) [
+    | inl counted ↦ through (λ apart. (let below = r.number in omega arith))
+    | inr le ↦ reached_longer j e m n i r le
+  ]
+]
+  where
+    through : (r.by ≢ e.processor → interval_at j r.by r.last < t r.by) → IsReached (j ++ e ∷ []) n i
+    through counted =
+        reached_by_last j e t n i time after.own
+        (inr (up_to_before j e i r.last (length j) r.reaches
+        (before_last j e t r.by r.last r.kind quiet time r.does counted)))
+
+-- an event doesn't end a race where its timestamp counts the last accesses by others that conflict with it
+no_race_last : (j : List Event) (e : Event) (t : ℕ → ℕ) (addresses : ℕ) (x : Accesses) → IsTimeOf j e.processor t
+    → AreAccesses j addresses x → (k : Kind) → e.kind ≡ k → ConflictsAreCounted x e.processor t k → (i q : ℕ)
+    → (f : Kind) → Does j i q f → Conflict (event q f) e → HappensBefore (j ++ e ∷ []) i (length j)
+no_race_last j e t addresses x time kept (Load a v) is counted i q f does c =
+    elim (access_cases f c.address c.first) [
+      | inl load ↦ elim c.stores [
+        | inl first ↦ absurd (cc (first, ap (λ k. is_store k) load.1))
+        | inr second ↦ absurd (cc (second, ap (λ k. is_store k) is))
+      ]
+      | inr store ↦ (let at = same_Some a c.address (sym (ap (λ k. address_of k) is) ∙ c.second) in
+          let does_store = subst (λ k. Does j i q k) store.1 does in
+          reached_last j e t (store_entry x a) i (access_quiet e.kind c.address c.second) time counted
+          (subst (λ b. IsReached j (store_entry x b) i) (sym at) (kept.stores c.address q i store.0 does_store)))
+    ]
+no_race_last j e t addresses x time kept (Store a v) is counted i q f does c =
+    elim (access_cases f c.address c.first) [
+      | inl load ↦ (let does_load = subst (λ k. Does j i q k) load.1 does in
+          elim (kept.loads c.address q i load.0 does_load)
+          [ inl r ↦ by_store r | inr r ↦ by_loads r ])
+      | inr store ↦ by_store (kept.stores c.address q i store.0 (subst (λ k. Does j i q k) store.1 does))
+    ]
+  where
+    at : a ≡ c.address
+    at = same_Some a c.address (sym (ap (λ k. address_of k) is) ∙ c.second)
+
+    by_store : IsReached j (store_entry x c.address) i → HappensBefore (j ++ e ∷ []) i (length j)
+    by_store r =
+        reached_last j e t (store_entry x a) i (access_quiet e.kind c.address c.second) time counted.0
+        (subst (λ b. IsReached j (store_entry x b) i) (sym at) r)
+
+    by_loads : IsReached j (load_entry x c.address) i → HappensBefore (j ++ e ∷ []) i (length j)
+    by_loads r =
+        reached_last j e t (load_entry x a) i (access_quiet e.kind c.address c.second) time counted.1
+        (subst (λ b. IsReached j (load_entry x b) i) (sym at) r)
+no_race_last j e t addresses x time kept _ is counted i q f does c =
+    absurd (cc (ap (λ k. address_of k) is, c.second))
+
 pub no_race : (events : List Event) (place addresses : ℕ) (e : Event) (t : ℕ → ℕ) (x : Accesses) → At events place e
     → IsTimeOf (take place events) e.processor t → AreAccesses (take place events) addresses x
-    → ConflictsAreCounted x e t → (i : ℕ) → ¬ Race events i place
-no_race events place addresses e t x at time kept counted i r =
-    elim (access_cases r.first.kind conflict.address conflict.first) [
-      | inl load ↦ loaded load.0 load.1
-      | inr store ↦ (let below = kept.stores conflict.address r.first.processor i store.0
-          (does store.0 (Store conflict.address store.0) store.1) in
-          let le = counted.stores conflict.address r.first.processor conflict.second both.0 in
-          absurd (omega (arith, late, front)))
-    ]
+    → ConflictsAreCounted x e.processor t e.kind → (i : ℕ) → ¬ Race events i place
+no_race events place addresses e t x at time kept counted i r = r.unordered before
   where
     both : (r.first.processor ≢ e.processor) × Conflict r.first e
     both = race_events events place i e r.first at r.first_at r
 
-    conflict : Conflict r.first e
-    conflict = both.1
+    does : Does (take place events) i r.first.processor r.first.kind
+    does = slice_get-take events place i r.before ∙ r.first_at
 
-    late : t r.first.processor ≤ interval_at events r.first.processor i
-    late = (race_by_time events place i e r.first t at r.first_at r.before both.0 both.1 time).0 r
+    long : length (take place events) ≡ place
+    long = length-take-le place events (let lt = at_within events place e at in omega arith)
 
-    front : interval_at (take place events) r.first.processor i ≡ interval_at events r.first.processor i
-    front = interval_front events place r.first.processor i r.before
+    split : (take place events ++ e ∷ []) ++ drop (suc place) events ≡ events
+    split =
+        ap (λ xs. xs ++ drop (suc place) events) (sym (take-suc_at events place e at))
+        ∙ take-append-drop (suc place) events
 
-    does : (v : ℕ) (k : Kind) → r.first.kind ≡ k → Does (take place events) i r.first.processor k
-    does v k is =
-        slice_get-take events place i r.before ∙ subst (λ y. At events i (event r.first.processor y)) is r.first_at
+    before : HappensBefore events i place
+    before =
+        let h =
+        no_race_last (take place events) e t addresses x time kept e.kind refl counted i r.first.processor
+        r.first.kind does both.1 in
+        subst (λ xs. HappensBefore xs i place) split
+        (longer (take place events ++ e ∷ []) (drop (suc place) events)
+        (subst (λ m. HappensBefore (take place events ++ e ∷ []) i m) long h))
 
-    loaded : (v : ℕ) → r.first.kind ≡ Load conflict.address v → ⊥
-    loaded v is = elim conflict.stores [
-      | inl first ↦ absurd (cc (first, ap (λ k. is_store k) is))
-      | inr second ↦ elim (access_cases e.kind conflict.address conflict.second) [
-        | inl load ↦ absurd (cc (second, ap (λ k. is_store k) load.1))
-        | inr store ↦ (let below = kept.loads conflict.address r.first.processor i v
-            (does v (Load conflict.address v) is) in
-            let le = counted.loads conflict.address store.0 r.first.processor store.1 both.0 in
-            absurd (omega (arith, late, front)))
-      ]
+-- an event that ends no race counts all accesses by others that conflict with it
+pub ordered_here : (events : List Event) (place : ℕ) (e : Event) (t : ℕ → ℕ) → At events place e
+    → IsTimeOf (take place events) e.processor t → ((i : ℕ) → ¬ Race events i place) → (i q : ℕ) (k : Kind)
+    → Does (take place events) i q k → Conflict (event q k) e → q ≢ e.processor
+    → interval_at (take place events) q i < t q
+ordered_here events place e t at time none i q k does conflict apart =
+    let lt = slice_get-take_within events place i (event q k) does in
+    let does_here : Does events i q k = sym (slice_get-take events place i lt) ∙ does in
+    let front = interval_front events place q i lt in
+    elim (cases_lt (interval_at events q i) (t q)) [
+      | inl below ↦ omega arith
+      | inr le ↦ absurd
+          (none i ((race_by_time events place i e (event q k) t at does_here lt apart conflict time).1 le))
     ]
 
--- a table of accesses of kind k a v, one event on
-table_next : (j : List Event) (e : Event) (t : ℕ → ℕ) (k : ℕ → ℕ → Kind) (xs ys : List (List ℕ))
-    → ((a : ℕ) → ((v : ℕ) × (e.kind ≡ k a v)) ⊎ (((v : ℕ) × (e.kind ≡ k a v)) → ⊥)) → IsTimeOf j e.processor t
-    → IsNoted xs ys e.processor (t e.processor + 1) (λ a. (v : ℕ) × (e.kind ≡ k a v))
-    → ((a q i v : ℕ) → Does j i q (k a v) → interval_at j q i < entry xs a q) → (a q i v : ℕ)
-    → Does (j ++ e ∷ []) i q (k a v) → interval_at (j ++ e ∷ []) q i < entry ys a q
-table_next j e t k xs ys at time noted old a q i v does =
-    elim (push_cases j e i (event q (k a v)) does)
-    [ inl before ↦ earlier before.0 before.1 | inr last ↦ latest last.0 last.1 ]
-  where
-    own : t e.processor ≡ count_of is_closing j e.processor
-    own = own_entry j e.processor t time
-
-    latest : i ≡ length j → e ≡ event q (k a v) → interval_at (j ++ e ∷ []) q i < entry ys a q
-    latest is same =
-        let mine = ap (λ f. f.processor) same in
-        let set = subst (λ x. entry ys a x ≡ t x + 1) mine (noted.set a (v, ap (λ f. f.kind) same)) in
-        let entry_q = subst (λ x. t x ≡ count_of is_closing j x) mine own in
-        let all = ap (λ (xs : List Event). count_of is_closing xs q) (take-append_seam j (e ∷ [])) in
-        let number : interval_at (j ++ e ∷ []) q i ≡ count_of is_closing j q =
-        ap (λ x. interval_at (j ++ e ∷ []) q x) is ∙ all in
-        omega arith
-
-    mine : q ≡ e.processor → interval_at j q i < entry xs a q → interval_at j q i ≤ count_of is_closing j q
-        → interval_at (j ++ e ∷ []) q i ≡ interval_at j q i → interval_at (j ++ e ∷ []) q i < entry ys a q
-    mine is below top front = elim (at a) [
-      | inl now ↦ (let set = subst (λ x. entry ys a x ≡ t x + 1) (sym is) (noted.set a now) in
-          let entry_q = subst (λ x. t x ≡ count_of is_closing j x) (sym is) own in omega arith)
-      | inr not_now ↦ (let same = noted.same a q (inr not_now) in omega arith)
-    ]
-
-    earlier : i < length j → At j i (event q (k a v)) → interval_at (j ++ e ∷ []) q i < entry ys a q
-    earlier lt does_old =
-        let front = count_of-front is_closing j (e ∷ []) i q (omega arith) in
-        let below = old a q i v does_old in
-        let top = count_of-take-le is_closing j i q in
-        elim (cases_eq q e.processor) [
-          | inr isnt ↦ (let same = noted.same a q (inl isnt) in omega arith)
-          | inl is ↦ mine is below top front
-        ]
-
-store_at : (k : Kind) (a : ℕ) → ((v : ℕ) × (k ≡ Store a v)) ⊎ (((v : ℕ) × (k ≡ Store a v)) → ⊥)
-store_at (Store b v) a =
-    elim (cases_eq b a) [
-      | inl is ↦ inl (v, ap (λ x. Store x v) is)
-      | inr isnt ↦ inr (λ h. isnt (same_Some b a (ap (λ k. address_of k) h.1)))
-    ]
-store_at _ a = inr (λ h. absurd (cc (h.1)))
-
-load_at : (k : Kind) (a : ℕ) → ((v : ℕ) × (k ≡ Load a v)) ⊎ (((v : ℕ) × (k ≡ Load a v)) → ⊥)
-load_at (Load b v) a =
-    elim (cases_eq b a) [
-      | inl is ↦ inl (v, ap (λ x. Load x v) is)
-      | inr isnt ↦ inr (λ h. isnt (same_Some b a (ap (λ k. address_of k) h.1)))
-    ]
-load_at _ a = inr (λ h. absurd (cc (h.1)))
-
--- what is kept of the addresses, one event on
-pub accesses_next : (j : List Event) (e : Event) (t : ℕ → ℕ) (addresses : ℕ) (x y : Accesses)
-    → IsTimeOf j e.processor t → AreAccesses j addresses x → vec_len y.stores ≡ vec_len x.stores
-    → vec_len y.loads ≡ vec_len x.loads
-    → IsNoted x.stores.items y.stores.items e.processor (t e.processor + 1) (λ a. (v : ℕ) × (e.kind ≡ Store a v))
-    → IsNoted x.loads.items y.loads.items e.processor (t e.processor + 1) (λ a. (v : ℕ) × (e.kind ≡ Load a v))
-    → AreAccesses (j ++ e ∷ []) addresses y
-accesses_next j e t addresses x y time kept stores_long loads_long stores loads = record {
-  stores_long = stores_long ∙ kept.stores_long;
+-- what is kept of the addresses, after a load
+next_load : (j : List Event) (e : Event) (t : ℕ → ℕ) (addresses a v : ℕ) (x y : Accesses) → e.kind ≡ Load a v
+    → IsTimeOf j e.processor t → AreAccesses j addresses x → vec_len y.last ≡ vec_len x.last
+    → vec_len y.loads ≡ vec_len x.loads → IsLoadNoted x y a e.processor t → AreAccesses (j ++ e ∷ []) addresses y
+next_load j e t addresses a v x y is time kept last_long loads_long noted = record {
+  last_long = last_long ∙ kept.last_long;
   loads_long = loads_long ∙ kept.loads_long;
-  stores =
-      table_next j e t (λ a v. Store a v) x.stores.items y.stores.items (store_at e.kind) time stores kept.stores;
-  loads = table_next j e t (λ a v. Load a v) x.loads.items y.loads.items (load_at e.kind) time loads kept.loads;
+  stores = stores;
+  loads = loads;
 }
+  where
+    old_store : (b i : ℕ) → IsReached j (store_entry x b) i → IsReached (j ++ e ∷ []) (store_entry y b) i
+    old_store b i r = reached_same j e (store_entry x b) (store_entry y b) i (λ q. noted.same_stores b q) r
+
+    old_load : (b i : ℕ) → IsReached j (load_entry x b) i → IsReached (j ++ e ∷ []) (load_entry y b) i
+    old_load b i r = elim (cases_eq b a) [
+      | inl eq ↦ subst (λ c. IsReached j (load_entry x c) i → IsReached (j ++ e ∷ []) (load_entry y c) i) (sym eq)
+          (λ s. reached_next j e t (load_entry x a) (load_entry y a) i (ap (λ k. is_taking k) is) time noted.loads s)
+          r
+      | inr isnt ↦
+          reached_same j e (load_entry x b) (load_entry y b) i (λ q. noted.same_loads b q isnt) r
+    ]
+
+    stores : (b q i w : ℕ) → Does (j ++ e ∷ []) i q (Store b w) → IsReached (j ++ e ∷ []) (store_entry y b) i
+    stores b q i w does = elim (push_cases j e i (event q (Store b w)) does) [
+      | inl before ↦ old_store b i (kept.stores b q i w before.1)
+      | inr last ↦ absurd (cc (is, ap (λ f. f.kind) last.1))
+    ]
+
+    newest : (b i : ℕ) → i ≡ length j → a ≡ b → IsReached (j ++ e ∷ []) (load_entry y b) i
+    newest b i at eq =
+        reached_by_last j e t (load_entry y b) i time
+        (subst (λ c. t e.processor < load_entry y c e.processor) eq noted.loads.own) (inl at)
+
+    loads : (b q i w : ℕ) → Does (j ++ e ∷ []) i q (Load b w)
+        → IsReached (j ++ e ∷ []) (store_entry y b) i ⊎ IsReached (j ++ e ∷ []) (load_entry y b) i
+    loads b q i w does = elim (push_cases j e i (event q (Load b w)) does) [
+      | inl before ↦ elim (kept.loads b q i w before.1)
+          [ inl r ↦ inl (old_store b i r) | inr r ↦ inr (old_load b i r) ]
+      | inr last ↦
+          inr (newest b i last.0
+          (same_Some a b (sym (ap (λ k. address_of k) is) ∙ ap (λ f. address_of f.kind) last.1)))
+    ]
+
+-- after a store, before which all conflicting accesses are counted
+next_store : (j : List Event) (e : Event) (t : ℕ → ℕ) (addresses a v : ℕ) (x y : Accesses) → e.kind ≡ Store a v
+    → IsTimeOf j e.processor t → AreAccesses j addresses x
+    → ((i q : ℕ) (k : Kind) → Does j i q k → Conflict (event q k) e → q ≢ e.processor → interval_at j q i < t q)
+    → vec_len y.last ≡ vec_len x.last → vec_len y.loads ≡ vec_len x.loads → IsStoreNoted x y a e.processor t
+    → AreAccesses (j ++ e ∷ []) addresses y
+next_store j e t addresses a v x y is time kept ordered last_long loads_long noted = record {
+  last_long = last_long ∙ kept.last_long;
+  loads_long = loads_long ∙ kept.loads_long;
+  stores = stores;
+  loads = loads;
+}
+  where
+    conflict : (q : ℕ) (k : Kind) → address_of k ≡ Some a → Conflict (event q k) e
+    conflict q k at = record {
+      address = a;
+      first = at;
+      second = ap (λ k. address_of k) is;
+      stores = inr (ap (λ k. is_store k) is);
+    }
+
+    -- an access of the stored address is before the store
+    through : (b i q : ℕ) (k : Kind) → Does j i q k → address_of k ≡ Some b → b ≡ a
+        → IsReached (j ++ e ∷ []) (store_entry y b) i
+    through b i q k does at eq =
+        reached_by_last j e t (store_entry y b) i time
+        (subst (λ c. t e.processor < store_entry y c e.processor) (sym eq) noted.own)
+        (inr (before_last j e t q i k (ap (λ k. is_taking k) is) time does
+        (ordered i q k does (conflict q k (at ∙ ap (λ c. Some c) eq)))))
+
+    newest : (b i : ℕ) → i ≡ length j → a ≡ b → IsReached (j ++ e ∷ []) (store_entry y b) i
+    newest b i at eq =
+        reached_by_last j e t (store_entry y b) i time
+        (subst (λ c. t e.processor < store_entry y c e.processor) eq noted.own) (inl at)
+
+    stores : (b q i w : ℕ) → Does (j ++ e ∷ []) i q (Store b w) → IsReached (j ++ e ∷ []) (store_entry y b) i
+    stores b q i w does = elim (push_cases j e i (event q (Store b w)) does) [
+      | inl before ↦ elim (cases_eq b a) [
+        | inl eq ↦ through b i q (Store b w) before.1 refl eq
+        | inr isnt ↦
+            reached_same j e (store_entry x b) (store_entry y b) i (λ p. noted.same_stores b p isnt)
+            (kept.stores b q i w before.1)
+      ]
+      | inr last ↦ newest b i last.0
+          (same_Some a b (sym (ap (λ k. address_of k) is) ∙ ap (λ f. address_of f.kind) last.1))
+    ]
+
+    loads : (b q i w : ℕ) → Does (j ++ e ∷ []) i q (Load b w)
+        → IsReached (j ++ e ∷ []) (store_entry y b) i ⊎ IsReached (j ++ e ∷ []) (load_entry y b) i
+    loads b q i w does = elim (push_cases j e i (event q (Load b w)) does) [
+      | inl before ↦ elim (cases_eq b a) [
+        | inl eq ↦ inl (through b i q (Load b w) before.1 refl eq)
+        | inr isnt ↦ elim (kept.loads b q i w before.1) [
+          | inl r ↦ inl
+              (reached_same j e (store_entry x b) (store_entry y b) i (λ p. noted.same_stores b p isnt) r)
+          | inr r ↦ inr
+              (reached_same j e (load_entry x b) (load_entry y b) i (λ p. noted.same_loads b p isnt) r)
+        ]
+      ]
+      | inr last ↦ absurd (cc (is, ap (λ f. f.kind) last.1))
+    ]
+
+-- after an event that is no access
+next_other : (j : List Event) (e : Event) (addresses : ℕ) (x : Accesses) → address_of e.kind ≡ None
+    → AreAccesses j addresses x → AreAccesses (j ++ e ∷ []) addresses x
+next_other j e addresses x is kept = record {
+  last_long = kept.last_long;
+  loads_long = kept.loads_long;
+  stores =
+      λ b q i w does. elim (push_cases j e i (event q (Store b w)) does) [
+        | inl before ↦
+            reached_same j e (store_entry x b) (store_entry x b) i (λ p. refl) (kept.stores b q i w before.1)
+        | inr last ↦ absurd (cc (is, ap (λ f. address_of f.kind) last.1))
+      ];
+  loads =
+      λ b q i w does. elim (push_cases j e i (event q (Load b w)) does) [
+        | inl before ↦ elim (kept.loads b q i w before.1) [
+          | inl r ↦ inl (reached_same j e (store_entry x b) (store_entry x b) i (λ p. refl) r)
+          | inr r ↦ inr (reached_same j e (load_entry x b) (load_entry x b) i (λ p. refl) r)
+        ]
+        | inr last ↦ absurd (cc (is, ap (λ f. address_of f.kind) last.1))
+      ];
+}
+
+-- what is kept of the addresses, one event on that ends no race
+pub accesses_next : (j : List Event) (e : Event) (t : ℕ → ℕ) (addresses : ℕ) (x y : Accesses)
+    → IsTimeOf j e.processor t → AreAccesses j addresses x
+    → ((i q : ℕ) (k : Kind) → Does j i q k → Conflict (event q k) e → q ≢ e.processor → interval_at j q i < t q)
+    → vec_len y.last ≡ vec_len x.last → vec_len y.loads ≡ vec_len x.loads → (k : Kind) → e.kind ≡ k
+    → IsNoted x y e.processor t k → AreAccesses (j ++ e ∷ []) addresses y
+accesses_next j e t addresses x y time kept ordered last_long loads_long (Load a v) is noted =
+    next_load j e t addresses a v x y is time kept last_long loads_long noted
+accesses_next j e t addresses x y time kept ordered last_long loads_long (Store a v) is noted =
+    next_store j e t addresses a v x y is time kept ordered last_long loads_long noted
+accesses_next j e t addresses x y time kept ordered last_long loads_long _ is noted =
+    subst (λ z. AreAccesses (j ++ e ∷ []) addresses z) (sym noted)
+    (next_other j e addresses x (ap (λ k. address_of k) is) kept)

@@ -74,6 +74,46 @@ fn least_first(rt: HostRuntime) -> Result<(), Fail> {
     Ok(())
 }
 
+/// A store after two unordered loads races with the one that it isn't ordered after, whichever that is.
+#[test]
+fn unordered_loads(rt: HostRuntime) -> Result<(), Fail> {
+    for known in 0..2 {
+        let events = [
+            by(0, Kind::Load(0, 0)),
+            by(1, Kind::Load(0, 0)),
+            by(known, Kind::Release(0)),
+            by(2, Kind::Acquire(0)),
+            by(2, Kind::Store(0, 1)),
+        ];
+        assert_eq!(rt;
+            first_race_in(&rt, rt.alloc(), &events)?,
+            Some((1 - known, 4))
+        );
+    }
+    Ok(())
+}
+
+/// A store that is ordered after all unordered loads races with none, and is the one that a later load is
+/// held against.
+#[test]
+fn store_after_unordered_loads(rt: HostRuntime) -> Result<(), Fail> {
+    let events = [
+        by(0, Kind::Load(0, 0)),
+        by(1, Kind::Load(0, 0)),
+        by(0, Kind::Release(0)),
+        by(1, Kind::Release(0)),
+        by(2, Kind::Acquire(0)),
+        by(2, Kind::Store(0, 1)),
+        by(2, Kind::Release(0)),
+        by(1, Kind::Acquire(0)),
+        by(1, Kind::Store(0, 2)),
+        by(0, Kind::Load(0, 0)),
+    ];
+    assert_eq!(rt; first_race_in(&rt, rt.alloc(), &events[..9])?, None);
+    assert_eq!(rt; first_race_in(&rt, rt.alloc(), &events)?, Some((5, 9)));
+    Ok(())
+}
+
 /// Loads don't race with one another, nor do a processor's own events.
 #[test]
 fn no_conflict(rt: HostRuntime) -> Result<(), Fail> {

@@ -1,4 +1,4 @@
-use Rattle.std.proofs.Common.{◌<◌, ◌≡◌, ℕ, inl, inr, take, List, slice_index, slice_index_or, subst, sym, ◌∙◌, arith}
+use Rattle.std.proofs.Common.{◌<◌, ◌≡◌, ℕ, inl, inr, take, List, slice_index, slice_index_or, subst, sym, refl, ◌∙◌, arith}
 use Rattle.std.proofs.lemmas.Option.{slice_get-get_or, slice_get_within}
 use Rattle.std.proofs.lemmas.List.{length-take-le}
 use Rattle.std.proofs.lemmas.Bool.{cases_lt}
@@ -13,7 +13,7 @@ use Rattle.journal.specs.Entries.{entry}
 use Rattle.journal.specs.Accesses.{AreAccesses}
 use Rattle.journal.proofs.Times.Times.{time_equal}
 use Rattle.journal.proofs.Passes.ClockSteps.{time_small, front_next}
-use Rattle.journal.proofs.Passes.RaceSteps.{accesses_next}
+use Rattle.journal.proofs.Passes.RaceSteps.{accesses_next, ordered_here}
 use Rattle.journal.proofs.race.first_race_of.Goals as goal
 
 -- the event at this place
@@ -31,11 +31,11 @@ pub race_at-requires-clause-at : goal.race_at-requires-clause-at
 race_at-requires-clause-at c =
     slice_get-get_or c.args.events.now c.loop-place.place (event 0 (Load 0 0)) (omega arith)
 
-pub race_at-requires-clause-stores : goal.race_at-requires-clause-stores
-race_at-requires-clause-stores c =
+pub race_at-requires-clause-last : goal.race_at-requires-clause-last
+race_at-requires-clause-last c =
     let at = slice_get-get_or c.args.events.now c.loop-place.place (event 0 (Load 0 0)) (omega arith) in
     subst (λ n. AddressInRange n (here c.args.events.now c.loop-place.place).kind)
-    (sym c.loop-place.invariant.1.stores_long)
+    (sym c.loop-place.invariant.1.last_long)
     (c.requires.addresses c.loop-place.place (here c.args.events.now c.loop-place.place) at)
 
 pub race_at-requires-clause-loads : goal.race_at-requires-clause-loads
@@ -87,11 +87,11 @@ note-requires-clause-interval c =
     let few = c.requires.few in
     omega arith
 
-pub note-requires-clause-stores : goal.note-requires-clause-stores
-note-requires-clause-stores c =
+pub note-requires-clause-last : goal.note-requires-clause-last
+note-requires-clause-last c =
     let at = slice_get-get_or c.args.events.now c.loop-place.place (event 0 (Load 0 0)) (omega arith) in
     subst (λ n. AddressInRange n (here c.args.events.now c.loop-place.place).kind)
-    (sym c.loop-place.invariant.1.stores_long)
+    (sym c.loop-place.invariant.1.last_long)
     (c.requires.addresses c.loop-place.place (here c.args.events.now c.loop-place.place) at)
 
 pub note-requires-clause-loads : goal.note-requires-clause-loads
@@ -112,11 +112,13 @@ loop-place-preserved c =
     time_equal front (InPast front e.processor) (entry c.loop-place.clocks.processors.items e.processor)
     (slice_index c.of.result.now) (λ q. sym (c.of.ensures q)) (c.loop-place.invariant.0.times e.processor lt)
     in
+    let at = slice_get-get_or c.args.events.now c.loop-place.place (event 0 (Load 0 0)) (omega arith) in
+    let here_none : (i : ℕ) → Race c.args.events.now i c.loop-place.place → ⊥ = c.in_default.ensures in
     let accesses =
     accesses_next front e (slice_index c.of.result.now) c.args.addresses c.loop-place.accesses c.note.new.self
-    time c.loop-place.invariant.1 c.note.ensures.stores_long c.note.ensures.loads_long c.note.ensures.stores
-    c.note.ensures.loads in
-    let here_none : (i : ℕ) → Race c.args.events.now i c.loop-place.place → ⊥ = c.in_default.ensures in (
+    time c.loop-place.invariant.1
+    (ordered_here c.args.events.now c.loop-place.place e (slice_index c.of.result.now) at time here_none)
+    c.note.ensures.last_long c.note.ensures.loads_long e.kind refl c.note.ensures.noted in (
       c.in_ok-note.ensures.clocks,
       subst (λ xs. AreAccesses xs c.args.addresses c.note.new.self)
           (sym (front_next c.args.events.now c.loop-place.place e at)) accesses,
