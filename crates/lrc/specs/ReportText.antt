@@ -7,15 +7,7 @@ use Rattle.journal.specs.declared.event.Kind.{Kind}
 use Rattle.journal.specs.declared.event.Kind.TheVariants.{Load, Store, Fetch, Ask, Acquire, Release, Arrive, Depart, Set, Watch, Await}
 use Rattle.journal.specs.declared.traffic.Traffic.{Traffic}
 use Rattle.journal.specs.Log.{Log}
-use Rattle.lrc.specs.declared.render.Piece.{Piece}
-use Rattle.lrc.specs.declared.render.Piece.TheVariants.{Text, Number, Place}
 use Rattle.lrc_run.specs.declared.report.Report.{Report}
-
--- a piece of a line: a text, or a number or a place in decimal
-abbrev pub piece_text : Piece → List ℕ
-piece_text (Text t) = t.now
-piece_text (Number n) = decimal n
-piece_text (Place n) = decimal n
 
 -- a shown address with its word
 abbrev pub word_line : ℕ × ℕ → List ℕ

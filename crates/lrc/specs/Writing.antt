@@ -6,6 +6,18 @@ use Rattle.std.specs.Io.KnownBytes.{Appends}
 abbrev pub most_pending : ℕ
 most_pending = 8192
 
+-- how many digits a number of 64 bits has at most
+abbrev pub most_digits : ℕ
+most_digits = 20
+
+-- how many bytes a line has at most
+abbrev pub most_line : ℕ
+most_line = 160
+
+-- and what is said in it of what an event did
+abbrev pub most_kind : ℕ
+most_kind = 100
+
 -- a beginning of the text was appended
 abbrev pub AppendsFront : Option (List ℕ) → Option (List ℕ) → List ℕ → Type 0
 AppendsFront old new text = (done rest : List ℕ) × (text ≡ done ++ rest) × Appends old new done

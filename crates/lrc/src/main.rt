@@ -14,6 +14,7 @@
 ghost use Rattle.std.specs.Prelude.{◌<◌};
 
 mod fault;
+mod line;
 mod options;
 mod pending;
 mod program;

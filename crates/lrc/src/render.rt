@@ -1,14 +1,13 @@
 //! Prints a report.
 
-ghost use Rattle.std.specs.Prelude.{◌++◌, codes};
+ghost use Rattle.std.specs.Prelude.{◌≡◌, ◌≤◌, ◌<◌, ◌+◌, ◌^◌, ◌++◌, codes, length};
 ghost use Rattle.std.specs.List.{flat_map};
 ghost use Rattle.std.specs.Fmt.{decimal};
-ghost use Rattle.journal.specs.declared.event.Kind.TheVariants as kind;
-ghost use Rattle.lrc.specs.ReportText.{piece_text, word_line, verdict_line, traffic_line, cut_line, kind_text, head_text, event_line, event_lines, summary_text, left_text, journal_text, report_text};
-ghost use Rattle.lrc.specs.Writing.{Writes, Takes};
+ghost use Rattle.lrc.specs.ReportText.{word_line, verdict_line, traffic_line, cut_line, kind_text, event_line, event_lines, summary_text, left_text, journal_text, report_text};
+ghost use Rattle.lrc.specs.Writing.{Writes, Takes, most_kind};
 
+use crate::line::Line;
 use crate::pending::Pending;
-use itoa::Buffer;
 use journal::{Event, Journal, Kind, Traffic};
 use lrc_run::Report;
 use std::io::Write;
@@ -19,39 +18,6 @@ use thiserror::Error;
 #[error("output failed")]
 pub struct OutFault;
 
-/// A piece of a line: a text, or a number or the place of an event in decimal.
-#[derive(Clone, Copy)]
-enum Piece<'a> {
-    Text(&'a [u8]),
-    Number(u64),
-    Place(u128),
-}
-
-/// Writes a piece of a line.
-fn write_piece<W: Write>(out: &mut W, pending: &mut Pending, piece: Piece) -> Result<(), OutFault>
-    ensures { Takes (W.contents out.old) (W.contents out.new) pending.old pending.new (piece_text piece.entry) result }
-{
-    match piece {
-        Piece::Text(text) => pending.take(out, text),
-        Piece::Number(number) => pending.take(out, Buffer::new().format(number).as_bytes()),
-        Piece::Place(place) => pending.take(out, Buffer::new().format(place).as_bytes()),
-    }
-}
-
-/// Writes pieces in order.
-fn write_pieces<W: Write>(
-    out: &mut W,
-    pending: &mut Pending,
-    pieces: &[Piece],
-) -> Result<(), OutFault>
-    ensures { Takes (W.contents out.old) (W.contents out.new) pending.old pending.new (flat_map piece_text pieces.now) result }
-{
-    for piece in pieces {
-        write_piece(out, pending, *piece)?;
-    }
-    Ok(())
-}
-
 /// Writes the line of a shown address.
 fn write_word<W: Write>(
     out: &mut W,
@@ -61,14 +27,10 @@ fn write_word<W: Write>(
 ) -> Result<(), OutFault>
     ensures { Takes (W.contents out.old) (W.contents out.new) pending.old pending.new (word_line (address, word)) result }
 {
-    let pieces = [
-        Piece::Text(b"word "),
-        Piece::Number(address as u64),
-        Piece::Text(b" "),
-        Piece::Number(u64::from(word)),
-        Piece::Text(b"\n"),
-    ];
-    write_pieces(out, pending, &pieces)
+    let mut line = Line::new();
+    line.put(b" ", u64::from(word));
+    line.put(b"word ", address as u64);
+    pending.take(out, line.bytes())
 }
 
 /// Writes a line for each shown address.
@@ -104,133 +66,95 @@ fn write_traffic<W: Write>(
 ) -> Result<(), OutFault>
     ensures { Takes (W.contents out.old) (W.contents out.new) pending.old pending.new (traffic_line traffic) result }
 {
-    let pieces = [
-        Piece::Text(b"traffic "),
-        Piece::Number(traffic.messages),
-        Piece::Text(b" "),
-        Piece::Number(traffic.records),
-        Piece::Text(b" "),
-        Piece::Number(traffic.words),
-        Piece::Text(b"\n"),
-    ];
-    write_pieces(out, pending, &pieces)
+    let mut line = Line::new();
+    line.put(b" ", traffic.words);
+    line.put(b" ", traffic.records);
+    line.put(b"traffic ", traffic.messages);
+    pending.take(out, line.bytes())
 }
 
-/// Writes what is said of an access: its name, its address and its word.
-fn write_access<W: Write>(
-    out: &mut W,
-    pending: &mut Pending,
-    name: &[u8],
-    address: usize,
-    word: u32,
-) -> Result<(), OutFault>
-    ensures { Takes (W.contents out.old) (W.contents out.new) pending.old pending.new (name.now ++ decimal address ++ codes " " ++ decimal word ++ codes "\n") result }
+/// Puts what is said of an access: its name, its address and its word.
+#[inline]
+fn put_access(line: &mut Line, name: &[u8], address: usize, word: u32)
+    requires begun { line.old ≡ codes "\n" }
+    requires name { length name.now ≤ 9 }
+    ensures text { line.new ≡ name.now ++ decimal address ++ codes " " ++ decimal word ++ codes "\n" }
+    ensures length { length line.new ≤ most_kind }
 {
-    let pieces = [
-        Piece::Text(name),
-        Piece::Number(address as u64),
-        Piece::Text(b" "),
-        Piece::Number(u64::from(word)),
-        Piece::Text(b"\n"),
-    ];
-    write_pieces(out, pending, &pieces)
+    line.put(b" ", u64::from(word));
+    line.put(name, address as u64);
 }
 
-/// Writes what is said of a lock's or a flag's event: its name and the number.
-fn write_numbered<W: Write>(
-    out: &mut W,
-    pending: &mut Pending,
-    name: &[u8],
-    number: usize,
-) -> Result<(), OutFault>
-    ensures { Takes (W.contents out.old) (W.contents out.new) pending.old pending.new (name.now ++ decimal number ++ codes "\n") result }
+/// Puts what is said of a lock's or a flag's event: its name and the number.
+#[inline]
+fn put_numbered(line: &mut Line, name: &[u8], number: usize)
+    requires begun { line.old ≡ codes "\n" }
+    requires name { length name.now ≤ 9 }
+    ensures text { line.new ≡ name.now ++ decimal number ++ codes "\n" }
+    ensures length { length line.new ≤ most_kind }
 {
-    let pieces = [
-        Piece::Text(name),
-        Piece::Number(number as u64),
-        Piece::Text(b"\n"),
-    ];
-    write_pieces(out, pending, &pieces)
+    line.put(name, number as u64);
 }
 
-/// Writes what is said of a fetch.
-fn write_fetch<W: Write>(
-    out: &mut W,
-    pending: &mut Pending,
-    page: usize,
-    writers: u32,
-    records: u32,
-    words: u32,
-) -> Result<(), OutFault>
-    ensures { Takes (W.contents out.old) (W.contents out.new) pending.old pending.new (kind_text (kind.Fetch writers page records words)) result }
+/// Puts what is said of a fetch: the page, and how many writers, records and words.
+fn put_fetch(line: &mut Line, page: usize, writers: u32, records: u32, words: u32)
+    requires { line.old ≡ codes "\n" }
+    ensures text { line.new ≡ codes " fetch " ++ decimal page ++ codes " " ++ decimal writers ++ codes " " ++ decimal records ++ codes " " ++ decimal words ++ codes "\n" }
+    ensures length { length line.new ≤ most_kind }
 {
-    let pieces = [
-        Piece::Text(b" fetch "),
-        Piece::Number(page as u64),
-        Piece::Text(b" "),
-        Piece::Number(u64::from(writers)),
-        Piece::Text(b" "),
-        Piece::Number(u64::from(records)),
-        Piece::Text(b" "),
-        Piece::Number(u64::from(words)),
-        Piece::Text(b"\n"),
-    ];
-    write_pieces(out, pending, &pieces)
+    line.put(b" ", u64::from(words));
+    line.put(b" ", u64::from(records));
+    line.put(b" ", u64::from(writers));
+    line.put(b" fetch ", page as u64);
 }
 
-/// Writes what an event did, and ends the line.
-fn write_kind<W: Write>(out: &mut W, pending: &mut Pending, kind: Kind) -> Result<(), OutFault>
-    ensures { Takes (W.contents out.old) (W.contents out.new) pending.old pending.new (kind_text kind) result }
+/// Puts what is said of an event without a number: its name.
+#[inline]
+fn put_name(line: &mut Line, name: &[u8])
+    requires begun { line.old ≡ codes "\n" }
+    requires name { length name.now ≤ 9 }
+    ensures text { line.new ≡ name.now ++ codes "\n" }
+    ensures length { length line.new ≤ most_kind }
+{
+    line.put_text(name);
+}
+
+/// Puts what an event did.
+#[inline]
+fn put_kind(line: &mut Line, kind: Kind)
+    requires { line.old ≡ codes "\n" }
+    ensures text { line.new ≡ kind_text kind }
+    ensures length { length line.new ≤ most_kind }
 {
     match kind {
-        Kind::Load(address, word) => write_access(out, pending, b" load ", address, word),
-        Kind::Store(address, word) => write_access(out, pending, b" store ", address, word),
+        Kind::Load(address, word) => put_access(line, b" load ", address, word),
+        Kind::Store(address, word) => put_access(line, b" store ", address, word),
         Kind::Fetch {
             writers,
             page,
             records,
             words,
-        } => write_fetch(out, pending, page, writers, records, words),
-        Kind::Ask(lock) => write_numbered(out, pending, b" ask ", lock),
-        Kind::Acquire(lock) => write_numbered(out, pending, b" acquire ", lock),
-        Kind::Release(lock) => write_numbered(out, pending, b" release ", lock),
-        Kind::Arrive => pending.take(out, b" arrive\n"),
-        Kind::Depart => pending.take(out, b" depart\n"),
-        Kind::Set(flag) => write_numbered(out, pending, b" set ", flag),
-        Kind::Watch(flag) => write_numbered(out, pending, b" watch ", flag),
-        Kind::Await(flag) => write_numbered(out, pending, b" await ", flag),
+        } => put_fetch(line, page, writers, records, words),
+        Kind::Ask(lock) => put_numbered(line, b" ask ", lock),
+        Kind::Acquire(lock) => put_numbered(line, b" acquire ", lock),
+        Kind::Release(lock) => put_numbered(line, b" release ", lock),
+        Kind::Arrive => put_name(line, b" arrive"),
+        Kind::Depart => put_name(line, b" depart"),
+        Kind::Set(flag) => put_numbered(line, b" set ", flag),
+        Kind::Watch(flag) => put_numbered(line, b" watch ", flag),
+        Kind::Await(flag) => put_numbered(line, b" await ", flag),
     }
 }
 
-/// Writes how the line of an event begins: its place and its processor.
-fn write_head<W: Write>(
-    out: &mut W,
-    pending: &mut Pending,
-    place: u128,
-    processor: usize,
-) -> Result<(), OutFault>
-    ensures { Takes (W.contents out.old) (W.contents out.new) pending.old pending.new (head_text place processor) result }
+/// Makes the line of the event at a place.
+#[inline]
+fn put_event(line: &mut Line, place: u64, event: &Event)
+    ensures { line.new ≡ event_line place event.now }
 {
-    let pieces = [
-        Piece::Text(b"event "),
-        Piece::Place(place),
-        Piece::Text(b" "),
-        Piece::Number(processor as u64),
-    ];
-    write_pieces(out, pending, &pieces)
-}
-
-/// Writes the line of the event at a place.
-fn write_event<W: Write>(
-    out: &mut W,
-    pending: &mut Pending,
-    place: u128,
-    event: &Event,
-) -> Result<(), OutFault>
-    ensures { Takes (W.contents out.old) (W.contents out.new) pending.old pending.new (event_line place event.now) result }
-{
-    write_head(out, pending, place, event.processor)?;
-    write_kind(out, pending, event.kind)
+    line.clear();
+    put_kind(line, event.kind);
+    line.put(b" ", event.processor as u64);
+    line.put(b"event ", place);
 }
 
 /// Writes a line for each event, the first at this place.
@@ -240,10 +164,13 @@ pub fn write_events<W: Write>(
     first: u64,
     events: &[Event],
 ) -> Result<(), OutFault>
+    requires { first + length events.now < 2 ^ 64 }
     ensures { Takes (W.contents out.old) (W.contents out.new) pending.old pending.new (event_lines first events.now) result }
 {
+    let mut line = Line::new();
     for (index, event) in events.iter().enumerate() {
-        write_event(out, pending, first as u128 + index as u128, event)?;
+        put_event(&mut line, first + index as u64, event);
+        pending.take(out, line.bytes())?;
     }
     Ok(())
 }
@@ -252,12 +179,12 @@ pub fn write_events<W: Write>(
 fn write_cut<W: Write>(out: &mut W, pending: &mut Pending, cut: u64) -> Result<(), OutFault>
     ensures { Takes (W.contents out.old) (W.contents out.new) pending.old pending.new (cut_line cut) result }
 {
-    if 0 < cut {
-        let pieces = [Piece::Text(b"cut "), Piece::Number(cut), Piece::Text(b"\n")];
-        write_pieces(out, pending, &pieces)
-    } else {
-        Ok(())
+    if cut == 0 {
+        return Ok(());
     }
+    let mut line = Line::new();
+    line.put(b"cut ", cut);
+    pending.take(out, line.bytes())
 }
 
 /// Writes the shown words, the verdict and the traffic.
@@ -283,7 +210,8 @@ fn write_left<W: Write>(
 {
     let cut = journal.cut_events();
     write_cut(out, pending, cut)?;
-    write_events(out, pending, cut, journal.events())
+    let events = &journal.events()[..journal.len()];
+    write_events(out, pending, cut, events)
 }
 
 /// Writes the lines of the journal, where they are asked for.

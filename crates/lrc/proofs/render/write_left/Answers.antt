@@ -1,3 +1,5 @@
+use Rattle.std.proofs.Common.{◌≡◌, ◌∙◌, ap, take}
+use Rattle.std.proofs.Math.Seq.{take-length}
 use Rattle.std.proofs.lemmas.Result.{err_from_is_err_and, MatchResult-weaker}
 use Rattle.lrc.specs.ReportText.{event_lines}
 use Rattle.lrc.proofs.Writing.{passes_then, passes_front, pending_longer}
@@ -12,8 +14,10 @@ returns-in_err-write_cut g c =
 
 pub returns : goal.returns
 returns g c =
+    let events = c.args.journal.now.events in
+    let all : take c.len.result events ≡ events = ap (λ n. take n events) c.len.ensures.value ∙ take-length events in
     let cut = rw c.cut_events-cut.ensures.value at c.in_ok-write_cut.ensures in
-    let lines = rw c.cut_events-cut.ensures.value at (rw c.events.ensures.value at c.write_events.ensures) in
+    let lines = rw (c.cut_events-cut.ensures.value, all) at (rw c.events.ensures.value at c.write_events.ensures) in
     MatchResult-weaker c.write_events.result lines
     (λ _ last. passes_then _ (g.W.Write.contents c.write_cut.new.out) _ _ c.write_cut.new.pending _ _ _ cut last)
     (λ _ last. passes_front _ (g.W.Write.contents c.write_cut.new.out) _ _ c.write_cut.new.pending _ _ cut last)
