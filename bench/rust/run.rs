@@ -197,10 +197,52 @@ pub fn run(script: &Script) -> Result<Report, Refused> {
     conclude(cluster, processors, script)
 }
 
+/// The two digits of each number below 100.
+const PAIRS: [[u8; 2]; 100] = {
+    let mut pairs = [[0; 2]; 100];
+    let mut number = 0;
+    while number < 100 {
+        pairs[number] = [b'0' + number as u8 / 10, b'0' + number as u8 % 10];
+        number += 1;
+    }
+    pairs
+};
+
+/// A line, made from its end, so that digits stand where they come.
+struct Line {
+    bytes: [u8; 128],
+    first: usize,
+}
+
+impl Line {
+    #[inline(always)]
+    fn text<const N: usize>(&mut self, text: &[u8; N]) {
+        self.first -= N;
+        if let Some(place) = self.bytes[self.first..].first_chunk_mut() {
+            *place = *text;
+        }
+    }
+
+    #[inline(always)]
+    fn number(&mut self, mut number: u32) {
+        while number >= 100 {
+            self.text(&PAIRS[number as usize % 100]);
+            number /= 100;
+        }
+        if number >= 10 {
+            self.text(&PAIRS[number as usize]);
+        } else {
+            self.text(&[b'0' + number as u8]);
+        }
+        self.text(b" ");
+    }
+}
+
 /// Text that is written some thousand bytes at a time.
 struct Pending<W> {
     out: W,
     bytes: Vec<u8>,
+    line: Line,
 }
 
 impl<W: Write> Pending<W> {
@@ -213,57 +255,58 @@ impl<W: Write> Pending<W> {
         Ok(())
     }
 
-    fn number(&mut self, mut number: u64) -> io::Result<()> {
-        let mut digits = [0; 20];
-        let mut first = 20;
-        loop {
-            first -= 1;
-            digits[first] = b'0' + (number % 10) as u8;
-            number /= 10;
-            if number == 0 {
-                return self.text(&digits[first..]);
-            }
-        }
-    }
-
-    fn numbers(&mut self, name: &[u8], numbers: &[u64]) -> io::Result<()> {
-        self.text(name)?;
-        for number in numbers {
-            self.text(b" ")?;
-            self.number(*number)?;
-        }
-        self.text(b"\n")
-    }
-
     fn event(&mut self, place: usize, e: &Event) -> io::Result<()> {
-        self.text(b"event ")?;
-        self.number(place as u64)?;
-        self.text(b" ")?;
-        self.number(u64::from(e.processor))?;
-        let (place, value, writers, words) = (e.place.into(), e.value.into(), e.writers.into(), e.words.into());
+        let line = &mut self.line;
+        line.first = 128;
+        line.text(b"\n");
         match e.kind {
-            LOAD => self.numbers(b" load", &[place, value]),
-            STORE => self.numbers(b" store", &[place, value]),
-            FETCH => self.numbers(b" fetch", &[place, writers, value, words]),
-            ASK => self.numbers(b" ask", &[place]),
-            ACQUIRE => self.numbers(b" acquire", &[place]),
-            RELEASE => self.numbers(b" release", &[place]),
-            ARRIVE => self.text(b" arrive\n"),
-            DEPART => self.text(b" depart\n"),
+            LOAD | STORE => {
+                line.number(e.value);
+                line.number(e.place);
+                if e.kind == LOAD { line.text(b" load") } else { line.text(b" store") }
+            }
+            FETCH => {
+                line.number(e.words);
+                line.number(e.value);
+                line.number(u32::from(e.writers));
+                line.number(e.place);
+                line.text(b" fetch");
+            }
+            ASK | ACQUIRE | RELEASE => {
+                line.number(e.place);
+                match e.kind {
+                    ASK => line.text(b" ask"),
+                    ACQUIRE => line.text(b" acquire"),
+                    _ => line.text(b" release"),
+                }
+            }
+            ARRIVE => line.text(b" arrive"),
+            DEPART => line.text(b" depart"),
             _ => panic!("{UNKNOWN}"),
         }
+        line.number(u32::from(e.processor));
+        line.number(place as u32);
+        line.text(b"event");
+        let text = &line.bytes[line.first..];
+        if self.bytes.len() + text.len() > 8192 {
+            self.out.write_all(&self.bytes)?;
+            self.bytes.clear();
+        }
+        self.bytes.extend_from_slice(text);
+        Ok(())
     }
 }
 
 /// Writes the report, with its events where they are asked for.
 fn render(report: &Report, journal: bool, out: impl Write) -> io::Result<()> {
-    let mut pending = Pending { out, bytes: Vec::with_capacity(8192) };
+    let line = Line { bytes: [0; 128], first: 128 };
+    let mut pending = Pending { out, bytes: Vec::with_capacity(8192), line };
     for (address, word) in &report.shown {
-        pending.numbers(b"word", &[u64::from(*address), u64::from(*word)])?;
+        pending.text(format!("word {address} {word}\n").as_bytes())?;
     }
     pending.text(if report.racy { b"verdict racy\n" } else { b"verdict race-free\n" })?;
     let (messages, records, words) = report.traffic;
-    pending.numbers(b"traffic", &[messages, records, words])?;
+    pending.text(format!("traffic {messages} {records} {words}\n").as_bytes())?;
     if journal {
         for (place, e) in report.journal.iter().enumerate() {
             pending.event(place, e)?;
