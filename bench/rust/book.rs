@@ -1,0 +1,524 @@
+//! Processors over one book behind a Mutex: lazy release consistency with timestamps, closed intervals, write notices
+//! and records of changed words.
+
+use std::collections::VecDeque;
+use std::sync::{Arc, Mutex};
+use std::thread;
+use std::time::Instant;
+
+const WORDS: usize = 64;
+const BLOCK: usize = 256;
+const MOST: usize = 1 << 20;
+
+pub const LOAD: u8 = 0;
+pub const STORE: u8 = 1;
+pub const FETCH: u8 = 2;
+pub const ASK: u8 = 3;
+pub const ACQUIRE: u8 = 4;
+pub const RELEASE: u8 = 5;
+pub const ARRIVE: u8 = 6;
+pub const DEPART: u8 = 7;
+
+/// What a processor did: 16 bytes.
+#[derive(Clone, Copy)]
+pub struct Event {
+    pub kind: u8,
+    pub processor: u8,
+    /// Of a fetch: how many processors' records.
+    pub writers: u16,
+    /// An address, a page or a lock.
+    pub place: u32,
+    /// A word; of a fetch, how many records.
+    pub value: u32,
+    /// Of a fetch: how many words.
+    pub words: u32,
+}
+
+pub fn event(processor: u8, kind: u8, place: u32, value: u32) -> Event {
+    Event { kind, processor, writers: 0, place, value, words: 0 }
+}
+
+type Time = [u32; 16];
+
+/// The changed words of a page: each its offset and its value.
+struct Record {
+    page: u32,
+    owner: u8,
+    words: Vec<(u32, u32)>,
+}
+
+struct Copy {
+    words: Vec<u32>,
+    dirty: u64,
+    valid: bool,
+    missing: Vec<(u64, Arc<Record>)>,
+}
+
+#[derive(Debug)]
+pub enum Refused {
+    OutOfRange,
+    Invalid,
+    BlockFull,
+    Waiting,
+    NotYet,
+    NotHeld,
+    JournalFull,
+}
+
+struct Interval {
+    number: u32,
+    place: u64,
+    records: Vec<Arc<Record>>,
+}
+
+struct Message {
+    time: Time,
+    records: Vec<(u64, Arc<Record>)>,
+}
+
+struct Lock {
+    holder: Option<u8>,
+    line: VecDeque<u8>,
+    time: Time,
+}
+
+struct Book {
+    journal: Vec<Event>,
+    closed: u64,
+    intervals: Vec<VecDeque<Interval>>,
+    times: Vec<Time>,
+    locks: Vec<Lock>,
+    arrived: u32,
+    meeting: Time,
+    messages: Vec<Option<Message>>,
+}
+
+pub struct Cluster {
+    book: Mutex<Book>,
+}
+
+#[derive(Clone, Copy, PartialEq)]
+enum Awaits {
+    Nothing,
+    Lock(u32),
+    Meeting,
+}
+
+pub struct Processor {
+    number: u8,
+    words: usize,
+    block: Vec<Event>,
+    copies: Vec<Copy>,
+    stored: u64,
+    time: Time,
+    held: u32,
+    awaits: Awaits,
+}
+
+fn join(time: &mut Time, other: &Time) {
+    for (one, two) in time.iter_mut().zip(other) {
+        *one = (*one).max(*two);
+    }
+}
+
+impl Book {
+    fn room(&self, events: usize) -> Result<(), Refused> {
+        if self.journal.len() + events > MOST { Err(Refused::JournalFull) } else { Ok(()) }
+    }
+
+    fn close(&mut self, p: u8, block: &[Event], last: Event, records: Vec<Arc<Record>>) -> Result<(), Refused> {
+        self.room(block.len() + 1)?;
+        self.journal.extend_from_slice(block);
+        self.journal.push(last);
+        let own = &mut self.times[p as usize][p as usize];
+        *own += 1;
+        self.closed += 1;
+        if !records.is_empty() {
+            let interval = Interval { number: *own, place: self.closed, records };
+            self.intervals[p as usize].push_back(interval);
+        }
+        Ok(())
+    }
+
+    fn news(&self, old: &Time, new: &Time) -> Vec<(u64, Arc<Record>)> {
+        let mut all = Vec::new();
+        for (owner, intervals) in self.intervals.iter().enumerate() {
+            if new[owner] <= old[owner] {
+                continue;
+            }
+            let from = intervals.partition_point(|i| i.number <= old[owner]);
+            for interval in intervals.range(from..) {
+                if interval.number > new[owner] {
+                    break;
+                }
+                all.extend(interval.records.iter().map(|record| (interval.place, record.clone())));
+            }
+        }
+        all.sort_by_key(|sent| sent.0);
+        all
+    }
+
+    fn post(&mut self, p: u8, time: Time) {
+        let records = self.news(&self.times[p as usize], &time);
+        self.messages[p as usize] = Some(Message { time, records });
+    }
+
+    fn grant(&mut self, p: u8, l: usize) {
+        self.locks[l].holder = Some(p);
+        let time = self.locks[l].time;
+        self.post(p, time);
+    }
+
+    fn trim(&mut self) {
+        for (owner, intervals) in self.intervals.iter_mut().enumerate() {
+            let seen = self.times.iter().map(|time| time[owner]).min().unwrap_or(0);
+            while intervals.front().is_some_and(|first| first.number <= seen) {
+                intervals.pop_front();
+            }
+        }
+    }
+}
+
+impl Cluster {
+    pub fn new(processors: usize, pages: usize, words: usize, locks: usize) -> (Cluster, Vec<Processor>) {
+        let book = Book {
+            journal: Vec::with_capacity(BLOCK * processors),
+            closed: 0,
+            intervals: (0..processors).map(|_| VecDeque::new()).collect(),
+            times: vec![[0; 16]; processors],
+            locks: (0..locks)
+                .map(|_| Lock { holder: None, line: VecDeque::with_capacity(processors), time: [0; 16] })
+                .collect(),
+            arrived: 0,
+            meeting: [0; 16],
+            messages: (0..processors).map(|_| None).collect(),
+        };
+        let all = (0..processors).map(|number| Processor {
+            number: number as u8,
+            words,
+            block: Vec::with_capacity(BLOCK),
+            copies: (0..pages)
+                .map(|_| Copy { words: vec![0; words], dirty: 0, valid: true, missing: Vec::new() })
+                .collect(),
+            stored: 0,
+            time: [0; 16],
+            held: 0,
+            awaits: Awaits::Nothing,
+        });
+        (Cluster { book: Mutex::new(book) }, all.collect())
+    }
+
+    pub fn flush(&self, m: &mut Processor) -> Result<(), Refused> {
+        let mut book = self.book.lock().unwrap();
+        book.room(m.block.len())?;
+        book.journal.extend_from_slice(&m.block);
+        drop(book);
+        m.block.clear();
+        Ok(())
+    }
+
+    fn closed(&self, m: &mut Processor) {
+        m.block.clear();
+        m.clean();
+        m.time[m.number as usize] += 1;
+    }
+
+    pub fn ask(&self, m: &mut Processor, l: usize) -> Result<(), Refused> {
+        if m.awaits != Awaits::Nothing || m.held >> l & 1 == 1 {
+            return Err(Refused::Waiting);
+        }
+        let records = m.harvest();
+        let mut book = self.book.lock().unwrap();
+        book.close(m.number, &m.block, event(m.number, ASK, l as u32, 0), records)?;
+        if book.locks[l].holder.is_none() {
+            book.grant(m.number, l);
+        } else {
+            book.locks[l].line.push_back(m.number);
+        }
+        drop(book);
+        self.closed(m);
+        m.awaits = Awaits::Lock(l as u32);
+        Ok(())
+    }
+
+    pub fn release(&self, m: &mut Processor, l: usize) -> Result<(), Refused> {
+        if m.awaits != Awaits::Nothing || m.held >> l & 1 == 0 {
+            return Err(Refused::NotHeld);
+        }
+        let records = m.harvest();
+        let mut book = self.book.lock().unwrap();
+        book.close(m.number, &m.block, event(m.number, RELEASE, l as u32, 0), records)?;
+        book.locks[l].time = book.times[m.number as usize];
+        book.locks[l].holder = None;
+        if let Some(next) = book.locks[l].line.pop_front() {
+            book.grant(next, l);
+        }
+        drop(book);
+        self.closed(m);
+        m.held &= !(1 << l);
+        Ok(())
+    }
+
+    pub fn arrive(&self, m: &mut Processor) -> Result<(), Refused> {
+        if m.awaits != Awaits::Nothing {
+            return Err(Refused::Waiting);
+        }
+        let records = m.harvest();
+        let mut book = self.book.lock().unwrap();
+        book.close(m.number, &m.block, event(m.number, ARRIVE, 0, 0), records)?;
+        let time = book.times[m.number as usize];
+        join(&mut book.meeting, &time);
+        book.arrived += 1;
+        if book.arrived as usize == book.times.len() {
+            book.arrived = 0;
+            let time = book.meeting;
+            for p in 0..book.times.len() {
+                book.post(p as u8, time);
+            }
+        }
+        drop(book);
+        self.closed(m);
+        m.awaits = Awaits::Meeting;
+        Ok(())
+    }
+
+    pub fn take(&self, m: &mut Processor) -> Result<(), Refused> {
+        let last = match m.awaits {
+            Awaits::Nothing => return Err(Refused::Waiting),
+            Awaits::Lock(l) => event(m.number, ACQUIRE, l, 0),
+            Awaits::Meeting => event(m.number, DEPART, 0, 0),
+        };
+        let mut book = self.book.lock().unwrap();
+        let Some(message) = book.messages[m.number as usize].take() else {
+            return Err(Refused::NotYet);
+        };
+        book.room(1)?;
+        book.journal.push(last);
+        join(&mut book.times[m.number as usize], &message.time);
+        if !message.records.is_empty() {
+            book.trim();
+        }
+        drop(book);
+        join(&mut m.time, &message.time);
+        m.learn(message.records);
+        if let Awaits::Lock(l) = m.awaits {
+            m.held |= 1 << l;
+        }
+        m.awaits = Awaits::Nothing;
+        Ok(())
+    }
+
+    /// The journal, with the open blocks at its end.
+    pub fn finish(self, all: Vec<Processor>) -> Vec<Event> {
+        let mut journal = self.book.into_inner().unwrap().journal;
+        all.iter().for_each(|m| journal.extend_from_slice(&m.block));
+        journal
+    }
+}
+
+impl Processor {
+    pub fn page_of(&self, address: usize) -> usize {
+        address / self.words
+    }
+
+    fn admit(&self, address: usize) -> Result<(usize, usize), Refused> {
+        let (page, offset) = (address / self.words, address % self.words);
+        let Some(copy) = self.copies.get(page) else {
+            return Err(Refused::OutOfRange);
+        };
+        if !copy.valid {
+            return Err(Refused::Invalid);
+        }
+        self.admit_event()?;
+        Ok((page, offset))
+    }
+
+    fn admit_event(&self) -> Result<(), Refused> {
+        if self.awaits != Awaits::Nothing {
+            return Err(Refused::Waiting);
+        }
+        if self.block.len() == BLOCK {
+            return Err(Refused::BlockFull);
+        }
+        Ok(())
+    }
+
+    pub fn load(&mut self, address: usize) -> Result<u32, Refused> {
+        let (page, offset) = self.admit(address)?;
+        let word = self.copies[page].words[offset];
+        self.block.push(event(self.number, LOAD, address as u32, word));
+        Ok(word)
+    }
+
+    pub fn store(&mut self, address: usize, word: u32) -> Result<(), Refused> {
+        let (page, offset) = self.admit(address)?;
+        let copy = &mut self.copies[page];
+        copy.words[offset] = word;
+        copy.dirty |= 1 << offset;
+        self.stored |= 1 << page;
+        self.block.push(event(self.number, STORE, address as u32, word));
+        Ok(())
+    }
+
+    pub fn fetch(&mut self, page: usize) -> Result<(), Refused> {
+        self.admit_event()?;
+        let Some(copy) = self.copies.get_mut(page) else {
+            return Err(Refused::OutOfRange);
+        };
+        if copy.valid {
+            return Err(Refused::Invalid);
+        }
+        let mut writers = 0u16;
+        let mut words = 0;
+        for (_, record) in &copy.missing {
+            writers |= 1 << record.owner;
+            words += record.words.len() as u32;
+            for (offset, word) in &record.words {
+                copy.words[*offset as usize] = *word;
+            }
+        }
+        let records = copy.missing.len() as u32;
+        copy.missing.clear();
+        copy.valid = true;
+        self.block.push(Event {
+            kind: FETCH,
+            processor: self.number,
+            writers: writers.count_ones() as u16,
+            place: page as u32,
+            value: records,
+            words,
+        });
+        Ok(())
+    }
+
+    fn learn(&mut self, records: Vec<(u64, Arc<Record>)>) {
+        for (place, record) in records {
+            let copy = &mut self.copies[record.page as usize];
+            let at = copy.missing.partition_point(|missing| missing.0 <= place);
+            copy.valid = false;
+            copy.missing.insert(at, (place, record));
+        }
+    }
+
+    fn harvest(&self) -> Vec<Arc<Record>> {
+        let mut records = Vec::new();
+        let mut stored = self.stored;
+        while stored != 0 {
+            let page = stored.trailing_zeros();
+            stored &= stored - 1;
+            let copy = &self.copies[page as usize];
+            let mut words = Vec::with_capacity(copy.dirty.count_ones() as usize);
+            let mut dirty = copy.dirty;
+            while dirty != 0 {
+                let offset = dirty.trailing_zeros();
+                dirty &= dirty - 1;
+                words.push((offset, copy.words[offset as usize]));
+            }
+            records.push(Arc::new(Record { page, owner: self.number, words }));
+        }
+        records
+    }
+
+    fn clean(&mut self) {
+        while self.stored != 0 {
+            self.copies[self.stored.trailing_zeros() as usize].dirty = 0;
+            self.stored &= self.stored - 1;
+        }
+    }
+}
+
+pub fn accesses(work: &str, times: usize) -> u32 {
+    let mut words = 0;
+    for _ in 0..times {
+        let (_cluster, mut all) = Cluster::new(16, 1, WORDS, 0);
+        for m in &mut all {
+            for value in 0..4 {
+                for address in 0..64 {
+                    match work {
+                        "load" => words |= m.load(address).unwrap(),
+                        "store" => m.store(address, value).unwrap(),
+                        _ => {}
+                    }
+                }
+            }
+        }
+    }
+    words
+}
+
+pub fn grants(times: usize) -> usize {
+    let (cluster, mut all) = Cluster::new(1, 1, WORDS, 1);
+    for _ in 0..times {
+        cluster.ask(&mut all[0], 0).unwrap();
+        cluster.take(&mut all[0]).unwrap();
+        cluster.release(&mut all[0], 0).unwrap();
+    }
+    times
+}
+
+/// The nanoseconds of 960 fetches of 64 words, the least of so many times.
+pub fn fetches(times: usize) -> u128 {
+    let (cluster, mut all) = Cluster::new(16, 64, WORDS, 1);
+    let mut least = u128::MAX;
+    for _ in 0..times {
+        for block in 0..16 {
+            for place in 0..256 {
+                all[0].store(256 * block + place, 7).unwrap();
+            }
+            cluster.flush(&mut all[0]).unwrap();
+        }
+        all.iter_mut().for_each(|m| cluster.arrive(m).unwrap());
+        all.iter_mut().for_each(|m| cluster.take(m).unwrap());
+        let began = Instant::now();
+        for m in &mut all[1..] {
+            for page in 0..64 {
+                m.fetch(page).unwrap();
+            }
+        }
+        least = least.min(began.elapsed().as_nanos());
+    }
+    least
+}
+
+fn insist(mut call: impl FnMut() -> Result<(), Refused>) {
+    while let Err(refused) = call() {
+        match refused {
+            Refused::NotYet => thread::yield_now(),
+            other => panic!("{other:?}"),
+        }
+    }
+}
+
+fn add(cluster: &Cluster, m: &mut Processor) {
+    insist(|| cluster.ask(m, 0));
+    insist(|| cluster.take(m));
+    if let Err(Refused::Invalid) = m.load(0) {
+        m.fetch(0).unwrap();
+    }
+    let word = m.load(0).unwrap();
+    m.store(0, word + 1).unwrap();
+    insist(|| cluster.release(m, 0));
+}
+
+fn meet(cluster: &Cluster, m: &mut Processor) {
+    insist(|| cluster.arrive(m));
+    insist(|| cluster.take(m));
+}
+
+fn on_threads(threads: usize, times: usize, task: fn(&Cluster, &mut Processor)) -> usize {
+    let (cluster, mut all) = Cluster::new(threads, 1, 1, 1);
+    thread::scope(|scope| {
+        for m in &mut all {
+            scope.spawn(|| (0..times).for_each(|_| task(&cluster, m)));
+        }
+    });
+    cluster.finish(all).len()
+}
+
+pub fn hand_over(threads: usize, times: usize) -> usize {
+    on_threads(threads, times, add)
+}
+
+pub fn barrier(threads: usize, times: usize) -> usize {
+    on_threads(threads, times, meet)
+}

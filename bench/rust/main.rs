@@ -1,0 +1,42 @@
+//! A plain Rust program of the same rules, to measure the product beside. It is no part of the product, nothing is
+//! proved of it, and it has no tests beyond the answers that it prints.
+//!
+//! `plain WORK TIMES [THREADS|FILE]` takes the words of `cluster_bench`, and `plain WORK EVENTS TIMES` those of `bench`.
+//! `plain whole FILE [--journal]` does what `lrc step FILE [--journal]` does, and prints the same.
+//! It uses std alone, events of 16 bytes, and one Mutex round what the processors share.
+
+mod book;
+mod journal;
+mod locks;
+mod run;
+mod script;
+
+use std::process::exit;
+
+fn number(words: &[String], at: usize) -> usize {
+    words.get(at).and_then(|word| word.parse().ok()).unwrap_or(1)
+}
+
+fn main() {
+    let words: Vec<String> = std::env::args().collect();
+    let work = words.get(1).map_or("", String::as_str);
+    let times = number(&words, 2);
+    let many = number(&words, 3);
+    match work {
+        "tickets" => println!("{}", locks::count::<locks::Tickets>(many, times)),
+        "row" => println!("{}", locks::count::<locks::Row>(many, times)),
+        "blank" | "load" | "store" => println!("{}", book::accesses(work, times)),
+        "grant" => println!("{}", book::grants(times)),
+        "hand_over" => println!("{}", book::hand_over(many, times)),
+        "barrier" => println!("{}", book::barrier(many, times)),
+        "fetch" => println!("{}", book::fetches(times)),
+        "parse" => println!("{}", script::parses(words.get(3).map_or("", String::as_str), times)),
+        "step" | "run" => println!("{}", run::runs(work, words.get(3).map_or("", String::as_str), times)),
+        "whole" => run::whole(words.get(2).map_or("", String::as_str), words.len() > 3),
+        "build" | "append" | "first_race" | "replay" | "traffic" | "copy" => journal::measure(work, times, many),
+        _ => {
+            eprintln!("usage: plain WORK TIMES [THREADS|FILE]");
+            exit(5);
+        }
+    }
+}
