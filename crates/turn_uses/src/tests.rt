@@ -34,18 +34,17 @@ fn four_threads_enter_a_thousand_times_with_a_row(rt: HostRuntime) -> Result<(),
     Ok(())
 }
 
-/// Nothing is lost, also where there are more threads than cores.
 #[test]
-fn a_million_entries_by_sixteen_threads_with_tickets(rt: HostRuntime) -> Result<(), Fail> {
-    let count = count_in_many::<Tickets, _>(&rt, rt.alloc(), 16, 62_500)?;
-    assert_eq!(rt; count, Some(1_000_000));
+fn sixteen_chairs_on_sixteen_threads_with_tickets(rt: HostRuntime) -> Result<(), Fail> {
+    let count = count_in_many::<Tickets, _>(&rt, rt.alloc(), 16, 100)?;
+    assert_eq!(rt; count, Some(1600));
     Ok(())
 }
 
 #[test]
-fn a_million_entries_by_sixteen_threads_with_a_row(rt: HostRuntime) -> Result<(), Fail> {
-    let count = count_in_many::<Row, _>(&rt, rt.alloc(), 16, 62_500)?;
-    assert_eq!(rt; count, Some(1_000_000));
+fn sixteen_chairs_on_sixteen_threads_with_a_row(rt: HostRuntime) -> Result<(), Fail> {
+    let count = count_in_many::<Row, _>(&rt, rt.alloc(), 16, 100)?;
+    assert_eq!(rt; count, Some(1600));
     Ok(())
 }
 
