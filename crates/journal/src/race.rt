@@ -260,11 +260,11 @@ pub(crate) fn first_race_of(
     let mut accesses = Accesses::new(alloc, addresses)?;
     for place in 0..events.len() {
         let event = events[place];
-        let time = *clocks.of(event.processor);
-        if let Some(first) = accesses.race_at(events, place, event, &time) {
+        let time = clocks.of(event.processor);
+        if let Some(first) = accesses.race_at(events, place, event, time) {
             return Ok(Some((first, place)));
         }
-        accesses.note(event, &time);
+        accesses.note(event, time);
         clocks.note(events, place)?;
     }
     Ok(None)
