@@ -1,16 +1,17 @@
 -- What the race checker's timestamps are by the events so far.
 use Rattle.std.specs.Prelude.{ℕ, ◌≡◌, ◌<◌, ◌≤◌, ◌-◌, List, slice_index, vec_len}
 use Rattle.lists.specs.Limits.{most_processors}
-use Rattle.std.specs.BTreeMap.{BTreeMap}
 use Rattle.journal.specs.declared.event.Event.{Event}
 use Rattle.journal.specs.declared.event.Kind.{Kind}
 use Rattle.journal.specs.declared.event.Kind.TheVariants.{Acquire, Release, Arrive, Depart, Set, Await}
 use Rattle.journal.specs.declared.clocks.Clocks.{Clocks}
+use Rattle.journal.specs.declared.numbered.Numbered.{Numbered}
+use Rattle.journal.specs.Numbered.{kept_entry}
 use Rattle.journal.specs.Events.{count_of, is_arrive, is_depart}
 use Rattle.journal.specs.Pasts.{UpToSome}
 use Rattle.journal.specs.Times.{IsTimeIn, IsTimeOf}
 use Rattle.journal.specs.Brings.{SomeDoes, SomeArrives}
-use Rattle.journal.specs.Entries.{entry, kept_entry, IsJoinedAt}
+use Rattle.journal.specs.Entries.{entry, IsJoinedAt}
 
 -- entry q of what an event of p of this kind brings, by the kept timestamps
 abbrev pub brought_entry : Clocks → ℕ → Kind → ℕ → ℕ
@@ -20,7 +21,7 @@ brought_entry c p Depart q = entry c.episodes.items (slice_index c.departures p 
 brought_entry c p _ q = 0
 
 -- what locks, flags and episodes keep, after an event of p of this kind that left p at this timestamp
-abbrev pub Keeps : Clocks → BTreeMap ℕ (List ℕ) → BTreeMap ℕ (List ℕ) → List (List ℕ) → ℕ → (ℕ → ℕ) → Kind → Type 0
+abbrev pub Keeps : Clocks → Numbered → Numbered → List (List ℕ) → ℕ → (ℕ → ℕ) → Kind → Type 0
 Keeps c locks flags episodes p own (Release l) =
     IsJoinedAt (kept_entry c.locks) (kept_entry locks) l own × (flags ≡ c.flags) × (episodes ≡ c.episodes.items)
 Keeps c locks flags episodes p own (Set f) =

@@ -8,8 +8,8 @@ abbrev pub entry : List (List ℕ) → ℕ → ℕ → ℕ
 entry clocks n q = slice_index (slice_index_or clocks n []) q
 
 -- entry q of the timestamp that is kept under the number n, 0 where there is none
-abbrev pub kept_entry : BTreeMap ℕ (List ℕ) → ℕ → ℕ → ℕ
-kept_entry clocks n q = slice_index (unwrap_or (get nat_cmp clocks n) []) q
+abbrev pub map_entry : BTreeMap ℕ (List ℕ) → ℕ → ℕ → ℕ
+map_entry clocks n q = slice_index (unwrap_or (get nat_cmp clocks n) []) q
 
 -- of these entries, those of timestamp n have joined this one, and the others are as before
 pub record IsJoinedAt (old new : ℕ → ℕ → ℕ) (n : ℕ) (time : ℕ → ℕ) : Type 0 where

@@ -23,6 +23,7 @@ pub mod Clocks
 pub mod Accesses
 pub mod Groups
 pub mod Missing
+pub mod Numbered
 pub mod Pages
 pub mod Dirty
 pub mod Counted

@@ -2,7 +2,7 @@
 
 ghost use Rattle.std.specs.Prelude.{◌≡◌, ℕ, ◌+◌, ◌<◌, ◌≤◌, ◌^◌, ◌≢◌, ◌↔◌, ◌==◌, IsTrue, IfOk, OnOk, cond, max, length, slice_index, slice_index_or};
 ghost use Rattle.std.specs.VecDeque.{deque_len};
-ghost use Rattle.journal.specs.Entries.{entry, kept_entry, IsJoinedAt};
+ghost use Rattle.journal.specs.Entries.{entry, map_entry, IsJoinedAt};
 
 use std::alloc::AllocError;
 use std::collections::{BTreeMap, VecDeque};
@@ -44,7 +44,7 @@ pub(crate) fn others_are_within(clock: &Clock, other: &Clock, processor: usize) 
 
 /// The timestamp that is kept under this number, zeros where there is none.
 pub(crate) fn clock_at(clocks: &BTreeMap<usize, Clock>, number: usize) -> Clock
-    ensures { (q : ℕ) → slice_index result q ≡ kept_entry clocks.now number q }
+    ensures { (q : ℕ) → slice_index result q ≡ map_entry clocks.now number q }
 {
     clocks.get(&number).copied().unwrap_or([0; 16])
 }
@@ -55,7 +55,7 @@ pub(crate) fn join_at(
     number: usize,
     clock: &Clock,
 ) -> Result<(), AllocError>
-    ensures { OnOk result (IsJoinedAt (kept_entry clocks.old) (kept_entry clocks.new) number (slice_index clock.now)) }
+    ensures { OnOk result (IsJoinedAt (map_entry clocks.old) (map_entry clocks.new) number (slice_index clock.now)) }
 {
     let mut kept = clock_at(clocks, number);
     join(&mut kept, clock);

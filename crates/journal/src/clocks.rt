@@ -7,19 +7,20 @@ ghost use Rattle.journal.specs.InRange.{ProcessorsInRange};
 ghost use Rattle.journal.specs.Entries.{entry};
 ghost use Rattle.journal.specs.Clocks.{brought_entry, Keeps, AreClocks};
 
-use crate::clock::{Clock, clock_at, clock_in, join, join_at, join_in, tick};
+use crate::clock::{Clock, clock_in, join, join_in, tick};
 use crate::event::{Event, Kind};
 use crate::kinds::{closes, departs, is_plain};
+use crate::numbered::Numbered;
 use std::alloc::{AllocError, Global};
-use std::collections::{BTreeMap, VecDeque};
+use std::collections::VecDeque;
 
 /// The timestamps after a journal's front: of each processor, and what each lock, each flag and each
 /// episode of the barrier keeps. The journal need not be one that a cluster can make.
 #[derive(Drop)]
 pub(crate) struct Clocks {
     processors: Vec<Clock>,
-    locks: BTreeMap<usize, Clock>,
-    flags: BTreeMap<usize, Clock>,
+    locks: Numbered,
+    flags: Numbered,
     episodes: VecDeque<Clock>,
     arrivals: [u32; 16],
     departures: [u32; 16],
@@ -45,8 +46,8 @@ impl Clocks {
     {
         Ok(Clocks {
             processors: vec![in alloc; [0; 16]; 16]?,
-            locks: BTreeMap::new(alloc),
-            flags: BTreeMap::new(alloc),
+            locks: Numbered::new(alloc),
+            flags: Numbered::new(alloc),
             episodes: VecDeque::new(alloc),
             arrivals: [0; 16],
             departures: [0; 16],
@@ -70,8 +71,8 @@ impl Clocks {
         ensures { (q : ℕ) → slice_index result q ≡ brought_entry self.now event.processor event.kind q }
     {
         match event.kind {
-            Kind::Acquire(lock) => clock_at(&self.locks, lock),
-            Kind::Await(flag) => clock_at(&self.flags, flag),
+            Kind::Acquire(lock) => self.locks.at(lock),
+            Kind::Await(flag) => self.flags.at(flag),
             Kind::Depart => {
                 let episode = self.departures[event.processor] as usize;
                 clock_in(&self.episodes, episode - self.gone)
@@ -108,8 +109,8 @@ impl Clocks {
         ensures keeps { OnOk result (Keeps self.old self.new.locks self.new.flags self.new.episodes.items event.processor (slice_index own.now) event.kind) }
     {
         match event.kind {
-            Kind::Release(lock) => join_at(&mut self.locks, lock, own),
-            Kind::Set(flag) => join_at(&mut self.flags, flag, own),
+            Kind::Release(lock) => self.locks.join(lock, own),
+            Kind::Set(flag) => self.flags.join(flag, own),
             Kind::Arrive => {
                 let episode = self.arrivals[event.processor] as usize;
                 if episode < self.gone {

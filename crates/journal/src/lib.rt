@@ -23,6 +23,7 @@ mod kept;
 mod kinds;
 mod laws;
 mod limits;
+mod numbered;
 mod race;
 mod replay;
 mod slow;

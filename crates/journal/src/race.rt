@@ -241,9 +241,10 @@ impl Accesses {
 /// looked for once, at the end.
 ///
 /// An access takes a constant time, but for unordered loads; such a load, and an event of a lock, a flag or the
-/// barrier, takes time in the order of the processors, and for a lock or a flag the logarithm of how many of
-/// these occur besides. It takes memory in the order of the addresses, the locks and flags that occur and the
-/// open episodes, times the processors, however great the locks' and flags' numbers are.
+/// barrier, takes time in the order of the processors, and for a lock or a flag of a number from 1024 on the
+/// logarithm of how many of these occur besides. It takes memory in the order of the addresses, the locks and
+/// flags that occur and the open episodes, times the processors, and a table of 64 KiB at most for the locks
+/// and one for the flags, however great their numbers are.
 pub(crate) fn first_race_of(
     alloc: Global,
     processors: usize,
@@ -260,11 +261,11 @@ pub(crate) fn first_race_of(
     let mut accesses = Accesses::new(alloc, addresses)?;
     for place in 0..events.len() {
         let event = events[place];
-        let time = *clocks.of(event.processor);
-        if let Some(first) = accesses.race_at(events, place, event, &time) {
+        let time = clocks.of(event.processor);
+        if let Some(first) = accesses.race_at(events, place, event, time) {
             return Ok(Some((first, place)));
         }
-        accesses.note(event, &time);
+        accesses.note(event, time);
         clocks.note(events, place)?;
     }
     Ok(None)

@@ -1,6 +1,5 @@
 -- The race checker's timestamps after one more event.
 use Rattle.std.proofs.Common.{◌≡◌, ◌≢◌, ℕ, ◌+◌, ◌<◌, ◌≤◌, ◌-◌, ◌^◌, max, List, [], ◌∷◌, ◌++◌, length, take, inl, inr, Bool, false, cond, ◌==◌, ◌&&◌, slice_index, vec_len, subst, sym, refl, ap, ◌∙◌, add-one, arith}
-use Rattle.std.specs.BTreeMap.{BTreeMap}
 use Rattle.std.proofs.lemmas.Bool.{cases_eq, cases_lt}
 use Rattle.std.proofs.lemmas.List.Sums.{count_by-le-length}
 use Rattle.journal.specs.declared.event.Event.{Event}
@@ -12,7 +11,9 @@ use Rattle.journal.specs.Events.{At, count_of, is_closing, is_taking, is_arrive,
 use Rattle.journal.specs.Pasts.{InPast, UpToSome}
 use Rattle.journal.specs.Times.{IsTimeIn, IsTimeOf}
 use Rattle.journal.specs.Brings.{SomeDoes, SomeArrives, Brings}
-use Rattle.journal.specs.Entries.{entry, kept_entry, IsJoinedAt}
+use Rattle.journal.specs.Entries.{entry, IsJoinedAt}
+use Rattle.journal.specs.declared.numbered.Numbered.{Numbered}
+use Rattle.journal.specs.Numbered.{kept_entry}
 use Rattle.journal.specs.Clocks.{brought_entry, Keeps, AreClocks}
 use Rattle.lists.proofs.Places.{push_cases, take-suc_at}
 use Rattle.journal.proofs.Order.Places.{count_of-append}
@@ -294,7 +295,7 @@ own_room j c p k q h few a =
     let y = time_small j (Brings j p k) (brought_entry c p k) q (brought_time j c p k a h) in
     omega arith
 
-pub keeps_same : (c : Clocks) (p : ℕ) (own : ℕ → ℕ) (k : Kind) (locks flags locks' flags' : BTreeMap ℕ (List ℕ))
+pub keeps_same : (c : Clocks) (p : ℕ) (own : ℕ → ℕ) (k : Kind) (locks flags locks' flags' : Numbered)
     (episodes episodes' : List (List ℕ))
     → locks' ≡ locks → flags' ≡ flags → episodes' ≡ episodes → Keeps c locks flags episodes p own k
     → Keeps c locks' flags' episodes' p own k

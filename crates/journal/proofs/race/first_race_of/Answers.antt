@@ -20,8 +20,8 @@ use Rattle.journal.proofs.race.first_race_of.Goals as goal
 abbrev here : List Event → ℕ → Event
 here events place = slice_index_or events place (event 0 (Load 0 0))
 
-pub of-requires : goal.of-requires
-of-requires c =
+pub of-time-requires : goal.of-time-requires
+of-time-requires c =
     let at = slice_get-get_or c.args.events.now c.loop-place.place (event 0 (Load 0 0)) (omega arith) in
     let present = c.requires.processors c.loop-place.place (here c.args.events.now c.loop-place.place) at in
     let long = c.loop-place.invariant.0.long in
@@ -53,8 +53,8 @@ race_at-requires-clause-time c =
     let lt : e.processor < 16 = omega (arith, c.requires.few_processors) in
     time_equal (take c.loop-place.place c.args.events.now)
     (InPast (take c.loop-place.place c.args.events.now) e.processor)
-    (entry c.loop-place.clocks.processors.items e.processor) (slice_index c.of.result.now)
-    (λ q. sym (c.of.ensures q)) (c.loop-place.invariant.0.times e.processor lt)
+    (entry c.loop-place.clocks.processors.items e.processor) (slice_index c.of-time.result.now)
+    (λ q. sym (c.of-time.ensures q)) (c.loop-place.invariant.0.times e.processor lt)
 
 pub returns-in-Some : goal.returns-in-Some
 returns-in-Some c = record {
@@ -83,7 +83,7 @@ note-requires-clause-interval c =
     (entry c.loop-place.clocks.processors.items e.processor) e.processor
     (c.loop-place.invariant.0.times e.processor lt) in
     let long = length-take-le c.loop-place.place c.args.events.now (omega arith) in
-    let is = c.of.ensures e.processor in
+    let is = c.of-time.ensures e.processor in
     let few = c.requires.few in
     omega arith
 
@@ -108,16 +108,16 @@ loop-place-preserved c =
     let present = c.requires.processors c.loop-place.place e at in
     let lt : e.processor < 16 = omega (arith, c.requires.few_processors) in
     let front = take c.loop-place.place c.args.events.now in
-    let time : IsTimeOf front e.processor (slice_index c.of.result.now) =
+    let time : IsTimeOf front e.processor (slice_index c.of-time.result.now) =
     time_equal front (InPast front e.processor) (entry c.loop-place.clocks.processors.items e.processor)
-    (slice_index c.of.result.now) (λ q. sym (c.of.ensures q)) (c.loop-place.invariant.0.times e.processor lt)
+    (slice_index c.of-time.result.now) (λ q. sym (c.of-time.ensures q)) (c.loop-place.invariant.0.times e.processor lt)
     in
     let at = slice_get-get_or c.args.events.now c.loop-place.place (event 0 (Load 0 0)) (omega arith) in
     let here_none : (i : ℕ) → Race c.args.events.now i c.loop-place.place → ⊥ = c.in_default.ensures in
     let accesses =
-    accesses_next front e (slice_index c.of.result.now) c.args.addresses c.loop-place.accesses c.note.new.self
+    accesses_next front e (slice_index c.of-time.result.now) c.args.addresses c.loop-place.accesses c.note.new.self
     time c.loop-place.invariant.1
-    (ordered_here c.args.events.now c.loop-place.place e (slice_index c.of.result.now) at time here_none)
+    (ordered_here c.args.events.now c.loop-place.place e (slice_index c.of-time.result.now) at time here_none)
     c.note.ensures.last_long c.note.ensures.loads_long e.kind refl c.note.ensures.noted in (
       c.in_ok-note.ensures.clocks,
       subst (λ xs. AreAccesses xs c.args.addresses c.note.new.self)
