@@ -1,5 +1,5 @@
 -- How the kept intervals lie: one queue for each owner.
-use Rattle.std.specs.Prelude.{ℕ, ◌≡◌, ◌+◌, ◌-◌, ◌<◌, min, max, drop, take, nat_lt, cond, Option, Some, None, List, [], ◌∷◌, map, length, slice_get}
+use Rattle.std.specs.Prelude.{ℕ, ◌≡◌, ◌≢◌, ◌↔◌, ◌+◌, ◌-◌, ◌<◌, min, max, drop, take, nat_lt, cond, Some, List, [], ◌∷◌, map, length, slice_get}
 use Rattle.std.specs.List.{flat_map}
 use Rattle.lists.specs.Places.{Has, InOrder}
 use Rattle.interval.specs.declared.kept.Kept.{Kept}
@@ -54,15 +54,10 @@ pub record AreQueues (queues : List Queue) (count : ℕ) : Type 0 where
   pub apart : (q r : ℕ) (a b : Queue) (j k : Kept) → slice_get queues q ≡ Some a → slice_get queues r ≡ Some b
       → Has a.kept j → Has b.kept k → j.place ≡ k.place → q ≡ r
 
--- the queue's first interval numbered within from..to
-abbrev pub first_within : Queue → ℕ → ℕ → Option Kept
-first_within queue from to = cond (nat_lt from to) (slice_get queue.kept (from - queue.first)) None
-
--- the one that was closed first
-abbrev pub earlier : Option Kept → Option Kept → Option Kept
-earlier None o = o
-earlier (Some a) None = Some a
-earlier (Some a) (Some b) = cond (nat_lt b.place a.place) (Some b) (Some a)
+-- the list has just these intervals, in any order, and no closing number twice
+pub record AreAll (ks list : List Kept) : Type 0 where
+  pub same : (k : Kept) → Has list k ↔ Has ks k
+  pub apart : InOrder (λ (j k : Kept). j.place ≢ k.place) list
 
 -- the queue without the intervals with numbers below `to`
 abbrev pub without : Queue → ℕ → Queue

@@ -1,13 +1,14 @@
 //! The closed intervals of all owners.
-ghost use Rattle.std.specs.Prelude.{◌≡◌, ℕ, ◌+◌, ◌-◌, ◌^◌, ◌<◌, ◌≤◌, ◌==◌, MatchOption, OnOk, OnErr, IfOk, List, replicate, [], ◌∷◌, length, find, filter, count_by, slice_get, slice_index, EachIndex};
+ghost use Rattle.std.specs.Prelude.{◌≡◌, ℕ, ◌+◌, ◌-◌, ◌^◌, ◌<◌, ◌≤◌, ◌==◌, MatchOption, OnOk, OnErr, IfOk, List, replicate, [], ◌∷◌, length, find, filter, count_by, slice_get, slice_index, EachIndex, map};
 ghost use Rattle.std.specs.Option.{option_copied};
 ghost use Rattle.vtime.specs.Times.{tick};
 ghost use Rattle.interval.specs.Intervals.{HasRisingPages, IsInClosingOrder};
 ghost use Rattle.interval.specs.Closings.{pushed, trimmed, is_news, between, is_of_page, record_of};
+ghost use Rattle.interval.specs.Queues.{AreAll};
 
 use crate::kept::{Interval, Kept};
 use crate::notice::{Notice, Sent};
-use crate::queue::{Queue, earlier};
+use crate::queue::Queue;
 use page::Record;
 use std::alloc::{AllocError, Global};
 use std::marker::Model;
@@ -71,8 +72,9 @@ impl Closed {
 
     /// What has to be sent to one who has performed `old` and is to perform `new`: the records of the
     /// kept intervals that `new` covers and `old` doesn't, in closing order, and within one interval by
-    /// rising page. Each interval that is sent costs a look at every owner, also where it has no record,
-    /// and each of its records a step; what else is kept costs nothing. It takes memory for what it answers.
+    /// rising page. It costs a look at every owner, a sort of the intervals that are sent, and a step for
+    /// each record; what else is kept costs nothing. It takes memory for those intervals and for what it
+    /// answers.
     pub fn between(&self, old: &VTime, new: &VTime) -> Result<Vec<Sent>, AllocError>
         requires old_long { length old.now ≡ length self.now.first }
         requires new_long { length new.now ≡ length self.now.first }
@@ -80,9 +82,10 @@ impl Closed {
         ensures value { IfOk result (λ sent. sent.items ≡ between self.now old.now new.now) }
         ensures in_order { IfOk result (λ sent. IsInClosingOrder sent.items) }
     {
-        let mut at = old.copy();
+        let mut news = self.news(old, new)?;
+        news.sort_unstable_by_key(|kept| kept.place);
         let mut sent = Vec::new(*self.queues.allocator());
-        while let Some(kept) = self.next_news(&mut at, new) {
+        for kept in &news {
             kept.send(&mut sent)?;
         }
         Ok(sent)
@@ -154,40 +157,18 @@ impl Closed {
         Ok(sent)
     }
 
-    /// The first interval that `new` covers and `at` doesn't. From now on `at` covers it too.
-    fn next_news(&self, at: &mut VTime, new: &VTime) -> Option<&Kept>
-        requires at_long { length at.old ≡ length self.now.first }
+    /// The intervals that `new` covers and `old` doesn't, owner by owner.
+    fn news(&self, old: &VTime, new: &VTime) -> Result<Vec<&Kept>, AllocError>
+        requires old_long { length old.now ≡ length self.now.first }
         requires new_long { length new.now ≡ length self.now.first }
-        requires none_trimmed { (q : ℕ) → slice_index self.now.first q ≤ slice_index at.old q }
-        ensures next { MatchOption result ((filter (is_news at.old new.now) self.now.kept ≡ []) × (at.new ≡ at.old))
-            (λ k. filter (is_news at.old new.now) self.now.kept ≡ k.now ∷ filter (is_news at.new new.now) self.now.kept) }
-        ensures at_long { length at.new ≡ length self.now.first }
-        ensures none_trimmed { (q : ℕ) → slice_index self.now.first q ≤ slice_index at.new q }
+        requires none_trimmed { (q : ℕ) → slice_index self.now.first q ≤ slice_index old.now q }
+        ensures { IfOk result (λ news. AreAll (filter (is_news old.now new.now) self.now.kept) (map (λ k. k.now) news.items)) }
     {
-        let kept = self.earliest(at, new)?;
-        let owner = kept.owner();
-        prove!(at.entry(owner) < new.entry(owner));
-        at.tick(owner);
-        Some(kept)
-    }
-
-    /// The first interval that `new` covers and `at` doesn't.
-    fn earliest(&self, at: &VTime, new: &VTime) -> Option<&Kept>
-        requires at_long { length at.now ≡ length self.now.first }
-        requires new_long { length new.now ≡ length self.now.first }
-        requires none_trimmed { (q : ℕ) → slice_index self.now.first q ≤ slice_index at.now q }
-        ensures { MatchOption result (filter (is_news at.now new.now) self.now.kept ≡ [])
-            (λ k. filter (is_news at.now new.now) self.now.kept
-            ≡ k.now ∷ filter (is_news (tick at.now k.now.interval.owner) new.now) self.now.kept) }
-    {
-        let mut earliest = None;
+        let mut news = Vec::new(*self.queues.allocator());
         for (owner, queue) in self.queues.iter().enumerate() {
-            earliest = earlier(
-                earliest,
-                queue.first_within(at.entry(owner), new.entry(owner)),
-            );
+            queue.gather(old.entry(owner), new.entry(owner), &mut news)?;
         }
-        earliest
+        Ok(news)
     }
 
     /// The record that a notice announces: `None` where its interval was trimmed or never was.

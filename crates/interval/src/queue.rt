@@ -1,7 +1,7 @@
 //! The kept intervals of one owner.
-ghost use Rattle.std.specs.Prelude.{◌≡◌, ◌-◌, ◌≤◌, [], ◌∷◌, ◌++◌, slice_get, OnOk, OnErr};
+ghost use Rattle.std.specs.Prelude.{◌≡◌, ◌-◌, ◌≤◌, [], ◌∷◌, ◌++◌, map, slice_get, OnOk, OnErr};
 ghost use Rattle.std.specs.Option.{option_copied};
-ghost use Rattle.interval.specs.Queues.{first_within, within, earlier, without};
+ghost use Rattle.interval.specs.Queues.{within, without};
 ghost use Rattle.interval.specs.Counts.{pages_of, AreCounted, HasRoom};
 
 use crate::kept::Kept;
@@ -60,12 +60,22 @@ impl Queue {
         self.kept.get((number - self.first) as usize)
     }
 
-    /// The first interval with a number in `from..to`.
-    pub(crate) fn first_within(&self, from: u64, to: u64) -> Option<&Kept>
+    /// Adds the intervals with numbers in `from..to` to the list, by rising number.
+    pub(crate) fn gather<'q>(
+        &'q self,
+        from: u64,
+        to: u64,
+        news: &mut Vec<&'q Kept>,
+    ) -> Result<(), AllocError>
         requires { self.now.first ≤ from }
-        ensures { option_copied result ≡ first_within self.now from to }
+        ensures { OnOk result (map (λ k. k.now) news.new.items ≡ map (λ k. k.now) news.old.items ++ within self.now from to) }
     {
-        if from < to { self.numbered(from) } else { None }
+        let start = (from - self.first) as usize;
+        let end = to.saturating_sub(self.first).min(self.kept.len() as u64) as usize;
+        for index in start..end {
+            news.push(&self.kept[index])?;
+        }
+        Ok(())
     }
 
     /// Counts the records of the intervals with numbers in `from..to`, by pages, as
@@ -91,16 +101,5 @@ impl Queue {
             let _ = self.kept.pop_front();
         }
         self.first += count;
-    }
-}
-
-/// Of two intervals, the one that was closed first.
-pub(crate) fn earlier<'a>(one: Option<&'a Kept>, other: Option<&'a Kept>) -> Option<&'a Kept>
-    ensures { option_copied result ≡ earlier (option_copied one.entry) (option_copied other.entry) }
-{
-    match (one, other) {
-        (Some(a), Some(b)) => Some(if b.place < a.place { b } else { a }),
-        (Some(a), None) => Some(a),
-        (None, other) => other,
     }
 }

@@ -1,11 +1,40 @@
-use Rattle.interval.proofs.News.UnderWay.{all_sent}
+use Rattle.std.proofs.Common.{rules, List, map, Bor, ap, arith, ◌∙◌}
+use Rattle.std.specs.List.{flat_map}
+use Rattle.std.proofs.lemmas.List.{take_all}
+use Rattle.std.proofs.lemmas.List.Sorted.{IsNonDecreasingBy-from_sort_by_key}
+use Rattle.interval.specs.declared.kept.Kept.{Kept}
+use Rattle.interval.specs.Closings.{sent_interval}
+use Rattle.interval.proofs.News.Gathered.{sent_more, rises-news}
 use Rattle.interval.proofs.News.InClosingOrder.{between_in_order}
+use Rattle.interval.proofs.Order.Sorted.{sorted_all}
 use Rattle.interval.proofs.closed.Closed.between.Goals as goal
+
+abbrev kept : Bor Kept → Kept
+kept k = k.now
+
+pub loop-kept-init : goal.loop-kept-init
+loop-kept-init c = c.new-sent.ensures.items
+
+pub loop-kept-preserved : goal.loop-kept-preserved
+loop-kept-preserved c =
+    sent_more kept c.deref-kept-items.result.now c.loop-kept.kept-index c.kept-item.result c.loop-kept.sent.items
+    c.send.new.sent.items c.loop-kept-test.true c.kept-item.is c.loop-kept.invariant c.in_ok-send.ensures
+
+pub returns-clause-value : goal.returns-clause-value
+returns-clause-value c =
+    let sorted = IsNonDecreasingBy-from_sort_by_key (λ (k : Bor Kept). k.now.place) _
+    c.sort_unstable_by_key.ensures.sorted (λ a r q k. search rules) in
+    let all =
+    sorted_all kept _ c.in_ok-news.news.items c.sort_unstable_by_key.new.self.items
+    (rises-news c.self.inside.queues.items c.self.inside.pushed c.args.self.now c.args.old.now c.args.new.now
+    c.self.view_is)
+    c.in_ok-news.ensures c.sort_unstable_by_key.ensures.permutation sorted in
+    c.loop-kept.invariant
+    ∙ ap (λ (ks : List (Bor Kept)). flat_map sent_interval (map kept ks))
+    (take_all c.loop-kept.kept-index c.deref-kept-items.result.now (omega arith) ∙ c.deref-kept-items.ensures.value)
+    ∙ ap (flat_map sent_interval) all
 
 pub returns-clause-in_order : goal.returns-clause-in_order
 returns-clause-in_order c =
-    let sent =
-    all_sent c.args.self.now c.args.old.now c.args.new.now c.loop-kept.at c.loop-kept.sent.items
-    c.in_default.ensures.next.0 c.loop-kept.invariant in
     between_in_order c.self.inside.queues.items c.self.inside.pushed c.args.self.now c.args.old.now c.args.new.now
-    c.loop-kept.sent.items c.self.view_is c.self.invariant sent
+    c.loop-kept.sent.items c.self.view_is c.self.invariant (returns-clause-value c)

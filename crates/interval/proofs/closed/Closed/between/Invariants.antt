@@ -1,10 +1,10 @@
-use Rattle.std.proofs.Common.{filter, length}
-use Rattle.interval.specs.Closings.{is_news}
-use Rattle.interval.proofs.News.UnderWay.{IsUnderWay}
+-- The records of the intervals so far are sent.
+use Rattle.std.proofs.Common.{◌≡◌, map, take, Bor}
+use Rattle.std.specs.List.{flat_map}
+use Rattle.interval.specs.declared.kept.Kept.{Kept}
+use Rattle.interval.specs.Closings.{sent_interval}
 use Rattle.interval.proofs.closed.Closed.between.Given as goal
 
 abbrev pub invariant-loop-kept : goal.invariant-loop-kept
-invariant-loop-kept l = IsUnderWay l.self l.old l.new l.at l.sent.items
-
-abbrev pub decreases-loop-kept : goal.decreases-loop-kept
-decreases-loop-kept l = length (filter (is_news l.at l.new) l.self.kept)
+invariant-loop-kept l =
+    l.sent.items ≡ flat_map sent_interval (map (λ (k : Bor Kept). k.now) (take l.kept-index l.kept-items))

@@ -1,4 +1,4 @@
-use Rattle.interval.proofs.News.Earliest.{owned_queue}
+use Rattle.interval.proofs.News.Gathered.{owned_queue}
 use Rattle.interval.proofs.Queues.Found.{first_number}
 use Rattle.interval.proofs.closed.Closed.first.Goals as goal
 

@@ -2,7 +2,7 @@ use Rattle.std.proofs.Common.{◌≡◌, Some, slice_get, ap, ◌∙◌}
 use Rattle.interval.specs.Closings.{Closings, between}
 use Rattle.interval.proofs.News.Unchanged.{between-trimmed}
 use Rattle.interval.proofs.Queues.Trimmed.{are_trimmed, closings_trimmed}
-use Rattle.interval.proofs.News.Earliest.{owned_queue}
+use Rattle.interval.proofs.News.Gathered.{owned_queue}
 use Rattle.interval.proofs.closed.Closed.trim.Goals as goal
 
 owned : (c : goal.After-self-1) → slice_get c.self.inside.queues.items c.args.owner ≡ Some c.index_mut.result.now

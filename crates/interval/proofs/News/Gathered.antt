@@ -1,0 +1,145 @@
+-- The news of all queues, owner by owner.
+use Rattle.std.proofs.Common.{◌≡◌, ◌≢◌, ◌↔◌, ℕ, ◌<◌, ◌≤◌, ◌+◌, ◌-◌, Some, List, [], ◌∷◌, ◌++◌, filter, map, take, get_or, slice_get, length, length-drop, length-take, min, refl, sym, ap, ap₂, subst, arith, ◌∙◌}
+use Rattle.std.specs.List.{flat_map}
+use Rattle.std.proofs.lemmas.List.{append-nil, append_assoc, length-map, map-append, take_all, take_more}
+use Rattle.std.proofs.lemmas.Grind.{flat_map-append}
+use Rattle.std.proofs.lemmas.Option.{slice_get_read, get_or_from_slice_get}
+use Rattle.lists.specs.Places.{Has, InOrder}
+use Rattle.lists.proofs.Joined.{has-flat_map, in_order-flat_map, in_order_weaker}
+use Rattle.lists.proofs.Picked.{has-filter, in_order-filter}
+use Rattle.interval.specs.declared.kept.Kept.{Kept}
+use Rattle.interval.specs.Intervals.{SentRecord}
+use Rattle.interval.specs.Closings.{Closings, is_news, sent_interval}
+use Rattle.interval.specs.Queues.{Queue, merged, closings, within, AreAll, AreQueues}
+use Rattle.interval.proofs.Counts.Walked.{queue_news}
+use Rattle.interval.proofs.Order.ByPlace.{IsBefore, Rises}
+use Rattle.interval.proofs.Queues.Merged.{Lies, merged_lies, lies_merged, rises-merged}
+
+-- a list that has grown by the first items of another, and grows by the next
+pub grown_more : {X : Type 0} (start now xs : List X) (k : ℕ) (x : X) → k < length xs → x ≡ get_or xs k x
+    → now ≡ start ++ take k xs → now ++ x ∷ [] ≡ start ++ take (k + 1) xs
+grown_more {X} start now xs k x inside is so_far =
+    let step = take_more xs k x inside in
+    let one : take (k + 1) xs ≡ take k xs ++ x ∷ [] = rw (← is) at step in
+    ap (λ (ys : List X). ys ++ x ∷ []) so_far ∙ append_assoc start (take k xs) (x ∷ [])
+    ∙ ap (λ (ys : List X). start ++ ys) (sym one)
+
+-- how many intervals of a queue are numbered within from..to
+pub within_few : (held queue : Queue) (from to : ℕ) → held ≡ queue
+    → length (within queue from to) ≤ min (to - held.first) (length held.kept) - (from - held.first)
+within_few held queue from to same =
+    let front = length-take (to - held.first) held.kept in
+    let long = length-drop (from - held.first) (take (to - held.first) held.kept) in
+    let P : Queue → Type 0 =
+    λ q. length (within q from to) ≤ min (to - held.first) (length held.kept) - (from - held.first) in
+    subst P same (omega arith)
+
+-- the news of a queue
+abbrev pub own_news : List ℕ → List ℕ → Queue → List Kept
+own_news old new q = filter (is_news old new) q.kept
+
+-- what stands among the news of all queues
+gathered_same : (queues : List Queue) (count : ℕ) (old new : List ℕ) → AreQueues queues count → (k : Kept)
+    → Has (flat_map (own_news old new) queues) k ↔ Has (filter (is_news old new) (merged queues)) k
+gathered_same queues count old new are k = (
+  λ h.
+      let w = (has-flat_map (own_news old new) queues k).0 h in
+      let p = (has-filter (is_news old new) w.0.kept k).0 w.2 in
+      let l : Lies queues k =
+      record { owner = w.1.0; queue = w.0; index = p.0.0; owned = w.1.1; at = p.0.1 } in
+      (has-filter (is_news old new) (merged queues) k).1 (lies_merged queues count are k l, p.1),
+  λ h.
+      let p = (has-filter (is_news old new) (merged queues) k).0 h in
+      let l = merged_lies queues k p.0 in
+      (has-flat_map (own_news old new) queues k).1 (
+        l.queue,
+        (l.owner, l.owned),
+        (has-filter (is_news old new) l.queue.kept k).1 ((l.index, l.at), p.1),
+      ),
+)
+
+-- no closing number stands twice among them
+abbrev Differ : Kept → Kept → Type 0
+Differ j k = j.place ≢ k.place
+
+gathered_apart : (queues : List Queue) (count : ℕ) (old new : List ℕ) → AreQueues queues count
+    → InOrder Differ (flat_map (own_news old new) queues)
+gathered_apart queues count old new are =
+    in_order-flat_map Differ (own_news old new) queues
+    (λ q has. in_order-filter Differ (is_news old new) q.kept
+    (in_order_weaker (λ (j k : Kept). j.place < k.place) Differ q.kept (λ j k h g lt e. absurd (omega arith))
+    (are.each has.0 q has.1).rising))
+    (λ x y a b less at_x at_y j k h g same.
+    let at_j = ((has-filter (is_news old new) a.kept j).0 h).0 in
+    let at_k = ((has-filter (is_news old new) b.kept k).0 g).0 in
+    let one = are.apart x y a b j k at_x at_y at_j at_k same in absurd (omega arith))
+
+-- the owner's queue, as it is read
+pub owned_queue : (queues : List Queue) (count : ℕ) (value : Closings) (owner : ℕ) (queue : Queue)
+    → closings queues count ≡ value → owner < length value.first
+    → queue ≡ get_or queues owner queue → slice_get queues owner ≡ Some queue
+owned_queue queues count value owner queue is in_range read =
+    let firsts : map (λ (q : Queue). q.first) queues ≡ value.first = ap (λ (c : Closings). c.first) is in
+    let long = length-map queues (λ (q : Queue). q.first) in
+    let longs = ap length firsts in
+    slice_get_read queues (length queues) owner queue refl (omega arith) read
+
+-- the news of the queues so far, and those of one more
+pub gathered_more : (queues items : List Queue) (count : ℕ) (old new : List ℕ) (owner from to : ℕ) (queue : Queue)
+    (before now : List Kept)
+    → items ≡ queues → AreQueues queues count
+    → owner < length items → queue ≡ get_or items owner queue → slice_get old owner ≡ Some from
+    → slice_get new owner ≡ Some to → before ≡ flat_map (own_news old new) (take owner items)
+    → now ≡ before ++ within queue from to → now ≡ flat_map (own_news old new) (take (owner + 1) items)
+gathered_more queues items count old new owner from to queue before now same are inside read old_at new_at so_far is =
+    let owned : slice_get queues owner ≡ Some queue =
+    ap (λ (qs : List Queue). slice_get qs owner) (sym same)
+    ∙ slice_get_read items (length items) owner queue refl inside read in
+    let own : own_news old new queue ≡ within queue from to =
+    queue_news owner count queue old new (are.each owner queue owned)
+    ∙ ap₂ (λ (a b : ℕ). within queue a b) (get_or_from_slice_get old owner from 0 old_at)
+    (get_or_from_slice_get new owner to 0 new_at) in
+    let step = take_more items owner queue inside in
+    let one : take (owner + 1) items ≡ take owner items ++ queue ∷ [] = rw (← read) at step in
+    is ∙ ap₂ (λ (xs ys : List Kept). xs ++ ys) so_far (sym own)
+    ∙ ap (λ (ys : List Kept). flat_map (own_news old new) (take owner items) ++ ys)
+    (sym (append-nil (own_news old new queue)))
+    ∙ sym (flat_map-append (own_news old new) (take owner items) (queue ∷ []))
+    ∙ sym (ap (flat_map (own_news old new)) one)
+
+-- once all queues were gone through
+pub gathered_all : (queues items : List Queue) (count : ℕ) (value : Closings) (old new : List ℕ) (n : ℕ)
+    (news : List Kept)
+    → items ≡ queues → closings queues count ≡ value → AreQueues queues count
+    → length items ≤ n → news ≡ flat_map (own_news old new) (take n items)
+    → AreAll (filter (is_news old new) value.kept) news
+gathered_all queues items count value old new n news same is are end so_far =
+    let all : news ≡ flat_map (own_news old new) queues =
+    so_far ∙ ap (flat_map (own_news old new)) (take_all n items end ∙ same) in
+    let found : AreAll (filter (is_news old new) (merged queues)) (flat_map (own_news old new) queues) = record {
+      same = gathered_same queues count old new are;
+      apart = gathered_apart queues count old new are;
+    } in
+    let P : List Kept → Type 0 = λ ks. AreAll (filter (is_news old new) (merged queues)) ks in
+    let Q : Closings → Type 0 = λ c. AreAll (filter (is_news old new) c.kept) news in
+    subst Q is (subst P (sym all) found)
+
+-- the records of the intervals so far, and those of one more
+pub sent_more : {X : Type 0} (kept : X → Kept) (items : List X) (n : ℕ) (x : X) (before now : List SentRecord)
+    → n < length items → x ≡ get_or items n x → before ≡ flat_map sent_interval (map kept (take n items))
+    → now ≡ before ++ sent_interval (kept x) → now ≡ flat_map sent_interval (map kept (take (n + 1) items))
+sent_more {X} kept items n x before now inside read so_far is =
+    let step = take_more items n x inside in
+    let one : take (n + 1) items ≡ take n items ++ x ∷ [] = rw (← read) at step in
+    let last : flat_map sent_interval (map kept (x ∷ [])) ≡ sent_interval (kept x) = append-nil (sent_interval (kept x)) in
+    is ∙ ap₂ (λ (xs ys : List SentRecord). xs ++ ys) so_far (sym last)
+    ∙ sym (flat_map-append sent_interval (map kept (take n items)) (map kept (x ∷ [])))
+    ∙ ap (flat_map sent_interval) (sym (map-append kept (take n items) (x ∷ [])))
+    ∙ ap (λ (xs : List X). flat_map sent_interval (map kept xs)) (sym one)
+
+-- the news that contracts see come in closing order
+pub rises-news : (queues : List Queue) (count : ℕ) (value : Closings) (old new : List ℕ)
+    → closings queues count ≡ value → Rises (filter (is_news old new) value.kept)
+rises-news queues count value old new is =
+    let P : Closings → Type 0 = λ c. Rises (filter (is_news old new) c.kept) in
+    subst P is (in_order-filter IsBefore (is_news old new) (merged queues) (rises-merged queues))
