@@ -9,6 +9,7 @@ use Rattle.journal.specs.declared.event.Kind.TheVariants.{Ask, Acquire, Arrive, 
 use Rattle.journal.specs.Sizes.{Sizes}
 use Rattle.journal.specs.Events.{count_of, is_arrive, is_depart, is_closing}
 use Rattle.journal.specs.WellFormed.{Allowed, MayFollow, WellFormed}
+use Rattle.journal.proofs.Journals.WellFormed.{last_cases}
 use Rattle.journal.specs.Waits.{IsIdle}
 use Rattle.journal.specs.Pasts.{InPast}
 use Rattle.page.specs.Changes.{Changes}
@@ -27,7 +28,7 @@ use Rattle.book.specs.State.{State, time_of}
 use Rattle.book.specs.Transitions.{closed_by, departure_to, mail_met, book_arrived}
 use Rattle.book.specs.Told.{IsTold}
 use Rattle.book.proofs.Parts.Each.{each_kept, each_own}
-use Rattle.book.proofs.Parts.Doings.{last_cases, last_none, count_others, count_kept}
+use Rattle.book.proofs.Parts.Doings.{last_none, count_others, count_kept}
 use Rattle.book.proofs.Parts.Stamps.{stamp_closing}
 use Rattle.book.proofs.Parts.Lines.{idle_no_ask}
 use Rattle.book.proofs.Parts.Mail.{News, lets_posted, allowed_on, brings_on, mail_unless, idle_mail}
@@ -43,7 +44,7 @@ departs_before s h p r n isnt most lacks allowed =
     let same = count_others is_depart h p Arrive r isnt in
     let one = allowed.2 lacks.0 lacks.1 in
     let e = lacks.2 in
-    (allowed.0, elim (last_cases h p Arrive r allowed.0 Arrive allowed.1) [ inl own ↦ absurd (isnt own.0) | inr old ↦ old.1 ], λ q lt. (let m = most q lt in omega arith))
+    (allowed.0, elim (last_cases h (event p Arrive) r allowed.0 Arrive allowed.1) [ inl own ↦ absurd (isnt (sym own.0)) | inr old ↦ old.1 ], λ q lt. (let m = most q lt in omega arith))
 
 -- so the others' mail stays while the episode is open
 waits_mail : (s : Sizes) (h : List Event) (p r n : ℕ) (o : Option Letter) → MayFollow s h (event p Arrive) → r ≢ p → ((q : ℕ) → q < s.processors → n ≤ count_of is_arrive h q) → (q : ℕ) × (q < s.processors) × (count_of is_arrive (did h p Arrive) q ≡ n)

@@ -13,7 +13,7 @@ use Rattle.journal.specs.Pasts.{UpToSome}
 use Rattle.journal.specs.Brings.{SomeDoes}
 use Rattle.lists.proofs.Sets.{slice_get-set_found, slice_get-set_other}
 use Rattle.journal.proofs.Times.Kept.{kind_kept}
-use Rattle.journal.proofs.Journals.WellFormed.{holds_cases}
+use Rattle.journal.proofs.Journals.WellFormed.{last_cases, holds_cases}
 use Rattle.journal.proofs.Journals.Holding.{holder_alone}
 use Rattle.page.specs.Changes.{Changes}
 use Rattle.vtime.specs.Times.{tick}
@@ -32,7 +32,7 @@ use Rattle.book.specs.State.{State, time_of}
 use Rattle.book.specs.Transitions.{closed_by, grant_from, if_free, mail_passed_on, book_asked, book_released}
 use Rattle.book.specs.Told.{IsTold}
 use Rattle.book.proofs.Parts.Each.{each_set, each_kept, each_own, is_at}
-use Rattle.book.proofs.Parts.Doings.{last_cases, last_none, holds_back}
+use Rattle.book.proofs.Parts.Doings.{last_none, holds_back}
 use Rattle.book.proofs.Parts.Stamps.{stamp_closing, stamp_released}
 use Rattle.book.proofs.Parts.Lines.{NoAsk, idle_no_ask, not_in_line, line_kept, line_asked, line_released, line_taken, first_allowed, allowed_first}
 use Rattle.book.proofs.Parts.Mail.{News, other_kind, mail_unless, mail_kept, idle_mail, own_idle}
@@ -103,7 +103,7 @@ asked_mail s h p l (Some q) xs t notices none free is = mail
     now = lock_asked s.processors h p l (Some q) xs t none free is
 
     same_lock : (m i : ℕ) → LastIs (did h p (Ask l)) p i (Ask m) → l ≡ m
-    same_lock m i last = elim (last_cases h p (Ask l) p i (Ask m) last) [ inl own ↦ cc (own.2) | inr old ↦ absurd (old.0 refl) ]
+    same_lock m i last = elim (last_cases h (event p (Ask l)) p i (Ask m) last) [ inl own ↦ cc (own.2) | inr old ↦ absurd (old.0 refl) ]
 
     never : (i : ℕ) → LastIs (did h p (Ask l)) p i (Ask l) → MayBeGranted (did h p (Ask l)) i l → ⊥
     never i last may = not_in_line h p l (q ∷ xs) none free is.line_is (0, first_allowed (did h p (Ask l)) p l i (q ∷ (xs ++ p ∷ [])) last may now.line_is)

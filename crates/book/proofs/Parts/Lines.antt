@@ -11,10 +11,10 @@ use Rattle.journal.specs.WellFormed.{LastIs, Holds, MayBeGranted}
 use Rattle.journal.specs.Waits.{IsIdle}
 use Rattle.lists.proofs.Places.{push_cases, slice_get-append_left, slice_get-last}
 use Rattle.journal.proofs.Order.Places.{at_within}
-use Rattle.journal.proofs.Journals.WellFormed.{last_unique, holds_cases, holds_now}
+use Rattle.journal.proofs.Journals.WellFormed.{last_cases, last_unique, holds_cases, holds_now}
 use Rattle.journal.specs.Did.{event, did}
 use Rattle.book.specs.Lines.{IsLine}
-use Rattle.book.proofs.Parts.Doings.{last_cases, last_on, last_own, holds_on, holds_back}
+use Rattle.book.proofs.Parts.Doings.{last_on, last_own, holds_on, holds_back}
 
 -- p's last event is no ask of the lock
 abbrev pub NoAsk : List Event → ℕ → ℕ → Type 0
@@ -37,7 +37,7 @@ line_kept h p k l xs ask acquire release none x = record {
 }
   where
     old : (q i : ℕ) → LastIs (did h p k) q i (Ask l) → LastIs h q i (Ask l)
-    old q i last = elim (last_cases h p k q i (Ask l) last) [ inl own ↦ absurd (ask own.2) | inr o ↦ o.1 ]
+    old q i last = elim (last_cases h (event p k) q i (Ask l) last) [ inl own ↦ absurd (ask (sym own.2)) | inr o ↦ o.1 ]
 
     apart : (q i : ℕ) → LastIs h q i (Ask l) → q ≢ p
     apart q i last is = let P : ℕ → Type 0 = λ r. LastIs h r i (Ask l) in none i (subst P is last)
@@ -56,11 +56,11 @@ line_asked h p l xs none free x = record { each = each; first = first; asks = as
     longer m q at = slice_get-append_left xs (p ∷ []) m (slice_get_within xs m q at) ∙ at
 
     old : (q i : ℕ) → q ≢ p → LastIs (did h p (Ask l)) q i (Ask l) → LastIs h q i (Ask l)
-    old q i isnt last = elim (last_cases h p (Ask l) q i (Ask l) last) [ inl own ↦ absurd (isnt own.0) | inr o ↦ o.1 ]
+    old q i isnt last = elim (last_cases h (event p (Ask l)) q i (Ask l) last) [ inl own ↦ absurd (isnt (sym own.0)) | inr o ↦ o.1 ]
 
     each : (q i : ℕ) → LastIs (did h p (Ask l)) q i (Ask l) → Has (xs ++ p ∷ []) q
-    each q i last = elim (last_cases h p (Ask l) q i (Ask l) last) [
-      | inl own ↦ (length xs, slice_get-last xs p ∙ ap (λ (r : ℕ). Some r) (sym own.0))
+    each q i last = elim (last_cases h (event p (Ask l)) q i (Ask l) last) [
+      | inl own ↦ (length xs, slice_get-last xs p ∙ ap (λ (r : ℕ). Some r) own.0)
       | inr o ↦ (let has = x.each q i o.1 in (has.0, longer has.0 q has.1))
     ]
 
@@ -99,7 +99,10 @@ line_released h p l xs none held x = record {
     apart q i last is = let P : ℕ → Type 0 = λ r. LastIs h r i (Ask l) in none i (subst P is last)
 
     old : (q i : ℕ) → LastIs (did h p (Release l)) q i (Ask l) → (q ≢ p) × LastIs h q i (Ask l)
-    old q i last = elim (last_cases h p (Release l) q i (Ask l) last) [ inl own ↦ absurd (cc (own.2)) | inr o ↦ o ]
+    old q i last = elim (last_cases h (event p (Release l)) q i (Ask l) last) [
+      | inl own ↦ absurd (cc (own.2))
+      | inr o ↦ (λ e. o.0 (sym e), o.1)
+    ]
 
     behind : (m q : ℕ) → q ≢ p → slice_get (p ∷ xs) m ≡ Some q → Has xs q
     behind zero q isnt at = absurd (isnt (sym (same_Some p q at)))
@@ -162,7 +165,10 @@ line_taken h p l i xs last may x = record {
     here = first_allowed h p l i xs last may x
 
     old : (q m : ℕ) → LastIs (did h p (Acquire l)) q m (Ask l) → (q ≢ p) × LastIs h q m (Ask l)
-    old q m ask = elim (last_cases h p (Acquire l) q m (Ask l) ask) [ inl own ↦ absurd (cc (own.2)) | inr o ↦ o ]
+    old q m ask = elim (last_cases h (event p (Acquire l)) q m (Ask l) ask) [
+      | inl own ↦ absurd (cc (own.2))
+      | inr o ↦ (λ e. o.0 (sym e), o.1)
+    ]
 
     head : (m : ℕ) → slice_get xs m ≡ Some p → m ≡ 0
     head zero at = refl

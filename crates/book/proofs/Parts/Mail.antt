@@ -15,14 +15,14 @@ use Rattle.journal.specs.Brings.{Brings, SomeArrives}
 use Rattle.lists.proofs.Places.{push_cases}
 use Rattle.journal.proofs.Order.Places.{at_within, does_same}
 use Rattle.journal.proofs.Times.Kept.{kind_kept, arrivals_others}
-use Rattle.journal.proofs.Journals.WellFormed.{holds_cases, holds_now}
+use Rattle.journal.proofs.Journals.WellFormed.{last_cases, holds_cases, holds_now}
 use Rattle.transit.specs.Letters
 use Rattle.transit.specs.Letters.{Letter}
 use Rattle.transit.specs.Letters.Kind.{grant, departure, signal}
 use Rattle.journal.specs.Did.{event, did}
 use Rattle.book.specs.Stamps.{IsStamp}
 use Rattle.book.specs.Mail.{LetsDo, IsPosted, IsMail}
-use Rattle.book.proofs.Parts.Doings.{last_cases, last_on, last_none, holds_on, count_others, count_more, count_kept}
+use Rattle.book.proofs.Parts.Doings.{last_on, last_none, holds_on, count_others, count_more, count_kept}
 
 pub lets_posted : (m : Letters.Kind) (k : Kind) → LetsDo m k → IsPosted k
 lets_posted grant (Acquire l) h = tt
@@ -73,7 +73,7 @@ allowed_on s h p k r (Acquire l) may isnt posted (i, last, granted) = (i, last_o
     ]
 
     first : (m q : ℕ) → m < i → ¬ LastIs (did h p k) q m (Ask l)
-    first m q lt ask = elim (last_cases h p k q m (Ask l) ask) [
+    first m q lt ask = elim (last_cases h (event p k) q m (Ask l) ask) [
       | inl own ↦ (let within = at_within h i (record { processor = r; kind = Ask l }) last.does in absurd (omega (arith, own.1)))
       | inr old ↦ granted.first m q lt old.1
     ]
@@ -91,7 +91,7 @@ pub allowed_back : (s : Sizes) (h : List Event) (p : ℕ) (k : Kind) (r : ℕ) (
 allowed_back s h p k r (Acquire l) may isnt posted none (i, last, granted) = (i, old, record { free = λ q held. granted.free q (holds_on h p k q l none held); first = first })
   where
     old : LastIs h r i (Ask l)
-    old = elim (last_cases h p k r i (Ask l) last) [ inl own ↦ absurd (isnt own.0) | inr o ↦ o.1 ]
+    old = elim (last_cases h (event p k) r i (Ask l) last) [ inl own ↦ absurd (isnt (sym own.0)) | inr o ↦ o.1 ]
 
     first : (m q : ℕ) → m < i → ¬ LastIs h q m (Ask l)
     first m q lt ask = elim (cases_eq q p) [
@@ -104,7 +104,7 @@ allowed_back s h p k r (Acquire l) may isnt posted none (i, last, granted) = (i,
 allowed_back s h p k r Depart may isnt posted none (i, last, all) = (i, old, λ q lt. (let one = all q lt in let same = count_others is_depart h p k r isnt in let too = count_kept is_arrive h p k q (arrives_not k none) in omega arith))
   where
     old : LastIs h r i Arrive
-    old = elim (last_cases h p k r i Arrive last) [ inl own ↦ absurd (isnt own.0) | inr o ↦ o.1 ]
+    old = elim (last_cases h (event p k) r i Arrive last) [ inl own ↦ absurd (isnt (sym own.0)) | inr o ↦ o.1 ]
 allowed_back s h p k r _ may isnt posted none allowed = absurd posted
 
 -- another's message stays right, and stays away unless the event brings news
