@@ -41,7 +41,8 @@ use std::sync::Arc;
 use transit::{Message, Transit};
 use vtime::VTime;
 
-/// The parts of a book, with its calls: what each is for, and when it is refused, is said at `Book`.
+/// The parts of a book, with its calls: what each is for, and when it is refused, is said at `Book`. Each has the
+/// contract of the book's call, word for word: a caller sees no further than the contract of what it calls.
 #[derive(Drop)]
 pub(crate) struct Protocol {
     words: usize,

@@ -6,7 +6,9 @@ use Rattle.book_uses.proofs.Opened.{IsStoredIn, stored_long, stored_next, stored
 use Rattle.book_uses.proofs.told.Told.record_of.Goals as goal
 
 pub store_in-requires-clause-long : goal.store_in-requires-clause-long
-store_in-requires-clause-long c = stored_long c.args.self.now.sizes c.args.page _ c.loop-event.copy c.loop-event.invariant.stored ∙ sym c.words-words.ensures.value
+store_in-requires-clause-long c =
+    stored_long c.args.self.now.sizes c.args.page _ c.loop-event.copy c.loop-event.invariant.stored
+    ∙ sym c.words-words.ensures.value
 
 pub loop-event-preserved : goal.loop-event-preserved
 loop-event-preserved c =
@@ -19,7 +21,10 @@ loop-event-preserved c =
 
 pub returns : goal.returns
 returns c = λ h p is.
-    let all : take c.loop-event.event-index c.args.events.now ≡ c.args.events.now = take_all c.loop-event.event-index c.args.events.now c.loop-event-test.false in
-    let stored = subst (λ (es : List Event). IsStoredIn c.args.self.now.sizes c.args.page es c.loop-event.copy) all c.loop-event.invariant.stored in
-    let some : 0 < c.args.self.now.sizes.words = (let same = c.words-words.ensures.value in let lt = c.words-words.ensures.some in omega arith) in
+    let all : take c.loop-event.event-index c.args.events.now ≡ c.args.events.now =
+        take_all c.loop-event.event-index c.args.events.now c.loop-event-test.false in
+    let stored = subst (λ (es : List Event). IsStoredIn c.args.self.now.sizes c.args.page es c.loop-event.copy)
+        all c.loop-event.invariant.stored in
+    let some : 0 < c.args.self.now.sizes.words =
+        (let same = c.words-words.ensures.value in let lt = c.words-words.ensures.some in omega arith) in
     stored_record c.args.self.now.sizes h p c.args.page c.args.events.now c.loop-event.copy c.harvest.result some is stored c.harvest.ensures.clean c.harvest.ensures.none c.harvest.ensures.dirty_words
