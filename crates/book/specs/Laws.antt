@@ -99,7 +99,7 @@ abbrev pub NewsLaw : Type 0
 NewsLaw = (s : Sizes) (h : List Event) (b : State) (p n : ℕ) (k : Kind) (u : List ℕ) → IsTold s h b
     → p < s.processors → IsStamp s.processors h (Brings h p k) u
     → AreNews s h p n (slice_index (time_of b p)) (slice_index (join (time_of b p) u))
-      (missing_in n (between b.closed (time_of b p) u))
+    (missing_in n (between b.closed (time_of b p) u))
 
 -- what lies between two timestamps is in closing order
 abbrev pub NewsOrderLaw : Type 0

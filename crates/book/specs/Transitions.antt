@@ -50,8 +50,10 @@ handed_in b block = record b { journal = appended b.journal block }
 -- the last block of a processor is handed in, for which room was kept
 abbrev pub handed_last : State → List Event → State
 handed_last b block =
-    record b { journal =
-    record b.journal { events = b.journal.events ++ block; room = b.journal.room - length block } }
+    record b {
+      journal =
+          record b.journal { events = b.journal.events ++ block; room = b.journal.room - length block };
+    }
 
 -- p does this
 abbrev pub logged : State → ℕ → Kind → State

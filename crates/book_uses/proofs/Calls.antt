@@ -141,26 +141,30 @@ pub follows_take : (s : Sizes) (h : List Event) (b new : State) (p : ℕ) (k : K
     → slice_get b.awaits p ≡ Some (Some k) → Takes b p m new → Follows s (did h p k) b new
 follows_take s h b new p k m told waits takes =
     let same : takes.kind ≡ k =
-        same_Some takes.kind k (same_Some (Some takes.kind) (Some k) (sym takes.awaits ∙ waits)) in
+    same_Some takes.kind k (same_Some (Some takes.kind) (Some k) (sym takes.awaits ∙ waits)) in
     subst (λ x. Follows s (did h p x) b new) same
-        (follows s (did h p takes.kind) b new (book_taken b p takes.kind m)
-        (take_law s h b p takes.kind m told takes.awaits takes.message) refl takes.after)
+    (follows s (did h p takes.kind) b new (book_taken b p takes.kind m)
+    (take_law s h b p takes.kind m told takes.awaits takes.message) refl takes.after)
 
 -- the records of p's open interval, made of its events and the block's
 pub may_close : (t : Telling) (p : ℕ) (block events : List Event) (records : List Changes) → IsTelling t
     → MayHandIn t.sizes t.book p block → length block ≤ 256 → events ≡ since t.history p ++ block
     → ((h : List Event) (q : ℕ) → since h q ≡ events → AreOpenBelow t.sizes h q t.sizes.pages records)
-      → MayClose t p block records
+    → MayClose t p block records
 may_close t p block events records telling may short is made =
     let inner : (k : ℕ) (e : Event) → At block k e → (e.processor ≡ p) × (is_closing e.kind ≡ false) =
-        λ k e at. (let x = may.inner k e at in (x.mine, x.closes)) in
+    λ k e at. (let x = may.inner k e at in (x.mine, x.closes)) in
     let below = made (t.history ++ block) p (since_block t.history block p inner ∙ sym is) in
     let give : MayGive t.sizes t.book p block =
-        record { waits = (None, may.idle, λ isnt. absurd (isnt refl)); inner = may.inner } in
+    record { waits = (None, may.idle, λ isnt. absurd (isnt refl)); inner = may.inner } in
     let told = hand_in_law t.sizes t.history block t.book p telling.told give in
-    record { may = may; short = short;
-        are = open_contents t.sizes (t.history ++ block) p records telling.some told.well_formed below; rising =
-        below.rising }
+    record {
+      may = may;
+      short = short;
+      are = open_contents t.sizes (t.history ++ block) p records telling.some told.well_formed below;
+      rising =
+          below.rising;
+    }
 
 -- a last block takes of the room that is kept
 pub kept_last : (t new : Inside) (p : ℕ) (block : List Event) → IsKept t

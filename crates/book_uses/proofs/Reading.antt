@@ -24,18 +24,24 @@ NoneFrom h p n = (m : ℕ) (e : Event) → n ≤ m → At h m e → e.processor 
 pub awaited_last : (h : List Event) (p n : ℕ) (e : Event) → NoneFrom h p (n + 1) → At h n e → e.processor ≡ p
     → IsAwaited h p (awaited e.kind)
 awaited_last h p n e none at mine =
-    record { last = λ i a last. ap awaited (last_unique h p n i e.kind a now last).1;
-    some = λ k is. (n, e.kind, now) }
+    record {
+      last = λ i a last. ap awaited (last_unique h p n i e.kind a now last).1;
+      some = λ k is. (n, e.kind, now);
+    }
   where
     now : LastIs h p n e.kind
-    now = record { does = at ∙ ap (λ (q : ℕ). Some (record e { processor = q })) mine;
-        last = λ m f lt. none m f (omega arith) }
+    now = record {
+      does = at ∙ ap (λ (q : ℕ). Some (record e { processor = q })) mine;
+      last = λ m f lt. none m f (omega arith);
+    }
 
 -- who did nothing waits for nothing
 pub awaited_never : (h : List Event) (p : ℕ) → NoneFrom h p 0 → IsAwaited h p None
 awaited_never h p none =
-    record { last = λ i a last. absurd (none i (record { processor = p; kind = a }) (omega arith) last.does refl);
-    some = λ k is. absurd (none-some k is) }
+    record {
+      last = λ i a last. absurd (none i (record { processor = p; kind = a }) (omega arith) last.does refl);
+      some = λ k is. absurd (none-some k is);
+    }
 
 -- what p waits for is one thing
 pub awaited_same : (h : List Event) (p : ℕ) (v w : Option Kind) → IsAwaited h p v → IsAwaited h p w → v ≡ w

@@ -58,11 +58,11 @@ nobody_goes s h b p q t told idle full less a posted allowed = elim (cases_eq q 
     here : IsAtStage (did h p Arrive) told.barrier.complete q Here
     here =
         let item = item_at s.processors (IsAtStage (did h p Arrive) told.barrier.complete)
-            (slice_set b.barrier.stages p Here) q Away all.1 less in
+        (slice_set b.barrier.stages p Here) q Away all.1 less in
         subst (λ st. IsAtStage (did h p Arrive) told.barrier.complete q st)
-            (sym (all_true (slice_set b.barrier.stages p Here) full q
-            (slice_index_or (slice_set b.barrier.stages p Here) q Away) item))
-            (all.1.each q (slice_index_or (slice_set b.barrier.stages p Here) q Away) item)
+        (sym (all_true (slice_set b.barrier.stages p Here) full q
+        (slice_index_or (slice_set b.barrier.stages p Here) q Away) item))
+        (all.1.each q (slice_index_or (slice_set b.barrier.stages p Here) q Away) item)
 
     waits : q ≢ p → (i : ℕ) × LastIs h q i Arrive
     waits apart =
@@ -131,7 +131,7 @@ arriving_by s h b p told idle =
             let found = slice_get-set_found b.times p (tick (time_of b p) p) t (subst P is at) in
             let own = (own_stamp s h b p told lt).long in
             ap (λ (x : List ℕ). length x) (sym found) ∙ length-set (time_of b p) p (slice_index (time_of b p) p + 1)
-                ∙ own ∙ sym told.closed.first_long
+            ∙ own ∙ sym told.closed.first_long
 
     sent : (r : ℕ) → r < length b.times → MayBeSent b.closed after r
     sent r less =
@@ -148,7 +148,7 @@ arriving_by s h b p told idle =
         let times = told.times.long in
         let transit = told.transit.long in
         all_same b.transit None (λ q less. nothing full q (omega arith))
-            ∙ ap (λ n. replicate n None) (transit ∙ sym times)
+        ∙ ap (λ n. replicate n None) (transit ∙ sym times)
       where
         nothing : is_full (joined b.barrier p (tick (time_of b p) p)) ≡ true → (q : ℕ) → q < s.processors
             → slice_get b.transit q ≡ Some None
@@ -156,9 +156,9 @@ arriving_by s h b p told idle =
             let transit = told.transit.long in
             let read = slice_get-get_or b.transit q None (omega arith) in
             read ∙ ap (λ (x : Option Letter). Some x)
-                (sym (no_mail s h q (slice_index_or b.transit q None)
-                (nobody_goes s h b p q (tick (time_of b p) p) told idle all_here less)
-                (told.transit.each q (slice_index_or b.transit q None) read)))
+            (sym (no_mail s h q (slice_index_or b.transit q None)
+            (nobody_goes s h b p q (tick (time_of b p) p) told idle all_here less)
+            (told.transit.each q (slice_index_or b.transit q None) read)))
 
 pub arriving : (b : State) (p : ℕ) (block : List Event) → MayCall b p block → IsArriving b p
 arriving b p block may = arriving_by may.by.sizes may.by.history b p may.by.told may.hands_in.idle
@@ -175,18 +175,20 @@ arrived_is : (old b : State) (p : ℕ) (block : List Event) (records : List Chan
     (transit : List (Option Letter)) (t : List ℕ) → b ≡ closed_by (handed_in old block) p Arrive records
     → t ≡ tick (time_of old p) p
     → barrier ≡ arrived b.barrier p t
-      → transit ≡ mail_met (is_full (joined b.barrier p t)) b (join b.barrier.gathered t)
+    → transit ≡ mail_met (is_full (joined b.barrier p t)) b (join b.barrier.gathered t)
     → record b { barrier = barrier; transit = transit } ≡ book_arrived (handed_in old block) p records
 arrived_is old b p block records barrier transit t is time here mail =
     let c : State = closed_by (handed_in old block) p Arrive records in
     ap (λ (x : Episodes). record b { barrier = x; transit = transit }) here
     ∙ ap (λ (x : List (Option Letter)). record b { barrier = arrived b.barrier p t; transit = x }) mail
-    ∙ ap (λ (x : State). record x
-      { barrier = arrived x.barrier p t;
-      transit = mail_met (is_full (joined x.barrier p t)) x (join x.barrier.gathered t) }) is
-    ∙ ap (λ (u : List ℕ). record c
-      { barrier = arrived old.barrier p u;
-      transit = mail_met (is_full (joined old.barrier p u)) c (join old.barrier.gathered u) }) time
+    ∙ ap (λ (x : State). record x {
+      barrier = arrived x.barrier p t;
+      transit = mail_met (is_full (joined x.barrier p t)) x (join x.barrier.gathered t);
+    }) is
+    ∙ ap (λ (u : List ℕ). record c {
+      barrier = arrived old.barrier p u;
+      transit = mail_met (is_full (joined old.barrier p u)) c (join old.barrier.gathered u);
+    }) time
 
 -- the departures of all, or none
 met_some : (full : Bool) (c : State) (u : List ℕ) (ms : List Letter)
@@ -207,10 +209,10 @@ met_none false c u made = refl
 departures_read : (old b : State) (p : ℕ) (block : List Event) (records : List Changes) (t : List ℕ)
     (o : Option (List Letter)) → b ≡ closed_by (handed_in old block) p Arrive records → t ≡ tick (time_of old p) p
     → o ≡ departures_to (pushed old.closed (open_interval old p records)) old.barrier (slice_set old.times p t) p t
-      → o ≡ departures_to b.closed b.barrier b.times p t
+    → o ≡ departures_to b.closed b.barrier b.times p t
 departures_read old b p block records t o is time made =
     made ∙ ap (λ (u : List ℕ). departures_to (pushed old.closed (open_interval old p records)) old.barrier
-        (slice_set old.times p u) p t) time
+    (slice_set old.times p u) p t) time
     ∙ sym (ap (λ (x : State). departures_to x.closed x.barrier x.times p t) is)
 
 -- an arrival that completes the episode
@@ -218,25 +220,25 @@ pub arrived_met : (old b : State) (p : ℕ) (block : List Event) (records : List
     (transit : List (Option Letter)) (t : List ℕ) (ms : List Letter)
     → b ≡ closed_by (handed_in old block) p Arrive records → t ≡ tick (time_of old p) p
     → barrier ≡ arrived b.barrier p t → transit ≡ map (λ (m : Letter). Some m) ms
-      → Some ms ≡ departures_to (pushed old.closed (open_interval old p records)) old.barrier
-      (slice_set old.times p t) p t
+    → Some ms ≡ departures_to (pushed old.closed (open_interval old p records)) old.barrier
+    (slice_set old.times p t) p t
     → record b { barrier = barrier; transit = transit } ≡ book_arrived (handed_in old block) p records
 arrived_met old b p block records barrier transit t ms is time here post made =
     arrived_is old b p block records barrier transit t is time here
-        (post ∙ met_some (is_full (joined b.barrier p t)) b (join b.barrier.gathered t) ms
-        (departures_read old b p block records t (Some ms) is time made))
+    (post ∙ met_some (is_full (joined b.barrier p t)) b (join b.barrier.gathered t) ms
+    (departures_read old b p block records t (Some ms) is time made))
 
 -- an arrival that leaves it open
 pub arrived_alone : (old b : State) (p : ℕ) (block : List Event) (records : List Changes) (barrier : Episodes)
     (t : List ℕ) → b ≡ closed_by (handed_in old block) p Arrive records → t ≡ tick (time_of old p) p
     → barrier ≡ arrived b.barrier p t
-      → None ≡ departures_to (pushed old.closed (open_interval old p records)) old.barrier (slice_set old.times p t)
-      p t
+    → None ≡ departures_to (pushed old.closed (open_interval old p records)) old.barrier (slice_set old.times p t)
+    p t
     → record b { barrier = barrier } ≡ book_arrived (handed_in old block) p records
 arrived_alone old b p block records barrier t is time here made =
     arrived_is old b p block records barrier b.transit t is time here
-        (met_none (is_full (joined b.barrier p t)) b (join b.barrier.gathered t)
-        (departures_read old b p block records t None is time made))
+    (met_none (is_full (joined b.barrier p t)) b (join b.barrier.gathered t)
+    (departures_read old b p block records t None is time made))
 
 -- all have no message when all departures are made
 pub none_waits : (old : State) (p : ℕ) (c : Closings) (t : List ℕ) (ms : List Letter) → IsArriving old p
@@ -250,23 +252,23 @@ none_waits old p c t ms is time made = go (is_full (joined old.barrier p t)) ref
     go false all one = absurd (none-some ms (sym one))
     go true all one =
         let same = ap (λ (xs : List Letter). length xs)
-            (same_Some ms (map (departure_to c (join old.barrier.gathered t)) (slice_set old.times p t)) one)
-            ∙ length-map (slice_set old.times p t) (departure_to c (join old.barrier.gathered t))
-            ∙ length-set old.times p t in
+        (same_Some ms (map (departure_to c (join old.barrier.gathered t)) (slice_set old.times p t)) one)
+        ∙ length-map (slice_set old.times p t) (departure_to c (join old.barrier.gathered t))
+        ∙ length-set old.times p t in
         is.none (ap (λ (u : List ℕ). is_full (joined old.barrier p u)) (sym time) ∙ all)
-            ∙ ap (λ (n : ℕ). replicate n None) (sym same)
+        ∙ ap (λ (n : ℕ). replicate n None) (sym same)
 
 -- the departures as they were made, read off the book before the call
 pub departures_made : (old b : State) (p : ℕ) (records : List Changes) (i : ClosedInterval) (t : List ℕ)
     (o : Option (List Letter)) → b ≡ old → i ≡ open_interval b p records
     → o ≡ departures_to (pushed b.closed i) b.barrier (slice_set b.times i.owner t) i.owner t
-      → o ≡ departures_to (pushed old.closed (open_interval old p records)) old.barrier (slice_set old.times p t) p t
+    → o ≡ departures_to (pushed old.closed (open_interval old p records)) old.barrier (slice_set old.times p t) p t
 departures_made old b p records i t o same opened made =
     made
     ∙ ap (λ (x : ClosedInterval). departures_to (pushed b.closed x) b.barrier (slice_set b.times x.owner t)
-      x.owner t) opened
+    x.owner t) opened
     ∙ ap (λ (x : State). departures_to (pushed x.closed (open_interval x p records)) x.barrier
-      (slice_set x.times p t) p t) same
+    (slice_set x.times p t) p t) same
 
 -- each one's timestamp once p has closed its interval
 pub read_after : (times : List (List ℕ)) (p q : ℕ) (own old t : List ℕ) → p < length times → q < length times
@@ -287,10 +289,10 @@ departing_step c u times q old ms ns m made less is one more =
     let at = slice_get-get_or times q [] less ∙ ap (λ (t : List ℕ). Some t) (sym is) in
     let next : q + 1 ≡ suc q = omega arith in
     more ∙ ap (λ (xs : List Letter). xs ++ m ∷ []) made
-        ∙ ap (λ (x : Letter). map (departure_to c u) (take q times) ++ x ∷ []) one
-        ∙ sym (map-append (departure_to c u) (take q times) (old ∷ []))
+    ∙ ap (λ (x : Letter). map (departure_to c u) (take q times) ++ x ∷ []) one
+    ∙ sym (map-append (departure_to c u) (take q times) (old ∷ []))
     ∙ ap (λ (ts : List (List ℕ)). map (departure_to c u) ts)
-      (sym (take-suc_at times q old at) ∙ ap (λ (n : ℕ). take n times) (sym next))
+    (sym (take-suc_at times q old at) ∙ ap (λ (n : ℕ). take n times) (sym next))
 
 -- the departures, where the arrival completes the episode, and none where it doesn't
 pub departures_are : (c : Closings) (b : Episodes) (times : List (List ℕ)) (p : ℕ) (own u : List ℕ) (full : Bool)

@@ -92,7 +92,7 @@ pub block_addresses : (b : State) (p n : ℕ) (block : List Event) → MayFlush 
 block_addresses b p n block may same k d lt =
     let x = may.gives.inner k (slice_index_or block k d) (slice_get-get_or block k d lt) in
     subst (λ m. AddressInRange m (slice_index_or block k d).kind) (sym (same ∙ may.by.told.sizes.addresses))
-        (address_within may.by.sizes (slice_index_or block k d).kind x.in_range)
+    (address_within may.by.sizes (slice_index_or block k d).kind x.in_range)
 
 -- an event that closes an interval has no address
 pub closing_address : (n : ℕ) (k : Kind) → is_closing k ≡ true → AddressInRange n k
@@ -112,29 +112,38 @@ pub logs_are : (a b c d : Log) (owing : ℕ) (block : List Event) (e : Event) �
     → record d { room = owing } ≡ record a { events = (a.events ++ block) ++ e ∷ []; room = owing }
 logs_are a b c d owing block e first second third =
     ap (λ (l : Log). record l { room = owing }) third
-        ∙ ap (λ (l : Log). record l { events = l.events ++ e ∷ []; room = owing }) second
-        ∙ ap (λ (l : Log). record l { events = (l.events ++ block) ++ e ∷ []; room = owing }) first
+    ∙ ap (λ (l : Log). record l { events = l.events ++ e ∷ []; room = owing }) second
+    ∙ ap (λ (l : Log). record l { events = (l.events ++ block) ++ e ∷ []; room = owing }) first
 
 -- the book after a block and an event that closes an interval, part by part
 pub closing_is : (b : State) (p : ℕ) (k : Kind) (block : List Event) (records : List Changes) (log : Log)
     (c : Closings) (t : List ℕ) (waits : List (Option Kind))
     → log ≡ record b.journal { events = (b.journal.events ++ block) ++ event p k ∷ [] }
-      → c ≡ pushed b.closed (open_interval b p records) → t ≡ tick (time_of b p) p
-      → waits ≡ slice_set b.awaits p (awaited k)
+    → c ≡ pushed b.closed (open_interval b p records) → t ≡ tick (time_of b p) p
+    → waits ≡ slice_set b.awaits p (awaited k)
     → record b { journal = log; closed = c; times = slice_set b.times p t; awaits = waits }
-      ≡ closed_by (handed_in b block) p k records
+    ≡ closed_by (handed_in b block) p k records
 closing_is b p k block records log c t waits one two three four =
     ap (λ (l : Log). record b { journal = l; closed = c; times = slice_set b.times p t; awaits = waits }) one
-    ∙ ap (λ (x : Closings). record b
-      { journal = record b.journal { events = (b.journal.events ++ block) ++ event p k ∷ [] }; closed = x;
-      times = slice_set b.times p t; awaits = waits }) two
-    ∙ ap (λ (x : List ℕ). record b
-      { journal = record b.journal { events = (b.journal.events ++ block) ++ event p k ∷ [] };
-      closed = pushed b.closed (open_interval b p records); times = slice_set b.times p x; awaits = waits }) three
-    ∙ ap (λ (x : List (Option Kind)). record b
-      { journal = record b.journal { events = (b.journal.events ++ block) ++ event p k ∷ [] };
-      closed = pushed b.closed (open_interval b p records); times =
-      slice_set b.times p (tick (time_of b p) p); awaits = x }) four
+    ∙ ap (λ (x : Closings). record b {
+      journal = record b.journal { events = (b.journal.events ++ block) ++ event p k ∷ [] };
+      closed = x;
+      times = slice_set b.times p t;
+      awaits = waits;
+    }) two
+    ∙ ap (λ (x : List ℕ). record b {
+      journal = record b.journal { events = (b.journal.events ++ block) ++ event p k ∷ [] };
+      closed = pushed b.closed (open_interval b p records);
+      times = slice_set b.times p x;
+      awaits = waits;
+    }) three
+    ∙ ap (λ (x : List (Option Kind)). record b {
+      journal = record b.journal { events = (b.journal.events ++ block) ++ event p k ∷ [] };
+      closed = pushed b.closed (open_interval b p records);
+      times =
+          slice_set b.times p (tick (time_of b p) p);
+      awaits = x;
+    }) four
 
 pub stands : (b now : State) (p : ℕ) (block : List Event) → b ≡ now → MayCall now p block → IsStanding b p
 stands b now p block same may = subst (λ x. IsStanding x p) (sym same) (standing now p block may)

@@ -21,7 +21,7 @@ pub book_cut : (b now : State) (log new : Log) (room : ℕ) → b ≡ now → b.
     → WasCut log new → WasBookCut now (record b { journal = record new { room = room } })
 book_cut b now log new room same journal was =
     let cut = subst (λ (l : Log). WasCut l (record new { room = room })) (sym journal)
-        (was_cut_roomy log new room was) in
+    (was_cut_roomy log new room was) in
     let whole : WasBookCut b (record b { journal = record new { room = room } }) =
-        record { journal = cut; others = refl } in
+    record { journal = cut; others = refl } in
     subst (λ (x : State). WasBookCut x (record b { journal = record new { room = room } })) same whole

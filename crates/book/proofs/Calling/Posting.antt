@@ -35,7 +35,7 @@ posting_step all left rest old new m n is split at set = record {
       let more = ap (λ (xs : List Letter). length xs) split ∙ length_push rest m in
       let long : length left ≡ suc (length rest) = omega arith in
       set ∙ ap (λ k. slice_set old k (Some m)) at
-          ∙ ap (λ ms. slice_set ms (length rest) (Some m))
-          (is.posted ∙ ap (λ k. replicate k None ++ map (λ (x : Letter). Some x) is.sent) long)
+      ∙ ap (λ ms. slice_set ms (length rest) (Some m))
+      (is.posted ∙ ap (λ k. replicate k None ++ map (λ (x : Letter). Some x) is.sent) long)
       ∙ fill (length rest) (map (λ (x : Letter). Some x) is.sent) (Some m);
 }

@@ -97,8 +97,8 @@ receiving_by s h b p k told waits =
         let lacks = x.lacks.2 in
         let stage = is_at s.processors (IsAtStage h x.complete) b.barrier.stages p Away x.stages less in
         item_at s.processors (IsAtStage h x.complete) b.barrier.stages p Away x.stages less
-            ∙ ap (λ (y : Stage). Some y)
-            (sym (stage_free h x.complete p (slice_index_or b.barrier.stages p Away) more (omega arith) stage))
+        ∙ ap (λ (y : Stage). Some y)
+        (sym (stage_free h x.complete p (slice_index_or b.barrier.stages p Away) more (omega arith) stage))
 
     signals : (f : ℕ) → slice_get b.awaits p ≡ Some (Some (Await f)) → MaySignal b.closed b.flags (time_of b p) f
     signals f waits_f =
@@ -129,12 +129,12 @@ pub reading : (b now : State) (all : List (Option Awaited)) (p : ℕ) (o : Optio
 reading b now all p o kept same may is a some =
     let r = receiving now p may.kind may.take in
     let read = ap (option_map kind_of) is ∙ sym (get_or-map (option_map kind_of) all p o)
-        ∙ ap (λ (ks : List (Option Kind)). slice_index_or ks p (option_map kind_of o)) (sym kept)
-        ∙ get_or_from_slice_get b.awaits p (Some may.kind) (option_map kind_of o)
-        (ap (λ (x : State). slice_get x.awaits p) same ∙ r.waits) in
+    ∙ ap (λ (ks : List (Option Kind)). slice_index_or ks p (option_map kind_of o)) (sym kept)
+    ∙ get_or_from_slice_get b.awaits p (Some may.kind) (option_map kind_of o)
+    (ap (λ (x : State). slice_get x.awaits p) same ∙ r.waits) in
     let P : Kind → Type 0 = λ k. IsReceiving b p k in
     subst P (same_Some may.kind (kind_of a) (sym read ∙ ap (option_map kind_of) some))
-        (subst (λ x. IsReceiving x p may.kind) (sym same) r)
+    (subst (λ x. IsReceiving x p may.kind) (sym same) r)
 
 -- a list of timestamps with another one of the same length
 pub all_long_set : (times : List (List ℕ)) (p : ℕ) (u : List ℕ) (n : ℕ) → length u ≡ n
@@ -185,26 +185,52 @@ pub took_is : (b : State) (p : ℕ) (k : Kind) (m : Letter) (u : List ℕ) (log 
     (waits : List (Option Kind)) (transit : List (Option Letter)) (barrier : Episodes)
     → log ≡ record b.journal { events = b.journal.events ++ event p k ∷ [] } → u ≡ join (time_of b p) m.time
     → c ≡ trimmed_by b.closed (slice_set b.times p u) (length (slice_set b.times p u))
-      → waits ≡ slice_set b.awaits p None → transit ≡ slice_set b.transit p None
-      → barrier ≡ barrier_left k b.barrier p → IsTrue (is_taking k)
-    → record b { journal = log; closed = c; times = slice_set b.times p u; awaits = waits; transit = transit;
-      barrier = barrier } ≡ book_taken b p k m
+    → waits ≡ slice_set b.awaits p None → transit ≡ slice_set b.transit p None
+    → barrier ≡ barrier_left k b.barrier p → IsTrue (is_taking k)
+    → record b {
+      journal = log;
+      closed = c;
+      times = slice_set b.times p u;
+      awaits = waits;
+      transit = transit;
+      barrier = barrier;
+    } ≡ book_taken b p k m
 took_is b p k m u log c waits transit barrier one two three set four five six =
-    ap (λ (ws : List (Option Kind)). record b
-        { journal = log; closed = c; times = slice_set b.times p u; awaits = ws; transit = transit;
-        barrier = barrier }) set
-    ∙ ap (λ (l : Log). record b
-      { journal = l; closed = c; times = slice_set b.times p u; awaits = slice_set b.awaits p None;
-      transit = transit; barrier = barrier }) one
-    ∙ ap (λ (x : Closings). record b
-      { journal = record b.journal { events = b.journal.events ++ event p k ∷ [] }; closed = x;
-      times = slice_set b.times p u; awaits = slice_set b.awaits p None; transit = transit; barrier = barrier }) three
-    ∙ ap (λ (v : List ℕ). record b
-      { journal = record b.journal { events = b.journal.events ++ event p k ∷ [] };
-      closed = trimmed_by b.closed (slice_set b.times p v) (length (slice_set b.times p v)); times =
-      slice_set b.times p v; awaits = slice_set b.awaits p None; transit = transit; barrier = barrier }) two
+    ap (λ (ws : List (Option Kind)). record b {
+      journal = log;
+      closed = c;
+      times = slice_set b.times p u;
+      awaits = ws;
+      transit = transit;
+      barrier = barrier;
+    }) set
+    ∙ ap (λ (l : Log). record b {
+      journal = l;
+      closed = c;
+      times = slice_set b.times p u;
+      awaits = slice_set b.awaits p None;
+      transit = transit;
+      barrier = barrier;
+    }) one
+    ∙ ap (λ (x : Closings). record b {
+      journal = record b.journal { events = b.journal.events ++ event p k ∷ [] };
+      closed = x;
+      times = slice_set b.times p u;
+      awaits = slice_set b.awaits p None;
+      transit = transit;
+      barrier = barrier;
+    }) three
+    ∙ ap (λ (v : List ℕ). record b {
+      journal = record b.journal { events = b.journal.events ++ event p k ∷ [] };
+      closed = trimmed_by b.closed (slice_set b.times p v) (length (slice_set b.times p v));
+      times =
+          slice_set b.times p v;
+      awaits = slice_set b.awaits p None;
+      transit = transit;
+      barrier = barrier;
+    }) two
     ∙ ap (λ (x : List (Option Letter)). record (book_taken b p k m)
-      { awaits = slice_set b.awaits p None; transit = x; barrier = barrier }) four
+    { awaits = slice_set b.awaits p None; transit = x; barrier = barrier }) four
     ∙ ap (λ (x : Episodes). record (book_taken b p k m) { awaits = slice_set b.awaits p None; barrier = x }) five
     ∙ ap (λ (w : Option Kind). record (book_taken b p k m) { awaits = slice_set b.awaits p w }) (sym (takes_on k six))
   where
@@ -221,7 +247,7 @@ pub comes : (b now : State) (p : ℕ) (k : Kind) (flags : List (Option (List ℕ
 comes b now p k flags r same w flags_are is s h told =
     let come = w.come s h (subst (λ x. IsTold s h x) (sym same) told) in
     let all : r ≡ has_come b.flags b.transit p k =
-        is ∙ ap (λ (fs : List (Option (List ℕ))). has_come fs b.transit p k) flags_are in
+    is ∙ ap (λ (fs : List (Option (List ℕ))). has_come fs b.transit p k) flags_are in
     ((λ e. come.0 (sym all ∙ e)), (λ ready. all ∙ come.1 ready))
 
 -- the message that was received, read off the book before the call
@@ -260,13 +286,13 @@ signalled b now p f own time o same may own_is flag_is set =
     let flag = w.flag f refl in
     let read = own_read b.times p own w.times own_is in
     let at : slice_index_or b.flags f None ≡ Some time =
-        sym (same_default b.flags f o None flag.within) ∙ sym flag_is ∙ set in
+    sym (same_default b.flags f o None flag.within) ∙ sym flag_is ∙ set in
     record {
       old_long = ap (λ (t : List ℕ). length t) read ∙ flag.long;
       new_long = flag.time time at;
       kept = subst (λ (t : List ℕ). (q : ℕ) → slice_index b.closed.first q ≤ slice_index t q) (sym read) flag.kept;
       brings = ap (λ (t : List ℕ). between b.closed t time) read
           ∙ ap (λ (x : Option (List ℕ)). sent_with
-            (option_map (λ (t : List ℕ). signal_to b.closed t (time_of b p)) x)) (sym at)
+          (option_map (λ (t : List ℕ). signal_to b.closed t (time_of b p)) x)) (sym at)
           ∙ ap (λ (x : State). sent_with (message_for x p (Await f))) same;
     }

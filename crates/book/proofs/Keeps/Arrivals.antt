@@ -46,9 +46,12 @@ departs_before : (s : Sizes) (h : List Event) (p r n : ℕ) → r ≢ p
 departs_before s h p r n isnt most lacks allowed =
     let same = count_others is_depart h p Arrive r isnt in
     let one = allowed.2 lacks.0 lacks.1 in
-    let e = lacks.2 in
-    (allowed.0, elim (last_cases h (event p Arrive) r allowed.0 Arrive allowed.1)
-        [ inl own ↦ absurd (isnt (sym own.0)) | inr old ↦ old.1 ], λ q lt. (let m = most q lt in omega arith))
+    let e = lacks.2 in (
+      allowed.0,
+      elim (last_cases h (event p Arrive) r allowed.0 Arrive allowed.1)
+          [ inl own ↦ absurd (isnt (sym own.0)) | inr old ↦ old.1 ],
+      λ q lt. (let m = most q lt in omega arith),
+    )
 
 -- so the others' mail stays while the episode is open
 waits_mail : (s : Sizes) (h : List Event) (p r n : ℕ) (o : Option Letter) → MayFollow s h (event p Arrive) → r ≢ p
@@ -91,13 +94,13 @@ arrived_mail : (s : Sizes) (h : List Event) (b c : State) (p : ℕ) (u : List �
     → c.transit ≡ b.transit → length c.times ≡ s.processors → slice_get b.awaits p ≡ Some None
     → MayFollow s h (event p Arrive) → WellFormed s (did h p Arrive) → p < s.processors
     → IsStamp s.processors (did h p Arrive) (InPast (did h p Arrive) p) u → is_full (joined b.barrier p u) ≡ full
-      → AreAll s.processors (IsMail s (did h p Arrive)) (mail_met full c (join b.barrier.gathered u))
+    → AreAll s.processors (IsMail s (did h p Arrive)) (mail_met full c (join b.barrier.gathered u))
 arrived_mail s h b c p u false told same long idle may next lt time full =
     subst (λ ms. AreAll s.processors (IsMail s (did h p Arrive)) ms) (sym same)
     (each_own s.processors (IsMail s h) (IsMail s (did h p Arrive)) b.transit p told.transit
     (λ r o isnt at is. waits_mail s h p r waits.0.complete o may isnt waits.1 waits.0.lacks is)
     (λ o at is. subst (λ x. IsMail s (did h p Arrive) p x) (idle_mail s h p o free is)
-        (arrived_none s h p waits.0.complete counts waits.0.lacks)))
+    (arrived_none s h p waits.0.complete counts waits.0.lacks)))
   where
     free : IsIdle h p
     free = is_idle s h b p told idle
@@ -109,15 +112,17 @@ arrived_mail s h b c p u false told same long idle may next lt time full =
     counts : count_of is_depart h p ≡ waits.0.complete
     counts = sym (idle_counts s h p told.well_formed free) ∙ waits.2
 arrived_mail s h b c p u true told same long idle may next lt time full =
-    record { long =
-    length-map c.times (λ (own : List ℕ). Some (departure_to c.closed (join b.barrier.gathered u) own)) ∙ long;
-    each = each }
+    record {
+      long =
+          length-map c.times (λ (own : List ℕ). Some (departure_to c.closed (join b.barrier.gathered u) own)) ∙ long;
+      each = each;
+    }
   where
     carries : (q : ℕ) → q < s.processors → (own : List ℕ)
         → IsMail s (did h p Arrive) q (Some (departure_to c.closed (join b.barrier.gathered u) own))
     carries q less own =
         let x = completes_all s h p b.barrier u told.well_formed next (is_idle s h b p told idle)
-            lt told.barrier time full q less in
+        lt told.barrier time full q less in
         record { kind = Depart; lets = tt; allowed = x.0; time = x.1 }
 
     each : (q : ℕ) (o : Option Letter)
@@ -125,23 +130,23 @@ arrived_mail s h b c p u true told same long idle may next lt time full =
         ≡ Some o → IsMail s (did h p Arrive) q o
     each q o at =
         let within = slice_get_within
-            (map (λ (own : List ℕ). Some (departure_to c.closed (join b.barrier.gathered u) own)) c.times) q o at in
+        (map (λ (own : List ℕ). Some (departure_to c.closed (join b.barrier.gathered u) own)) c.times) q o at in
         let mapped = length-map c.times
-            (λ (own : List ℕ). Some (departure_to c.closed (join b.barrier.gathered u) own)) in
+        (λ (own : List ℕ). Some (departure_to c.closed (join b.barrier.gathered u) own)) in
         let there = slice_get-map (λ (own : List ℕ). Some (departure_to c.closed (join b.barrier.gathered u) own))
-            c.times q in
+        c.times q in
         let read = slice_get-get_or c.times q [] (omega arith) in
         let is = same_Some (Some (departure_to c.closed (join b.barrier.gathered u) (slice_index_or c.times q []))) o
-            (sym (there
-            ∙ ap (λ x. option_map (λ (own : List ℕ). Some (departure_to c.closed (join b.barrier.gathered u) own)) x)
-            read) ∙ at) in
+        (sym (there
+        ∙ ap (λ x. option_map (λ (own : List ℕ). Some (departure_to c.closed (join b.barrier.gathered u) own)) x)
+        read) ∙ at) in
         subst (λ x. IsMail s (did h p Arrive) q x) is (carries q (omega arith) (slice_index_or c.times q []))
 
 -- the barrier after an arrival
 arrived_barrier : (s : Sizes) (h : List Event) (b : State) (p : ℕ) (u : List ℕ) (full : Bool) → IsTold s h b
     → slice_get b.awaits p ≡ Some None → WellFormed s (did h p Arrive) → p < s.processors
     → IsStamp s.processors (did h p Arrive) (InPast (did h p Arrive) p) u → is_full (joined b.barrier p u) ≡ full
-      → IsBarrier s (did h p Arrive) (completed full (joined b.barrier p u))
+    → IsBarrier s (did h p Arrive) (completed full (joined b.barrier p u))
 arrived_barrier s h b p u false told idle next lt time full =
     (barrier_waits s h p b.barrier u told.well_formed (is_idle s h b p told idle) lt told.barrier time full).0
 arrived_barrier s h b p u true told idle next lt time full =
@@ -156,7 +161,7 @@ met_notices false c u r m t at time old = old at
 met_notices true c u r m t at time old =
     let there = slice_get-map (λ (own : List ℕ). Some (departure_to c.closed u own)) c.times r in
     let is = same_Some (Some (departure_to c.closed u t)) (Some m)
-        (sym (there ∙ ap (λ x. option_map (λ (own : List ℕ). Some (departure_to c.closed u own)) x) time) ∙ at) in
+    (sym (there ∙ ap (λ x. option_map (λ (own : List ℕ). Some (departure_to c.closed u own)) x) time) ∙ at) in
     subst (λ x. x.notices ≡ between c.closed t x.time) (same_Some (departure_to c.closed u t) m is) refl
 
 -- p arrives at the barrier
@@ -165,8 +170,12 @@ pub told_arrive : (s : Sizes) (h : List Event) (b : State) (p : ℕ) (records : 
     → IsTold s (did h p Arrive) (book_arrived b p records)
 told_arrive s h b p records told idle stored = record {
   well_formed = well;
-  sizes = record { processors = told.sizes.processors; words = told.sizes.words; addresses = told.sizes.addresses;
-      lockers = told.sizes.lockers };
+  sizes = record {
+    processors = told.sizes.processors;
+    words = told.sizes.words;
+    addresses = told.sizes.addresses;
+    lockers = told.sizes.lockers;
+  };
   holds = history_on b.journal h (event p Arrive ∷ []) told.holds;
   closed = closed_now s h b p Arrive records told lt refl stored;
   times = times;

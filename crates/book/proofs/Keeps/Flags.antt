@@ -51,11 +51,15 @@ told_closing : (s : Sizes) (h : List Event) (b : State) (p : ℕ) (k : Kind) (re
     (flags : List (Option (List ℕ))) → IsTold s h b → slice_get b.awaits p ≡ Some None → MayFollow s h (event p k)
     → IsPlainClosing k
     → AreAll s.flags (IsFlag s.processors (did h p k)) flags → AreContents s h p (count_of is_closing h p) records
-      → IsTold s (did h p k) (record (closed_by b p k records) { flags = flags })
+    → IsTold s (did h p k) (record (closed_by b p k records) { flags = flags })
 told_closing s h b p k records flags told idle may plain all stored = record {
   well_formed = still_formed s h b p k told may;
-  sizes = record { processors = told.sizes.processors; words = told.sizes.words; addresses = told.sizes.addresses;
-      lockers = told.sizes.lockers };
+  sizes = record {
+    processors = told.sizes.processors;
+    words = told.sizes.words;
+    addresses = told.sizes.addresses;
+    lockers = told.sizes.lockers;
+  };
   holds = history_on b.journal h (event p k ∷ []) told.holds;
   closed = closed_now s h b p k records told lt plain.closes stored;
   times = times_closing s h b p k told lt plain.takes plain.closes;
@@ -92,15 +96,23 @@ told_set s h b p f records told range idle stored =
     told_closing s h b p (Set f) records
     (slice_set b.flags f (Some (flag_joined (slice_index_or b.flags f None) (tick (time_of b p) p)))) told idle
     (follows s h b p (Set f) told idle range tt)
-    (record { takes = refl; closes = refl; arrives = refl; departs = refl; ask = λ l e. absurd cc;
-        acquire = λ l e. absurd cc; release = λ l e. absurd cc; arrive = λ e. absurd cc })
+    (record {
+      takes = refl;
+      closes = refl;
+      arrives = refl;
+      departs = refl;
+      ask = λ l e. absurd cc;
+      acquire = λ l e. absurd cc;
+      release = λ l e. absurd cc;
+      arrive = λ e. absurd cc;
+    })
     (each_set s.flags (IsFlag s.processors h) (IsFlag s.processors (did h p (Set f))) b.flags f
-        (Some (flag_joined (slice_index_or b.flags f None) (tick (time_of b p) p))) told.flags
+    (Some (flag_joined (slice_index_or b.flags f None) (tick (time_of b p) p))) told.flags
     (λ g o isnt at is. flag_kept s.processors h p (Set f) g o (λ e. isnt (cc e)) is)
     (flag_set s.processors h p f (slice_index_or b.flags f None) (tick (time_of b p) p)
-        (is_at s.flags (IsFlag s.processors h) b.flags f None told.flags range)
+    (is_at s.flags (IsFlag s.processors h) b.flags f None told.flags range)
     (let lt = is_processor s h b p None told idle in
-        stamp_closing s.processors h p (Set f) (time_of b p) lt refl refl (own_stamp s h b p told lt))))
+    stamp_closing s.processors h p (Set f) (time_of b p) lt refl refl (own_stamp s h b p told lt))))
     stored
 
 -- p watches a flag
@@ -109,10 +121,18 @@ pub told_watch : (s : Sizes) (h : List Event) (b : State) (p f : ℕ) (records :
     → IsTold s (did h p (Watch f)) (book_watched b p f records)
 told_watch s h b p f records told range idle stored =
     told_closing s h b p (Watch f) records b.flags told idle (follows s h b p (Watch f) told idle range tt)
-    (record { takes = refl; closes = refl; arrives = refl; departs = refl; ask = λ l e. absurd cc;
-        acquire = λ l e. absurd cc; release = λ l e. absurd cc; arrive = λ e. absurd cc })
+    (record {
+      takes = refl;
+      closes = refl;
+      arrives = refl;
+      departs = refl;
+      ask = λ l e. absurd cc;
+      acquire = λ l e. absurd cc;
+      release = λ l e. absurd cc;
+      arrive = λ e. absurd cc;
+    })
     (each_kept s.flags (IsFlag s.processors h) (IsFlag s.processors (did h p (Watch f))) b.flags told.flags
-        (λ g o at is. flag_kept s.processors h p (Watch f) g o (λ e. absurd cc) is))
+    (λ g o at is. flag_kept s.processors h p (Watch f) g o (λ e. absurd cc) is))
     stored
 
 -- who waits for a flag has watched it
@@ -143,14 +163,18 @@ pub told_signal : (s : Sizes) (h : List Event) (b : State) (p f : ℕ) (t : List
     → IsLoose s (did h p (Await f)) (book_joined b p (Await f) t)
 told_signal s h b p f t told waits set = record {
   well_formed = still_formed s h b p (Await f) told may;
-  sizes = record { processors = told.sizes.processors; words = told.sizes.words; addresses = told.sizes.addresses;
-      lockers = told.sizes.lockers };
+  sizes = record {
+    processors = told.sizes.processors;
+    words = told.sizes.words;
+    addresses = told.sizes.addresses;
+    lockers = told.sizes.lockers;
+  };
   holds = history_on b.journal h (event p (Await f) ∷ []) told.holds;
   closed = closed_quiet s h p (Await f) b.closed refl told.closed;
   times = times_taking s h b p (Await f) t told lt refl flag.1;
   locks = each_kept s.locks (IsLock s.processors h) (IsLock s.processors (did h p (Await f))) b.locks.locks told.locks
       (λ l x at is. lock_kept s.processors h p (Await f) l x (λ e. absurd cc) (λ e. absurd cc) (λ e. absurd cc)
-          (λ i ask. absurd (cc ((last_unique h p last.0 i (Watch f) (Ask l) last.1 ask).1))) is);
+      (λ i ask. absurd (cc ((last_unique h p last.0 i (Watch f) (Ask l) last.1 ask).1))) is);
   barrier = barrier_kept s h p (Await f) b.barrier refl refl told.barrier;
   flags = each_kept s.flags (IsFlag s.processors h) (IsFlag s.processors (did h p (Await f))) b.flags told.flags
       (λ g o at is. flag_kept s.processors h p (Await f) g o (λ e. absurd cc) is);
@@ -158,7 +182,7 @@ told_signal s h b p f t told waits set = record {
   transit = each_own s.processors (IsMail s h) (IsMail s (did h p (Await f))) b.transit p told.transit
       (λ r o isnt at is. mail_kept s h p (Await f) r o may isnt (λ m e. absurd cc) (λ e. absurd cc) is)
       (λ o at is. subst (λ x. IsMail s (did h p (Await f)) p x) (watching_mail s h p last.0 f o last.1 is)
-          (own_none s h p (Await f) (λ m e. absurd cc) (λ e. absurd cc)));
+      (own_none s h p (Await f) (λ m e. absurd cc) (λ e. absurd cc)));
   notices = λ r m u at now. told.notices r m u at
       (sym (slice_get-set_other b.times p r (join (time_of b p) t) (apart r m at)) ∙ now);
   within = within_taking s h b p t told lt;

@@ -49,9 +49,11 @@ pub lock_kept : (n : ℕ) (h : List Event) (p : ℕ) (k : Kind) (l : ℕ) (x : L
 lock_kept n h p k l x ask acquire release none is = record {
   line_is = line_kept h p k l (line x) ask acquire release none is.line_is;
   held = is.held;
-  time = record { long = is.time.long;
-      is = kind_kept h (event p k ∷ []) (Release l) (slice_index x.time) (other_kind p k (Release l) release)
-      is.time.is };
+  time = record {
+    long = is.time.long;
+    is = kind_kept h (event p k ∷ []) (Release l) (slice_index x.time) (other_kind p k (Release l) release)
+        is.time.is;
+  };
 }
 
 lock_asked : (n : ℕ) (h : List Event) (p l : ℕ) (o : Option ℕ) (xs t : List ℕ) → NoAsk h p l → ¬ Holds h p l
@@ -61,16 +63,20 @@ lock_asked n h p l None (y ∷ xs) t none free is = absurd (cc (is.held refl))
 lock_asked n h p l None [] t none free is = record {
   line_is = line_asked h p l [] none free is.line_is;
   held = λ e. absurd (cc (e));
-  time = record { long = is.time.long;
-      is = kind_kept h (event p (Ask l) ∷ []) (Release l) (slice_index t)
-      (other_kind p (Ask l) (Release l) (λ e. absurd cc)) is.time.is };
+  time = record {
+    long = is.time.long;
+    is = kind_kept h (event p (Ask l) ∷ []) (Release l) (slice_index t)
+        (other_kind p (Ask l) (Release l) (λ e. absurd cc)) is.time.is;
+  };
 }
 lock_asked n h p l (Some q) xs t none free is = record {
   line_is = line_asked h p l (q ∷ xs) none free is.line_is;
   held = λ e. absurd (cc (e));
-  time = record { long = is.time.long;
-      is = kind_kept h (event p (Ask l) ∷ []) (Release l) (slice_index t)
-      (other_kind p (Ask l) (Release l) (λ e. absurd cc)) is.time.is };
+  time = record {
+    long = is.time.long;
+    is = kind_kept h (event p (Ask l) ∷ []) (Release l) (slice_index t)
+        (other_kind p (Ask l) (Release l) (λ e. absurd cc)) is.time.is;
+  };
 }
 
 pub lock_taken : (n : ℕ) (h : List Event) (p l i : ℕ) (x : Lock) → LastIs h p i (Ask l) → MayBeGranted h i l
@@ -78,9 +84,11 @@ pub lock_taken : (n : ℕ) (h : List Event) (p l i : ℕ) (x : Lock) → LastIs 
 lock_taken n h p l i x last may is = record {
   line_is = line_taken h p l i (line x) last may is.line_is;
   held = is.held;
-  time = record { long = is.time.long;
-      is = kind_kept h (event p (Acquire l) ∷ []) (Release l) (slice_index x.time)
-      (other_kind p (Acquire l) (Release l) (λ e. absurd cc)) is.time.is };
+  time = record {
+    long = is.time.long;
+    is = kind_kept h (event p (Acquire l) ∷ []) (Release l) (slice_index x.time)
+        (other_kind p (Acquire l) (Release l) (λ e. absurd cc)) is.time.is;
+  };
 }
 
 -- the line of a lock is that of its holder and its queue
@@ -102,7 +110,7 @@ line_passed : (n : ℕ) (h : List Event) (p l : ℕ) (o : Option ℕ) (xs t : Li
 line_passed n h p l o xs t none held is =
     let first = holder_first n h p l o xs t held is in
     line_released h p l xs none held
-        (subst (λ x. IsLine h l (line (record { holder = x; queue = xs; time = t }))) first is.line_is)
+    (subst (λ x. IsLine h l (line (record { holder = x; queue = xs; time = t }))) first is.line_is)
 
 -- messages
 
@@ -114,9 +122,13 @@ asked_mail s h p l None (y ∷ xs) t notices none free is = absurd (cc (is.held 
 asked_mail s h p l None [] t notices none free is =
     let now = lock_asked s.processors h p l None [] t none free is in
     let nobody : (q : ℕ) → ¬ Holds (did h p (Ask l)) q l =
-        λ q held. none-some q (is.line_is.first q (holds_back h p (Ask l) q l (λ e. absurd cc) held)) in
-    record { kind = Acquire l; lets = tt;
-        allowed = allowed_first (did h p (Ask l)) p l (p ∷ []) nobody refl now.line_is; time = now.time }
+    λ q held. none-some q (is.line_is.first q (holds_back h p (Ask l) q l (λ e. absurd cc) held)) in
+    record {
+      kind = Acquire l;
+      lets = tt;
+      allowed = allowed_first (did h p (Ask l)) p l (p ∷ []) nobody refl now.line_is;
+      time = now.time;
+    }
 asked_mail s h p l (Some q) xs t notices none free is = mail
   where
     now : IsLock s.processors (did h p (Ask l)) l (asked (record { holder = Some q; queue = xs; time = t }) p)
@@ -135,7 +147,7 @@ asked_mail s h p l (Some q) xs t notices none free is = mail
     mail (Acquire m) posted (i, last, may) = (
         let is_l = same_lock m i last in
         never i (subst (λ x. LastIs (did h p (Ask l)) p i (Ask x)) (sym is_l) last)
-            (subst (λ x. MayBeGranted (did h p (Ask l)) i x) (sym is_l) may))
+        (subst (λ x. MayBeGranted (did h p (Ask l)) i x) (sym is_l) may))
     mail Depart posted allowed = last_none h p (Ask l) allowed.0 Arrive (λ e. absurd cc) allowed.1
     mail _ posted allowed = absurd posted
 
@@ -156,17 +168,21 @@ pub told_ask : (s : Sizes) (h : List Event) (b : State) (p l : ℕ) (records : L
     → AreContents s h p (count_of is_closing h p) records → IsTold s (did h p (Ask l)) (book_asked b p l records)
 told_ask s h b p l records told range idle free stored = record {
   well_formed = still_formed s h b p (Ask l) told may;
-  sizes = record { processors = told.sizes.processors; words = told.sizes.words; addresses = told.sizes.addresses;
-      lockers = told.sizes.lockers };
+  sizes = record {
+    processors = told.sizes.processors;
+    words = told.sizes.words;
+    addresses = told.sizes.addresses;
+    lockers = told.sizes.lockers;
+  };
   holds = history_on b.journal h (event p (Ask l) ∷ []) told.holds;
   closed = closed_now s h b p (Ask l) records told lt refl stored;
   times = times_closing s h b p (Ask l) told lt refl refl;
   locks = each_set s.locks (IsLock s.processors h) (IsLock s.processors (did h p (Ask l))) b.locks.locks l
       (asked (lock_at b.locks l) p) told.locks
       (λ m x isnt at is. lock_kept s.processors h p (Ask l) m x (λ e. isnt (cc e)) (λ e. absurd cc) (λ e. absurd cc)
-          (idle_no_ask h p m (is_idle s h b p told idle)) is)
+      (idle_no_ask h p m (is_idle s h b p told idle)) is)
       (lock_asked s.processors h p l (lock_at b.locks l).holder (lock_at b.locks l).queue
-          (lock_at b.locks l).time none free lock);
+      (lock_at b.locks l).time none free lock);
   barrier = barrier_kept s h p (Ask l) b.barrier refl refl told.barrier;
   flags = each_kept s.flags (IsFlag s.processors h) (IsFlag s.processors (did h p (Ask l))) b.flags told.flags
       (λ f o at is. flag_kept s.processors h p (Ask l) f o (λ e. absurd cc) is);
@@ -175,7 +191,7 @@ told_ask s h b p l records told range idle free stored = record {
       (if_free (lock_at b.locks l).holder (grant_from c p (lock_at b.locks l).time)) told.transit
       (λ r o isnt at is. mail_kept s h p (Ask l) r o may isnt (λ m e. absurd cc) (λ e. absurd cc) is)
       (asked_mail s h p l (lock_at b.locks l).holder (lock_at b.locks l).queue (lock_at b.locks l).time
-          (grant_from c p (lock_at b.locks l).time).notices none free lock);
+      (grant_from c p (lock_at b.locks l).time).notices none free lock);
   notices = notices;
   within = within_closing s h b p told lt;
   tight = tight_closing s h b p told lt;
@@ -205,17 +221,17 @@ told_ask s h b p l records told range idle free stored = record {
     notices r m t at time = elim (cases_eq r p) [
       | inl is ↦ (
           let P : ℕ → Type 0 =
-              λ x. slice_get
-              (slice_set b.transit p
-              (if_free (lock_at b.locks l).holder
-              (grant_from (closed_by b p (Ask l) records) p (lock_at b.locks l).time))) x ≡ Some (Some m) in
+          λ x. slice_get
+          (slice_set b.transit p
+          (if_free (lock_at b.locks l).holder
+          (grant_from (closed_by b p (Ask l) records) p (lock_at b.locks l).time))) x ≡ Some (Some m) in
           let Q : ℕ → Type 0 = λ x. slice_get (closed_by b p (Ask l) records).times x ≡ Some t in
           let found = slice_get-set_found b.transit p
-              (if_free (lock_at b.locks l).holder
-              (grant_from (closed_by b p (Ask l) records) p (lock_at b.locks l).time)) (Some m) (subst P is at) in
+          (if_free (lock_at b.locks l).holder
+          (grant_from (closed_by b p (Ask l) records) p (lock_at b.locks l).time)) (Some m) (subst P is at) in
           granted_notices (closed_by b p (Ask l) records) p (lock_at b.locks l).time t m (subst Q is time)
-              (due_is (lock_at b.locks l).holder
-              (grant_from (closed_by b p (Ask l) records) p (lock_at b.locks l).time) m found))
+          (due_is (lock_at b.locks l).holder
+          (grant_from (closed_by b p (Ask l) records) p (lock_at b.locks l).time) m found))
       | inr isnt ↦ old_notices s h b p records r m t told lt isnt
           (sym (slice_get-set_other b.transit p r
           (if_free (lock_at b.locks l).holder
@@ -232,8 +248,8 @@ released_mail s h p l r xs o may isnt line behind mail = mail_unless s h p (Rele
     never (Acquire m) posted news (i, last, grant_from) =
         let same : m ≡ l = cc in
         behind (first_allowed (did h p (Release l)) r l i xs
-            (subst (λ x. LastIs (did h p (Release l)) r i (Ask x)) same last)
-            (subst (λ x. MayBeGranted (did h p (Release l)) i x) same grant_from) line)
+        (subst (λ x. LastIs (did h p (Release l)) r i (Ask x)) same last)
+        (subst (λ x. MayBeGranted (did h p (Release l)) i x) same grant_from) line)
     never Depart posted news allowed = absurd cc
     never _ posted news allowed = absurd posted
 
@@ -249,9 +265,9 @@ released_free s h p l well held q after = elim (holds_cases h (event p (Release 
 mail_released : (s : Sizes) (h : List Event) (c : State) (p l : ℕ) (xs u : List ℕ) → WellFormed s h
     → MayFollow s h (event p (Release l)) → IsIdle h p → Holds h p l → IsLine (did h p (Release l)) l xs
     → IsStamp s.processors (did h p (Release l))
-      (UpToSome (did h p (Release l)) (SomeDoes (did h p (Release l)) (Release l))) u
-      → AreAll s.processors (IsMail s h) c.transit
-      → AreAll s.processors (IsMail s (did h p (Release l))) (mail_passed_on c xs u)
+    (UpToSome (did h p (Release l)) (SomeDoes (did h p (Release l)) (Release l))) u
+    → AreAll s.processors (IsMail s h) c.transit
+    → AreAll s.processors (IsMail s (did h p (Release l))) (mail_passed_on c xs u)
 mail_released s h c p l [] u well may idle held line time all =
     each_own s.processors (IsMail s h) (IsMail s (did h p (Release l))) c.transit p all
     (λ r o isnt at is. released_mail s h p l r [] o may isnt line (none-some r) is)
@@ -259,9 +275,12 @@ mail_released s h c p l [] u well may idle held line time all =
 mail_released s h c p l (q ∷ xs) u well may idle held line time all =
     each_set s.processors (IsMail s h) (IsMail s (did h p (Release l))) c.transit q (Some (grant_from c q u))
     all others
-    (record { kind = Acquire l; lets = tt;
-        allowed = allowed_first (did h p (Release l)) q l (q ∷ xs) (released_free s h p l well held) refl line;
-        time = time })
+    (record {
+      kind = Acquire l;
+      lets = tt;
+      allowed = allowed_first (did h p (Release l)) q l (q ∷ xs) (released_free s h p l well held) refl line;
+      time = time;
+    })
   where
     others : (r : ℕ) (o : Option Letter) → r ≢ q → slice_get c.transit r ≡ Some o → IsMail s h r o
         → IsMail s (did h p (Release l)) r o
@@ -293,15 +312,19 @@ pub told_release : (s : Sizes) (h : List Event) (b : State) (p l : ℕ) (records
     → IsTold s (did h p (Release l)) (book_released b p l records)
 told_release s h b p l records told range idle held stored = record {
   well_formed = well;
-  sizes = record { processors = told.sizes.processors; words = told.sizes.words; addresses = told.sizes.addresses;
-      lockers = told.sizes.lockers };
+  sizes = record {
+    processors = told.sizes.processors;
+    words = told.sizes.words;
+    addresses = told.sizes.addresses;
+    lockers = told.sizes.lockers;
+  };
   holds = history_on b.journal h (event p (Release l) ∷ []) told.holds;
   closed = closed_now s h b p (Release l) records told lt refl stored;
   times = times_closing s h b p (Release l) told lt refl refl;
   locks = each_set s.locks (IsLock s.processors h) (IsLock s.processors (did h p (Release l))) b.locks.locks l
       (released (lock_at b.locks l) (tick (time_of b p) p)) told.locks
       (λ m x isnt at is. lock_kept s.processors h p (Release l) m x (λ e. absurd cc) (λ e. absurd cc)
-          (λ e. isnt (cc e)) (idle_no_ask h p m free) is)
+      (λ e. isnt (cc e)) (idle_no_ask h p m free) is)
       (lock_passed s.processors (did h p (Release l)) l (lock_at b.locks l).queue (tick (time_of b p) p) line_now time);
   barrier = barrier_kept s h p (Release l) b.barrier refl refl told.barrier;
   flags = each_kept s.flags (IsFlag s.processors h) (IsFlag s.processors (did h p (Release l))) b.flags told.flags

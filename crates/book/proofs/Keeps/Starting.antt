@@ -117,14 +117,41 @@ record IsPlain (k : Kind) : Type 0 where
 
 plain_kind : (k : Kind) → is_taking k ≡ false → is_closing k ≡ false → IsPlain k
 plain_kind (Load a v) t c =
-    record { awaits = refl; arrives = refl; departs = refl; ask = λ l e. absurd cc; acquire = λ l e. absurd cc;
-    release = λ l e. absurd cc; set = λ f e. absurd cc; arrive = λ e. absurd cc; allowed = λ s h p. tt }
+    record {
+      awaits = refl;
+      arrives = refl;
+      departs = refl;
+      ask = λ l e. absurd cc;
+      acquire = λ l e. absurd cc;
+      release = λ l e. absurd cc;
+      set = λ f e. absurd cc;
+      arrive = λ e. absurd cc;
+      allowed = λ s h p. tt;
+    }
 plain_kind (Store a v) t c =
-    record { awaits = refl; arrives = refl; departs = refl; ask = λ l e. absurd cc; acquire = λ l e. absurd cc;
-    release = λ l e. absurd cc; set = λ f e. absurd cc; arrive = λ e. absurd cc; allowed = λ s h p. tt }
+    record {
+      awaits = refl;
+      arrives = refl;
+      departs = refl;
+      ask = λ l e. absurd cc;
+      acquire = λ l e. absurd cc;
+      release = λ l e. absurd cc;
+      set = λ f e. absurd cc;
+      arrive = λ e. absurd cc;
+      allowed = λ s h p. tt;
+    }
 plain_kind (Fetch w n r d) t c =
-    record { awaits = refl; arrives = refl; departs = refl; ask = λ l e. absurd cc; acquire = λ l e. absurd cc;
-    release = λ l e. absurd cc; set = λ f e. absurd cc; arrive = λ e. absurd cc; allowed = λ s h p. tt }
+    record {
+      awaits = refl;
+      arrives = refl;
+      departs = refl;
+      ask = λ l e. absurd cc;
+      acquire = λ l e. absurd cc;
+      release = λ l e. absurd cc;
+      set = λ f e. absurd cc;
+      arrive = λ e. absurd cc;
+      allowed = λ s h p. tt;
+    }
 plain_kind _ t c = absurd cc
 
 -- a book with another journal that holds the history
@@ -133,8 +160,12 @@ pub told_journal : (s : Sizes) (h : List Event) (b : State) (log : Log)
     → IsTold s h b → IsTold s h (record b { journal = log })
 told_journal s h b log same holds told = record {
   well_formed = told.well_formed;
-  sizes = record { processors = same.0 ∙ told.sizes.processors; words = told.sizes.words;
-      addresses = same.1 ∙ told.sizes.addresses; lockers = told.sizes.lockers };
+  sizes = record {
+    processors = same.0 ∙ told.sizes.processors;
+    words = told.sizes.words;
+    addresses = same.1 ∙ told.sizes.addresses;
+    lockers = told.sizes.lockers;
+  };
   holds = holds;
   closed = told.closed;
   times = told.times;
@@ -155,8 +186,12 @@ told_quiet : (s : Sizes) (h : List Event) (b : State) (p : ℕ) (k : Kind) (log 
     → HoldsSome log (did h p k) → IsTold s (did h p k) (record b { journal = log })
 told_quiet s h b p k log same told idle takes closes range holds = record {
   well_formed = still_formed s h b p k told may;
-  sizes = record { processors = same.0 ∙ told.sizes.processors; words = told.sizes.words;
-      addresses = same.1 ∙ told.sizes.addresses; lockers = told.sizes.lockers };
+  sizes = record {
+    processors = same.0 ∙ told.sizes.processors;
+    words = told.sizes.words;
+    addresses = same.1 ∙ told.sizes.addresses;
+    lockers = told.sizes.lockers;
+  };
   holds = holds;
   closed = closed_quiet s h p k b.closed closes told.closed;
   times = each_own s.processors (λ q t. IsStamp s.processors h (InPast h q) t)
@@ -205,13 +240,13 @@ told_block s h block b p told idle all =
     pushed es e x now =
         let same : event p e.kind ≡ e = ap (λ q. event q e.kind) (sym x.mine) in
         let one = told_quiet s (h ++ es) (handed_in b es) p e.kind
-            (appended (handed_in b es).journal (event p e.kind ∷ [])) (refl, refl)
-            now idle x.takes x.closes x.in_range
-            (history_on (handed_in b es).journal (h ++ es) (event p e.kind ∷ []) now.holds) in
+        (appended (handed_in b es).journal (event p e.kind ∷ [])) (refl, refl)
+        now idle x.takes x.closes x.in_range
+        (history_on (handed_in b es).journal (h ++ es) (event p e.kind ∷ []) now.holds) in
         let read = subst (λ f. IsTold s ((h ++ es) ++ f ∷ [])
-            (record b { journal = record b.journal { events = (b.journal.events ++ es) ++ f ∷ [] } })) same one in
+        (record b { journal = record b.journal { events = (b.journal.events ++ es) ++ f ∷ [] } })) same one in
         subst₂ (λ xs ys. IsTold s xs (record b { journal = record b.journal { events = ys } }))
-            (append_assoc h es (e ∷ [])) (append_assoc b.journal.events es (e ∷ [])) read
+        (append_assoc h es (e ∷ [])) (append_assoc b.journal.events es (e ∷ [])) read
 
     step : (es : List Event) (e : Event) → (IsBlockOf s p es → IsTold s (h ++ es) (handed_in b es))
         → IsBlockOf s p (es ++ e ∷ []) → IsTold s (h ++ (es ++ e ∷ [])) (handed_in b (es ++ e ∷ []))
@@ -224,8 +259,12 @@ trimmed_once : (s : Sizes) (h : List Event) (b : State) (c : Closings) (owner to
     → IsLoose s h (record b { closed = c }) → IsLoose s h (record b { closed = trimmed c owner to })
 trimmed_once s h b c owner to covered lt told = record {
   well_formed = told.well_formed;
-  sizes = record { processors = told.sizes.processors; words = told.sizes.words; addresses = told.sizes.addresses;
-      lockers = told.sizes.lockers };
+  sizes = record {
+    processors = told.sizes.processors;
+    words = told.sizes.words;
+    addresses = told.sizes.addresses;
+    lockers = told.sizes.lockers;
+  };
   holds = told.holds;
   closed = closed_trimmed s h c owner to lt told.closed;
   times = told.times;

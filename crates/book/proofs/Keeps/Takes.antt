@@ -60,9 +60,11 @@ pub message_lets : (s : Sizes) (h : List Event) (p : ℕ) (k : Kind) (m : Letter
     → Carries s h p m → IsPosted k × Allowed s h p k × IsStamp s.processors h (Brings h p k) m.time
 message_lets s h p k m w x =
     let posted = lets_posted m.kind x.kind x.lets in
-    let is = awaits_it s h p k x.kind w (posted_taking x.kind posted) x.allowed in
-    (subst (λ a. IsPosted a) is posted, subst (λ a. Allowed s h p a) is x.allowed,
-        subst (λ a. IsStamp s.processors h (Brings h p a) m.time) is x.time)
+    let is = awaits_it s h p k x.kind w (posted_taking x.kind posted) x.allowed in (
+      subst (λ a. IsPosted a) is posted,
+      subst (λ a. Allowed s h p a) is x.allowed,
+      subst (λ a. IsStamp s.processors h (Brings h p a) m.time) is x.time,
+    )
 
 -- each lock, after a take
 took_lock : (s : Sizes) (h : List Event) (p : ℕ) (k : Kind) (l : ℕ) (x : Lock) → IsPosted k → Allowed s h p k
@@ -99,11 +101,23 @@ record IsTaking (k : Kind) : Type 0 where
 
 takes_posted : (k : Kind) → IsPosted k → IsTaking k
 takes_posted (Acquire l) posted =
-    record { takes = refl; closes = refl; ask = λ m e. absurd cc; arrive = λ e. absurd cc;
-    release = λ m e. absurd cc; set = λ f e. absurd cc }
+    record {
+      takes = refl;
+      closes = refl;
+      ask = λ m e. absurd cc;
+      arrive = λ e. absurd cc;
+      release = λ m e. absurd cc;
+      set = λ f e. absurd cc;
+    }
 takes_posted Depart posted =
-    record { takes = refl; closes = refl; ask = λ m e. absurd cc; arrive = λ e. absurd cc;
-    release = λ m e. absurd cc; set = λ f e. absurd cc }
+    record {
+      takes = refl;
+      closes = refl;
+      ask = λ m e. absurd cc;
+      arrive = λ e. absurd cc;
+      release = λ m e. absurd cc;
+      set = λ f e. absurd cc;
+    }
 takes_posted _ posted = absurd posted
 
 -- p takes its mail
@@ -112,8 +126,12 @@ pub told_take : (s : Sizes) (h : List Event) (b : State) (p : ℕ) (k : Kind) (m
     → IsLoose s (did h p k) (book_received b p k m)
 told_take s h b p k m told waits mail = record {
   well_formed = still_formed s h b p k told may;
-  sizes = record { processors = told.sizes.processors; words = told.sizes.words; addresses = told.sizes.addresses;
-      lockers = told.sizes.lockers };
+  sizes = record {
+    processors = told.sizes.processors;
+    words = told.sizes.words;
+    addresses = told.sizes.addresses;
+    lockers = told.sizes.lockers;
+  };
   holds = history_on b.journal h (event p k ∷ []) told.holds;
   closed = closed_quiet s h p k b.closed kind.closes told.closed;
   times = times_taking s h b p k m.time told lt kind.closes lets.2;
@@ -182,13 +200,13 @@ waits_posted : (h : List Event) (p : ℕ) (k : Kind) → IsAwaited h p (Some k) 
 waits_posted h p k w isnt =
     let last = w.some k refl in
     elim (awaited_cases last.1 k (sym (w.last last.0 last.1 last.2)))
-        [ inl flag ↦ absurd (isnt flag.0 flag.1) | inr posted ↦ posted ]
+    [ inl flag ↦ absurd (isnt flag.0 flag.1) | inr posted ↦ posted ]
 
 pub waits_taking : (h : List Event) (p : ℕ) (k : Kind) → IsAwaited h p (Some k) → IsTrue (is_taking k)
 waits_taking h p k w =
     let last = w.some k refl in
     elim (awaited_cases last.1 k (sym (w.last last.0 last.1 last.2)))
-        [ inl flag ↦ subst (λ a. IsTrue (is_taking a)) (sym flag.1) refl | inr posted ↦ posted_taking k posted ]
+    [ inl flag ↦ subst (λ a. IsTrue (is_taking a)) (sym flag.1) refl | inr posted ↦ posted_taking k posted ]
 
 -- p's mail, as it stands in the book
 mail_at : (s : Sizes) (h : List Event) (b : State) (p : ℕ) (m : Letter) → IsTold s h b → p < s.processors
@@ -202,9 +220,12 @@ mail_is s h b p k m told waits is =
     let lt = is_processor s h b p (Some k) told waits in
     let at = mail_at s h b p m told lt is in
     let lets = message_lets s h p k m (told.awaits.each p (Some k) waits) (told.transit.each p (Some m) at) in
-    record { allowed = lets.1; time = lets.2;
-        notices = told.notices p m (time_of b p) at
-        (item_at s.processors (λ q t. IsStamp s.processors h (InPast h q) t) b.times p [] told.times lt) }
+    record {
+      allowed = lets.1;
+      time = lets.2;
+      notices = told.notices p m (time_of b p) at
+          (item_at s.processors (λ q t. IsStamp s.processors h (InPast h q) t) b.times p [] told.times lt);
+    }
 
 -- a flag as it stands in the book
 flag_at : (s : Sizes) (h : List Event) (b : State) (p f : ℕ) → IsTold s h b
@@ -212,7 +233,7 @@ flag_at : (s : Sizes) (h : List Event) (b : State) (p f : ℕ) → IsTold s h b
 flag_at s h b p f told waits =
     let last = last_watch h p f (told.awaits.each p (Some (Await f)) waits) in
     item_at s.flags (IsFlag s.processors h) b.flags f None told.flags
-        (told.well_formed last.0 (event p (Watch f)) last.1.does).in_range
+    (told.well_formed last.0 (event p (Watch f)) last.1.does).in_range
 
 signal_is : (s : Sizes) (h : List Event) (b : State) (p f : ℕ) (m : Letter) (o : Option (List ℕ)) → IsTold s h b
     → slice_get b.awaits p ≡ Some (Some (Await f)) → slice_get b.flags f ≡ Some o
@@ -222,7 +243,7 @@ signal_is s h b p f m (Some t) told waits at is =
     let last = last_watch h p f (told.awaits.each p (Some (Await f)) waits) in
     let flag : IsFlag s.processors h f (Some t) = told.flags.each f (Some t) at in
     subst (IsMessage s h b p (Await f)) (same_Some (signal_to b.closed t (time_of b p)) m is)
-        (record { allowed = (last.0, flag.0.0, flag.0.1.0, last.1, flag.0.1.1); time = flag.1; notices = refl })
+    (record { allowed = (last.0, flag.0.0, flag.0.1.0, last.1, flag.0.1.1); time = flag.1; notices = refl })
 
 -- p's message lets p go on
 pub message_is : (s : Sizes) (h : List Event) (b : State) (p : ℕ) (k : Kind) (m : Letter) → IsTold s h b
@@ -238,7 +259,7 @@ no_mail_waits s h b p f told waits =
     let lt = is_processor s h b p (Some (Await f)) told waits in
     let last = last_watch h p f (told.awaits.each p (Some (Await f)) waits) in
     let none = watching_mail s h p last.0 f (slice_index_or b.transit p None) last.1
-        (is_at s.processors (IsMail s h) b.transit p None told.transit lt) in
+    (is_at s.processors (IsMail s h) b.transit p None told.transit lt) in
     sym (set-get_or b.transit p None) ∙ ap (λ (o : Option Letter). slice_set b.transit p o) (sym none)
 
 signal_took : (s : Sizes) (h : List Event) (b : State) (p f : ℕ) (m : Letter) (o : Option (List ℕ)) → IsTold s h b
@@ -248,9 +269,9 @@ signal_took : (s : Sizes) (h : List Event) (b : State) (p f : ℕ) (m : Letter) 
 signal_took s h b p f m None told waits at is = absurd (none-some m is)
 signal_took s h b p f m (Some t) told waits at is =
     subst (λ x. IsLoose s (did h p (Await f)) (book_received b p (Await f) x))
-        (same_Some (signal_to b.closed t (time_of b p)) m is)
+    (same_Some (signal_to b.closed t (time_of b p)) m is)
     (subst (λ ts. IsLoose s (did h p (Await f)) (record (book_joined b p (Await f) t) { transit = ts }))
-        (no_mail_waits s h b p f told waits) (told_signal s h b p f t told waits at))
+    (no_mail_waits s h b p f told waits) (told_signal s h b p f t told waits at))
 
 -- p takes its message
 pub told_took : (s : Sizes) (h : List Event) (b : State) (p : ℕ) (k : Kind) (m : Letter) → IsTold s h b

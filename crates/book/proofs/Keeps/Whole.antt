@@ -44,9 +44,10 @@ holds_block s h block p l =
         let x = inner (length es) e (at_last es e) in
         let release : e.kind ≢ Release l = λ is. true≢false (sym (ap (λ k. is_closing k) is) ∙ x.closes) in
         let acquire : e.kind ≢ Acquire l = λ is. true≢false (sym (ap (λ k. is_taking k) is) ∙ x.takes) in
-        let pushed : Holds ((h ++ es) ++ e ∷ []) p l ↔ Holds h p l =
-            ((λ y. old.0 (holds_back (h ++ es) e.processor e.kind p l acquire y)),
-            (λ y. holds_on (h ++ es) e.processor e.kind p l release (old.1 y))) in
+        let pushed : Holds ((h ++ es) ++ e ∷ []) p l ↔ Holds h p l = (
+          (λ y. old.0 (holds_back (h ++ es) e.processor e.kind p l acquire y)),
+          (λ y. holds_on (h ++ es) e.processor e.kind p l release (old.1 y)),
+        ) in
         rw append_assoc at pushed
 
 block_told : (s : Sizes) (h block : List Event) (b : State) (p : ℕ) → IsTold s h b → MayHandIn s b p block
@@ -77,7 +78,7 @@ pub last_law : LastLaw
 last_law s h block b p told may =
     let given = hand_in_law s h block b p told may in
     told_journal s (h ++ block) (handed_in b block) (handed_last b block).journal (refl, refl)
-        (history_room (handed_in b block).journal (h ++ block) (handed_last b block).journal.room given.holds) given
+    (history_room (handed_in b block).journal (h ++ block) (handed_last b block).journal.room given.holds) given
 
 pub ask_law : AskLaw
 ask_law s h block b p l records told may are range free =
@@ -108,10 +109,10 @@ take_law s h b p k m told waits is =
     let lt = is_processor s h b p (Some k) told waits in
     let first = next.closed.first_long in
     let trimmed = told_trimmed s (did h p k) (book_received b p k m) (length (book_received b p k m).times)
-        (omega arith) next in
+    (omega arith) next in
     tightened s (did h p k) (book_taken b p k m) trimmed
-        (tight_trimmed b.closed (book_received b p k m).times (length (book_received b p k m).times) (omega arith)
-        (omega arith) (λ q less. least_few s (did h p k) (book_received b p k m) q next (omega arith)))
+    (tight_trimmed b.closed (book_received b p k m).times (length (book_received b p k m).times) (omega arith)
+    (omega arith) (λ q less. least_few s (did h p k) (book_received b p k m) q next (omega arith)))
 
 pub cut_law : CutLaw
 cut_law s h old new told was =
@@ -119,10 +120,10 @@ cut_law s h old new told was =
     let processors = ap (λ (l : Log). l.processors) left in
     let addresses_are = ap (λ (l : Log). l.addresses) left in
     let sizes : IsOf s old.journal =
-        record { processors = told.sizes.processors; addresses_are = told.sizes.addresses } in
+    record { processors = told.sizes.processors; addresses_are = told.sizes.addresses } in
     let holds = history_cut s h old.journal new.journal sizes told.well_formed told.holds was.journal in
     subst (λ (b : State). IsTold s h b) (sym was.others)
-        (told_journal s h old new.journal (processors, addresses_are) holds told)
+    (told_journal s h old new.journal (processors, addresses_are) holds told)
 
 pub message_law : MessageLaw
 message_law s h b p k m told waits is = message_is s h b p k m told waits is

@@ -79,8 +79,11 @@ closes_cases : (h : List Event) (p : ℕ) (k : Kind) (q i : ℕ) → ClosesAt (d
     → ((i < length h) × ClosesAt h q i) ⊎ ((i ≡ length h) × (p ≡ q) × IsTrue (is_closing k))
 closes_cases h p k q i x = elim (push_cases h (event p k) i (event q x.kind) x.does) [
   | inl old ↦ inl (old.0, closes_shorter h (event p k ∷ []) q i old.0 x)
-  | inr new ↦ inr (new.0, ap (λ e. e.processor) new.1,
-      subst (λ b. IsTrue (is_closing b)) (sym (ap (λ e. e.kind) new.1)) x.closes)
+  | inr new ↦ inr (
+    new.0,
+    ap (λ e. e.processor) new.1,
+    subst (λ b. IsTrue (is_closing b)) (sym (ap (λ e. e.kind) new.1)) x.closes,
+  )
 ]
 
 -- an event that closes nothing leaves the intervals
@@ -170,13 +173,23 @@ closed_closing s h p k c n records closes lt number covered stored x = record {
       | inl old ↦ (
           let less = old.0 in
           let same = count_of-front is_closing h (event p k ∷ []) i q (omega arith) in
-          let j = x.all q i old.1 (omega arith) in
-          (j.0, (j.1.0, slice_get-append_left c.kept (new ∷ []) j.1.0 (slice_get_within c.kept j.1.0 j.0 j.1.1)
-              ∙ j.1.1), j.2, j.3 ∙ sym same))
+          let j = x.all q i old.1 (omega arith) in (
+            j.0,
+            (
+              j.1.0,
+              slice_get-append_left c.kept (new ∷ []) j.1.0 (slice_get_within c.kept j.1.0 j.0 j.1.1)
+                  ∙ j.1.1,
+            ),
+            j.2,
+            j.3 ∙ sym same,
+          ))
       | inr last ↦ (
-          let P : ℕ → ℕ → Type 0 = λ r m. n ≡ interval_at (did h p k) r m in
-          (new, (length c.kept, slice_get-last c.kept new), last.1,
-              subst (λ m. P q m) (sym last.0) (subst (λ r. P r (length h)) last.1 (sym front))))
+          let P : ℕ → ℕ → Type 0 = λ r m. n ≡ interval_at (did h p k) r m in (
+            new,
+            (length c.kept, slice_get-last c.kept new),
+            last.1,
+            subst (λ m. P q m) (sym last.0) (subst (λ r. P r (length h)) last.1 (sym front)),
+          ))
     ]
 
     contents : (j : Kept) → Has (c.kept ++ new ∷ []) j
@@ -193,7 +206,7 @@ closed_closing s h p k c n records closes lt number covered stored x = record {
     below j has =
         let old = x.each j has in
         let within = count_by-within (λ (e : Event). is_closing e.kind) h old.at
-            (event j.interval.owner old.closes.kind) old.closes.does old.closes.closes in
+        (event j.interval.owner old.closes.kind) old.closes.does old.closes.closes in
         let place = old.before in
         let count = x.count in
         omega arith
@@ -232,7 +245,7 @@ between_same c one other new p same here there =
       | inl is ↦ (
           let P : List ℕ → ℕ → Type 0 = λ t q. slice_index new q ≤ slice_index t q in
           news_false one new k (subst (P one) (sym is) here)
-              ∙ sym (news_false other new k (subst (P other) (sym is) there)))
+          ∙ sym (news_false other new k (subst (P other) (sym is) there)))
       | inr apart ↦ ap (λ (n : ℕ). nat_le n k.interval.number && nat_lt k.interval.number
           (slice_index new k.interval.owner)) (same k.interval.owner apart)
     ]
@@ -257,12 +270,12 @@ from_trimmed c owner to lt from k has =
     elim (cases_eq k.interval.owner owner) [
       | inl is ↦ (
           let P : ℕ → Type 0 =
-              λ q. slice_index
-              (slice_set c.first owner (max (slice_index c.first owner) (min to (slice_index c.next owner)))) q
-              ≤ k.interval.number in
+          λ q. slice_index
+          (slice_set c.first owner (max (slice_index c.first owner) (min to (slice_index c.next owner)))) q
+          ≤ k.interval.number in
           let Q : ℕ → Type 0 = λ q. slice_index c.first q ≤ k.interval.number in
           let here = get_or-set_same c.first owner
-              (max (slice_index c.first owner) (min to (slice_index c.next owner))) 0 lt in
+          (max (slice_index c.first owner) (min to (slice_index c.next owner))) 0 lt in
           let from_here = subst Q is old in
           let stays : to ≤ k.interval.number = elim (cases_lt k.interval.number to) [
             | inl less ↦ absurd
@@ -274,7 +287,7 @@ from_trimmed c owner to lt from k has =
           subst P (sym is) (omega arith))
       | inr isnt ↦ (
           let same = get_or-set_other c.first owner k.interval.owner
-              (max (slice_index c.first owner) (min to (slice_index c.next owner))) 0 isnt in
+          (max (slice_index c.first owner) (min to (slice_index c.next owner))) 0 isnt in
           omega arith)
     ]
 
@@ -305,16 +318,16 @@ closed_trimmed s h c owner to lt x = record {
         → slice_index (slice_set c.first owner (max (slice_index c.first owner) (min to (slice_index c.next owner))))
         q ≤ interval_at h q i
         → (k : Kept) × Has (filter (λ k. not (is_trimmed owner to k)) c.kept) k × (k.interval.owner ≡ q)
-          × (k.interval.number ≡ interval_at h q i)
+        × (k.interval.number ≡ interval_at h q i)
     all q i closes from = elim (cases_eq q owner) [
       | inl is ↦ (
           let P : ℕ → Type 0 =
-              λ r. slice_index
-              (slice_set c.first owner (max (slice_index c.first owner) (min to (slice_index c.next owner)))) r
-              ≤ interval_at h q i in
+          λ r. slice_index
+          (slice_set c.first owner (max (slice_index c.first owner) (min to (slice_index c.next owner)))) r
+          ≤ interval_at h q i in
           let long = x.first_long in
           let here = get_or-set_same c.first owner
-              (max (slice_index c.first owner) (min to (slice_index c.next owner))) 0 (omega arith) in
+          (max (slice_index c.first owner) (min to (slice_index c.next owner))) 0 (omega arith) in
           let from_here = subst P is from in
           let Q : ℕ → Type 0 = λ r. slice_index c.first r ≤ interval_at h q i in
           let k = x.all q i closes (subst Q (sym is) (omega arith)) in
@@ -322,17 +335,25 @@ closed_trimmed s h c owner to lt x = record {
           let next = x.next q (subst (λ r. r < s.processors) (sym is) lt) in
           let R : ℕ → Type 0 = λ r. slice_index c.next r ≡ count_of is_closing h q in
           let next_here = subst R is next in
-          let number = k.3 in
-          (k.0, stays k.0 k.1
-              (not_from_false (is_trimmed owner to k.0)
-              (and_right _ _ (le-ltb k.0.interval.number to (omega arith)))), k.2, k.3))
+          let number = k.3 in (
+            k.0,
+            stays k.0 k.1
+                (not_from_false (is_trimmed owner to k.0)
+                (and_right _ _ (le-ltb k.0.interval.number to (omega arith)))),
+            k.2,
+            k.3,
+          ))
       | inr isnt ↦ (
           let same = get_or-set_other c.first owner q
-              (max (slice_index c.first owner) (min to (slice_index c.next owner))) 0 isnt in
-          let k = x.all q i closes (omega arith) in
-          (k.0, stays k.0 k.1
-              (not_from_false (is_trimmed owner to k.0)
-              (and_left _ _ (ne_eqb k.0.interval.owner owner (λ e. isnt (sym k.2 ∙ e))))), k.2, k.3))
+          (max (slice_index c.first owner) (min to (slice_index c.next owner))) 0 isnt in
+          let k = x.all q i closes (omega arith) in (
+            k.0,
+            stays k.0 k.1
+                (not_from_false (is_trimmed owner to k.0)
+                (and_left _ _ (ne_eqb k.0.interval.owner owner (λ e. isnt (sym k.2 ∙ e))))),
+            k.2,
+            k.3,
+          ))
     ]
 
 pub within_trimmed : (c : Closings) (owner to : ℕ) (times : List (List ℕ))
@@ -341,17 +362,17 @@ pub within_trimmed : (c : Closings) (owner to : ℕ) (times : List (List ℕ))
 within_trimmed c owner to times covered lt within p q t at = elim (cases_eq q owner) [
   | inl is ↦ (
       let P : ℕ → Type 0 =
-          λ r. slice_index
-          (slice_set c.first owner (max (slice_index c.first owner) (min to (slice_index c.next owner)))) r
-          ≤ slice_index t r in
+      λ r. slice_index
+      (slice_set c.first owner (max (slice_index c.first owner) (min to (slice_index c.next owner)))) r
+      ≤ slice_index t r in
       let here = get_or-set_same c.first owner (max (slice_index c.first owner) (min to (slice_index c.next owner)))
-          0 lt in
+      0 lt in
       let one = covered p t at in
       let was = within p owner t at in
       subst P (sym is) (omega arith))
   | inr isnt ↦ (
       let same = get_or-set_other c.first owner q
-          (max (slice_index c.first owner) (min to (slice_index c.next owner))) 0 isnt in
+      (max (slice_index c.first owner) (min to (slice_index c.next owner))) 0 isnt in
       let was = within p q t at in
       omega arith)
 ]

@@ -40,8 +40,10 @@ each_own {A} n R Q xs i all others own = record { long = all.long; each = each }
 -- a list of one item over and over
 pub each_replicate : {A : Type 0} (n : ℕ) (Q : ℕ → A → Type 0) (v : A) → ((k : ℕ) → Q k v) → AreAll n Q (replicate n v)
 each_replicate {A} n Q v all =
-    record { long = length-replicate {A = A} n v;
-    each = λ k x at. subst (λ y. Q k y) (slice_get-replicate_found n v x k at) (all k) }
+    record {
+      long = length-replicate {A = A} n v;
+      each = λ k x at. subst (λ y. Q k y) (slice_get-replicate_found n v x k at) (all k);
+    }
 
 -- the item at a place within the list
 pub item_at : {A : Type 0} (n : ℕ) (R : ℕ → A → Type 0) (xs : List A) (i : ℕ) (d : A) → AreAll n R xs → i < n

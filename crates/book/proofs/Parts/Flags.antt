@@ -23,8 +23,10 @@ flag_kept n h p k f None isnt none =
     λ m does. none m ((does_kept h (event p k ∷ []) (Set f) m (other_kind p k (Set f) isnt)).1 does)
 flag_kept n h p k f (Some t) isnt x = (
   (x.0.0, (does_kept h (event p k ∷ []) (Set f) x.0.0 (other_kind p k (Set f) isnt)).0 x.0.1),
-  record { long = x.1.long;
-      is = kind_kept h (event p k ∷ []) (Set f) (slice_index t) (other_kind p k (Set f) isnt) x.1.is },
+  record {
+    long = x.1.long;
+    is = kind_kept h (event p k ∷ []) (Set f) (slice_index t) (other_kind p k (Set f) isnt) x.1.is;
+  },
 )
 
 -- a set joins its timestamp
@@ -36,7 +38,7 @@ flag_set n h p f None t none x = (
   stamp_equal n (did h p (Set f)) (UpToSome (did h p (Set f)) (SomeDoes (did h p (Set f)) (Set f))) t
       (λ q. max 0 (slice_index t q)) x.long (λ q. zero-max (slice_index t q))
       (kind_joins h (event p (Set f)) (λ _. 0) (slice_index t)
-          (time_none h (UpToSome h (SomeDoes h (Set f))) (λ i some. none some.0 some.1)) x.is),
+      (time_none h (UpToSome h (SomeDoes h (Set f))) (λ i some. none some.0 some.1)) x.is),
 )
 flag_set n h p f (Some u) t old x = (
   (length h, (p, at_last h (event p (Set f)))),

@@ -33,9 +33,10 @@ pub line_kept : (h : List Event) (p : ℕ) (k : Kind) (l : ℕ) (xs : List ℕ) 
 line_kept h p k l xs ask acquire release none x = record {
   each = λ q i last. x.each q i (old q i last);
   first = λ q held. x.first q (holds_back h p k q l acquire held);
-  asks = λ m q at. elim (x.asks m q at)
-      [ inl a ↦ inl (a.0, last_on h p k q a.0 (Ask l) (apart q a.0 a.1) a.1)
-      | inr b ↦ inr (b.0, holds_on h p k q l release b.1) ];
+  asks = λ m q at. elim (x.asks m q at) [
+    | inl a ↦ inl (a.0, last_on h p k q a.0 (Ask l) (apart q a.0 a.1) a.1)
+    | inr b ↦ inr (b.0, holds_on h p k q l release b.1)
+  ];
   order = λ m n q r i j lt at to one two. x.order m n q r i j lt at to (old q i one) (old r j two);
 }
   where
@@ -75,11 +76,15 @@ line_asked h p l xs none free x = record { each = each; first = first; asks = as
     asks : (m q : ℕ) → slice_get (xs ++ p ∷ []) m ≡ Some q
         → ((i : ℕ) × LastIs (did h p (Ask l)) q i (Ask l)) ⊎ ((m ≡ 0) × Holds (did h p (Ask l)) q l)
     asks m q at = elim (push_cases xs p m q at) [
-      | inl o ↦ elim (x.asks m q o.1)
-          [ inl a ↦ inl (a.0, last_on h p (Ask l) q a.0 (Ask l) (apart m q o.1) a.1)
-          | inr b ↦ inr (b.0, holds_on h p (Ask l) q l (λ e. absurd cc) b.1) ]
-      | inr n ↦ inl (length h, let P : ℕ → Type 0 = λ r. LastIs (did h p (Ask l)) r (length h) (Ask l) in
-          subst P n.1 (last_own h p (Ask l)))
+      | inl o ↦ elim (x.asks m q o.1) [
+        | inl a ↦ inl (a.0, last_on h p (Ask l) q a.0 (Ask l) (apart m q o.1) a.1)
+        | inr b ↦ inr (b.0, holds_on h p (Ask l) q l (λ e. absurd cc) b.1)
+      ]
+      | inr n ↦ inl (
+        length h,
+        let P : ℕ → Type 0 = λ r. LastIs (did h p (Ask l)) r (length h) (Ask l) in
+            subst P n.1 (last_own h p (Ask l)),
+      )
     ]
 
     order : (m n q r i j : ℕ) → m < n → slice_get (xs ++ p ∷ []) m ≡ Some q → slice_get (xs ++ p ∷ []) n ≡ Some r
@@ -91,7 +96,7 @@ line_asked h p l xs none free x = record { each = each; first = first; asks = as
             let within = at_within h i (record { processor = q; kind = Ask l }) (old q i (apart m q a.1) one).does in
             let P : ℕ → Type 0 = λ z. LastIs (did h p (Ask l)) z j (Ask l) in
             let last = (last_unique (did h p (Ask l)) p j (length h) (Ask l) (Ask l) (subst P (sym b.1) two)
-                (last_own h p (Ask l))).0 in
+            (last_own h p (Ask l))).0 in
             omega arith)
       ]
       | inr a ↦ (let within = slice_get_within (xs ++ p ∷ []) n r to in let e = length_push xs p in
@@ -104,9 +109,10 @@ pub line_released : (h : List Event) (p l : ℕ) (xs : List ℕ) → NoAsk h p l
 line_released h p l xs none held x = record {
   each = λ q i last. (let o = old q i last in shift q i o.0 o.1 (x.each q i o.1));
   first = λ q holds. absurd (nobody q holds);
-  asks = λ m q at. elim (x.asks (suc m) q at)
-      [ inl a ↦ inl (a.0, last_on h p (Release l) q a.0 (Ask l) (apart q a.0 a.1) a.1)
-      | inr b ↦ absurd (omega (arith, b.0)) ];
+  asks = λ m q at. elim (x.asks (suc m) q at) [
+    | inl a ↦ inl (a.0, last_on h p (Release l) q a.0 (Ask l) (apart q a.0 a.1) a.1)
+    | inr b ↦ absurd (omega (arith, b.0))
+  ];
   order = λ m n q r i j lt at to one two. x.order (suc m) (suc n) q r i j (omega arith) at to (old q i one).1
       (old r j two).1;
 }

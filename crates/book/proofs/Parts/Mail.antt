@@ -84,10 +84,12 @@ allowed_on s h p k r (Acquire l) may isnt posted (i, last, granted) =
           absurd (omega (arith, own.1)))
       | inr old ↦ granted.first m q lt old.1
     ]
-allowed_on s h p k r Depart may isnt posted (i, last, all) =
-    (i, last_on h p k r i Arrive isnt last,
-    λ q lt. (let one = all q lt in let same = count_others is_depart h p k r isnt in
-    let more = count_more is_arrive h p k q in omega arith))
+allowed_on s h p k r Depart may isnt posted (i, last, all) = (
+  i,
+  last_on h p k r i Arrive isnt last,
+  λ q lt. (let one = all q lt in let same = count_others is_depart h p k r isnt in
+      let more = count_more is_arrive h p k q in omega arith),
+)
 allowed_on s h p k r _ may isnt posted allowed = absurd posted
 
 -- nor do others change what that brings
@@ -95,15 +97,19 @@ pub brings_on : (s : Sizes) (h : List Event) (p : ℕ) (k : Kind) (r : ℕ) (a :
     → MayFollow s h (event p k) → r ≢ p → IsPosted a → Allowed s h r a → IsStamp s.processors h (Brings h r a) t
     → IsStamp s.processors (did h p k) (Brings (did h p k) r a) t
 brings_on s h p k r (Acquire l) t may isnt posted (i, last, granted) x =
-    record { long = x.long;
-    is = kind_kept h (event p k ∷ []) (Release l) (slice_index t)
-    (other_kind p k (Release l) (λ e. granted.free p (subst (λ b. Allowed s h p b) e may.allowed))) x.is }
+    record {
+      long = x.long;
+      is = kind_kept h (event p k ∷ []) (Release l) (slice_index t)
+          (other_kind p k (Release l) (λ e. granted.free p (subst (λ b. Allowed s h p b) e may.allowed))) x.is;
+    }
 brings_on s h p k r Depart t may isnt posted (i, last, all) x =
-    record { long = x.long;
-    is = subst (λ n. IsTimeIn (did h p k) (UpToSome (did h p k) (SomeArrives (did h p k) n)) (slice_index t))
-    (sym (count_others is_depart h p k r isnt))
-    (arrivals_others h (event p k) (count_of is_depart h r) (slice_index t)
-    (λ e. (let one = all p may.processor in absurd (omega arith))) x.is) }
+    record {
+      long = x.long;
+      is = subst (λ n. IsTimeIn (did h p k) (UpToSome (did h p k) (SomeArrives (did h p k) n)) (slice_index t))
+          (sym (count_others is_depart h p k r isnt))
+          (arrivals_others h (event p k) (count_of is_depart h r) (slice_index t)
+          (λ e. (let one = all p may.processor in absurd (omega arith))) x.is);
+    }
 brings_on s h p k r _ t may isnt posted allowed x = absurd posted
 
 -- what is allowed after an event that is no news was so before
@@ -123,10 +129,13 @@ allowed_back s h p k r (Acquire l) may isnt posted none (i, last, granted) =
           granted.free p (subst (λ b. Holds (did h p b) p l) (sym acquires) (holds_now h p l)))
       | inr apart ↦ granted.first m q lt (last_on h p k q m (Ask l) apart ask)
     ]
-allowed_back s h p k r Depart may isnt posted none (i, last, all) =
-    (i, old, λ q lt.
-    (let one = all q lt in let same = count_others is_depart h p k r isnt in
-    let too = count_kept is_arrive h p k q (arrives_not k none) in omega arith))
+allowed_back s h p k r Depart may isnt posted none (i, last, all) = (
+  i,
+  old,
+  λ q lt.
+      (let one = all q lt in let same = count_others is_depart h p k r isnt in
+      let too = count_kept is_arrive h p k q (arrives_not k none) in omega arith),
+)
   where
     old : LastIs h r i Arrive
     old = elim (last_cases h (event p k) r i Arrive last) [ inl own ↦ absurd (isnt (sym own.0)) | inr o ↦ o.1 ]
@@ -137,9 +146,10 @@ pub mail_unless : (s : Sizes) (h : List Event) (p : ℕ) (k : Kind) (r : ℕ) (o
     → MayFollow s h (event p k) → r ≢ p → ((a : Kind) → IsPosted a → News k a → ¬ Allowed s (did h p k) r a)
     → IsMail s h r o → IsMail s (did h p k) r o
 mail_unless s h p k r None may isnt never mail =
-    λ a posted allowed. elim (news_cases k a)
-    [ inl news ↦ never a posted news allowed
-    | inr none ↦ mail a posted (allowed_back s h p k r a may isnt posted none allowed) ]
+    λ a posted allowed. elim (news_cases k a) [
+      | inl news ↦ never a posted news allowed
+      | inr none ↦ mail a posted (allowed_back s h p k r a may isnt posted none allowed)
+    ]
 mail_unless s h p k r (Some m) may isnt never mail = let posted = lets_posted m.kind mail.kind mail.lets in record {
   kind = mail.kind;
   lets = mail.lets;

@@ -94,9 +94,11 @@ barrier_kept s h p k b arrive depart x = record {
       (λ q st at is. stage_same h (did h p k) x.complete q st (count_kept is_arrive h p k q arrive)
       (count_kept is_depart h p k q depart) is);
   lacks = (x.lacks.0, x.lacks.1, count_kept is_arrive h p k x.lacks.0 arrive ∙ x.lacks.2);
-  gathered = record { long = x.gathered.long;
-      is = arrivals_kept h (event p k ∷ []) x.complete (slice_index b.gathered)
-      (other_kind p k Arrive (λ e. true≢false (sym (ap (λ a. is_arrive a) e) ∙ arrive))) x.gathered.is };
+  gathered = record {
+    long = x.gathered.long;
+    is = arrivals_kept h (event p k ∷ []) x.complete (slice_index b.gathered)
+        (other_kind p k Arrive (λ e. true≢false (sym (ap (λ a. is_arrive a) e) ∙ arrive))) x.gathered.is;
+  };
 }
 
 -- a departure leaves its processor away
@@ -108,9 +110,11 @@ barrier_departed s h p b well allowed lt x = record {
       b.stages p Away x.stages (λ q st isnt at is. stage_others h p Depart x.complete q st isnt is)
       (own_arrive, own_depart);
   lacks = (x.lacks.0, x.lacks.1, count_kept is_arrive h p Depart x.lacks.0 refl ∙ x.lacks.2);
-  gathered = record { long = x.gathered.long;
-      is = arrivals_kept h (event p Depart ∷ []) x.complete (slice_index b.gathered)
-      (other_kind p Depart Arrive (λ e. absurd cc)) x.gathered.is };
+  gathered = record {
+    long = x.gathered.long;
+    is = arrivals_kept h (event p Depart ∷ []) x.complete (slice_index b.gathered)
+        (other_kind p Depart Arrive (λ e. absurd cc)) x.gathered.is;
+  };
 }
   where
     more : count_of is_arrive h p ≡ count_of is_depart h p + 1
@@ -156,10 +160,12 @@ pub arrived_stages : (s : Sizes) (h : List Event) (p : ℕ) (b : Episodes) → W
     → p < s.processors → (x : IsBarrier s h b)
     → (count_of is_arrive h p ≡ x.complete)
     × AreAll s.processors (IsAtStage (did h p Arrive) x.complete) (slice_set b.stages p Here)
-arrived_stages s h p b well idle lt x =
-    (here.0, each_set s.processors (IsAtStage h x.complete) (IsAtStage (did h p Arrive) x.complete)
-    b.stages p Here x.stages (λ q st isnt at is. stage_others h p Arrive x.complete q st isnt is)
-    (own_arrive, own_depart))
+arrived_stages s h p b well idle lt x = (
+  here.0,
+  each_set s.processors (IsAtStage h x.complete) (IsAtStage (did h p Arrive) x.complete)
+      b.stages p Here x.stages (λ q st isnt at is. stage_others h p Arrive x.complete q st isnt is)
+      (own_arrive, own_depart),
+)
   where
     here : IsAtStage h x.complete p Away
     here = let item = is_at s.processors (IsAtStage h x.complete) b.stages p Away x.stages lt in
@@ -183,21 +189,24 @@ arrival_gathered s h p n t u is x y =
     → IsStamp s.processors (did h p Arrive) (UpToSome (did h p Arrive) (SomeArrives (did h p Arrive) m)) (join t u))
     is
     (λ z. stamp_join s.processors (did h p Arrive)
-        (UpToSome (did h p Arrive) (SomeArrives (did h p Arrive) (count_of is_arrive h p))) t u z.long y.long
-        (arrival_joins h (event p Arrive) (slice_index t) (slice_index u) refl z.is y.is)) x
+    (UpToSome (did h p Arrive) (SomeArrives (did h p Arrive) (count_of is_arrive h p))) t u z.long y.long
+    (arrival_joins h (event p Arrive) (slice_index t) (slice_index u) refl z.is y.is)) x
 
 -- when not all are here, the episode stays open
 pub barrier_waits : (s : Sizes) (h : List Event) (p : ℕ) (b : Episodes) (u : List ℕ) → WellFormed s h → IsIdle h p
     → p < s.processors → IsBarrier s h b → IsStamp s.processors (did h p Arrive) (InPast (did h p Arrive) p) u
     → is_full (joined b p u) ≡ false
-      → (x : IsBarrier s (did h p Arrive) (joined b p u))
-      × ((q : ℕ) → q < s.processors → x.complete ≤ count_of is_arrive h q) × (count_of is_arrive h p ≡ x.complete)
+    → (x : IsBarrier s (did h p Arrive) (joined b p u))
+    × ((q : ℕ) → q < s.processors → x.complete ≤ count_of is_arrive h q) × (count_of is_arrive h p ≡ x.complete)
 barrier_waits s h p b u well idle lt x time open_still = (
   record {
     complete = x.complete;
     stages = all.1;
-    lacks = (r.0, subst (λ m. r.0 < m) all.1.long (slice_get_within (slice_set b.stages p Here) r.0 r.1 r.2),
-        stage_lacks (did h p Arrive) x.complete r.0 r.1 r.3 (all.1.each r.0 r.1 r.2));
+    lacks = (
+      r.0,
+      subst (λ m. r.0 < m) all.1.long (slice_get_within (slice_set b.stages p Here) r.0 r.1 r.2),
+      stage_lacks (did h p Arrive) x.complete r.0 r.1 r.3 (all.1.each r.0 r.1 r.2),
+    );
     gathered = arrival_gathered s h p x.complete b.gathered u all.0 x.gathered time;
   },
   λ q less. stage_arrived h x.complete q (slice_index_or b.stages q Away)
@@ -231,8 +240,8 @@ barrier_completes s h p b u well next idle lt x time full = record {
   gathered = subst (λ n. IsStamp s.processors (did h p Arrive)
       (UpToSome (did h p Arrive) (SomeArrives (did h p Arrive) (x.complete + 1))) (replicate n 0)) (sym all.1.long)
       (stamp_none s.processors (did h p Arrive)
-          (UpToSome (did h p Arrive) (SomeArrives (did h p Arrive) (x.complete + 1)))
-          (λ i some. nobody some.0 some.1));
+      (UpToSome (did h p Arrive) (SomeArrives (did h p Arrive) (x.complete + 1)))
+      (λ i some. nobody some.0 some.1));
 }
   where
     all : (count_of is_arrive h p ≡ x.complete)
@@ -242,10 +251,10 @@ barrier_completes s h p b u well next idle lt x time full = record {
     arrived_all : (q : ℕ) → q < s.processors → IsAtStage (did h p Arrive) x.complete q Here
     arrived_all q less =
         let item = item_at s.processors (IsAtStage (did h p Arrive) x.complete) (slice_set b.stages p Here)
-            q Away all.1 less in
+        q Away all.1 less in
         subst (λ st. IsAtStage (did h p Arrive) x.complete q st)
-            (sym (all_true (slice_set b.stages p Here) full q (slice_index_or (slice_set b.stages p Here) q Away)
-            item)) (all.1.each q (slice_index_or (slice_set b.stages p Here) q Away) item)
+        (sym (all_true (slice_set b.stages p Here) full q (slice_index_or (slice_set b.stages p Here) q Away)
+        item)) (all.1.each q (slice_index_or (slice_set b.stages p Here) q Away) item)
 
     each : (q : ℕ) (st : Stage) → slice_get (replicate (length (slice_set b.stages p Here)) Free) q ≡ Some st
         → IsAtStage (did h p Arrive) (x.complete + 1) q st
@@ -255,8 +264,8 @@ barrier_completes s h p b u well next idle lt x time full = record {
         let same = all.1.long in
         let counts = arrived_all q (omega arith) in
         subst (λ y. IsAtStage (did h p Arrive) (x.complete + 1) q y)
-            (slice_get-replicate_found (length (slice_set b.stages p Here)) Free st q at)
-            (counts.0, ap (λ m. m + 1) counts.1)
+        (slice_get-replicate_found (length (slice_set b.stages p Here)) Free st q at)
+        (counts.0, ap (λ m. m + 1) counts.1)
 
     nobody : (i : ℕ) → ¬ SomeArrives (did h p Arrive) (x.complete + 1) i
     nobody i some =
@@ -271,11 +280,16 @@ pub completes_all : (s : Sizes) (h : List Event) (p : ℕ) (b : Episodes) (u : L
     → WellFormed s (did h p Arrive) → IsIdle h p → p < s.processors → IsBarrier s h b
     → IsStamp s.processors (did h p Arrive) (InPast (did h p Arrive) p) u
     → is_full (joined b p u) ≡ true → (q : ℕ) → q < s.processors
-      → Allowed s (did h p Arrive) q Depart
-      × IsStamp s.processors (did h p Arrive) (Brings (did h p Arrive) q Depart) (join b.gathered u)
-completes_all s h p b u well next idle lt x time full q less =
-    ((waits.0, waits.1,
-    λ r below. (let one = (arrived_all r below).0 in let d = (arrived_all q less).1 in omega arith)), brings)
+    → Allowed s (did h p Arrive) q Depart
+    × IsStamp s.processors (did h p Arrive) (Brings (did h p Arrive) q Depart) (join b.gathered u)
+completes_all s h p b u well next idle lt x time full q less = (
+  (
+    waits.0,
+    waits.1,
+    λ r below. (let one = (arrived_all r below).0 in let d = (arrived_all q less).1 in omega arith),
+  ),
+  brings,
+)
   where
     all : (count_of is_arrive h p ≡ x.complete)
         × AreAll s.processors (IsAtStage (did h p Arrive) x.complete) (slice_set b.stages p Here)
@@ -284,10 +298,10 @@ completes_all s h p b u well next idle lt x time full q less =
     arrived_all : (r : ℕ) → r < s.processors → IsAtStage (did h p Arrive) x.complete r Here
     arrived_all r below =
         let item = item_at s.processors (IsAtStage (did h p Arrive) x.complete) (slice_set b.stages p Here)
-            r Away all.1 below in
+        r Away all.1 below in
         subst (λ st. IsAtStage (did h p Arrive) x.complete r st)
-            (sym (all_true (slice_set b.stages p Here) full r (slice_index_or (slice_set b.stages p Here) r Away)
-            item)) (all.1.each r (slice_index_or (slice_set b.stages p Here) r Away) item)
+        (sym (all_true (slice_set b.stages p Here) full r (slice_index_or (slice_set b.stages p Here) r Away)
+        item)) (all.1.each r (slice_index_or (slice_set b.stages p Here) r Away) item)
 
     waits : (i : ℕ) × LastIs (did h p Arrive) q i Arrive
     waits = let counts = arrived_all q less in let a = counts.0 in let d =

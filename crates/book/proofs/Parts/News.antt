@@ -62,9 +62,9 @@ has_sent c old new k r has news among =
     let picked = (has-filter (is_news old new) c.kept k).1 (has, news) in
     let sent = (has-flat_map sent_interval (filter (is_news old new) c.kept) (sent_record k r)).1 (k, picked, own) in
     let there = (has-filter (is_of_page r.page) (between c old new) (sent_record k r)).1
-        (sent, eq-eqb r.page r.page refl) in
+    (sent, eq-eqb r.page r.page refl) in
     (has-map missing_of (filter (is_of_page r.page) (between c old new)) (missing_of (sent_record k r))).1
-        (sent_record k r, there, refl)
+    (sent_record k r, there, refl)
 
 -- of two records of one page the first sent is of an interval that was closed before
 pub sent_in_order : (s : Sizes) (h : List Event) (c : Closings) (n : ℕ) (old new : List ℕ) → AreClosed s h c
@@ -72,7 +72,7 @@ pub sent_in_order : (s : Sizes) (h : List Event) (c : Closings) (n : ℕ) (old n
 sent_in_order s h c n old new x =
     in_order-map (λ (y z : Missing). y.place < z.place) missing_of (filter (is_of_page n) (between c old new))
     (in_order_weaker Before (λ (y z : SentRecord). y.place < z.place) (filter (is_of_page n) (between c old new))
-        earlier
+    earlier
     (in_order-filter Before (is_of_page n) (between c old new)
     (in_order-flat_map Before sent_interval (filter (is_news old new) c.kept) within across)))
   where
@@ -96,7 +96,7 @@ sent_in_order s h c n old new x =
         (λ (j k : Kept). (a b : SentRecord) → Has (sent_interval j) a → Has (sent_interval k) b → Before a b)
         (filter (is_news old new) c.kept)
         (λ j k _ _ less a b in_j in_k. let here = place_of j a in_j in let there = place_of k b in_k in
-            inl (omega arith))
+        inl (omega arith))
         (in_order-filter (λ (j k : Kept). j.place < k.place) (is_news old new) c.kept x.rising)
 
     page_of : (y : SentRecord) → Has (filter (is_of_page n) (between c old new)) y → y.notice.page ≡ n
@@ -117,7 +117,7 @@ stores_of s h q k n (w ∷ words) some content = content_some s h q k n w words 
 pub news_are : (s : Sizes) (h : List Event) (b : State) (p n : ℕ) (k : Kind) (u : List ℕ) → IsTold s h b
     → p < s.processors → IsStamp s.processors h (Brings h p k) u
     → AreNews s h p n (slice_index (time_of b p)) (slice_index (join (time_of b p) u))
-      (missing_in n (between b.closed (time_of b p) u))
+    (missing_in n (between b.closed (time_of b p) u))
 news_are s h b p n k u told lt brings = record {
   each = λ q m. (there q m, back q m);
   placed = λ x has. (let y = read x has in subst Placed y.is (told.closed.each y.kept y.has));
@@ -165,15 +165,21 @@ news_are s h b p n k u told lt brings = record {
         let below = ltb-true _ _ parts.1 in
         let most = later j.interval.owner in
         let stores = stores_of s h j.interval.owner j.interval.number n r.words
-            ((told.closed.contents j has).some r among) (content j r has among page) in
+        ((told.closed.contents j has).some r among) (content j r has among page) in
         (stores.0, stores.1, mine j.interval.owner (omega arith), from, omega arith)
+
+    fresh : (k : Kept) → slice_index own k.interval.owner ≤ k.interval.number
+        → k.interval.number < slice_index u k.interval.owner → is_news own u k ≡ true
+    fresh k from below = and_from _ _
+        (le-leb (slice_index own k.interval.owner) k.interval.number from)
+        (lt-ltb k.interval.number (slice_index u k.interval.owner) below)
 
     there : (q m : ℕ) →
         ((x : Missing) × Has (missing_in n (between b.closed own u)) x × (x.owner ≡ q) × (x.number ≡ m)) → Is q m
     there q m x =
         let y = read x.0 x.1 in
         subst₂ Is (ap (λ (z : Missing). z.owner) y.is ∙ x.2) (ap (λ (z : Missing). z.number) y.is ∙ x.3)
-            (sent y.kept y.changes y.has y.news y.among y.page)
+        (sent y.kept y.changes y.has y.news y.among y.page)
 
     back : (q m : ℕ) → Is q m
         → (x : Missing) × Has (missing_in n (between b.closed own u)) x × (x.owner ≡ q) × (x.number ≡ m)
@@ -185,16 +191,13 @@ news_are s h b p n k u told lt brings = record {
         let first = told.within p q own (item_at s.processors _ b.times p [] told.times lt) in
         let number = at.number in
         let k = told.closed.all q at.place (record { kind = at.kind; does = at.does; closes = at.counts })
-            (omega (arith, number, first, x.3)) in
+        (omega (arith, number, first, x.3)) in
         let same : k.0.interval.number ≡ m = k.3 ∙ number in
         let P : ℕ → ℕ → Type 0 = λ o c. StoresIn s h o c n x.0 in
         let r = (told.closed.contents k.0 k.1).all n x.0 (subst₂ P (sym k.2) (sym same) x.1) in
         let Q : ℕ → Type 0 = λ o. (slice_index own o ≤ m) × (m < slice_index u o) in
         let range = subst Q (sym k.2) (x.3, covered) in
-        let news : is_news own u k.0 ≡ true =
-            and_from _ _
-            (le-leb (slice_index own k.0.interval.owner) k.0.interval.number (omega (arith, range.0, same)))
-            (lt-ltb k.0.interval.number (slice_index u k.0.interval.owner) (omega (arith, range.1, same))) in
+        let news = fresh k.0 (omega (arith, range.0, same)) (omega (arith, range.1, same)) in
         found k.0 k.1 k.2 same r.0 r.1 r.2 news
       where
         found : (k : Kept) → Has b.closed.kept k → k.interval.owner ≡ q → k.interval.number ≡ m → (r : Changes)

@@ -66,9 +66,9 @@ pub stamp_closing : (n : ℕ) (h : List Event) (p : ℕ) (k : Kind) (t : List �
 stamp_closing n h p k t lt quiet closes x =
     let long = x.long in
     stamp_equal n (did h p k) (InPast (did h p k) p) (tick t p)
-        (λ q. slice_index t q + count_of is_closing (event p k ∷ []) q)
-        (length-set t p (slice_index t p + 1) ∙ x.long) (λ q. tick_index t p k q closes (omega arith))
-        (own_closing h (event p k) (slice_index t) quiet x.is)
+    (λ q. slice_index t q + count_of is_closing (event p k ∷ []) q)
+    (length-set t p (slice_index t p + 1) ∙ x.long) (λ q. tick_index t p k q closes (omega arith))
+    (own_closing h (event p k) (slice_index t) quiet x.is)
 
 -- a joined time
 pub stamp_join : (n : ℕ) (h : List Event) (among : ℕ → Type 0) (t u : List ℕ) → length t ≡ n → length u ≡ n

@@ -22,12 +22,12 @@ filter_all p (x ∷ xs) all =
 trimmed_same : (c : Closings) (owner to : ℕ) → to ≤ slice_index c.first owner → AreFromFirst c → trimmed c owner to ≡ c
 trimmed_same c owner to le from =
     let kept = filter_all (λ k. not (is_trimmed owner to k)) c.kept
-        (λ k has. stays_from c owner to k le (from k has)) in
+    (λ k has. stays_from c owner to k le (from k has)) in
     let most : max (slice_index c.first owner) (min to (slice_index c.next owner)) ≡ slice_index c.first owner =
-        omega arith in
+    omega arith in
     let first = ap (λ n. slice_set c.first owner n) most ∙ set-get_or c.first owner 0 in
     ap (λ (ks : List Kept). record (trimmed c owner to) { kept = ks }) kept
-        ∙ ap (λ (fs : List ℕ). record c { first = fs }) first
+    ∙ ap (λ (fs : List ℕ). record c { first = fs }) first
 
 pub from_trimmed_by : (c : Closings) (times : List (List ℕ)) (n : ℕ) → n ≤ length c.first → AreFromFirst c
     → AreFromFirst (trimmed_by c times n)
@@ -44,7 +44,7 @@ first_left c times (suc n) q le =
     let old = trimmed_by c times n in
     let apart : q ≢ n = omega arith in
     get_or-set_other old.first n q (max (slice_index old.first n) (min (least times n) (slice_index old.next n)))
-        0 apart ∙ first_left c times n q (omega arith)
+    0 apart ∙ first_left c times n q (omega arith)
 
 next_left : (c : Closings) (times : List (List ℕ)) (n : ℕ) → (trimmed_by c times n).next ≡ c.next
 next_left c times zero = refl
@@ -60,19 +60,19 @@ first_trimmed c times (suc n) q lt le few =
     elim (cases_eq q n) [
       | inl is ↦ (
           let P : ℕ → Type 0 =
-              λ x. least times x
-              ≤ slice_index
-              (slice_set old.first n (max (slice_index old.first n) (min (least times n) (slice_index old.next n))))
-              x in
+          λ x. least times x
+          ≤ slice_index
+          (slice_set old.first n (max (slice_index old.first n) (min (least times n) (slice_index old.next n))))
+          x in
           let Q : ℕ → Type 0 = λ x. least times x ≤ slice_index c.next x in
           let here = get_or-set_same old.first n
-              (max (slice_index old.first n) (min (least times n) (slice_index old.next n))) 0 (omega arith) in
+          (max (slice_index old.first n) (min (least times n) (slice_index old.next n))) 0 (omega arith) in
           let next = ap (λ ns. slice_index ns n) (next_left c times n) in
           let few_here = subst Q is few in
           subst P (sym is) (omega arith))
       | inr isnt ↦ (
           let same = get_or-set_other old.first n q
-              (max (slice_index old.first n) (min (least times n) (slice_index old.next n))) 0 isnt in
+          (max (slice_index old.first n) (min (least times n) (slice_index old.next n))) 0 isnt in
           let rest = first_trimmed c times n q (omega arith) (omega arith) few in
           omega arith)
     ]
@@ -124,9 +124,9 @@ trim_spared c times p owner old new lt at le tight from =
           omega arith)
       | inr isnt ↦ (
           let all = least_le times owner found.0 found.1
-              (sym (slice_get-set_other times p found.0 old isnt) ∙ found.2) in
+          (sym (slice_get-set_other times p found.0 old isnt) ∙ found.2) in
           let entry = found.3 in
           omega arith)
     ] in
     trimmed_same (trimmed_by c times owner) owner (least times owner) (omega arith)
-        (from_trimmed_by c times owner (omega arith) from)
+    (from_trimmed_by c times owner (omega arith) from)

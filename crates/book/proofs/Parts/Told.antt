@@ -75,7 +75,7 @@ times_closing s h b p k told lt quiet closes =
     each_set s.processors (λ q t. IsStamp s.processors h (InPast h q) t)
     (λ q t. IsStamp s.processors (did h p k) (InPast (did h p k) q) t) b.times p (tick (time_of b p) p) told.times
     (λ q t isnt at is. stamp_others s.processors h p k q t isnt is)
-        (stamp_closing s.processors h p k (time_of b p) lt quiet closes (own_stamp s h b p told lt))
+    (stamp_closing s.processors h p k (time_of b p) lt quiet closes (own_stamp s h b p told lt))
 
 -- and after an event that takes
 pub times_taking : (s : Sizes) (h : List Event) (b : State) (p : ℕ) (k : Kind) (u : List ℕ) → IsTold s h b
@@ -86,7 +86,7 @@ times_taking s h b p k u told lt quiet brings =
     each_set s.processors (λ q t. IsStamp s.processors h (InPast h q) t)
     (λ q t. IsStamp s.processors (did h p k) (InPast (did h p k) q) t) b.times p (join (time_of b p) u) told.times
     (λ q t isnt at is. stamp_others s.processors h p k q t isnt is)
-        (stamp_taking s.processors h p k (time_of b p) u quiet (own_stamp s h b p told lt) brings)
+    (stamp_taking s.processors h p k (time_of b p) u quiet (own_stamp s h b p told lt) brings)
 
 -- the number of p's open interval
 pub own_number : (s : Sizes) (h : List Event) (b : State) (p : ℕ) → IsTold s h b → p < s.processors
@@ -151,8 +151,12 @@ tight_closing s h b p told lt more q less =
     let found = told.tight more q less in
     let long = told.times.long in
     elim (cases_eq found.0 p) [
-      | inr isnt ↦ (found.0, found.1, slice_get-set_other b.times p found.0 (tick (time_of b p) p) isnt ∙ found.2,
-          found.3)
+      | inr isnt ↦ (
+        found.0,
+        found.1,
+        slice_get-set_other b.times p found.0 (tick (time_of b p) p) isnt ∙ found.2,
+        found.3,
+      )
       | inl is ↦ elim (cases_eq q p) [
         | inr apart ↦ (
             let P : ℕ → Type 0 = λ x. slice_get b.times x ≡ Some found.1 in
@@ -165,14 +169,17 @@ tight_closing s h b p told lt more q less =
             let mine = sym (get_or_from_slice_get b.times p found.1 [] (subst P is found.2)) in
             let Q : ℕ → Type 0 = λ x. slice_index found.1 x ≤ slice_index b.closed.first x in
             let entry = subst (λ (t : List ℕ). slice_index t p ≤ slice_index b.closed.first p) mine
-                (subst Q own found.3) in
+            (subst Q own found.3) in
             let number = own_number s h b p told lt in
             let r = another p s.processors more in
             let at = slice_get-get_or b.times r.0 [] (omega (arith, r.1)) in
             let most = (told.times.each r.0 (time_of b r.0) at).is.within p in
-            let R : ℕ → Type 0 = λ x. slice_index (time_of b r.0) x ≤ slice_index b.closed.first x in
-            (r.0, time_of b r.0, slice_get-set_other b.times p r.0 (tick (time_of b p) p) r.2 ∙ at,
-                subst R (sym own) (omega arith)))
+            let R : ℕ → Type 0 = λ x. slice_index (time_of b r.0) x ≤ slice_index b.closed.first x in (
+              r.0,
+              time_of b r.0,
+              slice_get-set_other b.times p r.0 (tick (time_of b p) p) r.2 ∙ at,
+              subst R (sym own) (omega arith),
+            ))
       ]
     ]
   where
@@ -184,10 +191,10 @@ tight_closing s h b p told lt more q less =
 pub old_notices : (s : Sizes) (h : List Event) (b : State) (p : ℕ) (records : List Changes) (r : ℕ) (m : Letter)
     (t : List ℕ) → IsTold s h b → p < s.processors → r ≢ p
     → slice_get b.transit r ≡ Some (Some m) → slice_get (slice_set b.times p (tick (time_of b p) p)) r ≡ Some t
-      → m.notices ≡ between (pushed b.closed (open_interval b p records)) t m.time
+    → m.notices ≡ between (pushed b.closed (open_interval b p records)) t m.time
 old_notices s h b p records r m t told lt isnt at time =
     let mail : Carries s h r m = told.transit.each r (Some m) at in
     let most = mail.time.is.within p in
     let number = own_number s h b p told lt in
     told.notices r m t at (sym (slice_get-set_other b.times p r (tick (time_of b p) p) isnt) ∙ time)
-        ∙ sym (between-pushed b.closed (open_interval b p records) t m.time (omega arith))
+    ∙ sym (between-pushed b.closed (open_interval b p records) t m.time (omega arith))

@@ -15,11 +15,12 @@ one_more times q n i entry least t lt is at so_far =
     let e : i + 1 ≡ suc i = omega arith in
     let one = sym (get_or_from_slice_get t q entry 0 at) in
     ap (λ m. min m entry) so_far ∙ ap (λ m. min (fold (lesser q) n (take i times)) m) one
-        ∙ sym (fold_push (lesser q) n (take i times) t)
-        ∙ ap (λ (ts : List (List ℕ)). fold (lesser q) n ts) (sym front ∙ ap (λ m. take m times) (sym e))
+    ∙ sym (fold_push (lesser q) n (take i times) t)
+    ∙ ap (λ (ts : List (List ℕ)). fold (lesser q) n ts) (sym front ∙ ap (λ m. take m times) (sym e))
 
 pub loop-time-preserved : goal.loop-time-preserved
 loop-time-preserved c =
     c.min-least.ensures
     ∙ one_more c.args.times.now c.args.q (slice_index (slice_index_or c.args.times.now 0 []) c.args.q)
-    c.loop-time.time-index c.entry.result c.loop-time.least c.time-item.result c.loop-time-test.true c.time-item.is c.entry.ensures c.loop-time.invariant
+    c.loop-time.time-index c.entry.result c.loop-time.least c.time-item.result c.loop-time-test.true c.time-item.is
+    c.entry.ensures c.loop-time.invariant

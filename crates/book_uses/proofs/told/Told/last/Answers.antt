@@ -9,8 +9,11 @@ invariant_of-self-2 c =
     kept_last c.self.inside _ c.args.p c.args.block.now c.self.invariant refl refl
     (c.note.ensures.items ∙ ap (λ es. es ++ c.args.block.now) c.in_ok-reserve.ensures.items)
     (subst (λ (t : Telling). MayGive t.sizes t.book c.args.p c.args.block.now) (sym c.self.view_is)
-        c.in_ok-may_give.ensures.0) c.last.ensures
+    c.in_ok-may_give.ensures.0) c.last.ensures
 
 pub last-requires-clause-call : goal.last-requires-clause-call
 last-requires-clause-call c =
-    may_flush _ c.self.inside.history.items c.self.inside.book c.args.p c.self.invariant.telling.told c.args.block.now (subst (λ (t : Telling). MayGive t.sizes t.book c.args.p c.args.block.now) (sym c.self.view_is) c.in_ok-may_give.ensures.0)
+    may_flush _ c.self.inside.history.items c.self.inside.book c.args.p c.self.invariant.telling.told
+    c.args.block.now
+    (subst (λ (t : Telling). MayGive t.sizes t.book c.args.p c.args.block.now)
+    (sym c.self.view_is) c.in_ok-may_give.ensures.0)

@@ -5,5 +5,7 @@ use Rattle.book_uses.proofs.told.Told.record_of.Given as goal
 
 abbrev pub invariant-loop-event : goal.invariant-loop-event
 invariant-loop-event l =
-    record { stored : IsStoredIn l.self.sizes l.page (take l.event-index l.events) l.copy;
-    valid : l.copy.access ≡ Valid }
+    record {
+      stored : IsStoredIn l.self.sizes l.page (take l.event-index l.events) l.copy;
+      valid : l.copy.access ≡ Valid;
+    }
