@@ -192,17 +192,22 @@ news_are s h b p n k u told lt brings = record {
         let number = at.number in
         let k = told.closed.all q at.place (record { kind = at.kind; does = at.does; closes = at.counts })
         (omega (arith, number, first, x.3)) in
-        let same : k.0.interval.number ≡ m = k.3 ∙ number in
-        let P : ℕ → ℕ → Type 0 = λ o c. StoresIn s h o c n x.0 in
-        let r = (told.closed.contents k.0 k.1).all n x.0 (subst₂ P (sym k.2) (sym same) x.1) in
-        let Q : ℕ → Type 0 = λ o. (slice_index own o ≤ m) × (m < slice_index u o) in
-        let range = subst Q (sym k.2) (x.3, covered) in
-        let news = fresh k.0 (omega (arith, range.0, same)) (omega (arith, range.1, same)) in
-        found k.0 k.1 k.2 same r.0 r.1 r.2 news
+        found k.0 k.1 k.2 (k.3 ∙ number) x.0 x.1 x.3 covered
       where
-        found : (k : Kept) → Has b.closed.kept k → k.interval.owner ≡ q → k.interval.number ≡ m → (r : Changes)
-            → Has k.interval.records r → r.page ≡ n → is_news own u k ≡ true
+        sends : (k : Kept) → Has b.closed.kept k → k.interval.owner ≡ q → k.interval.number ≡ m
+            → is_news own u k ≡ true → (r : Changes) → Has k.interval.records r → r.page ≡ n
             → (x : Missing) × Has (missing_in n (between b.closed own u)) x × (x.owner ≡ q) × (x.number ≡ m)
-        found k kept owner number r among page news =
+        sends k kept owner number news r among page =
             let R : ℕ → Type 0 = λ a. Has (missing_in a (between b.closed own u)) (missing_of (sent_record k r)) in
             (missing_of (sent_record k r), subst R page (has_sent b.closed own u k r kept news among), owner, number)
+
+        found : (k : Kept) → Has b.closed.kept k → k.interval.owner ≡ q → k.interval.number ≡ m → (i : ℕ)
+            → StoresIn s h q m n i → slice_index own q ≤ m → m < slice_index u q
+            → (x : Missing) × Has (missing_in n (between b.closed own u)) x × (x.owner ≡ q) × (x.number ≡ m)
+        found k kept owner number i stores from below =
+            let P : ℕ → ℕ → Type 0 = λ o c. StoresIn s h o c n i in
+            let r = (told.closed.contents k kept).all n i (subst₂ P (sym owner) (sym number) stores) in
+            let Q : ℕ → Type 0 = λ o. (slice_index own o ≤ m) × (m < slice_index u o) in
+            let range = subst Q (sym owner) (from, below) in
+            let news = fresh k (omega (arith, range.0, number)) (omega (arith, range.1, number)) in
+            sends k kept owner number news r.0 r.1 r.2
