@@ -13,9 +13,11 @@ use Rattle.book.specs.State.{State, time_of}
 abbrev pub signal_to : Closings → List ℕ → List ℕ → Letter
 signal_to c t own = record { kind = signal; time = t; notices = between c own t }
 
--- what has come for p, with the timestamp `own`, where it waits for this: the flag's signal as the flag stands now, else its mail
+-- what has come for p, with the timestamp `own`, where it waits for this: the flag's signal as the flag stands now,
+-- else its mail
 abbrev pub message_among : Closings → List (Option (List ℕ)) → List (Option Letter) → List ℕ → ℕ → Kind → Option Letter
-message_among c flags mail own p (Await f) = option_map (λ (t : List ℕ). signal_to c t own) (slice_index_or flags f None)
+message_among c flags mail own p (Await f) =
+    option_map (λ (t : List ℕ). signal_to c t own) (slice_index_or flags f None)
 message_among c flags mail own p _ = slice_index_or mail p None
 
 -- p's message where it waits for this

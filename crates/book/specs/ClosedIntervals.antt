@@ -31,7 +31,8 @@ pub record AreClosed (s : Sizes) (h : List Event) (c : Closings) : Type 0 where
   pub first_long : length c.first ≡ s.processors
   pub from : AreFromFirst c
   pub each : (k : Kept) → Has c.kept k → IsPlaced h k.interval.owner k.interval.number k.place
-  pub all : (q i : ℕ) → ClosesAt h q i → slice_index c.first q ≤ interval_at h q i → (k : Kept) × Has c.kept k × (k.interval.owner ≡ q) × (k.interval.number ≡ interval_at h q i)
+  pub all : (q i : ℕ) → ClosesAt h q i → slice_index c.first q ≤ interval_at h q i
+      → (k : Kept) × Has c.kept k × (k.interval.owner ≡ q) × (k.interval.number ≡ interval_at h q i)
   pub contents : (k : Kept) → Has c.kept k → AreContents s h k.interval.owner k.interval.number k.interval.records
   pub rising : InOrder (λ (j k : Kept). j.place < k.place) c.kept
 

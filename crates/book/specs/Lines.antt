@@ -14,7 +14,8 @@ pub record IsLine (h : List Event) (l : ℕ) (xs : List ℕ) : Type 0 where
   pub each : (q i : ℕ) → LastIs h q i (Ask l) → Has xs q
   pub first : (q : ℕ) → Holds h q l → slice_get xs 0 ≡ Some q
   pub asks : (x q : ℕ) → slice_get xs x ≡ Some q → ((i : ℕ) × LastIs h q i (Ask l)) ⊎ ((x ≡ 0) × Holds h q l)
-  pub order : (x y q r i k : ℕ) → x < y → slice_get xs x ≡ Some q → slice_get xs y ≡ Some r → LastIs h q i (Ask l) → LastIs h r k (Ask l) → i < k
+  pub order : (x y q r i k : ℕ) → x < y → slice_get xs x ≡ Some q → slice_get xs y ≡ Some r → LastIs h q i (Ask l)
+      → LastIs h r k (Ask l) → i < k
 
 -- the lock has this line, and keeps the time of its releases
 pub record IsLock (n : ℕ) (h : List Event) (l : ℕ) (k : Lock) : Type 0 where

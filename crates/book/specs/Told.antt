@@ -39,7 +39,8 @@ pub record IsTold (s : Sizes) (h : List Event) (b : State) : Type 0 where
   pub flags : AreAll s.flags (IsFlag s.processors h) b.flags
   pub awaits : AreAll s.processors (IsAwaited h) b.awaits
   pub transit : AreAll s.processors (IsMail s h) b.transit
-  pub notices : (p : ℕ) (m : Letter) (t : List ℕ) → slice_get b.transit p ≡ Some (Some m) → slice_get b.times p ≡ Some t → m.notices ≡ between b.closed t m.time
+  pub notices : (p : ℕ) (m : Letter) (t : List ℕ) → slice_get b.transit p ≡ Some (Some m)
+      → slice_get b.times p ≡ Some t → m.notices ≡ between b.closed t m.time
   pub within : IsWithin b.closed.first b.times
   pub tight : 1 < s.processors → IsTight b.closed.first b.times
 

@@ -1,7 +1,9 @@
 -- The transitions of the book, as functions of its value.
--- Names: a value after something is a past participle, as in the crates below (`asked` is a lock's). Where a crate below
+-- Names: a value after something is a past participle, as in the crates below (`asked` is a lock's). Where a crate
+-- below
 -- has the participle, the whole book's has `book_` before it; what a transition makes of one part has that part's name
--- before it (`mail_`, `barrier_`, `flag_`). A message is its kind and `_to`, of the closed intervals, the message's time
+-- before it (`mail_`, `barrier_`, `flag_`). A message is its kind and `_to`, of the closed intervals, the message's
+-- time
 -- and the receiver's timestamp.
 use Rattle.std.specs.Prelude.{ℕ, zero, suc, ◌≡◌, ◌-◌, ◌*◌, min, Bool, true, false, cond, Option, Some, None, List, [], ◌∷◌, ◌++◌, map, length, slice_get, slice_index, slice_index_or, slice_set, replicate, fold}
 use Rattle.journal.specs.declared.event.Event.{Event}
@@ -47,7 +49,11 @@ handed_in b block = record b { journal = appended b.journal block }
 
 -- the last block of a processor is handed in, for which room was kept
 abbrev pub handed_last : State → List Event → State
-handed_last b block = record b { journal = record b.journal { events = b.journal.events ++ block; room = b.journal.room - length block } }
+handed_last b block =
+    record b {
+      journal =
+          record b.journal { events = b.journal.events ++ block; room = b.journal.room - length block };
+    }
 
 -- p does this
 abbrev pub logged : State → ℕ → Kind → State
@@ -81,7 +87,8 @@ if_free (Some q) m = None
 abbrev pub book_asked : State → ℕ → ℕ → List Changes → State
 book_asked b p l records = record (closed_by b p (Ask l) records) {
   locks = with_lock b.locks l (asked (lock_at b.locks l) p);
-  transit = slice_set b.transit p (if_free (lock_at b.locks l).holder (grant_from (closed_by b p (Ask l) records) p (lock_at b.locks l).time));
+  transit = slice_set b.transit p
+      (if_free (lock_at b.locks l).holder (grant_from (closed_by b p (Ask l) records) p (lock_at b.locks l).time));
 }
 
 -- a message and who is to have it
@@ -121,7 +128,8 @@ mail_met true b t = map (λ (own : List ℕ). Some (departure_to b.closed t own)
 abbrev pub book_arrived : State → ℕ → List Changes → State
 book_arrived b p records = record (closed_by b p Arrive records) {
   barrier = arrived b.barrier p (tick (time_of b p) p);
-  transit = mail_met (is_full (joined b.barrier p (tick (time_of b p) p))) (closed_by b p Arrive records) (join b.barrier.gathered (tick (time_of b p) p));
+  transit = mail_met (is_full (joined b.barrier p (tick (time_of b p) p))) (closed_by b p Arrive records)
+      (join b.barrier.gathered (tick (time_of b p) p));
 }
 
 -- the time of a flag after one more set
@@ -167,7 +175,8 @@ book_trimmed b = record b { closed = trimmed_by b.closed b.times (length b.times
 
 -- p takes this message, for which it waited
 abbrev pub book_received : State → ℕ → Kind → Letter → State
-book_received b p k m = record (book_joined b p k m.time) { transit = slice_set b.transit p None; barrier = barrier_left k b.barrier p }
+book_received b p k m =
+    record (book_joined b p k m.time) { transit = slice_set b.transit p None; barrier = barrier_left k b.barrier p }
 
 -- and what everyone has performed then is trimmed
 abbrev pub book_taken : State → ℕ → Kind → Letter → State

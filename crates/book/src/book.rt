@@ -13,7 +13,7 @@ ghost use Rattle.book.specs.Brought.{brought};
 ghost use Rattle.book.specs.Cutting.{WasBookCut};
 ghost use Rattle.book.specs.Calls.{MayFlush, MayCall, MayAsk, MayRelease, MayTakeSome, MayLook};
 ghost use Rattle.book.specs.Transitions.{new_book, handed_in, handed_last, book_watched, book_set, book_asked, book_released, book_arrived, Takes};
-ghost use Rattle.book.specs.Refusals.{IsFullExactlyBy, IsWantOfRoom};
+ghost use Rattle.book.specs.Refusals.{IsFullAt, IsWantOfRoom};
 ghost use Rattle.book.specs.Told.{IsTold};
 
 use crate::protocol::Protocol;
@@ -61,7 +61,13 @@ impl Book {
         requires most { processors ≤ most_processors }
         requires locks { locks ≤ 32 }
         requires addresses { pages * words < 2 ^ 64 }
-        ensures { IfOk result (λ b. b ≡ new_book (record { processors = processors; pages = pages; words = words; locks = locks; flags = flags })) }
+        ensures { IfOk result (λ b. b ≡ new_book (record {
+          processors = processors;
+          pages = pages;
+          words = words;
+          locks = locks;
+          flags = flags;
+        })) }
     {
         let protocol = Protocol::new(alloc, processors, pages, words, locks, flags)?;
         Ok(Book {
@@ -76,7 +82,7 @@ impl Book {
         requires short { length block.now ≤ most_in_block }
         ensures ok { OnOk result (self.new ≡ handed_in self.old block.now) }
         ensures err { OnErr result (self.new ≡ self.old) }
-        ensures full { IsFullExactlyBy (length self.old.journal.events + length block.now) result }
+        ensures full { IsFullAt (length self.old.journal.events + length block.now) result }
         ensures only { IfErr result IsWantOfRoom }
     {
         self.protocol.hand_in(p, block)
@@ -89,7 +95,7 @@ impl Book {
         ensures ok { OnOk result (self.new ≡ handed_in self.old block.now) }
         ensures copy { IfOk result (λ j. j ≡ record self.new.journal { room = j.room }) }
         ensures err { OnErr result (self.new ≡ self.old) }
-        ensures full { IsFullExactlyBy (length self.old.journal.events + length block.now) result }
+        ensures full { IsFullAt (length self.old.journal.events + length block.now) result }
         ensures only { IfErr result IsWantOfRoom }
     {
         self.protocol.audit(p, block)
@@ -107,9 +113,10 @@ impl Book {
         requires call { MayCall self.old p block.now }
         requires short { length block.now ≤ most_in_block }
         requires rising { HasRisingPages (map arc_value records.items) }
-        ensures ok { OnOk result (self.new ≡ book_watched (handed_in self.old block.now) p f (map arc_value records.items)) }
+        ensures ok { OnOk result (self.new
+            ≡ book_watched (handed_in self.old block.now) p f (map arc_value records.items)) }
         ensures err { OnErr result (self.new ≡ self.old) }
-        ensures full { IsFullExactlyBy (length self.old.journal.events + length block.now + 1) result }
+        ensures full { IsFullAt (length self.old.journal.events + length block.now + 1) result }
         ensures only { IfErr result IsWantOfRoom }
     {
         self.protocol.watch(p, f, block, records)
@@ -128,9 +135,10 @@ impl Book {
         requires flag { f < length self.old.flags }
         requires short { length block.now ≤ most_in_block }
         requires rising { HasRisingPages (map arc_value records.items) }
-        ensures ok { OnOk result (self.new ≡ book_set (handed_in self.old block.now) p f (map arc_value records.items)) }
+        ensures ok { OnOk result (self.new
+            ≡ book_set (handed_in self.old block.now) p f (map arc_value records.items)) }
         ensures err { OnErr result (self.new ≡ self.old) }
-        ensures full { IsFullExactlyBy (length self.old.journal.events + length block.now + 1) result }
+        ensures full { IsFullAt (length self.old.journal.events + length block.now + 1) result }
         ensures only { IfErr result IsWantOfRoom }
     {
         self.protocol.set(p, f, block, records)
@@ -149,9 +157,10 @@ impl Book {
         requires call { MayAsk self.old p l block.now }
         requires short { length block.now ≤ most_in_block }
         requires rising { HasRisingPages (map arc_value records.items) }
-        ensures ok { OnOk result (self.new ≡ book_asked (handed_in self.old block.now) p l (map arc_value records.items)) }
+        ensures ok { OnOk result (self.new
+            ≡ book_asked (handed_in self.old block.now) p l (map arc_value records.items)) }
         ensures err { OnErr result (self.new ≡ self.old) }
-        ensures full { IsFullExactlyBy (length self.old.journal.events + length block.now + 1) result }
+        ensures full { IsFullAt (length self.old.journal.events + length block.now + 1) result }
         ensures only { IfErr result IsWantOfRoom }
     {
         self.protocol.ask(p, l, block, records)
@@ -170,9 +179,10 @@ impl Book {
         requires call { MayRelease self.old p l block.now }
         requires short { length block.now ≤ most_in_block }
         requires rising { HasRisingPages (map arc_value records.items) }
-        ensures ok { OnOk result (self.new ≡ book_released (handed_in self.old block.now) p l (map arc_value records.items)) }
+        ensures ok { OnOk result (self.new
+            ≡ book_released (handed_in self.old block.now) p l (map arc_value records.items)) }
         ensures err { OnErr result (self.new ≡ self.old) }
-        ensures full { IsFullExactlyBy (length self.old.journal.events + length block.now + 1) result }
+        ensures full { IsFullAt (length self.old.journal.events + length block.now + 1) result }
         ensures only { IfErr result IsWantOfRoom }
     {
         self.protocol.release(p, l, block, records)
@@ -190,9 +200,10 @@ impl Book {
         requires call { MayCall self.old p block.now }
         requires short { length block.now ≤ most_in_block }
         requires rising { HasRisingPages (map arc_value records.items) }
-        ensures ok { OnOk result (self.new ≡ book_arrived (handed_in self.old block.now) p (map arc_value records.items)) }
+        ensures ok { OnOk result (self.new
+            ≡ book_arrived (handed_in self.old block.now) p (map arc_value records.items)) }
         ensures err { OnErr result (self.new ≡ self.old) }
-        ensures full { IsFullExactlyBy (length self.old.journal.events + length block.now + 1) result }
+        ensures full { IsFullAt (length self.old.journal.events + length block.now + 1) result }
         ensures only { IfErr result IsWantOfRoom }
     {
         self.protocol.arrive(p, block, records)
@@ -207,8 +218,10 @@ impl Book {
         ensures ok { IfOk result (λ m. Takes self.old p (letter m) self.new) }
         ensures brings { IfOk result (λ m. (letter m).notices ≡ brought self.old p) }
         ensures err { OnErr result (self.new ≡ self.old) }
-        ensures absent { (s : Sizes) (h : List AnEvent) → IsTold s h self.old → result ≡ Err Refused.NotYet ↔ (¬ Ready s h p) }
-        ensures full { result ≢ Err Refused.NotYet → IsFullExactlyBy (length self.old.journal.events + 1) result }
+        ensures absent { (s : Sizes) (h : List AnEvent) → IsTold s h self.old
+            → result ≡ Err Refused.NotYet ↔ (¬ Ready s h p) }
+        ensures full { result ≢ Err Refused.NotYet
+            → IsFullAt (length self.old.journal.events + 1) result }
         ensures only { IfErr result (λ e. (e ≡ Refused.NotYet) ⊎ IsWantOfRoom e) }
     {
         self.protocol.take(p)
@@ -271,7 +284,8 @@ impl Book {
     /// It takes no memory, and costs in the order of the slice and of what a take would bring.
     pub fn count_due(&self, p: usize, counts: &mut [usize])
         requires call { MayLook self.now p }
-        ensures each { EachIndex counts.new (λ n. slice_index counts.new n ≡ count_by (is_of_page n) (brought self.now p)) }
+        ensures each { EachIndex counts.new (λ n. slice_index counts.new n
+            ≡ count_by (is_of_page n) (brought self.now p)) }
         ensures same_length { length counts.new ≡ length counts.old }
     {
         self.protocol.count_due(p, counts)

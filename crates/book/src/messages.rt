@@ -28,7 +28,8 @@ pub(crate) fn grant_to(
     requires pages { HasRisingPages interval.now.records }
     requires long { length time.now ≡ length closed.now.first }
     requires next { IfSome next (λ r. MayBeSent closed.now times.now r) }
-    ensures { IfOk result (λ g. option_map addressed g ≡ option_map (addressed_grant (pushed closed.now interval.now) times.now time.now) next) }
+    ensures { IfOk result (λ g. option_map addressed g
+        ≡ option_map (addressed_grant (pushed closed.now interval.now) times.now time.now) next) }
 {
     let Some(next) = next else {
         return Ok(None);
@@ -52,7 +53,8 @@ pub(crate) fn departures(
     requires processor { interval.now.owner < length times.now }
     requires pages { HasRisingPages interval.now.records }
     requires long { length time.now ≡ length closed.now.first }
-    requires all { (r : ℕ) → r < length times.now → MayBeSent closed.now (slice_set times.now interval.now.owner own.now) r }
+    requires all { (r : ℕ) → r < length times.now
+        → MayBeSent closed.now (slice_set times.now interval.now.owner own.now) r }
     ensures { IfOk result (λ ms. map letter ms.items
         ≡ map (departure_to (pushed closed.now interval.now) time.now) (slice_set times.now interval.now.owner own.now)) }
 {
@@ -101,9 +103,11 @@ pub(crate) fn receive(
 ) -> Result<Message, AllocError>
     requires come { has_come flags.now mail.old p (kind_of awaited) ≡ true }
     requires processor { p < length mail.old }
-    requires flag { (f : ℕ) → awaited ≡ Awaited.Signal f → MaySignal closed.now flags.now own.now f }
+    requires flag { (f : ℕ) → awaited ≡ Awaited.Signal f
+        → MaySignal closed.now flags.now own.now f }
     requires none { (f : ℕ) → awaited ≡ Awaited.Signal f → mail.old ≡ slice_set mail.old p None }
-    ensures ok { IfOk result (λ m. message_among closed.now flags.now mail.old own.now p (kind_of awaited) ≡ Some (letter m)) }
+    ensures ok { IfOk result (λ m.
+        message_among closed.now flags.now mail.old own.now p (kind_of awaited) ≡ Some (letter m)) }
     ensures after { OnOk result (mail.new ≡ slice_set mail.old p None) }
     ensures err { OnErr result (mail.new ≡ mail.old) }
 {
@@ -124,7 +128,8 @@ fn signal(closed: &Closed, flag: &Option<VTime>, own: &VTime) -> Result<Message,
     requires time { IfSome flag.now (λ t. length t ≡ length closed.now.first) }
     requires own { length own.now ≡ length closed.now.first }
     requires kept { (q : ℕ) → slice_index closed.now.first q ≤ slice_index own.now q }
-    ensures { IfOk result (λ m. option_map (λ (t : List ℕ). signal_to closed.now t own.now) flag.now ≡ Some (letter m)) }
+    ensures { IfOk result (λ m.
+        option_map (λ (t : List ℕ). signal_to closed.now t own.now) flag.now ≡ Some (letter m)) }
 {
     let Some(time) = flag else {
         unreachable!("the flag is set")

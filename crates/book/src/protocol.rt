@@ -10,7 +10,7 @@ ghost use Rattle.book.specs.Brought.{brought};
 ghost use Rattle.book.specs.Cutting.{WasBookCut};
 ghost use Rattle.book.specs.Calls.{MayFlush, MayCall, MayAsk, MayRelease, IsOpen, MayBeSent, MayTakeSome};
 ghost use Rattle.book.specs.Transitions.{new_book, handed_in, handed_last, open_interval, closed_by, if_free, grant_from, barrier_left, flag_joined, book_watched, book_set, book_asked, book_released, book_arrived, departures_to, Takes};
-ghost use Rattle.book.specs.Refusals.{IsFullExactlyBy, IsWantOfRoom};
+ghost use Rattle.book.specs.Refusals.{IsFullAt, IsWantOfRoom};
 ghost use Rattle.book.specs.State.{time_of};
 ghost use Rattle.book.specs.Told.{IsTold};
 ghost use Rattle.journal.specs.Sizes.{Sizes};
@@ -41,7 +41,8 @@ use std::sync::Arc;
 use transit::{Message, Transit};
 use vtime::VTime;
 
-/// The parts of a book, with its calls: what each is for, and when it is refused, is said at `Book`.
+/// The parts of a book, with its calls: what each is for, and when it is refused, is said at `Book`. Each has the
+/// contract of the book's call, word for word: a caller sees no further than the contract of what it calls.
 #[derive(Drop)]
 pub(crate) struct Protocol {
     words: usize,
@@ -81,7 +82,13 @@ impl Protocol {
         requires most { processors ≤ most_processors }
         requires locks { locks ≤ 32 }
         requires addresses { pages * words < 2 ^ 64 }
-        ensures { IfOk result (λ b. b ≡ new_book (record { processors = processors; pages = pages; words = words; locks = locks; flags = flags })) }
+        ensures { IfOk result (λ b. b ≡ new_book (record {
+          processors = processors;
+          pages = pages;
+          words = words;
+          locks = locks;
+          flags = flags;
+        })) }
     {
         let owing = 256 * processors;
         let mut journal = Journal::new(alloc, processors, pages * words)?;
@@ -112,7 +119,7 @@ impl Protocol {
         requires short { length block.now ≤ most_in_block }
         ensures ok { OnOk result (self.new ≡ handed_in self.old block.now) }
         ensures err { OnErr result (self.new ≡ self.old) }
-        ensures full { IsFullExactlyBy (length self.old.journal.events + length block.now) result }
+        ensures full { IsFullAt (length self.old.journal.events + length block.now) result }
         ensures only { IfErr result IsWantOfRoom }
     {
         make_room(&mut self.journal, self.owing, block.len())?;
@@ -127,7 +134,7 @@ impl Protocol {
         ensures ok { OnOk result (self.new ≡ handed_in self.old block.now) }
         ensures copy { IfOk result (λ j. j ≡ record self.new.journal { room = j.room }) }
         ensures err { OnErr result (self.new ≡ self.old) }
-        ensures full { IsFullExactlyBy (length self.old.journal.events + length block.now) result }
+        ensures full { IsFullAt (length self.old.journal.events + length block.now) result }
         ensures only { IfErr result IsWantOfRoom }
     {
         make_room(&mut self.journal, self.owing, block.len())?;
@@ -149,9 +156,10 @@ impl Protocol {
         requires call { MayCall self.old p block.now }
         requires short { length block.now ≤ most_in_block }
         requires rising { HasRisingPages (map arc_value records.items) }
-        ensures ok { OnOk result (self.new ≡ book_watched (handed_in self.old block.now) p f (map arc_value records.items)) }
+        ensures ok { OnOk result (self.new
+            ≡ book_watched (handed_in self.old block.now) p f (map arc_value records.items)) }
         ensures err { OnErr result (self.new ≡ self.old) }
-        ensures full { IsFullExactlyBy (length self.old.journal.events + length block.now + 1) result }
+        ensures full { IsFullAt (length self.old.journal.events + length block.now + 1) result }
         ensures only { IfErr result IsWantOfRoom }
     {
         let interval = self.open_interval(p, records);
@@ -170,9 +178,10 @@ impl Protocol {
         requires flag { f < length self.old.flags }
         requires short { length block.now ≤ most_in_block }
         requires rising { HasRisingPages (map arc_value records.items) }
-        ensures ok { OnOk result (self.new ≡ book_set (handed_in self.old block.now) p f (map arc_value records.items)) }
+        ensures ok { OnOk result (self.new
+            ≡ book_set (handed_in self.old block.now) p f (map arc_value records.items)) }
         ensures err { OnErr result (self.new ≡ self.old) }
-        ensures full { IsFullExactlyBy (length self.old.journal.events + length block.now + 1) result }
+        ensures full { IsFullAt (length self.old.journal.events + length block.now + 1) result }
         ensures only { IfErr result IsWantOfRoom }
     {
         let interval = self.open_interval(p, records);
@@ -193,9 +202,10 @@ impl Protocol {
         requires call { MayAsk self.old p l block.now }
         requires short { length block.now ≤ most_in_block }
         requires rising { HasRisingPages (map arc_value records.items) }
-        ensures ok { OnOk result (self.new ≡ book_asked (handed_in self.old block.now) p l (map arc_value records.items)) }
+        ensures ok { OnOk result (self.new
+            ≡ book_asked (handed_in self.old block.now) p l (map arc_value records.items)) }
         ensures err { OnErr result (self.new ≡ self.old) }
-        ensures full { IsFullExactlyBy (length self.old.journal.events + length block.now + 1) result }
+        ensures full { IsFullAt (length self.old.journal.events + length block.now + 1) result }
         ensures only { IfErr result IsWantOfRoom }
     {
         make_room(&mut self.journal, self.owing, block.len() + 1)?;
@@ -221,9 +231,10 @@ impl Protocol {
         requires call { MayRelease self.old p l block.now }
         requires short { length block.now ≤ most_in_block }
         requires rising { HasRisingPages (map arc_value records.items) }
-        ensures ok { OnOk result (self.new ≡ book_released (handed_in self.old block.now) p l (map arc_value records.items)) }
+        ensures ok { OnOk result (self.new
+            ≡ book_released (handed_in self.old block.now) p l (map arc_value records.items)) }
         ensures err { OnErr result (self.new ≡ self.old) }
-        ensures full { IsFullExactlyBy (length self.old.journal.events + length block.now + 1) result }
+        ensures full { IsFullAt (length self.old.journal.events + length block.now + 1) result }
         ensures only { IfErr result IsWantOfRoom }
     {
         make_room(&mut self.journal, self.owing, block.len() + 1)?;
@@ -250,9 +261,10 @@ impl Protocol {
         requires call { MayCall self.old p block.now }
         requires short { length block.now ≤ most_in_block }
         requires rising { HasRisingPages (map arc_value records.items) }
-        ensures ok { OnOk result (self.new ≡ book_arrived (handed_in self.old block.now) p (map arc_value records.items)) }
+        ensures ok { OnOk result (self.new
+            ≡ book_arrived (handed_in self.old block.now) p (map arc_value records.items)) }
         ensures err { OnErr result (self.new ≡ self.old) }
-        ensures full { IsFullExactlyBy (length self.old.journal.events + length block.now + 1) result }
+        ensures full { IsFullAt (length self.old.journal.events + length block.now + 1) result }
         ensures only { IfErr result IsWantOfRoom }
     {
         make_room(&mut self.journal, self.owing, block.len() + 1)?;
@@ -281,7 +293,8 @@ impl Protocol {
         requires away { slice_get self.now.barrier.stages interval.now.owner ≡ Some Stage.Away }
         requires own_long { length own.now ≡ length self.now.barrier.stages }
         requires long { length self.now.barrier.stages ≡ length self.now.closed.first }
-        requires all { (r : ℕ) → r < length self.now.times → MayBeSent self.now.closed (slice_set self.now.times interval.now.owner own.now) r }
+        requires all { (r : ℕ) → r < length self.now.times
+            → MayBeSent self.now.closed (slice_set self.now.times interval.now.owner own.now) r }
         ensures { IfOk result (λ o. option_map (λ ms. map letter ms.items) o ≡ departures_to
             (pushed self.now.closed interval.now) self.now.barrier (slice_set self.now.times interval.now.owner own.now) interval.now.owner own.now) }
     {
@@ -303,7 +316,8 @@ impl Protocol {
         requires processor { p < length self.now.times }
         requires own_long { length (time_of self.now p) ≡ length self.now.closed.first }
         requires time_long { length (lock_at self.now.locks l).time ≡ length self.now.closed.first }
-        requires kept { (q : ℕ) → slice_index self.now.closed.first q ≤ slice_index (time_of self.now p) q }
+        requires kept { (q : ℕ)
+            → slice_index self.now.closed.first q ≤ slice_index (time_of self.now p) q }
         ensures { IfOk result (λ m. option_map letter m
             ≡ if_free (lock_at self.now.locks l).holder (grant_from self.now p (lock_at self.now.locks l).time)) }
     {
@@ -323,8 +337,10 @@ impl Protocol {
         ensures ok { IfOk result (λ m. Takes self.old p (letter m) self.new) }
         ensures brings { IfOk result (λ m. (letter m).notices ≡ brought self.old p) }
         ensures err { OnErr result (self.new ≡ self.old) }
-        ensures absent { (s : Sizes) (h : List AnEvent) → IsTold s h self.old → result ≡ Err Refused.NotYet ↔ (¬ Ready s h p) }
-        ensures full { result ≢ Err Refused.NotYet → IsFullExactlyBy (length self.old.journal.events + 1) result }
+        ensures absent { (s : Sizes) (h : List AnEvent) → IsTold s h self.old
+            → result ≡ Err Refused.NotYet ↔ (¬ Ready s h p) }
+        ensures full { result ≢ Err Refused.NotYet
+            → IsFullAt (length self.old.journal.events + 1) result }
         ensures only { IfErr result (λ e. (e ≡ Refused.NotYet) ⊎ IsWantOfRoom e) }
     {
         let Some(awaited) = self.awaits[p] else {
@@ -402,9 +418,10 @@ impl Protocol {
         requires open { interval ≡ open_interval self.old p interval.records }
         requires rising { HasRisingPages interval.records }
         requires kind { is_closing kind ≡ true }
-        ensures ok { OnOk result (self.new ≡ closed_by (handed_in self.old block.now) p kind interval.records) }
+        ensures ok { OnOk result (self.new
+            ≡ closed_by (handed_in self.old block.now) p kind interval.records) }
         ensures err { OnErr result (self.new ≡ self.old) }
-        ensures full { IsFullExactlyBy (length self.old.journal.events + length block.now + 1) result }
+        ensures full { IsFullAt (length self.old.journal.events + length block.now + 1) result }
         ensures only { IfErr result IsWantOfRoom }
     {
         make_room(&mut self.journal, self.owing, block.len() + 1)?;

@@ -2,7 +2,7 @@
 ghost use Rattle.std.specs.Prelude.{◌≡◌, ◌+◌, ◌-◌, ◌^◌, ◌≤◌, ◌<◌, ◌++◌, All, IfErr, OnOk, length, Err};
 ghost use Rattle.lists.specs.Limits.{most_events};
 ghost use Rattle.journal.specs.InRange.{AddressInRange};
-ghost use Rattle.book.specs.Refusals.{IsFullExactlyBy, IsWantOfRoom};
+ghost use Rattle.book.specs.Refusals.{IsFullAt, IsWantOfRoom};
 
 use crate::refused::Refused;
 use journal::{Event, Journal};
@@ -18,10 +18,11 @@ pub(crate) fn make_room(
 ) -> Result<(), Refused>
     requires owing { owing ≤ 2 ^ 12 }
     requires additional { additional ≤ 2 ^ 9 }
-    ensures ok { OnOk result ((owing + additional ≤ journal.new.room) × (length journal.old.events + additional ≤ most_events)) }
+    ensures ok { OnOk result ((owing + additional ≤ journal.new.room)
+        × (length journal.old.events + additional ≤ most_events)) }
     ensures same { journal.new ≡ record journal.old { room = journal.new.room } }
     ensures grows { journal.old.room ≤ journal.new.room }
-    ensures full { IsFullExactlyBy (length journal.old.events + additional) result }
+    ensures full { IsFullAt (length journal.old.events + additional) result }
     ensures only { IfErr result IsWantOfRoom }
 {
     if journal.len() + additional > LIMIT {
@@ -37,7 +38,10 @@ pub(crate) fn append_all(journal: &mut Journal, events: &[Event])
     requires limit { length journal.old.events + length events.now ≤ 2 ^ 21 }
     requires processor { All (λ e. e.processor < journal.old.processors) events.now }
     requires address { All (λ e. AddressInRange journal.old.addresses e.kind) events.now }
-    ensures { journal.new ≡ record journal.old { events = journal.old.events ++ events.now; room = journal.old.room - length events.now } }
+    ensures { journal.new ≡ record journal.old {
+      events = journal.old.events ++ events.now;
+      room = journal.old.room - length events.now;
+    } }
 {
     for event in events {
         journal.append(*event);

@@ -42,11 +42,13 @@ module _ (s : Sizes) (h : List Event) (b : State) (p : ℕ) (told : IsTold s h b
   pub may_ask : (l : ℕ) (block : List Event) → MayHandIn s b p block → l < s.locks → ¬ Holds h p l → MayAsk b p l block
   may_ask l block hands_in range free = record { call = may_call block hands_in; range = range; free = free }
 
-  pub may_release : (l : ℕ) (block : List Event) → MayHandIn s b p block → l < s.locks → Holds h p l → MayRelease b p l block
+  pub may_release : (l : ℕ) (block : List Event) → MayHandIn s b p block → l < s.locks → Holds h p l
+      → MayRelease b p l block
   may_release l block hands_in range held = record { call = may_call block hands_in; range = range; held = held }
 
 -- a new book is told by the empty history
-pub kept_new : (t : Inside) → 1 ≤ t.processors → 1 ≤ t.words → t.words ≤ 64 → t.history.items ≡ [] → t.book ≡ new_book (telling_of t).sizes → t.owing ≡ 256 * t.processors → IsKept t
+pub kept_new : (t : Inside) → 1 ≤ t.processors → 1 ≤ t.words → t.words ≤ 64 → t.history.items ≡ []
+    → t.book ≡ new_book (telling_of t).sizes → t.owing ≡ 256 * t.processors → IsKept t
 kept_new t some word words empty new owing =
     let s = (telling_of t).sizes in
     record {
@@ -60,70 +62,121 @@ pub record Follows (s : Sizes) (h : List Event) (old new : State) : Type 0 where
   pub room : new.journal.room ≡ old.journal.room
 
 -- so it is kept
-pub kept_after : (t new : Inside) (h : List Event) → IsKept t → (telling_of new).sizes ≡ (telling_of t).sizes → new.owing ≡ t.owing → new.history.items ≡ h → Follows (telling_of t).sizes h t.book new.book → IsKept new
+pub kept_after : (t new : Inside) (h : List Event) → IsKept t → (telling_of new).sizes ≡ (telling_of t).sizes
+    → new.owing ≡ t.owing → new.history.items ≡ h → Follows (telling_of t).sizes h t.book new.book → IsKept new
 kept_after t new h kept sizes owing history follows = record {
   telling = record {
-    told = subst (λ s. IsTold s new.history.items new.book) (sym sizes) (subst (λ es. IsTold (telling_of t).sizes es new.book) (sym history) follows.told);
+    told = subst (λ s. IsTold s new.history.items new.book) (sym sizes)
+        (subst (λ es. IsTold (telling_of t).sizes es new.book) (sym history) follows.told);
     some = subst (λ (s : Sizes). 0 < s.words) (sym sizes) kept.telling.some;
     few = subst (λ (s : Sizes). s.words ≤ 64) (sym sizes) kept.telling.few;
   };
   owing = owing ∙ kept.owing ∙ sym follows.room;
 }
 
-follows : (s : Sizes) (h : List Event) (old new made : State) → IsTold s h made → made.journal.room ≡ old.journal.room → new ≡ made → Follows s h old new
-follows s h old new made told room is = record { told = subst (λ b. IsTold s h b) (sym is) told; room = ap (λ (b : State). b.journal.room) is ∙ room }
+follows : (s : Sizes) (h : List Event) (old new made : State) → IsTold s h made
+    → made.journal.room ≡ old.journal.room → new ≡ made → Follows s h old new
+follows s h old new made told room is =
+    record { told = subst (λ b. IsTold s h b) (sym is) told; room = ap (λ (b : State). b.journal.room) is ∙ room }
 
-pub follows_hand_in : (s : Sizes) (h : List Event) (b new : State) (p : ℕ) (block : List Event) → IsTold s h b → MayGive s b p block → new ≡ handed_in b block → Follows s (h ++ block) b new
-follows_hand_in s h b new p block told may is = follows s (h ++ block) b new (handed_in b block) (hand_in_law s h block b p told may) refl is
+pub follows_hand_in : (s : Sizes) (h : List Event) (b new : State) (p : ℕ) (block : List Event) → IsTold s h b
+    → MayGive s b p block → new ≡ handed_in b block → Follows s (h ++ block) b new
+follows_hand_in s h b new p block told may is =
+    follows s (h ++ block) b new (handed_in b block) (hand_in_law s h block b p told may) refl is
 
 -- a cut leaves the history, and the room
 pub follows_cut : (s : Sizes) (h : List Event) (b new : State) → IsTold s h b → WasBookCut b new → Follows s h b new
-follows_cut s h b new told was = record { told = cut_law s h b new told was; room = ap (λ (l : Log). l.room) was.journal.left }
+follows_cut s h b new told was =
+    record { told = cut_law s h b new told was; room = ap (λ (l : Log). l.room) was.journal.left }
 
 -- and after a cut that was refused it is the same book
-pub kept_cut : {A E : Type 0} (t : Inside) (new : State) (r : Result A E) → IsKept t → OnOk r (WasBookCut t.book new) → OnErr r (new ≡ t.book) → IsKept (record t { book = new })
-kept_cut t new (Ok a) kept was same = kept_after t (record t { book = new }) t.history.items kept refl refl refl (follows_cut (telling_of t).sizes t.history.items t.book new kept.telling.told was)
+pub kept_cut : {A E : Type 0} (t : Inside) (new : State) (r : Result A E) → IsKept t → OnOk r (WasBookCut t.book new)
+    → OnErr r (new ≡ t.book) → IsKept (record t { book = new })
+kept_cut t new (Ok a) kept was same =
+    kept_after t (record t { book = new }) t.history.items kept refl refl refl
+    (follows_cut (telling_of t).sizes t.history.items t.book new kept.telling.told was)
 kept_cut t new (Err e) kept was same = subst (λ (b : State). IsKept (record t { book = b })) (sym same) kept
 
 -- each call that closes an interval
-module _ (t : Telling) (new : State) (p : ℕ) (block : List Event) (records : List Changes) (telling : IsTelling t) (may : MayClose t p block records) where
-  pub follows_ask : (l : ℕ) → l < t.sizes.locks → ¬ Holds t.history p l → new ≡ book_asked (handed_in t.book block) p l records → Follows t.sizes (did (t.history ++ block) p (Ask l)) t.book new
-  follows_ask l less free is = follows t.sizes (did (t.history ++ block) p (Ask l)) t.book new (book_asked (handed_in t.book block) p l records) (ask_law t.sizes t.history block t.book p l records telling.told may.may may.are less free) refl is
+module _ (t : Telling) (new : State) (p : ℕ) (block : List Event) (records : List Changes) (telling : IsTelling t)
+    (may : MayClose t p block records) where
+  pub follows_ask : (l : ℕ) → l < t.sizes.locks → ¬ Holds t.history p l
+      → new ≡ book_asked (handed_in t.book block) p l records
+      → Follows t.sizes (did (t.history ++ block) p (Ask l)) t.book new
+  follows_ask l less free is =
+      follows t.sizes (did (t.history ++ block) p (Ask l)) t.book new
+      (book_asked (handed_in t.book block) p l records)
+      (ask_law t.sizes t.history block t.book p l records telling.told may.may may.are less free) refl is
 
-  pub follows_release : (l : ℕ) → l < t.sizes.locks → Holds t.history p l → new ≡ book_released (handed_in t.book block) p l records → Follows t.sizes (did (t.history ++ block) p (Release l)) t.book new
-  follows_release l less held is = follows t.sizes (did (t.history ++ block) p (Release l)) t.book new (book_released (handed_in t.book block) p l records) (release_law t.sizes t.history block t.book p l records telling.told may.may may.are less held) refl is
+  pub follows_release : (l : ℕ) → l < t.sizes.locks → Holds t.history p l
+      → new ≡ book_released (handed_in t.book block) p l records
+      → Follows t.sizes (did (t.history ++ block) p (Release l)) t.book new
+  follows_release l less held is =
+      follows t.sizes (did (t.history ++ block) p (Release l)) t.book new
+      (book_released (handed_in t.book block) p l records)
+      (release_law t.sizes t.history block t.book p l records telling.told may.may may.are less held) refl is
 
-  pub follows_set : (f : ℕ) → f < t.sizes.flags → new ≡ book_set (handed_in t.book block) p f records → Follows t.sizes (did (t.history ++ block) p (Set f)) t.book new
-  follows_set f less is = follows t.sizes (did (t.history ++ block) p (Set f)) t.book new (book_set (handed_in t.book block) p f records) (set_law t.sizes t.history block t.book p f records telling.told may.may may.are less) refl is
+  pub follows_set : (f : ℕ) → f < t.sizes.flags → new ≡ book_set (handed_in t.book block) p f records
+      → Follows t.sizes (did (t.history ++ block) p (Set f)) t.book new
+  follows_set f less is =
+      follows t.sizes (did (t.history ++ block) p (Set f)) t.book new (book_set (handed_in t.book block) p f records)
+      (set_law t.sizes t.history block t.book p f records telling.told may.may may.are less) refl is
 
-  pub follows_watch : (f : ℕ) → f < t.sizes.flags → new ≡ book_watched (handed_in t.book block) p f records → Follows t.sizes (did (t.history ++ block) p (Watch f)) t.book new
-  follows_watch f less is = follows t.sizes (did (t.history ++ block) p (Watch f)) t.book new (book_watched (handed_in t.book block) p f records) (watch_law t.sizes t.history block t.book p f records telling.told may.may may.are less) refl is
+  pub follows_watch : (f : ℕ) → f < t.sizes.flags → new ≡ book_watched (handed_in t.book block) p f records
+      → Follows t.sizes (did (t.history ++ block) p (Watch f)) t.book new
+  follows_watch f less is =
+      follows t.sizes (did (t.history ++ block) p (Watch f)) t.book new
+      (book_watched (handed_in t.book block) p f records)
+      (watch_law t.sizes t.history block t.book p f records telling.told may.may may.are less) refl is
 
-  pub follows_arrive : new ≡ book_arrived (handed_in t.book block) p records → Follows t.sizes (did (t.history ++ block) p Arrive) t.book new
-  follows_arrive is = follows t.sizes (did (t.history ++ block) p Arrive) t.book new (book_arrived (handed_in t.book block) p records) (arrive_law t.sizes t.history block t.book p records telling.told may.may may.are) refl is
+  pub follows_arrive : new ≡ book_arrived (handed_in t.book block) p records
+      → Follows t.sizes (did (t.history ++ block) p Arrive) t.book new
+  follows_arrive is =
+      follows t.sizes (did (t.history ++ block) p Arrive) t.book new
+      (book_arrived (handed_in t.book block) p records)
+      (arrive_law t.sizes t.history block t.book p records telling.told may.may may.are) refl is
 
 -- a take of what p waits for
-pub follows_take : (s : Sizes) (h : List Event) (b new : State) (p : ℕ) (k : Kind) (m : Letter) → IsTold s h b → slice_get b.awaits p ≡ Some (Some k) → Takes b p m new → Follows s (did h p k) b new
+pub follows_take : (s : Sizes) (h : List Event) (b new : State) (p : ℕ) (k : Kind) (m : Letter) → IsTold s h b
+    → slice_get b.awaits p ≡ Some (Some k) → Takes b p m new → Follows s (did h p k) b new
 follows_take s h b new p k m told waits takes =
-    let same : takes.kind ≡ k = same_Some takes.kind k (same_Some (Some takes.kind) (Some k) (sym takes.awaits ∙ waits)) in
-    subst (λ x. Follows s (did h p x) b new) same (follows s (did h p takes.kind) b new (book_taken b p takes.kind m) (take_law s h b p takes.kind m told takes.awaits takes.message) refl takes.after)
+    let same : takes.kind ≡ k =
+    same_Some takes.kind k (same_Some (Some takes.kind) (Some k) (sym takes.awaits ∙ waits)) in
+    subst (λ x. Follows s (did h p x) b new) same
+    (follows s (did h p takes.kind) b new (book_taken b p takes.kind m)
+    (take_law s h b p takes.kind m told takes.awaits takes.message) refl takes.after)
 
 -- the records of p's open interval, made of its events and the block's
-pub may_close : (t : Telling) (p : ℕ) (block events : List Event) (records : List Changes) → IsTelling t → MayHandIn t.sizes t.book p block → length block ≤ 256 → events ≡ since t.history p ++ block
-    → ((h : List Event) (q : ℕ) → since h q ≡ events → AreOpenBelow t.sizes h q t.sizes.pages records) → MayClose t p block records
+pub may_close : (t : Telling) (p : ℕ) (block events : List Event) (records : List Changes) → IsTelling t
+    → MayHandIn t.sizes t.book p block → length block ≤ 256 → events ≡ since t.history p ++ block
+    → ((h : List Event) (q : ℕ) → since h q ≡ events → AreOpenBelow t.sizes h q t.sizes.pages records)
+    → MayClose t p block records
 may_close t p block events records telling may short is made =
-    let inner : (k : ℕ) (e : Event) → At block k e → (e.processor ≡ p) × (is_closing e.kind ≡ false) = λ k e at. (let x = may.inner k e at in (x.mine, x.closes)) in
+    let inner : (k : ℕ) (e : Event) → At block k e → (e.processor ≡ p) × (is_closing e.kind ≡ false) =
+    λ k e at. (let x = may.inner k e at in (x.mine, x.closes)) in
     let below = made (t.history ++ block) p (since_block t.history block p inner ∙ sym is) in
-    let give : MayGive t.sizes t.book p block = record { waits = (None, may.idle, λ isnt. absurd (isnt refl)); inner = may.inner } in
+    let give : MayGive t.sizes t.book p block =
+    record { waits = (None, may.idle, λ isnt. absurd (isnt refl)); inner = may.inner } in
     let told = hand_in_law t.sizes t.history block t.book p telling.told give in
-    record { may = may; short = short; are = open_contents t.sizes (t.history ++ block) p records telling.some told.well_formed below; rising = below.rising }
+    record {
+      may = may;
+      short = short;
+      are = open_contents t.sizes (t.history ++ block) p records telling.some told.well_formed below;
+      rising =
+          below.rising;
+    }
 
 -- a last block takes of the room that is kept
-pub kept_last : (t new : Inside) (p : ℕ) (block : List Event) → IsKept t → (telling_of new).sizes ≡ (telling_of t).sizes → new.owing ≡ t.owing - length block → new.history.items ≡ t.history.items ++ block
+pub kept_last : (t new : Inside) (p : ℕ) (block : List Event) → IsKept t
+    → (telling_of new).sizes ≡ (telling_of t).sizes → new.owing ≡ t.owing - length block
+    → new.history.items ≡ t.history.items ++ block
     → MayGive (telling_of t).sizes t.book p block → new.book ≡ handed_last t.book block → IsKept new
 kept_last t new p block kept sizes owing history may is = record {
   telling = record {
-    told = subst (λ s. IsTold s new.history.items new.book) (sym sizes) (subst (λ es. IsTold (telling_of t).sizes es new.book) (sym history) (subst (λ b. IsTold (telling_of t).sizes (t.history.items ++ block) b) (sym is) (last_law (telling_of t).sizes t.history.items block t.book p kept.telling.told may)));
+    told = subst (λ s. IsTold s new.history.items new.book) (sym sizes)
+        (subst (λ es. IsTold (telling_of t).sizes es new.book) (sym history)
+        (subst (λ b. IsTold (telling_of t).sizes (t.history.items ++ block) b) (sym is)
+        (last_law (telling_of t).sizes t.history.items block t.book p kept.telling.told may)));
     some = subst (λ (s : Sizes). 0 < s.words) (sym sizes) kept.telling.some;
     few = subst (λ (s : Sizes). s.words ≤ 64) (sym sizes) kept.telling.few;
   };

@@ -34,7 +34,8 @@ impl Told {
 
     /// What the events store in the page, if they store in it.
     fn record_of(&self, page: usize, events: &[Event]) -> Result<Option<Record>, AllocError>
-        ensures { (h : List AnEvent) (p : ℕ) → since h p ≡ events.now → IfOk result (λ o. IsOpenIn self.now.sizes h p page o) }
+        ensures { (h : List AnEvent) (p : ℕ) → since h p ≡ events.now
+            → IfOk result (λ o. IsOpenIn self.now.sizes h p page o) }
     {
         let words = self.words();
         let mut copy = Page::zero(self.allocator(), words)?;
@@ -50,8 +51,10 @@ fn store_in(copy: &mut Page, words: usize, page: usize, event: &Event)
     requires some { 0 < words }
     requires long { length copy.old.words ≡ words }
     requires valid { copy.old.access ≡ Access.Valid }
-    ensures words { (s : Sizes) → s.words ≡ words → copy.new.words ≡ wrote copy.old.words (write_in s page event.now.kind) }
-    ensures dirty { (s : Sizes) → s.words ≡ words → copy.new.dirty ≡ mark copy.old.dirty (write_in s page event.now.kind) }
+    ensures words { (s : Sizes) → s.words ≡ words
+        → copy.new.words ≡ wrote copy.old.words (write_in s page event.now.kind) }
+    ensures dirty { (s : Sizes) → s.words ≡ words
+        → copy.new.dirty ≡ mark copy.old.dirty (write_in s page event.now.kind) }
     ensures access { copy.new.access ≡ copy.old.access }
 {
     if let Kind::Store(address, word) = event.kind {

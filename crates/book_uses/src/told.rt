@@ -65,7 +65,13 @@ impl Told {
         requires word { 1 ≤ words }
         requires words { words ≤ 64 }
         requires locks { locks ≤ 32 }
-        ensures sizes { IfOk result (λ t. t.sizes ≡ record { processors = processors; pages = pages; words = words; locks = locks; flags = flags }) }
+        ensures sizes { IfOk result (λ t. t.sizes ≡ record {
+          processors = processors;
+          pages = pages;
+          words = words;
+          locks = locks;
+          flags = flags;
+        }) }
         ensures history { IfOk result (λ t. t.history ≡ []) }
     {
         let book = Book::new(alloc, processors, pages, words, locks, flags)?;
@@ -123,7 +129,8 @@ impl Told {
 
     /// Whether `p` waits for nothing, and the block is one that it may hand in.
     fn may_hand_in(&self, p: usize, block: &[Event]) -> Result<(), Refused>
-        ensures { OnOk result (MayHandIn self.now.sizes self.now.book p block.now × (length block.now ≤ 256)) }
+        ensures { OnOk result (MayHandIn self.now.sizes self.now.book p block.now
+            × (length block.now ≤ 256)) }
     {
         if p >= self.processors {
             return Err(Refused::OutOfRange);
@@ -144,7 +151,8 @@ impl Told {
 
     /// Whether `p` may hand the block in, which is empty where it waits.
     fn may_give(&self, p: usize, block: &[Event]) -> Result<(), Refused>
-        ensures { OnOk result (MayGive self.now.sizes self.now.book p block.now × (length block.now ≤ 256)) }
+        ensures { OnOk result (MayGive self.now.sizes self.now.book p block.now
+            × (length block.now ≤ 256)) }
     {
         if !block.is_empty() {
             return self.may_hand_in(p, block);
@@ -180,7 +188,8 @@ impl Told {
 
     /// Asks for a lock, which `p` doesn't hold, after this block.
     pub fn ask(&mut self, p: usize, l: usize, block: &[Event]) -> Result<(), Refused>
-        ensures ok { OnOk result (GoesOn self.old (did (self.old.history ++ block.now) p (Kind.Ask l)) self.new) }
+        ensures ok { OnOk result
+            (GoesOn self.old (did (self.old.history ++ block.now) p (Kind.Ask l)) self.new) }
         ensures err { OnErr result (self.new ≡ self.old) }
     {
         let records = self.closing(p, block)?;
@@ -198,7 +207,8 @@ impl Told {
 
     /// Releases a lock, which `p` holds, after this block.
     pub fn release(&mut self, p: usize, l: usize, block: &[Event]) -> Result<(), Refused>
-        ensures ok { OnOk result (GoesOn self.old (did (self.old.history ++ block.now) p (Kind.Release l)) self.new) }
+        ensures ok { OnOk result
+            (GoesOn self.old (did (self.old.history ++ block.now) p (Kind.Release l)) self.new) }
         ensures err { OnErr result (self.new ≡ self.old) }
     {
         let records = self.closing(p, block)?;
@@ -216,7 +226,8 @@ impl Told {
 
     /// Sets a flag after this block.
     pub fn set(&mut self, p: usize, f: usize, block: &[Event]) -> Result<(), Refused>
-        ensures ok { OnOk result (GoesOn self.old (did (self.old.history ++ block.now) p (Kind.Set f)) self.new) }
+        ensures ok { OnOk result
+            (GoesOn self.old (did (self.old.history ++ block.now) p (Kind.Set f)) self.new) }
         ensures err { OnErr result (self.new ≡ self.old) }
     {
         let records = self.closing(p, block)?;
@@ -231,7 +242,8 @@ impl Told {
 
     /// Watches a flag after this block.
     pub fn watch(&mut self, p: usize, f: usize, block: &[Event]) -> Result<(), Refused>
-        ensures ok { OnOk result (GoesOn self.old (did (self.old.history ++ block.now) p (Kind.Watch f)) self.new) }
+        ensures ok { OnOk result
+            (GoesOn self.old (did (self.old.history ++ block.now) p (Kind.Watch f)) self.new) }
         ensures err { OnErr result (self.new ≡ self.old) }
     {
         let records = self.closing(p, block)?;
@@ -246,7 +258,8 @@ impl Told {
 
     /// Arrives at the barrier after this block.
     pub fn arrive(&mut self, p: usize, block: &[Event]) -> Result<(), Refused>
-        ensures ok { OnOk result (GoesOn self.old (did (self.old.history ++ block.now) p Kind.Arrive) self.new) }
+        ensures ok { OnOk result
+            (GoesOn self.old (did (self.old.history ++ block.now) p Kind.Arrive) self.new) }
         ensures err { OnErr result (self.new ≡ self.old) }
     {
         let records = self.closing(p, block)?;
@@ -258,7 +271,8 @@ impl Told {
 
     /// Takes what `p` waits for.
     pub fn take(&mut self, p: usize) -> Result<Message, Refused>
-        ensures ok { OnOk result ((k : AKind) × (slice_get self.old.book.awaits p ≡ Some (Some k)) × GoesOn self.old (did self.old.history p k) self.new) }
+        ensures ok { OnOk result ((k : AKind) × (slice_get self.old.book.awaits p ≡ Some (Some k))
+            × GoesOn self.old (did self.old.history p k) self.new) }
         ensures err { OnErr result (self.new ≡ self.old) }
     {
         if p >= self.processors {
@@ -316,7 +330,8 @@ impl Told {
     /// How many notices of the page a take by `p` would bring now; None where `p` is no processor.
     pub fn due(&self, p: usize, page: usize) -> Option<usize>
         ensures none { result ≡ None ↔ (self.now.sizes.processors ≤ p) }
-        ensures some { IfSome result (λ n. n ≡ count_by (is_of_page page) (brought self.now.book p)) }
+        ensures some { IfSome result (λ n. n
+            ≡ count_by (is_of_page page) (brought self.now.book p)) }
     {
         if p < self.processors {
             Some(self.book.due(p, page))

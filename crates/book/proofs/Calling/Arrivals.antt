@@ -37,7 +37,9 @@ use Rattle.book.proofs.Parts.Meetings.{stage_away, idle_counts, waits_there, all
 use Rattle.book.proofs.Parts.Told.{is_idle, is_processor, own_stamp, within_closing}
 
 -- when the last one arrives the others wait, and nobody may go on
-nobody_goes : (s : Sizes) (h : List Event) (b : State) (p q : ℕ) (t : List ℕ) → IsTold s h b → slice_get b.awaits p ≡ Some None → is_full (joined b.barrier p t) ≡ true → q < s.processors → (a : Kind) → IsPosted a → ¬ Allowed s h q a
+nobody_goes : (s : Sizes) (h : List Event) (b : State) (p q : ℕ) (t : List ℕ) → IsTold s h b
+    → slice_get b.awaits p ≡ Some None → is_full (joined b.barrier p t) ≡ true → q < s.processors → (a : Kind)
+    → IsPosted a → ¬ Allowed s h q a
 nobody_goes s h b p q t told idle full less a posted allowed = elim (cases_eq q p) [
   | inl is ↦ (let P : ℕ → Type 0 = λ x. Allowed s h x a in idle_allowed s h p a free posted (subst P is allowed))
   | inr apart ↦ others apart a posted allowed
@@ -49,13 +51,18 @@ nobody_goes s h b p q t told idle full less a posted allowed = elim (cases_eq q 
     lt : p < s.processors
     lt = is_processor s h b p None told idle
 
-    all : (count_of is_arrive h p ≡ told.barrier.complete) × AreAll s.processors (IsAtStage (did h p Arrive) told.barrier.complete) (slice_set b.barrier.stages p Here)
+    all : (count_of is_arrive h p ≡ told.barrier.complete)
+        × AreAll s.processors (IsAtStage (did h p Arrive) told.barrier.complete) (slice_set b.barrier.stages p Here)
     all = arrived_stages s h p b.barrier told.well_formed free lt told.barrier
 
     here : IsAtStage (did h p Arrive) told.barrier.complete q Here
     here =
-        let item = item_at s.processors (IsAtStage (did h p Arrive) told.barrier.complete) (slice_set b.barrier.stages p Here) q Away all.1 less in
-        subst (λ st. IsAtStage (did h p Arrive) told.barrier.complete q st) (sym (all_true (slice_set b.barrier.stages p Here) full q (slice_index_or (slice_set b.barrier.stages p Here) q Away) item)) (all.1.each q (slice_index_or (slice_set b.barrier.stages p Here) q Away) item)
+        let item = item_at s.processors (IsAtStage (did h p Arrive) told.barrier.complete)
+        (slice_set b.barrier.stages p Here) q Away all.1 less in
+        subst (λ st. IsAtStage (did h p Arrive) told.barrier.complete q st)
+        (sym (all_true (slice_set b.barrier.stages p Here) full q
+        (slice_index_or (slice_set b.barrier.stages p Here) q Away) item))
+        (all.1.each q (slice_index_or (slice_set b.barrier.stages p Here) q Away) item)
 
     waits : q ≢ p → (i : ℕ) × LastIs h q i Arrive
     waits apart =
@@ -66,7 +73,8 @@ nobody_goes s h b p q t told idle full less a posted allowed = elim (cases_eq q 
         waits_there s h q told.well_formed (omega arith)
 
     others : q ≢ p → (k : Kind) → IsPosted k → ¬ Allowed s h q k
-    others apart (Acquire l) is_posted may = let w = waits apart in absurd (cc ((last_unique h q may.0 w.0 (Ask l) Arrive may.1 w.1).1))
+    others apart (Acquire l) is_posted may = let w =
+        waits apart in absurd (cc ((last_unique h q may.0 w.0 (Ask l) Arrive may.1 w.1).1))
     others apart Depart is_posted may =
         let one = may.2 p lt in
         let d = count_others is_depart h p Arrive q apart in
@@ -90,7 +98,8 @@ arriving_by s h b p told idle =
     let first = told.closed.first_long in
     let stages = told.barrier.stages.long in
     record {
-      away = item_at s.processors (IsAtStage h told.barrier.complete) b.barrier.stages p Away told.barrier.stages lt ∙ ap (λ st. Some st) (sym away);
+      away = item_at s.processors (IsAtStage h told.barrier.complete) b.barrier.stages p Away told.barrier.stages lt
+          ∙ ap (λ st. Some st) (sym away);
       stages = omega arith;
       own_long = omega arith;
       sent = sent;
@@ -101,7 +110,9 @@ arriving_by s h b p told idle =
     lt = is_processor s h b p None told idle
 
     away : Away ≡ slice_index_or b.barrier.stages p Away
-    away = stage_away h told.barrier.complete p (slice_index_or b.barrier.stages p Away) (idle_counts s h p told.well_formed (is_idle s h b p told idle)) (is_at s.processors (IsAtStage h told.barrier.complete) b.barrier.stages p Away told.barrier.stages lt)
+    away = stage_away h told.barrier.complete p (slice_index_or b.barrier.stages p Away)
+        (idle_counts s h p told.well_formed (is_idle s h b p told idle))
+        (is_at s.processors (IsAtStage h told.barrier.complete) b.barrier.stages p Away told.barrier.stages lt)
 
     after : List (List ℕ)
     after = slice_set b.times p (tick (time_of b p) p)
@@ -119,7 +130,8 @@ arriving_by s h b p told idle =
             let P : ℕ → Type 0 = λ x. slice_get after x ≡ Some t in
             let found = slice_get-set_found b.times p (tick (time_of b p) p) t (subst P is at) in
             let own = (own_stamp s h b p told lt).long in
-            ap (λ (x : List ℕ). length x) (sym found) ∙ length-set (time_of b p) p (slice_index (time_of b p) p + 1) ∙ own ∙ sym told.closed.first_long
+            ap (λ (x : List ℕ). length x) (sym found) ∙ length-set (time_of b p) p (slice_index (time_of b p) p + 1)
+            ∙ own ∙ sym told.closed.first_long
 
     sent : (r : ℕ) → r < length b.times → MayBeSent b.closed after r
     sent r less =
@@ -135,13 +147,18 @@ arriving_by s h b p told idle =
     none full =
         let times = told.times.long in
         let transit = told.transit.long in
-        all_same b.transit None (λ q less. nothing full q (omega arith)) ∙ ap (λ n. replicate n None) (transit ∙ sym times)
+        all_same b.transit None (λ q less. nothing full q (omega arith))
+        ∙ ap (λ n. replicate n None) (transit ∙ sym times)
       where
-        nothing : is_full (joined b.barrier p (tick (time_of b p) p)) ≡ true → (q : ℕ) → q < s.processors → slice_get b.transit q ≡ Some None
+        nothing : is_full (joined b.barrier p (tick (time_of b p) p)) ≡ true → (q : ℕ) → q < s.processors
+            → slice_get b.transit q ≡ Some None
         nothing all_here q less =
             let transit = told.transit.long in
             let read = slice_get-get_or b.transit q None (omega arith) in
-            read ∙ ap (λ (x : Option Letter). Some x) (sym (no_mail s h q (slice_index_or b.transit q None) (nobody_goes s h b p q (tick (time_of b p) p) told idle all_here less) (told.transit.each q (slice_index_or b.transit q None) read)))
+            read ∙ ap (λ (x : Option Letter). Some x)
+            (sym (no_mail s h q (slice_index_or b.transit q None)
+            (nobody_goes s h b p q (tick (time_of b p) p) told idle all_here less)
+            (told.transit.each q (slice_index_or b.transit q None) read)))
 
 pub arriving : (b : State) (p : ℕ) (block : List Event) → MayCall b p block → IsArriving b p
 arriving b p block may = arriving_by may.by.sizes may.by.history b p may.by.told may.hands_in.idle
@@ -154,83 +171,138 @@ map_twice : {A B C : Type 0} (f : A → B) (g : B → C) (xs : List A) → map g
 map_twice f g [] = refl
 map_twice f g (x ∷ xs) = ap (λ ys. g (f x) ∷ ys) (map_twice f g xs)
 
-arrived_is : (old b : State) (p : ℕ) (block : List Event) (records : List Changes) (barrier : Episodes) (transit : List (Option Letter)) (t : List ℕ) → b ≡ closed_by (handed_in old block) p Arrive records → t ≡ tick (time_of old p) p
-    → barrier ≡ arrived b.barrier p t → transit ≡ mail_met (is_full (joined b.barrier p t)) b (join b.barrier.gathered t)
+arrived_is : (old b : State) (p : ℕ) (block : List Event) (records : List Changes) (barrier : Episodes)
+    (transit : List (Option Letter)) (t : List ℕ) → b ≡ closed_by (handed_in old block) p Arrive records
+    → t ≡ tick (time_of old p) p
+    → barrier ≡ arrived b.barrier p t
+    → transit ≡ mail_met (is_full (joined b.barrier p t)) b (join b.barrier.gathered t)
     → record b { barrier = barrier; transit = transit } ≡ book_arrived (handed_in old block) p records
 arrived_is old b p block records barrier transit t is time here mail =
     let c : State = closed_by (handed_in old block) p Arrive records in
     ap (λ (x : Episodes). record b { barrier = x; transit = transit }) here
     ∙ ap (λ (x : List (Option Letter)). record b { barrier = arrived b.barrier p t; transit = x }) mail
-    ∙ ap (λ (x : State). record x { barrier = arrived x.barrier p t; transit = mail_met (is_full (joined x.barrier p t)) x (join x.barrier.gathered t) }) is
-    ∙ ap (λ (u : List ℕ). record c { barrier = arrived old.barrier p u; transit = mail_met (is_full (joined old.barrier p u)) c (join old.barrier.gathered u) }) time
+    ∙ ap (λ (x : State). record x {
+      barrier = arrived x.barrier p t;
+      transit = mail_met (is_full (joined x.barrier p t)) x (join x.barrier.gathered t);
+    }) is
+    ∙ ap (λ (u : List ℕ). record c {
+      barrier = arrived old.barrier p u;
+      transit = mail_met (is_full (joined old.barrier p u)) c (join old.barrier.gathered u);
+    }) time
 
 -- the departures of all, or none
-met_some : (full : Bool) (c : State) (u : List ℕ) (ms : List Letter) → Some ms ≡ cond full (Some (map (departure_to c.closed u) c.times)) None → map (λ (m : Letter). Some m) ms ≡ mail_met full c u
-met_some true c u ms made = ap (λ (xs : List Letter). map (λ (m : Letter). Some m) xs) (same_Some ms (map (departure_to c.closed u) c.times) made) ∙ map_twice (departure_to c.closed u) (λ (m : Letter). Some m) c.times
+met_some : (full : Bool) (c : State) (u : List ℕ) (ms : List Letter)
+    → Some ms ≡ cond full (Some (map (departure_to c.closed u) c.times)) None
+    → map (λ (m : Letter). Some m) ms ≡ mail_met full c u
+met_some true c u ms made =
+    ap (λ (xs : List Letter). map (λ (m : Letter). Some m) xs)
+    (same_Some ms (map (departure_to c.closed u) c.times) made)
+    ∙ map_twice (departure_to c.closed u) (λ (m : Letter). Some m) c.times
 met_some false c u ms made = absurd (none-some ms (sym made))
 
-met_none : (full : Bool) (c : State) (u : List ℕ) → None ≡ cond full (Some (map (departure_to c.closed u) c.times)) None → c.transit ≡ mail_met full c u
+met_none : (full : Bool) (c : State) (u : List ℕ)
+    → None ≡ cond full (Some (map (departure_to c.closed u) c.times)) None → c.transit ≡ mail_met full c u
 met_none true c u made = absurd (none-some (map (departure_to c.closed u) c.times) made)
 met_none false c u made = refl
 
 -- what stands of the departures when the interval is closed
-departures_read : (old b : State) (p : ℕ) (block : List Event) (records : List Changes) (t : List ℕ) (o : Option (List Letter)) → b ≡ closed_by (handed_in old block) p Arrive records → t ≡ tick (time_of old p) p
-    → o ≡ departures_to (pushed old.closed (open_interval old p records)) old.barrier (slice_set old.times p t) p t → o ≡ departures_to b.closed b.barrier b.times p t
+departures_read : (old b : State) (p : ℕ) (block : List Event) (records : List Changes) (t : List ℕ)
+    (o : Option (List Letter)) → b ≡ closed_by (handed_in old block) p Arrive records → t ≡ tick (time_of old p) p
+    → o ≡ departures_to (pushed old.closed (open_interval old p records)) old.barrier (slice_set old.times p t) p t
+    → o ≡ departures_to b.closed b.barrier b.times p t
 departures_read old b p block records t o is time made =
-    made ∙ ap (λ (u : List ℕ). departures_to (pushed old.closed (open_interval old p records)) old.barrier (slice_set old.times p u) p t) time
+    made ∙ ap (λ (u : List ℕ). departures_to (pushed old.closed (open_interval old p records)) old.barrier
+    (slice_set old.times p u) p t) time
     ∙ sym (ap (λ (x : State). departures_to x.closed x.barrier x.times p t) is)
 
 -- an arrival that completes the episode
-pub arrived_met : (old b : State) (p : ℕ) (block : List Event) (records : List Changes) (barrier : Episodes) (transit : List (Option Letter)) (t : List ℕ) (ms : List Letter) → b ≡ closed_by (handed_in old block) p Arrive records → t ≡ tick (time_of old p) p
-    → barrier ≡ arrived b.barrier p t → transit ≡ map (λ (m : Letter). Some m) ms → Some ms ≡ departures_to (pushed old.closed (open_interval old p records)) old.barrier (slice_set old.times p t) p t
+pub arrived_met : (old b : State) (p : ℕ) (block : List Event) (records : List Changes) (barrier : Episodes)
+    (transit : List (Option Letter)) (t : List ℕ) (ms : List Letter)
+    → b ≡ closed_by (handed_in old block) p Arrive records → t ≡ tick (time_of old p) p
+    → barrier ≡ arrived b.barrier p t → transit ≡ map (λ (m : Letter). Some m) ms
+    → Some ms ≡ departures_to (pushed old.closed (open_interval old p records)) old.barrier
+    (slice_set old.times p t) p t
     → record b { barrier = barrier; transit = transit } ≡ book_arrived (handed_in old block) p records
 arrived_met old b p block records barrier transit t ms is time here post made =
-    arrived_is old b p block records barrier transit t is time here (post ∙ met_some (is_full (joined b.barrier p t)) b (join b.barrier.gathered t) ms (departures_read old b p block records t (Some ms) is time made))
+    arrived_is old b p block records barrier transit t is time here
+    (post ∙ met_some (is_full (joined b.barrier p t)) b (join b.barrier.gathered t) ms
+    (departures_read old b p block records t (Some ms) is time made))
 
 -- an arrival that leaves it open
-pub arrived_alone : (old b : State) (p : ℕ) (block : List Event) (records : List Changes) (barrier : Episodes) (t : List ℕ) → b ≡ closed_by (handed_in old block) p Arrive records → t ≡ tick (time_of old p) p
-    → barrier ≡ arrived b.barrier p t → None ≡ departures_to (pushed old.closed (open_interval old p records)) old.barrier (slice_set old.times p t) p t
+pub arrived_alone : (old b : State) (p : ℕ) (block : List Event) (records : List Changes) (barrier : Episodes)
+    (t : List ℕ) → b ≡ closed_by (handed_in old block) p Arrive records → t ≡ tick (time_of old p) p
+    → barrier ≡ arrived b.barrier p t
+    → None ≡ departures_to (pushed old.closed (open_interval old p records)) old.barrier (slice_set old.times p t)
+    p t
     → record b { barrier = barrier } ≡ book_arrived (handed_in old block) p records
 arrived_alone old b p block records barrier t is time here made =
-    arrived_is old b p block records barrier b.transit t is time here (met_none (is_full (joined b.barrier p t)) b (join b.barrier.gathered t) (departures_read old b p block records t None is time made))
+    arrived_is old b p block records barrier b.transit t is time here
+    (met_none (is_full (joined b.barrier p t)) b (join b.barrier.gathered t)
+    (departures_read old b p block records t None is time made))
 
 -- all have no message when all departures are made
-pub none_waits : (old : State) (p : ℕ) (c : Closings) (t : List ℕ) (ms : List Letter) → IsArriving old p → t ≡ tick (time_of old p) p → Some ms ≡ departures_to c old.barrier (slice_set old.times p t) p t → old.transit ≡ replicate (length ms) None
+pub none_waits : (old : State) (p : ℕ) (c : Closings) (t : List ℕ) (ms : List Letter) → IsArriving old p
+    → t ≡ tick (time_of old p) p → Some ms ≡ departures_to c old.barrier (slice_set old.times p t) p t
+    → old.transit ≡ replicate (length ms) None
 none_waits old p c t ms is time made = go (is_full (joined old.barrier p t)) refl made
   where
-    go : (full : Bool) → is_full (joined old.barrier p t) ≡ full → Some ms ≡ cond full (Some (map (departure_to c (join old.barrier.gathered t)) (slice_set old.times p t))) None → old.transit ≡ replicate (length ms) None
+    go : (full : Bool) → is_full (joined old.barrier p t) ≡ full
+        → Some ms ≡ cond full (Some (map (departure_to c (join old.barrier.gathered t)) (slice_set old.times p t)))
+        None → old.transit ≡ replicate (length ms) None
     go false all one = absurd (none-some ms (sym one))
     go true all one =
-        let same = ap (λ (xs : List Letter). length xs) (same_Some ms (map (departure_to c (join old.barrier.gathered t)) (slice_set old.times p t)) one) ∙ length-map (slice_set old.times p t) (departure_to c (join old.barrier.gathered t)) ∙ length-set old.times p t in
-        is.none (ap (λ (u : List ℕ). is_full (joined old.barrier p u)) (sym time) ∙ all) ∙ ap (λ (n : ℕ). replicate n None) (sym same)
+        let same = ap (λ (xs : List Letter). length xs)
+        (same_Some ms (map (departure_to c (join old.barrier.gathered t)) (slice_set old.times p t)) one)
+        ∙ length-map (slice_set old.times p t) (departure_to c (join old.barrier.gathered t))
+        ∙ length-set old.times p t in
+        is.none (ap (λ (u : List ℕ). is_full (joined old.barrier p u)) (sym time) ∙ all)
+        ∙ ap (λ (n : ℕ). replicate n None) (sym same)
 
 -- the departures as they were made, read off the book before the call
-pub departures_made : (old b : State) (p : ℕ) (records : List Changes) (i : ClosedInterval) (t : List ℕ) (o : Option (List Letter)) → b ≡ old → i ≡ open_interval b p records
-    → o ≡ departures_to (pushed b.closed i) b.barrier (slice_set b.times i.owner t) i.owner t → o ≡ departures_to (pushed old.closed (open_interval old p records)) old.barrier (slice_set old.times p t) p t
+pub departures_made : (old b : State) (p : ℕ) (records : List Changes) (i : ClosedInterval) (t : List ℕ)
+    (o : Option (List Letter)) → b ≡ old → i ≡ open_interval b p records
+    → o ≡ departures_to (pushed b.closed i) b.barrier (slice_set b.times i.owner t) i.owner t
+    → o ≡ departures_to (pushed old.closed (open_interval old p records)) old.barrier (slice_set old.times p t) p t
 departures_made old b p records i t o same opened made =
     made
-    ∙ ap (λ (x : ClosedInterval). departures_to (pushed b.closed x) b.barrier (slice_set b.times x.owner t) x.owner t) opened
-    ∙ ap (λ (x : State). departures_to (pushed x.closed (open_interval x p records)) x.barrier (slice_set x.times p t) p t) same
+    ∙ ap (λ (x : ClosedInterval). departures_to (pushed b.closed x) b.barrier (slice_set b.times x.owner t)
+    x.owner t) opened
+    ∙ ap (λ (x : State). departures_to (pushed x.closed (open_interval x p records)) x.barrier
+    (slice_set x.times p t) p t) same
 
 -- each one's timestamp once p has closed its interval
-pub read_after : (times : List (List ℕ)) (p q : ℕ) (own old t : List ℕ) → p < length times → q < length times → t ≡ slice_index_or times q t → ((q ≡ p) × (old ≡ own)) ⊎ ((q ≢ p) × (old ≡ t)) → old ≡ slice_index_or (slice_set times p own) q []
-read_after times p q own old t here there read (inl same) = same.1 ∙ sym (ap (λ (n : ℕ). slice_index_or (slice_set times p own) n []) same.0 ∙ get_or-set_same times p own [] here)
-read_after times p q own old t here there read (inr other) = other.1 ∙ read ∙ same_default times q t [] there ∙ sym (get_or-set_other times p q own [] other.0)
+pub read_after : (times : List (List ℕ)) (p q : ℕ) (own old t : List ℕ) → p < length times → q < length times
+    → t ≡ slice_index_or times q t → ((q ≡ p) × (old ≡ own)) ⊎ ((q ≢ p) × (old ≡ t))
+    → old ≡ slice_index_or (slice_set times p own) q []
+read_after times p q own old t here there read (inl same) =
+    same.1 ∙ sym
+    (ap (λ (n : ℕ). slice_index_or (slice_set times p own) n []) same.0 ∙ get_or-set_same times p own [] here)
+read_after times p q own old t here there read (inr other) =
+    other.1 ∙ read ∙ same_default times q t [] there ∙ sym (get_or-set_other times p q own [] other.0)
 
 -- one more departure is made
-pub departing_step : (c : Closings) (u : List ℕ) (times : List (List ℕ)) (q : ℕ) (old : List ℕ) (ms ns : List Letter) (m : Letter) → ms ≡ map (departure_to c u) (take q times) → q < length times → old ≡ slice_index_or times q [] → m ≡ departure_to c u old → ns ≡ ms ++ m ∷ []
+pub departing_step : (c : Closings) (u : List ℕ) (times : List (List ℕ)) (q : ℕ) (old : List ℕ) (ms ns : List Letter)
+    (m : Letter) → ms ≡ map (departure_to c u) (take q times) → q < length times → old ≡ slice_index_or times q []
+    → m ≡ departure_to c u old → ns ≡ ms ++ m ∷ []
     → ns ≡ map (departure_to c u) (take (q + 1) times)
 departing_step c u times q old ms ns m made less is one more =
     let at = slice_get-get_or times q [] less ∙ ap (λ (t : List ℕ). Some t) (sym is) in
     let next : q + 1 ≡ suc q = omega arith in
-    more ∙ ap (λ (xs : List Letter). xs ++ m ∷ []) made ∙ ap (λ (x : Letter). map (departure_to c u) (take q times) ++ x ∷ []) one ∙ sym (map-append (departure_to c u) (take q times) (old ∷ []))
-    ∙ ap (λ (ts : List (List ℕ)). map (departure_to c u) ts) (sym (take-suc_at times q old at) ∙ ap (λ (n : ℕ). take n times) (sym next))
+    more ∙ ap (λ (xs : List Letter). xs ++ m ∷ []) made
+    ∙ ap (λ (x : Letter). map (departure_to c u) (take q times) ++ x ∷ []) one
+    ∙ sym (map-append (departure_to c u) (take q times) (old ∷ []))
+    ∙ ap (λ (ts : List (List ℕ)). map (departure_to c u) ts)
+    (sym (take-suc_at times q old at) ∙ ap (λ (n : ℕ). take n times) (sym next))
 
 -- the departures, where the arrival completes the episode, and none where it doesn't
-pub departures_are : (c : Closings) (b : Episodes) (times : List (List ℕ)) (p : ℕ) (own u : List ℕ) (full : Bool) (ms : List Letter) → full ≡ is_full (joined b p own) → full ≡ true → u ≡ join b.gathered own → ms ≡ map (departure_to c u) times → Some ms ≡ departures_to c b times p own
+pub departures_are : (c : Closings) (b : Episodes) (times : List (List ℕ)) (p : ℕ) (own u : List ℕ) (full : Bool)
+    (ms : List Letter) → full ≡ is_full (joined b p own) → full ≡ true → u ≡ join b.gathered own
+    → ms ≡ map (departure_to c u) times → Some ms ≡ departures_to c b times p own
 departures_are c b times p own u full ms is all time made =
     ap (λ (xs : List Letter). Some xs) (made ∙ ap (λ (t : List ℕ). map (departure_to c t) times) time)
     ∙ ap (λ (f : Bool). cond f (Some (map (departure_to c (join b.gathered own)) times)) None) (sym all ∙ is)
 
-pub none_depart : (c : Closings) (b : Episodes) (times : List (List ℕ)) (p : ℕ) (own : List ℕ) (full : Bool) → full ≡ is_full (joined b p own) → full ≡ false → None ≡ departures_to c b times p own
-none_depart c b times p own full is some = ap (λ (f : Bool). cond f (Some (map (departure_to c (join b.gathered own)) times)) None) (sym some ∙ is)
+pub none_depart : (c : Closings) (b : Episodes) (times : List (List ℕ)) (p : ℕ) (own : List ℕ) (full : Bool)
+    → full ≡ is_full (joined b p own) → full ≡ false → None ≡ departures_to c b times p own
+none_depart c b times p own full is some =
+    ap (λ (f : Bool). cond f (Some (map (departure_to c (join b.gathered own)) times)) None) (sym some ∙ is)

@@ -27,11 +27,13 @@ use Rattle.book.proofs.Parts.Told.{is_idle, is_processor, own_stamp, own_number,
 use Rattle.book.proofs.Calling.Calls.{standing, same_default}
 
 -- p's timestamp after its closing event
-own_ticked : (b : State) (p : ℕ) → p < length b.times → slice_index_or (slice_set b.times p (tick (time_of b p) p)) p [] ≡ tick (time_of b p) p
+own_ticked : (b : State) (p : ℕ) → p < length b.times
+    → slice_index_or (slice_set b.times p (tick (time_of b p) p)) p [] ≡ tick (time_of b p) p
 own_ticked b p lt = get_or-set_same b.times p (tick (time_of b p) p) [] lt
 
 -- p has a timestamp after its closing event
-pub still_timed : (old b : State) (p : ℕ) (k : Kind) (block : List Event) (records : List Changes) → MayCall old p block → b ≡ closed_by (handed_in old block) p k records → p < length b.times
+pub still_timed : (old b : State) (p : ℕ) (k : Kind) (block : List Event) (records : List Changes)
+    → MayCall old p block → b ≡ closed_by (handed_in old block) p k records → p < length b.times
 still_timed old b p k block records may is =
     let same = ap (λ (x : State). length x.times) is ∙ length-set old.times p (tick (time_of old p) p) in
     let lt = (standing old p block may).times in
@@ -43,33 +45,50 @@ pub record IsSetRead (old : State) (p f : ℕ) (o : Option (List ℕ)) (t : List
   pub time : t ≡ tick (time_of old p) p
   pub long : IfSome o (λ u. length u ≡ length t)
 
-flag_long : (n : ℕ) (h : List Event) (f : ℕ) (o : Option (List ℕ)) (t : List ℕ) → IsFlag n h f o → length t ≡ n → IfSome o (λ u. length u ≡ length t)
+flag_long : (n : ℕ) (h : List Event) (f : ℕ) (o : Option (List ℕ)) (t : List ℕ) → IsFlag n h f o → length t ≡ n
+    → IfSome o (λ u. length u ≡ length t)
 flag_long n h f None t is long = tt
 flag_long n h f (Some u) t is long = is.1.long ∙ sym long
 
-pub set_read : (old b : State) (p f : ℕ) (k : Kind) (block : List Event) (records : List Changes) (o : Option (List ℕ)) (t : List ℕ) → MayCall old p block → f < length old.flags → b ≡ closed_by (handed_in old block) p k records
+pub set_read : (old b : State) (p f : ℕ) (k : Kind) (block : List Event) (records : List Changes)
+    (o : Option (List ℕ)) (t : List ℕ) → MayCall old p block → f < length old.flags
+    → b ≡ closed_by (handed_in old block) p k records
     → o ≡ slice_index_or b.flags f o → t ≡ slice_index_or b.times p t → IsSetRead old p f o t
 set_read old b p f k block records o t may range is flag time =
     let s = may.by.sizes in
     let h = may.by.history in
     let told = may.by.told in
     let st = standing old p block may in
-    let now : o ≡ slice_index_or old.flags f None = flag ∙ ap (λ (x : State). slice_index_or x.flags f o) is ∙ same_default old.flags f o None range in
-    let lt : p < length (slice_set old.times p (tick (time_of old p) p)) = let e = length-set old.times p (tick (time_of old p) p) in let w = st.times in omega arith in
-    let own : t ≡ tick (time_of old p) p = time ∙ ap (λ (x : State). slice_index_or x.times p t) is ∙ same_default (slice_set old.times p (tick (time_of old p) p)) p t [] lt ∙ own_ticked old p st.times in
+    let now : o ≡ slice_index_or old.flags f None =
+    flag ∙ ap (λ (x : State). slice_index_or x.flags f o) is ∙ same_default old.flags f o None range in
+    let lt : p < length (slice_set old.times p (tick (time_of old p) p)) = let e =
+    length-set old.times p (tick (time_of old p) p) in let w = st.times in omega arith in
+    let own : t ≡ tick (time_of old p) p =
+    time ∙ ap (λ (x : State). slice_index_or x.times p t) is
+    ∙ same_default (slice_set old.times p (tick (time_of old p) p)) p t [] lt ∙ own_ticked old p st.times in
     let long = (own_stamp s h old p told (is_processor s h old p None told may.hands_in.idle)).long in
     let flags_long = told.flags.long in
     record {
       flag = now;
       time = own;
-      long = flag_long s.processors h f o t (subst (λ x. IsFlag s.processors h f x) (sym now) (is_at s.flags (IsFlag s.processors h) old.flags f None told.flags (omega arith))) (ap (λ (x : List ℕ). length x) own ∙ length-set (time_of old p) p (slice_index (time_of old p) p + 1) ∙ long);
+      long = flag_long s.processors h f o t
+          (subst (λ x. IsFlag s.processors h f x) (sym now)
+          (is_at s.flags (IsFlag s.processors h) old.flags f None told.flags (omega arith)))
+          (ap (λ (x : List ℕ). length x) own ∙ length-set (time_of old p) p (slice_index (time_of old p) p + 1)
+          ∙ long);
     }
 
-pub set_is : (old b : State) (p f : ℕ) (block : List Event) (records : List Changes) (o : Option (List ℕ)) (t r : List ℕ) → b ≡ closed_by (handed_in old block) p (Set f) records → IsSetRead old p f o t → r ≡ flag_joined o t
+pub set_is : (old b : State) (p f : ℕ) (block : List Event) (records : List Changes) (o : Option (List ℕ))
+    (t r : List ℕ) → b ≡ closed_by (handed_in old block) p (Set f) records → IsSetRead old p f o t
+    → r ≡ flag_joined o t
     → record b { flags = slice_set b.flags f (Some r) } ≡ book_set (handed_in old block) p f records
 set_is old b p f block records o t r is read made =
-    let value : r ≡ flag_joined (slice_index_or old.flags f None) (tick (time_of old p) p) = made ∙ ap (λ (x : Option (List ℕ)). flag_joined x t) read.flag ∙ ap (λ (x : List ℕ). flag_joined (slice_index_or old.flags f None) x) read.time in
-    ap (λ (x : State). record x { flags = slice_set x.flags f (Some r) }) is ∙ ap (λ (x : List ℕ). record (closed_by (handed_in old block) p (Set f) records) { flags = slice_set old.flags f (Some x) }) value
+    let value : r ≡ flag_joined (slice_index_or old.flags f None) (tick (time_of old p) p) =
+    made ∙ ap (λ (x : Option (List ℕ)). flag_joined x t) read.flag
+    ∙ ap (λ (x : List ℕ). flag_joined (slice_index_or old.flags f None) x) read.time in
+    ap (λ (x : State). record x { flags = slice_set x.flags f (Some r) }) is
+    ∙ ap (λ (x : List ℕ). record (closed_by (handed_in old block) p (Set f) records)
+    { flags = slice_set old.flags f (Some x) }) value
 
 -- what an ask rests on
 pub record IsAsking (b : State) (p l : ℕ) : Type 0 where
@@ -89,7 +108,8 @@ asking b p l block may =
     let told = may.call.by.told in
     let lt = is_processor s h b p None told may.call.hands_in.idle in
     let idle = is_idle s h b p told may.call.hands_in.idle in
-    let lock : IsLock s.processors h l (lock_at b.locks l) = is_at s.locks (IsLock s.processors h) b.locks.locks l (unheld b.locks.processors) told.locks may.range in
+    let lock : IsLock s.processors h l (lock_at b.locks l) =
+    is_at s.locks (IsLock s.processors h) b.locks.locks l (unheld b.locks.processors) told.locks may.range in
     let own = own_stamp s h b p told lt in
     let own_long = own.long in
     let lock_long = lock.time.long in
@@ -108,21 +128,29 @@ asking b p l block may =
       kept = λ q. told.within p q (time_of b p) (slice_get-get_or b.times p [] (omega arith));
       processor = omega arith;
       apart = not_in_line h p l (line (lock_at b.locks l)) (idle_no_ask h p l idle) may.free lock.line_is;
-      none = read ∙ ap (λ (x : Option Letter). Some x) (sym (idle_mail s h p (slice_index_or b.transit p None) idle (told.transit.each p (slice_index_or b.transit p None) read)));
+      none = read ∙ ap (λ (x : Option Letter). Some x)
+          (sym (idle_mail s h p (slice_index_or b.transit p None) idle
+          (told.transit.each p (slice_index_or b.transit p None) read)));
       older = omega arith;
     }
 
 -- the grant that is made before the interval is pushed is the one that would be made after
 grant_same : (b : State) (p l : ℕ) (block : List Event) (records : List Changes) → p < length b.times → IsAsking b p l
-    → grant_from b p (lock_at b.locks l).time ≡ grant_from (closed_by (handed_in b block) p (Ask l) records) p (lock_at b.locks l).time
+    → grant_from b p (lock_at b.locks l).time
+    ≡ grant_from (closed_by (handed_in b block) p (Ask l) records) p (lock_at b.locks l).time
 grant_same b p l block records lt is =
     let own = time_of b p in
     let t = (lock_at b.locks l).time in
     let older = is.older in
     let more = tick_grows own p p in
-    let ticked : between b.closed own t ≡ between b.closed (tick own p) t = between_same b.closed own (tick own p) t p (λ q apart. sym (get_or-set_other own p q (slice_index own p + 1) 0 apart)) older (omega arith) in
+    let ticked : between b.closed own t ≡ between b.closed (tick own p) t =
+    between_same b.closed own (tick own p) t p
+    (λ q apart. sym (get_or-set_other own p q (slice_index own p + 1) 0 apart)) older (omega arith) in
     let news = between-pushed b.closed (open_interval b p records) (tick own p) t older in
-    ap (λ (ns : List SentRecord). record { kind = grant; time = t; notices = ns }) (ticked ∙ sym news ∙ ap (λ (now : List ℕ). between (pushed b.closed (open_interval b p records)) now t) (sym (own_ticked b p lt)))
+    ap (λ (ns : List SentRecord). record { kind = grant; time = t; notices = ns })
+    (ticked ∙ sym news
+    ∙ ap (λ (now : List ℕ). between (pushed b.closed (open_interval b p records)) now t)
+    (sym (own_ticked b p lt)))
 
 -- what is there already is written without a change
 set_back : {A : Type 0} (xs : List A) (i : ℕ) (v : A) → slice_get xs i ≡ Some v → slice_set xs i v ≡ xs
@@ -130,33 +158,51 @@ set_back [] i v at = refl
 set_back {A} (x ∷ xs) zero v at = ap (λ (y : A). y ∷ xs) (sym (same_Some x v at))
 set_back {A} (x ∷ xs) (suc i) v at = ap (λ (ys : List A). x ∷ ys) (set_back xs i v at)
 
-asked_is : (old b : State) (p l : ℕ) (block : List Event) (records : List Changes) (locks : Locks) (transit : List (Option Letter)) → b ≡ closed_by (handed_in old block) p (Ask l) records → locks ≡ with_lock b.locks l (asked (lock_at b.locks l) p)
-    → transit ≡ slice_set old.transit p (if_free (lock_at old.locks l).holder (grant_from (closed_by (handed_in old block) p (Ask l) records) p (lock_at old.locks l).time))
+asked_is : (old b : State) (p l : ℕ) (block : List Event) (records : List Changes) (locks : Locks)
+    (transit : List (Option Letter)) → b ≡ closed_by (handed_in old block) p (Ask l) records
+    → locks ≡ with_lock b.locks l (asked (lock_at b.locks l) p)
+    → transit ≡ slice_set old.transit p
+    (if_free (lock_at old.locks l).holder
+    (grant_from (closed_by (handed_in old block) p (Ask l) records) p (lock_at old.locks l).time))
     → record b { locks = locks; transit = transit } ≡ book_asked (handed_in old block) p l records
 asked_is old b p l block records locks transit is line mail =
     ap (λ (x : State). record x { locks = locks; transit = transit }) is
-    ∙ ap (λ (x : Locks). record (closed_by (handed_in old block) p (Ask l) records) { locks = x; transit = transit }) (line ∙ ap (λ (x : State). with_lock x.locks l (asked (lock_at x.locks l) p)) is)
-    ∙ ap (λ (x : List (Option Letter)). record (closed_by (handed_in old block) p (Ask l) records) { locks = with_lock old.locks l (asked (lock_at old.locks l) p); transit = x }) mail
+    ∙ ap (λ (x : Locks). record (closed_by (handed_in old block) p (Ask l) records) { locks = x; transit = transit })
+    (line ∙ ap (λ (x : State). with_lock x.locks l (asked (lock_at x.locks l) p)) is)
+    ∙ ap (λ (x : List (Option Letter)). record (closed_by (handed_in old block) p (Ask l) records)
+    { locks = with_lock old.locks l (asked (lock_at old.locks l) p); transit = x }) mail
 
 -- an ask whose grant is posted
-pub asked_granted : (old b : State) (p l : ℕ) (block : List Event) (records : List Changes) (locks : Locks) (transit : List (Option Letter)) (m : Letter) → MayAsk old p l block → b ≡ closed_by (handed_in old block) p (Ask l) records
+pub asked_granted : (old b : State) (p l : ℕ) (block : List Event) (records : List Changes) (locks : Locks)
+    (transit : List (Option Letter)) (m : Letter) → MayAsk old p l block
+    → b ≡ closed_by (handed_in old block) p (Ask l) records
     → locks ≡ with_lock b.locks l (asked (lock_at b.locks l) p) → transit ≡ slice_set b.transit p (Some m)
     → Some m ≡ if_free (lock_at old.locks l).holder (grant_from old p (lock_at old.locks l).time)
     → record b { locks = locks; transit = transit } ≡ book_asked (handed_in old block) p l records
 asked_granted old b p l block records locks transit m may is line post made =
     let asks = asking old p l block may in
     let st = standing old p block may.call in
-    let mail = post ∙ ap (λ (x : State). slice_set x.transit p (Some m)) is ∙ ap (λ (x : Option Letter). slice_set old.transit p x) (made ∙ ap (λ (x : Letter). if_free (lock_at old.locks l).holder x) (grant_same old p l block records st.times asks)) in
+    let mail = post ∙ ap (λ (x : State). slice_set x.transit p (Some m)) is
+    ∙ ap (λ (x : Option Letter). slice_set old.transit p x)
+    (made ∙ ap (λ (x : Letter). if_free (lock_at old.locks l).holder x)
+    (grant_same old p l block records st.times asks)) in
     asked_is old b p l block records locks transit is line mail
 
 -- an ask that has to wait
-pub asked_waits : (old b : State) (p l : ℕ) (block : List Event) (records : List Changes) (locks : Locks) → MayAsk old p l block → b ≡ closed_by (handed_in old block) p (Ask l) records
+pub asked_waits : (old b : State) (p l : ℕ) (block : List Event) (records : List Changes) (locks : Locks)
+    → MayAsk old p l block → b ≡ closed_by (handed_in old block) p (Ask l) records
     → locks ≡ with_lock b.locks l (asked (lock_at b.locks l) p)
     → None ≡ if_free (lock_at old.locks l).holder (grant_from old p (lock_at old.locks l).time)
     → record b { locks = locks } ≡ book_asked (handed_in old block) p l records
 asked_waits old b p l block records locks may is line made =
     let asks = asking old p l block may in
     let st = standing old p block may.call in
-    let mail : b.transit ≡ slice_set old.transit p (if_free (lock_at old.locks l).holder (grant_from (closed_by (handed_in old block) p (Ask l) records) p (lock_at old.locks l).time)) =
-    ap (λ (x : State). x.transit) is ∙ sym (set_back old.transit p None asks.none) ∙ ap (λ (x : Option Letter). slice_set old.transit p x) (made ∙ ap (λ (x : Letter). if_free (lock_at old.locks l).holder x) (grant_same old p l block records st.times asks)) in
+    let mail : b.transit
+    ≡ slice_set old.transit p
+    (if_free (lock_at old.locks l).holder
+    (grant_from (closed_by (handed_in old block) p (Ask l) records) p (lock_at old.locks l).time)) =
+    ap (λ (x : State). x.transit) is ∙ sym (set_back old.transit p None asks.none)
+    ∙ ap (λ (x : Option Letter). slice_set old.transit p x)
+    (made ∙ ap (λ (x : Letter). if_free (lock_at old.locks l).holder x)
+    (grant_same old p l block records st.times asks)) in
     asked_is old b p l block records locks b.transit is line mail

@@ -77,7 +77,8 @@ flushes b p block may = let hands_in = may.hands_in in record {
 }
 
 -- the block's events may be appended
-pub block_processors : (b : State) (p n : ℕ) (block : List Event) → MayFlush b p block → n ≡ b.journal.processors → (k : ℕ) (d : Event) → k < length block → (slice_index_or block k d).processor < n
+pub block_processors : (b : State) (p n : ℕ) (block : List Event) → MayFlush b p block → n ≡ b.journal.processors
+    → (k : ℕ) (d : Event) → k < length block → (slice_index_or block k d).processor < n
 block_processors b p n block may same k d lt =
     let told = may.by.told in
     let x = may.gives.inner k (slice_index_or block k d) (slice_get-get_or block k d lt) in
@@ -86,10 +87,12 @@ block_processors b p n block may same k d lt =
     let processors = told.sizes.processors in
     omega arith
 
-pub block_addresses : (b : State) (p n : ℕ) (block : List Event) → MayFlush b p block → n ≡ b.journal.addresses → (k : ℕ) (d : Event) → k < length block → AddressInRange n (slice_index_or block k d).kind
+pub block_addresses : (b : State) (p n : ℕ) (block : List Event) → MayFlush b p block → n ≡ b.journal.addresses
+    → (k : ℕ) (d : Event) → k < length block → AddressInRange n (slice_index_or block k d).kind
 block_addresses b p n block may same k d lt =
     let x = may.gives.inner k (slice_index_or block k d) (slice_get-get_or block k d lt) in
-    subst (λ m. AddressInRange m (slice_index_or block k d).kind) (sym (same ∙ may.by.told.sizes.addresses)) (address_within may.by.sizes (slice_index_or block k d).kind x.in_range)
+    subst (λ m. AddressInRange m (slice_index_or block k d).kind) (sym (same ∙ may.by.told.sizes.addresses))
+    (address_within may.by.sizes (slice_index_or block k d).kind x.in_range)
 
 -- an event that closes an interval has no address
 pub closing_address : (n : ℕ) (k : Kind) → is_closing k ≡ true → AddressInRange n k
@@ -98,30 +101,56 @@ closing_address n (Store a v) closes = absurd cc
 closing_address n _ closes = tt
 
 -- an item within a list, read with another default
-pub same_default : {A : Type 0} (xs : List A) (i : ℕ) (d e : A) → i < length xs → slice_index_or xs i d ≡ slice_index_or xs i e
+pub same_default : {A : Type 0} (xs : List A) (i : ℕ) (d e : A) → i < length xs
+    → slice_index_or xs i d ≡ slice_index_or xs i e
 same_default xs i d e lt = get_or_from_slice_get xs i (slice_index_or xs i e) d (slice_get-get_or xs i e lt)
 
 -- the journal after a block and an event
-pub logs_are : (a b c d : Log) (owing : ℕ) (block : List Event) (e : Event) → b ≡ record a { room = b.room } → c ≡ record b { events = b.events ++ block; room = b.room - length block } → d ≡ record c { events = c.events ++ e ∷ []; room = c.room - 1 }
+pub logs_are : (a b c d : Log) (owing : ℕ) (block : List Event) (e : Event) → b ≡ record a { room = b.room }
+    → c ≡ record b { events = b.events ++ block; room = b.room - length block }
+    → d ≡ record c { events = c.events ++ e ∷ []; room = c.room - 1 }
     → record d { room = owing } ≡ record a { events = (a.events ++ block) ++ e ∷ []; room = owing }
 logs_are a b c d owing block e first second third =
-    ap (λ (l : Log). record l { room = owing }) third ∙ ap (λ (l : Log). record l { events = l.events ++ e ∷ []; room = owing }) second ∙ ap (λ (l : Log). record l { events = (l.events ++ block) ++ e ∷ []; room = owing }) first
+    ap (λ (l : Log). record l { room = owing }) third
+    ∙ ap (λ (l : Log). record l { events = l.events ++ e ∷ []; room = owing }) second
+    ∙ ap (λ (l : Log). record l { events = (l.events ++ block) ++ e ∷ []; room = owing }) first
 
 -- the book after a block and an event that closes an interval, part by part
-pub closing_is : (b : State) (p : ℕ) (k : Kind) (block : List Event) (records : List Changes) (log : Log) (c : Closings) (t : List ℕ) (waits : List (Option Kind))
-    → log ≡ record b.journal { events = (b.journal.events ++ block) ++ event p k ∷ [] } → c ≡ pushed b.closed (open_interval b p records) → t ≡ tick (time_of b p) p → waits ≡ slice_set b.awaits p (awaited k)
-    → record b { journal = log; closed = c; times = slice_set b.times p t; awaits = waits } ≡ closed_by (handed_in b block) p k records
+pub closing_is : (b : State) (p : ℕ) (k : Kind) (block : List Event) (records : List Changes) (log : Log)
+    (c : Closings) (t : List ℕ) (waits : List (Option Kind))
+    → log ≡ record b.journal { events = (b.journal.events ++ block) ++ event p k ∷ [] }
+    → c ≡ pushed b.closed (open_interval b p records) → t ≡ tick (time_of b p) p
+    → waits ≡ slice_set b.awaits p (awaited k)
+    → record b { journal = log; closed = c; times = slice_set b.times p t; awaits = waits }
+    ≡ closed_by (handed_in b block) p k records
 closing_is b p k block records log c t waits one two three four =
     ap (λ (l : Log). record b { journal = l; closed = c; times = slice_set b.times p t; awaits = waits }) one
-    ∙ ap (λ (x : Closings). record b { journal = record b.journal { events = (b.journal.events ++ block) ++ event p k ∷ [] }; closed = x; times = slice_set b.times p t; awaits = waits }) two
-    ∙ ap (λ (x : List ℕ). record b { journal = record b.journal { events = (b.journal.events ++ block) ++ event p k ∷ [] }; closed = pushed b.closed (open_interval b p records); times = slice_set b.times p x; awaits = waits }) three
-    ∙ ap (λ (x : List (Option Kind)). record b { journal = record b.journal { events = (b.journal.events ++ block) ++ event p k ∷ [] }; closed = pushed b.closed (open_interval b p records); times = slice_set b.times p (tick (time_of b p) p); awaits = x }) four
+    ∙ ap (λ (x : Closings). record b {
+      journal = record b.journal { events = (b.journal.events ++ block) ++ event p k ∷ [] };
+      closed = x;
+      times = slice_set b.times p t;
+      awaits = waits;
+    }) two
+    ∙ ap (λ (x : List ℕ). record b {
+      journal = record b.journal { events = (b.journal.events ++ block) ++ event p k ∷ [] };
+      closed = pushed b.closed (open_interval b p records);
+      times = slice_set b.times p x;
+      awaits = waits;
+    }) three
+    ∙ ap (λ (x : List (Option Kind)). record b {
+      journal = record b.journal { events = (b.journal.events ++ block) ++ event p k ∷ [] };
+      closed = pushed b.closed (open_interval b p records);
+      times =
+          slice_set b.times p (tick (time_of b p) p);
+      awaits = x;
+    }) four
 
 pub stands : (b now : State) (p : ℕ) (block : List Event) → b ≡ now → MayCall now p block → IsStanding b p
 stands b now p block same may = subst (λ x. IsStanding x p) (sym same) (standing now p block may)
 
 -- what was read at p's place
-pub own_read : (times : List (List ℕ)) (p : ℕ) (t : List ℕ) → p < length times → t ≡ slice_index_or times p t → t ≡ slice_index_or times p []
+pub own_read : (times : List (List ℕ)) (p : ℕ) (t : List ℕ) → p < length times → t ≡ slice_index_or times p t
+    → t ≡ slice_index_or times p []
 own_read times p t lt is = is ∙ same_default times p t [] lt
 
 pub own_entry_read : (t own : List ℕ) (p n : ℕ) → t ≡ own → slice_get t p ≡ Some n → n ≡ slice_index own p
@@ -132,8 +161,11 @@ pub opens : (b now : State) (p : ℕ) (block : List Event) → b ≡ now → May
 opens b now p block same may = let st = stands b now p block same may in record { within = st.times; own = st.own }
 
 -- and closes with its records
-pub closed_records : (b : State) (block : List Event) (p : ℕ) (k : Kind) (i : ClosedInterval) (records : List Changes) → i ≡ open_interval b p records → closed_by (handed_in b block) p k i.records ≡ closed_by (handed_in b block) p k records
+pub closed_records : (b : State) (block : List Event) (p : ℕ) (k : Kind) (i : ClosedInterval)
+    (records : List Changes) → i ≡ open_interval b p records
+    → closed_by (handed_in b block) p k i.records ≡ closed_by (handed_in b block) p k records
 closed_records b block p k i records is = ap (λ (x : ClosedInterval). closed_by (handed_in b block) p k x.records) is
 
-pub still_open : (b : State) (p : ℕ) (i : ClosedInterval) (records : List Changes) → i ≡ open_interval b p records → i ≡ open_interval b p i.records
+pub still_open : (b : State) (p : ℕ) (i : ClosedInterval) (records : List Changes) → i ≡ open_interval b p records
+    → i ≡ open_interval b p i.records
 still_open b p i records is = is ∙ sym (ap (λ (x : ClosedInterval). open_interval b p x.records) is)

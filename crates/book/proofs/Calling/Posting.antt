@@ -11,23 +11,31 @@ pub record IsPosting (all left : List Letter) (transit : List (Option Letter)) :
   pub posted : transit ≡ replicate (length left) None ++ map (λ (m : Letter). Some m) sent
 
 -- a list of one item over and over
-pub all_same : {A : Type 0} (xs : List A) (a : A) → ((i : ℕ) → i < length xs → slice_get xs i ≡ Some a) → xs ≡ replicate (length xs) a
+pub all_same : {A : Type 0} (xs : List A) (a : A) → ((i : ℕ) → i < length xs → slice_get xs i ≡ Some a)
+    → xs ≡ replicate (length xs) a
 all_same [] a same = refl
-all_same (x ∷ xs) a same = ap (λ y. y ∷ xs) (same_Some x a (same 0 (omega arith))) ∙ ap (λ ys. a ∷ ys) (all_same xs a (λ i lt. same (suc i) (omega arith)))
+all_same (x ∷ xs) a same =
+    ap (λ y. y ∷ xs) (same_Some x a (same 0 (omega arith)))
+    ∙ ap (λ ys. a ∷ ys) (all_same xs a (λ i lt. same (suc i) (omega arith)))
 
 -- the last of the empty places is filled
-fill : {A : Type 0} (n : ℕ) (ys : List (Option A)) (v : Option A) → slice_set (replicate (suc n) None ++ ys) n v ≡ replicate n None ++ v ∷ ys
+fill : {A : Type 0} (n : ℕ) (ys : List (Option A)) (v : Option A)
+    → slice_set (replicate (suc n) None ++ ys) n v ≡ replicate n None ++ v ∷ ys
 fill zero ys v = refl
 fill (suc n) ys v = ap (λ zs. None ∷ zs) (fill n ys v)
 
 -- one more message is sent, the last one that was left
-pub posting_step : (all left rest : List Letter) (old new : List (Option Letter)) (m : Letter) (n : ℕ) → IsPosting all left old → left ≡ rest ++ m ∷ [] → n ≡ length rest → new ≡ slice_set old n (Some m) → IsPosting all rest new
+pub posting_step : (all left rest : List Letter) (old new : List (Option Letter)) (m : Letter) (n : ℕ)
+    → IsPosting all left old → left ≡ rest ++ m ∷ [] → n ≡ length rest → new ≡ slice_set old n (Some m)
+    → IsPosting all rest new
 posting_step all left rest old new m n is split at set = record {
   sent = m ∷ is.sent;
   parts = is.parts ∙ ap (λ xs. xs ++ is.sent) split ∙ append_assoc rest (m ∷ []) is.sent;
   posted =
       let more = ap (λ (xs : List Letter). length xs) split ∙ length_push rest m in
       let long : length left ≡ suc (length rest) = omega arith in
-      set ∙ ap (λ k. slice_set old k (Some m)) at ∙ ap (λ ms. slice_set ms (length rest) (Some m)) (is.posted ∙ ap (λ k. replicate k None ++ map (λ (x : Letter). Some x) is.sent) long)
+      set ∙ ap (λ k. slice_set old k (Some m)) at
+      ∙ ap (λ ms. slice_set ms (length rest) (Some m))
+      (is.posted ∙ ap (λ k. replicate k None ++ map (λ (x : Letter). Some x) is.sent) long)
       ∙ fill (length rest) (map (λ (x : Letter). Some x) is.sent) (Some m);
 }

@@ -28,7 +28,8 @@ use Rattle.book.proofs.Keeps.Locks.{holder_first}
 use Rattle.book.proofs.Parts.Told.{is_idle, is_processor, own_stamp}
 
 -- everyone with a timestamp may be sent what it lacks
-pub may_be_sent : (s : Sizes) (h : List Event) (b : State) (r : ℕ) → IsTold s h b → r < s.processors → MayBeSent b.closed b.times r
+pub may_be_sent : (s : Sizes) (h : List Event) (b : State) (r : ℕ) → IsTold s h b → r < s.processors
+    → MayBeSent b.closed b.times r
 may_be_sent s h b r told lt =
     let times_long = told.times.long in
     let own_long = (own_stamp s h b r told lt).long in
@@ -40,7 +41,8 @@ may_be_sent s h b r told lt =
     }
 
 -- who asks for a lock that somebody holds has no message
-held_mail : (s : Sizes) (h : List Event) (p r i l : ℕ) (o : Option Letter) → Holds h p l → LastIs h r i (Ask l) → IsMail s h r o → None ≡ o
+held_mail : (s : Sizes) (h : List Event) (p r i l : ℕ) (o : Option Letter) → Holds h p l → LastIs h r i (Ask l)
+    → IsMail s h r o → None ≡ o
 held_mail s h p r i l o held asks mail = no_mail s h r o never mail
   where
     never : (a : Kind) → IsPosted a → ¬ Allowed s h r a
@@ -87,13 +89,17 @@ releasing_by s h b p l told idle range held =
     lock = is_at s.locks (IsLock s.processors h) b.locks.locks l (unheld b.locks.processors) told.locks range
 
     first : (lock_at b.locks l).holder ≡ Some p
-    first = holder_first s.processors h p l (lock_at b.locks l).holder (lock_at b.locks l).queue (lock_at b.locks l).time held lock
+    first = holder_first s.processors h p l (lock_at b.locks l).holder (lock_at b.locks l).queue
+        (lock_at b.locks l).time held lock
 
     asks : (r : ℕ) → slice_get (lock_at b.locks l).queue 0 ≡ Some r → (i : ℕ) × LastIs h r i (Ask l)
-    asks r at = elim (lock.line_is.asks 1 r (subst (λ (o : Option ℕ). slice_get (line (record { holder = o; queue = (lock_at b.locks l).queue; time = (lock_at b.locks l).time })) 1 ≡ Some r) (sym first) at)) [
-      | inl ask ↦ ask
-      | inr zeroth ↦ absurd (cc (zeroth.0))
-    ]
+    asks r at = elim (lock.line_is.asks 1 r
+        (subst (λ (o : Option ℕ). slice_get
+        (line (record { holder = o; queue = (lock_at b.locks l).queue; time = (lock_at b.locks l).time })) 1
+        ≡ Some r) (sym first) at)) [
+          | inl ask ↦ ask
+          | inr zeroth ↦ absurd (cc (zeroth.0))
+        ]
 
     next : (r : ℕ) → slice_get (lock_at b.locks l).queue 0 ≡ Some r → IsNext b p r
     next r at =
@@ -102,9 +108,12 @@ releasing_by s h b p l told idle range held =
         let transit_long = told.transit.long in
         let read = slice_get-get_or b.transit r None (omega arith) in
         record {
-          apart = λ e. idle_no_ask h p l (is_idle s h b p told idle) ask.0 (subst (λ (x : ℕ). LastIs h x ask.0 (Ask l)) e ask.1);
+          apart = λ e. idle_no_ask h p l (is_idle s h b p told idle) ask.0
+              (subst (λ (x : ℕ). LastIs h x ask.0 (Ask l)) e ask.1);
           sent = may_be_sent s h b r told lt;
-          none = read ∙ ap (λ (x : Option Letter). Some x) (sym (held_mail s h p r ask.0 l (slice_index_or b.transit r None) held ask.1 (told.transit.each r (slice_index_or b.transit r None) read)));
+          none = read ∙ ap (λ (x : Option Letter). Some x)
+              (sym (held_mail s h p r ask.0 l (slice_index_or b.transit r None) held ask.1
+              (told.transit.each r (slice_index_or b.transit r None) read)));
         }
 
 pub releasing : (b : State) (p l : ℕ) (block : List Event) → MayRelease b p l block → IsReleasing b p l
@@ -116,71 +125,109 @@ pub releases : (b now : State) (p l : ℕ) (block : List Event) → b ≡ now �
 releases b now p l block same may = subst (λ x. IsReleasing x p l) (sym same) (releasing now p l block may)
 
 -- the next one's grant is posted
-pub passed_some : (c : State) (queue t : List ℕ) (times : List (List ℕ)) (r : ℕ) (m : Letter) → ((q : ℕ) → slice_get queue 0 ≡ Some q → slice_index_or times q [] ≡ time_of c q)
-    → Some (r, m) ≡ option_map (addressed_grant c.closed times t) (slice_get queue 0) → slice_set c.transit r (Some m) ≡ mail_passed_on c queue t
+pub passed_some : (c : State) (queue t : List ℕ) (times : List (List ℕ)) (r : ℕ) (m : Letter)
+    → ((q : ℕ) → slice_get queue 0 ≡ Some q → slice_index_or times q [] ≡ time_of c q)
+    → Some (r, m) ≡ option_map (addressed_grant c.closed times t) (slice_get queue 0)
+    → slice_set c.transit r (Some m) ≡ mail_passed_on c queue t
 passed_some c [] t times r m same made = absurd (none-some (r, m) (sym made))
 passed_some c (q ∷ queue) t times r m same made =
     let is = same_Some (r, m) (addressed_grant c.closed times t q) made in
-    ap (λ (x : ℕ × Letter). slice_set c.transit x.0 (Some x.1)) is ∙ ap (λ (own : List ℕ). slice_set c.transit q (Some (grant_to c.closed t own))) (same q refl)
+    ap (λ (x : ℕ × Letter). slice_set c.transit x.0 (Some x.1)) is
+    ∙ ap (λ (own : List ℕ). slice_set c.transit q (Some (grant_to c.closed t own))) (same q refl)
 
-pub passed_none : (c : State) (queue t : List ℕ) (times : List (List ℕ)) → None ≡ option_map (addressed_grant c.closed times t) (slice_get queue 0) → c.transit ≡ mail_passed_on c queue t
+pub passed_none : (c : State) (queue t : List ℕ) (times : List (List ℕ))
+    → None ≡ option_map (addressed_grant c.closed times t) (slice_get queue 0) → c.transit ≡ mail_passed_on c queue t
 passed_none c [] t times made = refl
 passed_none c (q ∷ queue) t times made = absurd (none-some (addressed_grant c.closed times t q) made)
 
 -- after p's closing event the others' timestamps are as before
-others_time : (b : State) (p r : ℕ) (u : List ℕ) → r ≢ p → slice_index_or b.times r [] ≡ slice_index_or (slice_set b.times p u) r []
+others_time : (b : State) (p r : ℕ) (u : List ℕ) → r ≢ p
+    → slice_index_or b.times r [] ≡ slice_index_or (slice_set b.times p u) r []
 others_time b p r u apart = sym (get_or-set_other b.times p r u [] apart)
 
-released_is : (old b : State) (p l : ℕ) (block : List Event) (records : List Changes) (locks : Locks) (transit : List (Option Letter)) (t : List ℕ) → b ≡ closed_by (handed_in old block) p (Release l) records → t ≡ tick (time_of old p) p
-    → locks ≡ with_lock b.locks l (released (lock_at b.locks l) t) → transit ≡ mail_passed_on b (lock_at b.locks l).queue t
+released_is : (old b : State) (p l : ℕ) (block : List Event) (records : List Changes) (locks : Locks)
+    (transit : List (Option Letter)) (t : List ℕ) → b ≡ closed_by (handed_in old block) p (Release l) records
+    → t ≡ tick (time_of old p) p
+    → locks ≡ with_lock b.locks l (released (lock_at b.locks l) t)
+    → transit ≡ mail_passed_on b (lock_at b.locks l).queue t
     → record b { locks = locks; transit = transit } ≡ book_released (handed_in old block) p l records
 released_is old b p l block records locks transit t is time line mail =
     let c : State = closed_by (handed_in old block) p (Release l) records in
     ap (λ (x : Locks). record b { locks = x; transit = transit }) line
-    ∙ ap (λ (x : List (Option Letter)). record b { locks = with_lock b.locks l (released (lock_at b.locks l) t); transit = x }) mail
-    ∙ ap (λ (x : State). record x { locks = with_lock x.locks l (released (lock_at x.locks l) t); transit = mail_passed_on x (lock_at x.locks l).queue t }) is
-    ∙ ap (λ (u : List ℕ). record c { locks = with_lock old.locks l (released (lock_at old.locks l) u); transit = mail_passed_on c (lock_at old.locks l).queue u }) time
+    ∙ ap (λ (x : List (Option Letter)). record b
+    { locks = with_lock b.locks l (released (lock_at b.locks l) t); transit = x }) mail
+    ∙ ap (λ (x : State). record x {
+      locks = with_lock x.locks l (released (lock_at x.locks l) t);
+      transit = mail_passed_on x (lock_at x.locks l).queue t;
+    }) is
+    ∙ ap (λ (u : List ℕ). record c {
+      locks = with_lock old.locks l (released (lock_at old.locks l) u);
+      transit = mail_passed_on c (lock_at old.locks l).queue u;
+    }) time
 
 -- what stands of the grant when the interval is closed
-grant_made : (old b : State) (p l : ℕ) (block : List Event) (records : List Changes) (t : List ℕ) (o : Option (ℕ × Letter)) → MayRelease old p l block → b ≡ closed_by (handed_in old block) p (Release l) records
-    → o ≡ option_map (addressed_grant (pushed old.closed (open_interval old p records)) old.times t) (slice_get (lock_at old.locks l).queue 0)
-    → (o ≡ option_map (addressed_grant b.closed old.times t) (slice_get (lock_at b.locks l).queue 0)) × ((q : ℕ) → slice_get (lock_at b.locks l).queue 0 ≡ Some q → slice_index_or old.times q [] ≡ time_of b q)
+grant_made : (old b : State) (p l : ℕ) (block : List Event) (records : List Changes) (t : List ℕ)
+    (o : Option (ℕ × Letter)) → MayRelease old p l block → b ≡ closed_by (handed_in old block) p (Release l) records
+    → o ≡ option_map (addressed_grant (pushed old.closed (open_interval old p records)) old.times t)
+    (slice_get (lock_at old.locks l).queue 0)
+    → (o ≡ option_map (addressed_grant b.closed old.times t) (slice_get (lock_at b.locks l).queue 0))
+    × ((q : ℕ) → slice_get (lock_at b.locks l).queue 0 ≡ Some q → slice_index_or old.times q [] ≡ time_of b q)
 grant_made old b p l block records t o may is made =
-    subst (λ (x : State). (o ≡ option_map (addressed_grant x.closed old.times t) (slice_get (lock_at x.locks l).queue 0)) × ((q : ℕ) → slice_get (lock_at x.locks l).queue 0 ≡ Some q → slice_index_or old.times q [] ≡ time_of x q)) (sym is)
+    subst (λ (x : State).
+    (o ≡ option_map (addressed_grant x.closed old.times t) (slice_get (lock_at x.locks l).queue 0))
+    × ((q : ℕ) → slice_get (lock_at x.locks l).queue 0 ≡ Some q → slice_index_or old.times q [] ≡ time_of x q))
+    (sym is)
     (made, λ q at. others_time old p q (tick (time_of old p) p) ((releasing old p l block may).next q at).apart)
 
 -- a release whose grant is posted
-pub released_granted : (old b : State) (p l : ℕ) (block : List Event) (records : List Changes) (locks : Locks) (transit : List (Option Letter)) (t : List ℕ) (r : ℕ) (m : Letter) → MayRelease old p l block → b ≡ closed_by (handed_in old block) p (Release l) records → t ≡ tick (time_of old p) p
+pub released_granted : (old b : State) (p l : ℕ) (block : List Event) (records : List Changes) (locks : Locks)
+    (transit : List (Option Letter)) (t : List ℕ) (r : ℕ) (m : Letter) → MayRelease old p l block
+    → b ≡ closed_by (handed_in old block) p (Release l) records → t ≡ tick (time_of old p) p
     → locks ≡ with_lock b.locks l (released (lock_at b.locks l) t) → transit ≡ slice_set b.transit r (Some m)
-    → Some (r, m) ≡ option_map (addressed_grant (pushed old.closed (open_interval old p records)) old.times t) (slice_get (lock_at old.locks l).queue 0)
+    → Some (r, m) ≡ option_map (addressed_grant (pushed old.closed (open_interval old p records)) old.times t)
+    (slice_get (lock_at old.locks l).queue 0)
     → record b { locks = locks; transit = transit } ≡ book_released (handed_in old block) p l records
 released_granted old b p l block records locks transit t r m may is time line post made =
     let grant = grant_made old b p l block records t (Some (r, m)) may is made in
-    released_is old b p l block records locks transit t is time line (post ∙ passed_some b (lock_at b.locks l).queue t old.times r m grant.1 grant.0)
+    released_is old b p l block records locks transit t is time line
+    (post ∙ passed_some b (lock_at b.locks l).queue t old.times r m grant.1 grant.0)
 
 -- a release of a lock that nobody asked for
-pub released_unasked : (old b : State) (p l : ℕ) (block : List Event) (records : List Changes) (locks : Locks) (t : List ℕ) → MayRelease old p l block → b ≡ closed_by (handed_in old block) p (Release l) records → t ≡ tick (time_of old p) p
-    → locks ≡ with_lock b.locks l (released (lock_at b.locks l) t) → None ≡ option_map (addressed_grant (pushed old.closed (open_interval old p records)) old.times t) (slice_get (lock_at old.locks l).queue 0)
+pub released_unasked : (old b : State) (p l : ℕ) (block : List Event) (records : List Changes) (locks : Locks)
+    (t : List ℕ) → MayRelease old p l block → b ≡ closed_by (handed_in old block) p (Release l) records
+    → t ≡ tick (time_of old p) p
+    → locks ≡ with_lock b.locks l (released (lock_at b.locks l) t)
+    → None ≡ option_map (addressed_grant (pushed old.closed (open_interval old p records)) old.times t)
+    (slice_get (lock_at old.locks l).queue 0)
     → record b { locks = locks } ≡ book_released (handed_in old block) p l records
 released_unasked old b p l block records locks t may is time line made =
     let grant = grant_made old b p l block records t None may is made in
-    released_is old b p l block records locks b.transit t is time line (passed_none b (lock_at b.locks l).queue t old.times grant.0)
+    released_is old b p l block records locks b.transit t is time line
+    (passed_none b (lock_at b.locks l).queue t old.times grant.0)
 
-pub next_sent : (b : State) (p l : ℕ) (o : Option ℕ) → IsReleasing b p l → o ≡ slice_get (lock_at b.locks l).queue 0 → IfSome o (λ r. MayBeSent b.closed b.times r)
+pub next_sent : (b : State) (p l : ℕ) (o : Option ℕ) → IsReleasing b p l → o ≡ slice_get (lock_at b.locks l).queue 0
+    → IfSome o (λ r. MayBeSent b.closed b.times r)
 next_sent b p l None rel is = tt
 next_sent b p l (Some r) rel is = (rel.next r (sym is)).sent
 
 -- a grant is for the first of the queue
-pub grant_to_whom : (c : Closings) (times : List (List ℕ)) (t queue : List ℕ) (r : ℕ) (m : Letter) → Some (r, m) ≡ option_map (addressed_grant c times t) (slice_get queue 0) → slice_get queue 0 ≡ Some r
+pub grant_to_whom : (c : Closings) (times : List (List ℕ)) (t queue : List ℕ) (r : ℕ) (m : Letter)
+    → Some (r, m) ≡ option_map (addressed_grant c times t) (slice_get queue 0) → slice_get queue 0 ≡ Some r
 grant_to_whom c times t [] r m made = absurd (none-some (r, m) (sym made))
-grant_to_whom c times t (q ∷ queue) r m made = ap (λ (x : ℕ × Letter). Some x.0) (sym (same_Some (r, m) (addressed_grant c times t q) made))
+grant_to_whom c times t (q ∷ queue) r m made =
+    ap (λ (x : ℕ × Letter). Some x.0) (sym (same_Some (r, m) (addressed_grant c times t q) made))
 
 -- the grant as it was made, read off the book before the call
-pub grant_read : (old b : State) (p l : ℕ) (records : List Changes) (i : ClosedInterval) (times : List (List ℕ)) (t : List ℕ) (o : Option ℕ) (g : Option (ℕ × Letter)) → b ≡ old → times ≡ b.times → i ≡ open_interval b p records → o ≡ slice_get (lock_at b.locks l).queue 0
-    → g ≡ option_map (addressed_grant (pushed b.closed i) times t) o → g ≡ option_map (addressed_grant (pushed old.closed (open_interval old p records)) old.times t) (slice_get (lock_at old.locks l).queue 0)
+pub grant_read : (old b : State) (p l : ℕ) (records : List Changes) (i : ClosedInterval) (times : List (List ℕ))
+    (t : List ℕ) (o : Option ℕ) (g : Option (ℕ × Letter)) → b ≡ old → times ≡ b.times → i ≡ open_interval b p records
+    → o ≡ slice_get (lock_at b.locks l).queue 0
+    → g ≡ option_map (addressed_grant (pushed b.closed i) times t) o
+    → g ≡ option_map (addressed_grant (pushed old.closed (open_interval old p records)) old.times t)
+    (slice_get (lock_at old.locks l).queue 0)
 grant_read old b p l records i times t o g same all opened next made =
     made
     ∙ ap (λ (x : List (List ℕ)). option_map (addressed_grant (pushed b.closed i) x t) o) all
     ∙ ap (λ (x : ClosedInterval). option_map (addressed_grant (pushed b.closed x) b.times t) o) opened
     ∙ ap (λ (x : Option ℕ). option_map (addressed_grant (pushed b.closed (open_interval b p records)) b.times t) x) next
-    ∙ ap (λ (x : State). option_map (addressed_grant (pushed x.closed (open_interval x p records)) x.times t) (slice_get (lock_at x.locks l).queue 0)) same
+    ∙ ap (λ (x : State). option_map (addressed_grant (pushed x.closed (open_interval x p records)) x.times t)
+    (slice_get (lock_at x.locks l).queue 0)) same

@@ -79,7 +79,8 @@ receiving_by s h b p k told waits =
       flag = λ f is. signals f (subst (λ a. slice_get b.awaits p ≡ Some (Some a)) is waits);
       none = λ f is. no_mail_waits s h b p f told (subst (λ a. slice_get b.awaits p ≡ Some (Some a)) is waits);
       long = λ m is. (let long = (message_is s h b p k m told waits is).time.long in omega arith);
-      free = λ m is departs. departing (subst (λ a. Allowed s h p a) departs (message_is s h b p k m told waits is).allowed) lt;
+      free = λ m is departs. departing
+          (subst (λ a. Allowed s h p a) departs (message_is s h b p k m told waits is).allowed) lt;
       come = λ t j also. message_come t j b p k also waits;
       takes = waits_taking h p k (told.awaits.each p (Some k) waits);
       all_long = λ i t at. (let stamp = told.times.each i t at in let long = stamp.long in omega arith);
@@ -95,7 +96,9 @@ receiving_by s h b p k told waits =
         let one = all x.lacks.0 x.lacks.1 in
         let lacks = x.lacks.2 in
         let stage = is_at s.processors (IsAtStage h x.complete) b.barrier.stages p Away x.stages less in
-        item_at s.processors (IsAtStage h x.complete) b.barrier.stages p Away x.stages less ∙ ap (λ (y : Stage). Some y) (sym (stage_free h x.complete p (slice_index_or b.barrier.stages p Away) more (omega arith) stage))
+        item_at s.processors (IsAtStage h x.complete) b.barrier.stages p Away x.stages less
+        ∙ ap (λ (y : Stage). Some y)
+        (sym (stage_free h x.complete p (slice_index_or b.barrier.stages p Away) more (omega arith) stage))
 
     signals : (f : ℕ) → slice_get b.awaits p ≡ Some (Some (Await f)) → MaySignal b.closed b.flags (time_of b p) f
     signals f waits_f =
@@ -108,7 +111,10 @@ receiving_by s h b p k told waits =
         let own_long = (own_stamp s h b p told lt).long in
         record {
           within = omega arith;
-          time = λ t is. (let flag : IsFlag s.processors h f (Some t) = subst (λ o. IsFlag s.processors h f o) is (is_at s.flags (IsFlag s.processors h) b.flags f None told.flags range) in let long = flag.1.long in omega arith);
+          time = λ t is. (let flag : IsFlag s.processors h f (Some t) =
+              subst (λ o. IsFlag s.processors h f o) is
+              (is_at s.flags (IsFlag s.processors h) b.flags f None told.flags range) in let long =
+              flag.1.long in omega arith);
           long = omega arith;
           kept = λ q. told.within p q (time_of b p) (slice_get-get_or b.times p [] (omega arith));
         }
@@ -117,22 +123,33 @@ pub receiving : (b : State) (p : ℕ) (k : Kind) → MayTake b p k → IsReceivi
 receiving b p k may = receiving_by may.by.sizes may.by.history b p k may.by.told may.waits
 
 -- what was read is what p waits for
-pub reading : (b now : State) (all : List (Option Awaited)) (p : ℕ) (o : Option Awaited) → b.awaits ≡ map (option_map kind_of) all → b ≡ now → MayTakeSome now p → o ≡ slice_index_or all p o → (a : Awaited) → o ≡ Some a → IsReceiving b p (kind_of a)
+pub reading : (b now : State) (all : List (Option Awaited)) (p : ℕ) (o : Option Awaited)
+    → b.awaits ≡ map (option_map kind_of) all → b ≡ now → MayTakeSome now p → o ≡ slice_index_or all p o
+    → (a : Awaited) → o ≡ Some a → IsReceiving b p (kind_of a)
 reading b now all p o kept same may is a some =
     let r = receiving now p may.kind may.take in
-    let read = ap (option_map kind_of) is ∙ sym (get_or-map (option_map kind_of) all p o) ∙ ap (λ (ks : List (Option Kind)). slice_index_or ks p (option_map kind_of o)) (sym kept) ∙ get_or_from_slice_get b.awaits p (Some may.kind) (option_map kind_of o) (ap (λ (x : State). slice_get x.awaits p) same ∙ r.waits) in
+    let read = ap (option_map kind_of) is ∙ sym (get_or-map (option_map kind_of) all p o)
+    ∙ ap (λ (ks : List (Option Kind)). slice_index_or ks p (option_map kind_of o)) (sym kept)
+    ∙ get_or_from_slice_get b.awaits p (Some may.kind) (option_map kind_of o)
+    (ap (λ (x : State). slice_get x.awaits p) same ∙ r.waits) in
     let P : Kind → Type 0 = λ k. IsReceiving b p k in
-    subst P (same_Some may.kind (kind_of a) (sym read ∙ ap (option_map kind_of) some)) (subst (λ x. IsReceiving x p may.kind) (sym same) r)
+    subst P (same_Some may.kind (kind_of a) (sym read ∙ ap (option_map kind_of) some))
+    (subst (λ x. IsReceiving x p may.kind) (sym same) r)
 
 -- a list of timestamps with another one of the same length
-pub all_long_set : (times : List (List ℕ)) (p : ℕ) (u : List ℕ) (n : ℕ) → length u ≡ n → ((i : ℕ) (t : List ℕ) → slice_get times i ≡ Some t → length t ≡ n) → (i : ℕ) (t : List ℕ) → slice_get (slice_set times p u) i ≡ Some t → length t ≡ n
+pub all_long_set : (times : List (List ℕ)) (p : ℕ) (u : List ℕ) (n : ℕ) → length u ≡ n
+    → ((i : ℕ) (t : List ℕ) → slice_get times i ≡ Some t → length t ≡ n) → (i : ℕ) (t : List ℕ)
+    → slice_get (slice_set times p u) i ≡ Some t → length t ≡ n
 all_long_set times p u n long all i t at = elim (cases_eq i p) [
-  | inl is ↦ (let P : ℕ → Type 0 = λ x. slice_get (slice_set times p u) x ≡ Some t in subst (λ (v : List ℕ). length v ≡ n) (slice_get-set_found times p u t (subst P is at)) long)
+  | inl is ↦ (let P : ℕ → Type 0 = λ x. slice_get (slice_set times p u) x ≡ Some t in
+      subst (λ (v : List ℕ). length v ≡ n) (slice_get-set_found times p u t (subst P is at)) long)
   | inr isnt ↦ all i t (sym (slice_get-set_other times p i u isnt) ∙ at)
 ]
 
 -- what may be trimmed once p's timestamp has risen
-pub may_trim : (b : State) (p : ℕ) (k : Kind) (times : List (List ℕ)) (before u : List ℕ) → IsReceiving b p k → times ≡ slice_set b.times p u → length u ≡ length b.times → before ≡ time_of b p → MayTrim b.closed times p before
+pub may_trim : (b : State) (p : ℕ) (k : Kind) (times : List (List ℕ)) (before u : List ℕ) → IsReceiving b p k
+    → times ≡ slice_set b.times p u → length u ≡ length b.times → before ≡ time_of b p
+    → MayTrim b.closed times p before
 may_trim b p k times before u w is long old =
     let same = length-set b.times p u in
     let owners = w.owners in
@@ -142,15 +159,20 @@ may_trim b p k times before u w is long old =
     subst₂ (λ ts t. MayTrim b.closed ts p t) (sym is) (sym old) (record {
       within = omega arith;
       owners = omega arith;
-      long = all_long_set b.times p u (length (slice_set b.times p u)) (long ∙ sym same) (λ i t at. w.all_long i t at ∙ sym same);
+      long = all_long_set b.times p u (length (slice_set b.times p u)) (long ∙ sym same)
+          (λ i t at. w.all_long i t at ∙ sym same);
       old_long = omega arith;
       from = w.from;
       tight = λ more. subst (λ ts. IsTight b.closed.first ts) (sym back) (w.tight (omega arith));
     })
 
 -- the journal after one event
-pub log_is : (a b c : Log) (owing : ℕ) (e : Event) → b ≡ record a { room = b.room } → c ≡ record b { events = b.events ++ e ∷ []; room = b.room - 1 } → record c { room = owing } ≡ record a { events = a.events ++ e ∷ []; room = owing }
-log_is a b c owing e first second = ap (λ (l : Log). record l { room = owing }) second ∙ ap (λ (l : Log). record l { events = l.events ++ e ∷ []; room = owing }) first
+pub log_is : (a b c : Log) (owing : ℕ) (e : Event) → b ≡ record a { room = b.room }
+    → c ≡ record b { events = b.events ++ e ∷ []; room = b.room - 1 }
+    → record c { room = owing } ≡ record a { events = a.events ++ e ∷ []; room = owing }
+log_is a b c owing e first second =
+    ap (λ (l : Log). record l { room = owing }) second
+    ∙ ap (λ (l : Log). record l { events = l.events ++ e ∷ []; room = owing }) first
 
 -- an event that takes has no address
 pub taking_address : (n : ℕ) (k : Kind) → IsTrue (is_taking k) → AddressInRange n k
@@ -159,15 +181,56 @@ taking_address n (Store a v) takes = absurd cc
 taking_address n _ takes = tt
 
 -- the book after the take of a message, part by part
-pub took_is : (b : State) (p : ℕ) (k : Kind) (m : Letter) (u : List ℕ) (log : Log) (c : Closings) (waits : List (Option Kind)) (transit : List (Option Letter)) (barrier : Episodes) → log ≡ record b.journal { events = b.journal.events ++ event p k ∷ [] } → u ≡ join (time_of b p) m.time
-    → c ≡ trimmed_by b.closed (slice_set b.times p u) (length (slice_set b.times p u)) → waits ≡ slice_set b.awaits p None → transit ≡ slice_set b.transit p None → barrier ≡ barrier_left k b.barrier p → IsTrue (is_taking k)
-    → record b { journal = log; closed = c; times = slice_set b.times p u; awaits = waits; transit = transit; barrier = barrier } ≡ book_taken b p k m
+pub took_is : (b : State) (p : ℕ) (k : Kind) (m : Letter) (u : List ℕ) (log : Log) (c : Closings)
+    (waits : List (Option Kind)) (transit : List (Option Letter)) (barrier : Episodes)
+    → log ≡ record b.journal { events = b.journal.events ++ event p k ∷ [] } → u ≡ join (time_of b p) m.time
+    → c ≡ trimmed_by b.closed (slice_set b.times p u) (length (slice_set b.times p u))
+    → waits ≡ slice_set b.awaits p None → transit ≡ slice_set b.transit p None
+    → barrier ≡ barrier_left k b.barrier p → IsTrue (is_taking k)
+    → record b {
+      journal = log;
+      closed = c;
+      times = slice_set b.times p u;
+      awaits = waits;
+      transit = transit;
+      barrier = barrier;
+    } ≡ book_taken b p k m
 took_is b p k m u log c waits transit barrier one two three set four five six =
-    ap (λ (ws : List (Option Kind)). record b { journal = log; closed = c; times = slice_set b.times p u; awaits = ws; transit = transit; barrier = barrier }) set
-    ∙ ap (λ (l : Log). record b { journal = l; closed = c; times = slice_set b.times p u; awaits = slice_set b.awaits p None; transit = transit; barrier = barrier }) one
-    ∙ ap (λ (x : Closings). record b { journal = record b.journal { events = b.journal.events ++ event p k ∷ [] }; closed = x; times = slice_set b.times p u; awaits = slice_set b.awaits p None; transit = transit; barrier = barrier }) three
-    ∙ ap (λ (v : List ℕ). record b { journal = record b.journal { events = b.journal.events ++ event p k ∷ [] }; closed = trimmed_by b.closed (slice_set b.times p v) (length (slice_set b.times p v)); times = slice_set b.times p v; awaits = slice_set b.awaits p None; transit = transit; barrier = barrier }) two
-    ∙ ap (λ (x : List (Option Letter)). record (book_taken b p k m) { awaits = slice_set b.awaits p None; transit = x; barrier = barrier }) four
+    ap (λ (ws : List (Option Kind)). record b {
+      journal = log;
+      closed = c;
+      times = slice_set b.times p u;
+      awaits = ws;
+      transit = transit;
+      barrier = barrier;
+    }) set
+    ∙ ap (λ (l : Log). record b {
+      journal = l;
+      closed = c;
+      times = slice_set b.times p u;
+      awaits = slice_set b.awaits p None;
+      transit = transit;
+      barrier = barrier;
+    }) one
+    ∙ ap (λ (x : Closings). record b {
+      journal = record b.journal { events = b.journal.events ++ event p k ∷ [] };
+      closed = x;
+      times = slice_set b.times p u;
+      awaits = slice_set b.awaits p None;
+      transit = transit;
+      barrier = barrier;
+    }) three
+    ∙ ap (λ (v : List ℕ). record b {
+      journal = record b.journal { events = b.journal.events ++ event p k ∷ [] };
+      closed = trimmed_by b.closed (slice_set b.times p v) (length (slice_set b.times p v));
+      times =
+          slice_set b.times p v;
+      awaits = slice_set b.awaits p None;
+      transit = transit;
+      barrier = barrier;
+    }) two
+    ∙ ap (λ (x : List (Option Letter)). record (book_taken b p k m)
+    { awaits = slice_set b.awaits p None; transit = x; barrier = barrier }) four
     ∙ ap (λ (x : Episodes). record (book_taken b p k m) { awaits = slice_set b.awaits p None; barrier = x }) five
     ∙ ap (λ (w : Option Kind). record (book_taken b p k m) { awaits = slice_set b.awaits p w }) (sym (takes_on k six))
   where
@@ -178,14 +241,19 @@ took_is b p k m u log c waits transit barrier one two three set four five six =
     takes_on _ takes = absurd cc
 
 -- what was read of what has come tells whether p is ready
-pub comes : (b now : State) (p : ℕ) (k : Kind) (flags : List (Option (List ℕ))) (r : Bool) → b ≡ now → IsReceiving b p k → flags ≡ b.flags → r ≡ has_come flags b.transit p k → (s : Sizes) (h : List Event) → IsTold s h now → (r ≡ true) ↔ Ready s h p
+pub comes : (b now : State) (p : ℕ) (k : Kind) (flags : List (Option (List ℕ))) (r : Bool) → b ≡ now
+    → IsReceiving b p k → flags ≡ b.flags → r ≡ has_come flags b.transit p k → (s : Sizes) (h : List Event)
+    → IsTold s h now → (r ≡ true) ↔ Ready s h p
 comes b now p k flags r same w flags_are is s h told =
     let come = w.come s h (subst (λ x. IsTold s h x) (sym same) told) in
-    let all : r ≡ has_come b.flags b.transit p k = is ∙ ap (λ (fs : List (Option (List ℕ))). has_come fs b.transit p k) flags_are in
+    let all : r ≡ has_come b.flags b.transit p k =
+    is ∙ ap (λ (fs : List (Option (List ℕ))). has_come fs b.transit p k) flags_are in
     ((λ e. come.0 (sym all ∙ e)), (λ ready. all ∙ come.1 ready))
 
 -- the message that was received, read off the book before the call
-pub received_is : (b now : State) (p : ℕ) (k : Kind) (flags : List (Option (List ℕ))) (own : List ℕ) (m : Letter) → b ≡ now → flags ≡ b.flags → own ≡ time_of b p → message_among b.closed flags b.transit own p k ≡ Some m → message_for now p k ≡ Some m
+pub received_is : (b now : State) (p : ℕ) (k : Kind) (flags : List (Option (List ℕ))) (own : List ℕ) (m : Letter)
+    → b ≡ now → flags ≡ b.flags → own ≡ time_of b p → message_among b.closed flags b.transit own p k ≡ Some m
+    → message_for now p k ≡ Some m
 received_is b now p k flags own m same flags_are own_is is =
     ap (λ (x : State). message_for x p k) (sym same)
     ∙ ap (λ (t : List ℕ). message_among b.closed b.flags b.transit t p k) (sym own_is)
@@ -193,8 +261,11 @@ received_is b now p k flags own m same flags_are own_is is =
     ∙ is
 
 -- what a message brings is what was due
-pub brings_is : (b : State) (p : ℕ) (k : Kind) (m : Letter) → slice_get b.awaits p ≡ Some (Some k) → message_for b p k ≡ Some m → m.notices ≡ brought b p
-brings_is b p k m waits is = sym (ap (λ (w : Option Kind). sent_with (option_and_then (message_for b p) w)) (get_or_from_slice_get b.awaits p (Some k) None waits) ∙ ap sent_with is)
+pub brings_is : (b : State) (p : ℕ) (k : Kind) (m : Letter) → slice_get b.awaits p ≡ Some (Some k)
+    → message_for b p k ≡ Some m → m.notices ≡ brought b p
+brings_is b p k m waits is =
+    sym (ap (λ (w : Option Kind). sent_with (option_and_then (message_for b p) w))
+    (get_or_from_slice_get b.awaits p (Some k) None waits) ∙ ap sent_with is)
 
 -- of one who waits for a flag that is set: what was read tells what a take would bring
 pub record IsSignalled (b now : State) (p f : ℕ) (own time : List ℕ) : Type 0 where
@@ -207,17 +278,21 @@ pub record IsSignalled (b now : State) (p f : ℕ) (own time : List ℕ) : Type 
 pub waits_flag : (b now : State) (p f : ℕ) → b ≡ now → MayTake now p (Await f) → IsReceiving b p (Await f)
 waits_flag b now p f same may = subst (λ x. IsReceiving x p (Await f)) (sym same) (receiving now p (Await f) may)
 
-pub signalled : (b now : State) (p f : ℕ) (own time : List ℕ) (o : Option (List ℕ)) → b ≡ now → MayTake now p (Await f) → own ≡ slice_index_or b.times p own → o ≡ slice_index_or b.flags f o → o ≡ Some time → IsSignalled b now p f own time
+pub signalled : (b now : State) (p f : ℕ) (own time : List ℕ) (o : Option (List ℕ)) → b ≡ now
+    → MayTake now p (Await f) → own ≡ slice_index_or b.times p own → o ≡ slice_index_or b.flags f o → o ≡ Some time
+    → IsSignalled b now p f own time
 signalled b now p f own time o same may own_is flag_is set =
     let w = waits_flag b now p f same may in
     let flag = w.flag f refl in
     let read = own_read b.times p own w.times own_is in
-    let at : slice_index_or b.flags f None ≡ Some time = sym (same_default b.flags f o None flag.within) ∙ sym flag_is ∙ set in
+    let at : slice_index_or b.flags f None ≡ Some time =
+    sym (same_default b.flags f o None flag.within) ∙ sym flag_is ∙ set in
     record {
       old_long = ap (λ (t : List ℕ). length t) read ∙ flag.long;
       new_long = flag.time time at;
       kept = subst (λ (t : List ℕ). (q : ℕ) → slice_index b.closed.first q ≤ slice_index t q) (sym read) flag.kept;
       brings = ap (λ (t : List ℕ). between b.closed t time) read
-          ∙ ap (λ (x : Option (List ℕ)). sent_with (option_map (λ (t : List ℕ). signal_to b.closed t (time_of b p)) x)) (sym at)
+          ∙ ap (λ (x : Option (List ℕ)). sent_with
+          (option_map (λ (t : List ℕ). signal_to b.closed t (time_of b p)) x)) (sym at)
           ∙ ap (λ (x : State). sent_with (message_for x p (Await f))) same;
     }

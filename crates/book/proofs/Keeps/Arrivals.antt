@@ -9,6 +9,7 @@ use Rattle.journal.specs.declared.event.Kind.TheVariants.{Ask, Acquire, Arrive, 
 use Rattle.journal.specs.Sizes.{Sizes}
 use Rattle.journal.specs.Events.{count_of, is_arrive, is_depart, is_closing}
 use Rattle.journal.specs.WellFormed.{Allowed, MayFollow, WellFormed}
+use Rattle.journal.proofs.Journals.WellFormed.{last_cases}
 use Rattle.journal.specs.Waits.{IsIdle}
 use Rattle.journal.specs.Pasts.{InPast}
 use Rattle.page.specs.Changes.{Changes}
@@ -27,7 +28,7 @@ use Rattle.book.specs.State.{State, time_of}
 use Rattle.book.specs.Transitions.{closed_by, departure_to, mail_met, book_arrived}
 use Rattle.book.specs.Told.{IsTold}
 use Rattle.book.proofs.Parts.Each.{each_kept, each_own}
-use Rattle.book.proofs.Parts.Doings.{last_cases, last_none, count_others, count_kept}
+use Rattle.book.proofs.Parts.Doings.{last_none, count_others, count_kept}
 use Rattle.book.proofs.Parts.Stamps.{stamp_closing}
 use Rattle.book.proofs.Parts.Lines.{idle_no_ask}
 use Rattle.book.proofs.Parts.Mail.{News, lets_posted, allowed_on, brings_on, mail_unless, idle_mail}
@@ -38,15 +39,24 @@ use Rattle.book.proofs.Parts.Told.{is_idle, is_processor, own_stamp, follows, st
 use Rattle.book.proofs.Keeps.Locks.{lock_kept}
 
 -- in an open episode only those may depart that might before
-departs_before : (s : Sizes) (h : List Event) (p r n : ℕ) → r ≢ p → ((q : ℕ) → q < s.processors → n ≤ count_of is_arrive h q) → (q : ℕ) × (q < s.processors) × (count_of is_arrive (did h p Arrive) q ≡ n) → Allowed s (did h p Arrive) r Depart → Allowed s h r Depart
+departs_before : (s : Sizes) (h : List Event) (p r n : ℕ) → r ≢ p
+    → ((q : ℕ) → q < s.processors → n ≤ count_of is_arrive h q)
+    → (q : ℕ) × (q < s.processors) × (count_of is_arrive (did h p Arrive) q ≡ n)
+    → Allowed s (did h p Arrive) r Depart → Allowed s h r Depart
 departs_before s h p r n isnt most lacks allowed =
     let same = count_others is_depart h p Arrive r isnt in
     let one = allowed.2 lacks.0 lacks.1 in
-    let e = lacks.2 in
-    (allowed.0, elim (last_cases h p Arrive r allowed.0 Arrive allowed.1) [ inl own ↦ absurd (isnt own.0) | inr old ↦ old.1 ], λ q lt. (let m = most q lt in omega arith))
+    let e = lacks.2 in (
+      allowed.0,
+      elim (last_cases h (event p Arrive) r allowed.0 Arrive allowed.1)
+          [ inl own ↦ absurd (isnt (sym own.0)) | inr old ↦ old.1 ],
+      λ q lt. (let m = most q lt in omega arith),
+    )
 
 -- so the others' mail stays while the episode is open
-waits_mail : (s : Sizes) (h : List Event) (p r n : ℕ) (o : Option Letter) → MayFollow s h (event p Arrive) → r ≢ p → ((q : ℕ) → q < s.processors → n ≤ count_of is_arrive h q) → (q : ℕ) × (q < s.processors) × (count_of is_arrive (did h p Arrive) q ≡ n)
+waits_mail : (s : Sizes) (h : List Event) (p r n : ℕ) (o : Option Letter) → MayFollow s h (event p Arrive) → r ≢ p
+    → ((q : ℕ) → q < s.processors → n ≤ count_of is_arrive h q)
+    → (q : ℕ) × (q < s.processors) × (count_of is_arrive (did h p Arrive) q ≡ n)
     → IsMail s h r o → IsMail s (did h p Arrive) r o
 waits_mail s h p r n None may isnt most lacks mail = mail_unless s h p Arrive r None may isnt never mail
   where
@@ -68,8 +78,10 @@ waits_mail s h p r n (Some m) may isnt most lacks mail = still
     }
 
 -- the one who arrives has none then
-arrived_none : (s : Sizes) (h : List Event) (p n : ℕ) → count_of is_depart h p ≡ n → (q : ℕ) × (q < s.processors) × (count_of is_arrive (did h p Arrive) q ≡ n) → IsMail s (did h p Arrive) p None
-arrived_none s h p n same lacks (Acquire l) posted allowed = last_none h p Arrive allowed.0 (Ask l) (λ e. absurd cc) allowed.1
+arrived_none : (s : Sizes) (h : List Event) (p n : ℕ) → count_of is_depart h p ≡ n
+    → (q : ℕ) × (q < s.processors) × (count_of is_arrive (did h p Arrive) q ≡ n) → IsMail s (did h p Arrive) p None
+arrived_none s h p n same lacks (Acquire l) posted allowed =
+    last_none h p Arrive allowed.0 (Ask l) (λ e. absurd cc) allowed.1
 arrived_none s h p n same lacks Depart posted allowed =
     let one = allowed.2 lacks.0 lacks.1 in
     let e = lacks.2 in
@@ -78,65 +90,108 @@ arrived_none s h p n same lacks Depart posted allowed =
 arrived_none s h p n same lacks _ posted allowed = absurd posted
 
 -- everyone's mail after an arrival
-arrived_mail : (s : Sizes) (h : List Event) (b c : State) (p : ℕ) (u : List ℕ) (full : Bool) → IsTold s h b → c.transit ≡ b.transit → length c.times ≡ s.processors → slice_get b.awaits p ≡ Some None → MayFollow s h (event p Arrive) → WellFormed s (did h p Arrive) → p < s.processors
-    → IsStamp s.processors (did h p Arrive) (InPast (did h p Arrive) p) u → is_full (joined b.barrier p u) ≡ full → AreAll s.processors (IsMail s (did h p Arrive)) (mail_met full c (join b.barrier.gathered u))
-arrived_mail s h b c p u false told same long idle may next lt time full = subst (λ ms. AreAll s.processors (IsMail s (did h p Arrive)) ms) (sym same)
+arrived_mail : (s : Sizes) (h : List Event) (b c : State) (p : ℕ) (u : List ℕ) (full : Bool) → IsTold s h b
+    → c.transit ≡ b.transit → length c.times ≡ s.processors → slice_get b.awaits p ≡ Some None
+    → MayFollow s h (event p Arrive) → WellFormed s (did h p Arrive) → p < s.processors
+    → IsStamp s.processors (did h p Arrive) (InPast (did h p Arrive) p) u → is_full (joined b.barrier p u) ≡ full
+    → AreAll s.processors (IsMail s (did h p Arrive)) (mail_met full c (join b.barrier.gathered u))
+arrived_mail s h b c p u false told same long idle may next lt time full =
+    subst (λ ms. AreAll s.processors (IsMail s (did h p Arrive)) ms) (sym same)
     (each_own s.processors (IsMail s h) (IsMail s (did h p Arrive)) b.transit p told.transit
     (λ r o isnt at is. waits_mail s h p r waits.0.complete o may isnt waits.1 waits.0.lacks is)
-    (λ o at is. subst (λ x. IsMail s (did h p Arrive) p x) (idle_mail s h p o free is) (arrived_none s h p waits.0.complete counts waits.0.lacks)))
+    (λ o at is. subst (λ x. IsMail s (did h p Arrive) p x) (idle_mail s h p o free is)
+    (arrived_none s h p waits.0.complete counts waits.0.lacks)))
   where
     free : IsIdle h p
     free = is_idle s h b p told idle
 
-    waits : (x : IsBarrier s (did h p Arrive) (joined b.barrier p u)) × ((q : ℕ) → q < s.processors → x.complete ≤ count_of is_arrive h q) × (count_of is_arrive h p ≡ x.complete)
+    waits : (x : IsBarrier s (did h p Arrive) (joined b.barrier p u))
+        × ((q : ℕ) → q < s.processors → x.complete ≤ count_of is_arrive h q) × (count_of is_arrive h p ≡ x.complete)
     waits = barrier_waits s h p b.barrier u told.well_formed free lt told.barrier time full
 
     counts : count_of is_depart h p ≡ waits.0.complete
     counts = sym (idle_counts s h p told.well_formed free) ∙ waits.2
-arrived_mail s h b c p u true told same long idle may next lt time full = record { long = length-map c.times (λ (own : List ℕ). Some (departure_to c.closed (join b.barrier.gathered u) own)) ∙ long; each = each }
+arrived_mail s h b c p u true told same long idle may next lt time full =
+    record {
+      long =
+          length-map c.times (λ (own : List ℕ). Some (departure_to c.closed (join b.barrier.gathered u) own)) ∙ long;
+      each = each;
+    }
   where
-    carries : (q : ℕ) → q < s.processors → (own : List ℕ) → IsMail s (did h p Arrive) q (Some (departure_to c.closed (join b.barrier.gathered u) own))
+    carries : (q : ℕ) → q < s.processors → (own : List ℕ)
+        → IsMail s (did h p Arrive) q (Some (departure_to c.closed (join b.barrier.gathered u) own))
     carries q less own =
-        let x = completes_all s h p b.barrier u told.well_formed next (is_idle s h b p told idle) lt told.barrier time full q less in
+        let x = completes_all s h p b.barrier u told.well_formed next (is_idle s h b p told idle)
+        lt told.barrier time full q less in
         record { kind = Depart; lets = tt; allowed = x.0; time = x.1 }
 
-    each : (q : ℕ) (o : Option Letter) → slice_get (map (λ (own : List ℕ). Some (departure_to c.closed (join b.barrier.gathered u) own)) c.times) q ≡ Some o → IsMail s (did h p Arrive) q o
+    each : (q : ℕ) (o : Option Letter)
+        → slice_get (map (λ (own : List ℕ). Some (departure_to c.closed (join b.barrier.gathered u) own)) c.times) q
+        ≡ Some o → IsMail s (did h p Arrive) q o
     each q o at =
-        let within = slice_get_within (map (λ (own : List ℕ). Some (departure_to c.closed (join b.barrier.gathered u) own)) c.times) q o at in
-        let mapped = length-map c.times (λ (own : List ℕ). Some (departure_to c.closed (join b.barrier.gathered u) own)) in
-        let there = slice_get-map (λ (own : List ℕ). Some (departure_to c.closed (join b.barrier.gathered u) own)) c.times q in
+        let within = slice_get_within
+        (map (λ (own : List ℕ). Some (departure_to c.closed (join b.barrier.gathered u) own)) c.times) q o at in
+        let mapped = length-map c.times
+        (λ (own : List ℕ). Some (departure_to c.closed (join b.barrier.gathered u) own)) in
+        let there = slice_get-map (λ (own : List ℕ). Some (departure_to c.closed (join b.barrier.gathered u) own))
+        c.times q in
         let read = slice_get-get_or c.times q [] (omega arith) in
-        let is = same_Some (Some (departure_to c.closed (join b.barrier.gathered u) (slice_index_or c.times q []))) o (sym (there ∙ ap (λ x. option_map (λ (own : List ℕ). Some (departure_to c.closed (join b.barrier.gathered u) own)) x) read) ∙ at) in
+        let is = same_Some (Some (departure_to c.closed (join b.barrier.gathered u) (slice_index_or c.times q []))) o
+        (sym (there
+        ∙ ap (λ x. option_map (λ (own : List ℕ). Some (departure_to c.closed (join b.barrier.gathered u) own)) x)
+        read) ∙ at) in
         subst (λ x. IsMail s (did h p Arrive) q x) is (carries q (omega arith) (slice_index_or c.times q []))
 
 -- the barrier after an arrival
-arrived_barrier : (s : Sizes) (h : List Event) (b : State) (p : ℕ) (u : List ℕ) (full : Bool) → IsTold s h b → slice_get b.awaits p ≡ Some None → WellFormed s (did h p Arrive) → p < s.processors
-    → IsStamp s.processors (did h p Arrive) (InPast (did h p Arrive) p) u → is_full (joined b.barrier p u) ≡ full → IsBarrier s (did h p Arrive) (completed full (joined b.barrier p u))
-arrived_barrier s h b p u false told idle next lt time full = (barrier_waits s h p b.barrier u told.well_formed (is_idle s h b p told idle) lt told.barrier time full).0
-arrived_barrier s h b p u true told idle next lt time full = barrier_completes s h p b.barrier u told.well_formed next (is_idle s h b p told idle) lt told.barrier time full
+arrived_barrier : (s : Sizes) (h : List Event) (b : State) (p : ℕ) (u : List ℕ) (full : Bool) → IsTold s h b
+    → slice_get b.awaits p ≡ Some None → WellFormed s (did h p Arrive) → p < s.processors
+    → IsStamp s.processors (did h p Arrive) (InPast (did h p Arrive) p) u → is_full (joined b.barrier p u) ≡ full
+    → IsBarrier s (did h p Arrive) (completed full (joined b.barrier p u))
+arrived_barrier s h b p u false told idle next lt time full =
+    (barrier_waits s h p b.barrier u told.well_formed (is_idle s h b p told idle) lt told.barrier time full).0
+arrived_barrier s h b p u true told idle next lt time full =
+    barrier_completes s h p b.barrier u told.well_formed next (is_idle s h b p told idle) lt told.barrier time full
 
 -- a departure that is made now has the notices that its receiver lacks
-met_notices : (full : Bool) (c : State) (u : List ℕ) (r : ℕ) (m : Letter) (t : List ℕ) → slice_get (mail_met full c u) r ≡ Some (Some m) → slice_get c.times r ≡ Some t → (slice_get c.transit r ≡ Some (Some m) → m.notices ≡ between c.closed t m.time) → m.notices ≡ between c.closed t m.time
+met_notices : (full : Bool) (c : State) (u : List ℕ) (r : ℕ) (m : Letter) (t : List ℕ)
+    → slice_get (mail_met full c u) r ≡ Some (Some m) → slice_get c.times r ≡ Some t
+    → (slice_get c.transit r ≡ Some (Some m) → m.notices ≡ between c.closed t m.time)
+    → m.notices ≡ between c.closed t m.time
 met_notices false c u r m t at time old = old at
 met_notices true c u r m t at time old =
     let there = slice_get-map (λ (own : List ℕ). Some (departure_to c.closed u own)) c.times r in
-    let is = same_Some (Some (departure_to c.closed u t)) (Some m) (sym (there ∙ ap (λ x. option_map (λ (own : List ℕ). Some (departure_to c.closed u own)) x) time) ∙ at) in
+    let is = same_Some (Some (departure_to c.closed u t)) (Some m)
+    (sym (there ∙ ap (λ x. option_map (λ (own : List ℕ). Some (departure_to c.closed u own)) x) time) ∙ at) in
     subst (λ x. x.notices ≡ between c.closed t x.time) (same_Some (departure_to c.closed u t) m is) refl
 
 -- p arrives at the barrier
-pub told_arrive : (s : Sizes) (h : List Event) (b : State) (p : ℕ) (records : List Changes) → IsTold s h b → slice_get b.awaits p ≡ Some None → AreContents s h p (count_of is_closing h p) records → IsTold s (did h p Arrive) (book_arrived b p records)
+pub told_arrive : (s : Sizes) (h : List Event) (b : State) (p : ℕ) (records : List Changes) → IsTold s h b
+    → slice_get b.awaits p ≡ Some None → AreContents s h p (count_of is_closing h p) records
+    → IsTold s (did h p Arrive) (book_arrived b p records)
 told_arrive s h b p records told idle stored = record {
   well_formed = well;
-  sizes = record { processors = told.sizes.processors; words = told.sizes.words; addresses = told.sizes.addresses; lockers = told.sizes.lockers };
+  sizes = record {
+    processors = told.sizes.processors;
+    words = told.sizes.words;
+    addresses = told.sizes.addresses;
+    lockers = told.sizes.lockers;
+  };
   holds = history_on b.journal h (event p Arrive ∷ []) told.holds;
   closed = closed_now s h b p Arrive records told lt refl stored;
   times = times;
-  locks = each_kept s.locks (IsLock s.processors h) (IsLock s.processors (did h p Arrive)) b.locks.locks told.locks (λ l x at is. lock_kept s.processors h p Arrive l x (λ e. absurd cc) (λ e. absurd cc) (λ e. absurd cc) (idle_no_ask h p l free) is);
-  barrier = arrived_barrier s h b p (tick (time_of b p) p) (is_full (joined b.barrier p (tick (time_of b p) p))) told idle well lt time refl;
-  flags = each_kept s.flags (IsFlag s.processors h) (IsFlag s.processors (did h p Arrive)) b.flags told.flags (λ f o at is. flag_kept s.processors h p Arrive f o (λ e. absurd cc) is);
+  locks = each_kept s.locks (IsLock s.processors h) (IsLock s.processors (did h p Arrive)) b.locks.locks told.locks
+      (λ l x at is. lock_kept s.processors h p Arrive l x (λ e. absurd cc) (λ e. absurd cc) (λ e. absurd cc)
+      (idle_no_ask h p l free) is);
+  barrier = arrived_barrier s h b p (tick (time_of b p) p) (is_full (joined b.barrier p (tick (time_of b p) p)))
+      told idle well lt time refl;
+  flags = each_kept s.flags (IsFlag s.processors h) (IsFlag s.processors (did h p Arrive)) b.flags told.flags
+      (λ f o at is. flag_kept s.processors h p Arrive f o (λ e. absurd cc) is);
   awaits = awaits_set s h b p Arrive told;
-  transit = arrived_mail s h b (closed_by b p Arrive records) p (tick (time_of b p) p) (is_full (joined b.barrier p (tick (time_of b p) p))) told refl times.long idle may well lt time refl;
-  notices = λ r m t at now. met_notices (is_full (joined b.barrier p (tick (time_of b p) p))) (closed_by b p Arrive records) (join b.barrier.gathered (tick (time_of b p) p)) r m t at now (λ there. old_notices s h b p records r m t told lt (apart r m there) there now);
+  transit = arrived_mail s h b (closed_by b p Arrive records) p (tick (time_of b p) p)
+      (is_full (joined b.barrier p (tick (time_of b p) p))) told refl times.long idle may well lt time refl;
+  notices = λ r m t at now. met_notices (is_full (joined b.barrier p (tick (time_of b p) p)))
+      (closed_by b p Arrive records) (join b.barrier.gathered (tick (time_of b p) p)) r m t at now
+      (λ there. old_notices s h b p records r m t told lt (apart r m there) there now);
   within = within_closing s h b p told lt;
   tight = tight_closing s h b p told lt;
 }
@@ -153,11 +208,14 @@ told_arrive s h b p records told idle stored = record {
     well : WellFormed s (did h p Arrive)
     well = still_formed s h b p Arrive told may
 
-    times : AreAll s.processors (λ q t. IsStamp s.processors (did h p Arrive) (InPast (did h p Arrive) q) t) (slice_set b.times p (tick (time_of b p) p))
+    times : AreAll s.processors (λ q t. IsStamp s.processors (did h p Arrive) (InPast (did h p Arrive) q) t)
+        (slice_set b.times p (tick (time_of b p) p))
     times = times_closing s h b p Arrive told lt refl refl
 
     time : IsStamp s.processors (did h p Arrive) (InPast (did h p Arrive) p) (tick (time_of b p) p)
     time = stamp_closing s.processors h p Arrive (time_of b p) lt refl refl (own_stamp s h b p told lt)
 
     apart : (r : ℕ) (m : Letter) → slice_get b.transit r ≡ Some (Some m) → r ≢ p
-    apart r m at is = let P : ℕ → Type 0 = λ x. slice_get b.transit x ≡ Some (Some m) in none-some m (idle_mail s h p (Some m) free (told.transit.each p (Some m) (subst P is at)))
+    apart r m at is = let P : ℕ → Type 0 =
+        λ x. slice_get b.transit x ≡ Some (Some m) in
+        none-some m (idle_mail s h p (Some m) free (told.transit.each p (Some m) (subst P is at)))

@@ -1,4 +1,5 @@
--- Sets, watches and awaits: what the book is told by the history before, it is told by the history with the event after.
+-- Sets, watches and awaits: what the book is told by the history before, it is told by the history with the event
+-- after.
 use Rattle.std.proofs.Common.{◌≡◌, ◌≢◌, ℕ, ◌<◌, ◌↔◌, List, [], ◌∷◌, true, false, Option, Some, None, slice_get, slice_set, slice_index_or, subst, sym, refl, ap, ◌∙◌}
 use Rattle.std.proofs.lemmas.Option.{same_Some, none-some}
 use Rattle.journal.specs.declared.event.Event.{Event}
@@ -46,19 +47,31 @@ record IsPlainClosing (k : Kind) : Type 0 where
   release : (l : ℕ) → k ≢ Release l
   arrive : k ≢ Arrive
 
-told_closing : (s : Sizes) (h : List Event) (b : State) (p : ℕ) (k : Kind) (records : List Changes) (flags : List (Option (List ℕ))) → IsTold s h b → slice_get b.awaits p ≡ Some None → MayFollow s h (event p k) → IsPlainClosing k
-    → AreAll s.flags (IsFlag s.processors (did h p k)) flags → AreContents s h p (count_of is_closing h p) records → IsTold s (did h p k) (record (closed_by b p k records) { flags = flags })
+told_closing : (s : Sizes) (h : List Event) (b : State) (p : ℕ) (k : Kind) (records : List Changes)
+    (flags : List (Option (List ℕ))) → IsTold s h b → slice_get b.awaits p ≡ Some None → MayFollow s h (event p k)
+    → IsPlainClosing k
+    → AreAll s.flags (IsFlag s.processors (did h p k)) flags → AreContents s h p (count_of is_closing h p) records
+    → IsTold s (did h p k) (record (closed_by b p k records) { flags = flags })
 told_closing s h b p k records flags told idle may plain all stored = record {
   well_formed = still_formed s h b p k told may;
-  sizes = record { processors = told.sizes.processors; words = told.sizes.words; addresses = told.sizes.addresses; lockers = told.sizes.lockers };
+  sizes = record {
+    processors = told.sizes.processors;
+    words = told.sizes.words;
+    addresses = told.sizes.addresses;
+    lockers = told.sizes.lockers;
+  };
   holds = history_on b.journal h (event p k ∷ []) told.holds;
   closed = closed_now s h b p k records told lt plain.closes stored;
   times = times_closing s h b p k told lt plain.takes plain.closes;
-  locks = each_kept s.locks (IsLock s.processors h) (IsLock s.processors (did h p k)) b.locks.locks told.locks (λ l x at is. lock_kept s.processors h p k l x (plain.ask l) (plain.acquire l) (plain.release l) (idle_no_ask h p l free) is);
+  locks = each_kept s.locks (IsLock s.processors h) (IsLock s.processors (did h p k)) b.locks.locks told.locks
+      (λ l x at is. lock_kept s.processors h p k l x (plain.ask l) (plain.acquire l) (plain.release l)
+      (idle_no_ask h p l free) is);
   barrier = barrier_kept s h p k b.barrier plain.arrives plain.departs told.barrier;
   flags = all;
   awaits = awaits_set s h b p k told;
-  transit = each_own s.processors (IsMail s h) (IsMail s (did h p k)) b.transit p told.transit (λ r o isnt at is. mail_kept s h p k r o may isnt plain.release plain.arrive is) (λ o at is. own_idle s h p k o free plain.ask plain.arrive is);
+  transit = each_own s.processors (IsMail s h) (IsMail s (did h p k)) b.transit p told.transit
+      (λ r o isnt at is. mail_kept s h p k r o may isnt plain.release plain.arrive is)
+      (λ o at is. own_idle s h p k o free plain.ask plain.arrive is);
   notices = λ r m t at now. old_notices s h b p records r m t told lt (apart r m at) at now;
   within = within_closing s h b p told lt;
   tight = tight_closing s h b p told lt;
@@ -71,23 +84,55 @@ told_closing s h b p k records flags told idle may plain all stored = record {
     free = is_idle s h b p told idle
 
     apart : (r : ℕ) (m : Letter) → slice_get b.transit r ≡ Some (Some m) → r ≢ p
-    apart r m at is = let P : ℕ → Type 0 = λ x. slice_get b.transit x ≡ Some (Some m) in none-some m (idle_mail s h p (Some m) free (told.transit.each p (Some m) (subst P is at)))
+    apart r m at is = let P : ℕ → Type 0 =
+        λ x. slice_get b.transit x ≡ Some (Some m) in
+        none-some m (idle_mail s h p (Some m) free (told.transit.each p (Some m) (subst P is at)))
 
 -- p sets a flag
-pub told_set : (s : Sizes) (h : List Event) (b : State) (p f : ℕ) (records : List Changes) → IsTold s h b → f < s.flags → slice_get b.awaits p ≡ Some None → AreContents s h p (count_of is_closing h p) records → IsTold s (did h p (Set f)) (book_set b p f records)
-told_set s h b p f records told range idle stored = told_closing s h b p (Set f) records (slice_set b.flags f (Some (flag_joined (slice_index_or b.flags f None) (tick (time_of b p) p)))) told idle (follows s h b p (Set f) told idle range tt)
-    (record { takes = refl; closes = refl; arrives = refl; departs = refl; ask = λ l e. absurd cc; acquire = λ l e. absurd cc; release = λ l e. absurd cc; arrive = λ e. absurd cc })
-    (each_set s.flags (IsFlag s.processors h) (IsFlag s.processors (did h p (Set f))) b.flags f (Some (flag_joined (slice_index_or b.flags f None) (tick (time_of b p) p))) told.flags
+pub told_set : (s : Sizes) (h : List Event) (b : State) (p f : ℕ) (records : List Changes) → IsTold s h b
+    → f < s.flags → slice_get b.awaits p ≡ Some None → AreContents s h p (count_of is_closing h p) records
+    → IsTold s (did h p (Set f)) (book_set b p f records)
+told_set s h b p f records told range idle stored =
+    told_closing s h b p (Set f) records
+    (slice_set b.flags f (Some (flag_joined (slice_index_or b.flags f None) (tick (time_of b p) p)))) told idle
+    (follows s h b p (Set f) told idle range tt)
+    (record {
+      takes = refl;
+      closes = refl;
+      arrives = refl;
+      departs = refl;
+      ask = λ l e. absurd cc;
+      acquire = λ l e. absurd cc;
+      release = λ l e. absurd cc;
+      arrive = λ e. absurd cc;
+    })
+    (each_set s.flags (IsFlag s.processors h) (IsFlag s.processors (did h p (Set f))) b.flags f
+    (Some (flag_joined (slice_index_or b.flags f None) (tick (time_of b p) p))) told.flags
     (λ g o isnt at is. flag_kept s.processors h p (Set f) g o (λ e. isnt (cc e)) is)
-    (flag_set s.processors h p f (slice_index_or b.flags f None) (tick (time_of b p) p) (is_at s.flags (IsFlag s.processors h) b.flags f None told.flags range)
-    (let lt = is_processor s h b p None told idle in stamp_closing s.processors h p (Set f) (time_of b p) lt refl refl (own_stamp s h b p told lt))))
+    (flag_set s.processors h p f (slice_index_or b.flags f None) (tick (time_of b p) p)
+    (is_at s.flags (IsFlag s.processors h) b.flags f None told.flags range)
+    (let lt = is_processor s h b p None told idle in
+    stamp_closing s.processors h p (Set f) (time_of b p) lt refl refl (own_stamp s h b p told lt))))
     stored
 
 -- p watches a flag
-pub told_watch : (s : Sizes) (h : List Event) (b : State) (p f : ℕ) (records : List Changes) → IsTold s h b → f < s.flags → slice_get b.awaits p ≡ Some None → AreContents s h p (count_of is_closing h p) records → IsTold s (did h p (Watch f)) (book_watched b p f records)
-told_watch s h b p f records told range idle stored = told_closing s h b p (Watch f) records b.flags told idle (follows s h b p (Watch f) told idle range tt)
-    (record { takes = refl; closes = refl; arrives = refl; departs = refl; ask = λ l e. absurd cc; acquire = λ l e. absurd cc; release = λ l e. absurd cc; arrive = λ e. absurd cc })
-    (each_kept s.flags (IsFlag s.processors h) (IsFlag s.processors (did h p (Watch f))) b.flags told.flags (λ g o at is. flag_kept s.processors h p (Watch f) g o (λ e. absurd cc) is))
+pub told_watch : (s : Sizes) (h : List Event) (b : State) (p f : ℕ) (records : List Changes) → IsTold s h b
+    → f < s.flags → slice_get b.awaits p ≡ Some None → AreContents s h p (count_of is_closing h p) records
+    → IsTold s (did h p (Watch f)) (book_watched b p f records)
+told_watch s h b p f records told range idle stored =
+    told_closing s h b p (Watch f) records b.flags told idle (follows s h b p (Watch f) told idle range tt)
+    (record {
+      takes = refl;
+      closes = refl;
+      arrives = refl;
+      departs = refl;
+      ask = λ l e. absurd cc;
+      acquire = λ l e. absurd cc;
+      release = λ l e. absurd cc;
+      arrive = λ e. absurd cc;
+    })
+    (each_kept s.flags (IsFlag s.processors h) (IsFlag s.processors (did h p (Watch f))) b.flags told.flags
+    (λ g o at is. flag_kept s.processors h p (Watch f) g o (λ e. absurd cc) is))
     stored
 
 -- who waits for a flag has watched it
@@ -98,10 +143,12 @@ watched (Watch g) f e = cc (e)
 watched _ f e = absurd (cc (e))
 
 pub last_watch : (h : List Event) (p f : ℕ) → IsAwaited h p (Some (Await f)) → (i : ℕ) × LastIs h p i (Watch f)
-last_watch h p f w = let s = w.some (Await f) refl in (s.0, subst (λ a. LastIs h p s.0 a) (watched s.1 f (sym (w.last s.0 s.1 s.2))) s.2)
+last_watch h p f w = let s =
+    w.some (Await f) refl in (s.0, subst (λ a. LastIs h p s.0 a) (watched s.1 f (sym (w.last s.0 s.1 s.2))) s.2)
 
 -- who waits for a flag has no message
-pub watching_mail : (s : Sizes) (h : List Event) (p i f : ℕ) (o : Option Letter) → LastIs h p i (Watch f) → IsMail s h p o → None ≡ o
+pub watching_mail : (s : Sizes) (h : List Event) (p i f : ℕ) (o : Option Letter) → LastIs h p i (Watch f)
+    → IsMail s h p o → None ≡ o
 watching_mail s h p i f None last mail = refl
 watching_mail s h p i f (Some m) last mail = absurd (go mail.kind (lets_posted m.kind mail.kind mail.lets) mail.allowed)
   where
@@ -111,21 +158,33 @@ watching_mail s h p i f (Some m) last mail = absurd (go mail.kind (lets_posted m
     go _ posted allowed = absurd posted
 
 -- p awaits a flag that is set
-pub told_signal : (s : Sizes) (h : List Event) (b : State) (p f : ℕ) (t : List ℕ) → IsTold s h b → slice_get b.awaits p ≡ Some (Some (Await f)) → slice_get b.flags f ≡ Some (Some t) → IsLoose s (did h p (Await f)) (book_joined b p (Await f) t)
+pub told_signal : (s : Sizes) (h : List Event) (b : State) (p f : ℕ) (t : List ℕ) → IsTold s h b
+    → slice_get b.awaits p ≡ Some (Some (Await f)) → slice_get b.flags f ≡ Some (Some t)
+    → IsLoose s (did h p (Await f)) (book_joined b p (Await f) t)
 told_signal s h b p f t told waits set = record {
   well_formed = still_formed s h b p (Await f) told may;
-  sizes = record { processors = told.sizes.processors; words = told.sizes.words; addresses = told.sizes.addresses; lockers = told.sizes.lockers };
+  sizes = record {
+    processors = told.sizes.processors;
+    words = told.sizes.words;
+    addresses = told.sizes.addresses;
+    lockers = told.sizes.lockers;
+  };
   holds = history_on b.journal h (event p (Await f) ∷ []) told.holds;
   closed = closed_quiet s h p (Await f) b.closed refl told.closed;
   times = times_taking s h b p (Await f) t told lt refl flag.1;
   locks = each_kept s.locks (IsLock s.processors h) (IsLock s.processors (did h p (Await f))) b.locks.locks told.locks
-      (λ l x at is. lock_kept s.processors h p (Await f) l x (λ e. absurd cc) (λ e. absurd cc) (λ e. absurd cc) (λ i ask. absurd (cc ((last_unique h p last.0 i (Watch f) (Ask l) last.1 ask).1))) is);
+      (λ l x at is. lock_kept s.processors h p (Await f) l x (λ e. absurd cc) (λ e. absurd cc) (λ e. absurd cc)
+      (λ i ask. absurd (cc ((last_unique h p last.0 i (Watch f) (Ask l) last.1 ask).1))) is);
   barrier = barrier_kept s h p (Await f) b.barrier refl refl told.barrier;
-  flags = each_kept s.flags (IsFlag s.processors h) (IsFlag s.processors (did h p (Await f))) b.flags told.flags (λ g o at is. flag_kept s.processors h p (Await f) g o (λ e. absurd cc) is);
+  flags = each_kept s.flags (IsFlag s.processors h) (IsFlag s.processors (did h p (Await f))) b.flags told.flags
+      (λ g o at is. flag_kept s.processors h p (Await f) g o (λ e. absurd cc) is);
   awaits = awaits_set s h b p (Await f) told;
-  transit = each_own s.processors (IsMail s h) (IsMail s (did h p (Await f))) b.transit p told.transit (λ r o isnt at is. mail_kept s h p (Await f) r o may isnt (λ m e. absurd cc) (λ e. absurd cc) is)
-      (λ o at is. subst (λ x. IsMail s (did h p (Await f)) p x) (watching_mail s h p last.0 f o last.1 is) (own_none s h p (Await f) (λ m e. absurd cc) (λ e. absurd cc)));
-  notices = λ r m u at now. told.notices r m u at (sym (slice_get-set_other b.times p r (join (time_of b p) t) (apart r m at)) ∙ now);
+  transit = each_own s.processors (IsMail s h) (IsMail s (did h p (Await f))) b.transit p told.transit
+      (λ r o isnt at is. mail_kept s h p (Await f) r o may isnt (λ m e. absurd cc) (λ e. absurd cc) is)
+      (λ o at is. subst (λ x. IsMail s (did h p (Await f)) p x) (watching_mail s h p last.0 f o last.1 is)
+      (own_none s h p (Await f) (λ m e. absurd cc) (λ e. absurd cc)));
+  notices = λ r m u at now. told.notices r m u at
+      (sym (slice_get-set_other b.times p r (join (time_of b p) t) (apart r m at)) ∙ now);
   within = within_taking s h b p t told lt;
 }
   where
@@ -142,11 +201,15 @@ told_signal s h b p f t told waits set = record {
     may = taking_follows s h p (Await f) told.well_formed refl (last.0, flag.0.0, flag.0.1.0, last.1, flag.0.1.1)
 
     apart : (r : ℕ) (m : Letter) → slice_get b.transit r ≡ Some (Some m) → r ≢ p
-    apart r m at is = let P : ℕ → Type 0 = λ x. slice_get b.transit x ≡ Some (Some m) in none-some m (watching_mail s h p last.0 f (Some m) last.1 (told.transit.each p (Some m) (subst P is at)))
+    apart r m at is = let P : ℕ → Type 0 =
+        λ x. slice_get b.transit x ≡ Some (Some m) in
+        none-some m (watching_mail s h p last.0 f (Some m) last.1 (told.transit.each p (Some m) (subst P is at)))
 
 -- who waits for a flag may go on exactly where it is set
-pub signal_ready : (s : Sizes) (h : List Event) (b : State) (p f : ℕ) (o : Option (List ℕ)) → IsTold s h b → slice_get b.awaits p ≡ Some (Some (Await f)) → slice_get b.flags f ≡ Some o → (o ≢ None) ↔ Ready s h p
-signal_ready s h b p f o told waits at = (there o (told.flags.each f o at), λ ready. back o (told.flags.each f o at) ready)
+pub signal_ready : (s : Sizes) (h : List Event) (b : State) (p f : ℕ) (o : Option (List ℕ)) → IsTold s h b
+    → slice_get b.awaits p ≡ Some (Some (Await f)) → slice_get b.flags f ≡ Some o → (o ≢ None) ↔ Ready s h p
+signal_ready s h b p f o told waits at =
+    (there o (told.flags.each f o at), λ ready. back o (told.flags.each f o at) ready)
   where
     last : (i : ℕ) × LastIs h p i (Watch f)
     last = last_watch h p f (told.awaits.each p (Some (Await f)) waits)

@@ -13,7 +13,7 @@ use Rattle.journal.specs.Pasts.{UpToSome}
 use Rattle.journal.specs.Brings.{SomeDoes}
 use Rattle.lists.proofs.Sets.{slice_get-set_found, slice_get-set_other}
 use Rattle.journal.proofs.Times.Kept.{kind_kept}
-use Rattle.journal.proofs.Journals.WellFormed.{holds_cases}
+use Rattle.journal.proofs.Journals.WellFormed.{last_cases, holds_cases}
 use Rattle.journal.proofs.Journals.Holding.{holder_alone}
 use Rattle.page.specs.Changes.{Changes}
 use Rattle.vtime.specs.Times.{tick}
@@ -32,7 +32,7 @@ use Rattle.book.specs.State.{State, time_of}
 use Rattle.book.specs.Transitions.{closed_by, grant_from, if_free, mail_passed_on, book_asked, book_released}
 use Rattle.book.specs.Told.{IsTold}
 use Rattle.book.proofs.Parts.Each.{each_set, each_kept, each_own, is_at}
-use Rattle.book.proofs.Parts.Doings.{last_cases, last_none, holds_back}
+use Rattle.book.proofs.Parts.Doings.{last_none, holds_back}
 use Rattle.book.proofs.Parts.Stamps.{stamp_closing, stamp_released}
 use Rattle.book.proofs.Parts.Lines.{NoAsk, idle_no_ask, not_in_line, line_kept, line_asked, line_released, line_taken, first_allowed, allowed_first}
 use Rattle.book.proofs.Parts.Mail.{News, other_kind, mail_unless, mail_kept, idle_mail, own_idle}
@@ -44,74 +44,110 @@ use Rattle.book.proofs.Parts.Told.{is_idle, is_processor, own_stamp, follows, st
 -- locks
 
 -- a lock that the event does not name stays
-pub lock_kept : (n : ℕ) (h : List Event) (p : ℕ) (k : Kind) (l : ℕ) (x : Lock) → k ≢ Ask l → k ≢ Acquire l → k ≢ Release l → NoAsk h p l → IsLock n h l x → IsLock n (did h p k) l x
+pub lock_kept : (n : ℕ) (h : List Event) (p : ℕ) (k : Kind) (l : ℕ) (x : Lock) → k ≢ Ask l → k ≢ Acquire l
+    → k ≢ Release l → NoAsk h p l → IsLock n h l x → IsLock n (did h p k) l x
 lock_kept n h p k l x ask acquire release none is = record {
   line_is = line_kept h p k l (line x) ask acquire release none is.line_is;
   held = is.held;
-  time = record { long = is.time.long; is = kind_kept h (event p k ∷ []) (Release l) (slice_index x.time) (other_kind p k (Release l) release) is.time.is };
+  time = record {
+    long = is.time.long;
+    is = kind_kept h (event p k ∷ []) (Release l) (slice_index x.time) (other_kind p k (Release l) release)
+        is.time.is;
+  };
 }
 
-lock_asked : (n : ℕ) (h : List Event) (p l : ℕ) (o : Option ℕ) (xs t : List ℕ) → NoAsk h p l → ¬ Holds h p l → IsLock n h l (record { holder = o; queue = xs; time = t }) → IsLock n (did h p (Ask l)) l (asked (record { holder = o; queue = xs; time = t }) p)
+lock_asked : (n : ℕ) (h : List Event) (p l : ℕ) (o : Option ℕ) (xs t : List ℕ) → NoAsk h p l → ¬ Holds h p l
+    → IsLock n h l (record { holder = o; queue = xs; time = t })
+    → IsLock n (did h p (Ask l)) l (asked (record { holder = o; queue = xs; time = t }) p)
 lock_asked n h p l None (y ∷ xs) t none free is = absurd (cc (is.held refl))
 lock_asked n h p l None [] t none free is = record {
   line_is = line_asked h p l [] none free is.line_is;
   held = λ e. absurd (cc (e));
-  time = record { long = is.time.long; is = kind_kept h (event p (Ask l) ∷ []) (Release l) (slice_index t) (other_kind p (Ask l) (Release l) (λ e. absurd cc)) is.time.is };
+  time = record {
+    long = is.time.long;
+    is = kind_kept h (event p (Ask l) ∷ []) (Release l) (slice_index t)
+        (other_kind p (Ask l) (Release l) (λ e. absurd cc)) is.time.is;
+  };
 }
 lock_asked n h p l (Some q) xs t none free is = record {
   line_is = line_asked h p l (q ∷ xs) none free is.line_is;
   held = λ e. absurd (cc (e));
-  time = record { long = is.time.long; is = kind_kept h (event p (Ask l) ∷ []) (Release l) (slice_index t) (other_kind p (Ask l) (Release l) (λ e. absurd cc)) is.time.is };
+  time = record {
+    long = is.time.long;
+    is = kind_kept h (event p (Ask l) ∷ []) (Release l) (slice_index t)
+        (other_kind p (Ask l) (Release l) (λ e. absurd cc)) is.time.is;
+  };
 }
 
-pub lock_taken : (n : ℕ) (h : List Event) (p l i : ℕ) (x : Lock) → LastIs h p i (Ask l) → MayBeGranted h i l → IsLock n h l x → IsLock n (did h p (Acquire l)) l x
+pub lock_taken : (n : ℕ) (h : List Event) (p l i : ℕ) (x : Lock) → LastIs h p i (Ask l) → MayBeGranted h i l
+    → IsLock n h l x → IsLock n (did h p (Acquire l)) l x
 lock_taken n h p l i x last may is = record {
   line_is = line_taken h p l i (line x) last may is.line_is;
   held = is.held;
-  time = record { long = is.time.long; is = kind_kept h (event p (Acquire l) ∷ []) (Release l) (slice_index x.time) (other_kind p (Acquire l) (Release l) (λ e. absurd cc)) is.time.is };
+  time = record {
+    long = is.time.long;
+    is = kind_kept h (event p (Acquire l) ∷ []) (Release l) (slice_index x.time)
+        (other_kind p (Acquire l) (Release l) (λ e. absurd cc)) is.time.is;
+  };
 }
 
 -- the line of a lock is that of its holder and its queue
-pub holder_first : (n : ℕ) (h : List Event) (p l : ℕ) (o : Option ℕ) (xs t : List ℕ) → Holds h p l → IsLock n h l (record { holder = o; queue = xs; time = t }) → o ≡ Some p
+pub holder_first : (n : ℕ) (h : List Event) (p l : ℕ) (o : Option ℕ) (xs t : List ℕ) → Holds h p l
+    → IsLock n h l (record { holder = o; queue = xs; time = t }) → o ≡ Some p
 holder_first n h p l None (y ∷ xs) t held is = absurd (cc (is.held refl))
 holder_first n h p l None [] t held is = absurd (none-some p (is.line_is.first p held))
 holder_first n h p l (Some q) xs t held is = is.line_is.first p held
 
-lock_passed : (n : ℕ) (h : List Event) (l : ℕ) (xs t : List ℕ) → IsLine h l xs → IsStamp n h (UpToSome h (SomeDoes h (Release l))) t → IsLock n h l (released (record { holder = None; queue = xs; time = [] }) t)
+lock_passed : (n : ℕ) (h : List Event) (l : ℕ) (xs t : List ℕ) → IsLine h l xs
+    → IsStamp n h (UpToSome h (SomeDoes h (Release l))) t
+    → IsLock n h l (released (record { holder = None; queue = xs; time = [] }) t)
 lock_passed n h l [] t is time = record { line_is = is; held = λ e. refl; time = time }
 lock_passed n h l (q ∷ xs) t is time = record { line_is = is; held = λ e. absurd (cc (e)); time = time }
 
 -- the line after the holder's release
-line_passed : (n : ℕ) (h : List Event) (p l : ℕ) (o : Option ℕ) (xs t : List ℕ) → NoAsk h p l → Holds h p l → IsLock n h l (record { holder = o; queue = xs; time = t }) → IsLine (did h p (Release l)) l xs
+line_passed : (n : ℕ) (h : List Event) (p l : ℕ) (o : Option ℕ) (xs t : List ℕ) → NoAsk h p l → Holds h p l
+    → IsLock n h l (record { holder = o; queue = xs; time = t }) → IsLine (did h p (Release l)) l xs
 line_passed n h p l o xs t none held is =
     let first = holder_first n h p l o xs t held is in
-    line_released h p l xs none held (subst (λ x. IsLine h l (line (record { holder = x; queue = xs; time = t }))) first is.line_is)
+    line_released h p l xs none held
+    (subst (λ x. IsLine h l (line (record { holder = x; queue = xs; time = t }))) first is.line_is)
 
 -- messages
 
 -- the mail of one who asks: a grant where nobody stands before it
-asked_mail : (s : Sizes) (h : List Event) (p l : ℕ) (o : Option ℕ) (xs t : List ℕ) (notices : List SentRecord) → NoAsk h p l → ¬ Holds h p l → IsLock s.processors h l (record { holder = o; queue = xs; time = t })
+asked_mail : (s : Sizes) (h : List Event) (p l : ℕ) (o : Option ℕ) (xs t : List ℕ) (notices : List SentRecord)
+    → NoAsk h p l → ¬ Holds h p l → IsLock s.processors h l (record { holder = o; queue = xs; time = t })
     → IsMail s (did h p (Ask l)) p (if_free o (record { kind = grant; time = t; notices = notices }))
 asked_mail s h p l None (y ∷ xs) t notices none free is = absurd (cc (is.held refl))
 asked_mail s h p l None [] t notices none free is =
     let now = lock_asked s.processors h p l None [] t none free is in
-    let nobody : (q : ℕ) → ¬ Holds (did h p (Ask l)) q l = λ q held. none-some q (is.line_is.first q (holds_back h p (Ask l) q l (λ e. absurd cc) held)) in
-    record { kind = Acquire l; lets = tt; allowed = allowed_first (did h p (Ask l)) p l (p ∷ []) nobody refl now.line_is; time = now.time }
+    let nobody : (q : ℕ) → ¬ Holds (did h p (Ask l)) q l =
+    λ q held. none-some q (is.line_is.first q (holds_back h p (Ask l) q l (λ e. absurd cc) held)) in
+    record {
+      kind = Acquire l;
+      lets = tt;
+      allowed = allowed_first (did h p (Ask l)) p l (p ∷ []) nobody refl now.line_is;
+      time = now.time;
+    }
 asked_mail s h p l (Some q) xs t notices none free is = mail
   where
     now : IsLock s.processors (did h p (Ask l)) l (asked (record { holder = Some q; queue = xs; time = t }) p)
     now = lock_asked s.processors h p l (Some q) xs t none free is
 
     same_lock : (m i : ℕ) → LastIs (did h p (Ask l)) p i (Ask m) → l ≡ m
-    same_lock m i last = elim (last_cases h p (Ask l) p i (Ask m) last) [ inl own ↦ cc (own.2) | inr old ↦ absurd (old.0 refl) ]
+    same_lock m i last =
+        elim (last_cases h (event p (Ask l)) p i (Ask m) last)
+        [ inl own ↦ cc (own.2) | inr old ↦ absurd (old.0 refl) ]
 
     never : (i : ℕ) → LastIs (did h p (Ask l)) p i (Ask l) → MayBeGranted (did h p (Ask l)) i l → ⊥
-    never i last may = not_in_line h p l (q ∷ xs) none free is.line_is (0, first_allowed (did h p (Ask l)) p l i (q ∷ (xs ++ p ∷ [])) last may now.line_is)
+    never i last may = not_in_line h p l (q ∷ xs) none free is.line_is
+        (0, first_allowed (did h p (Ask l)) p l i (q ∷ (xs ++ p ∷ [])) last may now.line_is)
 
     mail : (a : Kind) → IsPosted a → ¬ Allowed s (did h p (Ask l)) p a
     mail (Acquire m) posted (i, last, may) = (
         let is_l = same_lock m i last in
-        never i (subst (λ x. LastIs (did h p (Ask l)) p i (Ask x)) (sym is_l) last) (subst (λ x. MayBeGranted (did h p (Ask l)) i x) (sym is_l) may))
+        never i (subst (λ x. LastIs (did h p (Ask l)) p i (Ask x)) (sym is_l) last)
+        (subst (λ x. MayBeGranted (did h p (Ask l)) i x) (sym is_l) may))
     mail Depart posted allowed = last_none h p (Ask l) allowed.0 Arrive (λ e. absurd cc) allowed.1
     mail _ posted allowed = absurd posted
 
@@ -120,26 +156,42 @@ due_is None m n e = same_Some m n e
 due_is (Some q) m n e = absurd (none-some n e)
 
 -- a message that is made now has the notices that its receiver lacks
-pub granted_notices : (c : State) (r : ℕ) (u t : List ℕ) (m : Letter) → slice_get c.times r ≡ Some t → grant_from c r u ≡ m → m.notices ≡ between c.closed t m.time
-granted_notices c r u t m at is = subst (λ x. x.notices ≡ between c.closed t x.time) is (ap (λ own. between c.closed own u) (get_or_from_slice_get c.times r t [] at))
+pub granted_notices : (c : State) (r : ℕ) (u t : List ℕ) (m : Letter) → slice_get c.times r ≡ Some t
+    → grant_from c r u ≡ m → m.notices ≡ between c.closed t m.time
+granted_notices c r u t m at is =
+    subst (λ x. x.notices ≡ between c.closed t x.time) is
+    (ap (λ own. between c.closed own u) (get_or_from_slice_get c.times r t [] at))
 
 -- p asks for a lock
-pub told_ask : (s : Sizes) (h : List Event) (b : State) (p l : ℕ) (records : List Changes) → IsTold s h b → l < s.locks → slice_get b.awaits p ≡ Some None → ¬ Holds h p l → AreContents s h p (count_of is_closing h p) records → IsTold s (did h p (Ask l)) (book_asked b p l records)
+pub told_ask : (s : Sizes) (h : List Event) (b : State) (p l : ℕ) (records : List Changes) → IsTold s h b
+    → l < s.locks → slice_get b.awaits p ≡ Some None → ¬ Holds h p l
+    → AreContents s h p (count_of is_closing h p) records → IsTold s (did h p (Ask l)) (book_asked b p l records)
 told_ask s h b p l records told range idle free stored = record {
   well_formed = still_formed s h b p (Ask l) told may;
-  sizes = record { processors = told.sizes.processors; words = told.sizes.words; addresses = told.sizes.addresses; lockers = told.sizes.lockers };
+  sizes = record {
+    processors = told.sizes.processors;
+    words = told.sizes.words;
+    addresses = told.sizes.addresses;
+    lockers = told.sizes.lockers;
+  };
   holds = history_on b.journal h (event p (Ask l) ∷ []) told.holds;
   closed = closed_now s h b p (Ask l) records told lt refl stored;
   times = times_closing s h b p (Ask l) told lt refl refl;
-  locks = each_set s.locks (IsLock s.processors h) (IsLock s.processors (did h p (Ask l))) b.locks.locks l (asked (lock_at b.locks l) p) told.locks
-      (λ m x isnt at is. lock_kept s.processors h p (Ask l) m x (λ e. isnt (cc e)) (λ e. absurd cc) (λ e. absurd cc) (idle_no_ask h p m (is_idle s h b p told idle)) is)
-      (lock_asked s.processors h p l (lock_at b.locks l).holder (lock_at b.locks l).queue (lock_at b.locks l).time none free lock);
+  locks = each_set s.locks (IsLock s.processors h) (IsLock s.processors (did h p (Ask l))) b.locks.locks l
+      (asked (lock_at b.locks l) p) told.locks
+      (λ m x isnt at is. lock_kept s.processors h p (Ask l) m x (λ e. isnt (cc e)) (λ e. absurd cc) (λ e. absurd cc)
+      (idle_no_ask h p m (is_idle s h b p told idle)) is)
+      (lock_asked s.processors h p l (lock_at b.locks l).holder (lock_at b.locks l).queue
+      (lock_at b.locks l).time none free lock);
   barrier = barrier_kept s h p (Ask l) b.barrier refl refl told.barrier;
-  flags = each_kept s.flags (IsFlag s.processors h) (IsFlag s.processors (did h p (Ask l))) b.flags told.flags (λ f o at is. flag_kept s.processors h p (Ask l) f o (λ e. absurd cc) is);
+  flags = each_kept s.flags (IsFlag s.processors h) (IsFlag s.processors (did h p (Ask l))) b.flags told.flags
+      (λ f o at is. flag_kept s.processors h p (Ask l) f o (λ e. absurd cc) is);
   awaits = awaits_set s h b p (Ask l) told;
-  transit = each_set s.processors (IsMail s h) (IsMail s (did h p (Ask l))) b.transit p (if_free (lock_at b.locks l).holder (grant_from c p (lock_at b.locks l).time)) told.transit
+  transit = each_set s.processors (IsMail s h) (IsMail s (did h p (Ask l))) b.transit p
+      (if_free (lock_at b.locks l).holder (grant_from c p (lock_at b.locks l).time)) told.transit
       (λ r o isnt at is. mail_kept s h p (Ask l) r o may isnt (λ m e. absurd cc) (λ e. absurd cc) is)
-      (asked_mail s h p l (lock_at b.locks l).holder (lock_at b.locks l).queue (lock_at b.locks l).time (grant_from c p (lock_at b.locks l).time).notices none free lock);
+      (asked_mail s h p l (lock_at b.locks l).holder (lock_at b.locks l).queue (lock_at b.locks l).time
+      (grant_from c p (lock_at b.locks l).time).notices none free lock);
   notices = notices;
   within = within_closing s h b p told lt;
   tight = tight_closing s h b p told lt;
@@ -160,51 +212,89 @@ told_ask s h b p l records told range idle free stored = record {
     lock : IsLock s.processors h l (lock_at b.locks l)
     lock = is_at s.locks (IsLock s.processors h) b.locks.locks l (unheld b.locks.processors) told.locks range
 
-    notices : (r : ℕ) (m : Letter) (t : List ℕ) → slice_get (slice_set b.transit p (if_free (lock_at b.locks l).holder (grant_from (closed_by b p (Ask l) records) p (lock_at b.locks l).time))) r ≡ Some (Some m) → slice_get (closed_by b p (Ask l) records).times r ≡ Some t → m.notices ≡ between (closed_by b p (Ask l) records).closed t m.time
+    notices : (r : ℕ) (m : Letter) (t : List ℕ)
+        → slice_get
+        (slice_set b.transit p
+        (if_free (lock_at b.locks l).holder (grant_from (closed_by b p (Ask l) records) p (lock_at b.locks l).time)))
+        r ≡ Some (Some m) → slice_get (closed_by b p (Ask l) records).times r ≡ Some t
+        → m.notices ≡ between (closed_by b p (Ask l) records).closed t m.time
     notices r m t at time = elim (cases_eq r p) [
       | inl is ↦ (
-          let P : ℕ → Type 0 = λ x. slice_get (slice_set b.transit p (if_free (lock_at b.locks l).holder (grant_from (closed_by b p (Ask l) records) p (lock_at b.locks l).time))) x ≡ Some (Some m) in
+          let P : ℕ → Type 0 =
+          λ x. slice_get
+          (slice_set b.transit p
+          (if_free (lock_at b.locks l).holder
+          (grant_from (closed_by b p (Ask l) records) p (lock_at b.locks l).time))) x ≡ Some (Some m) in
           let Q : ℕ → Type 0 = λ x. slice_get (closed_by b p (Ask l) records).times x ≡ Some t in
-          let found = slice_get-set_found b.transit p (if_free (lock_at b.locks l).holder (grant_from (closed_by b p (Ask l) records) p (lock_at b.locks l).time)) (Some m) (subst P is at) in
-          granted_notices (closed_by b p (Ask l) records) p (lock_at b.locks l).time t m (subst Q is time) (due_is (lock_at b.locks l).holder (grant_from (closed_by b p (Ask l) records) p (lock_at b.locks l).time) m found))
-      | inr isnt ↦ old_notices s h b p records r m t told lt isnt (sym (slice_get-set_other b.transit p r (if_free (lock_at b.locks l).holder (grant_from (closed_by b p (Ask l) records) p (lock_at b.locks l).time)) isnt) ∙ at) time
+          let found = slice_get-set_found b.transit p
+          (if_free (lock_at b.locks l).holder
+          (grant_from (closed_by b p (Ask l) records) p (lock_at b.locks l).time)) (Some m) (subst P is at) in
+          granted_notices (closed_by b p (Ask l) records) p (lock_at b.locks l).time t m (subst Q is time)
+          (due_is (lock_at b.locks l).holder
+          (grant_from (closed_by b p (Ask l) records) p (lock_at b.locks l).time) m found))
+      | inr isnt ↦ old_notices s h b p records r m t told lt isnt
+          (sym (slice_get-set_other b.transit p r
+          (if_free (lock_at b.locks l).holder
+          (grant_from (closed_by b p (Ask l) records) p (lock_at b.locks l).time)) isnt) ∙ at) time
     ]
 
 -- the others' mail when p releases the lock: news for the first of the queue alone
-released_mail : (s : Sizes) (h : List Event) (p l r : ℕ) (xs : List ℕ) (o : Option Letter) → MayFollow s h (event p (Release l)) → r ≢ p → IsLine (did h p (Release l)) l xs → ¬ (slice_get xs 0 ≡ Some r) → IsMail s h r o → IsMail s (did h p (Release l)) r o
+released_mail : (s : Sizes) (h : List Event) (p l r : ℕ) (xs : List ℕ) (o : Option Letter)
+    → MayFollow s h (event p (Release l)) → r ≢ p → IsLine (did h p (Release l)) l xs → ¬ (slice_get xs 0 ≡ Some r)
+    → IsMail s h r o → IsMail s (did h p (Release l)) r o
 released_mail s h p l r xs o may isnt line behind mail = mail_unless s h p (Release l) r o may isnt never mail
   where
     never : (a : Kind) → IsPosted a → News (Release l) a → ¬ Allowed s (did h p (Release l)) r a
     never (Acquire m) posted news (i, last, grant_from) =
         let same : m ≡ l = cc in
-        behind (first_allowed (did h p (Release l)) r l i xs (subst (λ x. LastIs (did h p (Release l)) r i (Ask x)) same last) (subst (λ x. MayBeGranted (did h p (Release l)) i x) same grant_from) line)
+        behind (first_allowed (did h p (Release l)) r l i xs
+        (subst (λ x. LastIs (did h p (Release l)) r i (Ask x)) same last)
+        (subst (λ x. MayBeGranted (did h p (Release l)) i x) same grant_from) line)
     never Depart posted news allowed = absurd cc
     never _ posted news allowed = absurd posted
 
 -- nobody holds a lock that was just released
-released_free : (s : Sizes) (h : List Event) (p l : ℕ) → WellFormed s h → Holds h p l → (q : ℕ) → ¬ Holds (did h p (Release l)) q l
+released_free : (s : Sizes) (h : List Event) (p l : ℕ) → WellFormed s h → Holds h p l → (q : ℕ)
+    → ¬ Holds (did h p (Release l)) q l
 released_free s h p l well held q after = elim (holds_cases h (event p (Release l)) q l after) [
   | inl old ↦ old.1 (ap (λ (r : ℕ). event r (Release l)) (holder_alone s h well p q l held old.0))
   | inr new ↦ absurd (cc (ap (λ e. e.kind) new))
 ]
 
 -- everyone's mail after a release
-mail_released : (s : Sizes) (h : List Event) (c : State) (p l : ℕ) (xs u : List ℕ) → WellFormed s h → MayFollow s h (event p (Release l)) → IsIdle h p → Holds h p l → IsLine (did h p (Release l)) l xs
-    → IsStamp s.processors (did h p (Release l)) (UpToSome (did h p (Release l)) (SomeDoes (did h p (Release l)) (Release l))) u → AreAll s.processors (IsMail s h) c.transit → AreAll s.processors (IsMail s (did h p (Release l))) (mail_passed_on c xs u)
-mail_released s h c p l [] u well may idle held line time all = each_own s.processors (IsMail s h) (IsMail s (did h p (Release l))) c.transit p all
+mail_released : (s : Sizes) (h : List Event) (c : State) (p l : ℕ) (xs u : List ℕ) → WellFormed s h
+    → MayFollow s h (event p (Release l)) → IsIdle h p → Holds h p l → IsLine (did h p (Release l)) l xs
+    → IsStamp s.processors (did h p (Release l))
+    (UpToSome (did h p (Release l)) (SomeDoes (did h p (Release l)) (Release l))) u
+    → AreAll s.processors (IsMail s h) c.transit
+    → AreAll s.processors (IsMail s (did h p (Release l))) (mail_passed_on c xs u)
+mail_released s h c p l [] u well may idle held line time all =
+    each_own s.processors (IsMail s h) (IsMail s (did h p (Release l))) c.transit p all
     (λ r o isnt at is. released_mail s h p l r [] o may isnt line (none-some r) is)
     (λ o at is. own_idle s h p (Release l) o idle (λ m e. absurd cc) (λ e. absurd cc) is)
-mail_released s h c p l (q ∷ xs) u well may idle held line time all = each_set s.processors (IsMail s h) (IsMail s (did h p (Release l))) c.transit q (Some (grant_from c q u)) all others
-    (record { kind = Acquire l; lets = tt; allowed = allowed_first (did h p (Release l)) q l (q ∷ xs) (released_free s h p l well held) refl line; time = time })
+mail_released s h c p l (q ∷ xs) u well may idle held line time all =
+    each_set s.processors (IsMail s h) (IsMail s (did h p (Release l))) c.transit q (Some (grant_from c q u))
+    all others
+    (record {
+      kind = Acquire l;
+      lets = tt;
+      allowed = allowed_first (did h p (Release l)) q l (q ∷ xs) (released_free s h p l well held) refl line;
+      time = time;
+    })
   where
-    others : (r : ℕ) (o : Option Letter) → r ≢ q → slice_get c.transit r ≡ Some o → IsMail s h r o → IsMail s (did h p (Release l)) r o
+    others : (r : ℕ) (o : Option Letter) → r ≢ q → slice_get c.transit r ≡ Some o → IsMail s h r o
+        → IsMail s (did h p (Release l)) r o
     others r o isnt at is = elim (cases_eq r p) [
-      | inl own ↦ (let P : ℕ → Type 0 = λ x. IsMail s h x o → IsMail s (did h p (Release l)) x o in subst P (sym own) (own_idle s h p (Release l) o idle (λ m e. absurd cc) (λ e. absurd cc)) is)
+      | inl own ↦ (let P : ℕ → Type 0 = λ x. IsMail s h x o → IsMail s (did h p (Release l)) x o in
+          subst P (sym own) (own_idle s h p (Release l) o idle (λ m e. absurd cc) (λ e. absurd cc)) is)
       | inr apart ↦ released_mail s h p l r (q ∷ xs) o may apart line (λ e. isnt (sym (same_Some q r e))) is
     ]
 
 -- the notices of messages that were there, and of the one that is posted
-passed_notices : (c : State) (xs u : List ℕ) (r : ℕ) (m : Letter) (t : List ℕ) → slice_get (mail_passed_on c xs u) r ≡ Some (Some m) → slice_get c.times r ≡ Some t → (slice_get c.transit r ≡ Some (Some m) → m.notices ≡ between c.closed t m.time) → m.notices ≡ between c.closed t m.time
+passed_notices : (c : State) (xs u : List ℕ) (r : ℕ) (m : Letter) (t : List ℕ)
+    → slice_get (mail_passed_on c xs u) r ≡ Some (Some m) → slice_get c.times r ≡ Some t
+    → (slice_get c.transit r ≡ Some (Some m) → m.notices ≡ between c.closed t m.time)
+    → m.notices ≡ between c.closed t m.time
 passed_notices c [] u r m t at time old = old at
 passed_notices c (q ∷ xs) u r m t at time old = elim (cases_eq r q) [
   | inl is ↦ (
@@ -216,21 +306,35 @@ passed_notices c (q ∷ xs) u r m t at time old = elim (cases_eq r q) [
 ]
 
 -- p releases a lock that it holds
-pub told_release : (s : Sizes) (h : List Event) (b : State) (p l : ℕ) (records : List Changes) → IsTold s h b → l < s.locks → slice_get b.awaits p ≡ Some None → Holds h p l → AreContents s h p (count_of is_closing h p) records → IsTold s (did h p (Release l)) (book_released b p l records)
+pub told_release : (s : Sizes) (h : List Event) (b : State) (p l : ℕ) (records : List Changes) → IsTold s h b
+    → l < s.locks → slice_get b.awaits p ≡ Some None → Holds h p l
+    → AreContents s h p (count_of is_closing h p) records
+    → IsTold s (did h p (Release l)) (book_released b p l records)
 told_release s h b p l records told range idle held stored = record {
   well_formed = well;
-  sizes = record { processors = told.sizes.processors; words = told.sizes.words; addresses = told.sizes.addresses; lockers = told.sizes.lockers };
+  sizes = record {
+    processors = told.sizes.processors;
+    words = told.sizes.words;
+    addresses = told.sizes.addresses;
+    lockers = told.sizes.lockers;
+  };
   holds = history_on b.journal h (event p (Release l) ∷ []) told.holds;
   closed = closed_now s h b p (Release l) records told lt refl stored;
   times = times_closing s h b p (Release l) told lt refl refl;
-  locks = each_set s.locks (IsLock s.processors h) (IsLock s.processors (did h p (Release l))) b.locks.locks l (released (lock_at b.locks l) (tick (time_of b p) p)) told.locks
-      (λ m x isnt at is. lock_kept s.processors h p (Release l) m x (λ e. absurd cc) (λ e. absurd cc) (λ e. isnt (cc e)) (idle_no_ask h p m free) is)
+  locks = each_set s.locks (IsLock s.processors h) (IsLock s.processors (did h p (Release l))) b.locks.locks l
+      (released (lock_at b.locks l) (tick (time_of b p) p)) told.locks
+      (λ m x isnt at is. lock_kept s.processors h p (Release l) m x (λ e. absurd cc) (λ e. absurd cc)
+      (λ e. isnt (cc e)) (idle_no_ask h p m free) is)
       (lock_passed s.processors (did h p (Release l)) l (lock_at b.locks l).queue (tick (time_of b p) p) line_now time);
   barrier = barrier_kept s h p (Release l) b.barrier refl refl told.barrier;
-  flags = each_kept s.flags (IsFlag s.processors h) (IsFlag s.processors (did h p (Release l))) b.flags told.flags (λ f o at is. flag_kept s.processors h p (Release l) f o (λ e. absurd cc) is);
+  flags = each_kept s.flags (IsFlag s.processors h) (IsFlag s.processors (did h p (Release l))) b.flags told.flags
+      (λ f o at is. flag_kept s.processors h p (Release l) f o (λ e. absurd cc) is);
   awaits = awaits_set s h b p (Release l) told;
-  transit = mail_released s h (closed_by b p (Release l) records) p l (lock_at b.locks l).queue (tick (time_of b p) p) told.well_formed may free held line_now time told.transit;
-  notices = λ r m t at now. passed_notices (closed_by b p (Release l) records) (lock_at b.locks l).queue (tick (time_of b p) p) r m t at now (λ there. old_notices s h b p records r m t told lt (apart r m there) there now);
+  transit = mail_released s h (closed_by b p (Release l) records) p l (lock_at b.locks l).queue
+      (tick (time_of b p) p) told.well_formed may free held line_now time told.transit;
+  notices = λ r m t at now. passed_notices (closed_by b p (Release l) records) (lock_at b.locks l).queue
+      (tick (time_of b p) p) r m t at now
+      (λ there. old_notices s h b p records r m t told lt (apart r m there) there now);
   within = within_closing s h b p told lt;
   tight = tight_closing s h b p told lt;
 }
@@ -251,10 +355,15 @@ told_release s h b p l records told range idle held stored = record {
     lock = is_at s.locks (IsLock s.processors h) b.locks.locks l (unheld b.locks.processors) told.locks range
 
     line_now : IsLine (did h p (Release l)) l (lock_at b.locks l).queue
-    line_now = line_passed s.processors h p l (lock_at b.locks l).holder (lock_at b.locks l).queue (lock_at b.locks l).time (idle_no_ask h p l free) held lock
+    line_now = line_passed s.processors h p l (lock_at b.locks l).holder (lock_at b.locks l).queue
+        (lock_at b.locks l).time (idle_no_ask h p l free) held lock
 
-    time : IsStamp s.processors (did h p (Release l)) (UpToSome (did h p (Release l)) (SomeDoes (did h p (Release l)) (Release l))) (tick (time_of b p) p)
-    time = stamp_released s h p l (tick (time_of b p) p) well (stamp_closing s.processors h p (Release l) (time_of b p) lt refl refl (own_stamp s h b p told lt))
+    time : IsStamp s.processors (did h p (Release l))
+        (UpToSome (did h p (Release l)) (SomeDoes (did h p (Release l)) (Release l))) (tick (time_of b p) p)
+    time = stamp_released s h p l (tick (time_of b p) p) well
+        (stamp_closing s.processors h p (Release l) (time_of b p) lt refl refl (own_stamp s h b p told lt))
 
     apart : (r : ℕ) (m : Letter) → slice_get b.transit r ≡ Some (Some m) → r ≢ p
-    apart r m at is = let P : ℕ → Type 0 = λ x. slice_get b.transit x ≡ Some (Some m) in none-some m (idle_mail s h p (Some m) free (told.transit.each p (Some m) (subst P is at)))
+    apart r m at is = let P : ℕ → Type 0 =
+        λ x. slice_get b.transit x ≡ Some (Some m) in
+        none-some m (idle_mail s h p (Some m) free (told.transit.each p (Some m) (subst P is at)))

@@ -66,7 +66,8 @@ told_new s some = record {
     contents = λ k has. absurd (has-nil k has);
     rising = in_order-nil (λ (j k : Kept). j.place < k.place);
   };
-  times = each_replicate s.processors (λ p t. IsStamp s.processors [] (InPast [] p) t) (replicate s.processors 0) (λ p. stamp_none s.processors [] (InPast [] p) (λ i x. nothing x.own x.event x.at));
+  times = each_replicate s.processors (λ p t. IsStamp s.processors [] (InPast [] p) t) (replicate s.processors 0)
+      (λ p. stamp_none s.processors [] (InPast [] p) (λ i x. nothing x.own x.event x.at));
   locks = each_replicate s.locks (IsLock s.processors []) (unheld s.processors) (λ l. record {
     line_is = record {
       each = λ q i last. absurd (nothing i (event q (Ask l)) last.does);
@@ -75,20 +76,26 @@ told_new s some = record {
       order = λ x y q r i k lt at to one two. absurd (none-some q at);
     };
     held = λ e. refl;
-    time = stamp_none s.processors [] (UpToSome [] (SomeDoes [] (Release l))) (λ i x. nothing x.0 (event x.1.0 (Release l)) x.1.1);
+    time = stamp_none s.processors [] (UpToSome [] (SomeDoes [] (Release l)))
+        (λ i x. nothing x.0 (event x.1.0 (Release l)) x.1.1);
   });
   barrier = record {
     complete = 0;
     stages = each_replicate s.processors (IsAtStage [] 0) Away (λ p. (refl, refl));
     lacks = (0, some, refl);
-    gathered = stamp_none s.processors [] (UpToSome [] (SomeArrives [] 0)) (λ i x. nothing x.0 (event x.1.0 Arrive) x.1.1.does);
+    gathered = stamp_none s.processors [] (UpToSome [] (SomeArrives [] 0))
+        (λ i x. nothing x.0 (event x.1.0 Arrive) x.1.1.does);
   };
   flags = each_replicate s.flags (IsFlag s.processors []) None (λ f i does. nothing i (event does.0 (Set f)) does.1);
-  awaits = each_replicate s.processors (IsAwaited []) None (λ p. record { last = λ i a last. absurd (nothing i (event p a) last.does); some = λ k e. absurd (none-some k e) });
+  awaits = each_replicate s.processors (IsAwaited []) None
+      (λ p. record
+      { last = λ i a last. absurd (nothing i (event p a) last.does); some = λ k e. absurd (none-some k e) });
   transit = each_replicate s.processors (IsMail s []) None none;
   notices = λ p m t at now. absurd (none-some m (slice_get-replicate_found s.processors None (Some m) p at));
-  within = λ p q t at. subst (λ u. slice_index (replicate s.processors 0) q ≤ slice_index u q) (slice_get-replicate_found s.processors (replicate s.processors 0) t p at) (omega arith);
-  tight = λ more q less. (0, replicate s.processors 0, slice_get-replicate s.processors (replicate s.processors 0) 0 some, omega arith);
+  within = λ p q t at. subst (λ u. slice_index (replicate s.processors 0) q ≤ slice_index u q)
+      (slice_get-replicate_found s.processors (replicate s.processors 0) t p at) (omega arith);
+  tight = λ more q less.
+      (0, replicate s.processors 0, slice_get-replicate s.processors (replicate s.processors 0) 0 some, omega arith);
 }
   where
     none : (p : ℕ) (a : Kind) → IsPosted a → ¬ Allowed s [] p a
@@ -109,16 +116,56 @@ record IsPlain (k : Kind) : Type 0 where
   allowed : (s : Sizes) (h : List Event) (p : ℕ) → Allowed s h p k
 
 plain_kind : (k : Kind) → is_taking k ≡ false → is_closing k ≡ false → IsPlain k
-plain_kind (Load a v) t c = record { awaits = refl; arrives = refl; departs = refl; ask = λ l e. absurd cc; acquire = λ l e. absurd cc; release = λ l e. absurd cc; set = λ f e. absurd cc; arrive = λ e. absurd cc; allowed = λ s h p. tt }
-plain_kind (Store a v) t c = record { awaits = refl; arrives = refl; departs = refl; ask = λ l e. absurd cc; acquire = λ l e. absurd cc; release = λ l e. absurd cc; set = λ f e. absurd cc; arrive = λ e. absurd cc; allowed = λ s h p. tt }
-plain_kind (Fetch w n r d) t c = record { awaits = refl; arrives = refl; departs = refl; ask = λ l e. absurd cc; acquire = λ l e. absurd cc; release = λ l e. absurd cc; set = λ f e. absurd cc; arrive = λ e. absurd cc; allowed = λ s h p. tt }
+plain_kind (Load a v) t c =
+    record {
+      awaits = refl;
+      arrives = refl;
+      departs = refl;
+      ask = λ l e. absurd cc;
+      acquire = λ l e. absurd cc;
+      release = λ l e. absurd cc;
+      set = λ f e. absurd cc;
+      arrive = λ e. absurd cc;
+      allowed = λ s h p. tt;
+    }
+plain_kind (Store a v) t c =
+    record {
+      awaits = refl;
+      arrives = refl;
+      departs = refl;
+      ask = λ l e. absurd cc;
+      acquire = λ l e. absurd cc;
+      release = λ l e. absurd cc;
+      set = λ f e. absurd cc;
+      arrive = λ e. absurd cc;
+      allowed = λ s h p. tt;
+    }
+plain_kind (Fetch w n r d) t c =
+    record {
+      awaits = refl;
+      arrives = refl;
+      departs = refl;
+      ask = λ l e. absurd cc;
+      acquire = λ l e. absurd cc;
+      release = λ l e. absurd cc;
+      set = λ f e. absurd cc;
+      arrive = λ e. absurd cc;
+      allowed = λ s h p. tt;
+    }
 plain_kind _ t c = absurd cc
 
 -- a book with another journal that holds the history
-pub told_journal : (s : Sizes) (h : List Event) (b : State) (log : Log) → (log.processors ≡ b.journal.processors) × (log.addresses ≡ b.journal.addresses) → HoldsSome log h → IsTold s h b → IsTold s h (record b { journal = log })
+pub told_journal : (s : Sizes) (h : List Event) (b : State) (log : Log)
+    → (log.processors ≡ b.journal.processors) × (log.addresses ≡ b.journal.addresses) → HoldsSome log h
+    → IsTold s h b → IsTold s h (record b { journal = log })
 told_journal s h b log same holds told = record {
   well_formed = told.well_formed;
-  sizes = record { processors = same.0 ∙ told.sizes.processors; words = told.sizes.words; addresses = same.1 ∙ told.sizes.addresses; lockers = told.sizes.lockers };
+  sizes = record {
+    processors = same.0 ∙ told.sizes.processors;
+    words = told.sizes.words;
+    addresses = same.1 ∙ told.sizes.addresses;
+    lockers = told.sizes.lockers;
+  };
   holds = holds;
   closed = told.closed;
   times = told.times;
@@ -133,18 +180,37 @@ told_journal s h b log same holds told = record {
 }
 
 -- one load, store or fetch
-told_quiet : (s : Sizes) (h : List Event) (b : State) (p : ℕ) (k : Kind) (log : Log) → (log.processors ≡ b.journal.processors) × (log.addresses ≡ b.journal.addresses) → IsTold s h b → slice_get b.awaits p ≡ Some None → is_taking k ≡ false → is_closing k ≡ false → KindInRange s k → HoldsSome log (did h p k) → IsTold s (did h p k) (record b { journal = log })
+told_quiet : (s : Sizes) (h : List Event) (b : State) (p : ℕ) (k : Kind) (log : Log)
+    → (log.processors ≡ b.journal.processors) × (log.addresses ≡ b.journal.addresses) → IsTold s h b
+    → slice_get b.awaits p ≡ Some None → is_taking k ≡ false → is_closing k ≡ false → KindInRange s k
+    → HoldsSome log (did h p k) → IsTold s (did h p k) (record b { journal = log })
 told_quiet s h b p k log same told idle takes closes range holds = record {
   well_formed = still_formed s h b p k told may;
-  sizes = record { processors = same.0 ∙ told.sizes.processors; words = told.sizes.words; addresses = same.1 ∙ told.sizes.addresses; lockers = told.sizes.lockers };
+  sizes = record {
+    processors = same.0 ∙ told.sizes.processors;
+    words = told.sizes.words;
+    addresses = same.1 ∙ told.sizes.addresses;
+    lockers = told.sizes.lockers;
+  };
   holds = holds;
   closed = closed_quiet s h p k b.closed closes told.closed;
-  times = each_own s.processors (λ q t. IsStamp s.processors h (InPast h q) t) (λ q t. IsStamp s.processors (did h p k) (InPast (did h p k) q) t) b.times p told.times (λ q t isnt at is. stamp_others s.processors h p k q t isnt is) (λ t at is. stamp_quiet s.processors h p k t takes closes is);
-  locks = each_kept s.locks (IsLock s.processors h) (IsLock s.processors (did h p k)) b.locks.locks told.locks (λ l x at is. lock_kept s.processors h p k l x (plain.ask l) (plain.acquire l) (plain.release l) (idle_no_ask h p l free) is);
+  times = each_own s.processors (λ q t. IsStamp s.processors h (InPast h q) t)
+      (λ q t. IsStamp s.processors (did h p k) (InPast (did h p k) q) t) b.times p told.times
+      (λ q t isnt at is. stamp_others s.processors h p k q t isnt is)
+      (λ t at is. stamp_quiet s.processors h p k t takes closes is);
+  locks = each_kept s.locks (IsLock s.processors h) (IsLock s.processors (did h p k)) b.locks.locks told.locks
+      (λ l x at is. lock_kept s.processors h p k l x (plain.ask l) (plain.acquire l) (plain.release l)
+      (idle_no_ask h p l free) is);
   barrier = barrier_kept s h p k b.barrier plain.arrives plain.departs told.barrier;
-  flags = each_kept s.flags (IsFlag s.processors h) (IsFlag s.processors (did h p k)) b.flags told.flags (λ f o at is. flag_kept s.processors h p k f o (plain.set f) is);
-  awaits = each_own s.processors (IsAwaited h) (IsAwaited (did h p k)) b.awaits p told.awaits (λ q w isnt at is. awaited_on h p k q w isnt is) (λ w at is. subst (λ x. IsAwaited (did h p k) p x) (plain.awaits ∙ same_Some None w (sym idle ∙ at)) (awaited_now h p k));
-  transit = each_own s.processors (IsMail s h) (IsMail s (did h p k)) b.transit p told.transit (λ r o isnt at is. mail_kept s h p k r o may isnt plain.release plain.arrive is) (λ o at is. own_idle s h p k o free plain.ask plain.arrive is);
+  flags = each_kept s.flags (IsFlag s.processors h) (IsFlag s.processors (did h p k)) b.flags told.flags
+      (λ f o at is. flag_kept s.processors h p k f o (plain.set f) is);
+  awaits = each_own s.processors (IsAwaited h) (IsAwaited (did h p k)) b.awaits p told.awaits
+      (λ q w isnt at is. awaited_on h p k q w isnt is)
+      (λ w at is. subst (λ x. IsAwaited (did h p k) p x) (plain.awaits ∙ same_Some None w (sym idle ∙ at))
+      (awaited_now h p k));
+  transit = each_own s.processors (IsMail s h) (IsMail s (did h p k)) b.transit p told.transit
+      (λ r o isnt at is. mail_kept s h p k r o may isnt plain.release plain.arrive is)
+      (λ o at is. own_idle s h p k o free plain.ask plain.arrive is);
   notices = told.notices;
   within = told.within;
   tight = told.tight;
@@ -160,27 +226,45 @@ told_quiet s h b p k log same told idle takes closes range holds = record {
     may = follows s h b p k told idle range (plain.allowed s h p)
 
 -- p hands in a block of loads, stores and fetches
-pub told_block : (s : Sizes) (h block : List Event) (b : State) (p : ℕ) → IsTold s h b → slice_get b.awaits p ≡ Some None → IsBlockOf s p block → IsTold s (h ++ block) (handed_in b block)
-told_block s h block b p told idle all = push_induction (λ es. IsBlockOf s p es → IsTold s (h ++ es) (handed_in b es)) start step block all
+pub told_block : (s : Sizes) (h block : List Event) (b : State) (p : ℕ) → IsTold s h b
+    → slice_get b.awaits p ≡ Some None → IsBlockOf s p block → IsTold s (h ++ block) (handed_in b block)
+told_block s h block b p told idle all =
+    push_induction (λ es. IsBlockOf s p es → IsTold s (h ++ es) (handed_in b es)) start step block all
   where
     start : IsBlockOf s p [] → IsTold s (h ++ []) (handed_in b [])
-    start plain = told_journal s (h ++ []) b (appended b.journal []) (refl, refl) (history_on b.journal h [] told.holds) (rw append-nil told)
+    start plain = told_journal s (h ++ []) b (appended b.journal []) (refl, refl)
+        (history_on b.journal h [] told.holds) (rw append-nil told)
 
-    pushed : (es : List Event) (e : Event) → IsInner s p e → IsTold s (h ++ es) (handed_in b es) → IsTold s (h ++ (es ++ e ∷ [])) (handed_in b (es ++ e ∷ []))
+    pushed : (es : List Event) (e : Event) → IsInner s p e → IsTold s (h ++ es) (handed_in b es)
+        → IsTold s (h ++ (es ++ e ∷ [])) (handed_in b (es ++ e ∷ []))
     pushed es e x now =
         let same : event p e.kind ≡ e = ap (λ q. event q e.kind) (sym x.mine) in
-        let one = told_quiet s (h ++ es) (handed_in b es) p e.kind (appended (handed_in b es).journal (event p e.kind ∷ [])) (refl, refl) now idle x.takes x.closes x.in_range (history_on (handed_in b es).journal (h ++ es) (event p e.kind ∷ []) now.holds) in
-        let read = subst (λ f. IsTold s ((h ++ es) ++ f ∷ []) (record b { journal = record b.journal { events = (b.journal.events ++ es) ++ f ∷ [] } })) same one in
-        subst₂ (λ xs ys. IsTold s xs (record b { journal = record b.journal { events = ys } })) (append_assoc h es (e ∷ [])) (append_assoc b.journal.events es (e ∷ [])) read
+        let one = told_quiet s (h ++ es) (handed_in b es) p e.kind
+        (appended (handed_in b es).journal (event p e.kind ∷ [])) (refl, refl)
+        now idle x.takes x.closes x.in_range
+        (history_on (handed_in b es).journal (h ++ es) (event p e.kind ∷ []) now.holds) in
+        let read = subst (λ f. IsTold s ((h ++ es) ++ f ∷ [])
+        (record b { journal = record b.journal { events = (b.journal.events ++ es) ++ f ∷ [] } })) same one in
+        subst₂ (λ xs ys. IsTold s xs (record b { journal = record b.journal { events = ys } }))
+        (append_assoc h es (e ∷ [])) (append_assoc b.journal.events es (e ∷ [])) read
 
-    step : (es : List Event) (e : Event) → (IsBlockOf s p es → IsTold s (h ++ es) (handed_in b es)) → IsBlockOf s p (es ++ e ∷ []) → IsTold s (h ++ (es ++ e ∷ [])) (handed_in b (es ++ e ∷ []))
-    step es e ih plain = pushed es e (plain (length es) e (at_last es e)) (ih (λ k f at. plain k f (at_longer es (e ∷ []) k f at)))
+    step : (es : List Event) (e : Event) → (IsBlockOf s p es → IsTold s (h ++ es) (handed_in b es))
+        → IsBlockOf s p (es ++ e ∷ []) → IsTold s (h ++ (es ++ e ∷ [])) (handed_in b (es ++ e ∷ []))
+    step es e ih plain =
+        pushed es e (plain (length es) e (at_last es e)) (ih (λ k f at. plain k f (at_longer es (e ∷ []) k f at)))
 
 -- one owner's intervals that everyone's timestamp covers are trimmed
-trimmed_once : (s : Sizes) (h : List Event) (b : State) (c : Closings) (owner to : ℕ) → ((p : ℕ) (t : List ℕ) → slice_get b.times p ≡ Some t → to ≤ slice_index t owner) → owner < s.processors → IsLoose s h (record b { closed = c }) → IsLoose s h (record b { closed = trimmed c owner to })
+trimmed_once : (s : Sizes) (h : List Event) (b : State) (c : Closings) (owner to : ℕ)
+    → ((p : ℕ) (t : List ℕ) → slice_get b.times p ≡ Some t → to ≤ slice_index t owner) → owner < s.processors
+    → IsLoose s h (record b { closed = c }) → IsLoose s h (record b { closed = trimmed c owner to })
 trimmed_once s h b c owner to covered lt told = record {
   well_formed = told.well_formed;
-  sizes = record { processors = told.sizes.processors; words = told.sizes.words; addresses = told.sizes.addresses; lockers = told.sizes.lockers };
+  sizes = record {
+    processors = told.sizes.processors;
+    words = told.sizes.words;
+    addresses = told.sizes.addresses;
+    lockers = told.sizes.lockers;
+  };
   holds = told.holds;
   closed = closed_trimmed s h c owner to lt told.closed;
   times = told.times;
@@ -190,10 +274,14 @@ trimmed_once s h b c owner to covered lt told = record {
   awaits = told.awaits;
   transit = told.transit;
   notices = λ p m t at now. told.notices p m t at now ∙ sym (between-trimmed c owner to t m.time (covered p t now));
-  within = within_trimmed c owner to b.times covered (subst (λ n. owner < n) (sym told.closed.first_long) lt) told.within;
+  within = within_trimmed c owner to b.times covered (subst (λ n. owner < n) (sym told.closed.first_long) lt)
+      told.within;
 }
 
 -- the intervals that everyone's timestamp covers are trimmed
-pub told_trimmed : (s : Sizes) (h : List Event) (b : State) (n : ℕ) → n ≤ s.processors → IsLoose s h b → IsLoose s h (record b { closed = trimmed_by b.closed b.times n })
+pub told_trimmed : (s : Sizes) (h : List Event) (b : State) (n : ℕ) → n ≤ s.processors → IsLoose s h b
+    → IsLoose s h (record b { closed = trimmed_by b.closed b.times n })
 told_trimmed s h b zero le told = told
-told_trimmed s h b (suc n) le told = trimmed_once s h b (trimmed_by b.closed b.times n) n (least b.times n) (λ p t at. least_le b.times n p t at) (omega arith) (told_trimmed s h b n (omega arith) told)
+told_trimmed s h b (suc n) le told =
+    trimmed_once s h b (trimmed_by b.closed b.times n) n (least b.times n) (λ p t at. least_le b.times n p t at)
+    (omega arith) (told_trimmed s h b n (omega arith) told)

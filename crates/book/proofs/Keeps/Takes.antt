@@ -1,4 +1,5 @@
--- Takes of grants and departures: what the book is told by the history before, it is told by the history with the event after.
+-- Takes of grants and departures: what the book is told by the history before, it is told by the history with the
+-- event after.
 use Rattle.std.proofs.lemmas.Bool.{true≢false}
 use Rattle.std.proofs.lemmas.List.{set-get_or}
 use Rattle.std.specs.Option.{option_map, is_some}
@@ -49,28 +50,44 @@ posted_taking Depart posted = refl
 posted_taking _ posted = absurd posted
 
 -- what p may take is what it waits for
-awaits_it : (s : Sizes) (h : List Event) (p : ℕ) (k a : Kind) → IsAwaited h p (Some k) → IsTrue (is_taking a) → Allowed s h p a → a ≡ k
-awaits_it s h p k a w taking allowed = let x = waits_for s h p a taking allowed in sym (same_Some k a (w.last x.place x.call x.last ∙ x.awaits))
+awaits_it : (s : Sizes) (h : List Event) (p : ℕ) (k a : Kind) → IsAwaited h p (Some k) → IsTrue (is_taking a)
+    → Allowed s h p a → a ≡ k
+awaits_it s h p k a w taking allowed = let x =
+    waits_for s h p a taking allowed in sym (same_Some k a (w.last x.place x.call x.last ∙ x.awaits))
 
 -- p's message lets it do what it waits for
-pub message_lets : (s : Sizes) (h : List Event) (p : ℕ) (k : Kind) (m : Letter) → IsAwaited h p (Some k) → Carries s h p m → IsPosted k × Allowed s h p k × IsStamp s.processors h (Brings h p k) m.time
+pub message_lets : (s : Sizes) (h : List Event) (p : ℕ) (k : Kind) (m : Letter) → IsAwaited h p (Some k)
+    → Carries s h p m → IsPosted k × Allowed s h p k × IsStamp s.processors h (Brings h p k) m.time
 message_lets s h p k m w x =
     let posted = lets_posted m.kind x.kind x.lets in
-    let is = awaits_it s h p k x.kind w (posted_taking x.kind posted) x.allowed in
-    (subst (λ a. IsPosted a) is posted, subst (λ a. Allowed s h p a) is x.allowed, subst (λ a. IsStamp s.processors h (Brings h p a) m.time) is x.time)
+    let is = awaits_it s h p k x.kind w (posted_taking x.kind posted) x.allowed in (
+      subst (λ a. IsPosted a) is posted,
+      subst (λ a. Allowed s h p a) is x.allowed,
+      subst (λ a. IsStamp s.processors h (Brings h p a) m.time) is x.time,
+    )
 
 -- each lock, after a take
-took_lock : (s : Sizes) (h : List Event) (p : ℕ) (k : Kind) (l : ℕ) (x : Lock) → IsPosted k → Allowed s h p k → IsLock s.processors h l x → IsLock s.processors (did h p k) l x
+took_lock : (s : Sizes) (h : List Event) (p : ℕ) (k : Kind) (l : ℕ) (x : Lock) → IsPosted k → Allowed s h p k
+    → IsLock s.processors h l x → IsLock s.processors (did h p k) l x
 took_lock s h p (Acquire m) l x posted (i, last, granted) is = elim (cases_eq m l) [
-  | inl same ↦ (let P : ℕ → Type 0 = λ n. IsLock s.processors (did h p (Acquire n)) l x in subst P (sym same) (lock_taken s.processors h p l i x (subst (λ n. LastIs h p i (Ask n)) same last) (subst (λ n. MayBeGranted h i n) same granted) is))
-  | inr apart ↦ lock_kept s.processors h p (Acquire m) l x (λ e. absurd cc) (λ e. apart (cc e)) (λ e. absurd cc) (λ n ask. apart (cc ((last_unique h p i n (Ask m) (Ask l) last ask).1))) is
+  | inl same ↦ (let P : ℕ → Type 0 = λ n. IsLock s.processors (did h p (Acquire n)) l x in
+      subst P (sym same)
+      (lock_taken s.processors h p l i x (subst (λ n. LastIs h p i (Ask n)) same last)
+      (subst (λ n. MayBeGranted h i n) same granted) is))
+  | inr apart ↦ lock_kept s.processors h p (Acquire m) l x (λ e. absurd cc) (λ e. apart (cc e)) (λ e. absurd cc)
+      (λ n ask. apart (cc ((last_unique h p i n (Ask m) (Ask l) last ask).1))) is
 ]
-took_lock s h p Depart l x posted (i, last, all) is = lock_kept s.processors h p Depart l x (λ e. absurd cc) (λ e. absurd cc) (λ e. absurd cc) (λ n ask. absurd (cc ((last_unique h p i n Arrive (Ask l) last ask).1))) is
+took_lock s h p Depart l x posted (i, last, all) is =
+    lock_kept s.processors h p Depart l x (λ e. absurd cc) (λ e. absurd cc) (λ e. absurd cc)
+    (λ n ask. absurd (cc ((last_unique h p i n Arrive (Ask l) last ask).1))) is
 took_lock s h p _ l x posted allowed is = absurd posted
 
-took_barrier : (s : Sizes) (h : List Event) (b : State) (p : ℕ) (k : Kind) → IsTold s h b → p < s.processors → IsPosted k → Allowed s h p k → IsBarrier s (did h p k) (barrier_left k b.barrier p)
-took_barrier s h b p (Acquire l) told lt posted allowed = barrier_kept s h p (Acquire l) b.barrier refl refl told.barrier
-took_barrier s h b p Depart told lt posted allowed = barrier_departed s h p b.barrier told.well_formed allowed lt told.barrier
+took_barrier : (s : Sizes) (h : List Event) (b : State) (p : ℕ) (k : Kind) → IsTold s h b → p < s.processors
+    → IsPosted k → Allowed s h p k → IsBarrier s (did h p k) (barrier_left k b.barrier p)
+took_barrier s h b p (Acquire l) told lt posted allowed =
+    barrier_kept s h p (Acquire l) b.barrier refl refl told.barrier
+took_barrier s h b p Depart told lt posted allowed =
+    barrier_departed s h p b.barrier told.well_formed allowed lt told.barrier
 took_barrier s h b p _ told lt posted allowed = absurd posted
 
 -- of an event that is let by a message
@@ -83,23 +100,50 @@ record IsTaking (k : Kind) : Type 0 where
   set : (f : ℕ) → k ≢ Set f
 
 takes_posted : (k : Kind) → IsPosted k → IsTaking k
-takes_posted (Acquire l) posted = record { takes = refl; closes = refl; ask = λ m e. absurd cc; arrive = λ e. absurd cc; release = λ m e. absurd cc; set = λ f e. absurd cc }
-takes_posted Depart posted = record { takes = refl; closes = refl; ask = λ m e. absurd cc; arrive = λ e. absurd cc; release = λ m e. absurd cc; set = λ f e. absurd cc }
+takes_posted (Acquire l) posted =
+    record {
+      takes = refl;
+      closes = refl;
+      ask = λ m e. absurd cc;
+      arrive = λ e. absurd cc;
+      release = λ m e. absurd cc;
+      set = λ f e. absurd cc;
+    }
+takes_posted Depart posted =
+    record {
+      takes = refl;
+      closes = refl;
+      ask = λ m e. absurd cc;
+      arrive = λ e. absurd cc;
+      release = λ m e. absurd cc;
+      set = λ f e. absurd cc;
+    }
 takes_posted _ posted = absurd posted
 
 -- p takes its mail
-pub told_take : (s : Sizes) (h : List Event) (b : State) (p : ℕ) (k : Kind) (m : Letter) → IsTold s h b → slice_get b.awaits p ≡ Some (Some k) → slice_get b.transit p ≡ Some (Some m) → IsLoose s (did h p k) (book_received b p k m)
+pub told_take : (s : Sizes) (h : List Event) (b : State) (p : ℕ) (k : Kind) (m : Letter) → IsTold s h b
+    → slice_get b.awaits p ≡ Some (Some k) → slice_get b.transit p ≡ Some (Some m)
+    → IsLoose s (did h p k) (book_received b p k m)
 told_take s h b p k m told waits mail = record {
   well_formed = still_formed s h b p k told may;
-  sizes = record { processors = told.sizes.processors; words = told.sizes.words; addresses = told.sizes.addresses; lockers = told.sizes.lockers };
+  sizes = record {
+    processors = told.sizes.processors;
+    words = told.sizes.words;
+    addresses = told.sizes.addresses;
+    lockers = told.sizes.lockers;
+  };
   holds = history_on b.journal h (event p k ∷ []) told.holds;
   closed = closed_quiet s h p k b.closed kind.closes told.closed;
   times = times_taking s h b p k m.time told lt kind.closes lets.2;
-  locks = each_kept s.locks (IsLock s.processors h) (IsLock s.processors (did h p k)) b.locks.locks told.locks (λ l x at is. took_lock s h p k l x lets.0 lets.1 is);
+  locks = each_kept s.locks (IsLock s.processors h) (IsLock s.processors (did h p k)) b.locks.locks told.locks
+      (λ l x at is. took_lock s h p k l x lets.0 lets.1 is);
   barrier = took_barrier s h b p k told lt lets.0 lets.1;
-  flags = each_kept s.flags (IsFlag s.processors h) (IsFlag s.processors (did h p k)) b.flags told.flags (λ f o at is. flag_kept s.processors h p k f o (kind.set f) is);
+  flags = each_kept s.flags (IsFlag s.processors h) (IsFlag s.processors (did h p k)) b.flags told.flags
+      (λ f o at is. flag_kept s.processors h p k f o (kind.set f) is);
   awaits = awaits_set s h b p k told;
-  transit = each_set s.processors (IsMail s h) (IsMail s (did h p k)) b.transit p None told.transit (λ r o isnt at is. mail_kept s h p k r o may isnt kind.release kind.arrive is) (own_none s h p k kind.ask kind.arrive);
+  transit = each_set s.processors (IsMail s h) (IsMail s (did h p k)) b.transit p None told.transit
+      (λ r o isnt at is. mail_kept s h p k r o may isnt kind.release kind.arrive is)
+      (own_none s h p k kind.ask kind.arrive);
   notices = notices;
   within = within_taking s h b p m.time told lt;
 }
@@ -116,23 +160,33 @@ told_take s h b p k m told waits mail = record {
     may : MayFollow s h (event p k)
     may = taking_follows s h p k told.well_formed kind.takes lets.1
 
-    notices : (r : ℕ) (n : Letter) (t : List ℕ) → slice_get (slice_set b.transit p None) r ≡ Some (Some n) → slice_get (slice_set b.times p (join (time_of b p) m.time)) r ≡ Some t → n.notices ≡ between b.closed t n.time
+    notices : (r : ℕ) (n : Letter) (t : List ℕ) → slice_get (slice_set b.transit p None) r ≡ Some (Some n)
+        → slice_get (slice_set b.times p (join (time_of b p) m.time)) r ≡ Some t
+        → n.notices ≡ between b.closed t n.time
     notices r n t at now = elim (cases_eq r p) [
-      | inl is ↦ (let P : ℕ → Type 0 = λ x. slice_get (slice_set b.transit p None) x ≡ Some (Some n) in absurd (none-some n (slice_get-set_found b.transit p None (Some n) (subst P is at))))
-      | inr isnt ↦ told.notices r n t (sym (slice_get-set_other b.transit p r None isnt) ∙ at) (sym (slice_get-set_other b.times p r (join (time_of b p) m.time) isnt) ∙ now)
+      | inl is ↦ (let P : ℕ → Type 0 = λ x. slice_get (slice_set b.transit p None) x ≡ Some (Some n) in
+          absurd (none-some n (slice_get-set_found b.transit p None (Some n) (subst P is at))))
+      | inr isnt ↦ told.notices r n t (sym (slice_get-set_other b.transit p r None isnt) ∙ at)
+          (sym (slice_get-set_other b.times p r (join (time_of b p) m.time) isnt) ∙ now)
     ]
 
 -- who waits for a grant or a departure may go on exactly where its message is there
-pub mail_ready : (s : Sizes) (h : List Event) (b : State) (p : ℕ) (k : Kind) (o : Option Letter) → IsTold s h b → slice_get b.awaits p ≡ Some (Some k) → IsPosted k → slice_get b.transit p ≡ Some o → (o ≢ None) ↔ Ready s h p
-mail_ready s h b p k o told waits posted at = (there o (told.transit.each p o at), λ ready. back o (told.transit.each p o at) ready)
+pub mail_ready : (s : Sizes) (h : List Event) (b : State) (p : ℕ) (k : Kind) (o : Option Letter) → IsTold s h b
+    → slice_get b.awaits p ≡ Some (Some k) → IsPosted k → slice_get b.transit p ≡ Some o → (o ≢ None) ↔ Ready s h p
+mail_ready s h b p k o told waits posted at =
+    (there o (told.transit.each p o at), λ ready. back o (told.transit.each p o at) ready)
   where
     there : (x : Option Letter) → IsMail s h p x → (x ≢ None) → Ready s h p
     there None mail isnt = absurd (isnt refl)
-    there (Some m) mail isnt = (mail.kind, posted_taking mail.kind (lets_posted m.kind mail.kind mail.lets), mail.allowed)
+    there (Some m) mail isnt =
+        (mail.kind, posted_taking mail.kind (lets_posted m.kind mail.kind mail.lets), mail.allowed)
 
     back : (x : Option Letter) → IsMail s h p x → Ready s h p → x ≢ None
     back (Some m) mail ready e = absurd (cc (e))
-    back None mail (a, taking, allowed) e = mail k posted (subst (λ c. Allowed s h p c) (awaits_it s h p k a (told.awaits.each p (Some k) waits) taking allowed) allowed)
+    back None mail (a, taking, allowed) e =
+        mail k posted
+        (subst (λ c. Allowed s h p c) (awaits_it s h p k a (told.awaits.each p (Some k) waits) taking allowed)
+        allowed)
 
 -- what p waits for is a grant, a departure or a flag
 awaited_cases : (a k : Kind) → awaited a ≡ Some k → ((f : ℕ) × (k ≡ Await f)) ⊎ IsPosted k
@@ -145,70 +199,108 @@ awaited_cases _ k is = absurd (cc (is))
 waits_posted : (h : List Event) (p : ℕ) (k : Kind) → IsAwaited h p (Some k) → ((f : ℕ) → k ≢ Await f) → IsPosted k
 waits_posted h p k w isnt =
     let last = w.some k refl in
-    elim (awaited_cases last.1 k (sym (w.last last.0 last.1 last.2))) [ inl flag ↦ absurd (isnt flag.0 flag.1) | inr posted ↦ posted ]
+    elim (awaited_cases last.1 k (sym (w.last last.0 last.1 last.2)))
+    [ inl flag ↦ absurd (isnt flag.0 flag.1) | inr posted ↦ posted ]
 
 pub waits_taking : (h : List Event) (p : ℕ) (k : Kind) → IsAwaited h p (Some k) → IsTrue (is_taking k)
 waits_taking h p k w =
     let last = w.some k refl in
-    elim (awaited_cases last.1 k (sym (w.last last.0 last.1 last.2))) [ inl flag ↦ subst (λ a. IsTrue (is_taking a)) (sym flag.1) refl | inr posted ↦ posted_taking k posted ]
+    elim (awaited_cases last.1 k (sym (w.last last.0 last.1 last.2)))
+    [ inl flag ↦ subst (λ a. IsTrue (is_taking a)) (sym flag.1) refl | inr posted ↦ posted_taking k posted ]
 
 -- p's mail, as it stands in the book
-mail_at : (s : Sizes) (h : List Event) (b : State) (p : ℕ) (m : Letter) → IsTold s h b → p < s.processors → slice_index_or b.transit p None ≡ Some m → slice_get b.transit p ≡ Some (Some m)
-mail_at s h b p m told lt is = item_at s.processors (IsMail s h) b.transit p None told.transit lt ∙ ap (λ (o : Option Letter). Some o) is
+mail_at : (s : Sizes) (h : List Event) (b : State) (p : ℕ) (m : Letter) → IsTold s h b → p < s.processors
+    → slice_index_or b.transit p None ≡ Some m → slice_get b.transit p ≡ Some (Some m)
+mail_at s h b p m told lt is =
+    item_at s.processors (IsMail s h) b.transit p None told.transit lt ∙ ap (λ (o : Option Letter). Some o) is
 
-mail_is : (s : Sizes) (h : List Event) (b : State) (p : ℕ) (k : Kind) (m : Letter) → IsTold s h b → slice_get b.awaits p ≡ Some (Some k) → slice_index_or b.transit p None ≡ Some m → IsMessage s h b p k m
+mail_is : (s : Sizes) (h : List Event) (b : State) (p : ℕ) (k : Kind) (m : Letter) → IsTold s h b
+    → slice_get b.awaits p ≡ Some (Some k) → slice_index_or b.transit p None ≡ Some m → IsMessage s h b p k m
 mail_is s h b p k m told waits is =
     let lt = is_processor s h b p (Some k) told waits in
     let at = mail_at s h b p m told lt is in
     let lets = message_lets s h p k m (told.awaits.each p (Some k) waits) (told.transit.each p (Some m) at) in
-    record { allowed = lets.1; time = lets.2; notices = told.notices p m (time_of b p) at (item_at s.processors (λ q t. IsStamp s.processors h (InPast h q) t) b.times p [] told.times lt) }
+    record {
+      allowed = lets.1;
+      time = lets.2;
+      notices = told.notices p m (time_of b p) at
+          (item_at s.processors (λ q t. IsStamp s.processors h (InPast h q) t) b.times p [] told.times lt);
+    }
 
 -- a flag as it stands in the book
-flag_at : (s : Sizes) (h : List Event) (b : State) (p f : ℕ) → IsTold s h b → slice_get b.awaits p ≡ Some (Some (Await f)) → slice_get b.flags f ≡ Some (slice_index_or b.flags f None)
+flag_at : (s : Sizes) (h : List Event) (b : State) (p f : ℕ) → IsTold s h b
+    → slice_get b.awaits p ≡ Some (Some (Await f)) → slice_get b.flags f ≡ Some (slice_index_or b.flags f None)
 flag_at s h b p f told waits =
     let last = last_watch h p f (told.awaits.each p (Some (Await f)) waits) in
-    item_at s.flags (IsFlag s.processors h) b.flags f None told.flags (told.well_formed last.0 (event p (Watch f)) last.1.does).in_range
+    item_at s.flags (IsFlag s.processors h) b.flags f None told.flags
+    (told.well_formed last.0 (event p (Watch f)) last.1.does).in_range
 
-signal_is : (s : Sizes) (h : List Event) (b : State) (p f : ℕ) (m : Letter) (o : Option (List ℕ)) → IsTold s h b → slice_get b.awaits p ≡ Some (Some (Await f)) → slice_get b.flags f ≡ Some o → option_map (λ (t : List ℕ). signal_to b.closed t (time_of b p)) o ≡ Some m → IsMessage s h b p (Await f) m
+signal_is : (s : Sizes) (h : List Event) (b : State) (p f : ℕ) (m : Letter) (o : Option (List ℕ)) → IsTold s h b
+    → slice_get b.awaits p ≡ Some (Some (Await f)) → slice_get b.flags f ≡ Some o
+    → option_map (λ (t : List ℕ). signal_to b.closed t (time_of b p)) o ≡ Some m → IsMessage s h b p (Await f) m
 signal_is s h b p f m None told waits at is = absurd (none-some m is)
 signal_is s h b p f m (Some t) told waits at is =
     let last = last_watch h p f (told.awaits.each p (Some (Await f)) waits) in
     let flag : IsFlag s.processors h f (Some t) = told.flags.each f (Some t) at in
-    subst (IsMessage s h b p (Await f)) (same_Some (signal_to b.closed t (time_of b p)) m is) (record { allowed = (last.0, flag.0.0, flag.0.1.0, last.1, flag.0.1.1); time = flag.1; notices = refl })
+    subst (IsMessage s h b p (Await f)) (same_Some (signal_to b.closed t (time_of b p)) m is)
+    (record { allowed = (last.0, flag.0.0, flag.0.1.0, last.1, flag.0.1.1); time = flag.1; notices = refl })
 
 -- p's message lets p go on
-pub message_is : (s : Sizes) (h : List Event) (b : State) (p : ℕ) (k : Kind) (m : Letter) → IsTold s h b → slice_get b.awaits p ≡ Some (Some k) → message_for b p k ≡ Some m → IsMessage s h b p k m
-message_is s h b p (Await f) m told waits is = signal_is s h b p f m (slice_index_or b.flags f None) told waits (flag_at s h b p f told waits) is
+pub message_is : (s : Sizes) (h : List Event) (b : State) (p : ℕ) (k : Kind) (m : Letter) → IsTold s h b
+    → slice_get b.awaits p ≡ Some (Some k) → message_for b p k ≡ Some m → IsMessage s h b p k m
+message_is s h b p (Await f) m told waits is =
+    signal_is s h b p f m (slice_index_or b.flags f None) told waits (flag_at s h b p f told waits) is
 message_is s h b p _ m told waits is = mail_is s h b p _ m told waits is
 
 -- who waits for a flag has no mail
-pub no_mail_waits : (s : Sizes) (h : List Event) (b : State) (p f : ℕ) → IsTold s h b → slice_get b.awaits p ≡ Some (Some (Await f)) → b.transit ≡ slice_set b.transit p None
+pub no_mail_waits : (s : Sizes) (h : List Event) (b : State) (p f : ℕ) → IsTold s h b
+    → slice_get b.awaits p ≡ Some (Some (Await f)) → b.transit ≡ slice_set b.transit p None
 no_mail_waits s h b p f told waits =
     let lt = is_processor s h b p (Some (Await f)) told waits in
     let last = last_watch h p f (told.awaits.each p (Some (Await f)) waits) in
-    let none = watching_mail s h p last.0 f (slice_index_or b.transit p None) last.1 (is_at s.processors (IsMail s h) b.transit p None told.transit lt) in
+    let none = watching_mail s h p last.0 f (slice_index_or b.transit p None) last.1
+    (is_at s.processors (IsMail s h) b.transit p None told.transit lt) in
     sym (set-get_or b.transit p None) ∙ ap (λ (o : Option Letter). slice_set b.transit p o) (sym none)
 
-signal_took : (s : Sizes) (h : List Event) (b : State) (p f : ℕ) (m : Letter) (o : Option (List ℕ)) → IsTold s h b → slice_get b.awaits p ≡ Some (Some (Await f)) → slice_get b.flags f ≡ Some o → option_map (λ (t : List ℕ). signal_to b.closed t (time_of b p)) o ≡ Some m → IsLoose s (did h p (Await f)) (book_received b p (Await f) m)
+signal_took : (s : Sizes) (h : List Event) (b : State) (p f : ℕ) (m : Letter) (o : Option (List ℕ)) → IsTold s h b
+    → slice_get b.awaits p ≡ Some (Some (Await f)) → slice_get b.flags f ≡ Some o
+    → option_map (λ (t : List ℕ). signal_to b.closed t (time_of b p)) o ≡ Some m
+    → IsLoose s (did h p (Await f)) (book_received b p (Await f) m)
 signal_took s h b p f m None told waits at is = absurd (none-some m is)
 signal_took s h b p f m (Some t) told waits at is =
-    subst (λ x. IsLoose s (did h p (Await f)) (book_received b p (Await f) x)) (same_Some (signal_to b.closed t (time_of b p)) m is)
-    (subst (λ ts. IsLoose s (did h p (Await f)) (record (book_joined b p (Await f) t) { transit = ts })) (no_mail_waits s h b p f told waits) (told_signal s h b p f t told waits at))
+    subst (λ x. IsLoose s (did h p (Await f)) (book_received b p (Await f) x))
+    (same_Some (signal_to b.closed t (time_of b p)) m is)
+    (subst (λ ts. IsLoose s (did h p (Await f)) (record (book_joined b p (Await f) t) { transit = ts }))
+    (no_mail_waits s h b p f told waits) (told_signal s h b p f t told waits at))
 
 -- p takes its message
-pub told_took : (s : Sizes) (h : List Event) (b : State) (p : ℕ) (k : Kind) (m : Letter) → IsTold s h b → slice_get b.awaits p ≡ Some (Some k) → message_for b p k ≡ Some m → IsLoose s (did h p k) (book_received b p k m)
-told_took s h b p (Await f) m told waits is = signal_took s h b p f m (slice_index_or b.flags f None) told waits (flag_at s h b p f told waits) is
-told_took s h b p _ m told waits is = told_take s h b p _ m told waits (mail_at s h b p m told (is_processor s h b p (Some _) told waits) is)
+pub told_took : (s : Sizes) (h : List Event) (b : State) (p : ℕ) (k : Kind) (m : Letter) → IsTold s h b
+    → slice_get b.awaits p ≡ Some (Some k) → message_for b p k ≡ Some m
+    → IsLoose s (did h p k) (book_received b p k m)
+told_took s h b p (Await f) m told waits is =
+    signal_took s h b p f m (slice_index_or b.flags f None) told waits (flag_at s h b p f told waits) is
+told_took s h b p _ m told waits is =
+    told_take s h b p _ m told waits (mail_at s h b p m told (is_processor s h b p (Some _) told waits) is)
 
-mail_come : (s : Sizes) (h : List Event) (b : State) (p : ℕ) (k : Kind) → IsTold s h b → slice_get b.awaits p ≡ Some (Some k) → ((f : ℕ) → k ≢ Await f) → (slice_index_or b.transit p None ≢ None) ↔ Ready s h p
-mail_come s h b p k told waits isnt = mail_ready s h b p k (slice_index_or b.transit p None) told waits (waits_posted h p k (told.awaits.each p (Some k) waits) isnt) (item_at s.processors (IsMail s h) b.transit p None told.transit (is_processor s h b p (Some k) told waits))
+mail_come : (s : Sizes) (h : List Event) (b : State) (p : ℕ) (k : Kind) → IsTold s h b
+    → slice_get b.awaits p ≡ Some (Some k) → ((f : ℕ) → k ≢ Await f)
+    → (slice_index_or b.transit p None ≢ None) ↔ Ready s h p
+mail_come s h b p k told waits isnt =
+    mail_ready s h b p k (slice_index_or b.transit p None) told waits
+    (waits_posted h p k (told.awaits.each p (Some k) waits) isnt)
+    (item_at s.processors (IsMail s h) b.transit p None told.transit (is_processor s h b p (Some k) told waits))
 
 there : {A R : Type 0} (o : Option A) → ((o ≢ None) ↔ R) → (is_some o ≡ true) ↔ R
 there None is = ((λ e. absurd (true≢false (sym e))), (λ r. absurd (is.1 r refl)))
 there (Some a) is = ((λ e. is.0 (λ none. none-some a (sym none))), (λ r. refl))
 
 -- p's message has come exactly where p may go on
-pub message_come : (s : Sizes) (h : List Event) (b : State) (p : ℕ) (k : Kind) → IsTold s h b → slice_get b.awaits p ≡ Some (Some k) → (has_come b.flags b.transit p k ≡ true) ↔ Ready s h p
-message_come s h b p (Await f) told waits = there (slice_index_or b.flags f None) (signal_ready s h b p f (slice_index_or b.flags f None) told waits (flag_at s h b p f told waits))
-message_come s h b p (Acquire l) told waits = there (slice_index_or b.transit p None) (mail_come s h b p (Acquire l) told waits (λ f e. absurd (cc (e))))
-message_come s h b p _ told waits = there (slice_index_or b.transit p None) (mail_come s h b p _ told waits (λ f e. absurd (cc (e))))
+pub message_come : (s : Sizes) (h : List Event) (b : State) (p : ℕ) (k : Kind) → IsTold s h b
+    → slice_get b.awaits p ≡ Some (Some k) → (has_come b.flags b.transit p k ≡ true) ↔ Ready s h p
+message_come s h b p (Await f) told waits =
+    there (slice_index_or b.flags f None)
+    (signal_ready s h b p f (slice_index_or b.flags f None) told waits (flag_at s h b p f told waits))
+message_come s h b p (Acquire l) told waits =
+    there (slice_index_or b.transit p None) (mail_come s h b p (Acquire l) told waits (λ f e. absurd (cc (e))))
+message_come s h b p _ told waits =
+    there (slice_index_or b.transit p None) (mail_come s h b p _ told waits (λ f e. absurd (cc (e))))

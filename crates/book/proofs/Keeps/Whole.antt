@@ -31,30 +31,45 @@ use Rattle.book.proofs.Keeps.Flags.{told_set, told_watch}
 use Rattle.book.proofs.Keeps.Takes.{told_took, message_is}
 
 -- a block of loads, stores and fetches leaves who holds a lock
-pub holds_block : (s : Sizes) (h block : List Event) (p l : ℕ) → IsBlockOf s p block → Holds (h ++ block) p l ↔ Holds h p l
-holds_block s h block p l = push_induction (λ es. IsBlockOf s p es → Holds (h ++ es) p l ↔ Holds h p l) (λ inner. rw append-nil ((λ x. x), (λ x. x))) step block
+pub holds_block : (s : Sizes) (h block : List Event) (p l : ℕ) → IsBlockOf s p block
+    → Holds (h ++ block) p l ↔ Holds h p l
+holds_block s h block p l =
+    push_induction (λ es. IsBlockOf s p es → Holds (h ++ es) p l ↔ Holds h p l)
+    (λ inner. rw append-nil ((λ x. x), (λ x. x))) step block
   where
-    step : (es : List Event) (e : Event) → (IsBlockOf s p es → Holds (h ++ es) p l ↔ Holds h p l) → IsBlockOf s p (es ++ e ∷ []) → Holds (h ++ (es ++ e ∷ [])) p l ↔ Holds h p l
+    step : (es : List Event) (e : Event) → (IsBlockOf s p es → Holds (h ++ es) p l ↔ Holds h p l)
+        → IsBlockOf s p (es ++ e ∷ []) → Holds (h ++ (es ++ e ∷ [])) p l ↔ Holds h p l
     step es e ih inner =
         let old = ih (λ k f at. inner k f (at_longer es (e ∷ []) k f at)) in
         let x = inner (length es) e (at_last es e) in
         let release : e.kind ≢ Release l = λ is. true≢false (sym (ap (λ k. is_closing k) is) ∙ x.closes) in
         let acquire : e.kind ≢ Acquire l = λ is. true≢false (sym (ap (λ k. is_taking k) is) ∙ x.takes) in
-        let pushed : Holds ((h ++ es) ++ e ∷ []) p l ↔ Holds h p l = ((λ y. old.0 (holds_back (h ++ es) e.processor e.kind p l acquire y)), (λ y. holds_on (h ++ es) e.processor e.kind p l release (old.1 y))) in
+        let pushed : Holds ((h ++ es) ++ e ∷ []) p l ↔ Holds h p l = (
+          (λ y. old.0 (holds_back (h ++ es) e.processor e.kind p l acquire y)),
+          (λ y. holds_on (h ++ es) e.processor e.kind p l release (old.1 y)),
+        ) in
         rw append_assoc at pushed
 
-block_told : (s : Sizes) (h block : List Event) (b : State) (p : ℕ) → IsTold s h b → MayHandIn s b p block → IsTold s (h ++ block) (handed_in b block)
+block_told : (s : Sizes) (h block : List Event) (b : State) (p : ℕ) → IsTold s h b → MayHandIn s b p block
+    → IsTold s (h ++ block) (handed_in b block)
 block_told s h block b p told may = told_block s h block b p told may.idle may.inner
 
 pub new_law : NewLaw
 new_law s some = told_new s some
 
 nothing_told : (s : Sizes) (h : List Event) (b : State) → IsTold s h b → IsTold s (h ++ []) (handed_in b [])
-nothing_told s h b told = subst (λ es. IsTold s es (handed_in b [])) (sym (append-nil h)) (subst (λ (es : List Event). IsTold s h (record b { journal = record b.journal { events = es } })) (sym (append-nil b.journal.events)) told)
+nothing_told s h b told =
+    subst (λ es. IsTold s es (handed_in b [])) (sym (append-nil h))
+    (subst (λ (es : List Event). IsTold s h (record b { journal = record b.journal { events = es } }))
+    (sym (append-nil b.journal.events)) told)
 
-given_told : (s : Sizes) (h block : List Event) (b : State) (p : ℕ) (w : Option Kind) → IsTold s h b → slice_get b.awaits p ≡ Some w → (w ≢ None → block ≡ []) → IsBlockOf s p block → IsTold s (h ++ block) (handed_in b block)
+given_told : (s : Sizes) (h block : List Event) (b : State) (p : ℕ) (w : Option Kind) → IsTold s h b
+    → slice_get b.awaits p ≡ Some w → (w ≢ None → block ≡ []) → IsBlockOf s p block
+    → IsTold s (h ++ block) (handed_in b block)
 given_told s h block b p None told at none inner = block_told s h block b p told (record { idle = at; inner = inner })
-given_told s h block b p (Some k) told at none inner = subst (λ es. IsTold s (h ++ es) (handed_in b es)) (sym (none (λ e. none-some k (sym e)))) (nothing_told s h b told)
+given_told s h block b p (Some k) told at none inner =
+    subst (λ es. IsTold s (h ++ es) (handed_in b es)) (sym (none (λ e. none-some k (sym e))))
+    (nothing_told s h b told)
 
 pub hand_in_law : HandInLaw
 hand_in_law s h block b p told may = given_told s h block b p may.waits.0 told may.waits.1 may.waits.2 may.inner
@@ -62,22 +77,30 @@ hand_in_law s h block b p told may = given_told s h block b p may.waits.0 told m
 pub last_law : LastLaw
 last_law s h block b p told may =
     let given = hand_in_law s h block b p told may in
-    told_journal s (h ++ block) (handed_in b block) (handed_last b block).journal (refl, refl) (history_room (handed_in b block).journal (h ++ block) (handed_last b block).journal.room given.holds) given
+    told_journal s (h ++ block) (handed_in b block) (handed_last b block).journal (refl, refl)
+    (history_room (handed_in b block).journal (h ++ block) (handed_last b block).journal.room given.holds) given
 
 pub ask_law : AskLaw
-ask_law s h block b p l records told may are range free = told_ask s (h ++ block) (handed_in b block) p l records (block_told s h block b p told may) range may.idle (λ held. free ((holds_block s h block p l may.inner).0 held)) are
+ask_law s h block b p l records told may are range free =
+    told_ask s (h ++ block) (handed_in b block) p l records (block_told s h block b p told may) range may.idle
+    (λ held. free ((holds_block s h block p l may.inner).0 held)) are
 
 pub release_law : ReleaseLaw
-release_law s h block b p l records told may are range held = told_release s (h ++ block) (handed_in b block) p l records (block_told s h block b p told may) range may.idle ((holds_block s h block p l may.inner).1 held) are
+release_law s h block b p l records told may are range held =
+    told_release s (h ++ block) (handed_in b block) p l records (block_told s h block b p told may) range may.idle
+    ((holds_block s h block p l may.inner).1 held) are
 
 pub arrive_law : ArriveLaw
-arrive_law s h block b p records told may are = told_arrive s (h ++ block) (handed_in b block) p records (block_told s h block b p told may) may.idle are
+arrive_law s h block b p records told may are =
+    told_arrive s (h ++ block) (handed_in b block) p records (block_told s h block b p told may) may.idle are
 
 pub set_law : SetLaw
-set_law s h block b p f records told may are range = told_set s (h ++ block) (handed_in b block) p f records (block_told s h block b p told may) range may.idle are
+set_law s h block b p f records told may are range =
+    told_set s (h ++ block) (handed_in b block) p f records (block_told s h block b p told may) range may.idle are
 
 pub watch_law : WatchLaw
-watch_law s h block b p f records told may are range = told_watch s (h ++ block) (handed_in b block) p f records (block_told s h block b p told may) range may.idle are
+watch_law s h block b p f records told may are range =
+    told_watch s (h ++ block) (handed_in b block) p f records (block_told s h block b p told may) range may.idle are
 
 pub take_law : TakeLaw
 take_law s h b p k m told waits is =
@@ -85,17 +108,22 @@ take_law s h b p k m told waits is =
     let long = next.times.long in
     let lt = is_processor s h b p (Some k) told waits in
     let first = next.closed.first_long in
-    let trimmed = told_trimmed s (did h p k) (book_received b p k m) (length (book_received b p k m).times) (omega arith) next in
-    tightened s (did h p k) (book_taken b p k m) trimmed (tight_trimmed b.closed (book_received b p k m).times (length (book_received b p k m).times) (omega arith) (omega arith) (λ q less. least_few s (did h p k) (book_received b p k m) q next (omega arith)))
+    let trimmed = told_trimmed s (did h p k) (book_received b p k m) (length (book_received b p k m).times)
+    (omega arith) next in
+    tightened s (did h p k) (book_taken b p k m) trimmed
+    (tight_trimmed b.closed (book_received b p k m).times (length (book_received b p k m).times) (omega arith)
+    (omega arith) (λ q less. least_few s (did h p k) (book_received b p k m) q next (omega arith)))
 
 pub cut_law : CutLaw
 cut_law s h old new told was =
     let left = was.journal.left in
     let processors = ap (λ (l : Log). l.processors) left in
     let addresses_are = ap (λ (l : Log). l.addresses) left in
-    let sizes : IsOf s old.journal = record { processors = told.sizes.processors; addresses_are = told.sizes.addresses } in
+    let sizes : IsOf s old.journal =
+    record { processors = told.sizes.processors; addresses_are = told.sizes.addresses } in
     let holds = history_cut s h old.journal new.journal sizes told.well_formed told.holds was.journal in
-    subst (λ (b : State). IsTold s h b) (sym was.others) (told_journal s h old new.journal (processors, addresses_are) holds told)
+    subst (λ (b : State). IsTold s h b) (sym was.others)
+    (told_journal s h old new.journal (processors, addresses_are) holds told)
 
 pub message_law : MessageLaw
 message_law s h b p k m told waits is = message_is s h b p k m told waits is

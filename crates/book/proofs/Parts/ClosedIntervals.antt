@@ -34,13 +34,15 @@ closings_did : (h : List Event) (p : ℕ) (k : Kind) → closed_count (did h p k
 closings_did h p k = let sum = count_by-append (λ (e : Event). is_closing e.kind) h (event p k ∷ []) in omega arith
 
 -- the contents of a closed interval stay
-stores_before : (s : Sizes) (h es : List Event) (q k n i : ℕ) → k < count_of is_closing h q → StoresIn s (h ++ es) q k n i → StoresIn s h q k n i
+stores_before : (s : Sizes) (h es : List Event) (q k n i : ℕ) → k < count_of is_closing h q
+    → StoresIn s (h ++ es) q k n i → StoresIn s h q k n i
 stores_before s h es q k n i lt x = elim (cases_lt i (length h)) [
   | inl less ↦ stores_in_shorter s h es q k n i less x
   | inr past ↦ (let behind = interval_behind h es q i past in let number = x.4 in absurd (omega arith))
 ]
 
-pub contents_on : (s : Sizes) (h es : List Event) (q k : ℕ) (records : List Changes) → k < count_of is_closing h q → AreContents s h q k records → AreContents s (h ++ es) q k records
+pub contents_on : (s : Sizes) (h es : List Event) (q k : ℕ) (records : List Changes) → k < count_of is_closing h q
+    → AreContents s h q k records → AreContents s (h ++ es) q k records
 contents_on s h es q k records lt x = record {
   each = λ r has. content_closed s h es q k r.page r.words lt (x.each r has);
   some = x.some;
@@ -49,7 +51,8 @@ contents_on s h es q k records lt x = record {
 }
 
 -- and of the one that the event closes
-contents_closing : (s : Sizes) (h : List Event) (p : ℕ) (a : Kind) (q k : ℕ) (records : List Changes) → is_closing a ≡ true → AreContents s h q k records → AreContents s (did h p a) q k records
+contents_closing : (s : Sizes) (h : List Event) (p : ℕ) (a : Kind) (q k : ℕ) (records : List Changes)
+    → is_closing a ≡ true → AreContents s h q k records → AreContents s (did h p a) q k records
 contents_closing s h p a q k records closes x = record {
   each = λ r has. content_closing s h (event p a) q k r.page r.words closes (x.each r has);
   some = x.some;
@@ -60,35 +63,48 @@ contents_closing s h p a q k records closes x = record {
     before : (n i : ℕ) → StoresIn s (did h p a) q k n i → StoresIn s h q k n i
     before n i stores = elim (push_cases h (event p a) i (event q (Store stores.0 stores.1)) stores.2) [
       | inl old ↦ stores_in_shorter s h (event p a ∷ []) q k n i old.0 stores
-      | inr new ↦ (let none : is_closing a ≡ false = ap (λ (e : Event). is_closing e.kind) new.1 in absurd (true≢false (sym closes ∙ none)))
+      | inr new ↦ (let none : is_closing a ≡ false = ap (λ (e : Event). is_closing e.kind) new.1 in
+          absurd (true≢false (sym closes ∙ none)))
     ]
 
 -- a kept interval's number is one of a closed interval
-kept_number : (h : List Event) (k : Kept) → IsPlaced h k.interval.owner k.interval.number k.place → k.interval.number < count_of is_closing h k.interval.owner
-kept_number h k x = let within = count_of-within is_closing h x.at k.interval.owner x.closes.kind x.closes.does x.closes.closes in let number = x.number in omega arith
+kept_number : (h : List Event) (k : Kept) → IsPlaced h k.interval.owner k.interval.number k.place
+    → k.interval.number < count_of is_closing h k.interval.owner
+kept_number h k x = let within =
+    count_of-within is_closing h x.at k.interval.owner x.closes.kind x.closes.does x.closes.closes in let number =
+    x.number in omega arith
 
 -- what closes in a longer history closed before, or with its last event
-closes_cases : (h : List Event) (p : ℕ) (k : Kind) (q i : ℕ) → ClosesAt (did h p k) q i → ((i < length h) × ClosesAt h q i) ⊎ ((i ≡ length h) × (p ≡ q) × IsTrue (is_closing k))
+closes_cases : (h : List Event) (p : ℕ) (k : Kind) (q i : ℕ) → ClosesAt (did h p k) q i
+    → ((i < length h) × ClosesAt h q i) ⊎ ((i ≡ length h) × (p ≡ q) × IsTrue (is_closing k))
 closes_cases h p k q i x = elim (push_cases h (event p k) i (event q x.kind) x.does) [
   | inl old ↦ inl (old.0, closes_shorter h (event p k ∷ []) q i old.0 x)
-  | inr new ↦ inr (new.0, ap (λ e. e.processor) new.1, subst (λ b. IsTrue (is_closing b)) (sym (ap (λ e. e.kind) new.1)) x.closes)
+  | inr new ↦ inr (
+    new.0,
+    ap (λ e. e.processor) new.1,
+    subst (λ b. IsTrue (is_closing b)) (sym (ap (λ e. e.kind) new.1)) x.closes,
+  )
 ]
 
 -- an event that closes nothing leaves the intervals
-pub closed_quiet : (s : Sizes) (h : List Event) (p : ℕ) (k : Kind) (c : Closings) → is_closing k ≡ false → AreClosed s h c → AreClosed s (did h p k) c
+pub closed_quiet : (s : Sizes) (h : List Event) (p : ℕ) (k : Kind) (c : Closings) → is_closing k ≡ false
+    → AreClosed s h c → AreClosed s (did h p k) c
 closed_quiet s h p k c quiet x = record {
-  count = let sum = closings_did h p k in let none = ap (λ (b : Bool). cond {A = ℕ} b 1 0) quiet in let was = x.count in omega arith;
+  count = let sum = closings_did h p k in let none = ap (λ (b : Bool). cond {A = ℕ} b 1 0) quiet in let was =
+      x.count in omega arith;
   next_long = x.next_long;
   next = λ q lt. x.next q lt ∙ sym (count_kept is_closing h p k q quiet);
   first_long = x.first_long;
   from = x.from;
   each = λ j has. placed_longer h (event p k ∷ []) j.interval.owner j.interval.number j.place (x.each j has);
   all = all;
-  contents = λ j has. contents_on s h (event p k ∷ []) j.interval.owner j.interval.number j.interval.records (kept_number h j (x.each j has)) (x.contents j has);
+  contents = λ j has. contents_on s h (event p k ∷ []) j.interval.owner j.interval.number j.interval.records
+      (kept_number h j (x.each j has)) (x.contents j has);
   rising = x.rising;
 }
   where
-    all : (q i : ℕ) → ClosesAt (did h p k) q i → slice_index c.first q ≤ interval_at (did h p k) q i → (j : Kept) × Has c.kept j × (j.interval.owner ≡ q) × (j.interval.number ≡ interval_at (did h p k) q i)
+    all : (q i : ℕ) → ClosesAt (did h p k) q i → slice_index c.first q ≤ interval_at (did h p k) q i
+        → (j : Kept) × Has c.kept j × (j.interval.owner ≡ q) × (j.interval.number ≡ interval_at (did h p k) q i)
     all q i closes from = elim (closes_cases h p k q i closes) [
       | inl old ↦ (
           let lt = old.0 in
@@ -99,10 +115,13 @@ closed_quiet s h p k c quiet x = record {
     ]
 
 -- a closing event closes its processor's interval
-pub closed_closing : (s : Sizes) (h : List Event) (p : ℕ) (k : Kind) (c : Closings) (n : ℕ) (records : List Changes) → is_closing k ≡ true → p < s.processors → n ≡ count_of is_closing h p → slice_index c.first p ≤ n → AreContents s h p n records → AreClosed s h c
+pub closed_closing : (s : Sizes) (h : List Event) (p : ℕ) (k : Kind) (c : Closings) (n : ℕ) (records : List Changes)
+    → is_closing k ≡ true → p < s.processors → n ≡ count_of is_closing h p → slice_index c.first p ≤ n
+    → AreContents s h p n records → AreClosed s h c
     → AreClosed s (did h p k) (pushed c (record { owner = p; number = n; records = records }))
 closed_closing s h p k c n records closes lt number covered stored x = record {
-  count = let sum = closings_did h p k in let one = ap (λ (b : Bool). cond {A = ℕ} b 1 0) closes in let was = x.count in omega arith;
+  count = let sum = closings_did h p k in let one = ap (λ (b : Bool). cond {A = ℕ} b 1 0) closes in let was =
+      x.count in omega arith;
   next_long = length-set c.next p (n + 1) ∙ x.next_long;
   next = next;
   first_long = x.first_long;
@@ -125,7 +144,8 @@ closed_closing s h p k c n records closes lt number covered stored x = record {
           let sum = count_did is_closing h p k in
           let one = ap (λ (b : Bool). cond {A = ℕ} b 1 0) closes in
           subst P (sym is) (omega arith))
-      | inr isnt ↦ get_or-set_other c.next p q (n + 1) 0 isnt ∙ x.next q less ∙ sym (count_others is_closing h p k q isnt)
+      | inr isnt ↦ get_or-set_other c.next p q (n + 1) 0 isnt ∙ x.next q less
+          ∙ sym (count_others is_closing h p k q isnt)
     ]
 
     front : interval_at (did h p k) p (length h) ≡ n
@@ -146,28 +166,47 @@ closed_closing s h p k c n records closes lt number covered stored x = record {
       | inr last ↦ subst (λ (y : Kept). IsPlaced (did h p k) y.interval.owner y.interval.number y.place) last.1 is_new
     ]
 
-    all : (q i : ℕ) → ClosesAt (did h p k) q i → slice_index c.first q ≤ interval_at (did h p k) q i → (j : Kept) × Has (c.kept ++ new ∷ []) j × (j.interval.owner ≡ q) × (j.interval.number ≡ interval_at (did h p k) q i)
+    all : (q i : ℕ) → ClosesAt (did h p k) q i → slice_index c.first q ≤ interval_at (did h p k) q i
+        → (j : Kept) × Has (c.kept ++ new ∷ []) j × (j.interval.owner ≡ q)
+        × (j.interval.number ≡ interval_at (did h p k) q i)
     all q i at from = elim (closes_cases h p k q i at) [
       | inl old ↦ (
           let less = old.0 in
           let same = count_of-front is_closing h (event p k ∷ []) i q (omega arith) in
-          let j = x.all q i old.1 (omega arith) in
-          (j.0, (j.1.0, slice_get-append_left c.kept (new ∷ []) j.1.0 (slice_get_within c.kept j.1.0 j.0 j.1.1) ∙ j.1.1), j.2, j.3 ∙ sym same))
+          let j = x.all q i old.1 (omega arith) in (
+            j.0,
+            (
+              j.1.0,
+              slice_get-append_left c.kept (new ∷ []) j.1.0 (slice_get_within c.kept j.1.0 j.0 j.1.1)
+                  ∙ j.1.1,
+            ),
+            j.2,
+            j.3 ∙ sym same,
+          ))
       | inr last ↦ (
-          let P : ℕ → ℕ → Type 0 = λ r m. n ≡ interval_at (did h p k) r m in
-          (new, (length c.kept, slice_get-last c.kept new), last.1, subst (λ m. P q m) (sym last.0) (subst (λ r. P r (length h)) last.1 (sym front))))
+          let P : ℕ → ℕ → Type 0 = λ r m. n ≡ interval_at (did h p k) r m in (
+            new,
+            (length c.kept, slice_get-last c.kept new),
+            last.1,
+            subst (λ m. P q m) (sym last.0) (subst (λ r. P r (length h)) last.1 (sym front)),
+          ))
     ]
 
-    contents : (j : Kept) → Has (c.kept ++ new ∷ []) j → AreContents s (did h p k) j.interval.owner j.interval.number j.interval.records
+    contents : (j : Kept) → Has (c.kept ++ new ∷ []) j
+        → AreContents s (did h p k) j.interval.owner j.interval.number j.interval.records
     contents j has = elim (push_cases c.kept new has.0 j has.1) [
-      | inl old ↦ contents_on s h (event p k ∷ []) j.interval.owner j.interval.number j.interval.records (kept_number h j (x.each j (has.0, old.1))) (x.contents j (has.0, old.1))
-      | inr last ↦ subst (λ (y : Kept). AreContents s (did h p k) y.interval.owner y.interval.number y.interval.records) last.1 (contents_closing s h p k p n records closes stored)
+      | inl old ↦ contents_on s h (event p k ∷ []) j.interval.owner j.interval.number j.interval.records
+          (kept_number h j (x.each j (has.0, old.1))) (x.contents j (has.0, old.1))
+      | inr last ↦ subst (λ (y : Kept). AreContents s (did h p k)
+          y.interval.owner y.interval.number y.interval.records) last.1
+          (contents_closing s h p k p n records closes stored)
     ]
 
     below : (j : Kept) → Has c.kept j → j.place < c.pushed
     below j has =
         let old = x.each j has in
-        let within = count_by-within (λ (e : Event). is_closing e.kind) h old.at (event j.interval.owner old.closes.kind) old.closes.does old.closes.closes in
+        let within = count_by-within (λ (e : Event). is_closing e.kind) h old.at
+        (event j.interval.owner old.closes.kind) old.closes.does old.closes.closes in
         let place = old.before in
         let count = x.count in
         omega arith
@@ -185,7 +224,8 @@ closed_closing s h p k c n records closes lt number covered stored x = record {
     ]
 
 -- where nothing is news, nothing is news
-news_false : (old new : List ℕ) (k : Kept) → slice_index new k.interval.owner ≤ slice_index old k.interval.owner → is_news old new k ≡ false
+news_false : (old new : List ℕ) (k : Kept) → slice_index new k.interval.owner ≤ slice_index old k.interval.owner
+    → is_news old new k ≡ false
 news_false old new k le = false_from_ne_true (is_news old new k) (λ e. (
     let parts = and_parts _ _ e in
     let from : slice_index old k.interval.owner ≤ k.interval.number = leb-true _ _ parts.0 in
@@ -193,19 +233,26 @@ news_false old new k le = false_from_ne_true (is_news old new k) (λ e. (
     absurd (omega arith)))
 
 -- two that differ in intervals alone that aren't covered are sent the same
-pub between_same : (c : Closings) (one other new : List ℕ) (p : ℕ) → ((q : ℕ) → q ≢ p → slice_index one q ≡ slice_index other q) → slice_index new p ≤ slice_index one p → slice_index new p ≤ slice_index other p → between c one new ≡ between c other new
-between_same c one other new p same here there = ap (λ (ks : List Kept). flat_map sent_interval ks) (filter_same (is_news one new) (is_news other new) c.kept (λ k has. each k))
+pub between_same : (c : Closings) (one other new : List ℕ) (p : ℕ)
+    → ((q : ℕ) → q ≢ p → slice_index one q ≡ slice_index other q) → slice_index new p ≤ slice_index one p
+    → slice_index new p ≤ slice_index other p → between c one new ≡ between c other new
+between_same c one other new p same here there =
+    ap (λ (ks : List Kept). flat_map sent_interval ks)
+    (filter_same (is_news one new) (is_news other new) c.kept (λ k has. each k))
   where
     each : (k : Kept) → is_news one new k ≡ is_news other new k
     each k = elim (cases_eq k.interval.owner p) [
       | inl is ↦ (
           let P : List ℕ → ℕ → Type 0 = λ t q. slice_index new q ≤ slice_index t q in
-          news_false one new k (subst (P one) (sym is) here) ∙ sym (news_false other new k (subst (P other) (sym is) there)))
-      | inr apart ↦ ap (λ (n : ℕ). nat_le n k.interval.number && nat_lt k.interval.number (slice_index new k.interval.owner)) (same k.interval.owner apart)
+          news_false one new k (subst (P one) (sym is) here)
+          ∙ sym (news_false other new k (subst (P other) (sym is) there)))
+      | inr apart ↦ ap (λ (n : ℕ). nat_le n k.interval.number && nat_lt k.interval.number
+          (slice_index new k.interval.owner)) (same k.interval.owner apart)
     ]
 
 -- what is from its owner's first on isn't trimmed below that
-pub stays_from : (c : Closings) (owner to : ℕ) (k : Kept) → to ≤ slice_index c.first owner → slice_index c.first k.interval.owner ≤ k.interval.number → not (is_trimmed owner to k) ≡ true
+pub stays_from : (c : Closings) (owner to : ℕ) (k : Kept) → to ≤ slice_index c.first owner
+    → slice_index c.first k.interval.owner ≤ k.interval.number → not (is_trimmed owner to k) ≡ true
 stays_from c owner to k le from = elim (cases_eq k.interval.owner owner) [
   | inl is ↦ (
       let P : ℕ → Type 0 = λ q. slice_index c.first q ≤ k.interval.number in
@@ -215,33 +262,44 @@ stays_from c owner to k le from = elim (cases_eq k.interval.owner owner) [
 ]
 
 -- a trim leaves nothing below what it says is dropped
-pub from_trimmed : (c : Closings) (owner to : ℕ) → owner < length c.first → AreFromFirst c → AreFromFirst (trimmed c owner to)
+pub from_trimmed : (c : Closings) (owner to : ℕ) → owner < length c.first → AreFromFirst c
+    → AreFromFirst (trimmed c owner to)
 from_trimmed c owner to lt from k has =
     let was = (has-filter (λ k. not (is_trimmed owner to k)) c.kept k).0 has in
     let old = from k was.0 in
     elim (cases_eq k.interval.owner owner) [
       | inl is ↦ (
-          let P : ℕ → Type 0 = λ q. slice_index (slice_set c.first owner (max (slice_index c.first owner) (min to (slice_index c.next owner)))) q ≤ k.interval.number in
+          let P : ℕ → Type 0 =
+          λ q. slice_index
+          (slice_set c.first owner (max (slice_index c.first owner) (min to (slice_index c.next owner)))) q
+          ≤ k.interval.number in
           let Q : ℕ → Type 0 = λ q. slice_index c.first q ≤ k.interval.number in
-          let here = get_or-set_same c.first owner (max (slice_index c.first owner) (min to (slice_index c.next owner))) 0 lt in
+          let here = get_or-set_same c.first owner
+          (max (slice_index c.first owner) (min to (slice_index c.next owner))) 0 lt in
           let from_here = subst Q is old in
           let stays : to ≤ k.interval.number = elim (cases_lt k.interval.number to) [
-            | inl less ↦ absurd (both_ways (is_trimmed owner to k) (not-true (is_trimmed owner to k) was.1) (ap (λ b. b && nat_lt k.interval.number to) (eq-eqb k.interval.owner owner is) ∙ lt-ltb k.interval.number to less))
+            | inl less ↦ absurd
+                (both_ways (is_trimmed owner to k) (not-true (is_trimmed owner to k) was.1)
+                (ap (λ b. b && nat_lt k.interval.number to) (eq-eqb k.interval.owner owner is)
+                ∙ lt-ltb k.interval.number to less))
             | inr most ↦ most
           ] in
           subst P (sym is) (omega arith))
       | inr isnt ↦ (
-          let same = get_or-set_other c.first owner k.interval.owner (max (slice_index c.first owner) (min to (slice_index c.next owner))) 0 isnt in
+          let same = get_or-set_other c.first owner k.interval.owner
+          (max (slice_index c.first owner) (min to (slice_index c.next owner))) 0 isnt in
           omega arith)
     ]
 
 -- a trim keeps what the intervals are
-pub closed_trimmed : (s : Sizes) (h : List Event) (c : Closings) (owner to : ℕ) → owner < s.processors → AreClosed s h c → AreClosed s h (trimmed c owner to)
+pub closed_trimmed : (s : Sizes) (h : List Event) (c : Closings) (owner to : ℕ) → owner < s.processors
+    → AreClosed s h c → AreClosed s h (trimmed c owner to)
 closed_trimmed s h c owner to lt x = record {
   count = x.count;
   next_long = x.next_long;
   next = x.next;
-  first_long = length-set c.first owner (max (slice_index c.first owner) (min to (slice_index c.next owner))) ∙ x.first_long;
+  first_long = length-set c.first owner (max (slice_index c.first owner) (min to (slice_index c.next owner)))
+      ∙ x.first_long;
   from = from_trimmed c owner to (subst (λ n. owner < n) (sym x.first_long) lt) x.from;
   each = λ k has. x.each k (old k has);
   all = all;
@@ -252,16 +310,24 @@ closed_trimmed s h c owner to lt x = record {
     old : (k : Kept) → Has (filter (λ k. not (is_trimmed owner to k)) c.kept) k → Has c.kept k
     old k has = ((has-filter (λ k. not (is_trimmed owner to k)) c.kept k).0 has).0
 
-    stays : (k : Kept) → Has c.kept k → not (is_trimmed owner to k) ≡ true → Has (filter (λ k. not (is_trimmed owner to k)) c.kept) k
+    stays : (k : Kept) → Has c.kept k → not (is_trimmed owner to k) ≡ true
+        → Has (filter (λ k. not (is_trimmed owner to k)) c.kept) k
     stays k has not_trimmed = (has-filter (λ k. not (is_trimmed owner to k)) c.kept k).1 (has, not_trimmed)
 
-    all : (q i : ℕ) → ClosesAt h q i → slice_index (slice_set c.first owner (max (slice_index c.first owner) (min to (slice_index c.next owner)))) q ≤ interval_at h q i
-        → (k : Kept) × Has (filter (λ k. not (is_trimmed owner to k)) c.kept) k × (k.interval.owner ≡ q) × (k.interval.number ≡ interval_at h q i)
+    all : (q i : ℕ) → ClosesAt h q i
+        → slice_index (slice_set c.first owner (max (slice_index c.first owner) (min to (slice_index c.next owner))))
+        q ≤ interval_at h q i
+        → (k : Kept) × Has (filter (λ k. not (is_trimmed owner to k)) c.kept) k × (k.interval.owner ≡ q)
+        × (k.interval.number ≡ interval_at h q i)
     all q i closes from = elim (cases_eq q owner) [
       | inl is ↦ (
-          let P : ℕ → Type 0 = λ r. slice_index (slice_set c.first owner (max (slice_index c.first owner) (min to (slice_index c.next owner)))) r ≤ interval_at h q i in
+          let P : ℕ → Type 0 =
+          λ r. slice_index
+          (slice_set c.first owner (max (slice_index c.first owner) (min to (slice_index c.next owner)))) r
+          ≤ interval_at h q i in
           let long = x.first_long in
-          let here = get_or-set_same c.first owner (max (slice_index c.first owner) (min to (slice_index c.next owner))) 0 (omega arith) in
+          let here = get_or-set_same c.first owner
+          (max (slice_index c.first owner) (min to (slice_index c.next owner))) 0 (omega arith) in
           let from_here = subst P is from in
           let Q : ℕ → Type 0 = λ r. slice_index c.first r ≤ interval_at h q i in
           let k = x.all q i closes (subst Q (sym is) (omega arith)) in
@@ -269,24 +335,44 @@ closed_trimmed s h c owner to lt x = record {
           let next = x.next q (subst (λ r. r < s.processors) (sym is) lt) in
           let R : ℕ → Type 0 = λ r. slice_index c.next r ≡ count_of is_closing h q in
           let next_here = subst R is next in
-          let number = k.3 in
-          (k.0, stays k.0 k.1 (not_from_false (is_trimmed owner to k.0) (and_right _ _ (le-ltb k.0.interval.number to (omega arith)))), k.2, k.3))
+          let number = k.3 in (
+            k.0,
+            stays k.0 k.1
+                (not_from_false (is_trimmed owner to k.0)
+                (and_right _ _ (le-ltb k.0.interval.number to (omega arith)))),
+            k.2,
+            k.3,
+          ))
       | inr isnt ↦ (
-          let same = get_or-set_other c.first owner q (max (slice_index c.first owner) (min to (slice_index c.next owner))) 0 isnt in
-          let k = x.all q i closes (omega arith) in
-          (k.0, stays k.0 k.1 (not_from_false (is_trimmed owner to k.0) (and_left _ _ (ne_eqb k.0.interval.owner owner (λ e. isnt (sym k.2 ∙ e))))), k.2, k.3))
+          let same = get_or-set_other c.first owner q
+          (max (slice_index c.first owner) (min to (slice_index c.next owner))) 0 isnt in
+          let k = x.all q i closes (omega arith) in (
+            k.0,
+            stays k.0 k.1
+                (not_from_false (is_trimmed owner to k.0)
+                (and_left _ _ (ne_eqb k.0.interval.owner owner (λ e. isnt (sym k.2 ∙ e))))),
+            k.2,
+            k.3,
+          ))
     ]
 
-pub within_trimmed : (c : Closings) (owner to : ℕ) (times : List (List ℕ)) → ((p : ℕ) (t : List ℕ) → slice_get times p ≡ Some t → to ≤ slice_index t owner) → owner < length c.first → IsWithin c.first times → IsWithin (trimmed c owner to).first times
+pub within_trimmed : (c : Closings) (owner to : ℕ) (times : List (List ℕ))
+    → ((p : ℕ) (t : List ℕ) → slice_get times p ≡ Some t → to ≤ slice_index t owner) → owner < length c.first
+    → IsWithin c.first times → IsWithin (trimmed c owner to).first times
 within_trimmed c owner to times covered lt within p q t at = elim (cases_eq q owner) [
   | inl is ↦ (
-      let P : ℕ → Type 0 = λ r. slice_index (slice_set c.first owner (max (slice_index c.first owner) (min to (slice_index c.next owner)))) r ≤ slice_index t r in
-      let here = get_or-set_same c.first owner (max (slice_index c.first owner) (min to (slice_index c.next owner))) 0 lt in
+      let P : ℕ → Type 0 =
+      λ r. slice_index
+      (slice_set c.first owner (max (slice_index c.first owner) (min to (slice_index c.next owner)))) r
+      ≤ slice_index t r in
+      let here = get_or-set_same c.first owner (max (slice_index c.first owner) (min to (slice_index c.next owner)))
+      0 lt in
       let one = covered p t at in
       let was = within p owner t at in
       subst P (sym is) (omega arith))
   | inr isnt ↦ (
-      let same = get_or-set_other c.first owner q (max (slice_index c.first owner) (min to (slice_index c.next owner))) 0 isnt in
+      let same = get_or-set_other c.first owner q
+      (max (slice_index c.first owner) (min to (slice_index c.next owner))) 0 isnt in
       let was = within p q t at in
       omega arith)
 ]
@@ -295,16 +381,24 @@ lesser_le : (times : List (List ℕ)) (q n : ℕ) → fold (lesser q) n times �
 lesser_le [] q n = omega arith
 lesser_le (t ∷ ts) q n = let rest = lesser_le ts q (lesser q n t) in omega arith
 
-lesser_each : (times : List (List ℕ)) (q n p : ℕ) (t : List ℕ) → slice_get times p ≡ Some t → fold (lesser q) n times ≤ slice_index t q
+lesser_each : (times : List (List ℕ)) (q n p : ℕ) (t : List ℕ) → slice_get times p ≡ Some t
+    → fold (lesser q) n times ≤ slice_index t q
 lesser_each [] q n p t at = absurd (none-some t at)
-lesser_each (u ∷ ts) q n zero t at = let rest = lesser_le ts q (lesser q n u) in subst (λ v. fold (lesser q) (lesser q n u) ts ≤ slice_index v q) (same_Some u t at) (omega arith)
+lesser_each (u ∷ ts) q n zero t at = let rest =
+    lesser_le ts q (lesser q n u) in
+    subst (λ v. fold (lesser q) (lesser q n u) ts ≤ slice_index v q) (same_Some u t at) (omega arith)
 lesser_each (u ∷ ts) q n (suc p) t at = lesser_each ts q (lesser q n u) p t at
 
 -- the least entry is one that each covers
-pub least_le : (times : List (List ℕ)) (q p : ℕ) (t : List ℕ) → slice_get times p ≡ Some t → least times q ≤ slice_index t q
+pub least_le : (times : List (List ℕ)) (q p : ℕ) (t : List ℕ) → slice_get times p ≡ Some t
+    → least times q ≤ slice_index t q
 least_le times q p t at = lesser_each times q (slice_index (slice_index_or times 0 []) q) p t at
 
 -- trims keep the number of owners
-pub length-trimmed_by : (c : Closings) (times : List (List ℕ)) (n : ℕ) → length (trimmed_by c times n).first ≡ length c.first
+pub length-trimmed_by : (c : Closings) (times : List (List ℕ)) (n : ℕ)
+    → length (trimmed_by c times n).first ≡ length c.first
 length-trimmed_by c times zero = refl
-length-trimmed_by c times (suc n) = let old = trimmed_by c times n in length-set old.first n (max (slice_index old.first n) (min (least times n) (slice_index old.next n))) ∙ length-trimmed_by c times n
+length-trimmed_by c times (suc n) = let old =
+    trimmed_by c times n in
+    length-set old.first n (max (slice_index old.first n) (min (least times n) (slice_index old.next n)))
+    ∙ length-trimmed_by c times n

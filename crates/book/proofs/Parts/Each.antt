@@ -7,36 +7,49 @@ use Rattle.lists.proofs.Sets.{slice_get-set_found, slice_get-set_other, slice_ge
 use Rattle.book.specs.Stamps.{AreAll}
 
 -- one item is written, and each other keeps what it has to be
-pub each_set : {A : Type 0} (n : ℕ) (R Q : ℕ → A → Type 0) (xs : List A) (i : ℕ) (v : A) → AreAll n R xs → ((k : ℕ) (x : A) → k ≢ i → slice_get xs k ≡ Some x → R k x → Q k x) → Q i v → AreAll n Q (slice_set xs i v)
+pub each_set : {A : Type 0} (n : ℕ) (R Q : ℕ → A → Type 0) (xs : List A) (i : ℕ) (v : A) → AreAll n R xs
+    → ((k : ℕ) (x : A) → k ≢ i → slice_get xs k ≡ Some x → R k x → Q k x) → Q i v → AreAll n Q (slice_set xs i v)
 each_set {A} n R Q xs i v all others own = record { long = length-set xs i v ∙ all.long; each = each }
   where
     each : (k : ℕ) (x : A) → slice_get (slice_set xs i v) k ≡ Some x → Q k x
     each k x at = elim (cases_eq k i) [
-      | inl is ↦ (let P : ℕ → Type 0 = λ m. slice_get (slice_set xs i v) m ≡ Some x in let here = slice_get-set_found xs i v x (subst P is at) in let R : ℕ → Type 0 = λ m. Q m x in subst R (sym is) (subst (λ y. Q i y) here own))
+      | inl is ↦ (let P : ℕ → Type 0 = λ m. slice_get (slice_set xs i v) m ≡ Some x in
+          let here = slice_get-set_found xs i v x (subst P is at) in let R : ℕ → Type 0 =
+          λ m. Q m x in subst R (sym is) (subst (λ y. Q i y) here own))
       | inr isnt ↦ (let old = sym (slice_get-set_other xs i k v isnt) ∙ at in others k x isnt old (all.each k x old))
     ]
 
 -- nothing is written
-pub each_kept : {A : Type 0} (n : ℕ) (R Q : ℕ → A → Type 0) (xs : List A) → AreAll n R xs → ((k : ℕ) (x : A) → slice_get xs k ≡ Some x → R k x → Q k x) → AreAll n Q xs
+pub each_kept : {A : Type 0} (n : ℕ) (R Q : ℕ → A → Type 0) (xs : List A) → AreAll n R xs
+    → ((k : ℕ) (x : A) → slice_get xs k ≡ Some x → R k x → Q k x) → AreAll n Q xs
 each_kept n R Q xs all on = record { long = all.long; each = λ k x at. on k x at (all.each k x at) }
 
 -- nothing is written, and one item has its own reason
-pub each_own : {A : Type 0} (n : ℕ) (R Q : ℕ → A → Type 0) (xs : List A) (i : ℕ) → AreAll n R xs → ((k : ℕ) (x : A) → k ≢ i → slice_get xs k ≡ Some x → R k x → Q k x) → ((x : A) → slice_get xs i ≡ Some x → R i x → Q i x) → AreAll n Q xs
+pub each_own : {A : Type 0} (n : ℕ) (R Q : ℕ → A → Type 0) (xs : List A) (i : ℕ) → AreAll n R xs
+    → ((k : ℕ) (x : A) → k ≢ i → slice_get xs k ≡ Some x → R k x → Q k x)
+    → ((x : A) → slice_get xs i ≡ Some x → R i x → Q i x) → AreAll n Q xs
 each_own {A} n R Q xs i all others own = record { long = all.long; each = each }
   where
     each : (k : ℕ) (x : A) → slice_get xs k ≡ Some x → Q k x
     each k x at = elim (cases_eq k i) [
-      | inl is ↦ (let P : ℕ → Type 0 = λ m. slice_get xs m ≡ Some x → Q m x in subst P (sym is) (λ h. own x h (all.each i x h)) at)
+      | inl is ↦ (let P : ℕ → Type 0 = λ m. slice_get xs m ≡ Some x → Q m x in
+          subst P (sym is) (λ h. own x h (all.each i x h)) at)
       | inr isnt ↦ others k x isnt at (all.each k x at)
     ]
 
 -- a list of one item over and over
 pub each_replicate : {A : Type 0} (n : ℕ) (Q : ℕ → A → Type 0) (v : A) → ((k : ℕ) → Q k v) → AreAll n Q (replicate n v)
-each_replicate {A} n Q v all = record { long = length-replicate {A = A} n v; each = λ k x at. subst (λ y. Q k y) (slice_get-replicate_found n v x k at) (all k) }
+each_replicate {A} n Q v all =
+    record {
+      long = length-replicate {A = A} n v;
+      each = λ k x at. subst (λ y. Q k y) (slice_get-replicate_found n v x k at) (all k);
+    }
 
 -- the item at a place within the list
-pub item_at : {A : Type 0} (n : ℕ) (R : ℕ → A → Type 0) (xs : List A) (i : ℕ) (d : A) → AreAll n R xs → i < n → slice_get xs i ≡ Some (slice_index_or xs i d)
+pub item_at : {A : Type 0} (n : ℕ) (R : ℕ → A → Type 0) (xs : List A) (i : ℕ) (d : A) → AreAll n R xs → i < n
+    → slice_get xs i ≡ Some (slice_index_or xs i d)
 item_at n R xs i d all lt = slice_get-get_or xs i d (subst (λ m. i < m) (sym all.long) lt)
 
-pub is_at : {A : Type 0} (n : ℕ) (R : ℕ → A → Type 0) (xs : List A) (i : ℕ) (d : A) → AreAll n R xs → i < n → R i (slice_index_or xs i d)
+pub is_at : {A : Type 0} (n : ℕ) (R : ℕ → A → Type 0) (xs : List A) (i : ℕ) (d : A) → AreAll n R xs → i < n
+    → R i (slice_index_or xs i d)
 is_at n R xs i d all lt = all.each i (slice_index_or xs i d) (item_at n R xs i d all lt)

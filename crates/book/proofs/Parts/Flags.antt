@@ -17,21 +17,31 @@ use Rattle.book.proofs.Parts.Stamps.{stamp_equal, stamp_join}
 use Rattle.book.proofs.Parts.Mail.{other_kind}
 
 -- what is no set of the flag leaves it
-pub flag_kept : (n : ℕ) (h : List Event) (p : ℕ) (k : Kind) (f : ℕ) (o : Option (List ℕ)) → k ≢ Set f → IsFlag n h f o → IsFlag n (did h p k) f o
-flag_kept n h p k f None isnt none = λ m does. none m ((does_kept h (event p k ∷ []) (Set f) m (other_kind p k (Set f) isnt)).1 does)
+pub flag_kept : (n : ℕ) (h : List Event) (p : ℕ) (k : Kind) (f : ℕ) (o : Option (List ℕ)) → k ≢ Set f
+    → IsFlag n h f o → IsFlag n (did h p k) f o
+flag_kept n h p k f None isnt none =
+    λ m does. none m ((does_kept h (event p k ∷ []) (Set f) m (other_kind p k (Set f) isnt)).1 does)
 flag_kept n h p k f (Some t) isnt x = (
   (x.0.0, (does_kept h (event p k ∷ []) (Set f) x.0.0 (other_kind p k (Set f) isnt)).0 x.0.1),
-  record { long = x.1.long; is = kind_kept h (event p k ∷ []) (Set f) (slice_index t) (other_kind p k (Set f) isnt) x.1.is },
+  record {
+    long = x.1.long;
+    is = kind_kept h (event p k ∷ []) (Set f) (slice_index t) (other_kind p k (Set f) isnt) x.1.is;
+  },
 )
 
 -- a set joins its timestamp
-pub flag_set : (n : ℕ) (h : List Event) (p f : ℕ) (o : Option (List ℕ)) (t : List ℕ) → IsFlag n h f o → IsStamp n (did h p (Set f)) (InPast (did h p (Set f)) p) t → IsFlag n (did h p (Set f)) f (Some (flag_joined o t))
+pub flag_set : (n : ℕ) (h : List Event) (p f : ℕ) (o : Option (List ℕ)) (t : List ℕ) → IsFlag n h f o
+    → IsStamp n (did h p (Set f)) (InPast (did h p (Set f)) p) t
+    → IsFlag n (did h p (Set f)) f (Some (flag_joined o t))
 flag_set n h p f None t none x = (
   (length h, (p, at_last h (event p (Set f)))),
-  stamp_equal n (did h p (Set f)) (UpToSome (did h p (Set f)) (SomeDoes (did h p (Set f)) (Set f))) t (λ q. max 0 (slice_index t q)) x.long (λ q. zero-max (slice_index t q))
-      (kind_joins h (event p (Set f)) (λ _. 0) (slice_index t) (time_none h (UpToSome h (SomeDoes h (Set f))) (λ i some. none some.0 some.1)) x.is),
+  stamp_equal n (did h p (Set f)) (UpToSome (did h p (Set f)) (SomeDoes (did h p (Set f)) (Set f))) t
+      (λ q. max 0 (slice_index t q)) x.long (λ q. zero-max (slice_index t q))
+      (kind_joins h (event p (Set f)) (λ _. 0) (slice_index t)
+      (time_none h (UpToSome h (SomeDoes h (Set f))) (λ i some. none some.0 some.1)) x.is),
 )
 flag_set n h p f (Some u) t old x = (
   (length h, (p, at_last h (event p (Set f)))),
-  stamp_join n (did h p (Set f)) (UpToSome (did h p (Set f)) (SomeDoes (did h p (Set f)) (Set f))) u t old.1.long x.long (kind_joins h (event p (Set f)) (slice_index u) (slice_index t) old.1.is x.is),
+  stamp_join n (did h p (Set f)) (UpToSome (did h p (Set f)) (SomeDoes (did h p (Set f)) (Set f)))
+      u t old.1.long x.long (kind_joins h (event p (Set f)) (slice_index u) (slice_index t) old.1.is x.is),
 )

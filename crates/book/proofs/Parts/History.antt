@@ -17,7 +17,8 @@ happened log = most_cut + length log.events
 
 -- the journal of an empty book holds the empty history
 pub history_new : (s : Sizes) → HoldsSome (new_book s).journal []
-history_new s = record { taken = []; rest = whole_law (new_book s).journal [] (record { whole = refl; history = refl }) }
+history_new s = record
+    { taken = []; rest = whole_law (new_book s).journal [] (record { whole = refl; history = refl }) }
 
 -- a journal that goes on holds the history that goes on
 pub history_on : (log : Log) (h es : List Event) → HoldsSome log h → HoldsSome (appended log es) (h ++ es)
@@ -38,7 +39,8 @@ history_room log h room holds = record {
 }
 
 -- nor is a cut: it holds the same history
-pub history_cut : (s : Sizes) (h : List Event) (old new : Log) → IsOf s old → WellFormed s h → HoldsSome old h → WasCut old new → HoldsSome new h
+pub history_cut : (s : Sizes) (h : List Event) (old new : Log) → IsOf s old → WellFormed s h → HoldsSome old h
+    → WasCut old new → HoldsSome new h
 history_cut s h old new of well holds was = record {
   taken = holds.taken ++ take was.taken old.events;
   rest = history_law s old new holds.taken h of well holds.rest was;
@@ -52,5 +54,6 @@ history_long log h holds =
     omega arith
 
 -- where the journal has room within its limit, a number of events of the history is a number of 64 bits
-pub happened_fits : (log : Log) (owing : ℕ) → length log.events + owing ≤ most_events + 2 ^ 12 → happened log + 1 < 2 ^ 64
+pub happened_fits : (log : Log) (owing : ℕ) → length log.events + owing ≤ most_events + 2 ^ 12
+    → happened log + 1 < 2 ^ 64
 happened_fits log owing few = omega arith

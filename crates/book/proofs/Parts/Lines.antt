@@ -11,10 +11,10 @@ use Rattle.journal.specs.WellFormed.{LastIs, Holds, MayBeGranted}
 use Rattle.journal.specs.Waits.{IsIdle}
 use Rattle.lists.proofs.Places.{push_cases, slice_get-append_left, slice_get-last}
 use Rattle.journal.proofs.Order.Places.{at_within}
-use Rattle.journal.proofs.Journals.WellFormed.{last_unique, holds_cases, holds_now}
+use Rattle.journal.proofs.Journals.WellFormed.{last_cases, last_unique, holds_cases, holds_now}
 use Rattle.journal.specs.Did.{event, did}
 use Rattle.book.specs.Lines.{IsLine}
-use Rattle.book.proofs.Parts.Doings.{last_cases, last_on, last_own, holds_on, holds_back}
+use Rattle.book.proofs.Parts.Doings.{last_on, last_own, holds_on, holds_back}
 
 -- p's last event is no ask of the lock
 abbrev pub NoAsk : List Event → ℕ → ℕ → Type 0
@@ -28,22 +28,27 @@ pub not_in_line : (h : List Event) (p l : ℕ) (xs : List ℕ) → NoAsk h p l �
 not_in_line h p l xs none free x has = elim (x.asks has.0 p has.1) [ inl a ↦ none a.0 a.1 | inr b ↦ free b.1 ]
 
 -- the lines of other locks stay
-pub line_kept : (h : List Event) (p : ℕ) (k : Kind) (l : ℕ) (xs : List ℕ) → k ≢ Ask l → k ≢ Acquire l → k ≢ Release l → NoAsk h p l → IsLine h l xs → IsLine (did h p k) l xs
+pub line_kept : (h : List Event) (p : ℕ) (k : Kind) (l : ℕ) (xs : List ℕ) → k ≢ Ask l → k ≢ Acquire l → k ≢ Release l
+    → NoAsk h p l → IsLine h l xs → IsLine (did h p k) l xs
 line_kept h p k l xs ask acquire release none x = record {
   each = λ q i last. x.each q i (old q i last);
   first = λ q held. x.first q (holds_back h p k q l acquire held);
-  asks = λ m q at. elim (x.asks m q at) [ inl a ↦ inl (a.0, last_on h p k q a.0 (Ask l) (apart q a.0 a.1) a.1) | inr b ↦ inr (b.0, holds_on h p k q l release b.1) ];
+  asks = λ m q at. elim (x.asks m q at) [
+    | inl a ↦ inl (a.0, last_on h p k q a.0 (Ask l) (apart q a.0 a.1) a.1)
+    | inr b ↦ inr (b.0, holds_on h p k q l release b.1)
+  ];
   order = λ m n q r i j lt at to one two. x.order m n q r i j lt at to (old q i one) (old r j two);
 }
   where
     old : (q i : ℕ) → LastIs (did h p k) q i (Ask l) → LastIs h q i (Ask l)
-    old q i last = elim (last_cases h p k q i (Ask l) last) [ inl own ↦ absurd (ask own.2) | inr o ↦ o.1 ]
+    old q i last = elim (last_cases h (event p k) q i (Ask l) last) [ inl own ↦ absurd (ask (sym own.2)) | inr o ↦ o.1 ]
 
     apart : (q i : ℕ) → LastIs h q i (Ask l) → q ≢ p
     apart q i last is = let P : ℕ → Type 0 = λ r. LastIs h r i (Ask l) in none i (subst P is last)
 
 -- who asks comes last
-pub line_asked : (h : List Event) (p l : ℕ) (xs : List ℕ) → NoAsk h p l → ¬ Holds h p l → IsLine h l xs → IsLine (did h p (Ask l)) l (xs ++ p ∷ [])
+pub line_asked : (h : List Event) (p l : ℕ) (xs : List ℕ) → NoAsk h p l → ¬ Holds h p l → IsLine h l xs
+    → IsLine (did h p (Ask l)) l (xs ++ p ∷ [])
 line_asked h p l xs none free x = record { each = each; first = first; asks = asks; order = order }
   where
     absent : ¬ Has xs p
@@ -56,50 +61,70 @@ line_asked h p l xs none free x = record { each = each; first = first; asks = as
     longer m q at = slice_get-append_left xs (p ∷ []) m (slice_get_within xs m q at) ∙ at
 
     old : (q i : ℕ) → q ≢ p → LastIs (did h p (Ask l)) q i (Ask l) → LastIs h q i (Ask l)
-    old q i isnt last = elim (last_cases h p (Ask l) q i (Ask l) last) [ inl own ↦ absurd (isnt own.0) | inr o ↦ o.1 ]
+    old q i isnt last =
+        elim (last_cases h (event p (Ask l)) q i (Ask l) last) [ inl own ↦ absurd (isnt (sym own.0)) | inr o ↦ o.1 ]
 
     each : (q i : ℕ) → LastIs (did h p (Ask l)) q i (Ask l) → Has (xs ++ p ∷ []) q
-    each q i last = elim (last_cases h p (Ask l) q i (Ask l) last) [
-      | inl own ↦ (length xs, slice_get-last xs p ∙ ap (λ (r : ℕ). Some r) (sym own.0))
+    each q i last = elim (last_cases h (event p (Ask l)) q i (Ask l) last) [
+      | inl own ↦ (length xs, slice_get-last xs p ∙ ap (λ (r : ℕ). Some r) own.0)
       | inr o ↦ (let has = x.each q i o.1 in (has.0, longer has.0 q has.1))
     ]
 
     first : (q : ℕ) → Holds (did h p (Ask l)) q l → slice_get (xs ++ p ∷ []) 0 ≡ Some q
     first q held = longer 0 q (x.first q (holds_back h p (Ask l) q l (λ e. absurd cc) held))
 
-    asks : (m q : ℕ) → slice_get (xs ++ p ∷ []) m ≡ Some q → ((i : ℕ) × LastIs (did h p (Ask l)) q i (Ask l)) ⊎ ((m ≡ 0) × Holds (did h p (Ask l)) q l)
+    asks : (m q : ℕ) → slice_get (xs ++ p ∷ []) m ≡ Some q
+        → ((i : ℕ) × LastIs (did h p (Ask l)) q i (Ask l)) ⊎ ((m ≡ 0) × Holds (did h p (Ask l)) q l)
     asks m q at = elim (push_cases xs p m q at) [
-      | inl o ↦ elim (x.asks m q o.1) [ inl a ↦ inl (a.0, last_on h p (Ask l) q a.0 (Ask l) (apart m q o.1) a.1) | inr b ↦ inr (b.0, holds_on h p (Ask l) q l (λ e. absurd cc) b.1) ]
-      | inr n ↦ inl (length h, let P : ℕ → Type 0 = λ r. LastIs (did h p (Ask l)) r (length h) (Ask l) in subst P n.1 (last_own h p (Ask l)))
+      | inl o ↦ elim (x.asks m q o.1) [
+        | inl a ↦ inl (a.0, last_on h p (Ask l) q a.0 (Ask l) (apart m q o.1) a.1)
+        | inr b ↦ inr (b.0, holds_on h p (Ask l) q l (λ e. absurd cc) b.1)
+      ]
+      | inr n ↦ inl (
+        length h,
+        let P : ℕ → Type 0 = λ r. LastIs (did h p (Ask l)) r (length h) (Ask l) in
+            subst P n.1 (last_own h p (Ask l)),
+      )
     ]
 
-    order : (m n q r i j : ℕ) → m < n → slice_get (xs ++ p ∷ []) m ≡ Some q → slice_get (xs ++ p ∷ []) n ≡ Some r → LastIs (did h p (Ask l)) q i (Ask l) → LastIs (did h p (Ask l)) r j (Ask l) → i < j
+    order : (m n q r i j : ℕ) → m < n → slice_get (xs ++ p ∷ []) m ≡ Some q → slice_get (xs ++ p ∷ []) n ≡ Some r
+        → LastIs (did h p (Ask l)) q i (Ask l) → LastIs (did h p (Ask l)) r j (Ask l) → i < j
     order m n q r i j lt at to one two = elim (push_cases xs p m q at) [
       | inl a ↦ elim (push_cases xs p n r to) [
         | inl b ↦ x.order m n q r i j lt a.1 b.1 (old q i (apart m q a.1) one) (old r j (apart n r b.1) two)
         | inr b ↦ (
             let within = at_within h i (record { processor = q; kind = Ask l }) (old q i (apart m q a.1) one).does in
             let P : ℕ → Type 0 = λ z. LastIs (did h p (Ask l)) z j (Ask l) in
-            let last = (last_unique (did h p (Ask l)) p j (length h) (Ask l) (Ask l) (subst P (sym b.1) two) (last_own h p (Ask l))).0 in
+            let last = (last_unique (did h p (Ask l)) p j (length h) (Ask l) (Ask l) (subst P (sym b.1) two)
+            (last_own h p (Ask l))).0 in
             omega arith)
       ]
-      | inr a ↦ (let within = slice_get_within (xs ++ p ∷ []) n r to in let e = length_push xs p in absurd (omega (arith, a.0)))
+      | inr a ↦ (let within = slice_get_within (xs ++ p ∷ []) n r to in let e = length_push xs p in
+          absurd (omega (arith, a.0)))
     ]
 
 -- whose holder releases it, goes on with the next
-pub line_released : (h : List Event) (p l : ℕ) (xs : List ℕ) → NoAsk h p l → Holds h p l → IsLine h l (p ∷ xs) → IsLine (did h p (Release l)) l xs
+pub line_released : (h : List Event) (p l : ℕ) (xs : List ℕ) → NoAsk h p l → Holds h p l → IsLine h l (p ∷ xs)
+    → IsLine (did h p (Release l)) l xs
 line_released h p l xs none held x = record {
   each = λ q i last. (let o = old q i last in shift q i o.0 o.1 (x.each q i o.1));
   first = λ q holds. absurd (nobody q holds);
-  asks = λ m q at. elim (x.asks (suc m) q at) [ inl a ↦ inl (a.0, last_on h p (Release l) q a.0 (Ask l) (apart q a.0 a.1) a.1) | inr b ↦ absurd (omega (arith, b.0)) ];
-  order = λ m n q r i j lt at to one two. x.order (suc m) (suc n) q r i j (omega arith) at to (old q i one).1 (old r j two).1;
+  asks = λ m q at. elim (x.asks (suc m) q at) [
+    | inl a ↦ inl (a.0, last_on h p (Release l) q a.0 (Ask l) (apart q a.0 a.1) a.1)
+    | inr b ↦ absurd (omega (arith, b.0))
+  ];
+  order = λ m n q r i j lt at to one two. x.order (suc m) (suc n) q r i j (omega arith) at to (old q i one).1
+      (old r j two).1;
 }
   where
     apart : (q i : ℕ) → LastIs h q i (Ask l) → q ≢ p
     apart q i last is = let P : ℕ → Type 0 = λ r. LastIs h r i (Ask l) in none i (subst P is last)
 
     old : (q i : ℕ) → LastIs (did h p (Release l)) q i (Ask l) → (q ≢ p) × LastIs h q i (Ask l)
-    old q i last = elim (last_cases h p (Release l) q i (Ask l) last) [ inl own ↦ absurd (cc (own.2)) | inr o ↦ o ]
+    old q i last = elim (last_cases h (event p (Release l)) q i (Ask l) last) [
+      | inl own ↦ absurd (cc (own.2))
+      | inr o ↦ (λ e. o.0 (sym e), o.1)
+    ]
 
     behind : (m q : ℕ) → q ≢ p → slice_get (p ∷ xs) m ≡ Some q → Has xs q
     behind zero q isnt at = absurd (isnt (sym (same_Some p q at)))
@@ -115,7 +140,8 @@ line_released h p l xs none held x = record {
     ]
 
 -- who may acquire the lock is first in its line
-pub first_allowed : (h : List Event) (p l i : ℕ) (xs : List ℕ) → LastIs h p i (Ask l) → MayBeGranted h i l → IsLine h l xs → slice_get xs 0 ≡ Some p
+pub first_allowed : (h : List Event) (p l i : ℕ) (xs : List ℕ) → LastIs h p i (Ask l) → MayBeGranted h i l
+    → IsLine h l xs → slice_get xs 0 ≡ Some p
 first_allowed h p l i xs last may x = go xs x (x.each p i last)
   where
     later : (ys : List ℕ) (y m : ℕ) → IsLine h l (y ∷ ys) → slice_get (y ∷ ys) (suc m) ≡ Some p → ⊥
@@ -133,7 +159,8 @@ first_allowed h p l i xs last may x = go xs x (x.each p i last)
         place (suc m) at = absurd (later ys y m line at)
 
 -- who asked first may acquire a lock that nobody holds
-pub allowed_first : (h : List Event) (p l : ℕ) (xs : List ℕ) → ((q : ℕ) → ¬ Holds h q l) → slice_get xs 0 ≡ Some p → IsLine h l xs → (i : ℕ) × LastIs h p i (Ask l) × MayBeGranted h i l
+pub allowed_first : (h : List Event) (p l : ℕ) (xs : List ℕ) → ((q : ℕ) → ¬ Holds h q l) → slice_get xs 0 ≡ Some p
+    → IsLine h l xs → (i : ℕ) × LastIs h p i (Ask l) × MayBeGranted h i l
 allowed_first h p l xs free at x = elim (x.asks 0 p at) [
   | inl a ↦ (a.0, a.1, record { free = free; first = λ k q lt last. before a.0 a.1 k q lt last (x.each q k last) })
   | inr b ↦ absurd (free p b.1)
@@ -143,11 +170,14 @@ allowed_first h p l xs free at x = elim (x.asks 0 p at) [
     before i mine k q lt last has = place has.0 has.1
       where
         place : (m : ℕ) → slice_get xs m ≡ Some q → ⊥
-        place zero there = (let is = same_Some q p (sym there ∙ at) in let P : ℕ → Type 0 = λ r. LastIs h r k (Ask l) in let same = (last_unique h p k i (Ask l) (Ask l) (subst P is last) mine).0 in omega arith)
+        place zero there = (let is = same_Some q p (sym there ∙ at) in
+            let P : ℕ → Type 0 = λ r. LastIs h r k (Ask l) in let same =
+            (last_unique h p k i (Ask l) (Ask l) (subst P is last) mine).0 in omega arith)
         place (suc m) there = (let later = x.order 0 (suc m) p q i k (omega arith) at there mine last in omega arith)
 
 -- an acquire leaves the line
-pub line_taken : (h : List Event) (p l i : ℕ) (xs : List ℕ) → LastIs h p i (Ask l) → MayBeGranted h i l → IsLine h l xs → IsLine (did h p (Acquire l)) l xs
+pub line_taken : (h : List Event) (p l i : ℕ) (xs : List ℕ) → LastIs h p i (Ask l) → MayBeGranted h i l
+    → IsLine h l xs → IsLine (did h p (Acquire l)) l xs
 line_taken h p l i xs last may x = record {
   each = λ q m ask. x.each q m (old q m ask).1;
   first = λ q holds. elim (holds_cases h (event p (Acquire l)) q l holds) [
@@ -162,17 +192,22 @@ line_taken h p l i xs last may x = record {
     here = first_allowed h p l i xs last may x
 
     old : (q m : ℕ) → LastIs (did h p (Acquire l)) q m (Ask l) → (q ≢ p) × LastIs h q m (Ask l)
-    old q m ask = elim (last_cases h p (Acquire l) q m (Ask l) ask) [ inl own ↦ absurd (cc (own.2)) | inr o ↦ o ]
+    old q m ask = elim (last_cases h (event p (Acquire l)) q m (Ask l) ask) [
+      | inl own ↦ absurd (cc (own.2))
+      | inr o ↦ (λ e. o.0 (sym e), o.1)
+    ]
 
     head : (m : ℕ) → slice_get xs m ≡ Some p → m ≡ 0
     head zero at = refl
     head (suc m) at = (let lt = x.order 0 (suc m) p p i i (omega arith) here at last last in absurd (omega arith))
 
-    asks : (m q : ℕ) → slice_get xs m ≡ Some q → ((a : ℕ) × LastIs (did h p (Acquire l)) q a (Ask l)) ⊎ ((m ≡ 0) × Holds (did h p (Acquire l)) q l)
+    asks : (m q : ℕ) → slice_get xs m ≡ Some q
+        → ((a : ℕ) × LastIs (did h p (Acquire l)) q a (Ask l)) ⊎ ((m ≡ 0) × Holds (did h p (Acquire l)) q l)
     asks m q at = elim (cases_eq q p) [
       | inl is ↦ (
           let P : ℕ → Type 0 = λ r. slice_get xs m ≡ Some r in
           let Q : ℕ → Type 0 = λ r. Holds (did h p (Acquire l)) r l in
           inr (head m (subst P is at), subst Q (sym is) (holds_now h p l)))
-      | inr isnt ↦ elim (x.asks m q at) [ inl a ↦ inl (a.0, last_on h p (Acquire l) q a.0 (Ask l) isnt a.1) | inr b ↦ absurd (may.free q b.1) ]
+      | inr isnt ↦ elim (x.asks m q at)
+          [ inl a ↦ inl (a.0, last_on h p (Acquire l) q a.0 (Ask l) isnt a.1) | inr b ↦ absurd (may.free q b.1) ]
     ]

@@ -18,7 +18,8 @@ use Rattle.book.specs.Told.{HasSizes, HoldsSome, IsTold}
 use Rattle.book.proofs.Parts.Each.{item_at}
 use Rattle.book.proofs.Parts.ClosedIntervals.{least_le}
 
--- all that `IsTold` says, but that nothing is left to trim
+-- all that `IsTold` says, but that nothing is left to trim: written out again, so that who cites `IsTold` has each part
+-- by its own name
 pub record IsLoose (s : Sizes) (h : List Event) (b : State) : Type 0 where
   pub well_formed : WellFormed s h
   pub sizes : HasSizes s b
@@ -30,7 +31,8 @@ pub record IsLoose (s : Sizes) (h : List Event) (b : State) : Type 0 where
   pub flags : AreAll s.flags (IsFlag s.processors h) b.flags
   pub awaits : AreAll s.processors (IsAwaited h) b.awaits
   pub transit : AreAll s.processors (IsMail s h) b.transit
-  pub notices : (p : ℕ) (m : Letter) (t : List ℕ) → slice_get b.transit p ≡ Some (Some m) → slice_get b.times p ≡ Some t → m.notices ≡ between b.closed t m.time
+  pub notices : (p : ℕ) (m : Letter) (t : List ℕ) → slice_get b.transit p ≡ Some (Some m)
+      → slice_get b.times p ≡ Some t → m.notices ≡ between b.closed t m.time
   pub within : IsWithin b.closed.first b.times
 
 -- with nothing left to trim it is told
@@ -52,7 +54,8 @@ tightened s h b x tight = record {
 }
 
 -- no more intervals are covered than are closed
-pub least_few : (s : Sizes) (h : List Event) (b : State) (q : ℕ) → IsLoose s h b → q < s.processors → least b.times q ≤ slice_index b.closed.next q
+pub least_few : (s : Sizes) (h : List Event) (b : State) (q : ℕ) → IsLoose s h b → q < s.processors
+    → least b.times q ≤ slice_index b.closed.next q
 least_few s h b q x lt =
     let own = item_at s.processors (λ p t. IsStamp s.processors h (InPast h p) t) b.times q _ x.times lt in
     let most = (x.times.each q (time_of b q) own).is.within q in

@@ -15,14 +15,14 @@ use Rattle.journal.specs.Brings.{Brings, SomeArrives}
 use Rattle.lists.proofs.Places.{push_cases}
 use Rattle.journal.proofs.Order.Places.{at_within, does_same}
 use Rattle.journal.proofs.Times.Kept.{kind_kept, arrivals_others}
-use Rattle.journal.proofs.Journals.WellFormed.{holds_cases, holds_now}
+use Rattle.journal.proofs.Journals.WellFormed.{last_cases, holds_cases, holds_now}
 use Rattle.transit.specs.Letters
 use Rattle.transit.specs.Letters.{Letter}
 use Rattle.transit.specs.Letters.Kind.{grant, departure, signal}
 use Rattle.journal.specs.Did.{event, did}
 use Rattle.book.specs.Stamps.{IsStamp}
 use Rattle.book.specs.Mail.{LetsDo, IsPosted, IsMail}
-use Rattle.book.proofs.Parts.Doings.{last_cases, last_on, last_none, holds_on, count_others, count_more, count_kept}
+use Rattle.book.proofs.Parts.Doings.{last_on, last_none, holds_on, count_others, count_more, count_kept}
 
 pub lets_posted : (m : Letters.Kind) (k : Kind) → LetsDo m k → IsPosted k
 lets_posted grant (Acquire l) h = tt
@@ -36,7 +36,8 @@ News k Depart = k ≡ Arrive
 News k _ = ⊥
 
 news_cases : (k a : Kind) → News k a ⊎ ¬ News k a
-news_cases (Release m) (Acquire l) = elim (cases_eq m l) [ inl is ↦ inl (ap (λ x. Release x) is) | inr isnt ↦ inr (λ e. isnt (released e)) ]
+news_cases (Release m) (Acquire l) =
+    elim (cases_eq m l) [ inl is ↦ inl (ap (λ x. Release x) is) | inr isnt ↦ inr (λ e. isnt (released e)) ]
   where
     released : Release m ≡ Release l → m ≡ l
     released e = cc
@@ -51,15 +52,20 @@ arrives_not _ isnt = refl
 
 -- the one event is of another kind
 pub other_kind : (p : ℕ) (k a : Kind) → k ≢ a → (m : ℕ) (f : Event) → At (event p k ∷ []) m f → f.kind ≢ a
-other_kind p k a isnt m f at is = elim (push_cases [] (event p k) m f at) [ inl old ↦ none-some f old.1 | inr new ↦ isnt (ap (λ x. x.kind) new.1 ∙ is) ]
+other_kind p k a isnt m f at is =
+    elim (push_cases [] (event p k) m f at)
+    [ inl old ↦ none-some f old.1 | inr new ↦ isnt (ap (λ x. x.kind) new.1 ∙ is) ]
 
 -- what a processor is let do it stays allowed to do, whatever others do
-pub allowed_on : (s : Sizes) (h : List Event) (p : ℕ) (k : Kind) (r : ℕ) (a : Kind) → MayFollow s h (event p k) → r ≢ p → IsPosted a → Allowed s h r a → Allowed s (did h p k) r a
-allowed_on s h p k r (Acquire l) may isnt posted (i, last, granted) = (i, last_on h p k r i (Ask l) isnt last, record { free = free; first = first })
+pub allowed_on : (s : Sizes) (h : List Event) (p : ℕ) (k : Kind) (r : ℕ) (a : Kind) → MayFollow s h (event p k)
+    → r ≢ p → IsPosted a → Allowed s h r a → Allowed s (did h p k) r a
+allowed_on s h p k r (Acquire l) may isnt posted (i, last, granted) =
+    (i, last_on h p k r i (Ask l) isnt last, record { free = free; first = first })
   where
     both : (m : ℕ) → LastIs h p m (Ask l) → MayBeGranted h m l → ⊥
     both m mine too = elim (cases_order i m) [
-      | inl is ↦ (let P : ℕ → Type 0 = λ x. At h x (event p (Ask l)) in isnt (does_same h i r p (Ask l) (Ask l) last.does (subst P (sym is) mine.does)).0)
+      | inl is ↦ (let P : ℕ → Type 0 = λ x. At h x (event p (Ask l)) in
+          isnt (does_same h i r p (Ask l) (Ask l) last.does (subst P (sym is) mine.does)).0)
       | inr apart ↦ elim apart [ inl lt ↦ too.first i r lt last | inr lt ↦ granted.first m p lt mine ]
     ]
 
@@ -73,25 +79,47 @@ allowed_on s h p k r (Acquire l) may isnt posted (i, last, granted) = (i, last_o
     ]
 
     first : (m q : ℕ) → m < i → ¬ LastIs (did h p k) q m (Ask l)
-    first m q lt ask = elim (last_cases h p k q m (Ask l) ask) [
-      | inl own ↦ (let within = at_within h i (record { processor = r; kind = Ask l }) last.does in absurd (omega (arith, own.1)))
+    first m q lt ask = elim (last_cases h (event p k) q m (Ask l) ask) [
+      | inl own ↦ (let within = at_within h i (record { processor = r; kind = Ask l }) last.does in
+          absurd (omega (arith, own.1)))
       | inr old ↦ granted.first m q lt old.1
     ]
-allowed_on s h p k r Depart may isnt posted (i, last, all) = (i, last_on h p k r i Arrive isnt last, λ q lt. (let one = all q lt in let same = count_others is_depart h p k r isnt in let more = count_more is_arrive h p k q in omega arith))
+allowed_on s h p k r Depart may isnt posted (i, last, all) = (
+  i,
+  last_on h p k r i Arrive isnt last,
+  λ q lt. (let one = all q lt in let same = count_others is_depart h p k r isnt in
+      let more = count_more is_arrive h p k q in omega arith),
+)
 allowed_on s h p k r _ may isnt posted allowed = absurd posted
 
 -- nor do others change what that brings
-pub brings_on : (s : Sizes) (h : List Event) (p : ℕ) (k : Kind) (r : ℕ) (a : Kind) (t : List ℕ) → MayFollow s h (event p k) → r ≢ p → IsPosted a → Allowed s h r a → IsStamp s.processors h (Brings h r a) t → IsStamp s.processors (did h p k) (Brings (did h p k) r a) t
-brings_on s h p k r (Acquire l) t may isnt posted (i, last, granted) x = record { long = x.long; is = kind_kept h (event p k ∷ []) (Release l) (slice_index t) (other_kind p k (Release l) (λ e. granted.free p (subst (λ b. Allowed s h p b) e may.allowed))) x.is }
-brings_on s h p k r Depart t may isnt posted (i, last, all) x = record { long = x.long; is = subst (λ n. IsTimeIn (did h p k) (UpToSome (did h p k) (SomeArrives (did h p k) n)) (slice_index t)) (sym (count_others is_depart h p k r isnt)) (arrivals_others h (event p k) (count_of is_depart h r) (slice_index t) (λ e. (let one = all p may.processor in absurd (omega arith))) x.is) }
+pub brings_on : (s : Sizes) (h : List Event) (p : ℕ) (k : Kind) (r : ℕ) (a : Kind) (t : List ℕ)
+    → MayFollow s h (event p k) → r ≢ p → IsPosted a → Allowed s h r a → IsStamp s.processors h (Brings h r a) t
+    → IsStamp s.processors (did h p k) (Brings (did h p k) r a) t
+brings_on s h p k r (Acquire l) t may isnt posted (i, last, granted) x =
+    record {
+      long = x.long;
+      is = kind_kept h (event p k ∷ []) (Release l) (slice_index t)
+          (other_kind p k (Release l) (λ e. granted.free p (subst (λ b. Allowed s h p b) e may.allowed))) x.is;
+    }
+brings_on s h p k r Depart t may isnt posted (i, last, all) x =
+    record {
+      long = x.long;
+      is = subst (λ n. IsTimeIn (did h p k) (UpToSome (did h p k) (SomeArrives (did h p k) n)) (slice_index t))
+          (sym (count_others is_depart h p k r isnt))
+          (arrivals_others h (event p k) (count_of is_depart h r) (slice_index t)
+          (λ e. (let one = all p may.processor in absurd (omega arith))) x.is);
+    }
 brings_on s h p k r _ t may isnt posted allowed x = absurd posted
 
 -- what is allowed after an event that is no news was so before
-pub allowed_back : (s : Sizes) (h : List Event) (p : ℕ) (k : Kind) (r : ℕ) (a : Kind) → MayFollow s h (event p k) → r ≢ p → IsPosted a → ¬ News k a → Allowed s (did h p k) r a → Allowed s h r a
-allowed_back s h p k r (Acquire l) may isnt posted none (i, last, granted) = (i, old, record { free = λ q held. granted.free q (holds_on h p k q l none held); first = first })
+pub allowed_back : (s : Sizes) (h : List Event) (p : ℕ) (k : Kind) (r : ℕ) (a : Kind) → MayFollow s h (event p k)
+    → r ≢ p → IsPosted a → ¬ News k a → Allowed s (did h p k) r a → Allowed s h r a
+allowed_back s h p k r (Acquire l) may isnt posted none (i, last, granted) =
+    (i, old, record { free = λ q held. granted.free q (holds_on h p k q l none held); first = first })
   where
     old : LastIs h r i (Ask l)
-    old = elim (last_cases h p k r i (Ask l) last) [ inl own ↦ absurd (isnt own.0) | inr o ↦ o.1 ]
+    old = elim (last_cases h (event p k) r i (Ask l) last) [ inl own ↦ absurd (isnt (sym own.0)) | inr o ↦ o.1 ]
 
     first : (m q : ℕ) → m < i → ¬ LastIs h q m (Ask l)
     first m q lt ask = elim (cases_eq q p) [
@@ -101,15 +129,27 @@ allowed_back s h p k r (Acquire l) may isnt posted none (i, last, granted) = (i,
           granted.free p (subst (λ b. Holds (did h p b) p l) (sym acquires) (holds_now h p l)))
       | inr apart ↦ granted.first m q lt (last_on h p k q m (Ask l) apart ask)
     ]
-allowed_back s h p k r Depart may isnt posted none (i, last, all) = (i, old, λ q lt. (let one = all q lt in let same = count_others is_depart h p k r isnt in let too = count_kept is_arrive h p k q (arrives_not k none) in omega arith))
+allowed_back s h p k r Depart may isnt posted none (i, last, all) = (
+  i,
+  old,
+  λ q lt.
+      (let one = all q lt in let same = count_others is_depart h p k r isnt in
+      let too = count_kept is_arrive h p k q (arrives_not k none) in omega arith),
+)
   where
     old : LastIs h r i Arrive
-    old = elim (last_cases h p k r i Arrive last) [ inl own ↦ absurd (isnt own.0) | inr o ↦ o.1 ]
+    old = elim (last_cases h (event p k) r i Arrive last) [ inl own ↦ absurd (isnt (sym own.0)) | inr o ↦ o.1 ]
 allowed_back s h p k r _ may isnt posted none allowed = absurd posted
 
 -- another's message stays right, and stays away unless the event brings news
-pub mail_unless : (s : Sizes) (h : List Event) (p : ℕ) (k : Kind) (r : ℕ) (o : Option Letter) → MayFollow s h (event p k) → r ≢ p → ((a : Kind) → IsPosted a → News k a → ¬ Allowed s (did h p k) r a) → IsMail s h r o → IsMail s (did h p k) r o
-mail_unless s h p k r None may isnt never mail = λ a posted allowed. elim (news_cases k a) [ inl news ↦ never a posted news allowed | inr none ↦ mail a posted (allowed_back s h p k r a may isnt posted none allowed) ]
+pub mail_unless : (s : Sizes) (h : List Event) (p : ℕ) (k : Kind) (r : ℕ) (o : Option Letter)
+    → MayFollow s h (event p k) → r ≢ p → ((a : Kind) → IsPosted a → News k a → ¬ Allowed s (did h p k) r a)
+    → IsMail s h r o → IsMail s (did h p k) r o
+mail_unless s h p k r None may isnt never mail =
+    λ a posted allowed. elim (news_cases k a) [
+      | inl news ↦ never a posted news allowed
+      | inr none ↦ mail a posted (allowed_back s h p k r a may isnt posted none allowed)
+    ]
 mail_unless s h p k r (Some m) may isnt never mail = let posted = lets_posted m.kind mail.kind mail.lets in record {
   kind = mail.kind;
   lets = mail.lets;
@@ -117,7 +157,9 @@ mail_unless s h p k r (Some m) may isnt never mail = let posted = lets_posted m.
   time = brings_on s h p k r mail.kind m.time may isnt posted mail.allowed mail.time;
 }
 
-pub mail_kept : (s : Sizes) (h : List Event) (p : ℕ) (k : Kind) (r : ℕ) (o : Option Letter) → MayFollow s h (event p k) → r ≢ p → ((l : ℕ) → k ≢ Release l) → k ≢ Arrive → IsMail s h r o → IsMail s (did h p k) r o
+pub mail_kept : (s : Sizes) (h : List Event) (p : ℕ) (k : Kind) (r : ℕ) (o : Option Letter)
+    → MayFollow s h (event p k) → r ≢ p → ((l : ℕ) → k ≢ Release l) → k ≢ Arrive → IsMail s h r o
+    → IsMail s (did h p k) r o
 mail_kept s h p k r o may isnt release arrive mail = mail_unless s h p k r o may isnt (none release arrive) mail
   where
     none : ((l : ℕ) → k ≢ Release l) → k ≢ Arrive → (a : Kind) → IsPosted a → News k a → ¬ Allowed s (did h p k) r a
@@ -132,7 +174,8 @@ idle_allowed s h p Depart idle posted allowed = absurd (cc (idle allowed.0 Arriv
 idle_allowed s h p _ idle posted allowed = absurd posted
 
 -- nor has anyone who may take none
-pub no_mail : (s : Sizes) (h : List Event) (p : ℕ) (o : Option Letter) → ((a : Kind) → IsPosted a → ¬ Allowed s h p a) → IsMail s h p o → None ≡ o
+pub no_mail : (s : Sizes) (h : List Event) (p : ℕ) (o : Option Letter)
+    → ((a : Kind) → IsPosted a → ¬ Allowed s h p a) → IsMail s h p o → None ≡ o
 no_mail s h p None never mail = refl
 no_mail s h p (Some m) never mail = absurd (never mail.kind (lets_posted m.kind mail.kind mail.lets) mail.allowed)
 
@@ -140,10 +183,13 @@ pub idle_mail : (s : Sizes) (h : List Event) (p : ℕ) (o : Option Letter) → I
 idle_mail s h p o idle mail = no_mail s h p o (λ a posted. idle_allowed s h p a idle posted) mail
 
 -- who neither asked nor arrived last has none
-pub own_none : (s : Sizes) (h : List Event) (p : ℕ) (k : Kind) → ((l : ℕ) → k ≢ Ask l) → k ≢ Arrive → IsMail s (did h p k) p None
+pub own_none : (s : Sizes) (h : List Event) (p : ℕ) (k : Kind) → ((l : ℕ) → k ≢ Ask l) → k ≢ Arrive
+    → IsMail s (did h p k) p None
 own_none s h p k ask arrive (Acquire l) posted allowed = last_none h p k allowed.0 (Ask l) (ask l) allowed.1
 own_none s h p k ask arrive Depart posted allowed = last_none h p k allowed.0 Arrive arrive allowed.1
 own_none s h p k ask arrive _ posted allowed = absurd posted
 
-pub own_idle : (s : Sizes) (h : List Event) (p : ℕ) (k : Kind) (o : Option Letter) → IsIdle h p → ((l : ℕ) → k ≢ Ask l) → k ≢ Arrive → IsMail s h p o → IsMail s (did h p k) p o
-own_idle s h p k o idle ask arrive mail = subst (λ x. IsMail s (did h p k) p x) (idle_mail s h p o idle mail) (own_none s h p k ask arrive)
+pub own_idle : (s : Sizes) (h : List Event) (p : ℕ) (k : Kind) (o : Option Letter) → IsIdle h p
+    → ((l : ℕ) → k ≢ Ask l) → k ≢ Arrive → IsMail s h p o → IsMail s (did h p k) p o
+own_idle s h p k o idle ask arrive mail =
+    subst (λ x. IsMail s (did h p k) p x) (idle_mail s h p o idle mail) (own_none s h p k ask arrive)

@@ -31,13 +31,16 @@ use Rattle.book.proofs.Parts.Stamps.{stamp_none, stamp_join}
 use Rattle.book.proofs.Parts.Mail.{other_kind}
 
 -- who is at a stage stays there while it is counted alike
-pub stage_same : (h g : List Event) (n p : ℕ) (x : Stage) → count_of is_arrive g p ≡ count_of is_arrive h p → count_of is_depart g p ≡ count_of is_depart h p → IsAtStage h n p x → IsAtStage g n p x
+pub stage_same : (h g : List Event) (n p : ℕ) (x : Stage) → count_of is_arrive g p ≡ count_of is_arrive h p
+    → count_of is_depart g p ≡ count_of is_depart h p → IsAtStage h n p x → IsAtStage g n p x
 stage_same h g n p Away a d x = (a ∙ x.0, d ∙ x.1)
 stage_same h g n p Here a d x = (a ∙ x.0, d ∙ x.1)
 stage_same h g n p Free a d x = (a ∙ x.0, ap (λ m. m + 1) d ∙ x.1)
 
-stage_others : (h : List Event) (p : ℕ) (k : Kind) (n q : ℕ) (x : Stage) → q ≢ p → IsAtStage h n q x → IsAtStage (did h p k) n q x
-stage_others h p k n q x isnt at = stage_same h (did h p k) n q x (count_others is_arrive h p k q isnt) (count_others is_depart h p k q isnt) at
+stage_others : (h : List Event) (p : ℕ) (k : Kind) (n q : ℕ) (x : Stage) → q ≢ p → IsAtStage h n q x
+    → IsAtStage (did h p k) n q x
+stage_others h p k n q x isnt at =
+    stage_same h (did h p k) n q x (count_others is_arrive h p k q isnt) (count_others is_depart h p k q isnt) at
 
 -- each has arrived at least as often as episodes are complete, and departed at most so often
 pub stage_arrived : (h : List Event) (n p : ℕ) (x : Stage) → IsAtStage h n p x → n ≤ count_of is_arrive h p
@@ -46,19 +49,22 @@ stage_arrived h n p Here x = let e = x.0 in omega arith
 stage_arrived h n p Free x = let e = x.0 in omega arith
 
 -- who has arrived as often as it has departed is away
-pub stage_away : (h : List Event) (n p : ℕ) (x : Stage) → count_of is_arrive h p ≡ count_of is_depart h p → IsAtStage h n p x → Away ≡ x
+pub stage_away : (h : List Event) (n p : ℕ) (x : Stage) → count_of is_arrive h p ≡ count_of is_depart h p
+    → IsAtStage h n p x → Away ≡ x
 stage_away h n p Away e x = refl
 stage_away h n p Here e x = let a = x.0 in let d = x.1 in absurd (omega arith)
 stage_away h n p Free e x = let a = x.0 in let d = x.1 in absurd (omega arith)
 
 -- who has arrived once more, in a complete episode, is free
-pub stage_free : (h : List Event) (n p : ℕ) (x : Stage) → count_of is_arrive h p ≡ count_of is_depart h p + 1 → count_of is_depart h p + 1 ≤ n → IsAtStage h n p x → Free ≡ x
+pub stage_free : (h : List Event) (n p : ℕ) (x : Stage) → count_of is_arrive h p ≡ count_of is_depart h p + 1
+    → count_of is_depart h p + 1 ≤ n → IsAtStage h n p x → Free ≡ x
 stage_free h n p Free e le x = refl
 stage_free h n p Here e le x = let a = x.0 in let d = x.1 in absurd (omega arith)
 stage_free h n p Away e le x = let a = x.0 in let d = x.1 in absurd (omega arith)
 
 -- an idle processor has departed as often as it has arrived
-pub idle_counts : (s : Sizes) (h : List Event) (p : ℕ) → WellFormed s h → IsIdle h p → count_of is_arrive h p ≡ count_of is_depart h p
+pub idle_counts : (s : Sizes) (h : List Event) (p : ℕ) → WellFormed s h → IsIdle h p
+    → count_of is_arrive h p ≡ count_of is_depart h p
 idle_counts s h p well idle = (balanced s h p well).going (λ i last. absurd (cc (idle i Arrive last)))
 
 is_arrive_is : (k : Kind) → (k ≡ Arrive) ⊎ (k ≢ Arrive)
@@ -66,7 +72,8 @@ is_arrive_is Arrive = inl refl
 is_arrive_is _ = inr (λ e. absurd cc)
 
 -- who has arrived once more waits
-pub waits_there : (s : Sizes) (h : List Event) (p : ℕ) → WellFormed s h → count_of is_arrive h p ≡ count_of is_depart h p + 1 → (i : ℕ) × LastIs h p i Arrive
+pub waits_there : (s : Sizes) (h : List Event) (p : ℕ) → WellFormed s h
+    → count_of is_arrive h p ≡ count_of is_depart h p + 1 → (i : ℕ) × LastIs h p i Arrive
 waits_there s h p well more = elim (last_or_none h p) [
   | inl x ↦ elim (is_arrive_is x.1) [
     | inl is ↦ (x.0, subst (λ k. LastIs h p x.0 k) is x.2)
@@ -79,21 +86,35 @@ waits_there s h p well more = elim (last_or_none h p) [
     none never = let same = (balanced s h p well).going never in absurd (omega arith)
 
 -- what is no arrival and no departure leaves the barrier
-pub barrier_kept : (s : Sizes) (h : List Event) (p : ℕ) (k : Kind) (b : Episodes) → is_arrive k ≡ false → is_depart k ≡ false → IsBarrier s h b → IsBarrier s (did h p k) b
+pub barrier_kept : (s : Sizes) (h : List Event) (p : ℕ) (k : Kind) (b : Episodes) → is_arrive k ≡ false
+    → is_depart k ≡ false → IsBarrier s h b → IsBarrier s (did h p k) b
 barrier_kept s h p k b arrive depart x = record {
   complete = x.complete;
-  stages = each_kept s.processors (IsAtStage h x.complete) (IsAtStage (did h p k) x.complete) b.stages x.stages (λ q st at is. stage_same h (did h p k) x.complete q st (count_kept is_arrive h p k q arrive) (count_kept is_depart h p k q depart) is);
+  stages = each_kept s.processors (IsAtStage h x.complete) (IsAtStage (did h p k) x.complete) b.stages x.stages
+      (λ q st at is. stage_same h (did h p k) x.complete q st (count_kept is_arrive h p k q arrive)
+      (count_kept is_depart h p k q depart) is);
   lacks = (x.lacks.0, x.lacks.1, count_kept is_arrive h p k x.lacks.0 arrive ∙ x.lacks.2);
-  gathered = record { long = x.gathered.long; is = arrivals_kept h (event p k ∷ []) x.complete (slice_index b.gathered) (other_kind p k Arrive (λ e. true≢false (sym (ap (λ a. is_arrive a) e) ∙ arrive))) x.gathered.is };
+  gathered = record {
+    long = x.gathered.long;
+    is = arrivals_kept h (event p k ∷ []) x.complete (slice_index b.gathered)
+        (other_kind p k Arrive (λ e. true≢false (sym (ap (λ a. is_arrive a) e) ∙ arrive))) x.gathered.is;
+  };
 }
 
 -- a departure leaves its processor away
-pub barrier_departed : (s : Sizes) (h : List Event) (p : ℕ) (b : Episodes) → WellFormed s h → Allowed s h p Depart → p < s.processors → IsBarrier s h b → IsBarrier s (did h p Depart) (departed b p)
+pub barrier_departed : (s : Sizes) (h : List Event) (p : ℕ) (b : Episodes) → WellFormed s h → Allowed s h p Depart
+    → p < s.processors → IsBarrier s h b → IsBarrier s (did h p Depart) (departed b p)
 barrier_departed s h p b well allowed lt x = record {
   complete = x.complete;
-  stages = each_set s.processors (IsAtStage h x.complete) (IsAtStage (did h p Depart) x.complete) b.stages p Away x.stages (λ q st isnt at is. stage_others h p Depart x.complete q st isnt is) (own_arrive, own_depart);
+  stages = each_set s.processors (IsAtStage h x.complete) (IsAtStage (did h p Depart) x.complete)
+      b.stages p Away x.stages (λ q st isnt at is. stage_others h p Depart x.complete q st isnt is)
+      (own_arrive, own_depart);
   lacks = (x.lacks.0, x.lacks.1, count_kept is_arrive h p Depart x.lacks.0 refl ∙ x.lacks.2);
-  gathered = record { long = x.gathered.long; is = arrivals_kept h (event p Depart ∷ []) x.complete (slice_index b.gathered) (other_kind p Depart Arrive (λ e. absurd cc)) x.gathered.is };
+  gathered = record {
+    long = x.gathered.long;
+    is = arrivals_kept h (event p Depart ∷ []) x.complete (slice_index b.gathered)
+        (other_kind p Depart Arrive (λ e. absurd cc)) x.gathered.is;
+  };
 }
   where
     more : count_of is_arrive h p ≡ count_of is_depart h p + 1
@@ -103,13 +124,17 @@ barrier_departed s h p b well allowed lt x = record {
     most = let one = allowed.2 x.lacks.0 x.lacks.1 in let e = x.lacks.2 in omega arith
 
     least : x.complete ≤ count_of is_arrive h p
-    least = let item = item_at s.processors (IsAtStage h x.complete) b.stages p Away x.stages lt in stage_arrived h x.complete p (slice_index_or b.stages p Away) (x.stages.each p (slice_index_or b.stages p Away) item)
+    least = let item = item_at s.processors (IsAtStage h x.complete) b.stages p Away x.stages lt in
+        stage_arrived h x.complete p (slice_index_or b.stages p Away)
+        (x.stages.each p (slice_index_or b.stages p Away) item)
 
     own_arrive : count_of is_arrive (did h p Depart) p ≡ x.complete
-    own_arrive = let same = count_kept is_arrive h p Depart p refl in let a = more in let c = most in let d = least in omega arith
+    own_arrive = let same = count_kept is_arrive h p Depart p refl in let a = more in let c = most in let d =
+        least in omega arith
 
     own_depart : count_of is_depart (did h p Depart) p ≡ x.complete
-    own_depart = let one : count_of is_depart (did h p Depart) p ≡ count_of is_depart h p + 1 = count_did is_depart h p Depart in let a = more in let c = most in let d = least in omega arith
+    own_depart = let one : count_of is_depart (did h p Depart) p ≡ count_of is_depart h p + 1 =
+        count_did is_depart h p Depart in let a = more in let c = most in let d = least in omega arith
 
 pub all_true : (xs : List Stage) → list_all is_here xs ≡ true → (k : ℕ) (x : Stage) → slice_get xs k ≡ Some x → Here ≡ x
 all_true [] all k x at = absurd (none-some x at)
@@ -118,7 +143,8 @@ all_true (Here ∷ xs) all (suc k) x at = all_true xs all k x at
 all_true (Away ∷ xs) all k x at = absurd (true≢false (sym all))
 all_true (Free ∷ xs) all k x at = absurd (true≢false (sym all))
 
-not_all : (xs : List Stage) → list_all is_here xs ≡ false → (k : ℕ) × (x : Stage) × (slice_get xs k ≡ Some x) × (Here ≢ x)
+not_all : (xs : List Stage) → list_all is_here xs ≡ false
+    → (k : ℕ) × (x : Stage) × (slice_get xs k ≡ Some x) × (Here ≢ x)
 not_all [] all = absurd (true≢false all)
 not_all (Here ∷ xs) all = let r = not_all xs all in (suc r.0, r.1, r.2, r.3)
 not_all (Away ∷ xs) all = (0, Away, refl, λ e. absurd cc)
@@ -130,75 +156,116 @@ stage_lacks h n p Here isnt x = absurd (isnt refl)
 stage_lacks h n p Free isnt x = x.0
 
 -- all stages after p's arrival, before the episode is looked at
-pub arrived_stages : (s : Sizes) (h : List Event) (p : ℕ) (b : Episodes) → WellFormed s h → IsIdle h p → p < s.processors → (x : IsBarrier s h b) → (count_of is_arrive h p ≡ x.complete) × AreAll s.processors (IsAtStage (did h p Arrive) x.complete) (slice_set b.stages p Here)
-arrived_stages s h p b well idle lt x = (here.0, each_set s.processors (IsAtStage h x.complete) (IsAtStage (did h p Arrive) x.complete) b.stages p Here x.stages (λ q st isnt at is. stage_others h p Arrive x.complete q st isnt is) (own_arrive, own_depart))
+pub arrived_stages : (s : Sizes) (h : List Event) (p : ℕ) (b : Episodes) → WellFormed s h → IsIdle h p
+    → p < s.processors → (x : IsBarrier s h b)
+    → (count_of is_arrive h p ≡ x.complete)
+    × AreAll s.processors (IsAtStage (did h p Arrive) x.complete) (slice_set b.stages p Here)
+arrived_stages s h p b well idle lt x = (
+  here.0,
+  each_set s.processors (IsAtStage h x.complete) (IsAtStage (did h p Arrive) x.complete)
+      b.stages p Here x.stages (λ q st isnt at is. stage_others h p Arrive x.complete q st isnt is)
+      (own_arrive, own_depart),
+)
   where
     here : IsAtStage h x.complete p Away
-    here = let item = is_at s.processors (IsAtStage h x.complete) b.stages p Away x.stages lt in subst (λ st. IsAtStage h x.complete p st) (sym (stage_away h x.complete p (slice_index_or b.stages p Away) (idle_counts s h p well idle) item)) item
+    here = let item = is_at s.processors (IsAtStage h x.complete) b.stages p Away x.stages lt in
+        subst (λ st. IsAtStage h x.complete p st)
+        (sym (stage_away h x.complete p (slice_index_or b.stages p Away) (idle_counts s h p well idle) item)) item
 
     own_arrive : count_of is_arrive (did h p Arrive) p ≡ x.complete + 1
-    own_arrive = let one : count_of is_arrive (did h p Arrive) p ≡ count_of is_arrive h p + 1 = count_did is_arrive h p Arrive in let e = here.0 in omega arith
+    own_arrive = let one : count_of is_arrive (did h p Arrive) p ≡ count_of is_arrive h p + 1 =
+        count_did is_arrive h p Arrive in let e = here.0 in omega arith
 
     own_depart : count_of is_depart (did h p Arrive) p ≡ x.complete
     own_depart = count_kept is_depart h p Arrive p refl ∙ here.1
 
 -- the open episode gathers the arrival
-pub arrival_gathered : (s : Sizes) (h : List Event) (p n : ℕ) (t u : List ℕ) → count_of is_arrive h p ≡ n → IsStamp s.processors h (UpToSome h (SomeArrives h n)) t → IsStamp s.processors (did h p Arrive) (InPast (did h p Arrive) p) u
+pub arrival_gathered : (s : Sizes) (h : List Event) (p n : ℕ) (t u : List ℕ) → count_of is_arrive h p ≡ n
+    → IsStamp s.processors h (UpToSome h (SomeArrives h n)) t
+    → IsStamp s.processors (did h p Arrive) (InPast (did h p Arrive) p) u
     → IsStamp s.processors (did h p Arrive) (UpToSome (did h p Arrive) (SomeArrives (did h p Arrive) n)) (join t u)
-arrival_gathered s h p n t u is x y = subst (λ m. IsStamp s.processors h (UpToSome h (SomeArrives h m)) t → IsStamp s.processors (did h p Arrive) (UpToSome (did h p Arrive) (SomeArrives (did h p Arrive) m)) (join t u)) is
-    (λ z. stamp_join s.processors (did h p Arrive) (UpToSome (did h p Arrive) (SomeArrives (did h p Arrive) (count_of is_arrive h p))) t u z.long y.long (arrival_joins h (event p Arrive) (slice_index t) (slice_index u) refl z.is y.is)) x
+arrival_gathered s h p n t u is x y =
+    subst (λ m. IsStamp s.processors h (UpToSome h (SomeArrives h m)) t
+    → IsStamp s.processors (did h p Arrive) (UpToSome (did h p Arrive) (SomeArrives (did h p Arrive) m)) (join t u))
+    is
+    (λ z. stamp_join s.processors (did h p Arrive)
+    (UpToSome (did h p Arrive) (SomeArrives (did h p Arrive) (count_of is_arrive h p))) t u z.long y.long
+    (arrival_joins h (event p Arrive) (slice_index t) (slice_index u) refl z.is y.is)) x
 
 -- when not all are here, the episode stays open
-pub barrier_waits : (s : Sizes) (h : List Event) (p : ℕ) (b : Episodes) (u : List ℕ) → WellFormed s h → IsIdle h p → p < s.processors → IsBarrier s h b → IsStamp s.processors (did h p Arrive) (InPast (did h p Arrive) p) u
-    → is_full (joined b p u) ≡ false → (x : IsBarrier s (did h p Arrive) (joined b p u)) × ((q : ℕ) → q < s.processors → x.complete ≤ count_of is_arrive h q) × (count_of is_arrive h p ≡ x.complete)
+pub barrier_waits : (s : Sizes) (h : List Event) (p : ℕ) (b : Episodes) (u : List ℕ) → WellFormed s h → IsIdle h p
+    → p < s.processors → IsBarrier s h b → IsStamp s.processors (did h p Arrive) (InPast (did h p Arrive) p) u
+    → is_full (joined b p u) ≡ false
+    → (x : IsBarrier s (did h p Arrive) (joined b p u))
+    × ((q : ℕ) → q < s.processors → x.complete ≤ count_of is_arrive h q) × (count_of is_arrive h p ≡ x.complete)
 barrier_waits s h p b u well idle lt x time open_still = (
   record {
     complete = x.complete;
     stages = all.1;
-    lacks = (r.0, subst (λ m. r.0 < m) all.1.long (slice_get_within (slice_set b.stages p Here) r.0 r.1 r.2), stage_lacks (did h p Arrive) x.complete r.0 r.1 r.3 (all.1.each r.0 r.1 r.2));
+    lacks = (
+      r.0,
+      subst (λ m. r.0 < m) all.1.long (slice_get_within (slice_set b.stages p Here) r.0 r.1 r.2),
+      stage_lacks (did h p Arrive) x.complete r.0 r.1 r.3 (all.1.each r.0 r.1 r.2),
+    );
     gathered = arrival_gathered s h p x.complete b.gathered u all.0 x.gathered time;
   },
-  λ q less. stage_arrived h x.complete q (slice_index_or b.stages q Away) (is_at s.processors (IsAtStage h x.complete) b.stages q Away x.stages less),
+  λ q less. stage_arrived h x.complete q (slice_index_or b.stages q Away)
+      (is_at s.processors (IsAtStage h x.complete) b.stages q Away x.stages less),
   all.0,
 )
   where
-    all : (count_of is_arrive h p ≡ x.complete) × AreAll s.processors (IsAtStage (did h p Arrive) x.complete) (slice_set b.stages p Here)
+    all : (count_of is_arrive h p ≡ x.complete)
+        × AreAll s.processors (IsAtStage (did h p Arrive) x.complete) (slice_set b.stages p Here)
     all = arrived_stages s h p b well idle lt x
 
     r : (k : ℕ) × (st : Stage) × (slice_get (slice_set b.stages p Here) k ≡ Some st) × (Here ≢ st)
     r = not_all (slice_set b.stages p Here) open_still
 
 -- an event's processor is within the sizes
-within_sizes : (s : Sizes) (h : List Event) (q i : ℕ) (k : Kind) → WellFormed s h → At h i (event q k) → q < s.processors
+within_sizes : (s : Sizes) (h : List Event) (q i : ℕ) (k : Kind) → WellFormed s h → At h i (event q k)
+    → q < s.processors
 within_sizes s h q i k well at = (well i (event q k) at).processor
 
 -- when all are here, all are free, and nobody has arrived at the next episode
-pub barrier_completes : (s : Sizes) (h : List Event) (p : ℕ) (b : Episodes) (u : List ℕ) → WellFormed s h → WellFormed s (did h p Arrive) → IsIdle h p → p < s.processors → IsBarrier s h b → IsStamp s.processors (did h p Arrive) (InPast (did h p Arrive) p) u
+pub barrier_completes : (s : Sizes) (h : List Event) (p : ℕ) (b : Episodes) (u : List ℕ) → WellFormed s h
+    → WellFormed s (did h p Arrive) → IsIdle h p → p < s.processors → IsBarrier s h b
+    → IsStamp s.processors (did h p Arrive) (InPast (did h p Arrive) p) u
     → is_full (joined b p u) ≡ true → IsBarrier s (did h p Arrive) (completed true (joined b p u))
 barrier_completes s h p b u well next idle lt x time full = record {
   complete = x.complete + 1;
-  stages = subst (λ n. AreAll n (IsAtStage (did h p Arrive) (x.complete + 1)) (replicate (length (slice_set b.stages p Here)) Free)) all.1.long
+  stages = subst (λ n. AreAll n (IsAtStage (did h p Arrive) (x.complete + 1))
+      (replicate (length (slice_set b.stages p Here)) Free)) all.1.long
       (record { long = length-replicate {A = Stage} (length (slice_set b.stages p Here)) Free; each = each });
   lacks = (p, lt, (arrived_all p lt).0);
-  gathered = subst (λ n. IsStamp s.processors (did h p Arrive) (UpToSome (did h p Arrive) (SomeArrives (did h p Arrive) (x.complete + 1))) (replicate n 0)) (sym all.1.long)
-      (stamp_none s.processors (did h p Arrive) (UpToSome (did h p Arrive) (SomeArrives (did h p Arrive) (x.complete + 1))) (λ i some. nobody some.0 some.1));
+  gathered = subst (λ n. IsStamp s.processors (did h p Arrive)
+      (UpToSome (did h p Arrive) (SomeArrives (did h p Arrive) (x.complete + 1))) (replicate n 0)) (sym all.1.long)
+      (stamp_none s.processors (did h p Arrive)
+      (UpToSome (did h p Arrive) (SomeArrives (did h p Arrive) (x.complete + 1)))
+      (λ i some. nobody some.0 some.1));
 }
   where
-    all : (count_of is_arrive h p ≡ x.complete) × AreAll s.processors (IsAtStage (did h p Arrive) x.complete) (slice_set b.stages p Here)
+    all : (count_of is_arrive h p ≡ x.complete)
+        × AreAll s.processors (IsAtStage (did h p Arrive) x.complete) (slice_set b.stages p Here)
     all = arrived_stages s h p b well idle lt x
 
     arrived_all : (q : ℕ) → q < s.processors → IsAtStage (did h p Arrive) x.complete q Here
     arrived_all q less =
-        let item = item_at s.processors (IsAtStage (did h p Arrive) x.complete) (slice_set b.stages p Here) q Away all.1 less in
-        subst (λ st. IsAtStage (did h p Arrive) x.complete q st) (sym (all_true (slice_set b.stages p Here) full q (slice_index_or (slice_set b.stages p Here) q Away) item)) (all.1.each q (slice_index_or (slice_set b.stages p Here) q Away) item)
+        let item = item_at s.processors (IsAtStage (did h p Arrive) x.complete) (slice_set b.stages p Here)
+        q Away all.1 less in
+        subst (λ st. IsAtStage (did h p Arrive) x.complete q st)
+        (sym (all_true (slice_set b.stages p Here) full q (slice_index_or (slice_set b.stages p Here) q Away)
+        item)) (all.1.each q (slice_index_or (slice_set b.stages p Here) q Away) item)
 
-    each : (q : ℕ) (st : Stage) → slice_get (replicate (length (slice_set b.stages p Here)) Free) q ≡ Some st → IsAtStage (did h p Arrive) (x.complete + 1) q st
+    each : (q : ℕ) (st : Stage) → slice_get (replicate (length (slice_set b.stages p Here)) Free) q ≡ Some st
+        → IsAtStage (did h p Arrive) (x.complete + 1) q st
     each q st at =
         let within = slice_get_within (replicate (length (slice_set b.stages p Here)) Free) q st at in
         let long = length-replicate {A = Stage} (length (slice_set b.stages p Here)) Free in
         let same = all.1.long in
         let counts = arrived_all q (omega arith) in
-        subst (λ y. IsAtStage (did h p Arrive) (x.complete + 1) q y) (slice_get-replicate_found (length (slice_set b.stages p Here)) Free st q at) (counts.0, ap (λ m. m + 1) counts.1)
+        subst (λ y. IsAtStage (did h p Arrive) (x.complete + 1) q y)
+        (slice_get-replicate_found (length (slice_set b.stages p Here)) Free st q at)
+        (counts.0, ap (λ m. m + 1) counts.1)
 
     nobody : (i : ℕ) → ¬ SomeArrives (did h p Arrive) (x.complete + 1) i
     nobody i some =
@@ -209,20 +276,38 @@ barrier_completes s h p b u well next idle lt x time full = record {
         absurd (omega arith)
 
 -- then each is allowed to depart, with the join of all arrivals
-pub completes_all : (s : Sizes) (h : List Event) (p : ℕ) (b : Episodes) (u : List ℕ) → WellFormed s h → WellFormed s (did h p Arrive) → IsIdle h p → p < s.processors → IsBarrier s h b → IsStamp s.processors (did h p Arrive) (InPast (did h p Arrive) p) u
-    → is_full (joined b p u) ≡ true → (q : ℕ) → q < s.processors → Allowed s (did h p Arrive) q Depart × IsStamp s.processors (did h p Arrive) (Brings (did h p Arrive) q Depart) (join b.gathered u)
-completes_all s h p b u well next idle lt x time full q less = ((waits.0, waits.1, λ r below. (let one = (arrived_all r below).0 in let d = (arrived_all q less).1 in omega arith)), brings)
+pub completes_all : (s : Sizes) (h : List Event) (p : ℕ) (b : Episodes) (u : List ℕ) → WellFormed s h
+    → WellFormed s (did h p Arrive) → IsIdle h p → p < s.processors → IsBarrier s h b
+    → IsStamp s.processors (did h p Arrive) (InPast (did h p Arrive) p) u
+    → is_full (joined b p u) ≡ true → (q : ℕ) → q < s.processors
+    → Allowed s (did h p Arrive) q Depart
+    × IsStamp s.processors (did h p Arrive) (Brings (did h p Arrive) q Depart) (join b.gathered u)
+completes_all s h p b u well next idle lt x time full q less = (
+  (
+    waits.0,
+    waits.1,
+    λ r below. (let one = (arrived_all r below).0 in let d = (arrived_all q less).1 in omega arith),
+  ),
+  brings,
+)
   where
-    all : (count_of is_arrive h p ≡ x.complete) × AreAll s.processors (IsAtStage (did h p Arrive) x.complete) (slice_set b.stages p Here)
+    all : (count_of is_arrive h p ≡ x.complete)
+        × AreAll s.processors (IsAtStage (did h p Arrive) x.complete) (slice_set b.stages p Here)
     all = arrived_stages s h p b well idle lt x
 
     arrived_all : (r : ℕ) → r < s.processors → IsAtStage (did h p Arrive) x.complete r Here
     arrived_all r below =
-        let item = item_at s.processors (IsAtStage (did h p Arrive) x.complete) (slice_set b.stages p Here) r Away all.1 below in
-        subst (λ st. IsAtStage (did h p Arrive) x.complete r st) (sym (all_true (slice_set b.stages p Here) full r (slice_index_or (slice_set b.stages p Here) r Away) item)) (all.1.each r (slice_index_or (slice_set b.stages p Here) r Away) item)
+        let item = item_at s.processors (IsAtStage (did h p Arrive) x.complete) (slice_set b.stages p Here)
+        r Away all.1 below in
+        subst (λ st. IsAtStage (did h p Arrive) x.complete r st)
+        (sym (all_true (slice_set b.stages p Here) full r (slice_index_or (slice_set b.stages p Here) r Away)
+        item)) (all.1.each r (slice_index_or (slice_set b.stages p Here) r Away) item)
 
     waits : (i : ℕ) × LastIs (did h p Arrive) q i Arrive
-    waits = let counts = arrived_all q less in let a = counts.0 in let d = counts.1 in waits_there s (did h p Arrive) q next (omega arith)
+    waits = let counts = arrived_all q less in let a = counts.0 in let d =
+        counts.1 in waits_there s (did h p Arrive) q next (omega arith)
 
     brings : IsStamp s.processors (did h p Arrive) (Brings (did h p Arrive) q Depart) (join b.gathered u)
-    brings = subst (λ n. IsStamp s.processors (did h p Arrive) (UpToSome (did h p Arrive) (SomeArrives (did h p Arrive) n)) (join b.gathered u)) (sym (arrived_all q less).1) (arrival_gathered s h p x.complete b.gathered u all.0 x.gathered time)
+    brings = subst (λ n. IsStamp s.processors (did h p Arrive)
+        (UpToSome (did h p Arrive) (SomeArrives (did h p Arrive) n)) (join b.gathered u))
+        (sym (arrived_all q less).1) (arrival_gathered s h p x.complete b.gathered u all.0 x.gathered time)

@@ -37,7 +37,8 @@ record IsSent (c : Closings) (old new : List ℕ) (n : ℕ) (x : Missing) : Type
   page : changes.page ≡ n
   is : missing_of (sent_record kept changes) ≡ x
 
-sent_of : (c : Closings) (old new : List ℕ) (n : ℕ) (x : Missing) → Has (missing_in n (between c old new)) x → IsSent c old new n x
+sent_of : (c : Closings) (old new : List ℕ) (n : ℕ) (x : Missing) → Has (missing_in n (between c old new)) x
+    → IsSent c old new n x
 sent_of c old new n x h =
     let y = (has-map missing_of (filter (is_of_page n) (between c old new)) x).0 h in
     let f = (has-filter (is_of_page n) (between c old new) y.0).0 y.1 in
@@ -54,19 +55,24 @@ sent_of c old new n x h =
       is = ap missing_of r.2 ∙ y.2;
     }
 
-has_sent : (c : Closings) (old new : List ℕ) (k : Kept) (r : Changes) → Has c.kept k → is_news old new k ≡ true → Has k.interval.records r → Has (missing_in r.page (between c old new)) (missing_of (sent_record k r))
+has_sent : (c : Closings) (old new : List ℕ) (k : Kept) (r : Changes) → Has c.kept k → is_news old new k ≡ true
+    → Has k.interval.records r → Has (missing_in r.page (between c old new)) (missing_of (sent_record k r))
 has_sent c old new k r has news among =
     let own = (has-map (sent_record k) k.interval.records (sent_record k r)).1 (r, among, refl) in
     let picked = (has-filter (is_news old new) c.kept k).1 (has, news) in
     let sent = (has-flat_map sent_interval (filter (is_news old new) c.kept) (sent_record k r)).1 (k, picked, own) in
-    let there = (has-filter (is_of_page r.page) (between c old new) (sent_record k r)).1 (sent, eq-eqb r.page r.page refl) in
-    (has-map missing_of (filter (is_of_page r.page) (between c old new)) (missing_of (sent_record k r))).1 (sent_record k r, there, refl)
+    let there = (has-filter (is_of_page r.page) (between c old new) (sent_record k r)).1
+    (sent, eq-eqb r.page r.page refl) in
+    (has-map missing_of (filter (is_of_page r.page) (between c old new)) (missing_of (sent_record k r))).1
+    (sent_record k r, there, refl)
 
 -- of two records of one page the first sent is of an interval that was closed before
-pub sent_in_order : (s : Sizes) (h : List Event) (c : Closings) (n : ℕ) (old new : List ℕ) → AreClosed s h c → InClosingOrder (missing_in n (between c old new))
+pub sent_in_order : (s : Sizes) (h : List Event) (c : Closings) (n : ℕ) (old new : List ℕ) → AreClosed s h c
+    → InClosingOrder (missing_in n (between c old new))
 sent_in_order s h c n old new x =
     in_order-map (λ (y z : Missing). y.place < z.place) missing_of (filter (is_of_page n) (between c old new))
-    (in_order_weaker Before (λ (y z : SentRecord). y.place < z.place) (filter (is_of_page n) (between c old new)) earlier
+    (in_order_weaker Before (λ (y z : SentRecord). y.place < z.place) (filter (is_of_page n) (between c old new))
+    earlier
     (in_order-filter Before (is_of_page n) (between c old new)
     (in_order-flat_map Before sent_interval (filter (is_news old new) c.kept) within across)))
   where
@@ -77,31 +83,41 @@ sent_in_order s h c n old new x =
     kept_of k h = ((has-filter (is_news old new) c.kept k).0 h).0
 
     within : (k : Kept) → Has (filter (is_news old new) c.kept) k → InOrder Before (sent_interval k)
-    within k h = in_order-map Before (sent_record k) k.interval.records (in_order_weaker (λ (a b : Changes). a.page < b.page) (λ a b. Before (sent_record k a) (sent_record k b)) k.interval.records (λ a b _ _ less. inr less) (x.contents k (kept_of k h)).rising)
+    within k h = in_order-map Before (sent_record k) k.interval.records
+        (in_order_weaker (λ (a b : Changes). a.page < b.page) (λ a b. Before (sent_record k a) (sent_record k b))
+        k.interval.records (λ a b _ _ less. inr less) (x.contents k (kept_of k h)).rising)
 
     place_of : (k : Kept) (y : SentRecord) → Has (sent_interval k) y → k.place ≡ y.place
     place_of k y h = let r = (has-map (sent_record k) k.interval.records y).0 h in ap (λ (z : SentRecord). z.place) r.2
 
-    across : InOrder (λ (j k : Kept). (a b : SentRecord) → Has (sent_interval j) a → Has (sent_interval k) b → Before a b) (filter (is_news old new) c.kept)
-    across = in_order_weaker (λ (j k : Kept). j.place < k.place) (λ (j k : Kept). (a b : SentRecord) → Has (sent_interval j) a → Has (sent_interval k) b → Before a b) (filter (is_news old new) c.kept)
-        (λ j k _ _ less a b in_j in_k. let here = place_of j a in_j in let there = place_of k b in_k in inl (omega arith))
+    across : InOrder (λ (j k : Kept). (a b : SentRecord) → Has (sent_interval j) a → Has (sent_interval k) b
+        → Before a b) (filter (is_news old new) c.kept)
+    across = in_order_weaker (λ (j k : Kept). j.place < k.place)
+        (λ (j k : Kept). (a b : SentRecord) → Has (sent_interval j) a → Has (sent_interval k) b → Before a b)
+        (filter (is_news old new) c.kept)
+        (λ j k _ _ less a b in_j in_k. let here = place_of j a in_j in let there = place_of k b in_k in
+        inl (omega arith))
         (in_order-filter (λ (j k : Kept). j.place < k.place) (is_news old new) c.kept x.rising)
 
     page_of : (y : SentRecord) → Has (filter (is_of_page n) (between c old new)) y → y.notice.page ≡ n
     page_of y h = eqb-true y.notice.page n ((has-filter (is_of_page n) (between c old new) y).0 h).1
 
-    earlier : (y z : SentRecord) → Has (filter (is_of_page n) (between c old new)) y → Has (filter (is_of_page n) (between c old new)) z → Before y z → y.place < z.place
+    earlier : (y z : SentRecord) → Has (filter (is_of_page n) (between c old new)) y
+        → Has (filter (is_of_page n) (between c old new)) z → Before y z → y.place < z.place
     earlier y z in_y in_z (inl less) = less
     earlier y z in_y in_z (inr less) = let here = page_of y in_y in let there = page_of z in_z in absurd (omega arith)
 
 -- a record has words, so its interval stores in the page
-stores_of : (s : Sizes) (h : List Event) (q k n : ℕ) (words : List (ℕ × ℕ)) → words ≢ [] → IsContent s h q k n words → (i : ℕ) × StoresIn s h q k n i
+stores_of : (s : Sizes) (h : List Event) (q k n : ℕ) (words : List (ℕ × ℕ)) → words ≢ [] → IsContent s h q k n words
+    → (i : ℕ) × StoresIn s h q k n i
 stores_of s h q k n [] some content = absurd (some refl)
 stores_of s h q k n (w ∷ words) some content = content_some s h q k n w words content
 
 -- what a taking brings of a page is news of it
-pub news_are : (s : Sizes) (h : List Event) (b : State) (p n : ℕ) (k : Kind) (u : List ℕ) → IsTold s h b → p < s.processors → IsStamp s.processors h (Brings h p k) u
-    → AreNews s h p n (slice_index (time_of b p)) (slice_index (join (time_of b p) u)) (missing_in n (between b.closed (time_of b p) u))
+pub news_are : (s : Sizes) (h : List Event) (b : State) (p n : ℕ) (k : Kind) (u : List ℕ) → IsTold s h b
+    → p < s.processors → IsStamp s.processors h (Brings h p k) u
+    → AreNews s h p n (slice_index (time_of b p)) (slice_index (join (time_of b p) u))
+    (missing_in n (between b.closed (time_of b p) u))
 news_are s h b p n k u told lt brings = record {
   each = λ q m. (there q m, back q m);
   placed = λ x has. (let y = read x has in subst Placed y.is (told.closed.each y.kept y.has));
@@ -120,8 +136,11 @@ news_are s h b p n k u told lt brings = record {
     read : (x : Missing) → Has (missing_in n (between b.closed own u)) x → IsSent b.closed own u n x
     read x has = sent_of b.closed own u n x has
 
-    content : (j : Kept) (r : Changes) → Has b.closed.kept j → Has j.interval.records r → r.page ≡ n → IsContent s h j.interval.owner j.interval.number n r.words
-    content j r has among page = subst (λ m. IsContent s h j.interval.owner j.interval.number m r.words) page ((told.closed.contents j has).each r among)
+    content : (j : Kept) (r : Changes) → Has b.closed.kept j → Has j.interval.records r → r.page ≡ n
+        → IsContent s h j.interval.owner j.interval.number n r.words
+    content j r has among page =
+        subst (λ m. IsContent s h j.interval.owner j.interval.number m r.words) page
+        ((told.closed.contents j has).each r among)
 
     later : (q : ℕ) → slice_index (join own u) q ≡ max (slice_index own q) (slice_index u q)
     later q = get_or-join own u q
@@ -138,21 +157,32 @@ news_are s h b p n k u told lt brings = record {
     Is : ℕ → ℕ → Type 0
     Is q m = (i : ℕ) × StoresIn s h q m n i × (q ≢ p) × (slice_index own q ≤ m) × (m < slice_index (join own u) q)
 
-    sent : (j : Kept) (r : Changes) → Has b.closed.kept j → is_news own u j ≡ true → Has j.interval.records r → r.page ≡ n → Is j.interval.owner j.interval.number
+    sent : (j : Kept) (r : Changes) → Has b.closed.kept j → is_news own u j ≡ true → Has j.interval.records r
+        → r.page ≡ n → Is j.interval.owner j.interval.number
     sent j r has news among page =
         let parts = and_parts _ _ news in
         let from = leb-true _ _ parts.0 in
         let below = ltb-true _ _ parts.1 in
         let most = later j.interval.owner in
-        let stores = stores_of s h j.interval.owner j.interval.number n r.words ((told.closed.contents j has).some r among) (content j r has among page) in
+        let stores = stores_of s h j.interval.owner j.interval.number n r.words
+        ((told.closed.contents j has).some r among) (content j r has among page) in
         (stores.0, stores.1, mine j.interval.owner (omega arith), from, omega arith)
 
-    there : (q m : ℕ) → ((x : Missing) × Has (missing_in n (between b.closed own u)) x × (x.owner ≡ q) × (x.number ≡ m)) → Is q m
+    fresh : (k : Kept) → slice_index own k.interval.owner ≤ k.interval.number
+        → k.interval.number < slice_index u k.interval.owner → is_news own u k ≡ true
+    fresh k from below = and_from _ _
+        (le-leb (slice_index own k.interval.owner) k.interval.number from)
+        (lt-ltb k.interval.number (slice_index u k.interval.owner) below)
+
+    there : (q m : ℕ) →
+        ((x : Missing) × Has (missing_in n (between b.closed own u)) x × (x.owner ≡ q) × (x.number ≡ m)) → Is q m
     there q m x =
         let y = read x.0 x.1 in
-        subst₂ Is (ap (λ (z : Missing). z.owner) y.is ∙ x.2) (ap (λ (z : Missing). z.number) y.is ∙ x.3) (sent y.kept y.changes y.has y.news y.among y.page)
+        subst₂ Is (ap (λ (z : Missing). z.owner) y.is ∙ x.2) (ap (λ (z : Missing). z.number) y.is ∙ x.3)
+        (sent y.kept y.changes y.has y.news y.among y.page)
 
-    back : (q m : ℕ) → Is q m → (x : Missing) × Has (missing_in n (between b.closed own u)) x × (x.owner ≡ q) × (x.number ≡ m)
+    back : (q m : ℕ) → Is q m
+        → (x : Missing) × Has (missing_in n (between b.closed own u)) x × (x.owner ≡ q) × (x.number ≡ m)
     back q m x =
         let most = later q in
         let covered : m < slice_index u q = omega (arith, most, x.3, x.4) in
@@ -160,12 +190,24 @@ news_are s h b p n k u told lt brings = record {
         let at = numbered is_closing h q m (omega (arith, covered, within)) in
         let first = told.within p q own (item_at s.processors _ b.times p [] told.times lt) in
         let number = at.number in
-        let k = told.closed.all q at.place (record { kind = at.kind; does = at.does; closes = at.counts }) (omega (arith, number, first, x.3)) in
-        let same : k.0.interval.number ≡ m = k.3 ∙ number in
-        let P : ℕ → ℕ → Type 0 = λ o c. StoresIn s h o c n x.0 in
-        let r = (told.closed.contents k.0 k.1).all n x.0 (subst₂ P (sym k.2) (sym same) x.1) in
-        let Q : ℕ → Type 0 = λ o. (slice_index own o ≤ m) × (m < slice_index u o) in
-        let range = subst Q (sym k.2) (x.3, covered) in
-        let news : is_news own u k.0 ≡ true = and_from _ _ (le-leb (slice_index own k.0.interval.owner) k.0.interval.number (omega (arith, range.0, same))) (lt-ltb k.0.interval.number (slice_index u k.0.interval.owner) (omega (arith, range.1, same))) in
-        let R : ℕ → Type 0 = λ a. Has (missing_in a (between b.closed own u)) (missing_of (sent_record k.0 r.0)) in
-        (missing_of (sent_record k.0 r.0), subst R r.2 (has_sent b.closed own u k.0 r.0 k.1 news r.1), k.2, same)
+        let k = told.closed.all q at.place (record { kind = at.kind; does = at.does; closes = at.counts })
+        (omega (arith, number, first, x.3)) in
+        found k.0 k.1 k.2 (k.3 ∙ number) x.0 x.1 x.3 covered
+      where
+        sends : (k : Kept) → Has b.closed.kept k → k.interval.owner ≡ q → k.interval.number ≡ m
+            → is_news own u k ≡ true → (r : Changes) → Has k.interval.records r → r.page ≡ n
+            → (x : Missing) × Has (missing_in n (between b.closed own u)) x × (x.owner ≡ q) × (x.number ≡ m)
+        sends k kept owner number news r among page =
+            let R : ℕ → Type 0 = λ a. Has (missing_in a (between b.closed own u)) (missing_of (sent_record k r)) in
+            (missing_of (sent_record k r), subst R page (has_sent b.closed own u k r kept news among), owner, number)
+
+        found : (k : Kept) → Has b.closed.kept k → k.interval.owner ≡ q → k.interval.number ≡ m → (i : ℕ)
+            → StoresIn s h q m n i → slice_index own q ≤ m → m < slice_index u q
+            → (x : Missing) × Has (missing_in n (between b.closed own u)) x × (x.owner ≡ q) × (x.number ≡ m)
+        found k kept owner number i stores from below =
+            let P : ℕ → ℕ → Type 0 = λ o c. StoresIn s h o c n i in
+            let r = (told.closed.contents k kept).all n i (subst₂ P (sym owner) (sym number) stores) in
+            let Q : ℕ → Type 0 = λ o. (slice_index own o ≤ m) × (m < slice_index u o) in
+            let range = subst Q (sym owner) (from, below) in
+            let news = fresh k (omega (arith, range.0, number)) (omega (arith, range.1, number)) in
+            sends k kept owner number news r.0 r.1 r.2

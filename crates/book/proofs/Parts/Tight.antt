@@ -14,56 +14,73 @@ use Rattle.book.proofs.Parts.ClosedIntervals.{least_le, from_trimmed, stays_from
 -- where all pass, all are picked
 filter_all : {A : Type 0} (p : A → Bool) (xs : List A) → ((x : A) → Has xs x → p x ≡ true) → filter p xs ≡ xs
 filter_all p [] all = refl
-filter_all p (x ∷ xs) all = cond-true (p x) (x ∷ filter p xs) (filter p xs) (all x (0, refl)) ∙ ap (λ ys. x ∷ ys) (filter_all p xs (λ y h. all y (suc h.0, h.1)))
+filter_all p (x ∷ xs) all =
+    cond-true (p x) (x ∷ filter p xs) (filter p xs) (all x (0, refl))
+    ∙ ap (λ ys. x ∷ ys) (filter_all p xs (λ y h. all y (suc h.0, h.1)))
 
 -- a trim to what is dropped already changes nothing
 trimmed_same : (c : Closings) (owner to : ℕ) → to ≤ slice_index c.first owner → AreFromFirst c → trimmed c owner to ≡ c
 trimmed_same c owner to le from =
-    let kept = filter_all (λ k. not (is_trimmed owner to k)) c.kept (λ k has. stays_from c owner to k le (from k has)) in
-    let most : max (slice_index c.first owner) (min to (slice_index c.next owner)) ≡ slice_index c.first owner = omega arith in
+    let kept = filter_all (λ k. not (is_trimmed owner to k)) c.kept
+    (λ k has. stays_from c owner to k le (from k has)) in
+    let most : max (slice_index c.first owner) (min to (slice_index c.next owner)) ≡ slice_index c.first owner =
+    omega arith in
     let first = ap (λ n. slice_set c.first owner n) most ∙ set-get_or c.first owner 0 in
-    ap (λ (ks : List Kept). record (trimmed c owner to) { kept = ks }) kept ∙ ap (λ (fs : List ℕ). record c { first = fs }) first
+    ap (λ (ks : List Kept). record (trimmed c owner to) { kept = ks }) kept
+    ∙ ap (λ (fs : List ℕ). record c { first = fs }) first
 
-pub from_trimmed_by : (c : Closings) (times : List (List ℕ)) (n : ℕ) → n ≤ length c.first → AreFromFirst c → AreFromFirst (trimmed_by c times n)
+pub from_trimmed_by : (c : Closings) (times : List (List ℕ)) (n : ℕ) → n ≤ length c.first → AreFromFirst c
+    → AreFromFirst (trimmed_by c times n)
 from_trimmed_by c times zero le from = from
 from_trimmed_by c times (suc n) le from =
     let long = length-trimmed_by c times n in
     from_trimmed (trimmed_by c times n) n (least times n) (omega arith) (from_trimmed_by c times n (omega arith) from)
 
 -- the first kept of an owner whose turn hasn't come
-first_left : (c : Closings) (times : List (List ℕ)) (n q : ℕ) → n ≤ q → slice_index (trimmed_by c times n).first q ≡ slice_index c.first q
+first_left : (c : Closings) (times : List (List ℕ)) (n q : ℕ) → n ≤ q
+    → slice_index (trimmed_by c times n).first q ≡ slice_index c.first q
 first_left c times zero q le = refl
 first_left c times (suc n) q le =
     let old = trimmed_by c times n in
     let apart : q ≢ n = omega arith in
-    get_or-set_other old.first n q (max (slice_index old.first n) (min (least times n) (slice_index old.next n))) 0 apart ∙ first_left c times n q (omega arith)
+    get_or-set_other old.first n q (max (slice_index old.first n) (min (least times n) (slice_index old.next n)))
+    0 apart ∙ first_left c times n q (omega arith)
 
 next_left : (c : Closings) (times : List (List ℕ)) (n : ℕ) → (trimmed_by c times n).next ≡ c.next
 next_left c times zero = refl
 next_left c times (suc n) = next_left c times n
 
 -- and of one whose turn has
-first_trimmed : (c : Closings) (times : List (List ℕ)) (n q : ℕ) → q < n → n ≤ length c.first → least times q ≤ slice_index c.next q → least times q ≤ slice_index (trimmed_by c times n).first q
+first_trimmed : (c : Closings) (times : List (List ℕ)) (n q : ℕ) → q < n → n ≤ length c.first
+    → least times q ≤ slice_index c.next q → least times q ≤ slice_index (trimmed_by c times n).first q
 first_trimmed c times zero q lt le few = absurd (omega arith)
 first_trimmed c times (suc n) q lt le few =
     let old = trimmed_by c times n in
     let long = length-trimmed_by c times n in
     elim (cases_eq q n) [
       | inl is ↦ (
-          let P : ℕ → Type 0 = λ x. least times x ≤ slice_index (slice_set old.first n (max (slice_index old.first n) (min (least times n) (slice_index old.next n)))) x in
+          let P : ℕ → Type 0 =
+          λ x. least times x
+          ≤ slice_index
+          (slice_set old.first n (max (slice_index old.first n) (min (least times n) (slice_index old.next n))))
+          x in
           let Q : ℕ → Type 0 = λ x. least times x ≤ slice_index c.next x in
-          let here = get_or-set_same old.first n (max (slice_index old.first n) (min (least times n) (slice_index old.next n))) 0 (omega arith) in
+          let here = get_or-set_same old.first n
+          (max (slice_index old.first n) (min (least times n) (slice_index old.next n))) 0 (omega arith) in
           let next = ap (λ ns. slice_index ns n) (next_left c times n) in
           let few_here = subst Q is few in
           subst P (sym is) (omega arith))
       | inr isnt ↦ (
-          let same = get_or-set_other old.first n q (max (slice_index old.first n) (min (least times n) (slice_index old.next n))) 0 isnt in
+          let same = get_or-set_other old.first n q
+          (max (slice_index old.first n) (min (least times n) (slice_index old.next n))) 0 isnt in
           let rest = first_trimmed c times n q (omega arith) (omega arith) few in
           omega arith)
     ]
 
 -- the least entry is someone's
-folded_at : (times : List (List ℕ)) (q n : ℕ) → (fold (lesser q) n times ≡ n) ⊎ ((r : ℕ) × (t : List ℕ) × (slice_get times r ≡ Some t) × (slice_index t q ≡ fold (lesser q) n times))
+folded_at : (times : List (List ℕ)) (q n : ℕ)
+    → (fold (lesser q) n times ≡ n)
+    ⊎ ((r : ℕ) × (t : List ℕ) × (slice_get times r ≡ Some t) × (slice_index t q ≡ fold (lesser q) n times))
 folded_at [] q n = inl refl
 folded_at (t ∷ ts) q n = elim (folded_at ts q (lesser q n t)) [
   | inr found ↦ inr (suc found.0, found.1, found.2, found.3)
@@ -73,14 +90,16 @@ folded_at (t ∷ ts) q n = elim (folded_at ts q (lesser q n t)) [
   ]
 ]
 
-least_at : (times : List (List ℕ)) (q : ℕ) → 0 < length times → (r : ℕ) × (t : List ℕ) × (slice_get times r ≡ Some t) × (slice_index t q ≡ least times q)
+least_at : (times : List (List ℕ)) (q : ℕ) → 0 < length times
+    → (r : ℕ) × (t : List ℕ) × (slice_get times r ≡ Some t) × (slice_index t q ≡ least times q)
 least_at times q some = elim (folded_at times q (slice_index (slice_index_or times 0 []) q)) [
   | inl is ↦ (0, slice_index_or times 0 [], slice_get-get_or times 0 [] some, sym is)
   | inr found ↦ found
 ]
 
 -- after a trim by everyone's timestamps nothing is left to trim
-pub tight_trimmed : (c : Closings) (times : List (List ℕ)) (n : ℕ) → 0 < length times → length c.first ≡ n → ((q : ℕ) → q < n → least times q ≤ slice_index c.next q) → IsTight (trimmed_by c times n).first times
+pub tight_trimmed : (c : Closings) (times : List (List ℕ)) (n : ℕ) → 0 < length times → length c.first ≡ n
+    → ((q : ℕ) → q < n → least times q ≤ slice_index c.next q) → IsTight (trimmed_by c times n).first times
 tight_trimmed c times n some long few q lt =
     let same = length-trimmed_by c times n in
     let found = least_at times q some in
@@ -89,7 +108,9 @@ tight_trimmed c times n some long few q lt =
     (found.0, found.1, found.2, let entry = found.3 in omega arith)
 
 -- an owner of whom nothing rose is trimmed no further
-pub trim_spared : (c : Closings) (times : List (List ℕ)) (p owner : ℕ) (old new : List ℕ) → owner < length c.first → slice_get times p ≡ Some new → slice_index new owner ≤ slice_index old owner → IsTight c.first (slice_set times p old) → AreFromFirst c
+pub trim_spared : (c : Closings) (times : List (List ℕ)) (p owner : ℕ) (old new : List ℕ) → owner < length c.first
+    → slice_get times p ≡ Some new → slice_index new owner ≤ slice_index old owner
+    → IsTight c.first (slice_set times p old) → AreFromFirst c
     → trimmed_by c times (suc owner) ≡ trimmed_by c times owner
 trim_spared c times p owner old new lt at le tight from =
     let found = tight owner lt in
@@ -102,8 +123,10 @@ trim_spared c times p owner old new lt at le tight from =
           let all = least_le times owner p new at in
           omega arith)
       | inr isnt ↦ (
-          let all = least_le times owner found.0 found.1 (sym (slice_get-set_other times p found.0 old isnt) ∙ found.2) in
+          let all = least_le times owner found.0 found.1
+          (sym (slice_get-set_other times p found.0 old isnt) ∙ found.2) in
           let entry = found.3 in
           omega arith)
     ] in
-    trimmed_same (trimmed_by c times owner) owner (least times owner) (omega arith) (from_trimmed_by c times owner (omega arith) from)
+    trimmed_same (trimmed_by c times owner) owner (least times owner) (omega arith)
+    (from_trimmed_by c times owner (omega arith) from)

@@ -34,48 +34,78 @@ use Rattle.book.proofs.Parts.ClosedIntervals.{closed_closing}
 use Rattle.interval.proofs.News.Unchanged.{between-pushed}
 
 -- who awaits nothing is idle
-pub is_idle : (s : Sizes) (h : List Event) (b : State) (p : ℕ) → IsTold s h b → slice_get b.awaits p ≡ Some None → IsIdle h p
+pub is_idle : (s : Sizes) (h : List Event) (b : State) (p : ℕ) → IsTold s h b → slice_get b.awaits p ≡ Some None
+    → IsIdle h p
 is_idle s h b p told none = awaits_idle h p (told.awaits.each p None none)
 
 -- whose number is found is a processor
-pub is_processor : (s : Sizes) (h : List Event) (b : State) (p : ℕ) (w : Option Kind) → IsTold s h b → slice_get b.awaits p ≡ Some w → p < s.processors
-is_processor s h b p w told at = let within = slice_get_within b.awaits p w at in let long = told.awaits.long in omega arith
+pub is_processor : (s : Sizes) (h : List Event) (b : State) (p : ℕ) (w : Option Kind) → IsTold s h b
+    → slice_get b.awaits p ≡ Some w → p < s.processors
+is_processor s h b p w told at = let within = slice_get_within b.awaits p w at in let long =
+    told.awaits.long in omega arith
 
 -- p's timestamp
-pub own_stamp : (s : Sizes) (h : List Event) (b : State) (p : ℕ) → IsTold s h b → p < s.processors → IsStamp s.processors h (InPast h p) (time_of b p)
+pub own_stamp : (s : Sizes) (h : List Event) (b : State) (p : ℕ) → IsTold s h b → p < s.processors
+    → IsStamp s.processors h (InPast h p) (time_of b p)
 own_stamp s h b p told lt = is_at s.processors (λ q t. IsStamp s.processors h (InPast h q) t) b.times p [] told.times lt
 
 -- an idle processor's event may follow
-pub follows : (s : Sizes) (h : List Event) (b : State) (p : ℕ) (k : Kind) → IsTold s h b → slice_get b.awaits p ≡ Some None → KindInRange s k → Allowed s h p k → MayFollow s h (event p k)
-follows s h b p k told none range allowed = idle_follows s h p k (is_processor s h b p None told none) (is_idle s h b p told none) range allowed
+pub follows : (s : Sizes) (h : List Event) (b : State) (p : ℕ) (k : Kind) → IsTold s h b
+    → slice_get b.awaits p ≡ Some None → KindInRange s k → Allowed s h p k → MayFollow s h (event p k)
+follows s h b p k told none range allowed =
+    idle_follows s h p k (is_processor s h b p None told none) (is_idle s h b p told none) range allowed
 
-pub still_formed : (s : Sizes) (h : List Event) (b : State) (p : ℕ) (k : Kind) → IsTold s h b → MayFollow s h (event p k) → WellFormed s (did h p k)
+pub still_formed : (s : Sizes) (h : List Event) (b : State) (p : ℕ) (k : Kind) → IsTold s h b
+    → MayFollow s h (event p k) → WellFormed s (did h p k)
 still_formed s h b p k told may = (each_push s h (event p k)).1 (told.well_formed, may)
 
 -- what is waited for
-pub awaits_set : (s : Sizes) (h : List Event) (b : State) (p : ℕ) (k : Kind) → IsTold s h b → AreAll s.processors (IsAwaited (did h p k)) (slice_set b.awaits p (awaited k))
-awaits_set s h b p k told = each_set s.processors (IsAwaited h) (IsAwaited (did h p k)) b.awaits p (awaited k) told.awaits (λ q w isnt at is. awaited_on h p k q w isnt is) (awaited_now h p k)
+pub awaits_set : (s : Sizes) (h : List Event) (b : State) (p : ℕ) (k : Kind) → IsTold s h b
+    → AreAll s.processors (IsAwaited (did h p k)) (slice_set b.awaits p (awaited k))
+awaits_set s h b p k told =
+    each_set s.processors (IsAwaited h) (IsAwaited (did h p k)) b.awaits p (awaited k) told.awaits
+    (λ q w isnt at is. awaited_on h p k q w isnt is) (awaited_now h p k)
 
 -- the timestamps after a closing event
-pub times_closing : (s : Sizes) (h : List Event) (b : State) (p : ℕ) (k : Kind) → IsTold s h b → p < s.processors → is_taking k ≡ false → is_closing k ≡ true → AreAll s.processors (λ q t. IsStamp s.processors (did h p k) (InPast (did h p k) q) t) (slice_set b.times p (tick (time_of b p) p))
-times_closing s h b p k told lt quiet closes = each_set s.processors (λ q t. IsStamp s.processors h (InPast h q) t) (λ q t. IsStamp s.processors (did h p k) (InPast (did h p k) q) t) b.times p (tick (time_of b p) p) told.times
-    (λ q t isnt at is. stamp_others s.processors h p k q t isnt is) (stamp_closing s.processors h p k (time_of b p) lt quiet closes (own_stamp s h b p told lt))
+pub times_closing : (s : Sizes) (h : List Event) (b : State) (p : ℕ) (k : Kind) → IsTold s h b → p < s.processors
+    → is_taking k ≡ false → is_closing k ≡ true
+    → AreAll s.processors (λ q t. IsStamp s.processors (did h p k) (InPast (did h p k) q) t)
+    (slice_set b.times p (tick (time_of b p) p))
+times_closing s h b p k told lt quiet closes =
+    each_set s.processors (λ q t. IsStamp s.processors h (InPast h q) t)
+    (λ q t. IsStamp s.processors (did h p k) (InPast (did h p k) q) t) b.times p (tick (time_of b p) p) told.times
+    (λ q t isnt at is. stamp_others s.processors h p k q t isnt is)
+    (stamp_closing s.processors h p k (time_of b p) lt quiet closes (own_stamp s h b p told lt))
 
 -- and after an event that takes
-pub times_taking : (s : Sizes) (h : List Event) (b : State) (p : ℕ) (k : Kind) (u : List ℕ) → IsTold s h b → p < s.processors → is_closing k ≡ false → IsStamp s.processors h (Brings h p k) u → AreAll s.processors (λ q t. IsStamp s.processors (did h p k) (InPast (did h p k) q) t) (slice_set b.times p (join (time_of b p) u))
-times_taking s h b p k u told lt quiet brings = each_set s.processors (λ q t. IsStamp s.processors h (InPast h q) t) (λ q t. IsStamp s.processors (did h p k) (InPast (did h p k) q) t) b.times p (join (time_of b p) u) told.times
-    (λ q t isnt at is. stamp_others s.processors h p k q t isnt is) (stamp_taking s.processors h p k (time_of b p) u quiet (own_stamp s h b p told lt) brings)
+pub times_taking : (s : Sizes) (h : List Event) (b : State) (p : ℕ) (k : Kind) (u : List ℕ) → IsTold s h b
+    → p < s.processors → is_closing k ≡ false → IsStamp s.processors h (Brings h p k) u
+    → AreAll s.processors (λ q t. IsStamp s.processors (did h p k) (InPast (did h p k) q) t)
+    (slice_set b.times p (join (time_of b p) u))
+times_taking s h b p k u told lt quiet brings =
+    each_set s.processors (λ q t. IsStamp s.processors h (InPast h q) t)
+    (λ q t. IsStamp s.processors (did h p k) (InPast (did h p k) q) t) b.times p (join (time_of b p) u) told.times
+    (λ q t isnt at is. stamp_others s.processors h p k q t isnt is)
+    (stamp_taking s.processors h p k (time_of b p) u quiet (own_stamp s h b p told lt) brings)
 
 -- the number of p's open interval
-pub own_number : (s : Sizes) (h : List Event) (b : State) (p : ℕ) → IsTold s h b → p < s.processors → slice_index (time_of b p) p ≡ count_of is_closing h p
+pub own_number : (s : Sizes) (h : List Event) (b : State) (p : ℕ) → IsTold s h b → p < s.processors
+    → slice_index (time_of b p) p ≡ count_of is_closing h p
 own_number s h b p told lt = own_entry h p (slice_index (time_of b p)) (own_stamp s h b p told lt).is
 
 -- the closed intervals after a closing event
-pub closed_now : (s : Sizes) (h : List Event) (b : State) (p : ℕ) (k : Kind) (records : List Changes) → IsTold s h b → p < s.processors → is_closing k ≡ true → AreContents s h p (count_of is_closing h p) records → AreClosed s (did h p k) (pushed b.closed (open_interval b p records))
-closed_now s h b p k records told lt closes stored = closed_closing s h p k b.closed (slice_index (time_of b p) p) records closes lt (own_number s h b p told lt) (told.within p p (time_of b p) (slice_get-get_or b.times p [] (subst (λ n. p < n) (sym told.times.long) lt))) (subst (λ n. AreContents s h p n records) (sym (own_number s h b p told lt)) stored) told.closed
+pub closed_now : (s : Sizes) (h : List Event) (b : State) (p : ℕ) (k : Kind) (records : List Changes) → IsTold s h b
+    → p < s.processors → is_closing k ≡ true → AreContents s h p (count_of is_closing h p) records
+    → AreClosed s (did h p k) (pushed b.closed (open_interval b p records))
+closed_now s h b p k records told lt closes stored =
+    closed_closing s h p k b.closed (slice_index (time_of b p) p) records closes lt (own_number s h b p told lt)
+    (told.within p p (time_of b p) (slice_get-get_or b.times p [] (subst (λ n. p < n) (sym told.times.long) lt)))
+    (subst (λ n. AreContents s h p n records) (sym (own_number s h b p told lt)) stored) told.closed
 
 -- a timestamp that grows covers what it covered
-within_set : (first : List ℕ) (times : List (List ℕ)) (p : ℕ) (u : List ℕ) → p < length times → ((q : ℕ) → slice_index (slice_index_or times p []) q ≤ slice_index u q) → IsWithin first times → IsWithin first (slice_set times p u)
+within_set : (first : List ℕ) (times : List (List ℕ)) (p : ℕ) (u : List ℕ) → p < length times
+    → ((q : ℕ) → slice_index (slice_index_or times p []) q ≤ slice_index u q) → IsWithin first times
+    → IsWithin first (slice_set times p u)
 within_set first times p u lt grows within r q t at = elim (cases_eq r p) [
   | inl is ↦ (
       let P : ℕ → Type 0 = λ x. slice_get (slice_set times p u) x ≡ Some t in
@@ -102,19 +132,31 @@ tick_grows t p q = elim (cases_eq q p) [
 join_grows : (t u : List ℕ) (q : ℕ) → slice_index t q ≤ slice_index (join t u) q
 join_grows t u q = let e = get_or-join t u q in omega arith
 
-pub within_closing : (s : Sizes) (h : List Event) (b : State) (p : ℕ) → IsTold s h b → p < s.processors → IsWithin b.closed.first (slice_set b.times p (tick (time_of b p) p))
-within_closing s h b p told lt = within_set b.closed.first b.times p (tick (time_of b p) p) (subst (λ n. p < n) (sym told.times.long) lt) (tick_grows (time_of b p) p) told.within
+pub within_closing : (s : Sizes) (h : List Event) (b : State) (p : ℕ) → IsTold s h b → p < s.processors
+    → IsWithin b.closed.first (slice_set b.times p (tick (time_of b p) p))
+within_closing s h b p told lt =
+    within_set b.closed.first b.times p (tick (time_of b p) p) (subst (λ n. p < n) (sym told.times.long) lt)
+    (tick_grows (time_of b p) p) told.within
 
-pub within_taking : (s : Sizes) (h : List Event) (b : State) (p : ℕ) (u : List ℕ) → IsTold s h b → p < s.processors → IsWithin b.closed.first (slice_set b.times p (join (time_of b p) u))
-within_taking s h b p u told lt = within_set b.closed.first b.times p (join (time_of b p) u) (subst (λ n. p < n) (sym told.times.long) lt) (join_grows (time_of b p) u) told.within
+pub within_taking : (s : Sizes) (h : List Event) (b : State) (p : ℕ) (u : List ℕ) → IsTold s h b → p < s.processors
+    → IsWithin b.closed.first (slice_set b.times p (join (time_of b p) u))
+within_taking s h b p u told lt =
+    within_set b.closed.first b.times p (join (time_of b p) u) (subst (λ n. p < n) (sym told.times.long) lt)
+    (join_grows (time_of b p) u) told.within
 
 -- with two processors or more, a tick leaves what everyone covers
-pub tight_closing : (s : Sizes) (h : List Event) (b : State) (p : ℕ) → IsTold s h b → p < s.processors → 1 < s.processors → IsTight b.closed.first (slice_set b.times p (tick (time_of b p) p))
+pub tight_closing : (s : Sizes) (h : List Event) (b : State) (p : ℕ) → IsTold s h b → p < s.processors
+    → 1 < s.processors → IsTight b.closed.first (slice_set b.times p (tick (time_of b p) p))
 tight_closing s h b p told lt more q less =
     let found = told.tight more q less in
     let long = told.times.long in
     elim (cases_eq found.0 p) [
-      | inr isnt ↦ (found.0, found.1, slice_get-set_other b.times p found.0 (tick (time_of b p) p) isnt ∙ found.2, found.3)
+      | inr isnt ↦ (
+        found.0,
+        found.1,
+        slice_get-set_other b.times p found.0 (tick (time_of b p) p) isnt ∙ found.2,
+        found.3,
+      )
       | inl is ↦ elim (cases_eq q p) [
         | inr apart ↦ (
             let P : ℕ → Type 0 = λ x. slice_get b.times x ≡ Some found.1 in
@@ -126,13 +168,18 @@ tight_closing s h b p told lt more q less =
             let P : ℕ → Type 0 = λ x. slice_get b.times x ≡ Some found.1 in
             let mine = sym (get_or_from_slice_get b.times p found.1 [] (subst P is found.2)) in
             let Q : ℕ → Type 0 = λ x. slice_index found.1 x ≤ slice_index b.closed.first x in
-            let entry = subst (λ (t : List ℕ). slice_index t p ≤ slice_index b.closed.first p) mine (subst Q own found.3) in
+            let entry = subst (λ (t : List ℕ). slice_index t p ≤ slice_index b.closed.first p) mine
+            (subst Q own found.3) in
             let number = own_number s h b p told lt in
             let r = another p s.processors more in
             let at = slice_get-get_or b.times r.0 [] (omega (arith, r.1)) in
             let most = (told.times.each r.0 (time_of b r.0) at).is.within p in
-            let R : ℕ → Type 0 = λ x. slice_index (time_of b r.0) x ≤ slice_index b.closed.first x in
-            (r.0, time_of b r.0, slice_get-set_other b.times p r.0 (tick (time_of b p) p) r.2 ∙ at, subst R (sym own) (omega arith)))
+            let R : ℕ → Type 0 = λ x. slice_index (time_of b r.0) x ≤ slice_index b.closed.first x in (
+              r.0,
+              time_of b r.0,
+              slice_get-set_other b.times p r.0 (tick (time_of b p) p) r.2 ∙ at,
+              subst R (sym own) (omega arith),
+            ))
       ]
     ]
   where
@@ -141,10 +188,13 @@ tight_closing s h b p told lt more q less =
     another (suc p) n more = (0, omega arith, λ e. absurd (omega arith))
 
 -- the notices of a message posted before a closing event
-pub old_notices : (s : Sizes) (h : List Event) (b : State) (p : ℕ) (records : List Changes) (r : ℕ) (m : Letter) (t : List ℕ) → IsTold s h b → p < s.processors → r ≢ p
-    → slice_get b.transit r ≡ Some (Some m) → slice_get (slice_set b.times p (tick (time_of b p) p)) r ≡ Some t → m.notices ≡ between (pushed b.closed (open_interval b p records)) t m.time
+pub old_notices : (s : Sizes) (h : List Event) (b : State) (p : ℕ) (records : List Changes) (r : ℕ) (m : Letter)
+    (t : List ℕ) → IsTold s h b → p < s.processors → r ≢ p
+    → slice_get b.transit r ≡ Some (Some m) → slice_get (slice_set b.times p (tick (time_of b p) p)) r ≡ Some t
+    → m.notices ≡ between (pushed b.closed (open_interval b p records)) t m.time
 old_notices s h b p records r m t told lt isnt at time =
     let mail : Carries s h r m = told.transit.each r (Some m) at in
     let most = mail.time.is.within p in
     let number = own_number s h b p told lt in
-    told.notices r m t at (sym (slice_get-set_other b.times p r (tick (time_of b p) p) isnt) ∙ time) ∙ sym (between-pushed b.closed (open_interval b p records) t m.time (omega arith))
+    told.notices r m t at (sym (slice_get-set_other b.times p r (tick (time_of b p) p) isnt) ∙ time)
+    ∙ sym (between-pushed b.closed (open_interval b p records) t m.time (omega arith))

@@ -25,7 +25,8 @@ impl Protocol {
     /// What `Book::count_due` says.
     pub(crate) fn count_due(&self, p: usize, counts: &mut [usize])
         requires call { MayLook self.now p }
-        ensures each { EachIndex counts.new (λ n. slice_index counts.new n ≡ count_by (is_of_page n) (brought self.now p)) }
+        ensures each { EachIndex counts.new (λ n. slice_index counts.new n
+            ≡ count_by (is_of_page n) (brought self.now p)) }
         ensures same_length { length counts.new ≡ length counts.old }
     {
         match self.awaits[p] {
@@ -38,7 +39,8 @@ impl Protocol {
     /// The same where `p` waits for the flag.
     fn count_by_flag(&self, p: usize, f: usize, counts: &mut [usize])
         requires call { MayTake self.now p (Await f) }
-        ensures each { EachIndex counts.new (λ n. slice_index counts.new n ≡ count_by (is_of_page n) (sent_with (message_for self.now p (Await f)))) }
+        ensures each { EachIndex counts.new (λ n. slice_index counts.new n
+            ≡ count_by (is_of_page n) (sent_with (message_for self.now p (Await f)))) }
         ensures same_length { length counts.new ≡ length counts.old }
     {
         let closed = &self.closed;
@@ -51,7 +53,8 @@ impl Protocol {
     /// The same where `p` waits for a grant or a departure.
     fn count_by_message(&self, p: usize, counts: &mut [usize])
         requires processor { p < length self.now.transit }
-        ensures each { EachIndex counts.new (λ n. slice_index counts.new n ≡ count_by (is_of_page n) (sent_with (slice_index_or self.now.transit p None))) }
+        ensures each { EachIndex counts.new (λ n. slice_index counts.new n
+            ≡ count_by (is_of_page n) (sent_with (slice_index_or self.now.transit p None))) }
         ensures same_length { length counts.new ≡ length counts.old }
     {
         let transit = &self.transit;
@@ -64,7 +67,8 @@ impl Protocol {
     /// How many notices of the page, where `p` waits for the flag.
     fn due_by_flag(&self, p: usize, f: usize, page: usize) -> usize
         requires call { MayTake self.now p (Await f) }
-        ensures { result ≡ count_by (is_of_page page) (sent_with (message_for self.now p (Await f))) }
+        ensures { result
+            ≡ count_by (is_of_page page) (sent_with (message_for self.now p (Await f))) }
     {
         let closed = &self.closed;
         match &self.flags[f] {
@@ -76,7 +80,8 @@ impl Protocol {
     /// The same where `p` waits for a grant or a departure.
     fn due_by_message(&self, p: usize, page: usize) -> usize
         requires processor { p < length self.now.transit }
-        ensures { result ≡ count_by (is_of_page page) (sent_with (slice_index_or self.now.transit p None)) }
+        ensures { result
+            ≡ count_by (is_of_page page) (sent_with (slice_index_or self.now.transit p None)) }
     {
         let transit = &self.transit;
         let Some(message) = transit.peek(p) else {
@@ -98,7 +103,8 @@ fn count_of_page(notices: &[Sent], page: usize) -> usize
 
 /// Entry n becomes how many of the notices are of page n.
 fn count_pages(notices: &[Sent], counts: &mut [usize])
-    ensures each { EachIndex counts.new (λ n. slice_index counts.new n ≡ count_by (is_of_page n) notices.now) }
+    ensures each { EachIndex counts.new (λ n. slice_index counts.new n
+        ≡ count_by (is_of_page n) notices.now) }
     ensures same_length { length counts.new ≡ length counts.old }
 {
     counts.fill(0);

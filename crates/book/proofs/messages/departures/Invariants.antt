@@ -5,4 +5,6 @@ use Rattle.book.specs.Transitions.{departure_to}
 use Rattle.book.proofs.messages.departures.Given as goal
 
 abbrev pub invariant-loop-q : goal.invariant-loop-q
-invariant-loop-q l = map letter l.departures.items ≡ map (departure_to (pushed l.closed l.interval) l.time) (take l.q (slice_set l.times l.interval.owner l.own))
+invariant-loop-q l =
+    map letter l.departures.items
+    ≡ map (departure_to (pushed l.closed l.interval) l.time) (take l.q (slice_set l.times l.interval.owner l.own))

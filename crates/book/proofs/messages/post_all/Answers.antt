@@ -8,7 +8,10 @@ use Rattle.book.proofs.messages.post_all.Goals as goal
 
 pub loop-message-preserved : goal.loop-message-preserved
 loop-message-preserved c =
-    let popped = c.pop.ensures.items ∙ ap (λ (o : Option Message). c.pop.new.self.items ++ option_to_list o) c.in-Some.is in
+    let popped = c.pop.ensures.items
+    ∙ ap (λ (o : Option Message). c.pop.new.self.items ++ option_to_list o) c.in-Some.is in
     let split = ap (λ ms. map letter ms) popped ∙ map-append letter c.pop.new.self.items (c.in-Some.message ∷ []) in
-    posting_step (map letter c.args.messages.items) (map letter c.loop-message.messages.items) (map letter c.pop.new.self.items) c.loop-message.transit c.post.new.self (letter c.in-Some.message) c.len.result c.loop-message.invariant split
+    posting_step (map letter c.args.messages.items) (map letter c.loop-message.messages.items)
+    (map letter c.pop.new.self.items) c.loop-message.transit c.post.new.self (letter c.in-Some.message)
+    c.len.result c.loop-message.invariant split
     (c.len.ensures ∙ c.pop.new.self.ok.0 ∙ sym (length-map c.pop.new.self.items letter)) c.post.ensures

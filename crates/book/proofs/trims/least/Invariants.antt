@@ -3,4 +3,5 @@ use Rattle.book.specs.Transitions.{lesser}
 use Rattle.book.proofs.trims.least.Given as goal
 
 abbrev pub invariant-loop-time : goal.invariant-loop-time
-invariant-loop-time l = l.least ≡ fold (lesser l.q) (slice_index (slice_index_or l.times 0 []) l.q) (take l.time-index l.times)
+invariant-loop-time l =
+    l.least ≡ fold (lesser l.q) (slice_index (slice_index_or l.times 0 []) l.q) (take l.time-index l.times)

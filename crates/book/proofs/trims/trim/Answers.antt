@@ -10,12 +10,15 @@ use Rattle.book.proofs.trims.trim.Goals as goal
 
 pub trim-requires : goal.trim-requires
 trim-requires c =
-    let same = ap (λ (x : Closings). length x.first) c.loop-owner.invariant ∙ length-trimmed_by c.args.closed.now c.args.times.now c.loop-owner.owner in
+    let same = ap (λ (x : Closings). length x.first) c.loop-owner.invariant
+    ∙ length-trimmed_by c.args.closed.now c.args.times.now c.loop-owner.owner in
     let owners = c.requires.owners in
     omega arith
 
 -- of another owner, whose entry stands as it was, nothing is left to trim
-spared : (c : Closings) (times : List (List ℕ)) (p owner one two : ℕ) (before own : List ℕ) → MayTrim c times p before → owner < length times → own ≡ slice_index_or times p own → slice_get own owner ≡ Some one → slice_get before owner ≡ Some two → one ≤ two → ¬ (owner ≡ p)
+spared : (c : Closings) (times : List (List ℕ)) (p owner one two : ℕ) (before own : List ℕ)
+    → MayTrim c times p before → owner < length times → own ≡ slice_index_or times p own
+    → slice_get own owner ≡ Some one → slice_get before owner ≡ Some two → one ≤ two → ¬ (owner ≡ p)
     → trimmed_by c times owner ≡ trimmed_by c times (owner + 1)
 spared c times p owner one two before own may lt is now old le apart =
     let within = may.within in
@@ -25,15 +28,21 @@ spared c times p owner one two before own may lt is now old le apart =
     let was = get_or_from_slice_get before owner two 0 old in
     let more : 1 < length times = omega arith in
     let next : suc owner ≡ owner + 1 = omega arith in
-    sym (trim_spared c times p owner before own (omega arith) at (omega arith) (may.tight more) may.from) ∙ ap (λ (m : ℕ). trimmed_by c times m) next
+    sym (trim_spared c times p owner before own (omega arith) at (omega arith) (may.tight more) may.from)
+    ∙ ap (λ (m : ℕ). trimmed_by c times m) next
 
 pub loop-owner-preserved : goal.loop-owner-preserved
 loop-owner-preserved c =
     let next : suc c.loop-owner.owner ≡ c.loop-owner.owner + 1 = omega arith in
     elim c.if-has_risen.branch [
-      | then-has_risen w ↦ w.closed-is ∙ w.trim.ensures.value ∙ ap (λ (x : Closings). trimmed x c.loop-owner.owner w.least.result) c.loop-owner.invariant
-          ∙ ap (λ (n : ℕ). trimmed (trimmed_by c.args.closed.now c.args.times.now c.loop-owner.owner) c.loop-owner.owner n) w.least.ensures
+      | then-has_risen w ↦
+          w.closed-is ∙ w.trim.ensures.value
+          ∙ ap (λ (x : Closings). trimmed x c.loop-owner.owner w.least.result) c.loop-owner.invariant
+          ∙ ap (λ (n : ℕ). trimmed (trimmed_by c.args.closed.now c.args.times.now c.loop-owner.owner)
+          c.loop-owner.owner n) w.least.ensures
           ∙ ap (λ (m : ℕ). trimmed_by c.args.closed.now c.args.times.now m) next
       | else-has_risen+else-owner-p w ↦ w.closed-is ∙ c.loop-owner.invariant
-          ∙ spared c.args.closed.now c.args.times.now c.args.p c.loop-owner.owner c.entry-in-loop-owner.result c.entry.result c.args.before.now c.index-times-p.result c.requires c.loop-owner-test.true c.index-times-p.is c.entry-in-loop-owner.ensures c.entry.ensures w.if-has_risen.false w.if-owner-p.false
+          ∙ spared c.args.closed.now c.args.times.now c.args.p c.loop-owner.owner c.entry-in-loop-owner.result
+          c.entry.result c.args.before.now c.index-times-p.result c.requires c.loop-owner-test.true
+          c.index-times-p.is c.entry-in-loop-owner.ensures c.entry.ensures w.if-has_risen.false w.if-owner-p.false
     ]

@@ -16,54 +16,99 @@ use Rattle.book.proofs.protocol.Protocol.ask.Goals as goal
 
 pub open_interval-interval-requires : goal.open_interval-interval-requires
 open_interval-interval-requires c =
-    let same = ap (λ (l : Log). record (state_of c.self.inside) { journal = record l { room = c.self.inside.owing } }) c.in_ok-make_room.ensures.same ∙ c.self.view_is in
+    let same = ap (λ (l : Log). record (state_of c.self.inside)
+    { journal = record l { room = c.self.inside.owing } }) c.in_ok-make_room.ensures.same ∙ c.self.view_is in
     opens _ c.args.self.now c.args.p c.args.block.now same c.requires.call.call
 
 pub close-requires-clause-open : goal.close-requires-clause-open
-close-requires-clause-open c = still_open (state_of c.self.inside) c.args.p c.open_interval-interval.result (map arc_value c.args.records.items) c.open_interval-interval.ensures
+close-requires-clause-open c =
+    still_open (state_of c.self.inside) c.args.p c.open_interval-interval.result (map arc_value c.args.records.items)
+    c.open_interval-interval.ensures
 
 pub grant_if_free-requires-clause-processor : goal.grant_if_free-requires-clause-processor
-grant_if_free-requires-clause-processor c = (stands (state_of c.self.inside) c.args.self.now c.args.p c.args.block.now c.self.view_is c.requires.call.call).times
+grant_if_free-requires-clause-processor c =
+    (stands (state_of c.self.inside)
+    c.args.self.now c.args.p c.args.block.now c.self.view_is c.requires.call.call).times
 
 pub grant_if_free-requires-clause-own_long : goal.grant_if_free-requires-clause-own_long
-grant_if_free-requires-clause-own_long c = (subst (λ b. IsAsking b c.args.p c.args.l) (sym c.self.view_is) (asking c.args.self.now c.args.p c.args.l c.args.block.now c.requires.call)).own_long
+grant_if_free-requires-clause-own_long c =
+    (subst (λ b. IsAsking b c.args.p c.args.l) (sym c.self.view_is)
+    (asking c.args.self.now c.args.p c.args.l c.args.block.now c.requires.call)).own_long
 
 pub grant_if_free-requires-clause-time_long : goal.grant_if_free-requires-clause-time_long
-grant_if_free-requires-clause-time_long c = (subst (λ b. IsAsking b c.args.p c.args.l) (sym c.self.view_is) (asking c.args.self.now c.args.p c.args.l c.args.block.now c.requires.call)).time_long
+grant_if_free-requires-clause-time_long c =
+    (subst (λ b. IsAsking b c.args.p c.args.l) (sym c.self.view_is)
+    (asking c.args.self.now c.args.p c.args.l c.args.block.now c.requires.call)).time_long
 
 pub grant_if_free-requires-clause-kept : goal.grant_if_free-requires-clause-kept
-grant_if_free-requires-clause-kept c = (subst (λ b. IsAsking b c.args.p c.args.l) (sym c.self.view_is) (asking c.args.self.now c.args.p c.args.l c.args.block.now c.requires.call)).kept
+grant_if_free-requires-clause-kept c =
+    (subst (λ b. IsAsking b c.args.p c.args.l) (sym c.self.view_is)
+    (asking c.args.self.now c.args.p c.args.l c.args.block.now c.requires.call)).kept
 
 pub ask-requires-clause-processor : goal.ask-requires-clause-processor
 ask-requires-clause-processor c =
-    let same = ap (λ (l : Log). record (state_of c.self.inside) { journal = record l { room = c.self.inside.owing } }) c.in_ok-make_room.ensures.same ∙ c.self.view_is in
-    let is = c.self-2.view_is ∙ c.in_ok-close.ensures.ok ∙ closed_records _ c.args.block.now c.args.p (Ask c.args.l) c.open_interval-interval.result (map arc_value c.args.records.items) c.open_interval-interval.ensures ∙ ap (λ (b : State). closed_by (handed_in b c.args.block.now) c.args.p (Ask c.args.l) (map arc_value c.args.records.items)) same in
+    let same = ap (λ (l : Log). record (state_of c.self.inside)
+    { journal = record l { room = c.self.inside.owing } }) c.in_ok-make_room.ensures.same ∙ c.self.view_is in
+    let is = c.self-2.view_is ∙ c.in_ok-close.ensures.ok
+    ∙ closed_records _ c.args.block.now c.args.p (Ask c.args.l) c.open_interval-interval.result
+    (map arc_value c.args.records.items) c.open_interval-interval.ensures
+    ∙ ap (λ (b : State). closed_by (handed_in b c.args.block.now) c.args.p (Ask c.args.l)
+    (map arc_value c.args.records.items)) same in
     let lt = (asking c.args.self.now c.args.p c.args.l c.args.block.now c.requires.call).processor in
     let e = ap (λ (b : State). b.locks.processors) is in
     omega arith
 
 pub ask-requires-clause-apart : goal.ask-requires-clause-apart
 ask-requires-clause-apart c =
-    let same = ap (λ (l : Log). record (state_of c.self.inside) { journal = record l { room = c.self.inside.owing } }) c.in_ok-make_room.ensures.same ∙ c.self.view_is in
-    let is = c.self-2.view_is ∙ c.in_ok-close.ensures.ok ∙ closed_records _ c.args.block.now c.args.p (Ask c.args.l) c.open_interval-interval.result (map arc_value c.args.records.items) c.open_interval-interval.ensures ∙ ap (λ (b : State). closed_by (handed_in b c.args.block.now) c.args.p (Ask c.args.l) (map arc_value c.args.records.items)) same in
-    subst (λ (x : _). ¬ Has (line (lock_at x c.args.l)) c.args.p) (sym (ap (λ (b : State). b.locks) is)) (asking c.args.self.now c.args.p c.args.l c.args.block.now c.requires.call).apart
+    let same = ap (λ (l : Log). record (state_of c.self.inside)
+    { journal = record l { room = c.self.inside.owing } }) c.in_ok-make_room.ensures.same ∙ c.self.view_is in
+    let is = c.self-2.view_is ∙ c.in_ok-close.ensures.ok
+    ∙ closed_records _ c.args.block.now c.args.p (Ask c.args.l) c.open_interval-interval.result
+    (map arc_value c.args.records.items) c.open_interval-interval.ensures
+    ∙ ap (λ (b : State). closed_by (handed_in b c.args.block.now) c.args.p (Ask c.args.l)
+    (map arc_value c.args.records.items)) same in
+    subst (λ (x : _). ¬ Has (line (lock_at x c.args.l)) c.args.p) (sym (ap (λ (b : State). b.locks) is))
+    (asking c.args.self.now c.args.p c.args.l c.args.block.now c.requires.call).apart
 
 pub post-requires : goal.post-requires
 post-requires c =
-    let same = ap (λ (l : Log). record (state_of c.self.inside) { journal = record l { room = c.self.inside.owing } }) c.in_ok-make_room.ensures.same ∙ c.self.view_is in
-    let is = c.self-2.view_is ∙ c.in_ok-close.ensures.ok ∙ closed_records _ c.args.block.now c.args.p (Ask c.args.l) c.open_interval-interval.result (map arc_value c.args.records.items) c.open_interval-interval.ensures ∙ ap (λ (b : State). closed_by (handed_in b c.args.block.now) c.args.p (Ask c.args.l) (map arc_value c.args.records.items)) same in
-    ap (λ (b : State). slice_get b.transit c.args.p) is ∙ (asking c.args.self.now c.args.p c.args.l c.args.block.now c.requires.call).none
+    let same = ap (λ (l : Log). record (state_of c.self.inside)
+    { journal = record l { room = c.self.inside.owing } }) c.in_ok-make_room.ensures.same ∙ c.self.view_is in
+    let is = c.self-2.view_is ∙ c.in_ok-close.ensures.ok
+    ∙ closed_records _ c.args.block.now c.args.p (Ask c.args.l) c.open_interval-interval.result
+    (map arc_value c.args.records.items) c.open_interval-interval.ensures
+    ∙ ap (λ (b : State). closed_by (handed_in b c.args.block.now) c.args.p (Ask c.args.l)
+    (map arc_value c.args.records.items)) same in
+    ap (λ (b : State). slice_get b.transit c.args.p) is
+    ∙ (asking c.args.self.now c.args.p c.args.l c.args.block.now c.requires.call).none
 
 pub returns-in-Some-clause-ok : goal.returns-in-Some-clause-ok
 returns-in-Some-clause-ok c =
-    let same = ap (λ (l : Log). record (state_of c.self.inside) { journal = record l { room = c.self.inside.owing } }) c.in_ok-make_room.ensures.same ∙ c.self.view_is in
-    let is = c.self-2.view_is ∙ c.in_ok-close.ensures.ok ∙ closed_records _ c.args.block.now c.args.p (Ask c.args.l) c.open_interval-interval.result (map arc_value c.args.records.items) c.open_interval-interval.ensures ∙ ap (λ (b : State). closed_by (handed_in b c.args.block.now) c.args.p (Ask c.args.l) (map arc_value c.args.records.items)) same in
-    let made = sym (ap (λ (m : Option Message). option_map letter m) c.in-Some.is) ∙ c.in_ok-grant.ensures ∙ ap (λ (b : State). if_free (lock_at b.locks c.args.l).holder (grant_from b c.args.p (lock_at b.locks c.args.l).time)) c.self.view_is in
-    asked_granted c.args.self.now (state_of c.self-2.inside) c.args.p c.args.l c.args.block.now (map arc_value c.args.records.items) c.ask.new.self c.post.new.self (letter c.in-Some.message) c.requires.call is c.ask.ensures.locks c.post.ensures made
+    let same = ap (λ (l : Log). record (state_of c.self.inside)
+    { journal = record l { room = c.self.inside.owing } }) c.in_ok-make_room.ensures.same ∙ c.self.view_is in
+    let is = c.self-2.view_is ∙ c.in_ok-close.ensures.ok
+    ∙ closed_records _ c.args.block.now c.args.p (Ask c.args.l) c.open_interval-interval.result
+    (map arc_value c.args.records.items) c.open_interval-interval.ensures
+    ∙ ap (λ (b : State). closed_by (handed_in b c.args.block.now) c.args.p (Ask c.args.l)
+    (map arc_value c.args.records.items)) same in
+    let made = sym (ap (λ (m : Option Message). option_map letter m) c.in-Some.is) ∙ c.in_ok-grant.ensures
+    ∙ ap (λ (b : State). if_free (lock_at b.locks c.args.l).holder
+    (grant_from b c.args.p (lock_at b.locks c.args.l).time)) c.self.view_is in
+    asked_granted c.args.self.now (state_of c.self-2.inside) c.args.p c.args.l c.args.block.now
+    (map arc_value c.args.records.items) c.ask.new.self c.post.new.self (letter c.in-Some.message)
+    c.requires.call is c.ask.ensures.locks c.post.ensures made
 
 pub returns-in-None-clause-ok : goal.returns-in-None-clause-ok
 returns-in-None-clause-ok c =
-    let same = ap (λ (l : Log). record (state_of c.self.inside) { journal = record l { room = c.self.inside.owing } }) c.in_ok-make_room.ensures.same ∙ c.self.view_is in
-    let is = c.self-2.view_is ∙ c.in_ok-close.ensures.ok ∙ closed_records _ c.args.block.now c.args.p (Ask c.args.l) c.open_interval-interval.result (map arc_value c.args.records.items) c.open_interval-interval.ensures ∙ ap (λ (b : State). closed_by (handed_in b c.args.block.now) c.args.p (Ask c.args.l) (map arc_value c.args.records.items)) same in
-    let made = sym (ap (λ (m : Option Message). option_map letter m) c.in-None.is) ∙ c.in_ok-grant.ensures ∙ ap (λ (b : State). if_free (lock_at b.locks c.args.l).holder (grant_from b c.args.p (lock_at b.locks c.args.l).time)) c.self.view_is in
-    asked_waits c.args.self.now (state_of c.self-2.inside) c.args.p c.args.l c.args.block.now (map arc_value c.args.records.items) c.ask.new.self c.requires.call is c.ask.ensures.locks made
+    let same = ap (λ (l : Log). record (state_of c.self.inside)
+    { journal = record l { room = c.self.inside.owing } }) c.in_ok-make_room.ensures.same ∙ c.self.view_is in
+    let is = c.self-2.view_is ∙ c.in_ok-close.ensures.ok
+    ∙ closed_records _ c.args.block.now c.args.p (Ask c.args.l) c.open_interval-interval.result
+    (map arc_value c.args.records.items) c.open_interval-interval.ensures
+    ∙ ap (λ (b : State). closed_by (handed_in b c.args.block.now) c.args.p (Ask c.args.l)
+    (map arc_value c.args.records.items)) same in
+    let made = sym (ap (λ (m : Option Message). option_map letter m) c.in-None.is) ∙ c.in_ok-grant.ensures
+    ∙ ap (λ (b : State). if_free (lock_at b.locks c.args.l).holder
+    (grant_from b c.args.p (lock_at b.locks c.args.l).time)) c.self.view_is in
+    asked_waits c.args.self.now (state_of c.self-2.inside) c.args.p c.args.l c.args.block.now
+    (map arc_value c.args.records.items) c.ask.new.self c.requires.call is c.ask.ensures.locks made

@@ -12,15 +12,27 @@ use Rattle.book.proofs.protocol.Protocol.departures_with.Goals as goal
 pub returns-then-not-is_last : goal.returns-then-not-is_last
 returns-then-not-is_last c =
     let full = c.completes-is_last.ensures.full c.args.own.now
-    ∙ ap (λ (n : ℕ). is_full (joined c.self.inside.barrier n c.args.own.now)) (ap (λ (i : ClosedInterval). i.owner) c.interval.view_is)
+    ∙ ap (λ (n : ℕ). is_full (joined c.self.inside.barrier n c.args.own.now))
+    (ap (λ (i : ClosedInterval). i.owner) c.interval.view_is)
     ∙ ap (λ (b : State). is_full (joined b.barrier c.args.interval.now.owner c.args.own.now)) c.self.view_is in
-    none_depart (pushed c.args.self.now.closed c.args.interval.now) c.args.self.now.barrier (slice_set c.args.self.now.times c.args.interval.now.owner c.args.own.now) c.args.interval.now.owner c.args.own.now c.completes-is_last.result full c.if-not-is_last.true
+    none_depart (pushed c.args.self.now.closed c.args.interval.now) c.args.self.now.barrier
+    (slice_set c.args.self.now.times c.args.interval.now.owner c.args.own.now)
+    c.args.interval.now.owner c.args.own.now c.completes-is_last.result full c.if-not-is_last.true
 
 pub returns : goal.returns
 returns c =
     let full = c.completes-is_last.ensures.full c.args.own.now
-    ∙ ap (λ (n : ℕ). is_full (joined c.self.inside.barrier n c.args.own.now)) (ap (λ (i : ClosedInterval). i.owner) c.interval.view_is)
+    ∙ ap (λ (n : ℕ). is_full (joined c.self.inside.barrier n c.args.own.now))
+    (ap (λ (i : ClosedInterval). i.owner) c.interval.view_is)
     ∙ ap (λ (b : State). is_full (joined b.barrier c.args.interval.now.owner c.args.own.now)) c.self.view_is in
-    departures_are (pushed c.args.self.now.closed c.args.interval.now) c.args.self.now.barrier (slice_set c.args.self.now.times c.args.interval.now.owner c.args.own.now) c.args.interval.now.owner c.args.own.now c.time_with-time.result c.completes-is_last.result (map letter c.in_ok-all.all.items) full c.if-not-is_last.false
+    departures_are (pushed c.args.self.now.closed c.args.interval.now) c.args.self.now.barrier
+    (slice_set c.args.self.now.times c.args.interval.now.owner c.args.own.now)
+    c.args.interval.now.owner c.args.own.now c.time_with-time.result c.completes-is_last.result
+    (map letter c.in_ok-all.all.items) full c.if-not-is_last.false
     (c.time_with-time.ensures.value ∙ ap (λ (b : State). join b.barrier.gathered c.args.own.now) c.self.view_is)
-    (c.in_ok-all.ensures ∙ ap (λ (ts : List (List ℕ)). map (departure_to (pushed c.self.inside.closed c.args.interval.now) c.time_with-time.result) (slice_set ts c.args.interval.now.owner c.args.own.now)) c.deref.ensures.value ∙ ap (λ (b : State). map (departure_to (pushed b.closed c.args.interval.now) c.time_with-time.result) (slice_set b.times c.args.interval.now.owner c.args.own.now)) c.self.view_is)
+    (c.in_ok-all.ensures
+    ∙ ap (λ (ts : List (List ℕ)). map
+    (departure_to (pushed c.self.inside.closed c.args.interval.now) c.time_with-time.result)
+    (slice_set ts c.args.interval.now.owner c.args.own.now)) c.deref.ensures.value
+    ∙ ap (λ (b : State). map (departure_to (pushed b.closed c.args.interval.now) c.time_with-time.result)
+    (slice_set b.times c.args.interval.now.owner c.args.own.now)) c.self.view_is)

@@ -4,4 +4,5 @@ use Rattle.book.specs.Awaiting.{kind_of}
 use Rattle.book.proofs.protocol.Protocol.new.Given as goal
 
 abbrev pub invariant-loop : goal.invariant-loop
-invariant-loop l = (l.times.items ≡ replicate l.counter (replicate l.processors 0)) × (map (option_map kind_of) l.awaits.items ≡ replicate l.counter None)
+invariant-loop l = (l.times.items ≡ replicate l.counter (replicate l.processors 0))
+    × (map (option_map kind_of) l.awaits.items ≡ replicate l.counter None)

@@ -19,111 +19,210 @@ use Rattle.book.proofs.protocol.Protocol.take.Goals as goal
 
 pub has_come-requires-clause-flag : goal.has_come-requires-clause-flag
 has_come-requires-clause-flag c =
-    let w = reading (state_of c.self.inside) c.args.self.now c.self.inside.awaits.items c.args.p c.index.result.now refl c.self.view_is c.requires.call c.index.ensures c.in-Some.awaited c.in-Some.is in
+    let w = reading (state_of c.self.inside)
+    c.args.self.now c.self.inside.awaits.items c.args.p c.index.result.now refl c.self.view_is c.requires.call
+    c.index.ensures c.in-Some.awaited c.in-Some.is in
     λ f is. subst (λ fs. f < length fs) (sym c.deref.ensures.value) (w.flag f (ap kind_of is)).within
 
 pub returns-then-not-has_come-clause-absent : goal.returns-then-not-has_come-clause-absent
 returns-then-not-has_come-clause-absent c =
-    λ s h told. (λ e ready. absurd (true≢false (sym ((comes _ c.args.self.now c.args.p (kind_of c.in-Some.awaited) c.deref.result.now c.has_come.result c.self.view_is (reading (state_of c.self.inside) c.args.self.now c.self.inside.awaits.items c.args.p c.index.result.now refl c.self.view_is c.requires.call c.index.ensures c.in-Some.awaited c.in-Some.is) c.deref.ensures.value c.has_come.ensures s h told).1 ready) ∙ c.if-not-has_come.true)), λ isnt. refl)
+    λ s h told. (
+      λ e ready. absurd
+          (true≢false
+          (sym ((comes _ c.args.self.now c.args.p (kind_of c.in-Some.awaited)
+          c.deref.result.now c.has_come.result c.self.view_is
+          (reading (state_of c.self.inside)
+          c.args.self.now c.self.inside.awaits.items c.args.p c.index.result.now refl c.self.view_is c.requires.call
+          c.index.ensures c.in-Some.awaited c.in-Some.is) c.deref.ensures.value
+          c.has_come.ensures s h told).1 ready) ∙ c.if-not-has_come.true)),
+      λ isnt. refl,
+    )
 
 pub returns-in_err-make_room-clause-absent : goal.returns-in_err-make_room-clause-absent
 returns-in_err-make_room-clause-absent c =
     λ s h told. (
-      λ e ready. (let x : NotYet ≡ c.in_err-make_room.field-0.0 = rw e at c.from_residual.ensures.1 in elim c.in_err-make_room.ensures.only [ inl full ↦ absurd (cc (full)) | inr none ↦ absurd (cc (none)) ]),
-      λ isnt. absurd (isnt ((comes _ c.args.self.now c.args.p (kind_of c.in-Some.awaited) c.deref.result.now c.has_come.result c.self.view_is (reading (state_of c.self.inside) c.args.self.now c.self.inside.awaits.items c.args.p c.index.result.now refl c.self.view_is c.requires.call c.index.ensures c.in-Some.awaited c.in-Some.is) c.deref.ensures.value c.has_come.ensures s h told).0 c.if-not-has_come.false)),
+      λ e ready. (let x : NotYet ≡ c.in_err-make_room.field-0.0 = rw e at c.from_residual.ensures.1 in
+          elim c.in_err-make_room.ensures.only [ inl full ↦ absurd (cc (full)) | inr none ↦ absurd (cc (none)) ]),
+      λ isnt. absurd (isnt
+          ((comes _ c.args.self.now c.args.p (kind_of c.in-Some.awaited)
+          c.deref.result.now c.has_come.result c.self.view_is
+          (reading (state_of c.self.inside)
+          c.args.self.now c.self.inside.awaits.items c.args.p c.index.result.now refl c.self.view_is c.requires.call
+          c.index.ensures c.in-Some.awaited c.in-Some.is) c.deref.ensures.value c.has_come.ensures s h told).0
+          c.if-not-has_come.false)),
     )
 
 pub index-requires-2 : goal.index-requires-2
 index-requires-2 c =
-    let w = reading (state_of c.self.inside) c.args.self.now c.self.inside.awaits.items c.args.p c.index.result.now refl c.self.view_is c.requires.call c.index.ensures c.in-Some.awaited c.in-Some.is in
+    let w = reading (state_of c.self.inside)
+    c.args.self.now c.self.inside.awaits.items c.args.p c.index.result.now refl c.self.view_is c.requires.call
+    c.index.ensures c.in-Some.awaited c.in-Some.is in
     omega (arith, w.times, c.self.inside.times.ok.0)
 
 pub receive-requires-clause-processor : goal.receive-requires-clause-processor
 receive-requires-clause-processor c =
-    let w = reading (state_of c.self.inside) c.args.self.now c.self.inside.awaits.items c.args.p c.index.result.now refl c.self.view_is c.requires.call c.index.ensures c.in-Some.awaited c.in-Some.is in
+    let w = reading (state_of c.self.inside)
+    c.args.self.now c.self.inside.awaits.items c.args.p c.index.result.now refl c.self.view_is c.requires.call
+    c.index.ensures c.in-Some.awaited c.in-Some.is in
     w.transit
 
 pub receive-requires-clause-flag : goal.receive-requires-clause-flag
 receive-requires-clause-flag c =
-    let w = reading (state_of c.self.inside) c.args.self.now c.self.inside.awaits.items c.args.p c.index.result.now refl c.self.view_is c.requires.call c.index.ensures c.in-Some.awaited c.in-Some.is in
-    λ f is. subst (λ fs. MaySignal c.self.inside.closed fs c.index-2.result.now f) (sym c.deref-2.ensures.value) (subst (λ t. MaySignal c.self.inside.closed c.self.inside.flags.items t f) (sym (own_read c.self.inside.times.items c.args.p c.index-2.result.now w.times c.index-2.ensures)) (w.flag f (ap kind_of is)))
+    let w = reading (state_of c.self.inside)
+    c.args.self.now c.self.inside.awaits.items c.args.p c.index.result.now refl c.self.view_is c.requires.call
+    c.index.ensures c.in-Some.awaited c.in-Some.is in
+    λ f is. subst (λ fs. MaySignal c.self.inside.closed fs c.index-2.result.now f) (sym c.deref-2.ensures.value)
+    (subst (λ t. MaySignal c.self.inside.closed c.self.inside.flags.items t f)
+    (sym (own_read c.self.inside.times.items c.args.p c.index-2.result.now w.times c.index-2.ensures))
+    (w.flag f (ap kind_of is)))
 
 pub receive-requires-clause-none : goal.receive-requires-clause-none
 receive-requires-clause-none c =
-    let w = reading (state_of c.self.inside) c.args.self.now c.self.inside.awaits.items c.args.p c.index.result.now refl c.self.view_is c.requires.call c.index.ensures c.in-Some.awaited c.in-Some.is in
+    let w = reading (state_of c.self.inside)
+    c.args.self.now c.self.inside.awaits.items c.args.p c.index.result.now refl c.self.view_is c.requires.call
+    c.index.ensures c.in-Some.awaited c.in-Some.is in
     λ f is. w.none f (ap kind_of is)
 
 pub returns-in_err-message-clause-absent : goal.returns-in_err-message-clause-absent
 returns-in_err-message-clause-absent c =
     λ s h told. (
       λ e ready. (let x : NotYet ≡ NoMemory = rw e at c.from_residual-in_err-message.ensures.1 in absurd (cc (x))),
-      λ isnt. absurd (isnt ((comes _ c.args.self.now c.args.p (kind_of c.in-Some.awaited) c.deref.result.now c.has_come.result c.self.view_is (reading (state_of c.self.inside) c.args.self.now c.self.inside.awaits.items c.args.p c.index.result.now refl c.self.view_is c.requires.call c.index.ensures c.in-Some.awaited c.in-Some.is) c.deref.ensures.value c.has_come.ensures s h told).0 c.if-not-has_come.false)),
+      λ isnt. absurd (isnt
+          ((comes _ c.args.self.now c.args.p (kind_of c.in-Some.awaited)
+          c.deref.result.now c.has_come.result c.self.view_is
+          (reading (state_of c.self.inside)
+          c.args.self.now c.self.inside.awaits.items c.args.p c.index.result.now refl c.self.view_is c.requires.call
+          c.index.ensures c.in-Some.awaited c.in-Some.is) c.deref.ensures.value c.has_come.ensures s h told).0
+          c.if-not-has_come.false)),
     )
 
 pub append-requires-clause-processor : goal.append-requires-clause-processor
 append-requires-clause-processor c =
-    let w = reading (state_of c.self.inside) c.args.self.now c.self.inside.awaits.items c.args.p c.index.result.now refl c.self.view_is c.requires.call c.index.ensures c.in-Some.awaited c.in-Some.is in
+    let w = reading (state_of c.self.inside)
+    c.args.self.now c.self.inside.awaits.items c.args.p c.index.result.now refl c.self.view_is c.requires.call
+    c.index.ensures c.in-Some.awaited c.in-Some.is in
     let lt = w.journal in
     let e = ap (λ (l : Log). l.processors) c.in_ok-make_room.ensures.same in
     omega arith
 
 pub append-requires-clause-address : goal.append-requires-clause-address
 append-requires-clause-address c =
-    let w = reading (state_of c.self.inside) c.args.self.now c.self.inside.awaits.items c.args.p c.index.result.now refl c.self.view_is c.requires.call c.index.ensures c.in-Some.awaited c.in-Some.is in
-    subst (λ k. AddressInRange c.make_room.new.journal.addresses k) (sym c.kind-kind.ensures) (taking_address c.make_room.new.journal.addresses (kind_of c.in-Some.awaited) w.takes)
+    let w = reading (state_of c.self.inside)
+    c.args.self.now c.self.inside.awaits.items c.args.p c.index.result.now refl c.self.view_is c.requires.call
+    c.index.ensures c.in-Some.awaited c.in-Some.is in
+    subst (λ k. AddressInRange c.make_room.new.journal.addresses k) (sym c.kind-kind.ensures)
+    (taking_address c.make_room.new.journal.addresses (kind_of c.in-Some.awaited) w.takes)
 
 pub index_mut-requires : goal.index_mut-requires
 index_mut-requires c =
-    let w = reading (state_of c.self.inside) c.args.self.now c.self.inside.awaits.items c.args.p c.index.result.now refl c.self.view_is c.requires.call c.index.ensures c.in-Some.awaited c.in-Some.is in
+    let w = reading (state_of c.self.inside)
+    c.args.self.now c.self.inside.awaits.items c.args.p c.index.result.now refl c.self.view_is c.requires.call
+    c.index.ensures c.in-Some.awaited c.in-Some.is in
     omega (arith, w.times, c.self.inside.times.ok.0)
 
 pub join-requires : goal.join-requires
 join-requires c =
-    let w = reading (state_of c.self.inside) c.args.self.now c.self.inside.awaits.items c.args.p c.index.result.now refl c.self.view_is c.requires.call c.index.ensures c.in-Some.awaited c.in-Some.is in
-    let mail = ap (λ (t : List ℕ). length t) c.time.ensures ∙ w.long (letter c.in_ok-message.message) (received_is (state_of c.self.inside) (state_of c.self.inside) c.args.p (kind_of c.in-Some.awaited) c.deref-2.result.now c.index-2.result.now (letter c.in_ok-message.message) refl c.deref-2.ensures.value (own_read c.self.inside.times.items c.args.p c.index-2.result.now w.times c.index-2.ensures) c.in_ok-message.ensures.ok) in
-    let own = ap length (own_read c.self.inside.times.items c.args.p c.index_mut.result.now w.times c.index_mut.ensures.value) ∙ w.own_long in
+    let w = reading (state_of c.self.inside)
+    c.args.self.now c.self.inside.awaits.items c.args.p c.index.result.now refl c.self.view_is c.requires.call
+    c.index.ensures c.in-Some.awaited c.in-Some.is in
+    let mail = ap (λ (t : List ℕ). length t) c.time.ensures
+    ∙ w.long (letter c.in_ok-message.message)
+    (received_is (state_of c.self.inside) (state_of c.self.inside) c.args.p (kind_of c.in-Some.awaited)
+    c.deref-2.result.now c.index-2.result.now (letter c.in_ok-message.message) refl c.deref-2.ensures.value
+    (own_read c.self.inside.times.items c.args.p c.index-2.result.now w.times c.index-2.ensures)
+    c.in_ok-message.ensures.ok) in
+    let own = ap length
+    (own_read c.self.inside.times.items c.args.p c.index_mut.result.now w.times c.index_mut.ensures.value)
+    ∙ w.own_long in
     mail ∙ sym own
 
 pub index_mut-requires-2 : goal.index_mut-requires-2
 index_mut-requires-2 c =
-    let w = reading (state_of c.self.inside) c.args.self.now c.self.inside.awaits.items c.args.p c.index.result.now refl c.self.view_is c.requires.call c.index.ensures c.in-Some.awaited c.in-Some.is in
+    let w = reading (state_of c.self.inside)
+    c.args.self.now c.self.inside.awaits.items c.args.p c.index.result.now refl c.self.view_is c.requires.call
+    c.index.ensures c.in-Some.awaited c.in-Some.is in
     omega (arith, w.awaits, length-map c.self.inside.awaits.items (option_map kind_of), c.self.inside.awaits.ok.0)
 
 pub leave-requires : goal.leave-requires
 leave-requires c =
-    let w = reading (state_of c.self.inside) c.args.self.now c.self.inside.awaits.items c.args.p c.index.result.now refl c.self.view_is c.requires.call c.index.ensures c.in-Some.awaited c.in-Some.is in
-    λ is. w.free (letter c.in_ok-message.message) (received_is (state_of c.self.inside) (state_of c.self.inside) c.args.p (kind_of c.in-Some.awaited) c.deref-2.result.now c.index-2.result.now (letter c.in_ok-message.message) refl c.deref-2.ensures.value (own_read c.self.inside.times.items c.args.p c.index-2.result.now w.times c.index-2.ensures) c.in_ok-message.ensures.ok) (ap kind_of is)
+    let w = reading (state_of c.self.inside)
+    c.args.self.now c.self.inside.awaits.items c.args.p c.index.result.now refl c.self.view_is c.requires.call
+    c.index.ensures c.in-Some.awaited c.in-Some.is in
+    λ is. w.free (letter c.in_ok-message.message)
+    (received_is (state_of c.self.inside) (state_of c.self.inside) c.args.p (kind_of c.in-Some.awaited)
+    c.deref-2.result.now c.index-2.result.now (letter c.in_ok-message.message) refl c.deref-2.ensures.value
+    (own_read c.self.inside.times.items c.args.p c.index-2.result.now w.times c.index-2.ensures)
+    c.in_ok-message.ensures.ok) (ap kind_of is)
 
 pub trim-requires : goal.trim-requires
 trim-requires c =
-    let w = reading (state_of c.self.inside) c.args.self.now c.self.inside.awaits.items c.args.p c.index.result.now refl c.self.view_is c.requires.call c.index.ensures c.in-Some.awaited c.in-Some.is in
-    let own = ap length (own_read c.self.inside.times.items c.args.p c.index_mut.result.now w.times c.index_mut.ensures.value) ∙ w.own_long in
-    may_trim (state_of c.self.inside) c.args.p (kind_of c.in-Some.awaited) c.deref-3.result.now c.copy-before.result c.join.new.self w c.deref-3.ensures.value (c.join.ensures.same_length ∙ own) (c.copy-before.ensures ∙ own_read c.self.inside.times.items c.args.p c.index-3.result.now w.times c.index-3.ensures)
+    let w = reading (state_of c.self.inside)
+    c.args.self.now c.self.inside.awaits.items c.args.p c.index.result.now refl c.self.view_is c.requires.call
+    c.index.ensures c.in-Some.awaited c.in-Some.is in
+    let own = ap length
+    (own_read c.self.inside.times.items c.args.p c.index_mut.result.now w.times c.index_mut.ensures.value)
+    ∙ w.own_long in
+    may_trim (state_of c.self.inside) c.args.p (kind_of c.in-Some.awaited)
+    c.deref-3.result.now c.copy-before.result c.join.new.self w c.deref-3.ensures.value
+    (c.join.ensures.same_length ∙ own)
+    (c.copy-before.ensures
+    ∙ own_read c.self.inside.times.items c.args.p c.index-3.result.now w.times c.index-3.ensures)
 
 pub returns-clause-ok : goal.returns-clause-ok
 returns-clause-ok c =
-    let w = reading (state_of c.self.inside) c.args.self.now c.self.inside.awaits.items c.args.p c.index.result.now refl c.self.view_is c.requires.call c.index.ensures c.in-Some.awaited c.in-Some.is in
+    let w = reading (state_of c.self.inside)
+    c.args.self.now c.self.inside.awaits.items c.args.p c.index.result.now refl c.self.view_is c.requires.call
+    c.index.ensures c.in-Some.awaited c.in-Some.is in
     let m = letter c.in_ok-message.message in
     let again = own_read c.self.inside.times.items c.args.p c.index_mut.result.now w.times c.index_mut.ensures.value in
-    let log = log_is c.self.inside.journal c.make_room.new.journal c.append.new.self c.self.inside.owing (event c.args.p c.kind-kind.result) c.in_ok-make_room.ensures.same c.append.ensures ∙ ap (λ k. record c.self.inside.journal { events = c.self.inside.journal.events ++ event c.args.p k ∷ []; room = c.self.inside.owing }) c.kind-kind.ensures in
-    let time = c.join.ensures.value ∙ ap (λ (t : List ℕ). join t c.time.result.now) again ∙ ap (λ (t : List ℕ). join (slice_index_or c.self.inside.times.items c.args.p []) t) c.time.ensures in
-    let closed = c.trim.ensures ∙ ap (λ (ts : List (List ℕ)). trimmed_by c.self.inside.closed ts (length ts)) c.deref-3.ensures.value in
-    let whole = took_is (state_of c.self.inside) c.args.p (kind_of c.in-Some.awaited) m c.join.new.self (record c.append.new.self { room = c.self.inside.owing }) c.trim.new.closed (map (option_map kind_of) (slice_set c.self.inside.awaits.items c.args.p None)) c.receive.new.mail c.leave.new.barrier log time closed (map-set (option_map kind_of) c.self.inside.awaits.items c.args.p None) c.in_ok-message.ensures.after c.leave.ensures w.takes in
+    let log = log_is c.self.inside.journal c.make_room.new.journal c.append.new.self c.self.inside.owing
+    (event c.args.p c.kind-kind.result) c.in_ok-make_room.ensures.same c.append.ensures
+    ∙ ap (λ k. record c.self.inside.journal
+    { events = c.self.inside.journal.events ++ event c.args.p k ∷ []; room = c.self.inside.owing })
+    c.kind-kind.ensures in
+    let time = c.join.ensures.value ∙ ap (λ (t : List ℕ). join t c.time.result.now) again
+    ∙ ap (λ (t : List ℕ). join (slice_index_or c.self.inside.times.items c.args.p []) t) c.time.ensures in
+    let closed = c.trim.ensures
+    ∙ ap (λ (ts : List (List ℕ)). trimmed_by c.self.inside.closed ts (length ts)) c.deref-3.ensures.value in
+    let whole = took_is (state_of c.self.inside) c.args.p (kind_of c.in-Some.awaited) m c.join.new.self
+    (record c.append.new.self { room = c.self.inside.owing }) c.trim.new.closed
+    (map (option_map kind_of) (slice_set c.self.inside.awaits.items c.args.p None))
+    c.receive.new.mail c.leave.new.barrier log time closed
+    (map-set (option_map kind_of) c.self.inside.awaits.items c.args.p None)
+    c.in_ok-message.ensures.after c.leave.ensures w.takes in
     record {
       kind = (kind_of c.in-Some.awaited);
       awaits = ap (λ (b : State). slice_get b.awaits c.args.p) (sym c.self.view_is) ∙ w.waits;
-      message = ap (λ (b : State). message_for b c.args.p (kind_of c.in-Some.awaited)) (sym c.self.view_is) ∙ received_is (state_of c.self.inside) (state_of c.self.inside) c.args.p (kind_of c.in-Some.awaited) c.deref-2.result.now c.index-2.result.now (letter c.in_ok-message.message) refl c.deref-2.ensures.value (own_read c.self.inside.times.items c.args.p c.index-2.result.now w.times c.index-2.ensures) c.in_ok-message.ensures.ok;
+      message = ap (λ (b : State). message_for b c.args.p (kind_of c.in-Some.awaited)) (sym c.self.view_is)
+          ∙ received_is (state_of c.self.inside) (state_of c.self.inside) c.args.p (kind_of c.in-Some.awaited)
+          c.deref-2.result.now c.index-2.result.now (letter c.in_ok-message.message) refl c.deref-2.ensures.value
+          (own_read c.self.inside.times.items c.args.p c.index-2.result.now w.times c.index-2.ensures)
+          c.in_ok-message.ensures.ok;
       after = whole ∙ ap (λ (b : State). book_taken b c.args.p (kind_of c.in-Some.awaited) m) c.self.view_is;
     }
 
 pub returns-clause-brings : goal.returns-clause-brings
 returns-clause-brings c =
-    let w = reading (state_of c.self.inside) c.args.self.now c.self.inside.awaits.items c.args.p c.index.result.now refl c.self.view_is c.requires.call c.index.ensures c.in-Some.awaited c.in-Some.is in
-    brings_is c.args.self.now c.args.p (kind_of c.in-Some.awaited) (letter c.in_ok-message.message) (ap (λ (b : State). slice_get b.awaits c.args.p) (sym c.self.view_is) ∙ w.waits) (ap (λ (b : State). message_for b c.args.p (kind_of c.in-Some.awaited)) (sym c.self.view_is) ∙ received_is (state_of c.self.inside) (state_of c.self.inside) c.args.p (kind_of c.in-Some.awaited) c.deref-2.result.now c.index-2.result.now (letter c.in_ok-message.message) refl c.deref-2.ensures.value (own_read c.self.inside.times.items c.args.p c.index-2.result.now w.times c.index-2.ensures) c.in_ok-message.ensures.ok)
+    let w = reading (state_of c.self.inside)
+    c.args.self.now c.self.inside.awaits.items c.args.p c.index.result.now refl c.self.view_is c.requires.call
+    c.index.ensures c.in-Some.awaited c.in-Some.is in
+    brings_is c.args.self.now c.args.p (kind_of c.in-Some.awaited) (letter c.in_ok-message.message)
+    (ap (λ (b : State). slice_get b.awaits c.args.p) (sym c.self.view_is) ∙ w.waits)
+    (ap (λ (b : State). message_for b c.args.p (kind_of c.in-Some.awaited)) (sym c.self.view_is)
+    ∙ received_is (state_of c.self.inside) (state_of c.self.inside) c.args.p (kind_of c.in-Some.awaited)
+    c.deref-2.result.now c.index-2.result.now (letter c.in_ok-message.message) refl c.deref-2.ensures.value
+    (own_read c.self.inside.times.items c.args.p c.index-2.result.now w.times c.index-2.ensures)
+    c.in_ok-message.ensures.ok)
 
 pub returns-clause-absent : goal.returns-clause-absent
 returns-clause-absent c =
     λ s h told. (
       λ e ready. absurd (cc (e)),
-      λ isnt. absurd (isnt ((comes _ c.args.self.now c.args.p (kind_of c.in-Some.awaited) c.deref.result.now c.has_come.result c.self.view_is (reading (state_of c.self.inside) c.args.self.now c.self.inside.awaits.items c.args.p c.index.result.now refl c.self.view_is c.requires.call c.index.ensures c.in-Some.awaited c.in-Some.is) c.deref.ensures.value c.has_come.ensures s h told).0 c.if-not-has_come.false)),
+      λ isnt. absurd (isnt
+          ((comes _ c.args.self.now c.args.p (kind_of c.in-Some.awaited)
+          c.deref.result.now c.has_come.result c.self.view_is
+          (reading (state_of c.self.inside)
+          c.args.self.now c.self.inside.awaits.items c.args.p c.index.result.now refl c.self.view_is c.requires.call
+          c.index.ensures c.in-Some.awaited c.in-Some.is) c.deref.ensures.value c.has_come.ensures s h told).0
+          c.if-not-has_come.false)),
     )

@@ -4,4 +4,8 @@ use Rattle.book_uses.proofs.Opened.{IsStoredIn}
 use Rattle.book_uses.proofs.told.Told.record_of.Given as goal
 
 abbrev pub invariant-loop-event : goal.invariant-loop-event
-invariant-loop-event l = record { stored : IsStoredIn l.self.sizes l.page (take l.event-index l.events) l.copy; valid : l.copy.access ≡ Valid }
+invariant-loop-event l =
+    record {
+      stored : IsStoredIn l.self.sizes l.page (take l.event-index l.events) l.copy;
+      valid : l.copy.access ≡ Valid;
+    }

@@ -6,4 +6,6 @@ use Rattle.book_uses.specs.Records.{AreOpenBelow}
 use Rattle.book_uses.proofs.told.Told.records_of.Given as goal
 
 abbrev pub invariant-loop-page : goal.invariant-loop-page
-invariant-loop-page l = (h : List Event) (p : ℕ) → since h p ≡ l.events → AreOpenBelow l.self.sizes h p l.page (map arc_value l.records.items)
+invariant-loop-page l =
+    (h : List Event) (p : ℕ) → since h p ≡ l.events
+    → AreOpenBelow l.self.sizes h p l.page (map arc_value l.records.items)
