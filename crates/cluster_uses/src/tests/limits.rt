@@ -240,3 +240,36 @@ fn spent_entries_come_before_a_full_journal(rt: HostRuntime) -> Result<(), Fail>
     spends_all::<TicketLock<Book, Rule, 4096>, _>(&rt)?;
     Ok(())
 }
+
+/// Stores, arrives, departs and cuts, over and over: more events than a journal may have.
+fn runs_past_the_limit<T: Turn<Book, Rule> + Drop, R: Abort + Wait + AllocGlobal>(
+    rt: &R,
+) -> Result<(), Refused>
+    requires { T.ENTRIES ≤ 2 ^ 40 }
+{
+    let mut crew = opened::<T>(rt.alloc(), [1, 1, 1, 0, 0])?;
+    for _ in 0..5000 {
+        store(&mut crew, rt, 254)?;
+        go(
+            &mut crew,
+            rt,
+            &[Does(0, Arrive), Does(0, Take), Does(0, Cut)],
+        )?;
+    }
+    let journal = crew.finish();
+    assert!(rt; journal.cut_events() == 1_279_999 && journal.base() == [1].as_slice());
+    assert!(rt; has_events(&journal, &[did(0, Kind::Depart)]));
+    Ok(())
+}
+
+#[test]
+fn a_cluster_runs_past_the_limit_with_a_row(rt: HostRuntime) -> Result<(), Fail> {
+    runs_past_the_limit::<BookLock, _>(&rt)?;
+    Ok(())
+}
+
+#[test]
+fn a_cluster_runs_past_the_limit_with_tickets(rt: HostRuntime) -> Result<(), Fail> {
+    runs_past_the_limit::<TicketBookLock, _>(&rt)?;
+    Ok(())
+}
