@@ -1,11 +1,12 @@
 -- What calls on a processor add to those that it has made.
-use Rattle.std.proofs.Common.{ℕ, Bool, ◌≡◌, Option, Some, None, Result, Ok, Err, OnErr, OnOk, List, [], ◌∷◌, ◌++◌, false, true, cond, refl, sym, ap, subst, ◌∙◌, append_assoc, append-nil}
+use Rattle.std.proofs.Common.{ℕ, Bool, ◌≡◌, Option, Some, None, Result, Ok, Err, OnErr, OnOk, IfOk, List, [], ◌∷◌, ◌++◌, false, true, cond, refl, sym, ap, subst, ◌∙◌, append_assoc, append-nil}
 use Rattle.std.specs.Prelude.{not}
 use Rattle.std.specs.Result.{result_err}
 use Rattle.journal.specs.declared.event.Event.{Event}
 use Rattle.journal.specs.declared.event.Kind.{Kind}
-use Rattle.journal.specs.declared.event.Kind.TheVariants.{Store}
+use Rattle.journal.specs.declared.event.Kind.TheVariants.{Load, Store}
 use Rattle.journal.specs.Did.{event}
+use Rattle.journal.specs.Events.{part}
 use Rattle.journal.specs.Waits.{awaited}
 use Rattle.lrc_script.specs.declared.script.Instruction.{Instruction}
 use Rattle.lrc_script.specs.declared.script.Instruction.TheVariants.{Barrier}
@@ -14,8 +15,8 @@ use Rattle.follows.specs.Follows.{is_fetch, kinds_of}
 use Rattle.follows.proofs.Calls.{kinds_of-append, kinds_of-one}
 use Rattle.follows.proofs.Instructions.{NoFetch, all-push, no_fetch_one}
 use Rattle.book.specs.declared.refused.Refused.{Refused}
-use Rattle.replicas.specs.Local.{Local, calls}
-use Rattle.cluster.specs.Accesses.{IsStored}
+use Rattle.replicas.specs.Local.{Local, calls, noted}
+use Rattle.cluster.specs.Accesses.{IsStored, IsFetched}
 use Rattle.cluster.specs.Calls.{IsSameProcessor, IsCall}
 use Rattle.cluster.specs.Closing.{IsClosedBy}
 use Rattle.cluster.specs.Taking.{awaited_event}
@@ -57,20 +58,46 @@ pub tries_after : {A : Type 0} (l m n : Local) (r : Result A Refused) (kinds : A
 tries_after l m n (Ok x) kinds first next = makes_then l m n [] (kinds x) first next
 tries_after l m n (Err e) kinds first next = makes_then l m n [] [] first next
 
+-- a call that was refused, and one that adds no event
+pub makes_refused : (l m n : Local) → m ≡ l → Makes m n [] → Makes l n []
+makes_refused l m n same made = makes_then l m n [] [] (makes_none l m same) made
+
 -- it is the same processor, whatever the answer
 pub tries_same : {A : Type 0} (m n : Local) (r : Result A Refused) (kinds : A → List Kind) → Tries m n r kinds
     → IsSameProcessor m n
 tries_same m n (Ok x) kinds h = h.same
 tries_same m n (Err e) kinds h = h.same
 
+-- a processor whose block or copies alone changed is the same
+same_but : (m n l : Local) → n ≡ l → IsSameProcessor m l → IsSameProcessor m n
+same_but m n l e same = subst (IsSameProcessor m) (sym e) same
+
+-- a load
+pub tries_load : (m n : Local) (a : ℕ) (r : Result ℕ Refused) → OnErr r (n ≡ m)
+    → IfOk r (λ v. n ≡ noted m (Load a v)) → IfOk r (λ v. calls n ≡ calls m ++ event m.number (Load a v) ∷ [])
+    → Tries m n r (λ v. Load a v ∷ [])
+tries_load m n a (Ok v) err ok more =
+    makes_one m n (Load a v) refl (same_but m n _ ok (record { lock = refl; number = refl; sizes = refl })) more
+tries_load m n a (Err e) err ok more = makes_none m n err
+
+-- a store
 pub tries_store : {A : Type 0} (m n : Local) (a v : ℕ) (r : Result A Refused) → OnErr r (n ≡ m)
     → OnOk r (IsStored m a v n)
     → OnOk r (calls n ≡ calls m ++ event m.number (Store a v) ∷ [])
     → Tries m n r (λ _. Store a v ∷ [])
-tries_store m n a v (Ok x) err ok more = let e = ok.after in makes_one m n (Store a v) refl
-    (record { lock = ap (λ (x : Local). x.lock) e; number = ap (λ (x : Local). x.number) e; sizes = ap (λ (x : Local). x.sizes) e })
-    more
+tries_store m n a v (Ok x) err ok more =
+    makes_one m n (Store a v) refl (same_but m n _ ok.after (record { lock = refl; number = refl; sizes = refl })) more
 tries_store m n a v (Err e) err ok more = makes_none m n err
+
+-- a fetch
+pub tries_fetch : {A : Type 0} (m n : Local) (page : ℕ) (r : Result A Refused) → OnErr r (n ≡ m)
+    → OnOk r (IsFetched m page n) → Tries m n r (λ _. [])
+tries_fetch m n page (Ok x) err ok = record {
+  same = same_but m n _ ok.after (record { lock = refl; number = refl; sizes = refl });
+  more = ap made ok.after ∙ ap kinds_of (sym (append_assoc (part m.seen m.number) m.block _))
+      ∙ kinds_of-append (calls m) (_ ∷ []);
+}
+tries_fetch m n page (Err e) err ok = makes_none m n err
 
 -- a call that enters the book
 pub tries_call : {A : Type 0} (first : Option Refused) (many : ℕ) (absent : Local → Type 0) (done : Local → Local → Type 0)
@@ -82,13 +109,13 @@ tries_call first many absent done added m n (Ok x) call = record {
 }
 tries_call first many absent done added m n (Err e) call = makes_same m n call.same (call.kept (λ none. cc))
 
--- and that was accepted and adds no event
+-- and that adds no event, whatever it answers
 pub makes_call : {A : Type 0} {first : Option Refused} {many : ℕ} {absent : Local → Type 0} {done : Local → Local → Type 0}
-    (m n : Local) (r : Result A Refused) {x : A} → r ≡ Ok x → IsCall first many absent done [] m n (result_err r)
-    → Makes m n []
-makes_call {A} {first} {many} {absent} {done} m n r {x} is call =
-    let P : Result A Refused → Type 0 = λ r. IsCall first many absent done [] m n (result_err r) in
-    tries_call first many absent done [] m n (Ok x) (subst P is call)
+    (m n : Local) (r : Result A Refused) → IsCall first many absent done [] m n (result_err r) → Makes m n []
+makes_call {A} {first} {many} {absent} {done} m n (Ok x) call =
+    tries_call {A = A} first many absent done [] m n (Ok x) call
+makes_call {A} {first} {many} {absent} {done} m n (Err e) call =
+    tries_call {A = A} first many absent done [] m n (Err e) call
 
 -- a call that closes the interval was made, and what comes next is awaited
 pub closes : {A : Type 0} {first : Option Refused} {many : ℕ} {absent : Local → Type 0} (k : Kind)

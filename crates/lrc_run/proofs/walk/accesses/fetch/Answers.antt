@@ -1,0 +1,20 @@
+use Rattle.std.proofs.lemmas.Result.{err_from_is_err_and}
+use Rattle.lrc_run.proofs.Making.{makes_call, makes_refused, tries_after, tries_fetch}
+use Rattle.lrc_run.proofs.walk.accesses.fetch.Goals as goal
+
+pub returns-in_err-flush-in-Err-BlockFull : goal.returns-in_err-flush-in-Err-BlockFull
+returns-in_err-flush-in-Err-BlockFull g c =
+    let full = c.fetch.new.self in
+    let refused = err_from_is_err_and c.from_residual.result c.from_residual.ensures.1 in
+    rw refused.1 (makes_refused c.args.processor.now full c.flush.new.processor c.in-Err-BlockFull.ensures.err
+    (makes_call full c.flush.new.processor c.flush.result c.flush.ensures))
+
+pub returns-in_ok-flush-in-Err-BlockFull : goal.returns-in_ok-flush-in-Err-BlockFull
+returns-in_ok-flush-in-Err-BlockFull g c =
+    let full = c.fetch.new.self in
+    let roomy = c.flush.new.processor in
+    let answer = c.fetch-in-Err-BlockFull in
+    tries_after c.args.processor.now roomy answer.new.self answer.result _
+    (makes_refused c.args.processor.now full roomy c.in-Err-BlockFull.ensures.err
+    (makes_call full roomy c.flush.result c.flush.ensures))
+    (tries_fetch roomy answer.new.self c.args.page answer.result answer.ensures.err answer.ensures.ok)
