@@ -4,6 +4,7 @@ use crate::calls::{are_last_replies, recomputed};
 use crate::cuts::is_idle;
 use crate::flat::flat_run;
 use crate::flaw::{Flaw, expect};
+use crate::gaps::wrong_place;
 use crate::rebuilt::journal_of;
 use crate::table::Table;
 use journal::{Event, Journal, Kind, Traffic};
@@ -57,24 +58,55 @@ fn check_replay(alloc: Global, journal: &Journal) -> Result<(), Flaw> {
     expect(same, Flaw::Replay)
 }
 
-/// The events are what the sections do, and with the replies of one flat memory they have the same first race, and
-/// replay. A journal of recomputed events is made only where there is no base.
+/// A journal of the recomputed events has the same first race, and replays.
+fn check_rebuilt(
+    alloc: Global,
+    script: &Script,
+    events: &[Event],
+    race: Option<(usize, usize)>,
+) -> Result<(), Flaw> {
+    let addresses = script.pages.saturating_mul(script.words);
+    let Some(rebuilt) = journal_of(alloc, script.processors, addresses, events)? else {
+        return Err(Flaw::Recomputed);
+    };
+    expect(rebuilt.first_race()? == race, Flaw::Recomputed)?;
+    expect(rebuilt.replay()?.is_some(), Flaw::Recomputed)
+}
+
+/// The events are what the sections do. Up to the first race they have the replies of one flat memory, and with
+/// such replies in all of them the first race is the same.
 fn check_calls(
     alloc: Global,
     script: &Script,
     journal: &Journal,
     race: Option<(usize, usize)>,
 ) -> Result<(), Flaw> {
-    let base = journal.base();
-    let events = recomputed(alloc, script, base, journal.events())?.map_err(Flaw::Calls)?;
-    if journal.cut_events() > 0 {
-        return Ok(());
-    }
-    let Some(rebuilt) = journal_of(alloc, script.processors, base.len(), &events)? else {
-        return Err(Flaw::Recomputed);
+    let events = journal.events();
+    let flat = recomputed(alloc, script, journal.base(), events)?.map_err(Flaw::Calls)?;
+    let count = match race {
+        Some((_, second)) => second,
+        None => events.len(),
     };
-    expect(rebuilt.first_race()? == race, Flaw::Recomputed)?;
-    expect(rebuilt.replay()?.is_some(), Flaw::Recomputed)
+    expect(events.get(..count) == flat.get(..count), Flaw::NotFlat)?;
+    // No journal is made with a base.
+    if journal.cut_events() == 0 {
+        check_rebuilt(alloc, script, &flat, race)?;
+    }
+    Ok(())
+}
+
+/// What was fetched is what was missing, and the traffic adds up; of a journal that wasn't cut.
+fn check_fetches(
+    alloc: Global,
+    script: &Script,
+    report: &Report,
+    table: &Table,
+) -> Result<(), Flaw> {
+    let events = report.journal.events();
+    if let Some(place) = wrong_place(alloc, table, events, script.words)? {
+        return Err(Flaw::Gap(place));
+    }
+    expect(report.traffic == cost_of(events), Flaw::Traffic)
 }
 
 /// All that holds of each report, whatever was drawn.
@@ -94,11 +126,10 @@ pub fn check_report(alloc: Global, script: &Script, report: &Report) -> Result<(
     check_calls(alloc, script, journal, race)?;
     let shown = are_last_replies(alloc, events, &report.shown)?;
     expect(shown, Flaw::Shown)?;
-    let is_whole = journal.cut_events() == 0;
-    expect(
-        !is_whole || report.traffic == cost_of(events),
-        Flaw::Traffic,
-    )
+    if journal.cut_events() == 0 {
+        check_fetches(alloc, script, report, &table)?;
+    }
+    Ok(())
 }
 
 /// A script whose accesses are all ordered has no race, and shows of each address the sum of what was added.

@@ -27,6 +27,10 @@ pub enum Flaw {
     FirstRace(Option<(usize, usize)>),
     /// The load at this place doesn't answer a latest store of its past.
     Unexplained(usize),
+    /// At this place a copy is accessed that lacks something, or a fetch counts what isn't missing.
+    Gap(usize),
+    /// Before the first race the replies aren't those of one flat memory.
+    NotFlat,
     /// The journal has no race and doesn't replay, or with other words at the end than one flat memory has.
     Replay,
     /// With recomputed replies the journal has another first race, or doesn't replay.

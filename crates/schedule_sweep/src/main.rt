@@ -1,8 +1,8 @@
 //! `schedule_sweep COUNT`: for each number below COUNT scripts are drawn in three ways, without and with cuts, and
 //! each is run by turns without a seed and with sixteen, with both locks. The reports are checked against programs
 //! of this crate alone: a plain table of what happens before what, one flat memory, and the script's sections. A
-//! tenth of the guarded scripts run with a thread for each processor, too. Ends with status 1 at the first
-//! difference.
+//! tenth of the scripts run with a thread for each processor, too, with both locks. Ends with status 1 at the first
+//! difference, which it prints.
 #![tactic(auto)]
 
 mod calls;
@@ -11,6 +11,7 @@ mod cuts;
 mod draws;
 mod flat;
 mod flaw;
+mod gaps;
 mod mixed;
 mod random;
 mod rebuilt;
@@ -41,8 +42,8 @@ fn count_of(words: &[String]) -> Option<u64> {
     }
 }
 
-/// Prints what was seen of a sort.
-fn print(rt: &HostRuntime, name: &str, tally: &Tally) -> io::Result<()> {
+/// Prints what was seen of a sort, and that so many of its scripts ran on threads, too.
+fn print(rt: &HostRuntime, name: &str, tally: &Tally, on_threads: u64) -> io::Result<()> {
     let Tally {
         scripts,
         reports,
@@ -51,50 +52,44 @@ fn print(rt: &HostRuntime, name: &str, tally: &Tally) -> io::Result<()> {
         events,
     } = tally;
     println!(rt;
-        "{name}: {scripts} scripts, {reports} reports, {racy} racy, {cut} cut, {events} events"
+        "{name}: {scripts} scripts, {reports} reports, {racy} racy, {cut} cut, {events} events; {on_threads} on threads"
     )
 }
 
-/// Prints what differs, and answers the status.
-fn tell(rt: &HostRuntime, difference: &Difference) -> io::Result<u8> {
-    println!(rt; "{difference:?}")?;
-    Ok(1)
+/// Checks the scripts of a sort of the numbers below the count by turns, and a tenth of them on threads. The handle
+/// is what threads are started by.
+fn check_sort<R: Threads + Wait + Sync>(
+    rt: &HostRuntime,
+    handle: &R,
+    sort: Sort,
+    count: u64,
+) -> Result<Tally, Difference> {
+    let tally = check_by_turns(handle, rt.alloc(), sort, count)?;
+    check_by_threads(handle, rt.alloc(), sort, count / 10)?;
+    Ok(tally)
 }
 
-/// Checks the scripts of a sort of the numbers below the count, and answers the status.
-fn sweep_sort<R: Wait>(
+/// Checks the scripts of a sort, tells what was found, and answers the status.
+fn sweep_sort<R: Threads + Wait + Sync>(
     rt: &HostRuntime,
     handle: &R,
     name: &str,
     sort: Sort,
     count: u64,
 ) -> io::Result<u8> {
-    match check_by_turns(handle, rt.alloc(), sort, count) {
+    match check_sort(rt, handle, sort, count) {
         Ok(tally) => {
-            print(rt, name, &tally)?;
+            print(rt, name, &tally, count / 10)?;
             Ok(0)
         }
-        Err(difference) => tell(rt, &difference),
+        Err(difference) => {
+            println!(rt; "{difference:?}")?;
+            Ok(1)
+        }
     }
 }
 
-/// Checks the guarded scripts of the numbers below the count on threads, and answers the status.
-fn sweep_threads<R: Threads + Wait + Sync>(
-    rt: &HostRuntime,
-    handle: &R,
-    count: u64,
-) -> io::Result<u8> {
-    match check_by_threads(handle, rt.alloc(), count) {
-        Ok(()) => {
-            println!(rt; "guarded on threads: {count} scripts")?;
-            Ok(0)
-        }
-        Err(difference) => tell(rt, &difference),
-    }
-}
-
-/// Checks the scripts of the numbers below the count, and answers the status. The handle is what threads are
-/// started by.
+/// Checks the scripts of all sorts of the numbers below the count, and answers the status.
 fn sweep_all<R: Threads + Wait + Sync>(rt: &HostRuntime, handle: &R, count: u64) -> io::Result<u8> {
     for (drawing, plain, cut) in DRAWINGS {
         for (name, has_cuts) in [(plain, false), (cut, true)] {
@@ -105,7 +100,7 @@ fn sweep_all<R: Threads + Wait + Sync>(rt: &HostRuntime, handle: &R, count: u64)
             }
         }
     }
-    sweep_threads(rt, handle, count / 10)
+    Ok(0)
 }
 
 /// Does what the words ask for, and answers the status.

@@ -145,7 +145,8 @@ fn report_of_turns<R: Wait>(
     }
 }
 
-/// The report is what is left of that of the same script with loads in the place of its cuts.
+/// The report is what is left of that of the same script with loads in the place of its cuts, of which all checks
+/// are made, too.
 fn check_against_whole<R: Wait>(
     rt: &R,
     alloc: Global,
@@ -156,6 +157,7 @@ fn check_against_whole<R: Wait>(
     requires { IsLawful (plan_of whole.now) }
 {
     let history = step_report(rt, alloc, whole, seed, Lock::Array)?;
+    check_report(alloc, whole, &history)?;
     check_cuts(alloc, whole, report, &history)
 }
 
@@ -235,7 +237,19 @@ pub fn check_by_turns<R: Wait>(
     Ok(tally)
 }
 
-/// The report of the guarded script of a number with a thread for each processor, with all checks made of it.
+/// The script of a number, with or without cuts, read from its text.
+fn script_of(alloc: Global, sort: Sort, number: u64) -> Result<Script, Flaw>
+    ensures { IfOk result (λ s. IsLawful (plan_of s)) }
+{
+    if sort.has_cuts {
+        let (script, _) = cut_scripts(alloc, sort, number)?;
+        Ok(script)
+    } else {
+        plain_script(alloc, sort, number)
+    }
+}
+
+/// Makes all checks of the report of the script of a number with a thread for each processor.
 fn check_threads<R: Threads + Wait + Sync>(
     rt: &R,
     alloc: Global,
@@ -243,22 +257,22 @@ fn check_threads<R: Threads + Wait + Sync>(
     number: u64,
     lock: Lock,
 ) -> Result<(), Flaw> {
-    let script = plain_script(alloc, sort, number)?;
+    let script = script_of(alloc, sort, number)?;
     let report = threads_report(rt, alloc, &script, lock)?;
     check_report(alloc, &script, &report)?;
-    check_guarded(&script, &report)
+    if sort.drawing.is_guarded(number) {
+        check_guarded(&script, &report)?;
+    }
+    Ok(())
 }
 
-/// Checks the guarded scripts of the numbers below the count, with a thread for each processor and each lock.
+/// Checks the scripts of a sort of the numbers below the count, with a thread for each processor and each lock.
 pub fn check_by_threads<R: Threads + Wait + Sync>(
     rt: &R,
     alloc: Global,
+    sort: Sort,
     count: u64,
 ) -> Result<(), Difference> {
-    let sort = Sort {
-        drawing: Drawing::Guarded,
-        has_cuts: false,
-    };
     for number in 0..count {
         for lock in [Lock::Array, Lock::Ticket] {
             if let Err(flaw) = check_threads(rt, alloc, sort, number, lock) {

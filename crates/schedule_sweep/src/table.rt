@@ -101,7 +101,7 @@ impl Table {
     }
 
     /// Whether the first event happens before the second.
-    fn is_before(&self, first: usize, second: usize) -> bool {
+    pub fn is_before(&self, first: usize, second: usize) -> bool {
         let row = self.rows.get(second);
         row.is_some_and(|row| row.get(first) == Some(&true))
     }
