@@ -2,6 +2,7 @@
 
 use crate::{Cause, Report, RunFault, order, step, step_with};
 use cluster::{BookLock, TicketBookLock};
+use journal::{Event, Kind};
 use lrc_script::script::parse;
 use rand_core::SeedableRng;
 use rand_pcg::Pcg32;
@@ -147,6 +148,45 @@ fn orders_of_two(rt: HostRuntime) -> Result<(), Fail> {
         let again = step(&rt, rt.alloc(), &script, Some(seed))?;
         assert!(rt; report.journal.events() == again.journal.events());
         assert!(rt; report.shown == again.shown && report.racy == again.racy);
+    }
+    Ok(())
+}
+
+/// A script in which processor 0 adds 129 times, and processor 1 asks for a lock in the round in which the block
+/// of processor 0 is full.
+fn full_block(alloc: Global) -> Result<Vec<u8>, Fail> {
+    let mut text = Vec::from_slice(alloc, b"cluster 2 1 2 1\np 0\n")?;
+    for _ in 0..129 {
+        text.extend_from_slice(b"add 0 1\n")?;
+    }
+    text.extend_from_slice(b"p 1\n")?;
+    for _ in 0..127 {
+        text.extend_from_slice(b"load 1\n")?;
+    }
+    text.extend_from_slice(b"acquire 0\nrelease 0\nshow 0\n")?;
+    Ok(text)
+}
+
+/// A block is handed in by the access that finds it full, and not before: the ask of the round that filled it
+/// stands before it, and the release of the next round after it.
+#[test]
+fn a_full_block_is_handed_in(rt: HostRuntime) -> Result<(), Fail> {
+    let text = full_block(rt.alloc())?;
+    let script = parse(rt.alloc(), &text)?;
+    let report = step(&rt, rt.alloc(), &script, None)?;
+    for (place, processor, kind) in [
+        (127, 1, Kind::Ask(0)),
+        (128, 1, Kind::Acquire(0)),
+        (129, 0, Kind::Load(0, 0)),
+        (384, 0, Kind::Store(0, 128)),
+        (385, 1, Kind::Release(0)),
+        (386, 0, Kind::Load(0, 128)),
+    ] {
+        let event = Event { processor, kind };
+        assert!(rt;
+            report.journal.events().get(place) == Some(&event),
+            "{place}"
+        );
     }
     Ok(())
 }
