@@ -41,6 +41,20 @@ enum Step<'a> {
     Holds(usize, usize, bool),
 }
 
+/// Steps on a crew of these sizes, and what its journal has after them.
+struct Row {
+    sizes: [usize; 5],
+    steps: &'static [Step<'static>],
+    /// Who audits after the steps; where nobody does, the crew ends.
+    auditor: Option<usize>,
+    /// How many events were cut off.
+    cut: u64,
+    /// The words that the cuts left.
+    base: &'static [u32],
+    /// The events that are left, with their processors.
+    events: &'static [(usize, Kind)],
+}
+
 /// What can be seen of a processor.
 #[derive(PartialEq, Drop)]
 struct Look {
@@ -60,6 +74,42 @@ fn opened<T: Turn<Book, Rule> + Drop>(alloc: Global, sizes: [usize; 5]) -> Resul
         Err(Refused::NoMemory) => Crew::new(alloc, sizes),
         outcome => outcome,
     }
+}
+
+/// Goes through the row with each lock.
+fn with_both<R: Abort + Wait + AllocGlobal>(rt: &R, row: &Row) -> Result<(), Refused> {
+    go_by::<BookLock, R>(rt, row)?;
+    go_by::<TicketBookLock, R>(rt, row)
+}
+
+/// Goes through the row.
+fn go_by<T: Turn<Book, Rule> + Drop, R: Abort + Wait + AllocGlobal>(
+    rt: &R,
+    row: &Row,
+) -> Result<(), Refused>
+    requires { T.ENTRIES ≤ 2 ^ 40 }
+{
+    let mut crew = opened::<T>(rt.alloc(), row.sizes)?;
+    go(&mut crew, rt, row.steps)?;
+    let journal = match row.auditor {
+        Some(p) => audits(&mut crew, rt, p)?,
+        None => crew.finish(),
+    };
+    assert!(rt; is_left(&journal, row));
+    Ok(())
+}
+
+/// Whether the journal is the row's.
+fn is_left(journal: &Journal, row: &Row) -> bool {
+    if journal.len() != row.events.len() || journal.cut_events() != row.cut {
+        return false;
+    }
+    for (event, (processor, kind)) in journal.events().iter().zip(row.events) {
+        if event.processor != *processor || event.kind != *kind {
+            return false;
+        }
+    }
+    journal.base() == row.base
 }
 
 /// Goes through the steps.

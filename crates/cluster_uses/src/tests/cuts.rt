@@ -61,187 +61,131 @@ fn what_was_cut_off_is_read(rt: HostRuntime) -> Result<(), Fail> {
 }
 
 /// Where what is to be cut off has a race, nothing is, whoever calls.
-fn keeps_a_race<T: Turn<Book, Rule> + Drop, R: Abort + Wait + AllocGlobal>(
-    rt: &R,
-) -> Result<(), Refused>
-    requires { T.ENTRIES ≤ 2 ^ 40 }
-{
-    let mut crew = opened::<T>(rt.alloc(), [2, 1, 1, 0, 0])?;
-    go(
-        &mut crew,
-        rt,
-        &[
-            Does(0, Store(0, 1)),
-            Does(0, Arrive),
-            Does(1, Store(0, 2)),
-            Does(1, Arrive),
-            Refuses(0, Cut, Refused::Racy(0, 2)),
-            Refuses(1, Cut, Refused::Racy(0, 2)),
-        ],
-    )?;
-    let wanted = [
-        did(0, Kind::Store(0, 1)),
-        did(0, Kind::Arrive),
-        did(1, Kind::Store(0, 2)),
-        did(1, Kind::Arrive),
-    ];
-    let journal = audits(&mut crew, rt, 0)?;
-    assert!(rt; has_events(&journal, &wanted));
-    assert!(rt; was_cut(&journal, 0, &[0]));
-    Ok(())
-}
+const A_RACE: Row = Row {
+    sizes: [2, 1, 1, 0, 0],
+    steps: &[
+        Does(0, Store(0, 1)),
+        Does(0, Arrive),
+        Does(1, Store(0, 2)),
+        Does(1, Arrive),
+        Refuses(0, Cut, Refused::Racy(0, 2)),
+        Refuses(1, Cut, Refused::Racy(0, 2)),
+    ],
+    auditor: Some(0),
+    cut: 0,
+    base: &[0],
+    events: &[
+        (0, Kind::Store(0, 1)),
+        (0, Kind::Arrive),
+        (1, Kind::Store(0, 2)),
+        (1, Kind::Arrive),
+    ],
+};
 
 #[test]
 fn a_race_is_not_cut_off(rt: HostRuntime) -> Result<(), Fail> {
-    keeps_a_race::<BookLock, _>(&rt)?;
-    keeps_a_race::<TicketBookLock, _>(&rt)?;
+    with_both(&rt, &A_RACE)?;
     Ok(())
 }
 
 /// The places of a race that a second cut finds are counted from the first event that is left, and they are the same
 /// when all have met once more.
-fn counts_from_the_cut<T: Turn<Book, Rule> + Drop, R: Abort + Wait + AllocGlobal>(
-    rt: &R,
-) -> Result<(), Refused>
-    requires { T.ENTRIES ≤ 2 ^ 40 }
-{
-    let mut crew = opened::<T>(rt.alloc(), [2, 1, 1, 0, 0])?;
-    go(
-        &mut crew,
-        rt,
-        &[
-            Does(0, Arrive),
-            Does(1, Arrive),
-            Does(1, Cut),
-            Does(0, Take),
-            Does(1, Take),
-            Does(0, Store(0, 1)),
-            Does(1, Store(0, 2)),
-            Does(1, Arrive),
-            Does(0, Arrive),
-            Refuses(1, Cut, Refused::Racy(2, 4)),
-            Does(0, Take),
-            Does(1, Take),
-            Does(0, Arrive),
-            Does(1, Arrive),
-            Refuses(0, Cut, Refused::Racy(2, 4)),
-        ],
-    )?;
-    let wanted = [
-        did(0, Kind::Depart),
-        did(1, Kind::Depart),
-        did(1, Kind::Store(0, 2)),
-        did(1, Kind::Arrive),
-        did(0, Kind::Store(0, 1)),
-        did(0, Kind::Arrive),
-        did(0, Kind::Depart),
-        did(1, Kind::Depart),
-        did(0, Kind::Arrive),
-        did(1, Kind::Arrive),
-    ];
-    let journal = crew.finish();
-    assert!(rt; was_cut(&journal, 2, &[0]));
-    assert!(rt; has_events(&journal, &wanted));
-    Ok(())
-}
+const A_LATER_RACE: Row = Row {
+    sizes: [2, 1, 1, 0, 0],
+    steps: &[
+        Does(0, Arrive),
+        Does(1, Arrive),
+        Does(1, Cut),
+        Does(0, Take),
+        Does(1, Take),
+        Does(0, Store(0, 1)),
+        Does(1, Store(0, 2)),
+        Does(1, Arrive),
+        Does(0, Arrive),
+        Refuses(1, Cut, Refused::Racy(2, 4)),
+        Does(0, Take),
+        Does(1, Take),
+        Does(0, Arrive),
+        Does(1, Arrive),
+        Refuses(0, Cut, Refused::Racy(2, 4)),
+    ],
+    auditor: None,
+    cut: 2,
+    base: &[0],
+    events: &[
+        (0, Kind::Depart),
+        (1, Kind::Depart),
+        (1, Kind::Store(0, 2)),
+        (1, Kind::Arrive),
+        (0, Kind::Store(0, 1)),
+        (0, Kind::Arrive),
+        (0, Kind::Depart),
+        (1, Kind::Depart),
+        (0, Kind::Arrive),
+        (1, Kind::Arrive),
+    ],
+};
 
 #[test]
 fn a_race_is_placed_in_what_is_left(rt: HostRuntime) -> Result<(), Fail> {
-    counts_from_the_cut::<BookLock, _>(&rt)?;
-    counts_from_the_cut::<TicketBookLock, _>(&rt)?;
+    with_both(&rt, &A_LATER_RACE)?;
     Ok(())
 }
 
 /// A cut while a lock is held, one is asked for, a flag is set, one is watched, and one has yet to depart, which lacks
-/// what was stored before the cut.
-fn cuts_amid<T: Turn<Book, Rule>, R: Abort + Wait + AllocGlobal>(
-    crew: &mut Crew<T>,
-    rt: &R,
-) -> Result<(), Refused> {
-    go(
-        crew,
-        rt,
-        &[
-            Does(0, Ask(0)),
-            Does(0, Take),
-            Does(0, Store(0, 1)),
-            Does(1, Store(1, 5)),
-            Does(1, Set(0)),
-            Does(0, Arrive),
-            Does(1, Arrive),
-            Does(2, Arrive),
-            Does(1, Take),
-            Does(1, Ask(0)),
-            Does(2, Take),
-            Does(2, Watch(1)),
-            Does(2, Cut),
-            Refuses(2, Cut, Refused::NoEpisode),
-            Refuses(1, Take, Refused::NotYet),
-            Refuses(2, Take, Refused::NotYet),
-            Holds(0, 0, true),
-        ],
-    )
-}
-
-/// What was asked for, watched and owed before the cut comes after it.
-fn goes_on_after<T: Turn<Book, Rule>, R: Abort + Wait + AllocGlobal>(
-    crew: &mut Crew<T>,
-    rt: &R,
-) -> Result<(), Refused> {
-    go(
-        crew,
-        rt,
-        &[
-            Does(0, Take),
-            IsStale(0, 1),
-            Does(0, Fetch(1)),
-            Loads(0, 1, 5),
-            Does(0, Store(0, 2)),
-            Does(0, Release(0)),
-            Does(1, Take),
-            Holds(1, 0, true),
-            Does(1, Fetch(0)),
-            Loads(1, 0, 2),
-            Does(0, Watch(0)),
-            Does(0, Take),
-            Does(0, Set(1)),
-            Does(2, Take),
-            Does(2, Fetch(0)),
-            Loads(2, 0, 2),
-            Does(1, Release(0)),
-        ],
-    )
-}
-
-fn cuts_twice<T: Turn<Book, Rule> + Drop, R: Abort + Wait + AllocGlobal>(
-    rt: &R,
-) -> Result<(), Refused>
-    requires { T.ENTRIES ≤ 2 ^ 40 }
-{
-    let mut crew = opened::<T>(rt.alloc(), [3, 2, 1, 1, 2])?;
-    cuts_amid(&mut crew, rt)?;
-    goes_on_after(&mut crew, rt)?;
-    go(
-        &mut crew,
-        rt,
-        &[
-            Refuses(0, Cut, Refused::NoEpisode),
-            Does(0, Arrive),
-            Does(1, Arrive),
-            Does(2, Arrive),
-            Does(0, Cut),
-            Does(0, Take),
-        ],
-    )?;
-    let journal = crew.finish();
-    assert!(rt; was_cut(&journal, 30, &[2, 5]));
-    assert!(rt; has_events(&journal, &[did(0, Kind::Depart)]));
-    Ok(())
-}
+/// what was stored before the cut; then what was asked for, watched and owed comes, and a second cut.
+const TWO_CUTS: Row = Row {
+    sizes: [3, 2, 1, 1, 2],
+    steps: &[
+        Does(0, Ask(0)),
+        Does(0, Take),
+        Does(0, Store(0, 1)),
+        Does(1, Store(1, 5)),
+        Does(1, Set(0)),
+        Does(0, Arrive),
+        Does(1, Arrive),
+        Does(2, Arrive),
+        Does(1, Take),
+        Does(1, Ask(0)),
+        Does(2, Take),
+        Does(2, Watch(1)),
+        Does(2, Cut),
+        Refuses(2, Cut, Refused::NoEpisode),
+        Refuses(1, Take, Refused::NotYet),
+        Refuses(2, Take, Refused::NotYet),
+        Holds(0, 0, true),
+        Does(0, Take),
+        IsStale(0, 1),
+        Does(0, Fetch(1)),
+        Loads(0, 1, 5),
+        Does(0, Store(0, 2)),
+        Does(0, Release(0)),
+        Does(1, Take),
+        Holds(1, 0, true),
+        Does(1, Fetch(0)),
+        Loads(1, 0, 2),
+        Does(0, Watch(0)),
+        Does(0, Take),
+        Does(0, Set(1)),
+        Does(2, Take),
+        Does(2, Fetch(0)),
+        Loads(2, 0, 2),
+        Does(1, Release(0)),
+        Refuses(0, Cut, Refused::NoEpisode),
+        Does(0, Arrive),
+        Does(1, Arrive),
+        Does(2, Arrive),
+        Does(0, Cut),
+        Does(0, Take),
+    ],
+    auditor: None,
+    cut: 30,
+    base: &[2, 5],
+    events: &[(0, Kind::Depart)],
+};
 
 #[test]
 fn a_cut_leaves_locks_and_flags(rt: HostRuntime) -> Result<(), Fail> {
-    cuts_twice::<BookLock, _>(&rt)?;
-    cuts_twice::<TicketBookLock, _>(&rt)?;
+    with_both(&rt, &TWO_CUTS)?;
     Ok(())
 }

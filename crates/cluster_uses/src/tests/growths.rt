@@ -96,78 +96,82 @@ fn waiting_processors_are_dropped(rt: HostRuntime) -> Result<(), Fail> {
 }
 
 /// Two locks bring one processor two stores to a word, and all three meet.
-fn brings_two<T: Turn<Book, Rule> + Drop, R: Abort + Wait + AllocGlobal>(
-    rt: &R,
-) -> Result<Journal, Refused>
-    requires { T.ENTRIES ≤ 2 ^ 40 }
-{
-    let mut crew = opened::<T>(rt.alloc(), [3, 1, 1, 2, 0])?;
-    go(
-        &mut crew,
-        rt,
-        &[
-            Does(1, Ask(1)),
-            Does(1, Take),
-            Does(1, Store(0, 1)),
-            Does(1, Release(1)),
-            Does(0, Ask(0)),
-            Does(0, Take),
-            Does(0, Store(0, 2)),
-            Does(0, Release(0)),
-            Does(2, Ask(0)),
-            Does(2, Take),
-            Does(2, Ask(1)),
-            Does(2, Take),
-            Does(2, Fetch(0)),
-            Loads(2, 0, 2),
-            HasTime(2, &[2, 2, 2]),
-            Does(2, Audit),
-            Does(0, Arrive),
-            Does(1, Arrive),
-            Does(2, Arrive),
-            Does(0, Take),
-            Does(1, Take),
-            Does(2, Take),
-            IsStale(0, 0),
-            Does(0, Fetch(0)),
-            HasPage(2, 0, &[2]),
-            HasTime(0, &[3, 3, 3]),
-        ],
-    )?;
-    Ok(crew.finish())
-}
-
-/// Whether the journal is that of this list.
-fn is_brought(journal: &Journal) -> bool {
-    let wanted = [
-        did(1, Kind::Ask(1)),
-        did(1, Kind::Acquire(1)),
-        did(1, Kind::Store(0, 1)),
-        did(1, Kind::Release(1)),
-        did(0, Kind::Ask(0)),
-        did(0, Kind::Acquire(0)),
-        did(0, Kind::Store(0, 2)),
-        did(0, Kind::Release(0)),
-        did(2, Kind::Ask(0)),
-        did(2, Kind::Acquire(0)),
-        did(2, Kind::Ask(1)),
-        did(2, Kind::Acquire(1)),
-        fetched(2, 0, 2, 2, 2),
-        did(2, Kind::Load(0, 2)),
-        did(0, Kind::Arrive),
-        did(1, Kind::Arrive),
-        did(2, Kind::Arrive),
-        did(0, Kind::Depart),
-        did(1, Kind::Depart),
-        did(2, Kind::Depart),
-        fetched(0, 0, 1, 1, 1),
-    ];
-    has_events(journal, &wanted)
-}
+const TWO_LOCKS: Row = Row {
+    sizes: [3, 1, 1, 2, 0],
+    steps: &[
+        Does(1, Ask(1)),
+        Does(1, Take),
+        Does(1, Store(0, 1)),
+        Does(1, Release(1)),
+        Does(0, Ask(0)),
+        Does(0, Take),
+        Does(0, Store(0, 2)),
+        Does(0, Release(0)),
+        Does(2, Ask(0)),
+        Does(2, Take),
+        Does(2, Ask(1)),
+        Does(2, Take),
+        Does(2, Fetch(0)),
+        Loads(2, 0, 2),
+        HasTime(2, &[2, 2, 2]),
+        Does(2, Audit),
+        Does(0, Arrive),
+        Does(1, Arrive),
+        Does(2, Arrive),
+        Does(0, Take),
+        Does(1, Take),
+        Does(2, Take),
+        IsStale(0, 0),
+        Does(0, Fetch(0)),
+        HasPage(2, 0, &[2]),
+        HasTime(0, &[3, 3, 3]),
+    ],
+    auditor: None,
+    cut: 0,
+    base: &[0],
+    events: &[
+        (1, Kind::Ask(1)),
+        (1, Kind::Acquire(1)),
+        (1, Kind::Store(0, 1)),
+        (1, Kind::Release(1)),
+        (0, Kind::Ask(0)),
+        (0, Kind::Acquire(0)),
+        (0, Kind::Store(0, 2)),
+        (0, Kind::Release(0)),
+        (2, Kind::Ask(0)),
+        (2, Kind::Acquire(0)),
+        (2, Kind::Ask(1)),
+        (2, Kind::Acquire(1)),
+        (
+            2,
+            Kind::Fetch {
+                page: 0,
+                writers: 2,
+                records: 2,
+                words: 2,
+            },
+        ),
+        (2, Kind::Load(0, 2)),
+        (0, Kind::Arrive),
+        (1, Kind::Arrive),
+        (2, Kind::Arrive),
+        (0, Kind::Depart),
+        (1, Kind::Depart),
+        (2, Kind::Depart),
+        (
+            0,
+            Kind::Fetch {
+                page: 0,
+                writers: 1,
+                records: 1,
+                words: 1,
+            },
+        ),
+    ],
+};
 
 #[test]
 fn two_locks_bring_two_stores(rt: HostRuntime) -> Result<(), Fail> {
-    assert!(rt; is_brought(&brings_two::<BookLock, _>(&rt)?));
-    assert!(rt; is_brought(&brings_two::<TicketBookLock, _>(&rt)?));
+    with_both(&rt, &TWO_LOCKS)?;
     Ok(())
 }
