@@ -1,7 +1,7 @@
 -- A call of one processor keeps what the book's lock keeps, whatever the others have seen.
 use Rattle.std.proofs.Common.{ℕ, ◌≡◌, ◌≢◌, ◌≤◌, ◌+◌, Some, List, [], ◌∷◌, ◌++◌, drop, length, slice_get, slice_set, inl, inr, refl, sym, ap, subst, ◌∙◌, append_assoc, append-nil, arith}
 use Rattle.std.proofs.lemmas.Bool.{cases_eq}
-use Rattle.std.proofs.lemmas.Option.{none-some}
+use Rattle.std.proofs.lemmas.Option.{none-some, slice_get_within}
 use Rattle.std.proofs.lemmas.List.{length-append, length-set}
 use Rattle.std.proofs.Math.Seq.{drop-append_seam}
 use Rattle.journal.specs.declared.event.Event.{Event}
@@ -17,7 +17,7 @@ use Rattle.journal.proofs.Copies.Loads.{explained_push}
 use Rattle.journal.proofs.Missing.Counted.{counted_push}
 use Rattle.lists.specs.Limits.{most_events}
 use Rattle.lists.proofs.Places.{append_cases, push_cases}
-use Rattle.lists.proofs.Sets.{slice_get-set_found, slice_get-set_other}
+use Rattle.lists.proofs.Sets.{slice_get-set_found, slice_get-set_other, slice_get-set_same}
 use Rattle.book.specs.State.{State}
 use Rattle.book.specs.Told.{IsTold}
 use Rattle.book.specs.Transitions.{handed_in}
@@ -28,6 +28,7 @@ use Rattle.cluster.specs.declared.keeper.View.{View}
 use Rattle.cluster.specs.Kept.{GoesOn, IsKept, Kept, Sees, added, view_of}
 use Rattle.cluster.specs.Covers.{IsCovered}
 use Rattle.cluster.specs.Entering.{Finds, IsCallOf}
+use Rattle.cluster.specs.Laws.{SeenLaw}
 use Rattle.cluster.proofs.Covering.{covered_on}
 use Rattle.cluster.proofs.Finding.{may_give}
 
@@ -62,8 +63,8 @@ module _ (s : Sizes) (h : List Event) (b : State) (views : List View) (kept : Is
     | inr other ↦ (let le = kept.behind q x (sym (slice_get-set_other views p q (view_of s (h ++ es) cut) other) ∙ found) in omega arith)
   ]
 
-  pub kept_on : (c : State) → IsTold s (h ++ es) c → Explained (h ++ es) → AreCounted s (h ++ es) → length c.journal.events ≤ most_events → c.journal.room ≡ b.journal.room → b.journal.base.cut ≤ c.journal.base.cut → cut ≤ c.journal.base.cut → IsKept s (h ++ es) c (slice_set views p (view_of s (h ++ es) cut))
-  kept_on c told explained counted few room more mine = record {
+  pub kept_on : (x : View) → slice_get views p ≡ Some x → (c : State) → IsTold s (h ++ es) c → Explained (h ++ es) → AreCounted s (h ++ es) → length c.journal.events ≤ most_events → c.journal.room ≡ b.journal.room → b.journal.base.cut ≤ c.journal.base.cut → cut ≤ c.journal.base.cut → IsKept s (h ++ es) c (slice_set views p (view_of s (h ++ es) cut))
+  kept_on x at c told explained counted few room more mine = record {
     told = told;
     explained = explained;
     counted = counted;
@@ -71,6 +72,7 @@ module _ (s : Sizes) (h : List Event) (b : State) (views : List View) (kept : Is
     all = length-set views p (view_of s (h ++ es) cut) ∙ kept.all;
     each = goes_on;
     behind = behind_on c.journal.base.cut more mine;
+    whole = (let now = view_of s (h ++ es) cut in (p, now, slice_get-set_same views p now (slice_get_within views p x at), refl));
     owing = room ∙ kept.owing;
   }
 
@@ -86,7 +88,7 @@ finds m b views at fact =
 
 -- the call keeps the fact
 pub call_kept : (m : Local) (old : State) (es : List Event) (new : State) → IsCallOf m old es new → (f : Finds m old) → IsKept m.sizes ((m.seen ++ f.rest) ++ es) new (slice_set f.views m.number (view_of m.sizes ((m.seen ++ f.rest) ++ es) new.journal.base.cut))
-call_kept m old es new call f = kept_on m.sizes (m.seen ++ f.rest) old f.views f.kept m.number es call.mine new.journal.base.cut new (call.told f) (call.explained f) (call.counted f) (call.few f) call.room call.more (omega arith)
+call_kept m old es new call f = kept_on m.sizes (m.seen ++ f.rest) old f.views f.kept m.number es call.mine new.journal.base.cut (view_of m.sizes m.seen m.cut) f.at new (call.told f) (call.explained f) (call.counted f) (call.few f) call.room call.more (omega arith)
 
 -- so p may leave the new book
 pub may_leave : (m : Local) (old : State) (es : List Event) (new : State) → IsCallOf m old es new → (views : List View) → slice_get views m.number ≡ Some (view_of m.sizes m.seen m.cut) → Kept old views → (w : View) × Sees old new m.number (view_of m.sizes m.seen m.cut) w × Kept new (slice_set views m.number w)
@@ -105,6 +107,10 @@ may_leave m old es new call views at fact =
       },
       (m.sizes, h, call_kept m old es new call f),
     )
+
+-- so the longest that was seen is the whole history
+pub seen_law : SeenLaw
+seen_law b views fact = (fact.1, record { holds = fact.2.told.holds; whole = fact.2.whole; begins = λ p v at. (let goes = fact.2.each p v at in (goes.rest, goes.begins)) })
 
 -- a journal that goes on with these events
 adds_events : (old new : Log) (es : List Event) → new.events ≡ old.events ++ es → added old new ≡ es

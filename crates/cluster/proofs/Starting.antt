@@ -83,6 +83,7 @@ start_kept s some = record {
   all = length-replicate s.processors (nothing_seen s);
   each = λ p v at. subst (GoesOn s [] p) (slice_get-replicate_found s.processors (nothing_seen s) v p at) (record { shape = refl; rest = []; begins = refl; away = λ k e at. absurd (none-some e at) });
   behind = λ p v at. subst (λ (x : View). x.cut ≤ 0) (slice_get-replicate_found s.processors (nothing_seen s) v p at) (omega arith);
+  whole = (0, nothing_seen s, slice_get-replicate s.processors (nothing_seen s) 0 some, refl);
   owing = refl;
 }
 
