@@ -64,7 +64,7 @@ module _ (m : Local) (b new : State) (was : WasBookCut b new) where
   }
 
 -- whatever the book answers
-pub call_of_cutting : (m : Local) (b new : State) (r : Result (Unit {0}) CutFault) → OnOk r (WasBookCut b new) → OnErr r (new ≡ b) → (es : List Event) × IsCallOf m b es new
+pub call_of_cutting : {E : Type 0} (m : Local) (b new : State) (r : Result (Unit {0}) E) → OnOk r (WasBookCut b new) → OnErr r (new ≡ b) → (es : List Event) × IsCallOf m b es new
 call_of_cutting m b new (Ok a) ok err = ([], call_of_cut m b new ok)
 call_of_cutting m b new (Err e) ok err = ([], rw err (call_of_nothing m b))
 

@@ -26,16 +26,16 @@ give_book-requires-clause-call g c κs within =
     let x = c.processor.inside in
     let was = local x.chair x.number x.shape x.block.items x.replicas.items x.stored x.time x.held.items x.awaits in
     let inside = inside_of x.chair c.take_book.new.chair was c.in_ok-held.held c.in_ok-held.book c.in_ok-held.ensures.entered c.processor.invariant.1 (refl, refl) in
-    let made = c.cut-result.ensures in
-    let call = call_of_cutting was c.in_ok-held.book c.cut-result.new.self c.cut-result.result made.ok made.err in
+    let made = c.cut_off-result.ensures in
+    let call = call_of_cutting was c.in_ok-held.book c.cut_off-result.new.book c.cut_off-result.result made.ok made.err in
     (was, c.in_ok-held.book, call.0, inside, c.in_ok-held.ensures.entered.inside, call.1)
 
 pub invariant_of-processor-in_err-result : goal.invariant_of-processor-in_err-result
 invariant_of-processor-in_err-result g c =
     let x = c.processor.inside in
     let was = local x.chair x.number x.shape x.block.items x.replicas.items x.stored x.time x.held.items x.awaits in
-    let visit = visit_left was x.chair c.take_book.new.chair c.give_book.new.chair c.in_ok-held.held c.in_ok-held.book c.cut-result.new.self c.in_ok-held.ensures.entered c.give_book.ensures.seen c.processor.invariant.1 c.processor.invariant.0 refl refl (refl, refl) in
-    let seen_then = seen_left was x.chair c.take_book.new.chair c.give_book.new.chair c.in_ok-held.held c.in_ok-held.book c.cut-result.new.self c.in_ok-held.ensures.entered c.give_book.ensures.seen c.processor.invariant.1 c.processor.invariant.0 refl refl (refl, refl) in
+    let visit = visit_left was x.chair c.take_book.new.chair c.give_book.new.chair c.in_ok-held.held c.in_ok-held.book c.cut_off-result.new.book c.in_ok-held.ensures.entered c.give_book.ensures.seen c.processor.invariant.1 c.processor.invariant.0 refl refl (refl, refl) in
+    let seen_then = seen_left was x.chair c.take_book.new.chair c.give_book.new.chair c.in_ok-held.held c.in_ok-held.book c.cut_off-result.new.book c.in_ok-held.ensures.entered c.give_book.ensures.seen c.processor.invariant.1 c.processor.invariant.0 refl refl (refl, refl) in
     let sees = subst (λ (n : State). HasSeen visit n c.give_book.new.chair) c.in_err-result.ensures.err seen_then in (
       unchanged_sound visit c.give_book.new.chair c.give_book.ensures.left x.replicas.items (alike_all x.replicas.items) sees,
       unchanged_seated visit c.give_book.new.chair c.give_book.ensures.left x.replicas.items (alike_all x.replicas.items) sees,
@@ -46,29 +46,29 @@ pub returns-in_err-result : goal.returns-in_err-result
 returns-in_err-result g c =
     let x = c.processor.inside in
     let was = local x.chair x.number x.shape x.block.items x.replicas.items x.stored x.time x.held.items x.awaits in
-    let visit = visit_left was x.chair c.take_book.new.chair c.give_book.new.chair c.in_ok-held.held c.in_ok-held.book c.cut-result.new.self c.in_ok-held.ensures.entered c.give_book.ensures.seen c.processor.invariant.1 c.processor.invariant.0 refl refl (refl, refl) in
-    let seen_then = seen_left was x.chair c.take_book.new.chair c.give_book.new.chair c.in_ok-held.held c.in_ok-held.book c.cut-result.new.self c.in_ok-held.ensures.entered c.give_book.ensures.seen c.processor.invariant.1 c.processor.invariant.0 refl refl (refl, refl) in
+    let visit = visit_left was x.chair c.take_book.new.chair c.give_book.new.chair c.in_ok-held.held c.in_ok-held.book c.cut_off-result.new.book c.in_ok-held.ensures.entered c.give_book.ensures.seen c.processor.invariant.1 c.processor.invariant.0 refl refl (refl, refl) in
+    let seen_then = seen_left was x.chair c.take_book.new.chair c.give_book.new.chair c.in_ok-held.held c.in_ok-held.book c.cut_off-result.new.book c.in_ok-held.ensures.entered c.give_book.ensures.seen c.processor.invariant.1 c.processor.invariant.0 refl refl (refl, refl) in
     let sees = subst (λ (n : State). HasSeen visit n c.give_book.new.chair) c.in_err-result.ensures.err seen_then in
     let answer = err_from_is_err_and c.from_residual-in_err-result.result c.from_residual-in_err-result.ensures.1 in
-    let e = c.in_err-result.field-0.0 in
+    let why = c.in_err-result.ensures.fault in
     let free : flush_refusal was ≡ None = rw (not_spent visit) refl in
-    rw (answer.1, answer.2, ← c.processor.view_is) (uncut_ends visit c.give_book.new.chair c.give_book.ensures.left sees e c.in_err-result.ensures.fault free)
+    rw (answer.1, answer.2, why.1, ← c.processor.view_is) (uncut_ends visit c.give_book.new.chair c.give_book.ensures.left sees why.0 why.2 free)
 
 pub invariant_of-processor-2 : goal.invariant_of-processor-2
 invariant_of-processor-2 g c =
     let x = c.processor.inside in
     let was = local x.chair x.number x.shape x.block.items x.replicas.items x.stored x.time x.held.items x.awaits in
-    let visit = visit_left was x.chair c.take_book.new.chair c.give_book.new.chair c.in_ok-held.held c.in_ok-held.book c.cut-result.new.self c.in_ok-held.ensures.entered c.give_book.ensures.seen c.processor.invariant.1 c.processor.invariant.0 refl refl (refl, refl) in
-    let seen_then = seen_left was x.chair c.take_book.new.chair c.give_book.new.chair c.in_ok-held.held c.in_ok-held.book c.cut-result.new.self c.in_ok-held.ensures.entered c.give_book.ensures.seen c.processor.invariant.1 c.processor.invariant.0 refl refl (refl, refl) in
-    let ends = cut_ends visit c.give_book.new.chair c.give_book.ensures.left c.cut-result.new.self c.in_ok-result.ensures.ok seen_then in
+    let visit = visit_left was x.chair c.take_book.new.chair c.give_book.new.chair c.in_ok-held.held c.in_ok-held.book c.cut_off-result.new.book c.in_ok-held.ensures.entered c.give_book.ensures.seen c.processor.invariant.1 c.processor.invariant.0 refl refl (refl, refl) in
+    let seen_then = seen_left was x.chair c.take_book.new.chair c.give_book.new.chair c.in_ok-held.held c.in_ok-held.book c.cut_off-result.new.book c.in_ok-held.ensures.entered c.give_book.ensures.seen c.processor.invariant.1 c.processor.invariant.0 refl refl (refl, refl) in
+    let ends = cut_ends visit c.give_book.new.chair c.give_book.ensures.left c.cut_off-result.new.book c.in_ok-result.ensures.ok seen_then in
     (ends.0, ends.1, c.processor.invariant.2)
 
 pub returns : goal.returns
 returns g c =
     let x = c.processor.inside in
     let was = local x.chair x.number x.shape x.block.items x.replicas.items x.stored x.time x.held.items x.awaits in
-    let visit = visit_left was x.chair c.take_book.new.chair c.give_book.new.chair c.in_ok-held.held c.in_ok-held.book c.cut-result.new.self c.in_ok-held.ensures.entered c.give_book.ensures.seen c.processor.invariant.1 c.processor.invariant.0 refl refl (refl, refl) in
-    let seen_then = seen_left was x.chair c.take_book.new.chair c.give_book.new.chair c.in_ok-held.held c.in_ok-held.book c.cut-result.new.self c.in_ok-held.ensures.entered c.give_book.ensures.seen c.processor.invariant.1 c.processor.invariant.0 refl refl (refl, refl) in
-    let ends = cut_ends visit c.give_book.new.chair c.give_book.ensures.left c.cut-result.new.self c.in_ok-result.ensures.ok seen_then in
+    let visit = visit_left was x.chair c.take_book.new.chair c.give_book.new.chair c.in_ok-held.held c.in_ok-held.book c.cut_off-result.new.book c.in_ok-held.ensures.entered c.give_book.ensures.seen c.processor.invariant.1 c.processor.invariant.0 refl refl (refl, refl) in
+    let seen_then = seen_left was x.chair c.take_book.new.chair c.give_book.new.chair c.in_ok-held.held c.in_ok-held.book c.cut_off-result.new.book c.in_ok-held.ensures.entered c.give_book.ensures.seen c.processor.invariant.1 c.processor.invariant.0 refl refl (refl, refl) in
+    let ends = cut_ends visit c.give_book.new.chair c.give_book.ensures.left c.cut_off-result.new.book c.in_ok-result.ensures.ok seen_then in
     let free : flush_refusal was ≡ None = rw (not_spent visit) refl in
     rw (← c.processor.view_is) (ends.2 free)
