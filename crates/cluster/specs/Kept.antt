@@ -61,8 +61,8 @@ Kept b views = (s : Sizes) × (h : List Event) × IsKept s h b views
 abbrev pub added : Log → Log → List Event
 added old new = drop (length old.events) new.events
 
--- who found this book, with its view at place p, and leaves the new one, has seen a history that was kept there, and the
--- events that the new book has beyond it
+-- who found this book, with its view at place p, and leaves the new one, has seen a history that was kept there, and
+-- the events that the new book has beyond it
 pub record Sees (found left : State) (p : ℕ) (old new : View) : Type 0 where
   pub history : List Event
   pub views : List View
