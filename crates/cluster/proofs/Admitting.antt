@@ -10,7 +10,8 @@ use Rattle.cluster.specs.Refusals.{first_due, is_waiting, has_lock, arrive_test,
 use Rattle.cluster.specs.Closing.{MayMake}
 
 -- where no reason applies, the first doesn't, and none of the others
-none_due : (b : Bool) (e : Refused) (rs : List (Bool × Refused)) → first_due ((b, e) ∷ rs) ≡ None → (b ≡ false) × (first_due rs ≡ None)
+none_due : (b : Bool) (e : Refused) (rs : List (Bool × Refused)) → first_due ((b, e) ∷ rs) ≡ None
+    → (b ≡ false) × (first_due rs ≡ None)
 none_due true e rs none = absurd (none-some e (sym none))
 none_due false e rs none = (refl, none)
 
@@ -26,7 +27,8 @@ module _ (m : Local) (l : ℕ) where
   -- an ask
   pub may_ask : ask_test m l ≡ None → MayMake m (Ask l)
   may_ask none =
-      let a = none_due (nat_le m.sizes.locks l) BadLock ((is_waiting m, Waiting) ∷ (has_lock m l, AlreadyHeld) ∷ []) none in
+      let a =
+      none_due (nat_le m.sizes.locks l) BadLock ((is_waiting m, Waiting) ∷ (has_lock m l, AlreadyHeld) ∷ []) none in
       let b = none_due (is_waiting m) Waiting ((has_lock m l, AlreadyHeld) ∷ []) a.1 in
       let c = none_due (has_lock m l) AlreadyHeld [] b.1 in
       record { closes = refl; in_range = leb-false m.sizes.locks l a.0; idle = not_some m.awaits b.0; held = c.0 }
@@ -34,10 +36,17 @@ module _ (m : Local) (l : ℕ) where
   -- a release
   pub may_release : release_test m l ≡ None → MayMake m (Release l)
   may_release none =
-      let a = none_due (nat_le m.sizes.locks l) BadLock ((is_waiting m, Waiting) ∷ (not (has_lock m l), NotHeld) ∷ []) none in
+      let a =
+      none_due (nat_le m.sizes.locks l) BadLock ((is_waiting m, Waiting) ∷ (not (has_lock m l), NotHeld) ∷ [])
+      none in
       let b = none_due (is_waiting m) Waiting ((not (has_lock m l), NotHeld) ∷ []) a.1 in
       let c = none_due (not (has_lock m l)) NotHeld [] b.1 in
-      record { closes = refl; in_range = leb-false m.sizes.locks l a.0; idle = not_some m.awaits b.0; held = not-false (has_lock m l) c.0 }
+      record {
+        closes = refl;
+        in_range = leb-false m.sizes.locks l a.0;
+        idle = not_some m.awaits b.0;
+        held = not-false (has_lock m l) c.0;
+      }
 
   flag_free : flag_test m l ≡ None → (l < m.sizes.flags) × (m.awaits ≡ None)
   flag_free none =

@@ -20,14 +20,17 @@ use Rattle.cluster.proofs.FinishingCalls.{mapped_at}
 use Rattle.cluster.proofs.Histories.{faithful, journal_of}
 
 -- one more is taken apart
-pub apart_more : (ms : List Local) (cs : List (ChairToken State View)) (bs : List (List Event)) (m : Local) (c : ChairToken State View) (b : List Event) → AreApart ms cs bs → IsApart m c b → AreApart (ms ++ m ∷ []) (cs ++ c ∷ []) (bs ++ b ∷ [])
+pub apart_more : (ms : List Local) (cs : List (ChairToken State View)) (bs : List (List Event)) (m : Local)
+    (c : ChairToken State View) (b : List Event) → AreApart ms cs bs → IsApart m c b
+    → AreApart (ms ++ m ∷ []) (cs ++ c ∷ []) (bs ++ b ∷ [])
 apart_more ms cs bs m c b are one = record {
   chairs = let x = length_push cs c in let y = length_push ms m in let z = are.chairs in omega arith;
   blocks_are = let x = length_push bs b in let y = length_push ms m in let z = are.blocks_are in omega arith;
   each = each;
 }
   where
-    each : (p : ℕ) (n : Local) (d : ChairToken State View) (block : List Event) → slice_get (ms ++ m ∷ []) p ≡ Some n → slice_get (cs ++ c ∷ []) p ≡ Some d → slice_get (bs ++ b ∷ []) p ≡ Some block → IsApart n d block
+    each : (p : ℕ) (n : Local) (d : ChairToken State View) (block : List Event) → slice_get (ms ++ m ∷ []) p ≡ Some n
+        → slice_get (cs ++ c ∷ []) p ≡ Some d → slice_get (bs ++ b ∷ []) p ≡ Some block → IsApart n d block
     each p n d block u v w = go (push_cases ms m p n u) (push_cases cs c p d v) (push_cases bs b p block w)
       where
         chairs : length cs ≡ length ms
@@ -36,15 +39,20 @@ apart_more ms cs bs m c b are one = record {
         blocks : length bs ≡ length ms
         blocks = are.blocks_are
 
-        go : ((p < length ms) × (slice_get ms p ≡ Some n)) ⊎ ((p ≡ length ms) × (m ≡ n)) → ((p < length cs) × (slice_get cs p ≡ Some d)) ⊎ ((p ≡ length cs) × (c ≡ d)) → ((p < length bs) × (slice_get bs p ≡ Some block)) ⊎ ((p ≡ length bs) × (b ≡ block)) → IsApart n d block
+        go : ((p < length ms) × (slice_get ms p ≡ Some n)) ⊎ ((p ≡ length ms) × (m ≡ n))
+            → ((p < length cs) × (slice_get cs p ≡ Some d)) ⊎ ((p ≡ length cs) × (c ≡ d))
+            → ((p < length bs) × (slice_get bs p ≡ Some block)) ⊎ ((p ≡ length bs) × (b ≡ block)) → IsApart n d block
         go (inl x) (inl y) (inl z) = are.each p n d block x.1 y.1 z.1
-        go (inr x) (inr y) (inr z) = subst (λ (k : Local). IsApart k d block) x.1 (subst₂ (λ (k : ChairToken State View) (l : List Event). IsApart m k l) y.1 z.1 one)
+        go (inr x) (inr y) (inr z) =
+            subst (λ (k : Local). IsApart k d block) x.1
+            (subst₂ (λ (k : ChairToken State View) (l : List Event). IsApart m k l) y.1 z.1 one)
         go (inl x) (inr y) z = let less = x.0 in let same = y.0 in absurd (omega (arith, less, same, chairs))
         go (inl x) (inl y) (inr z) = let less = x.0 in let same = z.0 in absurd (omega (arith, less, same, blocks))
         go (inr x) (inl y) z = let less = y.0 in let same = x.0 in absurd (omega (arith, less, same, chairs))
         go (inr x) (inr y) (inl z) = let less = z.0 in let same = x.0 in absurd (omega (arith, less, same, blocks))
 
-module _ (c : Shared) (ms : List Local) (cs : List (ChairToken State View)) (bs : List (List Event)) (all : AreAllOf c ms) (are : AreApart ms cs bs) where
+module _ (c : Shared) (ms : List Local) (cs : List (ChairToken State View)) (bs : List (List Event))
+    (all : AreAllOf c ms) (are : AreApart ms cs bs) where
   -- the parts of the processor at this place
   record Parts (p : ℕ) (m : Local) : Type 0 where
     pub chair : ChairToken State View
@@ -53,7 +61,8 @@ module _ (c : Shared) (ms : List Local) (cs : List (ChairToken State View)) (bs 
     pub block : List Event
     pub block_at : slice_get bs p ≡ Some block
 
-  spare_chair : (xs : List (ChairToken State View)) (p : ℕ) → p < length xs → (d : ChairToken State View) × (slice_get xs p ≡ Some d)
+  spare_chair : (xs : List (ChairToken State View)) (p : ℕ) → p < length xs
+      → (d : ChairToken State View) × (slice_get xs p ≡ Some d)
   spare_chair [] p within = absurd (omega (arith, within))
   spare_chair (x ∷ xs) p within = (slice_index_or (x ∷ xs) p x, slice_get-get_or (x ∷ xs) p x within)
 
@@ -64,7 +73,13 @@ module _ (c : Shared) (ms : List Local) (cs : List (ChairToken State View)) (bs 
       let blocks = are.blocks_are in
       let chair = spare_chair cs p (omega arith) in
       let there = slice_get-get_or bs p [] (omega arith) in
-      record { chair = chair.0; at = chair.1; apart = λ block here. are.each p m chair.0 block at chair.1 here; block = slice_index_or bs p []; block_at = there }
+      record {
+        chair = chair.0;
+        at = chair.1;
+        apart = λ block here. are.each p m chair.0 block at chair.1 here;
+        block = slice_index_or bs p [];
+        block_at = there;
+      }
 
   spare_local : (xs : List Local) (p : ℕ) → p < length xs → (m : Local) × (slice_get xs p ≡ Some m)
   spare_local [] p within = absurd (omega (arith, within))
@@ -74,7 +89,8 @@ module _ (c : Shared) (ms : List Local) (cs : List (ChairToken State View)) (bs 
   pub all_chairs : (n : ℕ) → n ≡ c.sizes.processors → AreAll c.lock n cs
   all_chairs n same = (are.chairs ∙ all.all ∙ sym same, each)
     where
-      each : (p : ℕ) (d : ChairToken State View) → slice_get cs p ≡ Some d → (lock d ≡ c.lock) × (place d ≡ p) × IsOutside d
+      each : (p : ℕ) (d : ChairToken State View) → slice_get cs p ≡ Some d
+          → (lock d ≡ c.lock) × (place d ≡ p) × IsOutside d
       each p d at =
           let within = slice_get_within cs p d at in
           let chairs = are.chairs in
@@ -87,7 +103,10 @@ module _ (c : Shared) (ms : List Local) (cs : List (ChairToken State View)) (bs 
 
   -- their blocks
   pub all_blocks : AreBlocksOf ms bs
-  all_blocks = record { all = are.blocks_are; each = λ p m block at there. (let x = parts p m at in (x.apart block there).block_is) }
+  all_blocks = record {
+    all = are.blocks_are;
+    each = λ p m block at there. (let x = parts p m at in (x.apart block there).block_is);
+  }
 
   module _ (b : State) (some : 0 < c.sizes.processors) (kept : Kept b (map view cs)) where
     goes : (p : ℕ) (m : Local) → slice_get ms p ≡ Some m → GoesOn kept.0 kept.1 p (view_of m.sizes m.seen m.cut)
@@ -113,19 +132,28 @@ module _ (c : Shared) (ms : List Local) (cs : List (ChairToken State View)) (bs 
       explained = start.explained;
       counted = start.counted;
       room = let long = all.all in let owing = start.owing in rw (long) (omega arith);
-      sound = λ p m at. (let x = parts p m at in let a = x.apart x.block x.block_at in let mine = all.each p m at in (a.sound, mine.number, mine.sizes));
+      sound =
+          λ p m at. (let x = parts p m at in let a = x.apart x.block x.block_at in let mine = all.each p m at in
+          (a.sound, mine.number, mine.sizes));
       done = λ p m before at. absurd (omega (arith, before));
-      to_come = λ p m after at. (let g = goes p m at in let mine = all.each p m at in record { rest = g.rest; begins = g.begins; away = λ k e here is. g.away k e here (is ∙ mine.number) });
+      to_come = λ p m after at. (let g = goes p m at in let mine = all.each p m at in record {
+        rest = g.rest;
+        begins = g.begins;
+        away = λ k e here is. g.away k e here (is ∙ mine.number);
+      });
       in_turn = (kept.1, sym (append-nil kept.1));
     }
 
 -- what is finished
-pub finished : (s : Sizes) (ms : List Local) (h : List Event) (b : State) (j : Log) → IsFinishing s ms (length ms) h b → j ≡ record b.journal { room = j.room } → IsFinished s ms j
+pub finished : (s : Sizes) (ms : List Local) (h : List Event) (b : State) (j : Log) → IsFinishing s ms (length ms) h b
+    → j ≡ record b.journal { room = j.room } → IsFinished s ms j
 finished s ms h b j fin same = record {
   history = h;
   taken = fin.told.holds.taken;
   journal = journal_of s h b j fin.told same;
   faithful = faithful s h fin.told.well_formed fin.explained fin.counted;
   each = λ p m at. fin.done p m (slice_get_within ms p m at) at;
-  in_turn = subst (λ (xs : List Local). (front : List Event) × (h ≡ front ++ flat_map (λ (m : Local). m.block) xs)) (take-length ms) fin.in_turn;
+  in_turn =
+      subst (λ (xs : List Local). (front : List Event) × (h ≡ front ++ flat_map (λ (m : Local). m.block) xs))
+      (take-length ms) fin.in_turn;
 }

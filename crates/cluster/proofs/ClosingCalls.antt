@@ -45,39 +45,59 @@ module _ (m : Local) (sound : IsSound m) (b : State) (f : Finds m b) where
 
   -- whether it holds a lock is known to the processor
   lacks : (l : ℕ) → l < m.sizes.locks → slice_index_or m.held l false ≡ false → ¬ Holds h m.number l
-  lacks l within mark holds = true≢false (sym ((held_mark (found m f.rest) l (here_sound m sound b f) within).1 holds) ∙ mark)
+  lacks l within mark holds =
+      true≢false (sym ((held_mark (found m f.rest) l (here_sound m sound b f) within).1 holds) ∙ mark)
 
   has : (l : ℕ) → l < m.sizes.locks → slice_index_or m.held l false ≡ true → Holds h m.number l
   has l within mark = (held_mark (found m f.rest) l (here_sound m sound b f) within).0 mark
 
   -- the book lets it
   pub may_close : (k : Kind) → MayMake m k → MayClose k b m.number m.block
-  may_close (Ask l) may = record { call = may_call m sound b f may.idle; range = may.in_range; free = lacks l may.in_range may.held }
-  may_close (Release l) may = record { call = may_call m sound b f may.idle; range = may.in_range; held = has l may.in_range may.held }
-  may_close (Set f') may = (may_call m sound b f may.idle, (let long = f.kept.told.flags.long in let within = may.in_range in omega arith))
+  may_close (Ask l) may =
+      record { call = may_call m sound b f may.idle; range = may.in_range; free = lacks l may.in_range may.held }
+  may_close (Release l) may =
+      record { call = may_call m sound b f may.idle; range = may.in_range; held = has l may.in_range may.held }
+  may_close (Set f') may =
+      (may_call m sound b f may.idle, (let long = f.kept.told.flags.long in let within = may.in_range in omega arith))
   may_close _ may = may_call m sound b f may.idle
 
   -- and is told then by one event more
-  pub told_closed : (k : Kind) (records : List Changes) → MayMake m k → AreHarvests m.copies records → IsTold m.sizes (did (h ++ m.block) m.number k) (book_closed k (handed_in b m.block) m.number records)
+  pub told_closed : (k : Kind) (records : List Changes) → MayMake m k → AreHarvests m.copies records
+      → IsTold m.sizes (did (h ++ m.block) m.number k) (book_closed k (handed_in b m.block) m.number records)
   told_closed k records may are = go k may.closes may.in_range may.held
     where
       told : IsTold m.sizes h b
       told = f.kept.told
 
-      go : (k : Kind) → is_closing k ≡ true → KindInRange m.sizes k → MayHold m.held k → IsTold m.sizes (did (h ++ m.block) m.number k) (book_closed k (handed_in b m.block) m.number records)
-      go (Ask l) closes range held = ask_law m.sizes h m.block b m.number l records told (may_hand_in m sound b f may.idle) (harvest_contents (found m f.rest) (here_sound m sound b f) records are) range (lacks l range held)
-      go (Release l) closes range held = release_law m.sizes h m.block b m.number l records told (may_hand_in m sound b f may.idle) (harvest_contents (found m f.rest) (here_sound m sound b f) records are) range (has l range held)
-      go Arrive closes range held = arrive_law m.sizes h m.block b m.number records told (may_hand_in m sound b f may.idle) (harvest_contents (found m f.rest) (here_sound m sound b f) records are)
-      go (Set l) closes range held = set_law m.sizes h m.block b m.number l records told (may_hand_in m sound b f may.idle) (harvest_contents (found m f.rest) (here_sound m sound b f) records are) range
-      go (Watch l) closes range held = watch_law m.sizes h m.block b m.number l records told (may_hand_in m sound b f may.idle) (harvest_contents (found m f.rest) (here_sound m sound b f) records are) range
+      go : (k : Kind) → is_closing k ≡ true → KindInRange m.sizes k → MayHold m.held k
+          → IsTold m.sizes (did (h ++ m.block) m.number k) (book_closed k (handed_in b m.block) m.number records)
+      go (Ask l) closes range held =
+          ask_law m.sizes h m.block b m.number l records told (may_hand_in m sound b f may.idle)
+          (harvest_contents (found m f.rest) (here_sound m sound b f) records are) range (lacks l range held)
+      go (Release l) closes range held =
+          release_law m.sizes h m.block b m.number l records told (may_hand_in m sound b f may.idle)
+          (harvest_contents (found m f.rest) (here_sound m sound b f) records are) range (has l range held)
+      go Arrive closes range held =
+          arrive_law m.sizes h m.block b m.number records told (may_hand_in m sound b f may.idle)
+          (harvest_contents (found m f.rest) (here_sound m sound b f) records are)
+      go (Set l) closes range held =
+          set_law m.sizes h m.block b m.number l records told (may_hand_in m sound b f may.idle)
+          (harvest_contents (found m f.rest) (here_sound m sound b f) records are) range
+      go (Watch l) closes range held =
+          watch_law m.sizes h m.block b m.number l records told (may_hand_in m sound b f may.idle)
+          (harvest_contents (found m f.rest) (here_sound m sound b f) records are) range
       go _ closes range held = absurd (true≢false (sym closes))
 
 -- the copies of a sound processor are clean where there is no mark
 pub marked_well : (m : Local) → IsSound m → DirtyAreMarked m.copies m.stored
-marked_well m sound = record { few = (let long = sound.copies.long in let few = sound.sizes.pages in omega arith); clean = sound.clean }
+marked_well m sound = record {
+  few = (let long = sound.copies.long in let few = sound.sizes.pages in omega arith);
+  clean = sound.clean;
+}
 
 -- what is owing stays
-room_closed : (k : Kind) (b : State) (p : ℕ) (records : List Changes) → (book_closed k b p records).journal.room ≡ b.journal.room
+room_closed : (k : Kind) (b : State) (p : ℕ) (records : List Changes)
+    → (book_closed k b p records).journal.room ≡ b.journal.room
 room_closed (Ask l) b p records = refl
 room_closed (Release l) b p records = refl
 room_closed Arrive b p records = refl
@@ -86,7 +106,8 @@ room_closed (Watch f) b p records = refl
 room_closed _ b p records = refl
 
 -- the journal goes on with the event
-events_closed : (k : Kind) → is_closing k ≡ true → (b : State) (p : ℕ) (records : List Changes) → (book_closed k b p records).journal.events ≡ b.journal.events ++ event p k ∷ []
+events_closed : (k : Kind) → is_closing k ≡ true → (b : State) (p : ℕ) (records : List Changes)
+    → (book_closed k b p records).journal.events ≡ b.journal.events ++ event p k ∷ []
 events_closed (Ask l) closes b p records = refl
 events_closed (Release l) closes b p records = refl
 events_closed Arrive closes b p records = refl
@@ -95,7 +116,8 @@ events_closed (Watch f) closes b p records = refl
 events_closed _ closes b p records = absurd (true≢false (sym closes))
 
 -- nothing is cut off
-cut_closed : (k : Kind) (b : State) (p : ℕ) (records : List Changes) → (book_closed k b p records).journal.base.cut ≡ b.journal.base.cut
+cut_closed : (k : Kind) (b : State) (p : ℕ) (records : List Changes)
+    → (book_closed k b p records).journal.base.cut ≡ b.journal.base.cut
 cut_closed (Ask l) b p records = refl
 cut_closed (Release l) b p records = refl
 cut_closed Arrive b p records = refl
@@ -109,48 +131,92 @@ closing_no_load k closes a v is = true≢false (sym closes ∙ ap is_closing is)
 closing_no_fetch : (k : Kind) → is_closing k ≡ true → (w n r d : ℕ) → k ≢ Fetch w n r d
 closing_no_fetch k closes w n r d is = true≢false (sym closes ∙ ap is_closing is)
 
-module _ (m : Local) (sound : IsSound m) (b : State) (k : Kind) (may : MayMake m k) (records : List Changes) (are : AreHarvests m.copies records) where
+module _ (m : Local) (sound : IsSound m) (b : State) (k : Kind) (may : MayMake m k) (records : List Changes)
+    (are : AreHarvests m.copies records) where
   -- it is a call of p
-  pub call_of_closing : length b.journal.events + length m.block + 1 ≤ most_events → IsCallOf m b (m.block ++ event m.number k ∷ []) (book_closed k (handed_in b m.block) m.number records)
-  call_of_closing fits = call_of_event m sound b k (book_closed k (handed_in b m.block) m.number records) (closing_no_load k may.closes) (closing_no_fetch k may.closes) fits (events_closed k may.closes (handed_in b m.block) m.number records ∙ append_assoc b.journal.events m.block (event m.number k ∷ [])) (room_closed k (handed_in b m.block) m.number records) (cut_closed k (handed_in b m.block) m.number records) (λ f. told_closed m sound b f k records may are)
+  pub call_of_closing : length b.journal.events + length m.block + 1 ≤ most_events
+      → IsCallOf m b (m.block ++ event m.number k ∷ []) (book_closed k (handed_in b m.block) m.number records)
+  call_of_closing fits =
+      call_of_event m sound b k (book_closed k (handed_in b m.block) m.number records) (closing_no_load k may.closes)
+      (closing_no_fetch k may.closes) fits (events_closed k may.closes (handed_in b m.block) m.number records
+      ∙ append_assoc b.journal.events m.block (event m.number k ∷ []))
+      (room_closed k (handed_in b m.block) m.number records) (cut_closed k (handed_in b m.block) m.number records)
+      (λ f. told_closed m sound b f k records may are)
 
   -- whatever the book answers
-  pub call_of_close : {A : Type 0} (r : Result A Refused) (block : List Event) (new : State) → block ≡ m.block → OnOk r (new ≡ book_closed k (handed_in b block) m.number records) → OnErr r (new ≡ b) → r ≡ Err JournalFull ↔ (most_events < length b.journal.events + length block + 1) → (es : List Event) × IsCallOf m b es new
-  call_of_close (Ok a) block new same ok err full = (m.block ++ event m.number k ∷ [], rw (ok, same) (call_of_closing (rw (← same) (fits_else (length b.journal.events + length block + 1) (Ok a ≡ Err JournalFull) full (λ h. absurd (cc h))))))
+  pub call_of_close : {A : Type 0} (r : Result A Refused) (block : List Event) (new : State) → block ≡ m.block
+      → OnOk r (new ≡ book_closed k (handed_in b block) m.number records) → OnErr r (new ≡ b) → r ≡ Err JournalFull
+      ↔ (most_events < length b.journal.events + length block + 1) → (es : List Event) × IsCallOf m b es new
+  call_of_close (Ok a) block new same ok err full = (
+    m.block ++ event m.number k ∷ [],
+    rw (ok, same) (call_of_closing (rw (← same) (fits_else (length b.journal.events + length block + 1)
+        (Ok a ≡ Err JournalFull) full (λ h. absurd (cc h))))),
+  )
   call_of_close (Err e) block new same ok err full = ([], rw err (call_of_nothing m b))
 
 -- the closing event is one call more
 calls_closed : (m : Local) (k : Kind) → IsSound m → calls (closed (handed m) k) ≡ calls m ++ event m.number k ∷ []
-calls_closed m k sound = rw (append-nil, filter-append, eq-eqb m.number m.number refl) (ap (λ (xs : List Event). xs ++ event m.number k ∷ []) (sym (append-nil (part (m.seen ++ m.block) m.number)) ∙ calls_handed m sound))
+calls_closed m k sound =
+    rw (append-nil, filter-append, eq-eqb m.number m.number refl) (ap (λ (xs : List Event). xs ++ event m.number k
+    ∷ []) (sym (append-nil (part (m.seen ++ m.block) m.number)) ∙ calls_handed m sound))
 
-module _ (v : Visit) (after : ChairToken State View) (left : HasLeft v.mid after) (k : Kind) (may : MayMake v.was k) (records : List Changes)
+module _ (v : Visit) (after : ChairToken State View) (left : HasLeft v.mid after) (k : Kind) (may : MayMake v.was k)
+    (records : List Changes)
     (are : AreHarvests v.was.copies records) (new : State)
     (is : new ≡ book_closed k (handed_in v.book v.was.block) v.was.number records)
     (fits : length v.book.journal.events + length v.was.block + 1 ≤ most_events) (sees : HasSeen v new after) where
   -- the processor after its interval was closed
   abbrev closed_now : Local
-  closed_now = local_on after v.was [] (map cleaned v.was.copies) (replicate 64 false) (tick v.was.time v.was.number) (held_after k v.was.held) (awaited k)
+  closed_now =
+      local_on after v.was [] (map cleaned v.was.copies) (replicate 64 false) (tick v.was.time v.was.number)
+      (held_after k v.was.held) (awaited k)
 
   -- it is as it has to be
-  pub closed_ends : IsSound closed_now × IsSeated after v.was.number v.was.sizes × ((first : Option Refused) (many : ℕ) → first ≡ None → IsCall first many Nothing (IsClosedBy k) (event v.was.number k ∷ []) v.was closed_now None)
+  pub closed_ends : IsSound closed_now × IsSeated after v.was.number v.was.sizes
+      × ((first : Option Refused) (many : ℕ) → first ≡ None
+      → IsCall first many Nothing (IsClosedBy k) (event v.was.number k ∷ []) v.was closed_now None)
   closed_ends =
       let was = v.was in
       let call = call_of_closing was v.sound v.book k may records are fits in
       let seen = subst (λ (n : State). HasSeen v n after) is sees in
       let es = was.block ++ event v.was.number k ∷ [] in
       let last = book_closed k (handed_in v.book was.block) was.number records in
-      let moved : ((was.seen ++ v.finds.rest) ++ es) ≡ did ((was.seen ++ v.finds.rest) ++ was.block) was.number k = sym (append_assoc (was.seen ++ v.finds.rest) was.block (event v.was.number k ∷ [])) in
-      let same : closed_now ≡ closed (handed (entered was v.finds.rest last.journal.base.cut)) k = now_is v after left es last call seen [] (map cleaned was.copies) (replicate 64 false) (tick was.time was.number) (held_after k was.held) (awaited k) ∙ ap (λ (h : List Event). record (entered was v.finds.rest last.journal.base.cut) { seen = h; block = []; copies = map cleaned was.copies; stored = replicate 64 false; time = tick was.time was.number; held = held_after k was.held; awaits = awaited k }) moved in
+      let moved : ((was.seen ++ v.finds.rest) ++ es) ≡ did ((was.seen ++ v.finds.rest) ++ was.block) was.number k =
+      sym (append_assoc (was.seen ++ v.finds.rest) was.block (event v.was.number k ∷ [])) in
+      let same : closed_now ≡ closed (handed (entered was v.finds.rest last.journal.base.cut)) k =
+      now_is v after left es last call seen [] (map cleaned was.copies) (replicate 64 false)
+      (tick was.time was.number) (held_after k was.held) (awaited k)
+      ∙ ap (λ (h : List Event). record (entered was v.finds.rest last.journal.base.cut) {
+        seen = h;
+        block = [];
+        copies = map cleaned was.copies;
+        stored = replicate 64 false;
+        time = tick was.time was.number;
+        held = held_after k was.held;
+        awaits = awaited k;
+      }) moved in
       let before = entered_sound was v.book v.sound v.finds last.journal.base.cut in
       let P : List Event → Type 0 = λ h. WellFormed was.sizes h in
       let Q : List Event → Type 0 = λ h. length h ≤ most_seen in
-      let good = subst IsSound (sym same) (called_sound (entered was v.finds.rest last.journal.base.cut) k before may.closes may.in_range (subst P moved (call.told v.finds).well_formed) (subst Q moved (told_few v.was.sizes ((was.seen ++ v.finds.rest) ++ es) last (call.told v.finds) (call.few v.finds)))) in
-      let all : calls closed_now ≡ calls (entered was v.finds.rest last.journal.base.cut) ++ event v.was.number k ∷ [] = ap calls same ∙ calls_closed (entered was v.finds.rest last.journal.base.cut) k before in (
+      let good =
+      subst IsSound (sym same) (called_sound (entered was v.finds.rest last.journal.base.cut) k before may.closes
+      may.in_range (subst P moved (call.told v.finds).well_formed) (subst Q moved (told_few v.was.sizes
+      ((was.seen ++ v.finds.rest) ++ es) last (call.told v.finds) (call.few v.finds)))) in
+      let all : calls closed_now ≡ calls (entered was v.finds.rest last.journal.base.cut) ++ event v.was.number k ∷ [] =
+      ap calls same ∙ calls_closed (entered was v.finds.rest last.journal.base.cut) k before in (
         good,
-        now_seated v after left es last call seen [] (map cleaned was.copies) (replicate 64 false) (tick was.time was.number) (held_after k was.held) (awaited k),
-        λ first many free. call_done v after left es last call seen [] (map cleaned was.copies) (replicate 64 false) (tick was.time was.number) (held_after k was.held) (awaited k) first many Nothing (IsClosedBy k) (event v.was.number k ∷ []) free good same all,
+        now_seated v after left es last call seen [] (map cleaned was.copies) (replicate 64 false)
+            (tick was.time was.number) (held_after k was.held) (awaited k),
+        λ first many free. call_done v after left es last call seen [] (map cleaned was.copies) (replicate 64 false)
+            (tick was.time was.number) (held_after k was.held) (awaited k) first many Nothing (IsClosedBy k)
+            (event v.was.number k ∷ []) free good same all,
       )
 
   -- the same of parts that are equal to these
-  pub closed_parts : (bl : List Event) (cs : List Copied) (st : List Bool) (ti : List ℕ) (he : List Bool) (aw : Option Kind) → bl ≡ [] → cs ≡ map cleaned v.was.copies → st ≡ replicate 64 false → ti ≡ tick v.was.time v.was.number → he ≡ held_after k v.was.held → aw ≡ awaited k → IsSound (local_on after v.was bl cs st ti he aw) × IsSeated after v.was.number v.was.sizes × ((first : Option Refused) (many : ℕ) → first ≡ None → IsCall first many Nothing (IsClosedBy k) (event v.was.number k ∷ []) v.was (local_on after v.was bl cs st ti he aw) None)
+  pub closed_parts : (bl : List Event) (cs : List Copied) (st : List Bool) (ti : List ℕ) (he : List Bool)
+      (aw : Option Kind) → bl ≡ [] → cs ≡ map cleaned v.was.copies → st ≡ replicate 64 false
+      → ti ≡ tick v.was.time v.was.number → he ≡ held_after k v.was.held → aw ≡ awaited k
+      → IsSound (local_on after v.was bl cs st ti he aw) × IsSeated after v.was.number v.was.sizes
+      × ((first : Option Refused) (many : ℕ) → first ≡ None → IsCall first many Nothing (IsClosedBy k)
+      (event v.was.number k ∷ []) v.was (local_on after v.was bl cs st ti he aw) None)
   closed_parts bl cs st ti he aw u v w x y z = rw (u, v, w, x, y, z) closed_ends

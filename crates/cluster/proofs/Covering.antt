@@ -39,40 +39,72 @@ module _ (m : Local) (sound : IsSound m) where
   is_block k e at = let inner = sound.inner k e at in (inner.mine, inner.takes)
 
   -- who waits for nothing may go on with its block
-  pub block_follows : (rest : List Event) → ((k : ℕ) (e : Event) → At rest k e → e.processor ≢ m.number) → WellFormed m.sizes (m.seen ++ rest) → WellFormed m.sizes ((m.seen ++ rest) ++ m.block)
+  pub block_follows : (rest : List Event) → ((k : ℕ) (e : Event) → At rest k e → e.processor ≢ m.number)
+      → WellFormed m.sizes (m.seen ++ rest) → WellFormed m.sizes ((m.seen ++ rest) ++ m.block)
   block_follows rest away well = go m.awaits refl
     where
       go : (o : Option Kind) → m.awaits ≡ o → WellFormed m.sizes ((m.seen ++ rest) ++ m.block)
       go None none =
-          let idle : IsIdle (m.seen ++ rest) m.number = λ i a last. sym (sound.awaits.last i a (last_shorter m.seen rest m.number i a away last)) ∙ none in
-          (plain_block m.sizes (m.seen ++ rest) m.block m.number sound.mine well idle (λ k e at. let inner = sound.inner k e at in record { mine = inner.mine; takes = inner.takes; closes = inner.closes; in_range = inner.in_range })).0
+          let idle : IsIdle (m.seen ++ rest) m.number =
+          λ i a last. sym (sound.awaits.last i a (last_shorter m.seen rest m.number i a away last)) ∙ none in
+          (plain_block m.sizes (m.seen ++ rest) m.block m.number sound.mine well idle (λ k e at.
+          let inner = sound.inner k e at in record {
+            mine = inner.mine;
+            takes = inner.takes;
+            closes = inner.closes;
+            in_range = inner.in_range;
+          })).0
       go (Some k) some = rw (sound.quiet (λ none. none-some k (sym none ∙ some)), append-nil) well
 
   module _ (rest : List Event) (away : (k : ℕ) (e : Event) → At rest k e → e.processor ≢ m.number) where
     -- a copy is valid exactly where it lacks nothing
-    valid_without_gap : (n : ℕ) (c : Copied) → IsReplica m.sizes m.seen m.block m.number n (sound.bases n) c → c.page.access ≡ Valid ↔ NoGap m.sizes ((m.seen ++ rest) ++ m.block) m.number n
+    valid_without_gap : (n : ℕ) (c : Copied) → IsReplica m.sizes m.seen m.block m.number n (sound.bases n) c
+        → c.page.access ≡ Valid ↔ NoGap m.sizes ((m.seen ++ rest) ++ m.block) m.number n
     valid_without_gap n c r = (
-      (λ valid. valid_no_gap m.sizes (m.seen ++ rest) m.block m.number n (sound.bases n) c.page.words is_block (valid_others m.sizes m.seen rest m.block m.number n (sound.bases n) c.page.words away (r.valid valid).0)),
+      (λ valid. valid_no_gap m.sizes (m.seen ++ rest) m.block m.number n (sound.bases n) c.page.words is_block
+          (valid_others m.sizes m.seen rest m.block m.number n (sound.bases n) c.page.words away
+          (r.valid valid).0)),
       (λ none. go c.page.access refl none),
     )
       where
-        lacks : (missing : List SentRecord) → missing ≢ [] → IsStaleCopy m.sizes (m.seen ++ rest) m.block m.number n c.page.words (map missing_of missing) → NoGap m.sizes ((m.seen ++ rest) ++ m.block) m.number n → ⊥
+        lacks : (missing : List SentRecord) → missing ≢ []
+            → IsStaleCopy m.sizes (m.seen ++ rest) m.block m.number n c.page.words (map missing_of missing)
+            → NoGap m.sizes ((m.seen ++ rest) ++ m.block) m.number n → ⊥
         lacks [] some stale none = some refl
-        lacks (x ∷ xs) some stale none = let gap = stale_gap m.sizes (m.seen ++ rest) m.block m.number n c.page.words (missing_of x) (map missing_of xs) is_block stale in none gap.0 gap.1
+        lacks (x ∷ xs) some stale none =
+            let gap =
+            stale_gap m.sizes (m.seen ++ rest) m.block m.number n c.page.words (missing_of x) (map missing_of xs)
+            is_block stale in
+            none gap.0 gap.1
 
-        go : (a : Access) → c.page.access ≡ a → NoGap m.sizes ((m.seen ++ rest) ++ m.block) m.number n → c.page.access ≡ Valid
+        go : (a : Access) → c.page.access ≡ a → NoGap m.sizes ((m.seen ++ rest) ++ m.block) m.number n
+            → c.page.access ≡ Valid
         go Valid is none = is
-        go Invalid is none = let s = r.stale is in absurd (lacks c.missing s.1 (stale_others m.sizes m.seen rest m.block m.number n c.page.words (map missing_of c.missing) away s.0) none)
+        go Invalid is none =
+            let s = r.stale is in
+            absurd (lacks c.missing s.1 (stale_others m.sizes m.seen rest m.block m.number n c.page.words
+            (map missing_of c.missing) away s.0) none)
 
-    pub covered_on : WellFormed m.sizes (m.seen ++ rest) → Explained (m.seen ++ rest) → AreCounted m.sizes (m.seen ++ rest) → IsCovered m (m.seen ++ rest)
+    pub covered_on : WellFormed m.sizes (m.seen ++ rest) → Explained (m.seen ++ rest)
+        → AreCounted m.sizes (m.seen ++ rest) → IsCovered m (m.seen ++ rest)
     covered_on well explained counted = record {
       well_formed = block_follows rest away well;
       calls_are = rw (filter-append, part_away rest m.number away, append-nil);
-      time = block_time (m.seen ++ rest) m.block m.number (slice_index m.time) is_block (λ k e at. (sound.inner k e at).closes) (others_keep m.seen rest m.number (slice_index m.time) away sound.time.is);
+      time =
+          block_time (m.seen ++ rest) m.block m.number (slice_index m.time) is_block (λ k e at.
+          (sound.inner k e at).closes)
+          (others_keep m.seen rest m.number (slice_index m.time) away sound.time.is);
       valid = λ n c at. valid_without_gap n c (sound.copies.each n c at);
-      lawful = λ n c at valid. valid_lawful m.sizes (m.seen ++ rest) m.block m.number n (sound.bases n) c.page.words is_block (valid_others m.sizes m.seen rest m.block m.number n (sound.bases n) c.page.words away ((sound.copies.each n c at).valid valid).0);
-      explained = explained_block m.sizes (m.seen ++ rest) m.block m.number sound.bases is_block (answers_others m.sizes m.seen rest m.block m.number sound.bases away sound.answers) explained;
-      counted = counted_block m.sizes (m.seen ++ rest) m.block m.number is_block (block_counts_others m.sizes m.seen rest m.block m.number away sound.counts) counted;
+      lawful =
+          λ n c at valid. valid_lawful m.sizes (m.seen ++ rest) m.block m.number n (sound.bases n) c.page.words
+          is_block (valid_others m.sizes m.seen rest m.block m.number n (sound.bases n) c.page.words away
+          ((sound.copies.each n c at).valid valid).0);
+      explained =
+          explained_block m.sizes (m.seen ++ rest) m.block m.number sound.bases is_block
+          (answers_others m.sizes m.seen rest m.block m.number sound.bases away sound.answers) explained;
+      counted =
+          counted_block m.sizes (m.seen ++ rest) m.block m.number is_block
+          (block_counts_others m.sizes m.seen rest m.block m.number away sound.counts) counted;
     }
 
   -- every history that the lock allows covers the processor
@@ -84,4 +116,6 @@ module _ (m : Local) (sound : IsSound m) where
           let goes = allows.kept.each m.number (view_of m.sizes m.seen m.cut) allows.mine in
           let P : List Event → Type 0 = λ es. WellFormed m.sizes es in
           let Q : List Event → Type 0 = λ es. AreCounted m.sizes es in
-          subst (IsCovered m) (sym goes.begins) (covered_on goes.rest goes.away (subst P goes.begins allows.kept.told.well_formed) (subst Explained goes.begins allows.kept.explained) (subst Q goes.begins allows.kept.counted))
+          subst (IsCovered m) (sym goes.begins)
+          (covered_on goes.rest goes.away (subst P goes.begins allows.kept.told.well_formed)
+          (subst Explained goes.begins allows.kept.explained) (subst Q goes.begins allows.kept.counted))

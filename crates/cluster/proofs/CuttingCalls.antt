@@ -41,7 +41,8 @@ use Rattle.cluster.proofs.Visiting.{Visit, HasLeft, HasSeen, local_on}
 
 -- what is dropped makes a list no longer
 length-drop_le : {A : Type 0} (n : ℕ) (xs : List A) → length (drop n xs) ≤ length xs
-length-drop_le n xs = let both = ap length (take-append-drop n xs) in let long = length-append (take n xs) (drop n xs) in omega arith
+length-drop_le n xs =
+    let both = ap length (take-append-drop n xs) in let long = length-append (take n xs) (drop n xs) in omega arith
 
 module _ (m : Local) (b new : State) (was : WasBookCut b new) where
   events_left : new.journal.events ≡ drop was.journal.taken b.journal.events
@@ -64,7 +65,8 @@ module _ (m : Local) (b new : State) (was : WasBookCut b new) where
   }
 
 -- whatever the book answers
-pub call_of_cutting : (m : Local) (b new : State) (r : Result (Unit {0}) CutFault) → OnOk r (WasBookCut b new) → OnErr r (new ≡ b) → (es : List Event) × IsCallOf m b es new
+pub call_of_cutting : {E : Type 0} (m : Local) (b new : State) (r : Result (Unit {0}) E) → OnOk r (WasBookCut b new)
+    → OnErr r (new ≡ b) → (es : List Event) × IsCallOf m b es new
 call_of_cutting m b new (Ok a) ok err = ([], call_of_cut m b new ok)
 call_of_cutting m b new (Err e) ok err = ([], rw err (call_of_nothing m b))
 
@@ -80,19 +82,28 @@ module _ (s : Sizes) (h : List Event) (b : State) (told : IsTold s h b) where
 
   -- what is left of the history is the journal
   left_is : drop cut h ≡ b.journal.events
-  left_is = ap₂ (λ (n : ℕ) (xs : List Event). drop n xs) (sym long) told.holds.rest.history ∙ drop-append_seam taken b.journal.events
+  left_is =
+      ap₂ (λ (n : ℕ) (xs : List Event). drop n xs) (sym long) told.holds.rest.history
+      ∙ drop-append_seam taken b.journal.events
 
   -- and its front what was cut off, and the journal's
   front_is : (n : ℕ) → take (cut + n) h ≡ taken ++ take n b.journal.events
-  front_is n = ap₂ (λ (k : ℕ) (xs : List Event). take (k + n) xs) (sym long) told.holds.rest.history ∙ take-append-add taken b.journal.events n
+  front_is n =
+      ap₂ (λ (k : ℕ) (xs : List Event). take (k + n) xs) (sym long) told.holds.rest.history
+      ∙ take-append-add taken b.journal.events n
 
   base : IsBaseOf s.processors (addresses s) taken b.journal.base
-  base = subst₂ (λ (p n : ℕ). IsBaseOf p n taken b.journal.base) told.sizes.processors told.sizes.addresses told.holds.rest.base
+  base =
+      subst₂ (λ (p n : ℕ). IsBaseOf p n taken b.journal.base) told.sizes.processors told.sizes.addresses
+      told.holds.rest.base
 
   well_front : (n : ℕ) → WellFormed s (taken ++ take n b.journal.events)
   well_front n =
-      let whole : h ≡ (taken ++ take n b.journal.events) ++ drop n b.journal.events = told.holds.rest.history ∙ ap (λ (xs : List Event). taken ++ xs) (sym (take-append-drop n b.journal.events)) ∙ sym (append_assoc taken (take n b.journal.events) (drop n b.journal.events)) in
-      well_formed_front s (taken ++ take n b.journal.events) (drop n b.journal.events) (subst (WellFormed s) whole told.well_formed)
+      let whole : h ≡ (taken ++ take n b.journal.events) ++ drop n b.journal.events =
+      told.holds.rest.history ∙ ap (λ (xs : List Event). taken ++ xs) (sym (take-append-drop n b.journal.events))
+      ∙ sym (append_assoc taken (take n b.journal.events) (drop n b.journal.events)) in
+      well_formed_front s (taken ++ take n b.journal.events) (drop n b.journal.events)
+      (subst (WellFormed s) whole told.well_formed)
 
   is_cut : (n : ℕ) → IsCut b.journal.processors b.journal.events n → IsCut s.processors (drop cut h) n
   is_cut n place = subst₂ (λ (p : ℕ) (xs : List Event). IsCut p xs n) told.sizes.processors (sym left_is) place
@@ -100,9 +111,11 @@ module _ (s : Sizes) (h : List Event) (b : State) (told : IsTold s h b) where
   pub may_cut_off : (n : ℕ) → MayCut b.journal n → MayCutOff s h cut n
   may_cut_off n may = record { place = is_cut n may.place; few = may.few }
 
-  first_race : (n i k : ℕ) → IsFirstRaceFrom b.journal.base (take n b.journal.events) i k → IsFirstRace (take (cut + n) h) (cut + i) (cut + k)
+  first_race : (n i k : ℕ) → IsFirstRaceFrom b.journal.base (take n b.journal.events) i k
+      → IsFirstRace (take (cut + n) h) (cut + i) (cut + k)
   first_race n i k first =
-      let there = ((same_law s b.journal.base taken (take n b.journal.events) (well_front n) base).first_race i k).1 first in
+      let there =
+      ((same_law s b.journal.base taken (take n b.journal.events) (well_front n) base).first_race i k).1 first in
       let P : List Event → Type 0 = λ xs. IsFirstRace xs (cut + i) (cut + k) in
       let Q : ℕ → Type 0 = λ c. IsFirstRace (taken ++ take n b.journal.events) (c + i) (c + k) in
       subst P (sym (front_is n)) (subst Q long there)
@@ -130,7 +143,10 @@ module _ (v : Visit) (after : ChairToken State View) (left : HasLeft v.mid after
     call = call_of_cut p v.book new was
 
     same : cut_now ≡ record (entered p v.finds.rest v.book.journal.base.cut) { cut = new.journal.base.cut }
-    same = now_is v after left [] new call sees p.block p.copies p.stored p.time p.held p.awaits ∙ ap (λ (h : List Event). record (entered p v.finds.rest new.journal.base.cut) { seen = h }) (append-nil history)
+    same =
+        now_is v after left [] new call sees p.block p.copies p.stored p.time p.held p.awaits
+        ∙ ap (λ (h : List Event). record (entered p v.finds.rest new.journal.base.cut) { seen = h })
+        (append-nil history)
 
     sound_now : IsSound cut_now
     sound_now = subst IsSound (sym same) (entered_sound p v.book v.sound v.finds new.journal.base.cut)
@@ -139,7 +155,8 @@ module _ (v : Visit) (after : ChairToken State View) (left : HasLeft v.mid after
     grown =
         let cut = was.journal.base.cut in
         let within = was.journal.may.place.within in
-        cut ∙ ap (λ (n : ℕ). v.book.journal.base.cut + n) (length-take-le was.journal.taken v.book.journal.events within)
+        cut ∙ ap (λ (n : ℕ). v.book.journal.base.cut + n)
+        (length-take-le was.journal.taken v.book.journal.events within)
 
     race_free : RaceFree (take (v.book.journal.base.cut + was.journal.taken) history)
     race_free =
@@ -155,7 +172,8 @@ module _ (v : Visit) (after : ChairToken State View) (left : HasLeft v.mid after
       after = same ∙ ap (λ (n : ℕ). record (entered p v.finds.rest v.book.journal.base.cut) { cut = n }) grown;
     }
 
-    pub cut_ends : IsSound cut_now × IsSeated after p.number p.sizes × (flush_refusal p ≡ None → IsCuttingCall p cut_now None)
+    pub cut_ends : IsSound cut_now × IsSeated after p.number p.sizes
+        × (flush_refusal p ≡ None → IsCuttingCall p cut_now None)
     cut_ends = (
       sound_now,
       now_seated v after left [] new call sees p.block p.copies p.stored p.time p.held p.awaits,
@@ -163,7 +181,13 @@ module _ (v : Visit) (after : ChairToken State View) (left : HasLeft v.mid after
         same = record { lock = ap (λ (m : Local). m.lock) same; number = refl; sizes = refl };
         outside = λ d there. absurd (free_of (flush_refusal p) d free there);
         ok = λ _. (
-          record { rest = v.finds.rest; away = v.finds.away; cut = v.book.journal.base.cut; more = v.finds.kept.behind p.number (view_of p.sizes p.seen p.cut) v.finds.at; after = cut_off },
+          record {
+            rest = v.finds.rest;
+            away = v.finds.away;
+            cut = v.book.journal.base.cut;
+            more = v.finds.kept.behind p.number (view_of p.sizes p.seen p.cut) v.finds.at;
+            after = cut_off;
+          },
           few_now v after left [] new call sees p.block p.copies p.stored p.time p.held p.awaits,
         );
         err = λ e _ is. absurd (none-some e is);
@@ -178,7 +202,8 @@ module _ (v : Visit) (after : ChairToken State View) (left : HasLeft v.mid after
     abbrev uncut_now : Local
     uncut_now = unchanged v after left p.copies (alike_all p.copies) sees
 
-    pub uncut_ends : (e : CutFault) → IsCutFault v.book.journal e → flush_refusal p ≡ None → IsCuttingCall p uncut_now (Some (refused_by e))
+    pub uncut_ends : (e : CutFault) → IsCutFault v.book.journal e → flush_refusal p ≡ None
+        → IsCuttingCall p uncut_now (Some (refused_by e))
     uncut_ends e fault free =
         let is = unchanged_is v after left p.copies (alike_all p.copies) sees in
         let P : Local → Type 0 = λ m. IsUncut m.sizes m.seen m.cut (refused_by e) in
@@ -188,7 +213,11 @@ module _ (v : Visit) (after : ChairToken State View) (left : HasLeft v.mid after
           same = record { lock = ap (λ (m : Local). m.lock) is; number = refl; sizes = refl };
           outside = λ d there. absurd (free_of (flush_refusal p) d free there);
           ok = λ none. absurd (none-some (refused_by e) (sym none));
-          err = λ d _ some. (unchanged_after v after left p.copies (alike_all p.copies) sees, subst Q (same_Some (refused_by e) d some) why);
+          err =
+              λ d _ some. (
+                unchanged_after v after left p.copies (alike_all p.copies) sees,
+                subst Q (same_Some (refused_by e) d some) why,
+              );
           calls_are = unchanged_calls v after left p.copies (alike_all p.copies) sees;
           covers = covers uncut_now (unchanged_sound v after left p.copies (alike_all p.copies) sees);
           allowed = λ _. unchanged_allowed v after left p.copies (alike_all p.copies) sees;
@@ -211,14 +240,19 @@ pub from_base : FromBaseLaw
 from_base m h a n c cover within at valid here =
     let covered = cover.each h a in
     let told = a.kept.told in
-    let whole : h ++ m.block ≡ told.holds.taken ++ (a.book.journal.events ++ m.block) = ap (λ (xs : List Event). xs ++ m.block) told.holds.rest.history ∙ append_assoc told.holds.taken a.book.journal.events m.block in
+    let whole : h ++ m.block ≡ told.holds.taken ++ (a.book.journal.events ++ m.block) =
+    ap (λ (xs : List Event). xs ++ m.block) told.holds.rest.history
+    ∙ append_assoc told.holds.taken a.book.journal.events m.block in
     let P : List Event → Type 0 = λ xs. Lawful m.sizes xs m.number n c.page.words in
-    copy_law m.sizes a.book.journal.base told.holds.taken (a.book.journal.events ++ m.block) m.number n c.page.words (subst (WellFormed m.sizes) whole covered.well_formed) (base m.sizes h a.book told) here within (subst P whole (covered.lawful n c at valid))
+    copy_law m.sizes a.book.journal.base told.holds.taken (a.book.journal.events ++ m.block) m.number n c.page.words
+    (subst (WellFormed m.sizes) whole covered.well_formed) (base m.sizes h a.book told) here within
+    (subst P whole (covered.lawful n c at valid))
 
 -- what is left of a faithful history is faithful from what was kept
 pub left_faithful : LeftLaw
 left_faithful s c h j of faithful =
-    let base : IsBaseOf s.processors (addresses s) c j.base = subst₂ (λ (p n : ℕ). IsBaseOf p n c j.base) of.processors of.addresses_are of.holds.base in
+    let base : IsBaseOf s.processors (addresses s) c j.base =
+    subst₂ (λ (p n : ℕ). IsBaseOf p n c j.base) of.processors of.addresses_are of.holds.base in
     let well = subst (WellFormed s) of.holds.history faithful.well_formed in
     let explained = subst Explained of.holds.history faithful.explained in
     let both = (well_formed_law s j.base c j.events base).0 well in

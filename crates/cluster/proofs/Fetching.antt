@@ -45,14 +45,21 @@ use Rattle.replicas.proofs.Steps.{item_at}
 use Rattle.cluster.proofs.Noting.{inner_pushed, valid_is_not_stale}
 
 -- rising numbers from b on and below n are few
-pub rising_few : {A : Type 0} (f : A → ℕ) (xs : List A) (b n : ℕ) → b ≤ n → InOrder (λ (x y : A). f x < f y) xs → ((x : A) → Has xs x → (b ≤ f x) × (f x < n)) → b + length xs ≤ n
+pub rising_few : {A : Type 0} (f : A → ℕ) (xs : List A) (b n : ℕ) → b ≤ n → InOrder (λ (x y : A). f x < f y) xs
+    → ((x : A) → Has xs x → (b ≤ f x) × (f x < n)) → b + length xs ≤ n
 rising_few f [] b n le order within = omega arith
 rising_few {A} f (x ∷ xs) b n le order within =
     let here = within x (zero, refl) in
-    let more = rising_few f xs (f x + 1) n (omega arith) (in_order_tail (λ (y z : A). f y < f z) x xs order) (λ y h. (let less = order zero (suc h.0) x y (omega arith) refl h.1 in omega arith, (within y (suc h.0, h.1)).1)) in
+    let more =
+    rising_few f xs (f x + 1) n (omega arith) (in_order_tail (λ (y z : A). f y < f z) x xs order) (λ y h. (
+      let less = order zero (suc h.0) x y (omega arith) refl h.1 in
+          omega arith,
+      (within y (suc h.0, h.1)).1,
+    )) in
     omega arith
 
-module _ (m : Local) (sound : IsSound m) (n : ℕ) (c : Copied) (at : slice_get m.copies n ≡ Some c) (invalid : c.page.access ≡ Invalid) where
+module _ (m : Local) (sound : IsSound m) (n : ℕ) (c : Copied) (at : slice_get m.copies n ≡ Some c)
+    (invalid : c.page.access ≡ Invalid) where
   stale : IsStaleCopy m.sizes m.seen m.block m.number n c.page.words (map missing_of c.missing)
   stale = ((sound.copies.each n c at).stale invalid).0
 
@@ -65,9 +72,18 @@ module _ (m : Local) (sound : IsSound m) (n : ℕ) (c : Copied) (at : slice_get 
   -- each record fits the page
   pub missing_fit : AllFit (length c.page.words) c.missing
   missing_fit x h = record {
-    owner = let small = (sound.well_formed placed.at (record { processor = x.notice.owner; kind = placed.closes.kind }) placed.closes.does).processor in let few = sound.sizes.processors in omega arith;
+    owner =
+        let small =
+        (sound.well_formed placed.at (record { processor = x.notice.owner; kind = placed.closes.kind })
+        placed.closes.does).processor in
+        let few = sound.sizes.processors in omega arith;
     fits = rw long within;
-    short = let few = sound.sizes.words in let all = rising_few (λ (w : ℕ × ℕ). w.0) (words_of x) 0 m.sizes.words (omega arith) content.sums.rising (λ w there. (omega arith, within w there)) in omega arith;
+    short =
+        let few = sound.sizes.words in
+        let all =
+        rising_few (λ (w : ℕ × ℕ). w.0) (words_of x) 0 m.sizes.words (omega arith) content.sums.rising (λ w there.
+        (omega arith, within w there)) in
+        omega arith;
   }
     where
       placed : IsPlaced m.seen x.notice.owner x.notice.number x.place
@@ -77,20 +93,28 @@ module _ (m : Local) (sound : IsSound m) (n : ℕ) (c : Copied) (at : slice_get 
       content = stale.lacks.contents (missing_of x) (missing_here x h)
 
       within : (w : ℕ × ℕ) → Has (words_of x) w → w.0 < m.sizes.words
-      within w there = content_within m.sizes m.seen x.notice.owner x.notice.number n w.0 w.1 (words_of x) sound.sizes.some_words content there
+      within w there =
+          content_within m.sizes m.seen x.notice.owner x.notice.number n w.0 w.1 (words_of x) sound.sizes.some_words
+          content there
 
   -- they are few, since each is another closed interval
   missing_few : length c.missing ≤ length m.seen
   missing_few =
       let closed = count_by-le-length (λ (e : Event). is_closing e.kind) m.seen in
-      let all = rising_few (λ (x : Missing). x.place) (map missing_of c.missing) 0 (closed_count m.seen) (omega arith) (sound.copies.each n c at).order (λ x h. (omega arith, below x h)) in
+      let all =
+      rising_few (λ (x : Missing). x.place) (map missing_of c.missing) 0 (closed_count m.seen) (omega arith)
+      (sound.copies.each n c at).order (λ x h. (omega arith, below x h)) in
       let same = length-map c.missing missing_of in
       omega arith
     where
       below : (x : Missing) → Has (map missing_of c.missing) x → x.place < closed_count m.seen
       below x h =
           let placed = stale.lacks.placed x h in
-          let less = count_by-within (λ (e : Event). is_closing e.kind) m.seen placed.at (record { processor = x.owner; kind = placed.closes.kind }) placed.closes.does placed.closes.closes in
+          let less =
+          count_by-within (λ (e : Event). is_closing e.kind) m.seen placed.at (record {
+            processor = x.owner;
+            kind = placed.closes.kind;
+          }) placed.closes.does placed.closes.closes in
           let is = placed.before in
           omega arith
 
@@ -98,27 +122,41 @@ module _ (m : Local) (sound : IsSound m) (n : ℕ) (c : Copied) (at : slice_get 
   words_same : map (λ (x : Missing). x.words) (map missing_of c.missing) ≡ map words_of c.missing
   words_same = map-map (λ (x : Missing). x.words) missing_of c.missing
 
-  sums_same : sum_by (λ (x : Missing). length x.words) (map missing_of c.missing) ≡ sum_by (λ (x : SentRecord). length (words_of x)) c.missing
-  sums_same = sym (sum-map (λ (x : Missing). length x.words) (map missing_of c.missing)) ∙ ap sum (map-map (λ (x : Missing). length x.words) missing_of c.missing) ∙ sum-map (λ (x : SentRecord). length (words_of x)) c.missing
+  sums_same : sum_by (λ (x : Missing). length x.words) (map missing_of c.missing)
+      ≡ sum_by (λ (x : SentRecord). length (words_of x)) c.missing
+  sums_same =
+      sym (sum-map (λ (x : Missing). length x.words) (map missing_of c.missing))
+      ∙ ap sum (map-map (λ (x : Missing). length x.words) missing_of c.missing)
+      ∙ sum-map (λ (x : SentRecord). length (words_of x)) c.missing
 
   -- and so are their words, since each is another store of what was seen
   pub missing_countable : AreCountable c.missing
   missing_countable =
       let few = sound.few in
       let records = missing_few in
-      let all = stored_few m.sizes m.seen m.number n (sum_by (λ (x : Missing). length x.words) (map missing_of c.missing)) (words_counted m.sizes m.seen m.number n (map missing_of c.missing) stale.lacks (sound.copies.each n c at).order) in
+      let all =
+      stored_few m.sizes m.seen m.number n (sum_by (λ (x : Missing). length x.words) (map missing_of c.missing))
+      (words_counted m.sizes m.seen m.number n (map missing_of c.missing) stale.lacks
+      (sound.copies.each n c at).order) in
       let same = sums_same in
       record { records = omega arith; words = omega arith }
 
   owners_same : (q : ℕ) → IsOwner c.missing q ↔ ((x : Missing) × Has (map missing_of c.missing) x × (x.owner ≡ q))
-  owners_same q = ((λ h. (missing_of h.0, missing_here h.0 h.1, h.2)), λ h. let y = (has-map missing_of c.missing h.0).0 h.1 in (y.0, y.1, ap (λ (x : Missing). x.owner) y.2 ∙ h.2))
+  owners_same q = (
+    (λ h. (missing_of h.0, missing_here h.0 h.1, h.2)),
+    λ h. let y = (has-map missing_of c.missing h.0).0 h.1 in
+        (y.0, y.1, ap (λ (x : Missing). x.owner) y.2 ∙ h.2),
+  )
 
   abbrev new : List ℕ
   new = records_applied c.page.words (map words_of c.missing)
 
   -- each word with stores in the gap has the newest of them
   pub fetched_newest : AreNewest m.sizes m.seen m.number n c.page.words (fetched c).page.words
-  fetched_newest = subst (λ ws. AreNewest m.sizes m.seen m.number n c.page.words (records_applied c.page.words ws)) words_same (newest m.sizes m.seen m.number n (map missing_of c.missing) stale.lacks (sound.copies.each n c at).order c.page.words)
+  fetched_newest =
+      subst (λ ws. AreNewest m.sizes m.seen m.number n c.page.words (records_applied c.page.words ws)) words_same
+      (newest m.sizes m.seen m.number n (map missing_of c.missing) stale.lacks (sound.copies.each n c at).order
+      c.page.words)
 
   module _ (k : Counts) (counts : AreCounts c.missing k) (free : fetch_refusal m n ≡ None) where
     abbrev e : Event
@@ -131,21 +169,33 @@ module _ (m : Local) (sound : IsSound m) (n : ℕ) (c : Copied) (at : slice_get 
     bases = with_page n new sound.bases
 
     valid_now : IsValidCopy m.sizes m.seen (m.block ++ e ∷ []) m.number n new new
-    valid_now = subst (λ ws. IsValidCopy m.sizes m.seen (m.block ++ e ∷ []) m.number n (records_applied c.page.words ws) (records_applied c.page.words ws)) words_same (stale_fetched m.sizes m.seen m.block m.number n k.writers k.records k.words c.page.words (map missing_of c.missing) (sound.copies.each n c at).order stale)
+    valid_now =
+        subst (λ ws. IsValidCopy m.sizes m.seen (m.block ++ e ∷ []) m.number n (records_applied c.page.words ws)
+        (records_applied c.page.words ws)) words_same
+        (stale_fetched m.sizes m.seen m.block m.number n k.writers k.records k.words c.page.words
+        (map missing_of c.missing) (sound.copies.each n c at).order stale)
 
     counted_now : BlockCounts m.sizes m.seen (m.block ++ e ∷ []) m.number
     counted_now =
-        let P : ℕ → ℕ → Type 0 = λ r d. BlockCounts m.sizes m.seen (m.block ++ event m.number (Fetch k.writers n r d) ∷ []) m.number in
+        let P : ℕ → ℕ → Type 0 =
+        λ r d. BlockCounts m.sizes m.seen (m.block ++ event m.number (Fetch k.writers n r d) ∷ []) m.number in
         subst₂ P (length-map c.missing missing_of ∙ sym counts.records) (sums_same ∙ sym counts.words)
-        (stale_counted m.sizes m.seen m.block m.number n k.writers c.page.words (map missing_of c.missing) (sound.copies.each n c at).order
-        (count_of_same (IsOwner c.missing) (λ q. (x : Missing) × Has (map missing_of c.missing) x × (x.owner ≡ q)) k.writers owners_same counts.writers) stale sound.counts)
+        (stale_counted m.sizes m.seen m.block m.number n k.writers c.page.words (map missing_of c.missing)
+        (sound.copies.each n c at).order
+        (count_of_same (IsOwner c.missing) (λ q. (x : Missing) × Has (map missing_of c.missing) x × (x.owner ≡ q))
+        k.writers owners_same counts.writers) stale sound.counts)
 
     dirty_now : IsDirty m.sizes (m.seen ++ (m.block ++ e ∷ [])) m.number n new c.page.dirty
     dirty_now =
-        let clean : c.page.dirty ≡ replicate m.sizes.words false = ((sound.copies.each n c at).stale invalid).2 ∙ ap (λ k. replicate k false) long in
-        let pushed = dirty_push m.sizes (m.seen ++ m.block) e m.number n c.page.words c.page.dirty refl refl (sound.copies.each n c at).dirty in
+        let clean : c.page.dirty ≡ replicate m.sizes.words false =
+        ((sound.copies.each n c at).stale invalid).2 ∙ ap (λ k. replicate k false) long in
+        let pushed =
+        dirty_push m.sizes (m.seen ++ m.block) e m.number n c.page.words c.page.dirty refl refl
+        (sound.copies.each n c at).dirty in
         let P : List Bool → Type 0 = λ ms. IsDirty m.sizes ((m.seen ++ m.block) ++ e ∷ []) m.number n c.page.words ms in
-        rw (clean, ← append_assoc m.seen m.block (e ∷ [])) (dirty_replaced m.sizes ((m.seen ++ m.block) ++ e ∷ []) m.number n c.page.words new sound.sizes.some_words (length-records_applied c.page.words (map words_of c.missing) ∙ long) (subst P clean pushed))
+        rw (clean, ← append_assoc m.seen m.block (e ∷ []))
+        (dirty_replaced m.sizes ((m.seen ++ m.block) ++ e ∷ []) m.number n c.page.words new sound.sizes.some_words
+        (length-records_applied c.page.words (map words_of c.missing) ∙ long) (subst P clean pushed))
 
     here : IsReplica m.sizes m.seen (m.block ++ e ∷ []) m.number n new (fetched c)
     here = record {
@@ -155,20 +205,24 @@ module _ (m : Local) (sound : IsSound m) (n : ℕ) (c : Copied) (at : slice_get 
       dirty = dirty_now;
     }
 
-    copies_now : (i : ℕ) (x : Copied) → slice_get (slice_set m.copies n (fetched c)) i ≡ Some x → IsReplica m.sizes m.seen (m.block ++ e ∷ []) m.number i (bases i) x
+    copies_now : (i : ℕ) (x : Copied) → slice_get (slice_set m.copies n (fetched c)) i ≡ Some x
+        → IsReplica m.sizes m.seen (m.block ++ e ∷ []) m.number i (bases i) x
     copies_now i x found = elim (cases_eq i n) [
       | inl same ↦
           (let P : ℕ → Type 0 = λ j. slice_get (slice_set m.copies n (fetched c)) j ≡ Some x in
           let is : fetched c ≡ x = slice_get-set_found m.copies n (fetched c) x (subst P same found) in
           let Q : ℕ → Copied → Type 0 = λ j y. IsReplica m.sizes m.seen (m.block ++ e ∷ []) m.number j (bases j) y in
-          subst₂ Q (sym same) is (subst (λ b. IsReplica m.sizes m.seen (m.block ++ e ∷ []) m.number n b (fetched c)) (sym (with_page_same n new sound.bases)) here))
-      | inr other ↦ subst (λ b. IsReplica m.sizes m.seen (m.block ++ e ∷ []) m.number i b x) (sym (with_page_other n i new sound.bases other)) (replica_pushed m.sizes m.seen m.block e m.number i (sound.bases i) x x refl refl (record {
-        words = refl;
-        dirty = refl;
-        access = refl;
-        missing = refl;
-        away = λ _. ((λ same. other (sym same)), refl);
-      }) (sound.copies.each i x (sym (slice_get-set_other m.copies n i (fetched c) other) ∙ found)))
+          subst₂ Q (sym same) is (subst (λ b. IsReplica m.sizes m.seen (m.block ++ e ∷ []) m.number n b (fetched c))
+          (sym (with_page_same n new sound.bases)) here))
+      | inr other ↦ subst (λ b. IsReplica m.sizes m.seen (m.block ++ e ∷ []) m.number i b x)
+          (sym (with_page_other n i new sound.bases other))
+          (replica_pushed m.sizes m.seen m.block e m.number i (sound.bases i) x x refl refl (record {
+            words = refl;
+            dirty = refl;
+            access = refl;
+            missing = refl;
+            away = λ _. ((λ same. other (sym same)), refl);
+          }) (sound.copies.each i x (sym (slice_get-set_other m.copies n i (fetched c) other) ∙ found)))
     ]
 
     -- a fetch applies the missing records and counts them
@@ -182,7 +236,9 @@ module _ (m : Local) (sound : IsSound m) (n : ℕ) (c : Copied) (at : slice_get 
       short = let grows = length_push m.block e in let room = may.room in omega arith;
       time = sound.time;
       bases = bases;
-      answers = answers_fetched m.sizes m.seen m.block m.number n k.writers k.records k.words c.page.words new (map missing_of c.missing) sound.bases stale sound.answers;
+      answers =
+          answers_fetched m.sizes m.seen m.block m.number n k.writers k.records k.words c.page.words new
+          (map missing_of c.missing) sound.bases stale sound.answers;
       counts = counted_now;
       copies = record { long = length-set m.copies n (fetched c) ∙ sound.copies.long; each = copies_now };
       marks = sound.marks;
@@ -193,18 +249,21 @@ module _ (m : Local) (sound : IsSound m) (n : ℕ) (c : Copied) (at : slice_get 
       unstored = λ waits. absurd (waits may.idle);
     }
       where
-        clean_now : (i : ℕ) (x : Copied) → slice_get (slice_set m.copies n (fetched c)) i ≡ Some x → slice_get m.stored i ≡ Some false → IsClean x.page
+        clean_now : (i : ℕ) (x : Copied) → slice_get (slice_set m.copies n (fetched c)) i ≡ Some x
+            → slice_get m.stored i ≡ Some false → IsClean x.page
         clean_now i x found unmarked = elim (cases_eq i n) [
           | inl same ↦
               (let P : ℕ → Type 0 = λ j. slice_get (slice_set m.copies n (fetched c)) j ≡ Some x in
               let is : fetched c ≡ x = slice_get-set_found m.copies n (fetched c) x (subst P same found) in
               let clean = ((sound.copies.each n c at).stale invalid).2 in
-              subst (λ (y : Copied). IsClean y.page) is (clean ∙ ap (λ j. replicate j false) (sym (length-records_applied c.page.words (map words_of c.missing)))))
+              subst (λ (y : Copied). IsClean y.page) is (clean ∙ ap (λ j. replicate j false)
+              (sym (length-records_applied c.page.words (map words_of c.missing)))))
           | inr other ↦ sound.clean i x (sym (slice_get-set_other m.copies n i (fetched c) other) ∙ found) unmarked
         ]
 
 -- the copy that is read at the page is the processor's, and stale
-pub stale_read : (was m : Local) (n : ℕ) (x : Copied) → was ≡ m → fetch_refusal m n ≡ None → x ≡ get_or was.copies n x → IsSound m → (slice_get m.copies n ≡ Some x) × (x.page.access ≡ Invalid)
+pub stale_read : (was m : Local) (n : ℕ) (x : Copied) → was ≡ m → fetch_refusal m n ≡ None → x ≡ get_or was.copies n x
+    → IsSound m → (slice_get m.copies n ≡ Some x) × (x.page.access ≡ Invalid)
 stale_read was m n x same free read sound =
     let P : List Copied → Type 0 = λ xs. x ≡ get_or xs n x in
     let within = (may_fetch m n free).within in
@@ -213,5 +272,12 @@ stale_read was m n x same free read sound =
     (at, stale_copy m n x free at)
 
 -- the parts of a processor after a fetch
-pub fetch_done : (was m : Local) (n : ℕ) (x y : Copied) (k : Counts) (block : List Event) → was ≡ m → y ≡ fetched x → block ≡ was.block ++ event was.number (Fetch k.writers n k.records k.words) ∷ [] → record was { block = block; copies = slice_set was.copies n y } ≡ fetched_at m n x k
-fetch_done was m n x y k block same y_is block_is = rw (y_is, block_is) (ap (λ (l : Local). record l { block = l.block ++ event l.number (Fetch k.writers n k.records k.words) ∷ []; copies = slice_set l.copies n (fetched x) }) same)
+pub fetch_done : (was m : Local) (n : ℕ) (x y : Copied) (k : Counts) (block : List Event) → was ≡ m → y ≡ fetched x
+    → block ≡ was.block ++ event was.number (Fetch k.writers n k.records k.words) ∷ []
+    → record was { block = block; copies = slice_set was.copies n y } ≡ fetched_at m n x k
+fetch_done was m n x y k block same y_is block_is =
+    rw (y_is, block_is) (ap (λ (l : Local). record l {
+      block = l.block ++ event l.number
+          (Fetch k.writers n k.records k.words) ∷ [];
+      copies = slice_set l.copies n (fetched x);
+    }) same)

@@ -20,15 +20,20 @@ use Rattle.cluster.proofs.Histories.{told_few}
 -- what p awaits is one thing
 pub awaited_once : (h : List Event) (p : ℕ) (v w : Option Kind) → IsAwaited h p v → IsAwaited h p w → v ≡ w
 awaited_once h p None None a b = refl
-awaited_once h p (Some k) w a b = let last = a.some k refl in a.last last.0 last.1 last.2 ∙ sym (b.last last.0 last.1 last.2)
-awaited_once h p None (Some k) a b = let last = b.some k refl in a.last last.0 last.1 last.2 ∙ sym (b.last last.0 last.1 last.2)
+awaited_once h p (Some k) w a b =
+    let last = a.some k refl in a.last last.0 last.1 last.2 ∙ sym (b.last last.0 last.1 last.2)
+awaited_once h p None (Some k) a b =
+    let last = b.some k refl in a.last last.0 last.1 last.2 ∙ sym (b.last last.0 last.1 last.2)
 
 -- and so is the timestamp of a set of places
-pub stamp_once : (n : ℕ) (h : List Event) (among : ℕ → Type 0) (t u : List ℕ) → IsStamp n h among t → IsStamp n h among u → t ≡ u
-stamp_once n h among t u a b = ext_get_or 0 t u (a.long ∙ sym b.long) (λ q _. time_unique h among (slice_index t) (slice_index u) q a.is b.is)
+pub stamp_once : (n : ℕ) (h : List Event) (among : ℕ → Type 0) (t u : List ℕ) → IsStamp n h among t
+    → IsStamp n h among u → t ≡ u
+stamp_once n h among t u a b =
+    ext_get_or 0 t u (a.long ∙ sym b.long) (λ q _. time_unique h among (slice_index t) (slice_index u) q a.is b.is)
 
 -- what stands at a place within a list
-pub at_or : {A : Type 0} (xs : List A) (k n : ℕ) (d : A) → length xs ≡ n → k < n → slice_get xs k ≡ Some (slice_index_or xs k d)
+pub at_or : {A : Type 0} (xs : List A) (k n : ℕ) (d : A) → length xs ≡ n → k < n
+    → slice_get xs k ≡ Some (slice_index_or xs k d)
 at_or xs k n d long within = slice_get-get_or xs k d (omega arith)
 
 module _ (m : Local) (sound : IsSound m) (b : State) (f : Finds m b) where
@@ -37,19 +42,24 @@ module _ (m : Local) (sound : IsSound m) (b : State) (f : Finds m b) where
   here = found m f.rest
 
   pub here_sound : IsSound (found m f.rest)
-  here_sound = found_sound m f.rest sound f.away f.kept.told.well_formed (told_few m.sizes (m.seen ++ f.rest) b f.kept.told f.kept.few)
+  here_sound =
+      found_sound m f.rest sound f.away f.kept.told.well_formed
+      (told_few m.sizes (m.seen ++ f.rest) b f.kept.told f.kept.few)
 
   pub awaits_found : slice_get b.awaits m.number ≡ Some m.awaits
   awaits_found =
       let told = f.kept.told.awaits in
       let at = at_or b.awaits m.number m.sizes.processors None told.long sound.mine in
-      at ∙ ap (λ (w : Option Kind). Some w) (awaited_once (m.seen ++ f.rest) m.number (slice_index_or b.awaits m.number None) m.awaits (told.each m.number (slice_index_or b.awaits m.number None) at) here_sound.awaits)
+      at ∙ ap (λ (w : Option Kind). Some w)
+      (awaited_once (m.seen ++ f.rest) m.number (slice_index_or b.awaits m.number None) m.awaits
+      (told.each m.number (slice_index_or b.awaits m.number None) at) here_sound.awaits)
 
   pub time_found : time_of b m.number ≡ m.time
   time_found =
       let told = f.kept.told.times in
       let at = at_or b.times m.number m.sizes.processors [] told.long sound.mine in
-      stamp_once m.sizes.processors (m.seen ++ f.rest) (InPast (m.seen ++ f.rest) m.number) (time_of b m.number) m.time (told.each m.number (time_of b m.number) at) here_sound.time
+      stamp_once m.sizes.processors (m.seen ++ f.rest) (InPast (m.seen ++ f.rest) m.number) (time_of b m.number)
+      m.time (told.each m.number (time_of b m.number) at) here_sound.time
 
   -- p may hand in its block
   pub may_give : MayGive m.sizes b m.number m.block

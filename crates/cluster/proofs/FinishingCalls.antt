@@ -23,7 +23,9 @@ use Rattle.cluster.proofs.Covering.{covered_on, part_away}
 use Rattle.cluster.proofs.Finding.{awaited_once, at_or}
 use Rattle.cluster.proofs.Handing.{part_own}
 
-module _ (s : Sizes) (ms : List Local) (k : ℕ) (b : State) (m : Local) (at : slice_get ms k ≡ Some m) (rest : List Event) (away : (i : ℕ) (e : Event) → At rest i e → e.processor ≢ m.number) (fin : IsFinishing s ms k (m.seen ++ rest) b) where
+module _ (s : Sizes) (ms : List Local) (k : ℕ) (b : State) (m : Local) (at : slice_get ms k ≡ Some m)
+    (rest : List Event) (away : (i : ℕ) (e : Event) → At rest i e
+    → e.processor ≢ m.number) (fin : IsFinishing s ms k (m.seen ++ rest) b) where
   abbrev h : List Event
   h = m.seen ++ rest
 
@@ -44,7 +46,9 @@ module _ (s : Sizes) (ms : List Local) (k : ℕ) (b : State) (m : Local) (at : s
       let told = fin.told.awaits in
       let within : m.number < s.processors = subst (λ (z : Sizes). m.number < z.processors) sizes sound.mine in
       let there = at_or b.awaits m.number s.processors None told.long within in
-      there ∙ ap (λ (w : Option Kind). Some w) (awaited_once h m.number (slice_index_or b.awaits m.number None) m.awaits (told.each m.number (slice_index_or b.awaits m.number None) there) (awaited_others m.seen rest m.number m.awaits away sound.awaits))
+      there ∙ ap (λ (w : Option Kind). Some w) (awaited_once h m.number (slice_index_or b.awaits m.number None)
+      m.awaits (told.each m.number (slice_index_or b.awaits m.number None) there)
+      (awaited_others m.seen rest m.number m.awaits away sound.awaits))
 
   may_give_last : MayGive s b m.number m.block
   may_give_last = record { waits = (m.awaits, awaits_here, sound.quiet); inner = rw (← sizes) sound.inner }
@@ -70,7 +74,15 @@ module _ (s : Sizes) (ms : List Local) (k : ℕ) (b : State) (m : Local) (at : s
     sound = fin.sound;
     done = done;
     to_come = to_come;
-    in_turn = (fin.in_turn.0, rw (more, flat_map-append, append-nil, ← append_assoc) (ap (λ (xs : List Event). xs ++ m.block) fin.in_turn.1));
+    in_turn = (
+      fin.in_turn.0,
+      rw (
+        more,
+        flat_map-append,
+        append-nil,
+        ← append_assoc,
+      ) (ap (λ (xs : List Event). xs ++ m.block) fin.in_turn.1),
+    );
   }
     where
       more : take (k + 1) ms ≡ take k ms ++ m ∷ []
@@ -83,14 +95,26 @@ module _ (s : Sizes) (ms : List Local) (k : ℕ) (b : State) (m : Local) (at : s
             let is : m ≡ x = cc (at, subst P same there) in
             subst (HasCallsOf (h ++ m.block)) is (record {
               begins = (rest ++ m.block, append_assoc m.seen rest m.block);
-              calls_are = rw (filter-append, filter-append, part_away rest m.number away, part_own m.block m.number mine, append-nil) refl;
+              calls_are =
+                  rw (
+                    filter-append,
+                    filter-append,
+                    part_away rest m.number away,
+                    part_own m.block m.number mine,
+                    append-nil,
+                  ) refl;
             }))
         | inr other ↦
             (let old = fin.done p x (omega arith) there in
             let own = (fin.sound p x there).1 in
-            let apart : (i : ℕ) (e : Event) → At m.block i e → e.processor ≢ x.number = λ i e here is. other (sym own ∙ sym is ∙ mine i e here ∙ number) in
+            let apart : (i : ℕ) (e : Event) → At m.block i e → e.processor ≢ x.number =
+            λ i e here is. other (sym own ∙ sym is ∙ mine i e here ∙ number) in
             record {
-              begins = (old.begins.0 ++ m.block, ap (λ (xs : List Event). xs ++ m.block) old.begins.1 ∙ append_assoc x.seen old.begins.0 m.block);
+              begins = (
+                old.begins.0 ++ m.block,
+                ap (λ (xs : List Event). xs ++ m.block) old.begins.1
+                    ∙ append_assoc x.seen old.begins.0 m.block,
+              );
               calls_are = rw (filter-append, part_away m.block x.number apart, append-nil) old.calls_are;
             })
       ]
@@ -108,7 +132,8 @@ module _ (s : Sizes) (ms : List Local) (k : ℕ) (b : State) (m : Local) (at : s
             ];
           }
 
-module _ (s : Sizes) (ms : List Local) (k : ℕ) (h : List Event) (b : State) (fin : IsFinishing s ms k h b) (m : Local) (at : slice_get ms k ≡ Some m) where
+module _ (s : Sizes) (ms : List Local) (k : ℕ) (h : List Event) (b : State) (fin : IsFinishing s ms k h b) (m : Local)
+    (at : slice_get ms k ≡ Some m) where
   abbrev come : IsToCome h m
   come = fin.to_come k m (omega arith) at
 
@@ -127,19 +152,24 @@ module _ (s : Sizes) (ms : List Local) (k : ℕ) (h : List Event) (b : State) (f
   one_more = ((m.seen ++ come.rest) ++ m.block, finishing_step s ms k b m at come.rest come.away here)
 
 -- what stands at a place of a mapped list
-pub mapped_at : {A B : Type 0} (f : A → B) (xs : List A) (k : ℕ) (x : A) → slice_get xs k ≡ Some x → slice_get (map f xs) k ≡ Some (f x)
+pub mapped_at : {A B : Type 0} (f : A → B) (xs : List A) (k : ℕ) (x : A) → slice_get xs k ≡ Some x
+    → slice_get (map f xs) k ≡ Some (f x)
 mapped_at f xs k x at = slice_get-map f xs k ∙ ap (option_map f) at
 
 -- the processor whose block stands at this place
-pub block_of : (ms : List Local) (blocks : List (List Event)) (k : ℕ) (block : List Event) → AreBlocksOf ms blocks → slice_get blocks k ≡ Some block → (m : Local) × (slice_get ms k ≡ Some m) × (block ≡ m.block)
-block_of [] blocks k block are at = let within = slice_get_within blocks k block at in let all = are.all in absurd (omega arith)
+pub block_of : (ms : List Local) (blocks : List (List Event)) (k : ℕ) (block : List Event) → AreBlocksOf ms blocks
+    → slice_get blocks k ≡ Some block → (m : Local) × (slice_get ms k ≡ Some m) × (block ≡ m.block)
+block_of [] blocks k block are at =
+    let within = slice_get_within blocks k block at in let all = are.all in absurd (omega arith)
 block_of (x ∷ xs) blocks k block are at =
     let within = slice_get_within blocks k block at in
     let all = are.all in
     let there = slice_get-get_or (x ∷ xs) k x (omega arith) in
     (slice_index_or (x ∷ xs) k x, there, are.each k (slice_index_or (x ∷ xs) k x) block there at)
 
-module _ (ms : List Local) (s : Sizes) (h : List Event) (b : State) (k : ℕ) (fin : IsFinishing s ms k h b) (blocks : List (List Event)) (are : AreBlocksOf ms blocks) (block : List Event) (at : slice_get blocks k ≡ Some block) where
+module _ (ms : List Local) (s : Sizes) (h : List Event) (b : State) (k : ℕ) (fin : IsFinishing s ms k h b)
+    (blocks : List (List Event)) (are : AreBlocksOf ms blocks) (block : List Event)
+    (at : slice_get blocks k ≡ Some block) where
   pub may_last_block : MayFlush b k block
   may_last_block = let m = block_of ms blocks k block are at in rw (m.2) (may_last s ms k h b fin m.0 m.1)
 

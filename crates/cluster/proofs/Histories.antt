@@ -22,11 +22,14 @@ faithful s h well explained counted = record {
   well_formed = well;
   explained = explained;
   counted = counted;
-  flat = λ k none. flat_up_to (addresses s) h k (λ i p a v does. (well i (event p (Load a v)) does).in_range) explained none;
+  flat =
+      λ k none.
+      flat_up_to (addresses s) h k (λ i p a v does. (well i (event p (Load a v)) does).in_range) explained none;
 }
 
 -- a history that tells a book has the events cut off, and the journal's
-pub told_long : (s : Sizes) (h : List Event) (b : State) → IsTold s h b → length h ≡ b.journal.base.cut + length b.journal.events
+pub told_long : (s : Sizes) (h : List Event) (b : State) → IsTold s h b
+    → length h ≡ b.journal.base.cut + length b.journal.events
 told_long s h b told =
     let long = ap length told.holds.rest.history in
     let both = length-append told.holds.taken b.journal.events in
@@ -34,20 +37,28 @@ told_long s h b told =
     omega arith
 
 -- so it is short
-pub told_few : (s : Sizes) (h : List Event) (b : State) → IsTold s h b → length b.journal.events ≤ most_events → length h ≤ most_seen
+pub told_few : (s : Sizes) (h : List Event) (b : State) → IsTold s h b → length b.journal.events ≤ most_events
+    → length h ≤ most_seen
 told_few s h b told few = let long = told_long s h b told in let cut = told.holds.rest.few in omega arith
 
 -- a journal like that of a book that the history tells
-pub journal_of : (s : Sizes) (h : List Event) (b : State) (j : Log) (told : IsTold s h b) → j ≡ record b.journal { room = j.room } → IsJournalOf s told.holds.taken h j
+pub journal_of : (s : Sizes) (h : List Event) (b : State) (j : Log) (told : IsTold s h b)
+    → j ≡ record b.journal { room = j.room } → IsJournalOf s told.holds.taken h j
 journal_of s h b j told same = record {
   processors = ap (λ (x : Log). x.processors) same ∙ told.sizes.processors;
   addresses_are = ap (λ (x : Log). x.addresses) same ∙ told.sizes.addresses;
-  holds = subst (λ (l : Log). HoldsRest l told.holds.taken h) (sym same) (record { history = told.holds.rest.history; base = told.holds.rest.base; few = told.holds.rest.few });
+  holds = subst (λ (l : Log). HoldsRest l told.holds.taken h) (sym same) (record {
+    history = told.holds.rest.history;
+    base = told.holds.rest.base;
+    few = told.holds.rest.few;
+  });
 }
 
 -- what was cut off is its beginning
-pub taken_is : (s : Sizes) (h : List Event) (b : State) (told : IsTold s h b) → told.holds.taken ≡ take b.journal.base.cut h
+pub taken_is : (s : Sizes) (h : List Event) (b : State) (told : IsTold s h b)
+    → told.holds.taken ≡ take b.journal.base.cut h
 taken_is s h b told =
     let cut = told.holds.rest.base.after.cut in
     let long : length told.holds.taken ≡ b.journal.base.cut = omega arith in
-    sym (ap₂ (λ (n : ℕ) (xs : List Event). take n xs) (sym long) told.holds.rest.history ∙ take-append_seam told.holds.taken b.journal.events)
+    sym (ap₂ (λ (n : ℕ) (xs : List Event). take n xs) (sym long) told.holds.rest.history
+    ∙ take-append_seam told.holds.taken b.journal.events)

@@ -1,7 +1,7 @@
 -- A call of one processor keeps what the book's lock keeps, whatever the others have seen.
 use Rattle.std.proofs.Common.{ℕ, ◌≡◌, ◌≢◌, ◌≤◌, ◌+◌, Some, List, [], ◌∷◌, ◌++◌, drop, length, slice_get, slice_set, inl, inr, refl, sym, ap, subst, ◌∙◌, append_assoc, append-nil, arith}
 use Rattle.std.proofs.lemmas.Bool.{cases_eq}
-use Rattle.std.proofs.lemmas.Option.{none-some}
+use Rattle.std.proofs.lemmas.Option.{none-some, slice_get_within}
 use Rattle.std.proofs.lemmas.List.{length-append, length-set}
 use Rattle.std.proofs.Math.Seq.{drop-append_seam}
 use Rattle.journal.specs.declared.event.Event.{Event}
@@ -17,7 +17,7 @@ use Rattle.journal.proofs.Copies.Loads.{explained_push}
 use Rattle.journal.proofs.Missing.Counted.{counted_push}
 use Rattle.lists.specs.Limits.{most_events}
 use Rattle.lists.proofs.Places.{append_cases, push_cases}
-use Rattle.lists.proofs.Sets.{slice_get-set_found, slice_get-set_other}
+use Rattle.lists.proofs.Sets.{slice_get-set_found, slice_get-set_other, slice_get-set_same}
 use Rattle.book.specs.State.{State}
 use Rattle.book.specs.Told.{IsTold}
 use Rattle.book.specs.Transitions.{handed_in}
@@ -28,17 +28,26 @@ use Rattle.cluster.specs.declared.keeper.View.{View}
 use Rattle.cluster.specs.Kept.{GoesOn, IsKept, Kept, Sees, added, view_of}
 use Rattle.cluster.specs.Covers.{IsCovered}
 use Rattle.cluster.specs.Entering.{Finds, IsCallOf}
+use Rattle.cluster.specs.Laws.{SeenLaw}
 use Rattle.cluster.proofs.Covering.{covered_on}
 use Rattle.cluster.proofs.Finding.{may_give}
 
-module _ (s : Sizes) (h : List Event) (b : State) (views : List View) (kept : IsKept s h b views) (p : ℕ) (es : List Event) (mine : (k : ℕ) (e : Event) → At es k e → e.processor ≡ p) (cut : ℕ) where
+module _ (s : Sizes) (h : List Event) (b : State) (views : List View) (kept : IsKept s h b views) (p : ℕ)
+    (es : List Event) (mine : (k : ℕ) (e : Event) → At es k e → e.processor ≡ p) (cut : ℕ) where
   -- p has seen all, and for the others it is one of those that went on
-  goes_on : (q : ℕ) (x : View) → slice_get (slice_set views p (view_of s (h ++ es) cut)) q ≡ Some x → GoesOn s (h ++ es) q x
+  goes_on : (q : ℕ) (x : View) → slice_get (slice_set views p (view_of s (h ++ es) cut)) q ≡ Some x
+      → GoesOn s (h ++ es) q x
   goes_on q x found = elim (cases_eq q p) [
     | inl same ↦
         (let P : ℕ → Type 0 = λ k. slice_get (slice_set views p (view_of s (h ++ es) cut)) k ≡ Some x in
-        let is : view_of s (h ++ es) cut ≡ x = slice_get-set_found views p (view_of s (h ++ es) cut) x (subst P same found) in
-        subst (GoesOn s (h ++ es) q) is (record { shape = refl; rest = []; begins = sym (append-nil (h ++ es)); away = λ k e at. absurd (none-some e at) }))
+        let is : view_of s (h ++ es) cut ≡ x =
+        slice_get-set_found views p (view_of s (h ++ es) cut) x (subst P same found) in
+        subst (GoesOn s (h ++ es) q) is (record {
+          shape = refl;
+          rest = [];
+          begins = sym (append-nil (h ++ es));
+          away = λ k e at. absurd (none-some e at);
+        }))
     | inr other ↦
         (let goes = kept.each q x (sym (slice_get-set_other views p q (view_of s (h ++ es) cut) other) ∙ found) in
         record {
@@ -53,17 +62,24 @@ module _ (s : Sizes) (h : List Event) (b : State) (views : List View) (kept : Is
   ]
 
   -- nobody knows of more cut off than was
-  behind_on : (c : ℕ) → b.journal.base.cut ≤ c → cut ≤ c → (q : ℕ) (x : View) → slice_get (slice_set views p (view_of s (h ++ es) cut)) q ≡ Some x → x.cut ≤ c
+  behind_on : (c : ℕ) → b.journal.base.cut ≤ c → cut ≤ c → (q : ℕ) (x : View)
+      → slice_get (slice_set views p (view_of s (h ++ es) cut)) q ≡ Some x → x.cut ≤ c
   behind_on c more mine q x found = elim (cases_eq q p) [
     | inl same ↦
         (let P : ℕ → Type 0 = λ k. slice_get (slice_set views p (view_of s (h ++ es) cut)) k ≡ Some x in
-        let is : view_of s (h ++ es) cut ≡ x = slice_get-set_found views p (view_of s (h ++ es) cut) x (subst P same found) in
+        let is : view_of s (h ++ es) cut ≡ x =
+        slice_get-set_found views p (view_of s (h ++ es) cut) x (subst P same found) in
         subst (λ (v : View). v.cut ≤ c) is mine)
-    | inr other ↦ (let le = kept.behind q x (sym (slice_get-set_other views p q (view_of s (h ++ es) cut) other) ∙ found) in omega arith)
+    | inr other ↦
+        (let le = kept.behind q x (sym (slice_get-set_other views p q (view_of s (h ++ es) cut) other) ∙ found) in
+        omega arith)
   ]
 
-  pub kept_on : (c : State) → IsTold s (h ++ es) c → Explained (h ++ es) → AreCounted s (h ++ es) → length c.journal.events ≤ most_events → c.journal.room ≡ b.journal.room → b.journal.base.cut ≤ c.journal.base.cut → cut ≤ c.journal.base.cut → IsKept s (h ++ es) c (slice_set views p (view_of s (h ++ es) cut))
-  kept_on c told explained counted few room more mine = record {
+  pub kept_on : (x : View) → slice_get views p ≡ Some x → (c : State) → IsTold s (h ++ es) c → Explained (h ++ es)
+      → AreCounted s (h ++ es) → length c.journal.events ≤ most_events → c.journal.room ≡ b.journal.room
+      → b.journal.base.cut ≤ c.journal.base.cut → cut ≤ c.journal.base.cut
+      → IsKept s (h ++ es) c (slice_set views p (view_of s (h ++ es) cut))
+  kept_on x at c told explained counted few room more mine = record {
     told = told;
     explained = explained;
     counted = counted;
@@ -71,25 +87,42 @@ module _ (s : Sizes) (h : List Event) (b : State) (views : List View) (kept : Is
     all = length-set views p (view_of s (h ++ es) cut) ∙ kept.all;
     each = goes_on;
     behind = behind_on c.journal.base.cut more mine;
+    whole =
+        (let now = view_of s (h ++ es) cut in
+        (p, now, slice_get-set_same views p now (slice_get_within views p x at), refl));
     owing = room ∙ kept.owing;
   }
 
 -- what p finds, where the lock's fact holds with what p has seen
-abbrev pub finds : (m : Local) (b : State) (views : List View) → slice_get views m.number ≡ Some (view_of m.sizes m.seen m.cut) → Kept b views → Finds m b
+abbrev pub finds : (m : Local) (b : State) (views : List View)
+    → slice_get views m.number ≡ Some (view_of m.sizes m.seen m.cut) → Kept b views → Finds m b
 finds m b views at fact =
     let s = fact.0 in
     let h = fact.1 in
     let goes = fact.2.each m.number (view_of m.sizes m.seen m.cut) at in
     let P : Sizes → Type 0 = λ z. IsKept z h b views in
     let Q : List Event → Type 0 = λ xs. IsKept m.sizes xs b views in
-    record { rest = goes.rest; views = views; away = goes.away; at = at; kept = subst Q goes.begins (subst P (sym goes.shape) fact.2) }
+    record {
+      rest = goes.rest;
+      views = views;
+      away = goes.away;
+      at = at;
+      kept = subst Q goes.begins (subst P (sym goes.shape) fact.2);
+    }
 
 -- the call keeps the fact
-pub call_kept : (m : Local) (old : State) (es : List Event) (new : State) → IsCallOf m old es new → (f : Finds m old) → IsKept m.sizes ((m.seen ++ f.rest) ++ es) new (slice_set f.views m.number (view_of m.sizes ((m.seen ++ f.rest) ++ es) new.journal.base.cut))
-call_kept m old es new call f = kept_on m.sizes (m.seen ++ f.rest) old f.views f.kept m.number es call.mine new.journal.base.cut new (call.told f) (call.explained f) (call.counted f) (call.few f) call.room call.more (omega arith)
+pub call_kept : (m : Local) (old : State) (es : List Event) (new : State) → IsCallOf m old es new → (f : Finds m old)
+    → IsKept m.sizes ((m.seen ++ f.rest) ++ es) new
+    (slice_set f.views m.number (view_of m.sizes ((m.seen ++ f.rest) ++ es) new.journal.base.cut))
+call_kept m old es new call f =
+    kept_on m.sizes (m.seen ++ f.rest) old f.views f.kept m.number es call.mine new.journal.base.cut
+    (view_of m.sizes m.seen m.cut) f.at new (call.told f) (call.explained f) (call.counted f) (call.few f)
+    call.room call.more (omega arith)
 
 -- so p may leave the new book
-pub may_leave : (m : Local) (old : State) (es : List Event) (new : State) → IsCallOf m old es new → (views : List View) → slice_get views m.number ≡ Some (view_of m.sizes m.seen m.cut) → Kept old views → (w : View) × Sees old new m.number (view_of m.sizes m.seen m.cut) w × Kept new (slice_set views m.number w)
+pub may_leave : (m : Local) (old : State) (es : List Event) (new : State) → IsCallOf m old es new
+    → (views : List View) → slice_get views m.number ≡ Some (view_of m.sizes m.seen m.cut) → Kept old views
+    → (w : View) × Sees old new m.number (view_of m.sizes m.seen m.cut) w × Kept new (slice_set views m.number w)
 may_leave m old es new call views at fact =
     let f = finds m old views at fact in
     let h = (m.seen ++ f.rest) ++ es in (
@@ -105,6 +138,17 @@ may_leave m old es new call views at fact =
       },
       (m.sizes, h, call_kept m old es new call f),
     )
+
+-- so the longest that was seen is the whole history
+pub seen_law : SeenLaw
+seen_law b views fact = (
+  fact.1,
+  record {
+    holds = fact.2.told.holds;
+    whole = fact.2.whole;
+    begins = λ p v at. (let goes = fact.2.each p v at in (goes.rest, goes.begins));
+  },
+)
 
 -- a journal that goes on with these events
 adds_events : (old new : Log) (es : List Event) → new.events ≡ old.events ++ es → added old new ≡ es
@@ -132,11 +176,14 @@ module _ (m : Local) (sound : IsSound m) (b : State) where
   covered f = covered_on m sound f.rest f.away f.kept.told.well_formed f.kept.explained f.kept.counted
 
   -- the events that the journal has then are as many
-  few_then : (n : ℕ) (es : List Event) (new : State) → length b.journal.events + n ≤ most_events → length es ≡ n → new.journal.events ≡ b.journal.events ++ es → length new.journal.events ≤ most_events
-  few_then n es new fits long goes = let all = ap length goes in let both = length-append b.journal.events es in omega arith
+  few_then : (n : ℕ) (es : List Event) (new : State) → length b.journal.events + n ≤ most_events → length es ≡ n
+      → new.journal.events ≡ b.journal.events ++ es → length new.journal.events ≤ most_events
+  few_then n es new fits long goes =
+      let all = ap length goes in let both = length-append b.journal.events es in omega arith
 
   -- the block is handed in
-  pub call_of_block : length b.journal.events + length m.block ≤ most_events → IsCallOf m b m.block (handed_in b m.block)
+  pub call_of_block : length b.journal.events + length m.block ≤ most_events
+      → IsCallOf m b m.block (handed_in b m.block)
   call_of_block fits = record {
     mine = λ k e at. (sound.inner k e at).mine;
     adds = adds_events b.journal (handed_in b m.block).journal m.block refl;
@@ -149,27 +196,55 @@ module _ (m : Local) (sound : IsSound m) (b : State) where
   }
 
   -- the block, and an event after it that is neither a load nor a fetch
-  pub call_of_event : (k : Kind) (new : State) → ((a v : ℕ) → k ≢ Load a v) → ((w n r d : ℕ) → k ≢ Fetch w n r d) → length b.journal.events + length m.block + 1 ≤ most_events → new.journal.events ≡ b.journal.events ++ (m.block ++ event m.number k ∷ []) → new.journal.room ≡ b.journal.room → new.journal.base.cut ≡ b.journal.base.cut → ((f : Finds m b) → IsTold m.sizes (did ((m.seen ++ f.rest) ++ m.block) m.number k) new) → IsCallOf m b (m.block ++ event m.number k ∷ []) new
+  pub call_of_event : (k : Kind) (new : State) → ((a v : ℕ) → k ≢ Load a v) → ((w n r d : ℕ) → k ≢ Fetch w n r d)
+      → length b.journal.events + length m.block + 1 ≤ most_events
+      → new.journal.events ≡ b.journal.events ++ (m.block ++ event m.number k ∷ [])
+      → new.journal.room ≡ b.journal.room → new.journal.base.cut ≡ b.journal.base.cut
+      → ((f : Finds m b) → IsTold m.sizes (did ((m.seen ++ f.rest) ++ m.block) m.number k) new)
+      → IsCallOf m b (m.block ++ event m.number k ∷ []) new
   call_of_event k new no_load no_fetch fits goes room cut told = record {
-    mine = λ i e at. elim (push_cases m.block (event m.number k) i e at) [ inl h ↦ (sound.inner i e h.1).mine | inr h ↦ ap (λ (x : Event). x.processor) (sym h.1) ];
+    mine = λ i e at. elim (push_cases m.block (event m.number k) i e at) [
+      | inl h ↦ (sound.inner i e h.1).mine
+      | inr h ↦ ap (λ (x : Event). x.processor) (sym h.1)
+    ];
     adds = adds_events b.journal new.journal (m.block ++ event m.number k ∷ []) goes;
     room = room;
     told = λ f. rw (← append_assoc (m.seen ++ f.rest) m.block (event m.number k ∷ [])) (told f);
-    explained = λ f. rw (← append_assoc (m.seen ++ f.rest) m.block (event m.number k ∷ [])) (explained_push ((m.seen ++ f.rest) ++ m.block) (event m.number k) (covered f).explained (λ p a v is. absurd (no_load a v (ap (λ (x : Event). x.kind) is))));
-    counted = λ f. rw (← append_assoc (m.seen ++ f.rest) m.block (event m.number k ∷ [])) (counted_push m.sizes ((m.seen ++ f.rest) ++ m.block) (event m.number k) (λ p n w r d is. absurd (no_fetch w n r d (ap (λ (x : Event). x.kind) is))) (covered f).counted);
-    few = λ _. few_then (length m.block + 1) (m.block ++ event m.number k ∷ []) new (omega arith) (length-append m.block (event m.number k ∷ [])) goes;
+    explained =
+        λ f. rw (← append_assoc (m.seen ++ f.rest) m.block (event m.number k ∷ []))
+        (explained_push ((m.seen ++ f.rest) ++ m.block) (event m.number k) (covered f).explained (λ p a v is.
+        absurd (no_load a v (ap (λ (x : Event). x.kind) is))));
+    counted =
+        λ f. rw (← append_assoc (m.seen ++ f.rest) m.block (event m.number k ∷ []))
+        (counted_push m.sizes ((m.seen ++ f.rest) ++ m.block) (event m.number k) (λ p n w r d is.
+        absurd (no_fetch w n r d (ap (λ (x : Event). x.kind) is))) (covered f).counted);
+    few =
+        λ _. few_then (length m.block + 1) (m.block ++ event m.number k ∷ []) new (omega arith)
+        (length-append m.block (event m.number k ∷ [])) goes;
     more = (let same = cut in omega arith);
   }
 
   -- an event alone that is neither
-  pub call_of_event_alone : (k : Kind) (new : State) → ((a v : ℕ) → k ≢ Load a v) → ((w n r d : ℕ) → k ≢ Fetch w n r d) → length b.journal.events + 1 ≤ most_events → new.journal.events ≡ b.journal.events ++ event m.number k ∷ [] → new.journal.room ≡ b.journal.room → new.journal.base.cut ≡ b.journal.base.cut → ((f : Finds m b) → IsTold m.sizes (did (m.seen ++ f.rest) m.number k) new) → IsCallOf m b (event m.number k ∷ []) new
+  pub call_of_event_alone : (k : Kind) (new : State) → ((a v : ℕ) → k ≢ Load a v)
+      → ((w n r d : ℕ) → k ≢ Fetch w n r d) → length b.journal.events + 1 ≤ most_events
+      → new.journal.events ≡ b.journal.events ++ event m.number k ∷ [] → new.journal.room ≡ b.journal.room
+      → new.journal.base.cut ≡ b.journal.base.cut
+      → ((f : Finds m b) → IsTold m.sizes (did (m.seen ++ f.rest) m.number k) new)
+      → IsCallOf m b (event m.number k ∷ []) new
   call_of_event_alone k new no_load no_fetch fits goes room cut told = record {
-    mine = λ i e at. elim (push_cases [] (event m.number k) i e at) [ inl h ↦ absurd (none-some e h.1) | inr h ↦ ap (λ (x : Event). x.processor) (sym h.1) ];
+    mine = λ i e at. elim (push_cases [] (event m.number k) i e at) [
+      | inl h ↦ absurd (none-some e h.1)
+      | inr h ↦ ap (λ (x : Event). x.processor) (sym h.1)
+    ];
     adds = adds_events b.journal new.journal (event m.number k ∷ []) goes;
     room = room;
     told = told;
-    explained = λ f. explained_push (m.seen ++ f.rest) (event m.number k) f.kept.explained (λ p a v is. absurd (no_load a v (ap (λ (x : Event). x.kind) is)));
-    counted = λ f. counted_push m.sizes (m.seen ++ f.rest) (event m.number k) (λ p n w r d is. absurd (no_fetch w n r d (ap (λ (x : Event). x.kind) is))) f.kept.counted;
+    explained =
+        λ f. explained_push (m.seen ++ f.rest) (event m.number k) f.kept.explained (λ p a v is.
+        absurd (no_load a v (ap (λ (x : Event). x.kind) is)));
+    counted =
+        λ f. counted_push m.sizes (m.seen ++ f.rest) (event m.number k) (λ p n w r d is.
+        absurd (no_fetch w n r d (ap (λ (x : Event). x.kind) is))) f.kept.counted;
     few = λ _. few_then 1 (event m.number k ∷ []) new fits refl goes;
     more = (let same = cut in omega arith);
   }

@@ -37,7 +37,14 @@ entered_sound m b sound f cut = entering.entered_sound (found m f.rest) (m.entri
 
 -- copies that are alike
 pub alike_all : (xs : List Copied) → AreSameCopies xs xs
-alike_all xs = record { all = refl; each = λ n c d a b. (let P : Copied → Type 0 = λ x. IsSameCopy c x in let is : c ≡ d = cc (a, b) in subst P is (record { page = refl; missing = refl })) }
+alike_all xs = record {
+  all = refl;
+  each =
+      λ n c d a b. (let P : Copied → Type 0 = λ x. IsSameCopy c x in let is : c ≡ d = cc (a, b) in subst P is (record {
+        page = refl;
+        missing = refl;
+      }));
+}
 
 -- what others did is none of p's calls
 pub calls_entered : (m : Local) (b : State) (f : Finds m b) (cut : ℕ) → calls (entered m f.rest cut) ≡ calls m
@@ -48,7 +55,9 @@ pub free_of : {A : Type 0} (first : Option A) (e : A) → first ≡ None → ¬ 
 free_of first e none some = none-some e (sym none ∙ some)
 
 -- a call that is refused for a reason that the processor knows by itself
-pub call_outside : (first : Option Refused) (many : ℕ) (absent : Local → Type 0) (done : Local → Local → Type 0) (added : List Event) (m n : Local) (e : Refused) → first ≡ Some e → n ≡ m → Covers m → IsCall first many absent done added m n (Some e)
+pub call_outside : (first : Option Refused) (many : ℕ) (absent : Local → Type 0) (done : Local → Local
+    → Type 0) (added : List Event) (m n : Local) (e : Refused) → first ≡ Some e → n ≡ m → Covers m
+    → IsCall first many absent done added m n (Some e)
 call_outside first many absent done added m n e is same covered = record {
   same = rw same (record { lock = refl; number = refl; sizes = refl });
   outside = λ d there. (sym is ∙ there, same);
@@ -60,7 +69,9 @@ call_outside first many absent done added m n e is same covered = record {
 }
 
 -- a call that found no memory before it could enter
-pub call_unmade : (first : Option Refused) (many : ℕ) (absent : Local → Type 0) (done : Local → Local → Type 0) (added : List Event) (m : Local) (e : Refused) → first ≡ None → e ≡ NoMemory → IsSound m → IsCall first many absent done added m m (Some e)
+pub call_unmade : (first : Option Refused) (many : ℕ) (absent : Local → Type 0) (done : Local → Local
+    → Type 0) (added : List Event) (m : Local) (e : Refused) → first ≡ None → e ≡ NoMemory → IsSound m
+    → IsCall first many absent done added m m (Some e)
 call_unmade first many absent done added m e free is sound = record {
   same = record { lock = refl; number = refl; sizes = refl };
   outside = λ d there. absurd (free_of first d free there);
@@ -73,7 +84,10 @@ call_unmade first many absent done added m e free is sound = record {
 
 -- who has entered as often as it may
 pub seat_spent : (m : Local) → m.entries ≡ m.lock.limit → is_spent m ≡ true
-seat_spent m all = rw all (elim (leb_tells m.lock.limit m.lock.limit) [ inl h ↦ h.0 | inr h ↦ (let less = h.1 in absurd (omega arith)) ])
+seat_spent m all = rw all (elim (leb_tells m.lock.limit m.lock.limit) [
+  | inl h ↦ h.0
+  | inr h ↦ (let less = h.1 in absurd (omega arith))
+])
 
 module _ (v : Visit) where
   abbrev was : Local
@@ -100,19 +114,30 @@ module _ (v : Visit) where
       cut = v.book.journal.base.cut
 
       same : unchanged ≡ record (entered was f.rest cut) { copies = cs }
-      same = local_after v [] v.book (call_of_nothing was v.book) after left sees was.block cs was.stored was.time was.held was.awaits ∙ ap (λ (h : List Event). record (entered was f.rest cut) { seen = h; copies = cs }) (append-nil (was.seen ++ f.rest))
+      same =
+          local_after v [] v.book (call_of_nothing was v.book) after left sees was.block cs was.stored was.time
+          was.held was.awaits ∙ ap (λ (h : List Event). record (entered was f.rest cut) { seen = h; copies = cs })
+          (append-nil (was.seen ++ f.rest))
 
       pub unchanged_seen : unchanged.seen ≡ was.seen ++ f.rest
       unchanged_seen = ap (λ (m : Local). m.seen) same
 
       pub unchanged_sound : IsSound unchanged
-      unchanged_sound = subst IsSound (sym same) (roomy_sound (entered was f.rest cut) (entered_sound was v.book v.sound f cut) cs alike)
+      unchanged_sound =
+          subst IsSound (sym same)
+          (roomy_sound (entered was f.rest cut) (entered_sound was v.book v.sound f cut) cs alike)
 
       pub unchanged_seated : IsSeated after was.number was.sizes
       unchanged_seated = seated_after v [] v.book (call_of_nothing was v.book) after left sees
 
       pub unchanged_after : IsAfter IsSame was unchanged
-      unchanged_after = record { rest = f.rest; away = f.away; cut = cut; more = f.kept.behind was.number (view_of was.sizes was.seen was.cut) f.at; after = record { copies = alike; same = same } }
+      unchanged_after = record {
+        rest = f.rest;
+        away = f.away;
+        cut = cut;
+        more = f.kept.behind was.number (view_of was.sizes was.seen was.cut) f.at;
+        after = record { copies = alike; same = same };
+      }
 
       pub unchanged_is : unchanged ≡ record (entered was f.rest cut) { copies = cs }
       unchanged_is = same
@@ -121,14 +146,23 @@ module _ (v : Visit) where
       unchanged_calls = ap calls same ∙ calls_entered was v.book f cut
 
       pub unchanged_allowed : IsAllowed unchanged
-      unchanged_allowed = allowed_after v [] v.book (call_of_nothing was v.book) after left sees unchanged refl refl (ap (λ (m : Local). m.seen) same ∙ sym (append-nil (was.seen ++ f.rest))) (ap (λ (m : Local). m.cut) same)
+      unchanged_allowed =
+          allowed_after v [] v.book (call_of_nothing was v.book) after left sees unchanged refl refl
+          (ap (λ (m : Local). m.seen) same ∙ sym (append-nil (was.seen ++ f.rest)))
+          (ap (λ (m : Local). m.cut) same)
 
-      pub call_inside : (first : Option Refused) (many : ℕ) (absent : Local → Type 0) (done : Local → Local → Type 0) (added : List Event) (e : Refused) → first ≡ None → (e ≡ NotYet) ⊎ (e ≡ JournalFull) ⊎ (e ≡ NoMemory) → e ≡ NotYet ↔ absent unchanged → (¬ absent unchanged → e ≡ JournalFull ↔ (most_events < length v.book.journal.events + many)) → IsCall first many absent done added was unchanged (Some e)
+      pub call_inside : (first : Option Refused) (many : ℕ) (absent : Local → Type 0) (done : Local → Local
+          → Type 0) (added : List Event) (e : Refused) → first ≡ None
+          → (e ≡ NotYet) ⊎ (e ≡ JournalFull) ⊎ (e ≡ NoMemory) → e ≡ NotYet ↔ absent unchanged
+          → (¬ absent unchanged → e ≡ JournalFull ↔ (most_events < length v.book.journal.events + many))
+          → IsCall first many absent done added was unchanged (Some e)
       call_inside first many absent done added e free why not_yet full = record {
         same = record { lock = ap (λ (m : Local). m.lock) same; number = refl; sizes = refl };
         outside = λ d there. absurd (free_of first d free there);
         ok = λ none. absurd (none-some e (sym none));
-        err = λ d _ is. (let P : Refused → Type 0 = λ x. IsRefusedInside many absent was unchanged x ⊎ ((x ≡ NoMemory) × (unchanged ≡ was)) in let it : e ≡ d = cc is in subst P it (inl inside));
+        err =
+            λ d _ is. (let P : Refused → Type 0 = λ x. IsRefusedInside many absent was unchanged x
+            ⊎ ((x ≡ NoMemory) × (unchanged ≡ was)) in let it : e ≡ d = cc is in subst P it (inl inside));
         kept = λ _. unchanged_calls;
         covers = covers unchanged unchanged_sound;
         allowed = λ _. unchanged_allowed;
@@ -145,25 +179,38 @@ module _ (v : Visit) where
             entered = unchanged_after;
             why = why;
             not_yet = not_yet;
-            full = λ there. (let both = full there in let long = seen_is in let off = cut_is in ((λ h. let most = both.0 h in omega arith), λ h. both.1 (omega arith)));
+            full =
+                λ there. (let both = full there in let long = seen_is in let off = cut_is in
+                ((λ h. let most = both.0 h in omega arith), λ h. both.1 (omega arith)));
           }
 
     -- a call that was done, with these events, after which the processor has these parts
-    module _ (es : List Event) (new : State) (call : IsCallOf was v.book es new) (sees : HasSeen v new after) (bl : List Event) (cs : List Copied) (st : List Bool) (ti : List ℕ) (he : List Bool) (aw : Option Kind) where
+    module _ (es : List Event) (new : State) (call : IsCallOf was v.book es new) (sees : HasSeen v new after)
+        (bl : List Event) (cs : List Copied) (st : List Bool) (ti : List ℕ) (he : List Bool) (aw : Option Kind) where
       abbrev now : Local
       now = local_on after was bl cs st ti he aw
 
       abbrev cut_now : ℕ
       cut_now = new.journal.base.cut
 
-      pub now_is : now ≡ record (entered was f.rest cut_now) { seen = (was.seen ++ f.rest) ++ es; block = bl; copies = cs; stored = st; time = ti; held = he; awaits = aw }
+      pub now_is : now ≡ record (entered was f.rest cut_now) {
+        seen = (was.seen ++ f.rest) ++ es;
+        block = bl;
+        copies = cs;
+        stored = st;
+        time = ti;
+        held = he;
+        awaits = aw;
+      }
       now_is = local_after v es new call after left sees bl cs st ti he aw
 
       pub now_seated : IsSeated after was.number was.sizes
       now_seated = seated_after v es new call after left sees
 
       pub more_now : was.cut ≤ cut_now
-      more_now = let first = f.kept.behind was.number (view_of was.sizes was.seen was.cut) f.at in let then = call.more in omega arith
+      more_now =
+          let first = f.kept.behind was.number (view_of was.sizes was.seen was.cut) f.at in
+          let then = call.more in omega arith
 
       pub few_now : length now.seen ≤ most_events + now.cut
       few_now =
@@ -174,13 +221,22 @@ module _ (v : Visit) where
           omega arith
 
       pub now_allowed : IsAllowed now
-      now_allowed = allowed_after v es new call after left sees now refl refl (ap (λ (m : Local). m.seen) now_is) (ap (λ (m : Local). m.cut) now_is)
+      now_allowed =
+          allowed_after v es new call after left sees now refl refl (ap (λ (m : Local). m.seen) now_is)
+          (ap (λ (m : Local). m.cut) now_is)
 
-      pub call_done : (first : Option Refused) (many : ℕ) (absent : Local → Type 0) (done : Local → Local → Type 0) (added : List Event) → first ≡ None → IsSound now → done (entered was f.rest cut_now) now → calls now ≡ calls (entered was f.rest cut_now) ++ added → IsCall first many absent done added was now None
+      pub call_done : (first : Option Refused) (many : ℕ) (absent : Local → Type 0) (done : Local → Local
+          → Type 0) (added : List Event) → first ≡ None → IsSound now → done (entered was f.rest cut_now) now
+          → calls now ≡ calls (entered was f.rest cut_now) ++ added → IsCall first many absent done added was now None
       call_done first many absent done added free good made all = record {
         same = record { lock = ap (λ (m : Local). m.lock) now_is; number = refl; sizes = refl };
         outside = λ d there. absurd (free_of first d free there);
-        ok = λ _. (record { rest = f.rest; away = f.away; cut = cut_now; more = more_now; after = made }, few_now, all ∙ ap (λ (xs : List Event). xs ++ added) (calls_entered was v.book f cut_now));
+        ok =
+            λ _. (
+              record { rest = f.rest; away = f.away; cut = cut_now; more = more_now; after = made },
+              few_now,
+              all ∙ ap (λ (xs : List Event). xs ++ added) (calls_entered was v.book f cut_now),
+            );
         err = λ d _ is. absurd (none-some d is);
         kept = λ some. absurd (some refl);
         covers = covers now good;

@@ -25,7 +25,8 @@ use Rattle.cluster.specs.Accesses.{IsLastInGap, IsOutsideGap, AreNewest}
 abbrev pub ClosedBefore : List Event → ℕ → ℕ → Type 0
 ClosedBefore j i k = (c d : ℕ) → ClosedAt j i c → ClosedAt j k d → (c < d) ⊎ ((c ≡ d) × (i ≤ k))
 
-module _ (s : Sizes) (j : List Event) (p n : ℕ) (missing : List Missing) (lacks : AreMissing s j p n missing) (order : InClosingOrder missing) where
+module _ (s : Sizes) (j : List Event) (p n : ℕ) (missing : List Missing) (lacks : AreMissing s j p n missing)
+    (order : InClosingOrder missing) where
   -- the stores of the gap, by intervals in closing order
   in_order : (groups : List (List ℕ)) → AreGroups s j n missing groups → InOrder (ClosedBefore j) (concat groups)
   in_order groups of = in_order_concat (ClosedBefore j) groups within across
@@ -34,10 +35,15 @@ module _ (s : Sizes) (j : List Event) (p n : ℕ) (missing : List Missing) (lack
       within g h x y a b less at to c d closed closed_too =
           let r = of.of h.0 g h.1 in
           let placed = lacks.placed r.0 (h.0, r.1) in
-          let first = store_closed s j r.0.owner r.0.number n a placed.at ((r.2 a).0 (x, at)) placed.closes placed.number in
-          let second = store_closed s j r.0.owner r.0.number n b placed.at ((r.2 b).0 (y, to)) placed.closes placed.number in
+          let first =
+          store_closed s j r.0.owner r.0.number n a placed.at ((r.2 a).0 (x, at)) placed.closes placed.number in
+          let second =
+          store_closed s j r.0.owner r.0.number n b placed.at ((r.2 b).0 (y, to)) placed.closes placed.number in
           let rises = r.3 x y a b less at to in
-          inr (closed_once j a c placed.at closed first ∙ sym (closed_once j b d placed.at closed_too second), omega arith)
+          inr (
+            closed_once j a c placed.at closed first ∙ sym (closed_once j b d placed.at closed_too second),
+            omega arith,
+          )
 
       across : InOrder (λ (g h : List ℕ). (a b : ℕ) → Has g a → Has h b → ClosedBefore j a b) groups
       across x y g h less at to a b in_g in_h c d closed closed_too =
@@ -45,18 +51,29 @@ module _ (s : Sizes) (j : List Event) (p n : ℕ) (missing : List Missing) (lack
           let t = of.of y h to in
           let one = lacks.placed r.0 (x, r.1) in
           let two = lacks.placed t.0 (y, t.1) in
-          let first = closed_once j a c one.at closed (store_closed s j r.0.owner r.0.number n a one.at ((r.2 a).0 in_g) one.closes one.number) in
-          let second = closed_once j b d two.at closed_too (store_closed s j t.0.owner t.0.number n b two.at ((t.2 b).0 in_h) two.closes two.number) in
-          let before = placed_before j r.0.owner r.0.number r.0.place t.0.owner t.0.number t.0.place one two (order x y r.0 t.0 less r.1 t.1) in
+          let first =
+          closed_once j a c one.at closed
+          (store_closed s j r.0.owner r.0.number n a one.at ((r.2 a).0 in_g) one.closes one.number) in
+          let second =
+          closed_once j b d two.at closed_too
+          (store_closed s j t.0.owner t.0.number n b two.at ((t.2 b).0 in_h) two.closes two.number) in
+          let before =
+          placed_before j r.0.owner r.0.number r.0.place t.0.owner t.0.number t.0.place one two
+          (order x y r.0 t.0 less r.1 t.1) in
           inl (omega arith)
 
   -- what the last of their writes has
-  last_in_gap : (o v : ℕ) (groups : List (List ℕ)) → AreGroups s j n missing groups → (i k : ℕ) → slice_get (concat groups) k ≡ Some i → page_write s (slice_get j i) ≡ Some (o, v) → ((m y u : ℕ) → k < m → slice_get (concat groups) m ≡ Some y → page_write s (slice_get j y) ≢ Some (o, u)) → IsLastInGap s j p n o v
+  last_in_gap : (o v : ℕ) (groups : List (List ℕ)) → AreGroups s j n missing groups → (i k : ℕ)
+      → slice_get (concat groups) k ≡ Some i → page_write s (slice_get j i) ≡ Some (o, v)
+      → ((m y u : ℕ) → k < m → slice_get (concat groups) m ≡ Some y → page_write s (slice_get j y) ≢ Some (o, u))
+      → IsLastInGap s j p n o v
   last_in_gap o v groups of i k here written_there later = record {
     place = i;
     by = gap.store.by;
     address = gap.store.address;
-    stores = subst (λ (w : ℕ). Does j i gap.store.by (Store gap.store.address w)) (ap (λ (x : ℕ × ℕ). x.1) pair) gap.store.does;
+    stores =
+        subst (λ (w : ℕ). Does j i gap.store.by (Store gap.store.address w)) (ap (λ (x : ℕ × ℕ). x.1) pair)
+        gap.store.does;
     offset = ap (λ (x : ℕ × ℕ). x.0) pair;
     gap = gap;
     last = last;
@@ -66,9 +83,12 @@ module _ (s : Sizes) (j : List Event) (p n : ℕ) (missing : List Missing) (lack
       gap = (groups_gap s j p n missing groups lacks of i).0 (k, here)
 
       pair : ◌≡◌ {A = ℕ × ℕ} (gap.store.address % s.words, gap.store.value) (o, v)
-      pair = same_Some (gap.store.address % s.words, gap.store.value) (o, v) (sym (store_writes s j i gap.store.by gap.store.address gap.store.value gap.store.does) ∙ written_there)
+      pair =
+          same_Some (gap.store.address % s.words, gap.store.value) (o, v)
+          (sym (store_writes s j i gap.store.by gap.store.address gap.store.value gap.store.does) ∙ written_there)
 
-      last : (m q a w c d : ℕ) → Does j m q (Store a w) → a % s.words ≡ o → InGap s j p n m → ClosedAt j m c → ClosedAt j i d → (c < d) ⊎ ((c ≡ d) × (m ≤ i))
+      last : (m q a w c d : ℕ) → Does j m q (Store a w) → a % s.words ≡ o → InGap s j p n m → ClosedAt j m c
+          → ClosedAt j i d → (c < d) ⊎ ((c ≡ d) × (m ≤ i))
       last m q a w c d does off in_gap closed closed_too =
           let has = (groups_gap s j p n missing groups lacks of m).1 in_gap in
           let writes = store_writes s j m q a w does ∙ ap (λ (x : ℕ). Some (x, w)) off in
@@ -80,7 +100,10 @@ module _ (s : Sizes) (j : List Event) (p n : ℕ) (missing : List Missing) (lack
                   (let P : ℕ → Type 0 = λ y. slice_get (concat groups) y ≡ Some m in
                   let place : has.0 ≡ k = omega arith in
                   let same : m ≡ i = same_Some m i (sym (subst P place has.1) ∙ here) in
-                  inr (closed_once j m c d closed (subst (λ (y : ℕ). ClosedAt j y d) (sym same) closed_too), omega arith))
+                  inr (
+                    closed_once j m c d closed (subst (λ (y : ℕ). ClosedAt j y d) (sym same) closed_too),
+                    omega arith,
+                  ))
             ])
           ]
 
@@ -88,8 +111,17 @@ module _ (s : Sizes) (j : List Event) (p n : ℕ) (missing : List Missing) (lack
   pub newest : (page : List ℕ) → AreNewest s j p n page (records_applied page (map (λ (x : Missing). x.words) missing))
   newest page o v at = go (groups_of s j n missing lacks.contents)
     where
-      go : ((groups : List (List ℕ)) × AreGroups s j n missing groups) → IsLastInGap s j p n o v ⊎ ((slice_get page o ≡ Some v) × IsOutsideGap s j p n o)
-      go (groups, of) = elim (word_written (λ (i : ℕ). page_write s (slice_get j i)) page (concat groups) o v (ap (λ (ws : List ℕ). slice_get ws o) (sym (records_same (λ (i : ℕ). page_write s (slice_get j i)) page of.records_of)) ∙ at)) [
-        | inl last ↦ inl (last_in_gap o v groups of last.item last.place last.at last.writes last.last)
-        | inr kept ↦ inr (kept.0, λ i q a w does off gap. let has = (groups_gap s j p n missing groups lacks of i).1 gap in kept.1 has.0 i w has.1 (store_writes s j i q a w does ∙ ap (λ (x : ℕ). Some (x, w)) off))
-      ]
+      go : ((groups : List (List ℕ)) × AreGroups s j n missing groups)
+          → IsLastInGap s j p n o v ⊎ ((slice_get page o ≡ Some v) × IsOutsideGap s j p n o)
+      go (groups, of) =
+          elim (word_written (λ (i : ℕ). page_write s (slice_get j i)) page (concat groups) o v
+          (ap (λ (ws : List ℕ). slice_get ws o)
+          (sym (records_same (λ (i : ℕ). page_write s (slice_get j i)) page of.records_of)) ∙ at)) [
+            | inl last ↦ inl (last_in_gap o v groups of last.item last.place last.at last.writes last.last)
+            | inr kept ↦
+                inr (
+                  kept.0,
+                  λ i q a w does off gap. let has = (groups_gap s j p n missing groups lacks of i).1 gap in
+                      kept.1 has.0 i w has.1 (store_writes s j i q a w does ∙ ap (λ (x : ℕ). Some (x, w)) off),
+                )
+          ]

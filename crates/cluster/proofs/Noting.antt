@@ -33,18 +33,29 @@ pub valid_is_not_stale : Valid ≢ Invalid
 valid_is_not_stale h = cc
 
 -- the offset of an address lies in its page
-pub offset_within : (m : Local) (a : ℕ) (c : Copied) → slice_get m.copies (a / m.sizes.words) ≡ Some c → IsSound m → a % m.sizes.words < length c.page.words
-offset_within m a c at sound = rw (replica_long m.sizes m.seen m.block m.number (a / m.sizes.words) (sound.bases (a / m.sizes.words)) c (sound.copies.each (a / m.sizes.words) c at)) (mod-lt a sound.sizes.some_words)
+pub offset_within : (m : Local) (a : ℕ) (c : Copied) → slice_get m.copies (a / m.sizes.words) ≡ Some c → IsSound m
+    → a % m.sizes.words < length c.page.words
+offset_within m a c at sound =
+    rw (replica_long m.sizes m.seen m.block m.number (a / m.sizes.words) (sound.bases (a / m.sizes.words)) c
+    (sound.copies.each (a / m.sizes.words) c at)) (mod-lt a sound.sizes.some_words)
 
 -- the block with one more event of p, inside the sizes
-pub inner_pushed : (m : Local) (k : Kind) → is_taking k ≡ false → is_closing k ≡ false → KindInRange m.sizes k → ((i : ℕ) (e : Event) → At m.block i e → IsInner m.sizes m.number e) → (i : ℕ) (e : Event) → At (m.block ++ event m.number k ∷ []) i e → IsInner m.sizes m.number e
+pub inner_pushed : (m : Local) (k : Kind) → is_taking k ≡ false → is_closing k ≡ false → KindInRange m.sizes k
+    → ((i : ℕ) (e : Event) → At m.block i e → IsInner m.sizes m.number e) → (i : ℕ) (e : Event)
+    → At (m.block ++ event m.number k ∷ []) i e → IsInner m.sizes m.number e
 inner_pushed m k takes closes range inner i e at = elim (push_cases m.block (event m.number k) i e at) [
   | inl h ↦ inner i e h.1
-  | inr h ↦ subst (IsInner m.sizes m.number) h.1 (record { mine = refl; takes = takes; closes = closes; in_range = range })
+  | inr h ↦ subst (IsInner m.sizes m.number) h.1 (record {
+    mine = refl;
+    takes = takes;
+    closes = closes;
+    in_range = range;
+  })
 ]
 
 -- a load answers a word of a valid copy
-pub loaded : (m : Local) (a v : ℕ) (c : Copied) → access_refusal m a ≡ None → slice_get m.copies (a / m.sizes.words) ≡ Some c → slice_get c.page.words (a % m.sizes.words) ≡ Some v → IsSound m → IsSound (noted m (Load a v))
+pub loaded : (m : Local) (a v : ℕ) (c : Copied) → access_refusal m a ≡ None → slice_get m.copies (a / m.sizes.words)
+    ≡ Some c → slice_get c.page.words (a % m.sizes.words) ≡ Some v → IsSound m → IsSound (noted m (Load a v))
 loaded m a v c free at word sound = record {
   sizes = sound.sizes;
   mine = sound.mine;
@@ -54,8 +65,12 @@ loaded m a v c free at word sound = record {
   short = let long = length_push m.block e in let room = may.room in omega arith;
   time = sound.time;
   bases = sound.bases;
-  answers = valid_load m.sizes m.seen m.block m.number a v sound.bases (sound.bases n) c.page.words refl ((sound.copies.each n c at).valid valid).0 word sound.answers;
-  counts = block_counts_push m.sizes m.seen m.block e m.number (λ x w r d is. absurd (cc (ap (λ (f : Event). f.kind) is))) sound.counts;
+  answers =
+      valid_load m.sizes m.seen m.block m.number a v sound.bases (sound.bases n) c.page.words refl
+      ((sound.copies.each n c at).valid valid).0 word sound.answers;
+  counts =
+      block_counts_push m.sizes m.seen m.block e m.number (λ x w r d is. absurd (cc (ap (λ (f : Event). f.kind) is)))
+      sound.counts;
   copies = record { long = sound.copies.long; each = copies };
   marks = sound.marks;
   clean = sound.clean;
@@ -77,17 +92,25 @@ loaded m a v c free at word sound = record {
     valid : c.page.access ≡ Valid
     valid = let same : may.copy ≡ c = cc (may.at, at) in subst (λ (d : Copied). d.page.access ≡ Valid) same may.valid
 
-    copies : (i : ℕ) (d : Copied) → slice_get m.copies i ≡ Some d → IsReplica m.sizes m.seen (m.block ++ e ∷ []) m.number i (sound.bases i) d
+    copies : (i : ℕ) (d : Copied) → slice_get m.copies i ≡ Some d
+        → IsReplica m.sizes m.seen (m.block ++ e ∷ []) m.number i (sound.bases i) d
     copies i d found = replica_pushed m.sizes m.seen m.block e m.number i (sound.bases i) d d refl refl (record {
       words = refl;
       dirty = refl;
       access = refl;
       missing = refl;
-      away = λ stale. ((λ here. let P : ℕ → Type 0 = λ k. slice_get m.copies k ≡ Some d in let same : c ≡ d = cc (at, subst P (sym here) found) in valid_is_not_stale (sym valid ∙ ap (λ (x : Copied). x.page.access) same ∙ stale)), refl);
+      away =
+          λ stale. (
+            (λ here. let P : ℕ → Type 0 = λ k. slice_get m.copies k ≡ Some d in
+                let same : c ≡ d = cc (at, subst P (sym here) found) in
+                valid_is_not_stale (sym valid ∙ ap (λ (x : Copied). x.page.access) same ∙ stale)),
+            refl,
+          );
     }) (sound.copies.each i d found)
 
 -- a store writes a word of a valid copy, and marks it and its page
-pub stored : (m : Local) (a v : ℕ) (c : Copied) → access_refusal m a ≡ None → slice_get m.copies (a / m.sizes.words) ≡ Some c → IsSound m → IsSound (stored_at m a v c)
+pub stored : (m : Local) (a v : ℕ) (c : Copied) → access_refusal m a ≡ None
+    → slice_get m.copies (a / m.sizes.words) ≡ Some c → IsSound m → IsSound (stored_at m a v c)
 stored m a v c free at sound = record {
   sizes = sound.sizes;
   mine = sound.mine;
@@ -97,8 +120,12 @@ stored m a v c free at sound = record {
   short = let long = length_push m.block e in let room = may.room in omega arith;
   time = sound.time;
   bases = sound.bases;
-  answers = answers_push m.sizes m.seen m.block e m.number sound.bases sound.answers (λ b w is. absurd (cc (ap (λ (f : Event). f.kind) is)));
-  counts = block_counts_push m.sizes m.seen m.block e m.number (λ x w r d is. absurd (cc (ap (λ (f : Event). f.kind) is))) sound.counts;
+  answers =
+      answers_push m.sizes m.seen m.block e m.number sound.bases sound.answers (λ b w is.
+      absurd (cc (ap (λ (f : Event). f.kind) is)));
+  counts =
+      block_counts_push m.sizes m.seen m.block e m.number (λ x w r d is. absurd (cc (ap (λ (f : Event). f.kind) is)))
+      sound.counts;
   copies = record { long = length-set m.copies n d ∙ sound.copies.long; each = copies };
   marks = length-set m.stored n true ∙ sound.marks;
   clean = clean;
@@ -132,12 +159,14 @@ stored m a v c free at sound = record {
       away = λ stale. absurd (valid_is_not_stale (sym valid ∙ stale));
     }) (sound.copies.each n c at)
 
-    copies : (i : ℕ) (x : Copied) → slice_get (slice_set m.copies n d) i ≡ Some x → IsReplica m.sizes m.seen (m.block ++ e ∷ []) m.number i (sound.bases i) x
+    copies : (i : ℕ) (x : Copied) → slice_get (slice_set m.copies n d) i ≡ Some x
+        → IsReplica m.sizes m.seen (m.block ++ e ∷ []) m.number i (sound.bases i) x
     copies i x found = elim (cases_eq i n) [
       | inl same ↦
           (let P : ℕ → Type 0 = λ k. slice_get (slice_set m.copies n d) k ≡ Some x in
           let is : d ≡ x = slice_get-set_found m.copies n d x (subst P same found) in
-          let Q : ℕ → Copied → Type 0 = λ k y. IsReplica m.sizes m.seen (m.block ++ e ∷ []) m.number k (sound.bases k) y in
+          let Q : ℕ → Copied → Type 0 =
+          λ k y. IsReplica m.sizes m.seen (m.block ++ e ∷ []) m.number k (sound.bases k) y in
           subst₂ Q (sym same) is here)
       | inr other ↦ replica_pushed m.sizes m.seen m.block e m.number i (sound.bases i) x x refl refl (record {
         words = sym (ap (wrote x.page.words) (elsewhere i other));
@@ -151,15 +180,31 @@ stored m a v c free at sound = record {
         elsewhere : (i : ℕ) → i ≢ n → write_in m.sizes i (Store a v) ≡ None
         elsewhere i other = rw (ne_eqb n i (λ same. other (sym same)))
 
-    clean : (i : ℕ) (x : Copied) → slice_get (slice_set m.copies n d) i ≡ Some x → slice_get (slice_set m.stored n true) i ≡ Some false → IsClean x.page
+    clean : (i : ℕ) (x : Copied) → slice_get (slice_set m.copies n d) i ≡ Some x
+        → slice_get (slice_set m.stored n true) i ≡ Some false → IsClean x.page
     clean i x found unmarked = elim (cases_eq i n) [
       | inl same ↦
           (let P : ℕ → Type 0 = λ k. slice_get (slice_set m.stored n true) k ≡ Some false in
           let is : true ≡ false = slice_get-set_found m.stored n true false (subst P same unmarked) in
           absurd (cc))
-      | inr other ↦ sound.clean i x (sym (slice_get-set_other m.copies n i d other) ∙ found) (sym (slice_get-set_other m.stored n i true other) ∙ unmarked)
+      | inr other ↦ sound.clean i x (sym (slice_get-set_other m.copies n i d other) ∙ found)
+          (sym (slice_get-set_other m.stored n i true other) ∙ unmarked)
     ]
 
 -- the parts of a processor after a store
-pub store_done : (was m : Local) (a v page offset : ℕ) (x y : Copied) (block : List Event) (marks : List Bool) → was ≡ m → page ≡ a / m.sizes.words → offset ≡ a % m.sizes.words → y ≡ written_at x offset v → block ≡ was.block ++ event was.number (Store a v) ∷ [] → marks ≡ slice_set was.stored page true → record was { block = block; copies = slice_set was.copies page y; stored = marks } ≡ stored_at m a v x
-store_done was m a v page offset x y block marks same page_is offset_is y_is block_is marks_are = rw (y_is, block_is, marks_are, page_is, offset_is) (ap (λ (l : Local). record l { block = l.block ++ event l.number (Store a v) ∷ []; copies = slice_set l.copies (a / m.sizes.words) (written_at x (a % m.sizes.words) v); stored = slice_set l.stored (a / m.sizes.words) true }) same)
+pub store_done : (was m : Local) (a v page offset : ℕ) (x y : Copied) (block : List Event) (marks : List Bool)
+    → was ≡ m → page ≡ a / m.sizes.words → offset ≡ a % m.sizes.words → y ≡ written_at x offset v
+    → block ≡ was.block ++ event was.number (Store a v) ∷ [] → marks ≡ slice_set was.stored page true
+    → record was { block = block; copies = slice_set was.copies page y; stored = marks } ≡ stored_at m a v x
+store_done was m a v page offset x y block marks same page_is offset_is y_is block_is marks_are =
+    rw (
+      y_is,
+      block_is,
+      marks_are,
+      page_is,
+      offset_is,
+    ) (ap (λ (l : Local). record l {
+      block = l.block ++ event l.number (Store a v) ∷ [];
+      copies = slice_set l.copies (a / m.sizes.words) (written_at x (a % m.sizes.words) v);
+      stored = slice_set l.stored (a / m.sizes.words) true;
+    }) same)

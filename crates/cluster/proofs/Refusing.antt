@@ -12,7 +12,8 @@ use Rattle.replicas.specs.Local.{Local}
 use Rattle.cluster.specs.Refusals.{serves, has_valid, is_waiting, is_full, access_refusal, fetch_refusal}
 
 -- the first doesn't apply, nor do the others
-pub due_none : (b : Bool) (r : Refused) (rest : Option Refused) → cond b (Some r) rest ≡ None → (b ≡ false) × (rest ≡ None)
+pub due_none : (b : Bool) (r : Refused) (rest : Option Refused) → cond b (Some r) rest ≡ None
+    → (b ≡ false) × (rest ≡ None)
 due_none true r rest h = absurd (none-some r (sym h))
 due_none false r rest h = (refl, h)
 
@@ -62,11 +63,15 @@ may_access m a none =
     }
 
 -- the copy that is read at the address's page is the processor's
-pub copy_read : (was m : Local) (a page : ℕ) (x : Copied) → was ≡ m → access_refusal m a ≡ None → page ≡ a / m.sizes.words → x ≡ get_or was.copies page x → (slice_get m.copies (a / m.sizes.words) ≡ Some x) × (x.page.access ≡ Valid)
+pub copy_read : (was m : Local) (a page : ℕ) (x : Copied) → was ≡ m → access_refusal m a ≡ None
+    → page ≡ a / m.sizes.words → x ≡ get_or was.copies page x
+    → (slice_get m.copies (a / m.sizes.words) ≡ Some x) × (x.page.access ≡ Valid)
 copy_read was m a page x same free place read =
     let may = may_access m a free in
     let P : List Copied → ℕ → Type 0 = λ xs k. x ≡ get_or xs k x in
-    let is : x ≡ may.copy = subst₂ P (ap (λ (l : Local). l.copies) same) place read ∙ get_or_from_slice_get m.copies (a / m.sizes.words) may.copy x may.at in
+    let is : x ≡ may.copy =
+    subst₂ P (ap (λ (l : Local). l.copies) same) place read
+    ∙ get_or_from_slice_get m.copies (a / m.sizes.words) may.copy x may.at in
     (may.at ∙ ap (λ (c : Copied). Some c) (sym is), ap (λ (c : Copied). c.page.access) is ∙ may.valid)
 
 -- a fetch of this page is not refused
@@ -90,7 +95,8 @@ may_fetch m n none =
     }
 
 -- so the copy is not valid
-pub stale_copy : (m : Local) (n : ℕ) (c : Copied) → fetch_refusal m n ≡ None → slice_get m.copies n ≡ Some c → c.page.access ≡ Invalid
+pub stale_copy : (m : Local) (n : ℕ) (c : Copied) → fetch_refusal m n ≡ None → slice_get m.copies n ≡ Some c
+    → c.page.access ≡ Invalid
 stale_copy m n c free at = unusable c.page.access (ap serves (sym at) ∙ (may_fetch m n free).invalid)
   where
     unusable : (a : Access) → may_use a ≡ false → a ≡ Invalid

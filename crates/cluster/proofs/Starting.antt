@@ -49,7 +49,9 @@ none_past : (p i : ℕ) → InPast [] p i → ⊥
 none_past p i x = none-some x.event x.at
 
 zero_time : (p n : ℕ) → IsTimeOf [] p (slice_index (replicate n 0))
-zero_time p n = time_equal [] (InPast [] p) (λ _. 0) (slice_index (replicate n 0)) (λ q. sym (index-zeros n q)) (time_none [] (InPast [] p) (none_past p))
+zero_time p n =
+    time_equal [] (InPast [] p) (λ _. 0) (slice_index (replicate n 0)) (λ q. sym (index-zeros n q))
+    (time_none [] (InPast [] p) (none_past p))
 
 -- a processor before its first call
 pub start_sound : (l : LockId) (p : ℕ) (s : Sizes) → AreSizes s → p < s.processors → IsSound (new_local l p s)
@@ -64,11 +66,29 @@ start_sound l p s sizes mine = record {
   bases = λ _. replicate s.words 0;
   answers = answers_start s [] p (λ _. replicate s.words 0);
   counts = block_counts_start s [] p;
-  copies = record { long = length-replicate s.pages (blank s); each = λ n c at. subst (IsReplica s [] [] p n (replicate s.words 0)) (slice_get-replicate_found s.pages (blank s) c n at) (blank_replica s p n) };
+  copies = record {
+    long = length-replicate s.pages (blank s);
+    each =
+        λ n c at. subst (IsReplica s [] [] p n (replicate s.words 0))
+        (slice_get-replicate_found s.pages (blank s) c n at) (blank_replica s p n);
+  };
   marks = refl;
-  clean = λ n c at _. subst (λ (x : Copied). x.page.dirty ≡ replicate (length x.page.words) false) (slice_get-replicate_found s.pages (blank s) c n at) (ap (λ k. replicate k false) (sym (length-replicate s.words 0)));
-  held = record { long = length-replicate s.locks false; each = λ k b at. subst (λ x. (x ≡ true) ↔ Holds [] p k) (slice_get-replicate_found s.locks false b k at) ((λ h. absurd (true≢false (sym h))), λ h. absurd (none-some (record { processor = p; kind = Acquire k }) h.acquires)) };
-  awaits = record { last = λ i a h. absurd (none-some (record { processor = p; kind = a }) h.does); some = λ k h. absurd (none-some k h) };
+  clean =
+      λ n c at _. subst (λ (x : Copied). x.page.dirty ≡ replicate (length x.page.words) false)
+      (slice_get-replicate_found s.pages (blank s) c n at)
+      (ap (λ k. replicate k false) (sym (length-replicate s.words 0)));
+  held = record {
+    long = length-replicate s.locks false;
+    each =
+        λ k b at. subst (λ x. (x ≡ true) ↔ Holds [] p k) (slice_get-replicate_found s.locks false b k at) (
+          (λ h. absurd (true≢false (sym h))),
+          λ h. absurd (none-some (record { processor = p; kind = Acquire k }) h.acquires),
+        );
+  };
+  awaits = record {
+    last = λ i a h. absurd (none-some (record { processor = p; kind = a }) h.does);
+    some = λ k h. absurd (none-some k h);
+  };
   quiet = λ h. absurd (h refl);
   unstored = λ h. absurd (h refl);
 }
@@ -81,31 +101,78 @@ start_kept s some = record {
   counted = counted_start s;
   few = omega arith;
   all = length-replicate s.processors (nothing_seen s);
-  each = λ p v at. subst (GoesOn s [] p) (slice_get-replicate_found s.processors (nothing_seen s) v p at) (record { shape = refl; rest = []; begins = refl; away = λ k e at. absurd (none-some e at) });
-  behind = λ p v at. subst (λ (x : View). x.cut ≤ 0) (slice_get-replicate_found s.processors (nothing_seen s) v p at) (omega arith);
+  each = λ p v at. subst (GoesOn s [] p) (slice_get-replicate_found s.processors (nothing_seen s) v p at) (record {
+    shape = refl;
+    rest = [];
+    begins = refl;
+    away = λ k e at. absurd (none-some e at);
+  });
+  behind =
+      λ p v at. subst (λ (x : View). x.cut ≤ 0) (slice_get-replicate_found s.processors (nothing_seen s) v p at)
+      (omega arith);
+  whole = (0, nothing_seen s, slice_get-replicate s.processors (nothing_seen s) 0 some, refl);
   owing = refl;
 }
 
 -- the sizes of an empty book
 pub new_sizes : (s : Sizes) → 0 < s.words → sizes_of (new_book s) ≡ s
-new_sizes s some = rw (length-replicate s.locks (unheld s.processors), length-replicate {A = Option (List ℕ)} s.flags None, mul-div_cancel s.pages some)
+new_sizes s some =
+    rw (
+      length-replicate s.locks (unheld s.processors),
+      length-replicate {A = Option (List ℕ)} s.flags None,
+      mul-div_cancel s.pages some,
+    )
 
 -- each new processor has a place in it
 pub start_allowed : (l : LockId) (p : ℕ) (s : Sizes) → p < s.processors → Allows (new_local l p s) []
-start_allowed l p s mine = record { book = new_book s; views = replicate s.processors (nothing_seen s); mine = slice_get-replicate s.processors (nothing_seen s) p mine; kept = start_kept s (omega arith) }
+start_allowed l p s mine = record {
+  book = new_book s;
+  views = replicate s.processors (nothing_seen s);
+  mine = slice_get-replicate s.processors (nothing_seen s) p mine;
+  kept = start_kept s (omega arith);
+}
 
 -- the parts of a new processor
-made : (l : LockId) (e p : ℕ) (s : Sizes) (v : View) (block : List Event) (copies : List Copied) (stored : List Bool) (time : List ℕ) (held : List Bool) → e ≡ 0 → v ≡ nothing_seen s → block ≡ [] → copies ≡ replicate s.pages (blank s) → stored ≡ replicate 64 false → time ≡ replicate s.processors 0 → held ≡ replicate s.locks false → ◌≡◌ {A = Local} (record { lock = l; entries = e; number = p; sizes = s; seen = v.seen; cut = v.cut; block = block; copies = copies; stored = stored; time = time; held = held; awaits = None }) (new_local l p s)
+made : (l : LockId) (e p : ℕ) (s : Sizes) (v : View) (block : List Event) (copies : List Copied) (stored : List Bool)
+    (time : List ℕ) (held : List Bool) → e ≡ 0 → v ≡ nothing_seen s → block ≡ []
+    → copies ≡ replicate s.pages (blank s) → stored ≡ replicate 64 false → time ≡ replicate s.processors 0
+    → held ≡ replicate s.locks false
+    → ◌≡◌ {A = Local} (record {
+      lock = l;
+      entries = e;
+      number = p;
+      sizes = s;
+      seen = v.seen;
+      cut = v.cut;
+      block =
+          block;
+      copies = copies;
+      stored = stored;
+      time = time;
+      held = held;
+      awaits = None;
+    }) (new_local l p s)
 made l e p s v block copies stored time held f g a b c d h = rw (f, g, a, b, c, d, h)
 
-pub start_parts : (chair : ChairToken State View) (p : ℕ) (s : Sizes) (block : List Event) (copies : List Copied) (stored : List Bool) (time : List ℕ) (held : List Bool) → IsNewChair (lock chair) s p chair → block ≡ [] → copies ≡ replicate s.pages (blank s) → stored ≡ replicate 64 false → time ≡ replicate s.processors 0 → held ≡ replicate s.locks false → local chair p s block copies stored time held None ≡ new_local (lock chair) p s
-start_parts chair p s block copies stored time held new a b c d e = made (lock chair) (entries chair) p s (view chair) block copies stored time held new.entries_are new.view_is a b c d e
+pub start_parts : (chair : ChairToken State View) (p : ℕ) (s : Sizes) (block : List Event) (copies : List Copied)
+    (stored : List Bool) (time : List ℕ) (held : List Bool) → IsNewChair (lock chair) s p chair → block ≡ []
+    → copies ≡ replicate s.pages (blank s) → stored ≡ replicate 64 false → time ≡ replicate s.processors 0
+    → held ≡ replicate s.locks false → local chair p s block copies stored time held None ≡ new_local (lock chair) p s
+start_parts chair p s block copies stored time held new a b c d e =
+    made (lock chair) (entries chair) p s (view chair) block copies stored time held new.entries_are new.view_is a b c
+    d e
 
 -- new processors may have some book, and are covered
 pub new_covered : (c : Shared) (ms : List Local) → AreSizes c.sizes → AreNew c ms → AreCovered ms
 new_covered c ms sizes new = record {
-  allowed = λ p m at. ([], subst (λ (x : Local). Allows x []) (sym (new.each p m at)) (start_allowed c.lock p c.sizes (within p m at)));
-  covers = λ p m at. covers m (subst IsSound (sym (new.each p m at)) (start_sound c.lock p c.sizes sizes (within p m at)));
+  allowed =
+      λ p m at. (
+        [],
+        subst (λ (x : Local). Allows x []) (sym (new.each p m at))
+            (start_allowed c.lock p c.sizes (within p m at)),
+      );
+  covers =
+      λ p m at. covers m (subst IsSound (sym (new.each p m at)) (start_sound c.lock p c.sizes sizes (within p m at)));
 }
   where
     within : (p : ℕ) (m : Local) → slice_get ms p ≡ Some m → p < c.sizes.processors
@@ -113,11 +180,20 @@ new_covered c ms sizes new = record {
 
 -- the item between two lists
 pub at_middle : {A : Type 0} (xs ys : List A) (x : A) → slice_get (xs ++ x ∷ ys) (length xs) ≡ Some x
-at_middle xs ys x = let P : ℕ → Type 0 = λ k. slice_get (xs ++ x ∷ ys) k ≡ Some x in subst P (add-zero (length xs)) (slice_get-append_right xs (x ∷ ys) 0)
+at_middle xs ys x =
+    let P : ℕ → Type 0 = λ k. slice_get (xs ++ x ∷ ys) k ≡ Some x in
+    subst P (add-zero (length xs)) (slice_get-append_right xs (x ∷ ys) 0)
 
 -- one more chair has its processor
-pub seated_more : (s : Sizes) (chairs : List (ChairToken State View)) (ms : List Local) (c : ChairToken State View) (m : Local) → slice_get chairs (length ms) ≡ Some c → m ≡ new_local (lock c) (length ms) s → ((p : ℕ) (x : Local) → slice_get ms p ≡ Some x → IsSeatedAt s chairs p x) → (p : ℕ) (x : Local) → slice_get (ms ++ m ∷ []) p ≡ Some x → IsSeatedAt s chairs p x
+pub seated_more : (s : Sizes) (chairs : List (ChairToken State View)) (ms : List Local) (c : ChairToken State View)
+    (m : Local) → slice_get chairs (length ms) ≡ Some c → m ≡ new_local (lock c) (length ms) s
+    → ((p : ℕ) (x : Local) → slice_get ms p ≡ Some x → IsSeatedAt s chairs p x) → (p : ℕ) (x : Local)
+    → slice_get (ms ++ m ∷ []) p ≡ Some x → IsSeatedAt s chairs p x
 seated_more s chairs ms c m here is each p x at = elim (push_cases ms m p x at) [
   | inl h ↦ each p x h.1
-  | inr h ↦ (let P : ℕ → Local → Type 0 = λ k y. IsSeatedAt s chairs k y in subst₂ P (sym h.0) h.1 (record { chair = c; at = here; is = is }))
+  | inr h ↦ (let P : ℕ → Local → Type 0 = λ k y. IsSeatedAt s chairs k y in subst₂ P (sym h.0) h.1 (record {
+    chair = c;
+    at = here;
+    is = is;
+  }))
 ]

@@ -19,14 +19,16 @@ address_of _ = 0
 -- who did each of these events, in which of its intervals, and where it stored
 marks_of : List Event → ℕ → List Event → List (ℕ × ℕ × ℕ)
 marks_of j start [] = []
-marks_of j start (e ∷ es) = (e.processor, interval_at j e.processor start, address_of e.kind) ∷ marks_of j (suc start) es
+marks_of j start (e ∷ es) =
+    (e.processor, interval_at j e.processor start, address_of e.kind) ∷ marks_of j (suc start) es
 
 length-marks_of : (j : List Event) (start : ℕ) (es : List Event) → length (marks_of j start es) ≡ length es
 unfolding marks_of
 length-marks_of j start [] = refl
 length-marks_of j start (e ∷ es) = ap suc (length-marks_of j (suc start) es)
 
-mark_at : (j : List Event) (start : ℕ) (es : List Event) (i q a v : ℕ) → slice_get es i ≡ Some (event q (Store a v)) → Has (marks_of j start es) (q, interval_at j q (start + i), a)
+mark_at : (j : List Event) (start : ℕ) (es : List Event) (i q a v : ℕ) → slice_get es i ≡ Some (event q (Store a v))
+    → Has (marks_of j start es) (q, interval_at j q (start + i), a)
 unfolding marks_of address_of
 mark_at j start [] i q a v at = absurd (none-some (event q (Store a v)) at)
 mark_at j start (e ∷ es) zero q a v at =

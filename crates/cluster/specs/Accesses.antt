@@ -39,7 +39,8 @@ pub record IsLastInGap (s : Sizes) (j : List Event) (p n o v : ℕ) : Type 0 whe
   pub stores : Does j place by (Store address v)
   pub offset : address % s.words ≡ o
   pub gap : InGap s j p n place
-  pub last : (i q a w c d : ℕ) → Does j i q (Store a w) → a % s.words ≡ o → InGap s j p n i → ClosedAt j i c → ClosedAt j place d
+  pub last : (i q a w c d : ℕ) → Does j i q (Store a w) → a % s.words ≡ o → InGap s j p n i → ClosedAt j i c
+      → ClosedAt j place d
       → (c < d) ⊎ ((c ≡ d) × (i ≤ place))
 
 -- no store of the gap is at offset o
@@ -53,7 +54,8 @@ AreNewest s j p n old new = (o v : ℕ) → slice_get new o ≡ Some v
 
 -- the processor after a fetch of page n with these counts, where c is its copy of the page
 abbrev pub fetched_at : Local → ℕ → Copied → Counts → Local
-fetched_at m n c k = record (noted m (Fetch k.writers n k.records k.words)) { copies = slice_set m.copies n (fetched c) }
+fetched_at m n c k =
+    record (noted m (Fetch k.writers n k.records k.words)) { copies = slice_set m.copies n (fetched c) }
 
 -- and it had one, whose missing records are so many; each word with stores in the gap has the newest of them
 pub record IsFetched (old : Local) (n : ℕ) (new : Local) : Type 0 where

@@ -3,6 +3,10 @@ use Rattle.std.specs.Prelude.{ℕ, ◌≡◌, ◌+◌, ◌<◌, ◌≤◌, Optio
 use Rattle.journal.specs.declared.event.Event.{Event}
 use Rattle.journal.specs.Sizes.{Sizes}
 use Rattle.journal.specs.Cuts.{IsCut, NoCut}
+use Rattle.journal.specs.Cutting.{IsCutFault}
+use Rattle.journal.specs.Log.{Log}
+use Rattle.journal.specs.declared.cut.CutFault.{CutFault}
+use Rattle.book.specs.Cutting.{refused_by}
 use Rattle.journal.specs.Races.{RaceFree, IsFirstRace}
 use Rattle.lists.specs.Limits.{most_cut, most_events}
 use Rattle.book.specs.declared.refused.Refused.{Refused}
@@ -33,6 +37,10 @@ IsUncut s h cut NoEpisode = NoCut s.processors (drop cut h)
 IsUncut s h cut BaseFull = (n : ℕ) × IsCut s.processors (drop cut h) n × (most_cut < cut + n)
 IsUncut s h cut NoMemory = (n : ℕ) × MayCutOff s h cut n
 IsUncut s h cut _ = ⊥
+
+-- a journal isn't cut, for this reason
+abbrev pub IsNoCut : Log → Refused → Type 0
+IsNoCut log e = (f : CutFault) × (e ≡ refused_by f) × IsCutFault log f
 
 -- the call is refused where the entries are spent; else it enters, and cuts, or leaves all as it found it
 pub record IsCuttingCall (old new : Local) (refused : Option Refused) : Type 0 where

@@ -36,8 +36,12 @@ pub record GoesOn (s : Sizes) (h : List Event) (p : ℕ) (v : View) : Type 0 whe
   pub begins : h ≡ v.seen ++ rest
   pub away : (k : ℕ) (e : Event) → At rest k e → e.processor ≢ p
 
+-- somebody has seen just this
+abbrev pub IsSeen : List View → List Event → Type 0
+IsSeen views h = (p : ℕ) × (v : View) × (slice_get views p ≡ Some v) × (v.seen ≡ h)
+
 -- the history tells the book, its loads are explained and its fetches count their gaps, and it goes on from
--- what each processor has seen, who knows of no more cut off than was
+-- what each processor has seen, who knows of no more cut off than was; and somebody has seen all of it
 pub record IsKept (s : Sizes) (h : List Event) (b : State) (views : List View) : Type 0 where
   pub told : IsTold s h b
   pub explained : Explained h
@@ -46,6 +50,7 @@ pub record IsKept (s : Sizes) (h : List Event) (b : State) (views : List View) :
   pub all : length views ≡ s.processors
   pub each : (p : ℕ) (v : View) → slice_get views p ≡ Some v → GoesOn s h p v
   pub behind : (p : ℕ) (v : View) → slice_get views p ≡ Some v → v.cut ≤ b.journal.base.cut
+  pub whole : IsSeen views h
   pub owing : b.journal.room ≡ most_in_block * s.processors
 
 -- some history is kept so
@@ -56,8 +61,8 @@ Kept b views = (s : Sizes) × (h : List Event) × IsKept s h b views
 abbrev pub added : Log → Log → List Event
 added old new = drop (length old.events) new.events
 
--- who found this book, with its view at place p, and leaves the new one, has seen a history that was kept there, and the
--- events that the new book has beyond it
+-- who found this book, with its view at place p, and leaves the new one, has seen a history that was kept there, and
+-- the events that the new book has beyond it
 pub record Sees (found left : State) (p : ℕ) (old new : View) : Type 0 where
   pub history : List Event
   pub views : List View

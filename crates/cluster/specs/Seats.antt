@@ -11,7 +11,8 @@ use Rattle.replicas.specs.Copies.{Copied}
 use Rattle.replicas.specs.Local.{Local}
 
 -- the processor with these parts
-abbrev pub local : ChairToken State View → ℕ → Sizes → List Event → List Copied → List Bool → List ℕ → List Bool → Option Kind → Local
+abbrev pub local : ChairToken State View → ℕ → Sizes → List Event → List Copied → List Bool → List ℕ → List Bool
+    → Option Kind → Local
 local chair p s block copies stored time held awaits = record {
   lock = lock chair;
   entries = entries chair;

@@ -38,7 +38,8 @@ pub record IsTaken (m n : Local) : Type 0 where
   pub stamp : IsStamp m.sizes.processors m.seen (Brings m.seen m.number kind) time
   pub sent : List SentRecord
   pub news : (page : ℕ)
-      → AreNews m.sizes m.seen m.number page (slice_index m.time) (slice_index (join m.time time)) (missing_in page sent)
+      → AreNews m.sizes m.seen m.number page (slice_index m.time) (slice_index (join m.time time))
+      (missing_in page sent)
   pub told : AreAfterNews m.copies sent n.copies
   pub after : n ≡ took m kind time n.copies
 

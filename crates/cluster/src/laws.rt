@@ -1,5 +1,11 @@
 //! Laws, as contracts of functions that do nothing: the check proves each by its name.
-ghost use Rattle.cluster.specs.Laws.{AllowedLaw, FromBaseLaw, LeftLaw};
+ghost use Rattle.cluster.specs.Laws.{AllowedLaw, FromBaseLaw, LeftLaw, SeenLaw};
+
+/// Whenever the lock is free, the longest that a processor has seen is the whole history, all events cut off and then
+/// the journal's, and what each other has seen is a beginning of it.
+pub fn seen_law()
+    ensures { SeenLaw }
+{}
 
 /// An access changes nothing of which journals the book may have: so by `allowed` of each call that enters, from the
 /// start on there is always one, and what `covers` says of all of them is said of something.

@@ -12,4 +12,6 @@ module _ {A : Type 0} (xs : List A) (k : ℕ) (x : A) (within : k < length xs) (
   item_taken = take_more xs k x within ∙ ap (λ (y : A). take k xs ++ y ∷ []) (sym is)
 
   pub item_dropped : drop k xs ≡ x ∷ drop (k + 1) xs
-  item_dropped = drop-cons xs k x within ∙ ap (λ (y : A). y ∷ drop (suc k) xs) (sym is) ∙ ap (λ (n : ℕ). x ∷ drop n xs) (sym (add-one k))
+  item_dropped =
+      drop-cons xs k x within ∙ ap (λ (y : A). y ∷ drop (suc k) xs) (sym is)
+      ∙ ap (λ (n : ℕ). x ∷ drop n xs) (sym (add-one k))

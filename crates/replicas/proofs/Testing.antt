@@ -92,7 +92,9 @@ module _ (words : ℕ) (old copies : List Copied) (sent : List SentRecord) (are 
           room = fits;
           clean = λ _. subst IsClean (sym is.page) (ap (λ (k : ℕ). replicate k false) (sym (length-replicate words 0)));
           order = rw (is.missing) (in_order-nil (λ (a b : Missing). a.place < b.place));
-          news_order = closing_order (filter (is_of_page n) sent) (in_order-filter IsBefore (is_of_page n) sent (in_order sent are.order));
+          news_order =
+              closing_order (filter (is_of_page n) sent)
+              (in_order-filter IsBefore (is_of_page n) sent (in_order sent are.order));
           apart = rw (is.missing) (λ x y none _. absurd (has-nil x none));
         }
           where

@@ -80,7 +80,9 @@ missing_apart s j p n t t' missing new time are news x y has now same =
     let number = g.1.4 in
     let uncounted = ((news.each y.owner y.number).0 (y, now, refl, refl)).3 in
     let P : ℕ → Type 0 = λ k. IsPlaced j y.owner y.number k in
-    let one = placed_apart j x.owner x.number y.owner y.number x.place (are.placed x has) (subst P (sym same) (news.placed y now)) in
+    let one =
+    placed_apart j x.owner x.number y.owner y.number x.place (are.placed x has)
+    (subst P (sym same) (news.placed y now)) in
     let owners : t x.owner ≡ t y.owner = ap t one.0 in
     let numbers : x.number ≡ y.number = one.1 in
     absurd (omega arith)
@@ -146,7 +148,8 @@ module _ (m : Local) (sound : IsSound m) (copies : List Copied) (same : AreSameC
           let mine = (has-filter (is_of_page n) sent x).1 (has, eq-eqb n n refl) in
           let here = (has-map missing_of (filter (is_of_page n) sent) (missing_of x)).1 (x, mine, refl) in
           let store = (((news n).each x.notice.owner x.notice.number).0 (missing_of x, here, refl, refl)).1 in
-          let lawful = (sound.well_formed (((news n).each x.notice.owner x.notice.number).0 (missing_of x, here, refl, refl)).0
+          let lawful =
+          (sound.well_formed (((news n).each x.notice.owner x.notice.number).0 (missing_of x, here, refl, refl)).0
           (event x.notice.owner (Store store.0 store.1)) store.2).in_range in
           let P : ℕ → Type 0 = λ k. k < m.sizes.pages in
           let within = subst P store.3 ((div-lt_iff_lt-mul sound.sizes.some_words).1 lawful) in
@@ -171,7 +174,8 @@ module _ (m : Local) (sound : IsSound m) (copies : List Copied) (same : AreSameC
               let lacks = (replica.stale is).0.lacks in
               let here = (has-map missing_of c.missing (missing_of x)).1 (x, has, refl) in
               let there = (has-map missing_of (filter (is_of_page n) sent) (missing_of y)).1 (y, now, refl) in
-              missing_apart m.sizes m.seen m.number n (slice_index m.time) t' (map missing_of c.missing) (missing_in n sent)
+              missing_apart m.sizes m.seen m.number n (slice_index m.time) t' (map missing_of c.missing)
+              (missing_in n sent)
               sound.time.is lacks (news n) (missing_of x) (missing_of y) here there
 
       -- a processor that waits may learn what it lacks, where its copies have room

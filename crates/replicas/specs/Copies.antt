@@ -24,7 +24,8 @@ pub record Copied : Type 0 where
 -- its dirty bits are p's stores since its last closing event
 pub record IsReplica (s : Sizes) (seen block : List Event) (p n : ℕ) (base : List ℕ) (c : Copied) : Type 0 where
   pub valid : c.page.access ≡ Valid → IsValidCopy s seen block p n base c.page.words × (c.missing ≡ [])
-  pub stale : c.page.access ≡ Invalid → IsStaleCopy s seen block p n c.page.words (map missing_of c.missing) × (c.missing ≢ []) × IsClean c.page
+  pub stale : c.page.access ≡ Invalid
+      → IsStaleCopy s seen block p n c.page.words (map missing_of c.missing) × (c.missing ≢ []) × IsClean c.page
   pub order : InClosingOrder (map missing_of c.missing)
   pub dirty : IsDirty s (seen ++ block) p n c.page.words c.page.dirty
 
@@ -40,11 +41,16 @@ words_if false c = None
 
 -- a copy of zeros that lacks nothing
 abbrev pub zeros : ℕ → Copied
-zeros words = record { page = record { words = replicate words 0; dirty = replicate words false; access = Valid }; missing = []; room = 0 }
+zeros words = record {
+  page = record { words = replicate words 0; dirty = replicate words false; access = Valid };
+  missing = [];
+  room = 0;
+}
 
 -- the copy with one word written and marked
 abbrev pub written_at : Copied → ℕ → ℕ → Copied
-written_at c o v = record c { page = record c.page { words = slice_set c.page.words o v; dirty = slice_set c.page.dirty o true } }
+written_at c o v =
+    record c { page = record c.page { words = slice_set c.page.words o v; dirty = slice_set c.page.dirty o true } }
 
 -- the words of a record that was sent
 abbrev pub words_of : SentRecord → List (ℕ × ℕ)
@@ -52,7 +58,11 @@ words_of x = x.content.words
 
 -- the copy with its missing records applied, in their order; their places in the list are room again
 abbrev pub fetched : Copied → Copied
-fetched c = record { page = record c.page { words = records_applied c.page.words (map words_of c.missing); access = Valid }; missing = []; room = c.room + length c.missing }
+fetched c = record {
+  page = record c.page { words = records_applied c.page.words (map words_of c.missing); access = Valid };
+  missing = [];
+  room = c.room + length c.missing;
+}
 
 -- the first k of the records were closed no later than `place`, and the others later
 pub record IsPlaceAmong (missing : List SentRecord) (place k : ℕ) : Type 0 where

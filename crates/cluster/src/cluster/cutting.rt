@@ -1,7 +1,8 @@
 //! Cuts.
-ghost use Rattle.std.specs.Prelude.{◌≡◌};
+ghost use Rattle.std.specs.Prelude.{◌≡◌, IfErr, OnErr, OnOk};
 ghost use Rattle.std.specs.Result.{result_err};
-ghost use Rattle.cluster.specs.Cutting.{IsCuttingCall};
+ghost use Rattle.book.specs.Cutting.{WasBookCut};
+ghost use Rattle.cluster.specs.Cutting.{IsCuttingCall, IsNoCut};
 
 use super::Cluster;
 use crate::keeper::Rule;
@@ -26,9 +27,19 @@ impl<T: Turn<Book, Rule>> Cluster<T> {
         ensures { IsCuttingCall processor.old processor.new (result_err result) }
     {
         let (held, mut book) = self.take_book(rt, &mut processor.chair)?;
-        let result = book.cut();
+        let result = cut_off(&mut book);
         self.give_book(&mut processor.chair, held, book);
         result?;
         Ok(())
     }
+}
+
+/// The book's part of a cut, and the refusal that a call answers.
+fn cut_off(book: &mut Book) -> Result<(), Refused>
+    ensures ok { OnOk result (WasBookCut book.old book.new) }
+    ensures err { OnErr result (book.new ≡ book.old) }
+    ensures fault { IfErr result (λ e. IsNoCut book.old.journal e) }
+{
+    book.cut()?;
+    Ok(())
 }

@@ -7,8 +7,10 @@ use Rattle.cluster.proofs.cluster.parts_of.Goals as goal
 pub loop-preserved : goal.loop-preserved
 loop-preserved c = record {
   long = let more = c.in_ok-push.ensures.len in let was = c.loop.invariant.long in omega arith;
-  each = λ p x at. elim (push_cases c.loop.all.items c.in_ok-new.field-0 p x (subst (λ (xs : List Parts). slice_get xs p ≡ Some x) c.in_ok-push.ensures.items at)) [
-    | inl h ↦ c.loop.invariant.each p x h.1
-    | inr h ↦ subst (AreParts c.args.shape) h.1 c.in_ok-new.ensures
-  ];
+  each =
+      λ p x at. elim (push_cases c.loop.all.items c.in_ok-new.field-0 p x
+      (subst (λ (xs : List Parts). slice_get xs p ≡ Some x) c.in_ok-push.ensures.items at)) [
+        | inl h ↦ c.loop.invariant.each p x h.1
+        | inr h ↦ subst (AreParts c.args.shape) h.1 c.in_ok-new.ensures
+      ];
 }

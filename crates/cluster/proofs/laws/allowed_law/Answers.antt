@@ -1,4 +1,12 @@
 use Rattle.cluster.proofs.laws.allowed_law.Goals as goal
 
 pub returns : goal.returns
-returns c = λ m n number sizes seen cut allowed. rw (number, sizes, seen, cut) (allowed.0, record { book = allowed.1.book; views = allowed.1.views; mine = allowed.1.mine; kept = allowed.1.kept })
+returns c = λ m n number sizes seen cut allowed. rw (number, sizes, seen, cut) (
+  allowed.0,
+  record {
+    book = allowed.1.book;
+    views = allowed.1.views;
+    mine = allowed.1.mine;
+    kept = allowed.1.kept;
+  },
+)

@@ -16,10 +16,16 @@ loop-page-preserved c =
     let copy : Copied = c.index-replicas-page.result in
     let at : slice_get now page ≡ Some copy = item_at now page copy (omega arith) c.index-replicas-page.is in
     let so_far = c.loop-page.invariant.clean in
-    let more = clean_more c.args.replicas.now now c.args.stored.now c.loop-page.next so_far page copy c.in-Some.ensures.some at in
+    let more =
+    clean_more c.args.replicas.now now c.args.stored.now c.loop-page.next so_far page copy c.in-Some.ensures.some
+    at in
     let is : cleaned copy ≡ c.clean.new.self = ap cleaned c.index-replicas-page.is ∙ sym c.clean.ensures in
-    let P : Copied → Type 0 = λ d. IsCleanBelow c.args.replicas.now (slice_set now page d) c.args.stored.now (page + 1) in
-    record { within = let few = c.requires.few in let long = c.loop-page.auto.replicas in omega arith; clean = subst P is more }
+    let P : Copied → Type 0 =
+    λ d. IsCleanBelow c.args.replicas.now (slice_set now page d) c.args.stored.now (page + 1) in
+    record {
+      within = let few = c.requires.few in let long = c.loop-page.auto.replicas in omega arith;
+      clean = subst P is more;
+    }
 
 pub returns-clause-copies : goal.returns-clause-copies
 returns-clause-copies c =
@@ -29,6 +35,8 @@ returns-clause-copies c =
     let few = c.requires.few in
     let long = c.loop-page.auto.replicas in
     elim c.match-first_from.branch [
-      | in-Some+then-page-replicas w ↦ clean_past old now c.args.stored.now c.loop-page.next so_far w.in-Some.page w.in-Some.ensures.some (omega arith)
-      | in_default w ↦ clean_end old now c.args.stored.now c.loop-page.next so_far (omega arith) w.in_default.ensures.none
+      | in-Some+then-page-replicas w ↦ clean_past old now c.args.stored.now c.loop-page.next so_far w.in-Some.page
+          w.in-Some.ensures.some (omega arith)
+      | in_default w ↦
+          clean_end old now c.args.stored.now c.loop-page.next so_far (omega arith) w.in_default.ensures.none
     ]

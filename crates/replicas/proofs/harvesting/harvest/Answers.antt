@@ -39,15 +39,23 @@ loop-page-preserved c =
         | in_default-2 w ↦
             (let P : Option Changes → Type 0 = λ o. IfNone o (IsClean copy.page) in
             let clean = subst P w.in_default-2.is came.none in
-            rw (w.records-is) (harvests_none_at xs c.args.stored.now c.requires c.loop-page.next rs so_far page is copy at clean))
+            rw (w.records-is)
+            (harvests_none_at xs c.args.stored.now c.requires c.loop-page.next rs so_far page is copy at clean))
         | in-Some-2+in_ok-new+in_ok-push w ↦
             (let r : Changes = w.in-Some-2.record in
             let P : Option Changes → Type 0 = λ o. IfSome o (IsHarvest page copy.page) in
             let harvest : IsHarvest page copy.page r = subst P w.in-Some-2.is came.some in
-            let dirty : ¬ IsClean copy.page = λ clean. let none = came.clean clean in cc (none, w.in-Some-2.is, c.in_ok-record.was) in
-            let more = harvests_more_at xs c.args.stored.now c.requires c.loop-page.next rs so_far page is copy at r dirty harvest in
+            let dirty : ¬ IsClean copy.page = λ clean. let none = came.clean clean in
+            cc (none, w.in-Some-2.is, c.in_ok-record.was) in
+            let more =
+            harvests_more_at xs c.args.stored.now c.requires c.loop-page.next rs so_far page is copy at r dirty
+            harvest in
             let now : map arc_value c.match-branch-2.records.items ≡ rs ++ r ∷ [] =
-            rw (w.records-is, w.in_ok-push.ensures.items, map-append) (ap (λ (x : Changes). rs ++ x ∷ []) w.in_ok-new.ensures.ok)
+            rw (
+              w.records-is,
+              w.in_ok-push.ensures.items,
+              map-append,
+            ) (ap (λ (x : Changes). rs ++ x ∷ []) w.in_ok-new.ensures.ok)
             in
             let Q : List Changes → Type 0 = λ all. AreHarvests (take (page + 1) xs) all in
             subst Q (sym now) more)
@@ -62,6 +70,7 @@ returns-clause-harvests c =
     let rs = map arc_value c.loop-page.records.items in
     let so_far = c.loop-page.invariant.harvests in
     elim c.match-first_from.branch [
-      | in-Some+then-page-replicas w ↦ harvests_past xs marks c.requires a rs so_far w.in-Some.page w.in-Some.ensures.some (omega arith)
+      | in-Some+then-page-replicas w ↦
+          harvests_past xs marks c.requires a rs so_far w.in-Some.page w.in-Some.ensures.some (omega arith)
       | in_default w ↦ harvests_end xs marks c.requires a rs so_far w.in_default.ensures.none
     ]

@@ -8,5 +8,6 @@ invariant-loop-sent l = record {
   long : length l.page.words ≡ length l.initial.page.words;
   dirty : l.page.dirty ≡ l.initial.page.dirty;
   access : l.page.access ≡ l.initial.page.access;
-  applied : records_applied l.page.words (map words_of (drop l.sent-index l.missing)) ≡ records_applied l.initial.page.words (map words_of l.missing);
+  applied : records_applied l.page.words (map words_of (drop l.sent-index l.missing))
+      ≡ records_applied l.initial.page.words (map words_of l.missing);
 }

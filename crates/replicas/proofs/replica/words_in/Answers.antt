@@ -7,7 +7,9 @@ use Rattle.replicas.proofs.Steps.{item_taken}
 use Rattle.replicas.proofs.replica.words_in.Goals as goal
 
 -- the words so far and those of the next record are within all
-within : (xs : List SentRecord) (k : ℕ) (x : SentRecord) → take (k + 1) xs ≡ take k xs ++ x ∷ [] → sum_by (λ (y : SentRecord). length (words_of y)) (take k xs) + length (words_of x) ≤ sum_by (λ (y : SentRecord). length (words_of y)) xs
+within : (xs : List SentRecord) (k : ℕ) (x : SentRecord) → take (k + 1) xs ≡ take k xs ++ x ∷ []
+    → sum_by (λ (y : SentRecord). length (words_of y)) (take k xs) + length (words_of x)
+    ≤ sum_by (λ (y : SentRecord). length (words_of y)) xs
 within xs k x more =
     let f : SentRecord → ℕ = λ y. length (words_of y) in
     let push = sum_by_push f (take k xs) x in
@@ -20,7 +22,9 @@ overflow_cast-count c =
     let k = c.loop-sent.sent-index in
     let low = within c.args.missing.now k x (item_taken c.args.missing.now k x (omega arith) c.sent-item.is) in
     let few = c.requires in
-    let same : c.words.result.now ≡ words_of x = c.words.ensures.words ∙ ap (λ (r : Changes). r.words) c.deref-content.ensures ∙ ap (λ (y : SentRecord). words_of y) c.sent.view_is in
+    let same : c.words.result.now ≡ words_of x =
+    c.words.ensures.words ∙ ap (λ (r : Changes). r.words) c.deref-content.ensures
+    ∙ ap (λ (y : SentRecord). words_of y) c.sent.view_is in
     rw same (omega arith)
 
 pub overflow_add-count : goal.overflow_add-count
@@ -30,14 +34,21 @@ overflow_add-count c =
     let low = within c.args.missing.now k x (item_taken c.args.missing.now k x (omega arith) c.sent-item.is) in
     let few = c.requires in
     let sums = c.loop-sent.invariant.sums in
-    let same : c.words.result.now ≡ words_of x = c.words.ensures.words ∙ ap (λ (r : Changes). r.words) c.deref-content.ensures ∙ ap (λ (y : SentRecord). words_of y) c.sent.view_is in
+    let same : c.words.result.now ≡ words_of x =
+    c.words.ensures.words ∙ ap (λ (r : Changes). r.words) c.deref-content.ensures
+    ∙ ap (λ (y : SentRecord). words_of y) c.sent.view_is in
     rw same (omega arith)
 
 pub loop-sent-preserved : goal.loop-sent-preserved
 loop-sent-preserved c =
     let x = c.sent-item.result in
     let k = c.loop-sent.sent-index in
-    let same : c.words.result.now ≡ words_of x = c.words.ensures.words ∙ ap (λ (r : Changes). r.words) c.deref-content.ensures ∙ ap (λ (y : SentRecord). words_of y) c.sent.view_is in
+    let same : c.words.result.now ≡ words_of x =
+    c.words.ensures.words ∙ ap (λ (r : Changes). r.words) c.deref-content.ensures
+    ∙ ap (λ (y : SentRecord). words_of y) c.sent.view_is in
     let f : SentRecord → ℕ = λ y. length (words_of y) in
     let more = item_taken c.args.missing.now k x (omega arith) c.sent-item.is in
-    record { sums = rw (same, more) (ap (λ n. n + f x) c.loop-sent.invariant.sums ∙ sym (sum_by_push f (take k c.args.missing.now) x)) }
+    record {
+      sums = rw (same, more)
+          (ap (λ n. n + f x) c.loop-sent.invariant.sums ∙ sym (sum_by_push f (take k c.args.missing.now) x));
+    }

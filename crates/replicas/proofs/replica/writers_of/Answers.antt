@@ -11,14 +11,22 @@ loop-sent-init c = record { counted = no_owners; marked = rw (c.none-owners.ensu
 pub has-requires : goal.has-requires
 has-requires c =
     let x = c.sent-item.result in
-    let small = c.requires.fit x (c.loop-sent.sent-index, item_at c.args.missing.now c.loop-sent.sent-index x (omega arith) c.sent-item.is) in
+    let small =
+    c.requires.fit x (
+      c.loop-sent.sent-index,
+      item_at c.args.missing.now c.loop-sent.sent-index x (omega arith) c.sent-item.is,
+    ) in
     let same = ap (λ (y : SentRecord). y.notice.owner) c.sent.view_is in
     omega arith
 
 pub add-requires : goal.add-requires
 add-requires c =
     let x = c.sent-item.result in
-    let small = c.requires.fit x (c.loop-sent.sent-index, item_at c.args.missing.now c.loop-sent.sent-index x (omega arith) c.sent-item.is) in
+    let small =
+    c.requires.fit x (
+      c.loop-sent.sent-index,
+      item_at c.args.missing.now c.loop-sent.sent-index x (omega arith) c.sent-item.is,
+    ) in
     let same = ap (λ (y : SentRecord). y.notice.owner) c.sent.view_is in
     omega arith
 
@@ -33,9 +41,21 @@ loop-sent-preserved c =
     let P : ℕ → Bool → Type 0 = λ q b. slice_get c.loop-sent.owners q ≡ Some b in
     elim c.if-not-has.branch [
       | then-not-has w ↦
-          (let new = owner_new xs x c.loop-sent.owners c.loop-sent.count (subst₂ P same w.if-not-has.true c.has.ensures) inv.marked inv.counted in
-          record { counted = rw (more, w.count-is) new.1; marked = rw (more, w.owners-is, w.add.ensures, same) new.0; few = let low = inv.few in let is = w.count-is in omega arith })
+          (let new =
+          owner_new xs x c.loop-sent.owners c.loop-sent.count (subst₂ P same w.if-not-has.true c.has.ensures)
+          inv.marked inv.counted in
+          record {
+            counted = rw (more, w.count-is) new.1;
+            marked = rw (more, w.owners-is, w.add.ensures, same) new.0;
+            few = let low = inv.few in let is = w.count-is in omega arith;
+          })
       | else-not-has w ↦
-          (let old = owner_again xs x c.loop-sent.owners c.loop-sent.count (subst₂ P same w.if-not-has.false c.has.ensures) inv.marked inv.counted in
-          record { counted = rw (more, w.count-is) old.1; marked = rw (more, w.owners-is) old.0; few = let low = inv.few in let is = w.count-is in omega arith })
+          (let old =
+          owner_again xs x c.loop-sent.owners c.loop-sent.count (subst₂ P same w.if-not-has.false c.has.ensures)
+          inv.marked inv.counted in
+          record {
+            counted = rw (more, w.count-is) old.1;
+            marked = rw (more, w.owners-is) old.0;
+            few = let low = inv.few in let is = w.count-is in omega arith;
+          })
     ]

@@ -4,4 +4,5 @@ use Rattle.replicas.proofs.tests.stored_to.Goals as goal
 
 pub store-requires-clause-open : goal.store-requires-clause-open
 store-requires-clause-open c =
-    zeros_open 64 64 c.deref_mut.result.now c.none-stored.result (omega arith) (c.deref_mut.ensures.value ∙ c.in_ok-replicas.ensures)
+    zeros_open 64 64 c.deref_mut.result.now c.none-stored.result (omega arith)
+    (c.deref_mut.ensures.value ∙ c.in_ok-replicas.ensures)

@@ -14,8 +14,12 @@ pub returns-in_err-admit_ask : goal.returns-in_err-admit_ask
 returns-in_err-admit_ask g c =
     let m = c.args.processor.now in
     let answer = err_from_is_err_and c.from_residual.result c.from_residual.ensures.1 in
-    let first : or_spent (ask_test m c.args.lock) m ≡ Some answer.0 = ap (λ (o : Option Refused). or_spent o m) (sym c.in_err-admit_ask.ensures.test) ∙ ap (λ (e : Refused). Some e) (sym answer.2) in
-    rw (answer.1) (call_outside (or_spent (ask_test m c.args.lock) m) (length m.block + 1) Nothing (IsClosedBy (Ask c.args.lock)) (event m.number (Ask c.args.lock) ∷ []) m m answer.0 first refl c.admit_ask.ensures.covers)
+    let first : or_spent (ask_test m c.args.lock) m ≡ Some answer.0 =
+    ap (λ (o : Option Refused). or_spent o m) (sym c.in_err-admit_ask.ensures.test)
+    ∙ ap (λ (e : Refused). Some e) (sym answer.2) in
+    rw (answer.1) (call_outside (or_spent (ask_test m c.args.lock) m) (length m.block + 1) Nothing
+    (IsClosedBy (Ask c.args.lock)) (event m.number (Ask c.args.lock) ∷ []) m m answer.0 first refl
+    c.admit_ask.ensures.covers)
 
 pub close-requires-clause-may : goal.close-requires-clause-may
 close-requires-clause-may g c κs within = may_ask c.args.processor.now c.args.lock (sym c.in_ok-admit_ask.ensures.test)

@@ -15,12 +15,16 @@ returns-then-is_spent g c =
     let m = c.args.processor.now in
     let all : is_spent m ≡ true = ap is_spent (sym c.processor.view_is) ∙ sym c.is_spent.ensures ∙ c.if-is_spent.true in
     let first : flush_refusal m ≡ Some SeatSpent = rw all refl in
-    call_outside (flush_refusal m) (length m.block + 1) Nothing (IsClosedBy c.args.kind) (event m.number c.args.kind ∷ []) m m SeatSpent first refl (covers _ (subst IsSound c.processor.view_is c.processor.invariant.0))
+    call_outside (flush_refusal m) (length m.block + 1) Nothing (IsClosedBy c.args.kind) (event m.number c.args.kind
+    ∷ []) m m SeatSpent first refl (covers _ (subst IsSound c.processor.view_is c.processor.invariant.0))
 
 pub returns-in_err-records : goal.returns-in_err-records
 returns-in_err-records g c =
     let m = c.args.processor.now in
-    let some : is_spent m ≡ false = ap is_spent (sym c.processor.view_is) ∙ sym c.is_spent.ensures ∙ c.if-is_spent.false in
+    let some : is_spent m ≡ false =
+    ap is_spent (sym c.processor.view_is) ∙ sym c.is_spent.ensures ∙ c.if-is_spent.false in
     let first : flush_refusal m ≡ None = rw some refl in
     let answer = err_from_is_err_and c.from_residual.result c.from_residual.ensures.1 in
-    rw (answer.1) (call_unmade (flush_refusal m) (length m.block + 1) Nothing (IsClosedBy c.args.kind) (event m.number c.args.kind ∷ []) m answer.0 first answer.2 (subst IsSound c.processor.view_is c.processor.invariant.0))
+    rw (answer.1) (call_unmade (flush_refusal m) (length m.block + 1) Nothing (IsClosedBy c.args.kind)
+    (event m.number c.args.kind ∷ []) m answer.0 first answer.2
+    (subst IsSound c.processor.view_is c.processor.invariant.0))

@@ -9,7 +9,13 @@ use Rattle.cluster.proofs.cluster.Cluster.lawful.Goals as goal
 
 pub new-requires-3-clause-fact : goal.new-requires-3-clause-fact
 new-requires-3-clause-fact g c =
-    let s : Sizes = record { processors = c.shape.inside.processors; pages = c.shape.inside.pages; words = c.shape.inside.words; locks = c.shape.inside.locks; flags = c.shape.inside.flags } in
+    let s : Sizes = record {
+      processors = c.shape.inside.processors;
+      pages = c.shape.inside.pages;
+      words = c.shape.inside.words;
+      locks = c.shape.inside.locks;
+      flags = c.shape.inside.flags;
+    } in
     let some : 0 < s.words = rw (ap (λ (x : Sizes). x.words) c.shape.view_is) c.requires.sizes.some_words in
     let kept = start_kept s (rw (ap (λ (x : Sizes). x.processors) c.shape.view_is) c.requires.sizes.some_processors) in
     let P : State → Type 0 = λ b. IsKept s [] b (replicate s.processors (nothing_seen (sizes_of b))) in
@@ -17,12 +23,25 @@ new-requires-3-clause-fact g c =
 
 pub seat_all-all-requires-clause-chairs : goal.seat_all-all-requires-clause-chairs
 seat_all-all-requires-clause-chairs g c κs within =
-    let s : Sizes = record { processors = c.shape.inside.processors; pages = c.shape.inside.pages; words = c.shape.inside.words; locks = c.shape.inside.locks; flags = c.shape.inside.flags } in
+    let s : Sizes = record {
+      processors = c.shape.inside.processors;
+      pages = c.shape.inside.pages;
+      words = c.shape.inside.words;
+      locks = c.shape.inside.locks;
+      flags = c.shape.inside.flags;
+    } in
     let some : 0 < s.words = rw (ap (λ (x : Sizes). x.words) c.shape.view_is) c.requires.sizes.some_words in
-    let same : sizes_of c.in_ok-book.book ≡ c.args.shape = ap sizes_of c.in_ok-book.ensures ∙ new_sizes s some ∙ c.shape.view_is in
+    let same : sizes_of c.in_ok-book.book ≡ c.args.shape =
+    ap sizes_of c.in_ok-book.ensures ∙ new_sizes s some ∙ c.shape.view_is in
     let made = c.in_ok-turn.ensures in (
       (let long = made.1 in let size = ap (λ (x : Sizes). x.processors) c.shape.view_is in omega arith),
-      λ p x at. (let f = made.2 p x at in record { lock_is = refl; place_is = f.1; view_is = f.2 ∙ ap nothing_seen same; entries_are = f.3; outside = f.4 }),
+      λ p x at. (let f = made.2 p x at in record {
+        lock_is = refl;
+        place_is = f.1;
+        view_is = f.2 ∙ ap nothing_seen same;
+        entries_are = f.3;
+        outside = f.4;
+      }),
     )
 
 pub returns-clause-new : goal.returns-clause-new
@@ -31,7 +50,9 @@ returns-clause-new g c =
     let seated = c.seat_all-all.ensures in
     record {
       all = seated.all ∙ made.1 ∙ ap (λ (x : Sizes). x.processors) c.shape.view_is;
-      each = λ p m at. let x = seated.each p m at in x.is ∙ ap (λ (l : LockId). new_local l p c.args.shape) (made.2 p x.chair x.at).0;
+      each =
+          λ p m at. let x = seated.each p m at in
+          x.is ∙ ap (λ (l : LockId). new_local l p c.args.shape) (made.2 p x.chair x.at).0;
     }
 
 pub returns-clause-covers : goal.returns-clause-covers

@@ -7,4 +7,6 @@ use Rattle.cluster.specs.Finishing.{AreBlocksOf, IsFinishing}
 use Rattle.cluster.proofs.cluster.finishing.hand_in_all.Given as goal
 
 abbrev pub invariant-loop-p : goal.invariant-loop-p
-invariant-loop-p l = (s : Sizes) (ms : List Local) (h : List Event) → IsFinishing s ms 0 h l.initial.book → AreBlocksOf ms (map vec_items l.blocks) → (g : List Event) × IsFinishing s ms l.p g l.book
+invariant-loop-p l =
+    (s : Sizes) (ms : List Local) (h : List Event) → IsFinishing s ms 0 h l.initial.book
+    → AreBlocksOf ms (map vec_items l.blocks) → (g : List Event) × IsFinishing s ms l.p g l.book

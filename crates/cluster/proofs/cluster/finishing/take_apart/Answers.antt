@@ -13,12 +13,17 @@ loop-processor-preserved g c =
     let m = c.in-Some.processor in
     let more = length_push yielded m in
     let parts = c.into_parts-chair.result in
-    let one = apart_more yielded c.loop-processor.chairs.items (map vec_items c.loop-processor.blocks.items) m parts.0 parts.1.items inv.apart c.into_parts-chair.ensures in
+    let one =
+    apart_more yielded c.loop-processor.chairs.items (map vec_items c.loop-processor.blocks.items) m parts.0
+    parts.1.items inv.apart c.into_parts-chair.ensures in
     record {
-      came = append_assoc yielded (m ∷ []) (into_iter_items c.next.new.self) ∙ sym (ap (λ (xs : List Local). yielded ++ xs) c.in-Some.ensures.steps.0) ∙ inv.came;
+      came =
+          append_assoc yielded (m ∷ []) (into_iter_items c.next.new.self)
+          ∙ sym (ap (λ (xs : List Local). yielded ++ xs) c.in-Some.ensures.steps.0) ∙ inv.came;
       apart = rw (c.push_reserved.ensures.items, c.push_reserved-in-loop-processor.ensures.items, map-append) one;
       chairs = let was = inv.chairs in let grew = c.push_reserved.ensures.len in omega arith;
       blocks = let was = inv.blocks in let grew = c.push_reserved-in-loop-processor.ensures.len in omega arith;
       room = let was = inv.room in let same = c.push_reserved.ensures.capacity in omega arith;
-      more_room = let was = inv.more_room in let same = c.push_reserved-in-loop-processor.ensures.capacity in omega arith;
+      more_room =
+          let was = inv.more_room in let same = c.push_reserved-in-loop-processor.ensures.capacity in omega arith;
     }

@@ -9,8 +9,15 @@ pub invariant_of-result : goal.invariant_of-result
 invariant_of-result g c =
     let x = c.args.parts in
     let are = c.requires.parts in
-    let same = start_parts c.args.chair c.args.number c.args.shape x.block.items x.replicas.items c.none.result x.time x.held.items c.requires.chair are.block are.replicas c.none.ensures are.time are.held in (
-      subst IsSound (sym same) (start_sound (lock c.args.chair) c.args.number c.args.shape c.requires.sizes c.requires.number),
-      record { place_is = c.requires.chair.place_is; shape_is = ap (λ (v : View). v.shape) c.requires.chair.view_is; outside = c.requires.chair.outside },
+    let same =
+    start_parts c.args.chair c.args.number c.args.shape x.block.items x.replicas.items c.none.result x.time
+    x.held.items c.requires.chair are.block are.replicas c.none.ensures are.time are.held in (
+      subst IsSound (sym same)
+          (start_sound (lock c.args.chair) c.args.number c.args.shape c.requires.sizes c.requires.number),
+      record {
+        place_is = c.requires.chair.place_is;
+        shape_is = ap (λ (v : View). v.shape) c.requires.chair.view_is;
+        outside = c.requires.chair.outside;
+      },
       are.room,
     )

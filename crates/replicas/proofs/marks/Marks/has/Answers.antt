@@ -11,4 +11,5 @@ returns c =
     let n = c.args.number in
     let long = length-marks_of 64 bits in
     let within : n < length (marks_of 64 bits) = omega arith in
-    rw (← c.self.view_is) (slice_get-get_or (marks_of 64 bits) n false within ∙ ap (λ (b : Bool). Some b) (get_or-marks_of 64 bits n false c.requires ∙ ap (λ (k : ℕ). k == 1) (sym (shr_and_one bits n))))
+    rw (← c.self.view_is) (slice_get-get_or (marks_of 64 bits) n false within ∙ ap (λ (b : Bool). Some b)
+    (get_or-marks_of 64 bits n false c.requires ∙ ap (λ (k : ℕ). k == 1) (sym (shr_and_one bits n))))

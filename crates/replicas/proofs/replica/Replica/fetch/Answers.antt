@@ -3,4 +3,6 @@ use Rattle.replicas.specs.Copies.{Copied, AllFit}
 use Rattle.replicas.proofs.replica.Replica.fetch.Goals as goal
 
 pub apply_all-requires-clause-fit : goal.apply_all-requires-clause-fit
-apply_all-requires-clause-fit c = rw (c.as_slice.ensures.value) (subst (λ (r : Copied). AllFit (length r.page.words) r.missing) (sym c.self.view_is) c.requires.fit)
+apply_all-requires-clause-fit c =
+    rw (c.as_slice.ensures.value)
+    (subst (λ (r : Copied). AllFit (length r.page.words) r.missing) (sym c.self.view_is) c.requires.fit)

@@ -1,0 +1,5 @@
+use Rattle.cluster.proofs.Leaving.{seen_law}
+use Rattle.cluster.proofs.laws.seen_law.Goals as goal
+
+pub returns : goal.returns
+returns c = seen_law
