@@ -66,9 +66,13 @@ module _ (m : Local) (sound : IsSound m) (b : State) (k : Kind) (waits : m.await
 
   -- p may take
   pub may_take : Finds m b → MayTakeSome b m.number
-  may_take f =
-      let by = record { sizes = m.sizes; history = m.seen ++ f.rest; told = f.kept.told } in
-      record { kind = k; take = record { by = by; waits = awaits_kind f } }
+  may_take f = record {
+    kind = k;
+    take = record {
+      by = record { sizes = m.sizes; history = m.seen ++ f.rest; told = f.kept.told };
+      waits = awaits_kind f;
+    };
+  }
 
   -- what it takes is what has come for this
   pub taken_message : (x : Letter) (new : State) → Finds m b → Takes b m.number x new
