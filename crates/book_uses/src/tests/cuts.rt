@@ -152,6 +152,9 @@ fn a_racy_part_is_not_cut_off(rt: HostRuntime) -> Result<(), Fail> {
             Gets(0, "departure", &[2, 2], &[comes(1, 1, 3, 0, One(0, 3))]),
             CutFails(CutFault::Racy(2, 4)),
             Does(0, Arrive, NONE),
+            Does(1, Take, NONE),
+            Does(1, Arrive, NONE),
+            CutFails(CutFault::Racy(2, 4)),
         ],
     )?;
     let left = [
@@ -163,6 +166,8 @@ fn a_racy_part_is_not_cut_off(rt: HostRuntime) -> Result<(), Fail> {
         did(1, Kind::Arrive),
         did(0, Kind::Depart),
         did(0, Kind::Arrive),
+        did(1, Kind::Depart),
+        did(1, Kind::Arrive),
     ];
     let journal = told.into_journal();
     assert!(rt; has_events(&journal, &left) && has_base(&journal, 3, &[1]));
