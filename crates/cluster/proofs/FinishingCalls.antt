@@ -55,7 +55,11 @@ module _ (s : Sizes) (ms : List Local) (k : ℕ) (b : State) (m : Local) (at : s
 
   -- the block may be handed in
   pub may_flush_last : MayFlush b k m.block
-  may_flush_last = rw (← number) (record { by = record { sizes = s; history = h; told = fin.told }; gives = may_give_last })
+  may_flush_last = rw (← number) (record {
+    by = record { sizes = s; history = h; told = fin.told };
+    gives =
+        may_give_last;
+  })
 
   -- and there is room for it
   pub room_last : length m.block ≤ b.journal.room

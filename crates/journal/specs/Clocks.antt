@@ -33,7 +33,8 @@ Keeps c locks flags episodes p own Arrive =
     × (slice_index c.arrivals p < c.gone → episodes ≡ c.episodes.items)
 Keeps c locks flags episodes p own _ = (locks ≡ c.locks) × (flags ≡ c.flags) × (episodes ≡ c.episodes.items)
 
--- the timestamps of the processors, locks, flags and episodes, and the counts of arrivals and departures, are those of the journal
+-- the timestamps of the processors, locks, flags and episodes, and the counts of arrivals and departures, are those
+-- of the journal
 pub record AreClocks (j : List Event) (c : Clocks) : Type 0 where
   pub long : vec_len c.processors ≡ 16
   pub few : c.present ≤ most_processors

@@ -17,7 +17,8 @@ log_of j =
       base = base_of j.kept;
     }
 
--- the memory that is reserved is there, processors and events are few enough, and the events' processors and addresses in range
+-- the memory that is reserved is there, processors and events are few enough, and the events' processors and
+-- addresses in range
 pub record IsHeld (j : Inside) : Type 0 where
   pub reserved : vec_len j.events + j.room ≤ vec_capacity j.events
   pub few : vec_len j.events ≤ j.processors + most_held

@@ -11,7 +11,8 @@ LetsThrough (Release l) (Acquire m) = l ≡ m
 LetsThrough (Set f) (Await g) = f ≡ g
 LetsThrough _ _ = ⊥
 
--- an arrival and a departure of one episode: as many arrivals of the one's processor stand before it as departures of the other's stand before that
+-- an arrival and a departure of one episode: as many arrivals of the one's processor stand before it as departures
+-- of the other's stand before that
 pub record MeetAt (j : List Event) (i k : ℕ) (e f : Event) : Type 0 where
   pub arrives : e.kind ≡ Arrive
   pub departs : f.kind ≡ Depart

@@ -8,11 +8,13 @@ use Rattle.lrc.specs.Writing.{AppendsFront, Passes}
 use Rattle.lrc.proofs.Writing.{passes_then, passes_front, pending_longer}
 
 -- the lines of two lists
-lines_append : (j : ℕ) (xs ys : List Event) → event_lines j (xs ++ ys) ≡ event_lines j xs ++ event_lines (j + length xs) ys
+lines_append : (j : ℕ) (xs ys : List Event)
+    → event_lines j (xs ++ ys) ≡ event_lines j xs ++ event_lines (j + length xs) ys
 lines_append j [] ys = ap (λ n. event_lines n ys) (omega arith)
 lines_append j (x ∷ xs) ys =
     let next : (j + 1) + length xs ≡ j + suc (length xs) = omega arith in
-    ap (λ l. event_line j x ++ l) (lines_append (j + 1) xs ys) ∙ sym (append_assoc (event_line j x) (event_lines (j + 1) xs) _)
+    ap (λ l. event_line j x ++ l) (lines_append (j + 1) xs ys)
+    ∙ sym (append_assoc (event_line j x) (event_lines (j + 1) xs) _)
     ∙ ap (λ n. (event_line j x ++ event_lines (j + 1) xs) ++ event_lines n ys) next
 
 -- the place of the item after the first i
@@ -27,19 +29,26 @@ lines_next : (j : ℕ) (xs : List Event) (i : ℕ) (x : Event) → slice_get xs 
 lines_next j xs i x at =
     let place : j + length (take i xs) ≡ j + i = omega (arith, taken xs i x at) in
     ap (event_lines j) (ap (λ n. take n xs) (add-one i) ∙ take-suc_at xs i x at) ∙ lines_append j (take i xs) (x ∷ [])
-    ∙ ap (λ l. event_lines j (take i xs) ++ l) (append-nil (event_line (j + length (take i xs)) x) ∙ ap (λ n. event_line n x) place)
+    ∙ ap (λ l. event_lines j (take i xs) ++ l)
+    (append-nil (event_line (j + length (take i xs)) x) ∙ ap (λ n. event_line n x) place)
 
 -- the lines of the events so far, and of one more
-pub events_next : (j : ℕ) (xs : List Event) (i : ℕ) (x : Event) (a b c : Option (List ℕ)) (k l m : List ℕ) → slice_get xs i ≡ Some x
-    → Passes a b k l (event_lines j (take i xs)) → Passes b c l m (event_line (j + i) x) → Passes a c k m (event_lines j (take (i + 1) xs))
+pub events_next : (j : ℕ) (xs : List Event) (i : ℕ) (x : Event) (a b c : Option (List ℕ)) (k l m : List ℕ)
+    → slice_get xs i ≡ Some x
+    → Passes a b k l (event_lines j (take i xs)) → Passes b c l m (event_line (j + i) x)
+    → Passes a c k m (event_lines j (take (i + 1) xs))
 events_next j xs i x a b c k l m at before this = rw (lines_next j xs i x at) (passes_then a b c k l m _ _ before this)
 
 -- a beginning of one more is one of the whole
-pub events_front : (j : ℕ) (xs : List Event) (i : ℕ) (x : Event) (a b c : Option (List ℕ)) (k l : List ℕ) → slice_get xs i ≡ Some x
-    → Passes a b k l (event_lines j (take i xs)) → AppendsFront b c (l ++ event_line (j + i) x) → AppendsFront a c (k ++ event_lines j xs)
+pub events_front : (j : ℕ) (xs : List Event) (i : ℕ) (x : Event) (a b c : Option (List ℕ)) (k l : List ℕ)
+    → slice_get xs i ≡ Some x
+    → Passes a b k l (event_lines j (take i xs)) → AppendsFront b c (l ++ event_line (j + i) x)
+    → AppendsFront a c (k ++ event_lines j xs)
 events_front j xs i x a b c k l at before this =
     let rest = event_lines (j + length (take (i + 1) xs)) (drop (i + 1) xs) in
     let whole : event_lines j xs ≡ event_lines j (take i xs) ++ (event_line (j + i) x ++ rest) =
     ap (event_lines j) (sym (take-append-drop (i + 1) xs)) ∙ lines_append j (take (i + 1) xs) (drop (i + 1) xs)
-    ∙ ap (λ t. t ++ rest) (lines_next j xs i x at) ∙ append_assoc (event_lines j (take i xs)) (event_line (j + i) x) rest in
-    rw whole (passes_front a b c k l (event_lines j (take i xs)) _ before (pending_longer b c l (event_line (j + i) x) rest this))
+    ∙ ap (λ t. t ++ rest) (lines_next j xs i x at)
+    ∙ append_assoc (event_lines j (take i xs)) (event_line (j + i) x) rest in
+    rw whole (passes_front a b c k l (event_lines j (take i xs)) _ before
+    (pending_longer b c l (event_line (j + i) x) rest this))

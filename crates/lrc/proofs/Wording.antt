@@ -13,20 +13,24 @@ use Rattle.lrc.specs.Words.{IsNumberRead, IsNumberGiven, IsSeedGiven, IsFlagGive
 
 -- a text that is a number is read as that
 number_reads : {E : Type 0} (t : Text) (G : List ℕ → Result ℕ E → Type 0) (r : Option ℕ) → ReadsOne G t r
-    → ((u : List ℕ) (x : Result ℕ E) → G u x → ParsesUnsigned 64 10 u x) → IsNumeral 10 (without_leading_plus t) → number_of t < 2 ^ 64 → r ≡ Some (number_of t)
+    → ((u : List ℕ) (x : Result ℕ E) → G u x → ParsesUnsigned 64 10 u x) → IsNumeral 10 (without_leading_plus t)
+    → number_of t < 2 ^ 64 → r ≡ Some (number_of t)
 number_reads t G (Some n) reads parses numeral small = ap Some (parses t (Ok n) reads).1
 number_reads t G None reads parses numeral small = absurd (parses t (Err reads.0) reads.1 (numeral, small))
 
 -- `get_one` of a number
-pub number_read : {E : Type 0} (G : List ℕ → Result ℕ E → Type 0) (f : Found) (id : Text) (r : Option ℕ) → (one_text f id ≡ None → r ≡ None)
-    → ((t : List ℕ) → one_text f id ≡ Some t → ReadsOne G t r) → ((u : List ℕ) (x : Result ℕ E) → G u x → ParsesUnsigned 64 10 u x) → IsNumberRead (one_of id (rows_of f)) r
+pub number_read : {E : Type 0} (G : List ℕ → Result ℕ E → Type 0) (f : Found) (id : Text) (r : Option ℕ)
+    → (one_text f id ≡ None → r ≡ None)
+    → ((t : List ℕ) → one_text f id ≡ Some t → ReadsOne G t r)
+    → ((u : List ℕ) (x : Result ℕ E) → G u x → ParsesUnsigned 64 10 u x) → IsNumberRead (one_of id (rows_of f)) r
 number_read G f id r none value parses = record {
   read = λ t is. number_reads t G r (value t (one_text-rows f id ∙ is)) parses;
   none = λ is. none (one_text-rows f id ∙ is);
 }
 
 -- a number in range
-pub tries_in : (given : Option Text) (n : ℕ) → IsNumberRead given (Some n) → 1 ≤ n → n ≤ most_tries → IsNumberGiven 1 most_tries default_tries given n
+pub tries_in : (given : Option Text) (n : ℕ) → IsNumberRead given (Some n) → 1 ≤ n → n ≤ most_tries
+    → IsNumberGiven 1 most_tries default_tries given n
 tries_in given n r least most = record {
   read = λ t is within. same_Some n (number_of t) (r.read t is within.0 within.1);
   default_is = λ is. absurd (cc (r.none is));
@@ -35,7 +39,8 @@ tries_in given n r least most = record {
 }
 
 -- a number out of range
-pub tries_out : (given : Option Text) (n : ℕ) → IsNumberRead given (Some n) → (1 ≤ n → n ≤ most_tries → ⊥) → IsNumberGiven 1 most_tries default_tries given 1000000
+pub tries_out : (given : Option Text) (n : ℕ) → IsNumberRead given (Some n) → (1 ≤ n → n ≤ most_tries → ⊥)
+    → IsNumberGiven 1 most_tries default_tries given 1000000
 tries_out given n r out = record {
   read = λ t is within.
       let same = same_Some n (number_of t) (r.read t is within.0 within.1) in
@@ -46,7 +51,8 @@ tries_out given n r out = record {
 }
 
 -- no number
-pub tries_none : (given : Option Text) → IsNumberRead given None → IsNumberGiven 1 most_tries default_tries given 1000000
+pub tries_none : (given : Option Text) → IsNumberRead given None
+    → IsNumberGiven 1 most_tries default_tries given 1000000
 tries_none given r = record {
   read = λ t is within. absurd (cc (r.read t is within.0 within.1));
   default_is = λ is. refl;
@@ -63,7 +69,8 @@ seed_in given n r most = record {
 }
 
 -- a number out of range
-pub seed_out : (given : Option Text) (n : ℕ) → IsNumberRead given (Some n) → (n ≤ most_seed → ⊥) → IsSeedGiven given None
+pub seed_out : (given : Option Text) (n : ℕ) → IsNumberRead given (Some n) → (n ≤ most_seed → ⊥)
+    → IsSeedGiven given None
 seed_out given n r out = record {
   read = λ t is within. absurd (out (rw (same_Some n (number_of t) (r.read t is within.0 within.1)) within.3));
   none = λ is. refl;
@@ -79,7 +86,8 @@ seed_none given r = record {
 }
 
 -- `get_flag`
-pub flag_read : (f : Found) (id : Text) (b : Bool) → (one_text f id ≡ None → b ≡ false) → (one_text f id ≡ Some (codes "true") → b ≡ true)
+pub flag_read : (f : Found) (id : Text) (b : Bool) → (one_text f id ≡ None → b ≡ false)
+    → (one_text f id ≡ Some (codes "true") → b ≡ true)
     → (one_text f id ≡ Some (codes "false") → b ≡ false) → IsFlagGiven (one_of id (rows_of f)) b
 flag_read f id b none value other = record {
   set = λ is. value (one_text-rows f id ∙ is);
@@ -90,9 +98,11 @@ flag_read f id b none value other = record {
 -- `get_str`, compared with a word
 pub word_read : (f : Found) (id word lock : Text) (b : Bool) → Some lock ≡ first_value f id → b ≡ bytes_eq lock word
     → b ≡ option_map_or (λ t. bytes_eq t word) (first_of id (rows_of f)) false
-word_read f id word lock b is same = same ∙ ap (λ o. option_map_or (λ t. bytes_eq t word) o false) (is ∙ first_value-rows f id)
+word_read f id word lock b is same = same
+    ∙ ap (λ o. option_map_or (λ t. bytes_eq t word) o false) (is ∙ first_value-rows f id)
 
-pub no_word : (f : Found) (id word : Text) → None ≡ first_value f id → false ≡ option_map_or (λ t. bytes_eq t word) (first_of id (rows_of f)) false
+pub no_word : (f : Found) (id word : Text) → None ≡ first_value f id
+    → false ≡ option_map_or (λ t. bytes_eq t word) (first_of id (rows_of f)) false
 no_word f id word is = ap (λ o. option_map_or (λ t. bytes_eq t word) o false) (is ∙ first_value-rows f id)
 
 -- a command with one more part takes no argument from above
@@ -104,8 +114,10 @@ abbrev pub both_of : {A : Type 0} → (A → Text) → (A → List Row) → A �
 both_of f g b = (f b, g b)
 
 -- the name and the rows of what was entered
-pub named_rows : {A : Type 0} (f : A → Text) (g : A → List Row) (o : Option A) (name : Text) (rows : List Row) → Some name ≡ option_map f o
-    → Some rows ≡ option_map (λ (p : Text × List Row). p.1) (option_map (both_of f g) o) → option_map (both_of f g) o ≡ Some (name, rows)
+pub named_rows : {A : Type 0} (f : A → Text) (g : A → List Row) (o : Option A) (name : Text) (rows : List Row)
+    → Some name ≡ option_map f o
+    → Some rows ≡ option_map (λ (p : Text × List Row). p.1) (option_map (both_of f g) o)
+    → option_map (both_of f g) o ≡ Some (name, rows)
 named_rows f g None name rows named found = absurd (cc)
 named_rows f g (Some b) name rows named found =
     ap₂ (λ x y. Some (x, y)) (sym (same_Some name (f b) named)) (sym (same_Some rows (g b) found))

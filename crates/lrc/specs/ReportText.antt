@@ -16,7 +16,8 @@ word_line x = codes "word " ++ decimal x.0 ++ codes " " ++ decimal x.1 ++ codes 
 -- the messages, records and words
 abbrev pub traffic_line : Traffic → List ℕ
 traffic_line t =
-    codes "traffic " ++ decimal t.messages ++ codes " " ++ decimal t.records ++ codes " " ++ decimal t.words ++ codes "\n"
+    codes "traffic " ++ decimal t.messages ++ codes " " ++ decimal t.records ++ codes " " ++ decimal t.words
+    ++ codes "\n"
 
 -- whether there is a race
 abbrev pub verdict_line : Bool → List ℕ
@@ -27,7 +28,8 @@ abbrev pub kind_text : Kind → List ℕ
 kind_text (Load a v) = codes " load " ++ decimal a ++ codes " " ++ decimal v ++ codes "\n"
 kind_text (Store a v) = codes " store " ++ decimal a ++ codes " " ++ decimal v ++ codes "\n"
 kind_text (Fetch writers page records words) =
-    codes " fetch " ++ decimal page ++ codes " " ++ decimal writers ++ codes " " ++ decimal records ++ codes " " ++ decimal words ++ codes "\n"
+    codes " fetch " ++ decimal page ++ codes " " ++ decimal writers ++ codes " " ++ decimal records ++ codes " "
+    ++ decimal words ++ codes "\n"
 kind_text (Ask l) = codes " ask " ++ decimal l ++ codes "\n"
 kind_text (Acquire l) = codes " acquire " ++ decimal l ++ codes "\n"
 kind_text (Release l) = codes " release " ++ decimal l ++ codes "\n"

@@ -41,7 +41,8 @@ journal_rule = record (new_rule (codes "journal")) { long = Some (codes "journal
 -- a command on a script's file, with one option of its own, `--lock` and `--journal`
 abbrev pub script_app : Text → Rule → ValueParser → App
 script_app name own locks =
-    with_rule (with_rule (with_rule (with_rule (new_app name) (new_rule (codes "FILE"))) own) (lock_rule locks)) journal_rule
+    with_rule (with_rule (with_rule (with_rule (new_app name) (new_rule (codes "FILE"))) own) (lock_rule locks))
+    journal_rule
 
 -- `lrc`, which wants a command; `--lock` takes what this parser lets through
 abbrev pub lrc_app : ValueParser → App
@@ -60,7 +61,8 @@ number_of t = digits_value 10 (without_leading_plus t)
 
 -- the number that is given, where the text is one of 64 bits
 pub record IsNumberRead (given : Option Text) (n : Option ℕ) : Type 0 where
-  pub read : (t : Text) → given ≡ Some t → IsNumeral 10 (without_leading_plus t) → number_of t < 2 ^ 64 → n ≡ Some (number_of t)
+  pub read : (t : Text) → given ≡ Some t → IsNumeral 10 (without_leading_plus t) → number_of t < 2 ^ 64
+      → n ≡ Some (number_of t)
   pub none : given ≡ None → n ≡ None
 
 -- the number that is given, or the default; it is in range

@@ -35,7 +35,8 @@ use Rattle.lrc_run.specs.Runs.{HasRace, IsReportOf}
 use Rattle.lrc_run.specs.Walks.{AreWalked, Loads, Walks, made, new_at}
 
 -- one that walked is its cluster's
-pub walked_of : (c : Shared) (p : ℕ) (m : Local) (section : List Instruction) → Walks (new_at c p) m section → IsProcessorOf c p m
+pub walked_of : (c : Shared) (p : ℕ) (m : Local) (section : List Instruction) → Walks (new_at c p) m section
+    → IsProcessorOf c p m
 walked_of c p m section walks = record {
   lock = walks.makes.same.lock;
   number = walks.makes.same.number;
@@ -43,11 +44,13 @@ walked_of c p m section walks = record {
 }
 
 -- it made its section and the closing barrier
-pub walked_made : (c : Shared) (p : ℕ) (m : Local) (section : List Instruction) → Walks (new_at c p) m section → HasFollowed section [] m
+pub walked_made : (c : Shared) (p : ℕ) (m : Local) (section : List Instruction) → Walks (new_at c p) m section
+    → HasFollowed section [] m
 walked_made c p m section walks = record { own = walks.kinds; are = walks.are; made_is = walks.makes.more }
 
 -- and then these loads
-pub loads_made : (section : List Instruction) (m n : Local) (shown : List (ℕ × ℕ)) → HasFollowed section [] m → Loads m n shown
+pub loads_made : (section : List Instruction) (m n : Local) (shown : List (ℕ × ℕ)) → HasFollowed section [] m
+    → Loads m n shown
     → HasFollowed section shown n
 loads_made section m n shown walked loads = record {
   own = walked.own;
@@ -101,7 +104,8 @@ have_followed s c ms m n shown lawful sizes walked at loads shows = record {
           } in
           let Q : ℕ → Type 0 = λ q. IsProcessorOf c q x in
           subst Q (sym is) (subst (IsProcessorOf c 0) (slice_get-set_found ms 0 n x (subst P is here)) last))
-      | inr isnt ↦ (let w = walks_at s c ms lawful sizes walked p x (sym (slice_get-set_other ms 0 p n isnt) ∙ here) in walked_of c p x w.0 w.1)
+      | inr isnt ↦ (let w = walks_at s c ms lawful sizes walked p x
+          (sym (slice_get-set_other ms 0 p n isnt) ∙ here) in walked_of c p x w.0 w.1)
     ]
 
     each : (p : ℕ) (section : List Instruction) (x : Local) → slice_get s.sections p ≡ Some section
@@ -115,11 +119,13 @@ have_followed s c ms m n shown lawful sizes walked at loads shows = record {
           subst Q (sym is) (subst (HasFollowed section shown) (slice_get-set_found ms 0 n x (subst P is here)) last))
       | inr isnt ↦ (let there = sym (slice_get-set_other ms 0 p n isnt) ∙ here in
           let R : List (ℕ × ℕ) → Type 0 = λ loads. HasFollowed section loads x in
-          subst R (sym (cond-false (p == 0) shown [] (ne_eqb p 0 isnt))) (walked_made c p x section (walked.each p section x its there)))
+          subst R (sym (cond-false (p == 0) shown [] (ne_eqb p 0 isnt)))
+          (walked_made c p x section (walked.each p section x its there)))
     ]
 
 -- a history with these processors' calls follows the script
-pub follows_all : (s : Plan) (c : Shared) (ms : List Local) (shown : List (ℕ × ℕ)) (h : List Event) → HaveFollowed s c ms shown
+pub follows_all : (s : Plan) (c : Shared) (ms : List Local) (shown : List (ℕ × ℕ)) (h : List Event)
+    → HaveFollowed s c ms shown
     → ((p : ℕ) (m : Local) → slice_get ms p ≡ Some m → HasCallsOf h m) → Follows s h
 follows_all s c ms shown h all has p section at = record {
   own = its.own;
@@ -151,7 +157,8 @@ follows_all s c ms shown h all has p section at = record {
     shows false = refl
 
 -- what processor 0 called
-pub first_calls : (s : Plan) (c : Shared) (ms : List Local) (shown : List (ℕ × ℕ)) (h : List Event) → HaveFollowed s c ms shown
+pub first_calls : (s : Plan) (c : Shared) (ms : List Local) (shown : List (ℕ × ℕ)) (h : List Event)
+    → HaveFollowed s c ms shown
     → ((p : ℕ) (m : Local) → slice_get ms p ≡ Some m → HasCallsOf h m)
     → (own : List Kind) × (calls_of h 0 ≡ own ++ Arrive ∷ Depart ∷ map load_of shown)
 first_calls s c ms shown h all has =
@@ -211,7 +218,8 @@ report_is s c ms r o all finished race racy messages_are records_are words_are =
       front = first.0 ++ Arrive ∷ Depart ∷ [];
       ends = first.1 ∙ sym (append_assoc first.0 (Arrive ∷ Depart ∷ []) (map load_of r.shown.items));
     };
-    messages_are = counts (λ e. messages_of e.kind) taken left r.traffic.messages r.journal.base.spent.messages messages_are
+    messages_are = counts (λ e. messages_of e.kind) taken left r.traffic.messages r.journal.base.spent.messages
+        messages_are
         base.after.messages_are ∙ ap messages (sym is);
     records_are = counts (λ e. records_of e.kind) taken left r.traffic.records r.journal.base.spent.records records_are
         base.after.records_are ∙ ap records (sym is);

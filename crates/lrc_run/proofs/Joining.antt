@@ -69,7 +69,8 @@ outcomes_of c ms sections threads outcomes new started are = record {
   all = are.all ∙ started.all ∙ new.all;
   each = λ p section m at there. elim (slice_get_cases threads p).1 [
     | inl found ↦ walks p section m at there found.0 found.2
-    | inr past ↦ absurd (let within = slice_get_within outcomes p (Ok m) there in let a = are.all in omega (arith, past.0))
+    | inr past ↦ absurd (let within = slice_get_within outcomes p (Ok m) there in let a = are.all in
+        omega (arith, past.0))
   ];
 }
   where
@@ -85,7 +86,8 @@ abbrev oks : List Local → List (Result Local Cause)
 oks ms = map Ok ms
 
 -- where none failed, all have walked
-pub all_walked : (c : Shared) (sections : List (List Instruction)) (outcomes : List (Result Local Cause)) (ms : List Local)
+pub all_walked : (c : Shared) (sections : List (List Instruction)) (outcomes : List (Result Local Cause))
+    (ms : List Local)
     → AreOutcomes c sections outcomes → map Ok ms ≡ outcomes → AreWalked c sections ms
 all_walked c sections outcomes ms are is = record {
   all = sym (oks_length ms) ∙ ap (λ (os : List (Result Local Cause)). length os) is ∙ are.all;

@@ -28,7 +28,12 @@ same_then l m n a b = record { lock = b.lock ∙ a.lock; number = b.number ∙ a
 -- a processor that is as it was has made no call
 pub makes_none : (m n : Local) → n ≡ m → Makes m n []
 makes_none m n e = record {
-  same = record { lock = ap (λ (x : Local). x.lock) e; number = ap (λ (x : Local). x.number) e; sizes = ap (λ (x : Local). x.sizes) e };
+  same = record {
+    lock = ap (λ (x : Local). x.lock) e;
+    number = ap (λ (x : Local). x.number) e;
+    sizes =
+        ap (λ (x : Local). x.sizes) e;
+  };
   more = ap made e ∙ sym (append-nil (made m));
 }
 
@@ -100,7 +105,8 @@ tries_fetch m n page (Ok x) err ok = record {
 tries_fetch m n page (Err e) err ok = makes_none m n err
 
 -- a call that enters the book
-pub tries_call : {A : Type 0} (first : Option Refused) (many : ℕ) (absent : Local → Type 0) (done : Local → Local → Type 0)
+pub tries_call : {A : Type 0} (first : Option Refused) (many : ℕ) (absent : Local → Type 0)
+    (done : Local → Local → Type 0)
     (added : List Event) (m n : Local) (r : Result A Refused) → IsCall first many absent done added m n (result_err r)
     → Tries m n r (λ _. kinds_of added)
 tries_call first many absent done added m n (Ok x) call = record {
@@ -110,7 +116,8 @@ tries_call first many absent done added m n (Ok x) call = record {
 tries_call first many absent done added m n (Err e) call = makes_same m n call.same (call.kept (λ none. cc))
 
 -- and that adds no event, whatever it answers
-pub makes_call : {A : Type 0} {first : Option Refused} {many : ℕ} {absent : Local → Type 0} {done : Local → Local → Type 0}
+pub makes_call : {A : Type 0} {first : Option Refused} {many : ℕ} {absent : Local → Type 0}
+    {done : Local → Local → Type 0}
     (m n : Local) (r : Result A Refused) → IsCall first many absent done [] m n (result_err r) → Makes m n []
 makes_call {A} {first} {many} {absent} {done} m n (Ok x) call =
     tries_call {A = A} first many absent done [] m n (Ok x) call
@@ -161,7 +168,8 @@ last_is_no_fetch : (i : Instruction) (first last : Kind) → AreEventsOf i (firs
 last_is_no_fetch i first last are = no_fetch_last first last (no_fetch_one i (first ∷ last ∷ []) are)
 
 -- what was begun is done by the take that finds what it awaits, and begun still by one that doesn't
-pub on_its_way : (l m n : Local) (i : Instruction) (taken : Bool) → Begins l m i → Takes m n taken → IsOnItsWay l n i taken
+pub on_its_way : (l m n : Local) (i : Instruction) (taken : Bool) → Begins l m i → Takes m n taken
+    → IsOnItsWay l n i taken
 on_its_way l m n i true begun took = record {
   kinds = begun.first ∷ begun.last ∷ [];
   are = begun.are;

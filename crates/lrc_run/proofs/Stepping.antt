@@ -25,8 +25,10 @@ use Rattle.lrc_run.specs.Walks.{AreWalked, DoesAll, Does, IsOnItsWay, Takes, Wal
 use Rattle.lrc_run.proofs.Making.{does_more, does_none, on_its_way, same_then, walks_by}
 
 -- after instruction k was done, or begun
-pub after_instruction : (l m n : Local) (section : List Instruction) (k : ℕ) (done : Bool) → DoesAll l m (take k section)
-    → k ≤ length section → IsOnItsWay m n (instruction_at section k) done → IsAt l n section (progress_after section k done)
+pub after_instruction : (l m n : Local) (section : List Instruction) (k : ℕ) (done : Bool)
+    → DoesAll l m (take k section)
+    → k ≤ length section → IsOnItsWay m n (instruction_at section k) done
+    → IsAt l n section (progress_after section k done)
 after_instruction l m n section k false all within way = (record { between = m; done = all; begins = way }, within)
 after_instruction l m n section k true all within way = cases (nat_lt k (length section)) refl
   where
@@ -34,8 +36,11 @@ after_instruction l m n section k true all within way = cases (nat_lt k (length 
     cases true e =
         let below : k < length section = ltb-true k (length section) e in
         let more = does_more l m n (take k section) (instruction_at section k) all way in
-        let P : List Instruction → Type 0 = λ is. DoesAll l n is in
-        (rw add-one (subst P (sym (take-suc_at section k (instruction_at section k) (slice_get-get_or section k Barrier below))) more), omega arith)
+        let P : List Instruction → Type 0 = λ is. DoesAll l n is in (
+          rw add-one (subst P (sym (take-suc_at section k (instruction_at section k)
+              (slice_get-get_or section k Barrier below))) more),
+          omega arith,
+        )
     cases false e =
         let past : length section ≤ k = ltb-false k (length section) e in
         let same : k ≡ length section = omega arith in
@@ -53,7 +58,8 @@ after_look l m n section k taken at took =
     (on_its_way begun.between m n (instruction_at section k) taken begun.begins took)
 
 -- whoever is on its way is the same processor
-pub same_on_its_way : (m n : Local) (section : List Instruction) (at : Progress) → IsAt m n section at → IsSameProcessor m n
+pub same_on_its_way : (m n : Local) (section : List Instruction) (at : Progress) → IsAt m n section at
+    → IsSameProcessor m n
 same_on_its_way m n section (Next k) at = at.0.makes.same
 same_on_its_way m n section (Waits k) at =
     same_then m at.0.between n at.0.done.makes.same at.0.begins.makes.same
@@ -88,7 +94,8 @@ all_turned c sections ms all p section m n at to way its here there turned = rec
     mine = turned (new_at c p) (way.each p section m at its here there)
 
     each : (q : ℕ) (other : List Instruction) (x : Local) (y : Progress) → slice_get sections q ≡ Some other
-        → slice_get (slice_set ms p n) q ≡ Some x → slice_get (slice_set all p to) q ≡ Some y → IsAt (new_at c q) x other y
+        → slice_get (slice_set ms p n) q ≡ Some x → slice_get (slice_set all p to) q ≡ Some y
+        → IsAt (new_at c q) x other y
     each q other x y its_too before after = elim (cases_eq q p) [
       | inl is ↦ (let S : ℕ → Type 0 = λ k. slice_get sections k ≡ Some other in
           let M : ℕ → Type 0 = λ k. slice_get (slice_set ms p n) k ≡ Some x in
@@ -96,9 +103,11 @@ all_turned c sections ms all p section m n at to way its here there turned = rec
           let one = same_Some section other (sym its ∙ subst S is its_too) in
           let two = slice_get-set_found ms p n x (subst M is before) in
           let three = slice_get-set_found all p to y (subst A is after) in
-          let first : IsAt (new_at c p) n other to = subst (λ (z : List Instruction). IsAt (new_at c p) n z to) one mine in
+          let first : IsAt (new_at c p) n other to =
+          subst (λ (z : List Instruction). IsAt (new_at c p) n z to) one mine in
           let second : IsAt (new_at c p) x other to = subst (λ (z : Local). IsAt (new_at c p) z other to) two first in
-          let third : IsAt (new_at c p) x other y = subst (λ (z : Progress). IsAt (new_at c p) x other z) three second in
+          let third : IsAt (new_at c p) x other y =
+          subst (λ (z : Progress). IsAt (new_at c p) x other z) three second in
           subst (λ (k : ℕ). IsAt (new_at c k) x other y) (sym is) third)
       | inr isnt ↦ way.each q other x y its_too (sym (slice_get-set_other ms p q n isnt) ∙ before)
           (sym (slice_get-set_other all p q to isnt) ∙ after)
@@ -121,7 +130,8 @@ all_passed c sections ms all way passed = record { all = way.many; each = each }
         subst P (passed p Passed below) (way.each p section m (get_or all p Passed) its here there)
 
 -- the same, where the list has it over and over
-pub all_begin : (c : Shared) (sections : List (List Instruction)) (ms : List Local) (all : List Progress) (n : ℕ) → AreNew c ms
+pub all_begin : (c : Shared) (sections : List (List Instruction)) (ms : List Local) (all : List Progress) (n : ℕ)
+    → AreNew c ms
     → n ≡ length ms → all ≡ replicate n (Next 0) → AreOnTheirWay c sections ms all
 all_begin c sections ms all n new many are = all_start c sections ms all new
     (ap length are ∙ length-replicate n (Next 0) ∙ many ∙ new.all)
@@ -144,8 +154,10 @@ own_at s c ms all p m lawful sizes way here =
     (way.each p section m at (slice_get-get_or s.sections p [] listed) here (slice_get-get_or all p Passed known))).lock
 
 -- the section that is read at this place
-pub section_read : (s : Plan) (c : Shared) (ms : List Local) (all : List Progress) (sections : List (Vec Instruction)) (p : ℕ)
-    (v : Vec Instruction) (section : List Instruction) → IsLawful s → c.sizes ≡ sizes_of s → s.sections ≡ items_of sections
+pub section_read : (s : Plan) (c : Shared) (ms : List Local) (all : List Progress)
+    (sections : List (Vec Instruction)) (p : ℕ)
+    (v : Vec Instruction) (section : List Instruction) → IsLawful s → c.sizes ≡ sizes_of s
+    → s.sections ≡ items_of sections
     → AreOnTheirWay c s.sections ms all → p < length ms → v ≡ get_or sections p v → section ≡ v.items
     → slice_get (items_of sections) p ≡ Some section
 section_read s c ms all sections p v section lawful sizes are way inside read is =
@@ -155,11 +167,13 @@ section_read s c ms all sections p v section lawful sizes are way inside read is
     let long = ap length are ∙ length-map sections (λ (w : Vec Instruction). w.items) in
     let listed : p < length sections = omega arith in
     slice_get-map (λ (w : Vec Instruction). w.items) sections p
-    ∙ ap (option_map (λ (w : Vec Instruction). w.items)) (slice_get_read sections (length sections) p v refl listed read)
+    ∙ ap (option_map (λ (w : Vec Instruction). w.items))
+    (slice_get_read sections (length sections) p v refl listed read)
     ∙ ap Some (sym is)
 
 -- where each processor is, as it is read
-pub progress_read : (c : Shared) (sections : List (List Instruction)) (ms : List Local) (all : List Progress) (p : ℕ) (at : Progress)
+pub progress_read : (c : Shared) (sections : List (List Instruction)) (ms : List Local) (all : List Progress)
+    (p : ℕ) (at : Progress)
     → AreOnTheirWay c sections ms all → p < length ms → at ≡ get_or all p at → slice_get all p ≡ Some at
 progress_read c sections ms all p at way inside read =
     let many = way.many in

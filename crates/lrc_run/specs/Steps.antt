@@ -30,7 +30,8 @@ IsAt old new section (Waits n) = HasBegun old new section n × (n ≤ length sec
 IsAt old new section Passed = Walks old new section
 
 -- each of the cluster's processors has, from its start
-pub record AreOnTheirWay (c : Shared) (sections : List (List Instruction)) (ms : List Local) (all : List Progress) : Type 0 where
+pub record AreOnTheirWay (c : Shared) (sections : List (List Instruction)) (ms : List Local)
+    (all : List Progress) : Type 0 where
   pub many : length ms ≡ c.sizes.processors
   pub long : length all ≡ c.sizes.processors
   pub each : (p : ℕ) (section : List Instruction) (m : Local) (at : Progress) → slice_get sections p ≡ Some section

@@ -9,7 +9,8 @@ use Rattle.turn.specs.Chairs.{LockId}
 use Rattle.replicas.specs.Copies.{Copied, zeros}
 
 -- its lock and how often it has entered; its number and the cluster's sizes; the history as it left it last, and how
--- many of its first events were cut off then; its open block; its copy of each page, and to which pages it may have stored since its last closing event;
+-- many of its first events were cut off then; its open block; its copy of each page, and to which pages it may have
+-- stored since its last closing event;
 -- its timestamp; which locks it holds; and what it waits for
 pub record Local : Type 0 where
   pub lock : LockId

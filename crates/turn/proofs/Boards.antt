@@ -12,14 +12,20 @@ counts = record {
   within = λ m. omega arith;
   beside_next = λ m. omega arith;
   has_next = λ words k shown. let n = shown.0 in omega arith;
-  draws = λ words k x shown. (length-set words 0 x ∙ shown.0, get_or-set_other words 0 1 x 0 (λ e. omega arith) ∙ shown.1);
+  draws = λ words k x shown. (
+    length-set words 0 x ∙ shown.0,
+    get_or-set_other words 0 1 x 0 (λ e. omega arith) ∙ shown.1,
+  );
   lets_in = λ words k shown. shown.1;
   finds = λ words k m shown low found. sym found ∙ shown.1;
   passes = λ words m shown small.
       let long = shown.0 in
       let y = (get_or words 1 0 + 1) % 2 ^ 64 in
-      let below : 1 < length words = omega arith in
-      (length-set words 1 y ∙ shown.0, get_or-set_same words 1 y 0 below ∙ ap (λ (n : ℕ). (n + 1) % 2 ^ 64) shown.1 ∙ mod-eq_of_lt small);
+      let below : 1 < length words = omega arith in (
+        length-set words 1 y ∙ shown.0,
+        get_or-set_same words 1 y 0 below ∙ ap (λ (n : ℕ). (n + 1) % 2 ^ 64) shown.1
+            ∙ mod-eq_of_lt small,
+      );
 }
 
 pub points : (n : ℕ) → 0 < n → IsBoard (n + 1) (Points n) (λ m. m % n + 1) (λ m _. m + 1)
@@ -39,11 +45,14 @@ points n some = record {
       let here : i < n = mod-lt (m + 1) some in
       let long = shown.0 in
       let below : i + 1 < length words = omega arith in
-      let new : get_or (set words (i + 1) (m + 1)) (i + 1) 0 ≡ m + 1 = get_or-set_same words (i + 1) (m + 1) 0 below in (
+      let new : get_or (set words (i + 1) (m + 1)) (i + 1) 0 ≡ m + 1 =
+      get_or-set_same words (i + 1) (m + 1) 0 below in (
         length-set words (i + 1) (m + 1) ∙ shown.0,
         new,
         λ j low. dite (ℕ_discrete j i)
-            (λ (e : j ≡ i). subst (λ (a : ℕ). get_or (set words (i + 1) (m + 1)) (a + 1) 0 ≤ m + 1) (sym e) (let z = new in omega arith))
-            (λ (e : j ≢ i). let o = get_or-set_other words (i + 1) (j + 1) (m + 1) 0 (λ q. e (omega arith)) in let h = shown.2 j low in omega arith),
+            (λ (e : j ≡ i). subst (λ (a : ℕ). get_or (set words (i + 1) (m + 1)) (a + 1) 0 ≤ m + 1) (sym e)
+            (let z = new in omega arith))
+            (λ (e : j ≢ i). let o = get_or-set_other words (i + 1) (j + 1) (m + 1) 0 (λ q. e (omega arith)) in
+            let h = shown.2 j low in omega arith),
       );
 }

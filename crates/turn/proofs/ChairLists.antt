@@ -11,14 +11,19 @@ pub within_limit : {B V : Type 0} (c : ChairToken B V) → entries c ≤ (lock c
 within_limit c = let counted = c.counted in omega arith
 
 -- the last two chairs of a new lock, taken off one after the other
-pub popped_two : {B V : Type 0} (l : LockId) (v : V) (cs ds es : List (ChairToken B V)) (a b : ChairToken B V) → AreFresh l v cs → cs ≡ ds ++ b ∷ [] → ds ≡ es ++ a ∷ [] → IsFresh l (length es) v a × IsFresh l (length ds) v b
+pub popped_two : {B V : Type 0} (l : LockId) (v : V) (cs ds es : List (ChairToken B V)) (a b : ChairToken B V)
+    → AreFresh l v cs → cs ≡ ds ++ b ∷ [] → ds ≡ es ++ a ∷ [] → IsFresh l (length es) v a × IsFresh l (length ds) v b
 popped_two {B = B} {V = V} l v cs ds es a b fresh last next =
-    let before : slice_get ds (length es) ≡ Some a = ap (λ (xs : List (ChairToken B V)). slice_get xs (length es)) next ∙ at_last es a (length es) refl in (
-      fresh (length es) a (ap (λ (xs : List (ChairToken B V)). slice_get xs (length es)) last ∙ at_longer ds (b ∷ []) (length es) a before),
-      fresh (length ds) b (ap (λ (xs : List (ChairToken B V)). slice_get xs (length ds)) last ∙ at_last ds b (length ds) refl),
+    let before : slice_get ds (length es) ≡ Some a =
+    ap (λ (xs : List (ChairToken B V)). slice_get xs (length es)) next ∙ at_last es a (length es) refl in (
+      fresh (length es) a (ap (λ (xs : List (ChairToken B V)). slice_get xs (length es)) last
+          ∙ at_longer ds (b ∷ []) (length es) a before),
+      fresh (length ds) b (ap (λ (xs : List (ChairToken B V)). slice_get xs (length ds)) last
+          ∙ at_last ds b (length ds) refl),
     )
 
-module _ {B V : Type 0} (l : LockId) (n : ℕ) (cs : List (ChairToken B V)) (all : AreAll l n cs) (k : ℕ) (c : ChairToken B V) (less : k < n) (read : c ≡ get_or cs k c) where
+module _ {B V : Type 0} (l : LockId) (n : ℕ) (cs : List (ChairToken B V)) (all : AreAll l n cs) (k : ℕ)
+    (c : ChairToken B V) (less : k < n) (read : c ≡ get_or cs k c) where
   -- the chair at a place
   pub chair_at : (lock c ≡ l) × (place c ≡ k) × IsOutside c
   chair_at = all.1 k c (slice_get_read cs n k c (sym all.0) less read)
@@ -28,7 +33,8 @@ module _ {B V : Type 0} (l : LockId) (n : ℕ) (cs : List (ChairToken B V)) (all
   all_again d same outside = (
     length-set cs k d ∙ all.0,
     λ j x e. ⊎_elim
-        (λ (t : (j ≡ k) × (d ≡ x)). subst (λ (y : ChairToken B V). (lock y ≡ l) × (place y ≡ j) × IsOutside y) t.1 (same.0 ∙ chair_at.0, same.1 ∙ chair_at.1 ∙ sym t.0, outside))
+        (λ (t : (j ≡ k) × (d ≡ x)). subst (λ (y : ChairToken B V). (lock y ≡ l) × (place y ≡ j) × IsOutside y) t.1
+        (same.0 ∙ chair_at.0, same.1 ∙ chair_at.1 ∙ sym t.0, outside))
         (λ (t : (j ≢ k) × (slice_get cs j ≡ Some x)). all.1 j x t.1)
         (at_set cs k j d x e),
   )

@@ -1,4 +1,5 @@
--- The lock at its start and at its end: its rule holds of the first table, each chair gets its place, and all places come together again.
+-- The lock at its start and at its end: its rule holds of the first table, each chair gets its place, and all
+-- places come together again.
 use Rattle.std.proofs.Common.{◌≡◌, ℕ, zero, suc, ◌+◌, ◌-◌, ◌*◌, ◌^◌, ◌<◌, ◌≤◌, List, [], ◌∷◌, ◌++◌, map, replicate, length, get_or, Bool, true, false, Option, Some, slice_get, refl, sym, ap, ◌∙◌, subst, ⊎_elim, zero-le, append_assoc, length-append, arith}
 use Rattle.std.proofs.lemmas.List.{length-replicate, length-map, map-append}
 use mathlib.Core.Option as maybe
@@ -26,11 +27,13 @@ module _ (B V : Type 0) (fact : B → List V → Type 0) (shows : List ℕ → �
   drawn_fresh zero v = refl
   drawn_fresh (suc n) v = let h = drawn_fresh n v in omega arith
 
-  first_turns : (n : ℕ) (words : List ℕ) (book : B) (v : V) → n * limit < 2 ^ 64 → get_or words 0 0 ≡ 0 → shows words 0 → fact book (replicate n v)
+  first_turns : (n : ℕ) (words : List ℕ) (book : B) (v : V) → n * limit < 2 ^ 64 → get_or words 0 0 ≡ 0
+      → shows words 0 → fact book (replicate n v)
       → Turns fact shows limit words (some (Some book) ∷ []) (replicate n (fresh v))
   first_turns n words book v room next shown keeps =
       let none_drawn = drawn_fresh n v in
-      let idle : (k : ℕ) (c : ChairState B V) → slice_get (replicate n (fresh v)) k ≡ Some c → fresh v ≡ c = λ k c e. at_replicate n (fresh v) c k e in
+      let idle : (k : ℕ) (c : ChairState B V) → slice_get (replicate n (fresh v)) k ≡ Some c → fresh v ≡ c =
+      λ k c e. at_replicate n (fresh v) c k e in
       record {
         serving = 0;
         book = book;
@@ -40,7 +43,8 @@ module _ (B V : Type 0) (fact : B → List V → Type 0) (shows : List ℕ → �
         next_is = next ∙ sym none_drawn;
         shown = shown;
         behind = zero-le;
-        fits = λ k c e. subst (λ (x : ChairState B V). Fits 0 (drawn (replicate n (fresh {B = B} v))) false book x.stage) (idle k c e) tt;
+        fits = λ k c e. subst (λ (x : ChairState B V). Fits 0 (drawn (replicate n (fresh {B = B} v))) false book
+            x.stage) (idle k c e) tt;
         apart = λ k j m f g. absurd (none-some m (ap (λ (x : ChairState B V). number x.stage) (idle k f.0 f.1) ∙ f.2));
         queued = λ m low high. absurd (omega arith);
         lies = refl;
@@ -49,34 +53,48 @@ module _ (B V : Type 0) (fact : B → List V → Type 0) (shows : List ℕ → �
       }
 
   -- the rule holds of the first table
-  pub begins : (n : ℕ) (words : List ℕ) (book : B) (v : V) → 0 < n → n * limit < 2 ^ 64 → get_or words 0 0 ≡ 0 → shows words 0 → fact book (replicate n v)
+  pub begins : (n : ℕ) (words : List ℕ) (book : B) (v : V) → 0 < n → n * limit < 2 ^ 64 → get_or words 0 0 ≡ 0
+      → shows words 0 → fact book (replicate n v)
       → Dealt n (Turns fact shows limit) (opening words (Some book ∷ []) (fresh_run v 0 n))
   begins zero words book v any room next shown keeps = absurd (omega arith)
   begins (suc n) words book v any room next shown keeps =
-      opens (Option B) (ChairState B V) (suc n) (Turns fact shows limit) words (Some book ∷ []) (fresh_run v 0 (suc n)) refl refl (length-replicate (suc n) (fresh {B = B} v)) (first_turns (suc n) words book v room next shown keeps)
+      opens (Option B) (ChairState B V) (suc n) (Turns fact shows limit) words (Some book ∷ [])
+      (fresh_run v 0 (suc n)) refl refl (length-replicate (suc n) (fresh {B = B} v))
+      (first_turns (suc n) words book v room next shown keeps)
 
   -- the slot of the last table has the book, and the fact holds of it and the chairs' views
-  pub ends : (n id : ℕ) (v : ChairRun (ChairState B V)) (cs : List (ChairToken B V)) (words : List ℕ) (slots : List (Option B)) (slot : Option B) → v.live ≡ true → v.place ≡ 0 → chairs_of v ≡ map state_of cs → length cs ≡ n
-      → ((k : ℕ) (c : ChairToken B V) → slice_get cs k ≡ Some c → IsOutside c) → Final (Seen (Dealt n (Turns fact shows limit)) id v) words slots
+  pub ends : (n id : ℕ) (v : ChairRun (ChairState B V)) (cs : List (ChairToken B V)) (words : List ℕ)
+      (slots : List (Option B)) (slot : Option B) → v.live ≡ true → v.place ≡ 0 → chairs_of v ≡ map state_of cs
+      → length cs ≡ n
+      → ((k : ℕ) (c : ChairToken B V) → slice_get cs k ≡ Some c → IsOutside c)
+      → Final (Seen (Dealt n (Turns fact shows limit)) id v) words slots
       → get_elem? slots 0 ≡ some slot → (book : B) × (slot ≡ Some book) × fact book (map view cs)
   ends n id v cs words slots slot live first all long outside last found =
       let s = last.0 in
       let d = last.1.0 in
       let t = d.keeps in
       let count : length (chairs_of v) ≡ n = ap length all ∙ length-map cs state_of ∙ long in
-      let chairs : d.chairs ≡ map state_of cs = gathered (Option B) (ChairState B V) n (Turns fact shows limit) s d id v (got_at s.views id v last.1.1) live first count ∙ all in
+      let chairs : d.chairs ≡ map state_of cs =
+      gathered (Option B) (ChairState B V) n (Turns fact shows limit) s d id v (got_at s.views id v last.1.1)
+      live first count ∙ all in
       let off : t.out ≡ false = not_true t.out (λ o.
       let q = t.taken o in
-      let c = at_unmap state_of cs q.0 q.2 (subst (λ (l : List (ChairState B V)). slice_get l q.0 ≡ Some q.2) chairs q.3) in
+      let c = at_unmap state_of cs q.0 q.2 (subst (λ (l : List (ChairState B V)). slice_get l q.0 ≡ Some q.2)
+      chairs q.3) in
       inside_outside q.1 t.book (sym q.4 ∙ ap (λ (x : ChairState B V). x.stage) (sym c.2) ∙ outside q.0 c.0 c.1)) in
       let lies : s.homes ≡ some (Some t.book) ∷ [] = t.lies ∙ ap (λ (o : Bool). shelf o t.book) off in
       let views : map view_of d.chairs ≡ map view cs = ap (map view_of) chairs ∙ map_map view_of state_of cs in
-      let full : get_elem? slots 0 ≡ some (Some t.book) = last.4 0 (Some t.book) (ap (λ (hs : List (maybe.Option (Option B))). get_elem? hs 0) lies) in
-      (t.book, some-injective slot (Some t.book) (sym found ∙ full), subst (λ (vs : List V). fact t.book vs) views t.kept)
+      let full : get_elem? slots 0 ≡ some (Some t.book) =
+      last.4 0 (Some t.book) (ap (λ (hs : List (maybe.Option (Option B))). get_elem? hs 0) lies) in (
+        t.book,
+        some-injective slot (Some t.book) (sym found ∙ full),
+        subst (λ (vs : List V). fact t.book vs) views t.kept,
+      )
 
 module _ {B V : Type 0} where
   -- the chairs that were dealt, and the seat with the places that are left
-  pub record Dealing (first : V) (table : TableId) (limit n count : ℕ) (rest : Seat (Option B) (ChairRun (ChairState B V))) (chairs : List (ChairToken B V)) : Type 0 where
+  pub record Dealing (first : V) (table : TableId) (limit n count : ℕ)
+      (rest : Seat (Option B) (ChairRun (ChairState B V))) (chairs : List (ChairToken B V)) : Type 0 where
     pub own : rest.table_id ≡ table
     pub whole : rest.me ≡ (fresh_run first count (n - count), [])
     pub long : length chairs ≡ count
@@ -89,82 +107,123 @@ module _ {B V : Type 0} where
   one_left : (v : V) (p n : ℕ) → p < n → fresh_run {B = B} v p (n - p) ≡ fresh_run v p (suc (n - (p + 1)))
   one_left v p n less = let e : n - p ≡ suc (n - (p + 1)) = omega arith in ap (fresh_run v p) e
 
-  module _ (first : V) (table : TableId) (limit n count : ℕ) (rest : Seat (Option B) (ChairRun (ChairState B V))) (chairs : List (ChairToken B V)) (d : Dealing first table limit n count rest chairs) (less : count < n) where
+  module _ (first : V) (table : TableId) (limit n count : ℕ) (rest : Seat (Option B) (ChairRun (ChairState B V)))
+      (chairs : List (ChairToken B V)) (d : Dealing first table limit n count rest chairs) (less : count < n) where
     has_more : rest.me ≡ (fresh_run first count (suc (n - (count + 1))), [])
     has_more = d.whole ∙ ap (λ (h : ChairRun (ChairState B V)). (h, [])) (one_left first count n less)
 
     pub is_live : rest.me.0.live ≡ true
     is_live = ap (λ (m : Me (Option B) (ChairRun (ChairState B V))). m.0.live) has_more
 
-    pub first_sits : (seat : Seat (Option B) (ChairRun (ChairState B V))) → seat.me ≡ (first_of rest.me.0, []) → IsAtStage Outside seat.me × (seat.me.0.lead.entries ≡ 0) × (seat.me.0.place ≡ count) × (seat.me.0.lead.view ≡ first)
+    pub first_sits : (seat : Seat (Option B) (ChairRun (ChairState B V))) → seat.me ≡ (first_of rest.me.0, [])
+        → IsAtStage Outside seat.me × (seat.me.0.lead.entries ≡ 0) × (seat.me.0.place ≡ count)
+        × (seat.me.0.lead.view ≡ first)
     first_sits seat e =
-        let f : seat.me ≡ (first_of (fresh_run first count (suc (n - (count + 1)))), []) = e ∙ ap (λ (m : Me (Option B) (ChairRun (ChairState B V))). (first_of m.0, [])) has_more in
-        let P : Me (Option B) (ChairRun (ChairState B V)) → Type 0 = λ m. IsAtStage Outside m × (m.0.lead.entries ≡ 0) × (m.0.place ≡ count) × (m.0.lead.view ≡ first) in
+        let f : seat.me ≡ (first_of (fresh_run first count (suc (n - (count + 1)))), []) =
+        e ∙ ap (λ (m : Me (Option B) (ChairRun (ChairState B V))). (first_of m.0, [])) has_more in
+        let P : Me (Option B) (ChairRun (ChairState B V)) → Type 0 =
+        λ m. IsAtStage Outside m × (m.0.lead.entries ≡ 0) × (m.0.place ≡ count) × (m.0.lead.view ≡ first) in
         subst P (sym f) (refl, refl, refl, refl)
 
-    pub deals_one : (rest' seat : Seat (Option B) (ChairRun (ChairState B V))) (chair : ChairToken B V) → rest'.table_id ≡ rest.table_id → rest'.me ≡ (rest_of rest.me.0, rest.me.1) → seat.table_id ≡ rest.table_id → seat.me ≡ (first_of rest.me.0, [])
-        → IsFresh (lock_id seat.table_id limit) seat.me.0.place seat.me.0.lead.view chair → Dealing first table limit n (count + 1) rest' (chairs ++ chair ∷ [])
+    pub deals_one : (rest' seat : Seat (Option B) (ChairRun (ChairState B V))) (chair : ChairToken B V)
+        → rest'.table_id ≡ rest.table_id → rest'.me ≡ (rest_of rest.me.0, rest.me.1)
+        → seat.table_id ≡ rest.table_id → seat.me ≡ (first_of rest.me.0, [])
+        → IsFresh (lock_id seat.table_id limit) seat.me.0.place seat.me.0.lead.view chair
+        → Dealing first table limit n (count + 1) rest' (chairs ++ chair ∷ [])
     deals_one rest' seat chair same left same' right new =
         let at = first_sits seat right in
         record {
           own = same ∙ d.own;
-          whole = left ∙ ap (λ (m : Me (Option B) (ChairRun (ChairState B V))). (rest_of m.0, m.1)) has_more ∙ ap (λ (h : ChairRun (ChairState B V)). (h, [])) (rest_fresh_run first count (n - (count + 1)));
+          whole = left ∙ ap (λ (m : Me (Option B) (ChairRun (ChairState B V))). (rest_of m.0, m.1)) has_more
+              ∙ ap (λ (h : ChairRun (ChairState B V)). (h, [])) (rest_fresh_run first count (n - (count + 1)));
           long = let l = d.long in omega (arith, length-append chairs (chair ∷ []));
           fresh = λ k c e. ⊎_elim
               (λ (f : slice_get chairs k ≡ Some c). d.fresh k c f)
-              (λ (f : (k ≡ length chairs) × (chair ≡ c)). subst (λ (x : ChairToken B V). IsFresh (lock_id table limit) k first x) f.1
-              (new.0 ∙ ap (λ (z : TableId). lock_id z limit) (same' ∙ d.own), new.1 ∙ at.2 ∙ sym (f.0 ∙ d.long), new.2 ∙ at.3, new.3, new.4))
+              (λ (f : (k ≡ length chairs) × (chair ≡ c)). subst
+              (λ (x : ChairToken B V). IsFresh (lock_id table limit) k first x) f.1 (
+                new.0 ∙ ap (λ (z : TableId). lock_id z limit) (same' ∙ d.own),
+                new.1 ∙ at.2 ∙ sym (f.0 ∙ d.long),
+                new.2 ∙ at.3,
+                new.3,
+                new.4,
+              ))
               (at_end chairs chair c k e);
         }
 
   -- the chairs that are left, and the seat with the places of the others
-  pub record Gathering (table : TableId) (limit : ℕ) (all : List (ChairToken B V)) (whole : Seat (Option B) (ChairRun (ChairState B V))) (rest : List (ChairToken B V)) : Type 0 where
+  pub record Gathering (table : TableId) (limit : ℕ) (all : List (ChairToken B V))
+      (whole : Seat (Option B) (ChairRun (ChairState B V))) (rest : List (ChairToken B V)) : Type 0 where
     pub own : whole.table_id ≡ table
     pub free : whole.me.1 ≡ []
     pub live : whole.me.0.live ≡ true
     pub next : whole.me.0.place ≡ length rest
     pub taken : map state_of all ≡ map state_of rest ++ chairs_of whole.me.0
-    pub left : (k : ℕ) (c : ChairToken B V) → slice_get rest k ≡ Some c → (lock c ≡ lock_id table limit) × (place c ≡ k) × IsOutside c
+    pub left : (k : ℕ) (c : ChairToken B V) → slice_get rest k ≡ Some c
+        → (lock c ≡ lock_id table limit) × (place c ≡ k) × IsOutside c
 
   carries_none : (c : ChairToken B V) → IsOutside c → c.seat.me.1 ≡ []
   carries_none c outside = c.carries ∙ ap carried outside
 
   module _ (table : TableId) (limit : ℕ) where
-    pub gathers_last : (all rest : List (ChairToken B V)) (c : ChairToken B V) → all ≡ rest ++ c ∷ [] → ((k : ℕ) (x : ChairToken B V) → slice_get all k ≡ Some x → (lock x ≡ lock_id table limit) × (place x ≡ k) × IsOutside x)
+    pub gathers_last : (all rest : List (ChairToken B V)) (c : ChairToken B V) → all ≡ rest ++ c ∷ []
+        → ((k : ℕ) (x : ChairToken B V) → slice_get all k ≡ Some x
+        → (lock x ≡ lock_id table limit) × (place x ≡ k) × IsOutside x)
         → Gathering table limit all c.seat rest
     gathers_last all rest c e each =
-        let each' = subst (λ (l : List (ChairToken B V)). (k : ℕ) (x : ChairToken B V) → slice_get l k ≡ Some x → (lock x ≡ lock_id table limit) × (place x ≡ k) × IsOutside x) e each in
+        let each' = subst (λ (l : List (ChairToken B V)). (k : ℕ) (x : ChairToken B V) → slice_get l k ≡ Some x
+        → (lock x ≡ lock_id table limit) × (place x ≡ k) × IsOutside x) e each in
         let last = each' (length rest) c (at_last rest c (length rest) refl) in
         record {
           own = ap (λ z. z.table) last.0;
           free = carries_none c last.2;
           live = c.single.0;
           next = last.1;
-          taken = ap (map state_of) e ∙ map-append state_of rest (c ∷ []) ∙ ap (λ (xs : List (ChairState B V)). map state_of rest ++ state_of c ∷ xs) (sym c.single.1);
+          taken = ap (map state_of) e ∙ map-append state_of rest (c ∷ [])
+              ∙ ap (λ (xs : List (ChairState B V)). map state_of rest ++ state_of c ∷ xs) (sym c.single.1);
           left = λ k x f. each' k x (at_longer rest (c ∷ []) k x f);
         }
 
-    module _ (all rest rest' : List (ChairToken B V)) (whole : Seat (Option B) (ChairRun (ChairState B V))) (c : ChairToken B V) (seat : Seat (Option B) (ChairRun (ChairState B V))) (g : Gathering table limit all whole rest) (e : rest ≡ rest' ++ c ∷ []) (is : seat ≡ c.seat) where
-      each_left : (k : ℕ) (x : ChairToken B V) → slice_get (rest' ++ c ∷ []) k ≡ Some x → (lock x ≡ lock_id table limit) × (place x ≡ k) × IsOutside x
-      each_left = subst (λ (l : List (ChairToken B V)). (k : ℕ) (x : ChairToken B V) → slice_get l k ≡ Some x → (lock x ≡ lock_id table limit) × (place x ≡ k) × IsOutside x) e g.left
+    module _ (all rest rest' : List (ChairToken B V)) (whole : Seat (Option B) (ChairRun (ChairState B V)))
+        (c : ChairToken B V) (seat : Seat (Option B) (ChairRun (ChairState B V)))
+        (g : Gathering table limit all whole rest) (e : rest ≡ rest' ++ c ∷ []) (is : seat ≡ c.seat) where
+      each_left : (k : ℕ) (x : ChairToken B V) → slice_get (rest' ++ c ∷ []) k ≡ Some x
+          → (lock x ≡ lock_id table limit) × (place x ≡ k) × IsOutside x
+      each_left = subst (λ (l : List (ChairToken B V)). (k : ℕ) (x : ChairToken B V) → slice_get l k ≡ Some x
+          → (lock x ≡ lock_id table limit) × (place x ≡ k) × IsOutside x) e g.left
 
       -- the chair that is taken in is of this lock, free, and has the place before
-      pub is_before : (seat.table_id ≡ table) × (seat.me.1 ≡ []) × (whole.me.0.place ≡ seat.me.0.place + 1) × (seat.me.0.live ≡ true)
+      pub is_before : (seat.table_id ≡ table) × (seat.me.1 ≡ []) × (whole.me.0.place ≡ seat.me.0.place + 1)
+          × (seat.me.0.live ≡ true)
       is_before =
           let last = each_left (length rest') c (at_last rest' c (length rest') refl) in
-          let P : Seat (Option B) (ChairRun (ChairState B V)) → Type 0 = λ s. (s.table_id ≡ table) × (s.me.1 ≡ []) × (whole.me.0.place ≡ s.me.0.place + 1) × (s.me.0.live ≡ true) in
-          subst P (sym is) (ap (λ z. z.table) last.0, carries_none c last.2, g.next ∙ ap length e ∙ length-append rest' (c ∷ []) ∙ ap (λ (k : ℕ). k + 1) (sym last.1), c.single.0)
+          let P : Seat (Option B) (ChairRun (ChairState B V)) → Type 0 =
+          λ s. (s.table_id ≡ table) × (s.me.1 ≡ []) × (whole.me.0.place ≡ s.me.0.place + 1)
+          × (s.me.0.live ≡ true) in
+          subst P (sym is) (
+            ap (λ z. z.table) last.0,
+            carries_none c last.2,
+            g.next ∙ ap length e ∙ length-append rest' (c ∷ []) ∙ ap (λ (k : ℕ). k + 1) (sym last.1),
+            c.single.0,
+          )
 
-      pub gathers_one : (whole' : Seat (Option B) (ChairRun (ChairState B V))) → whole'.table_id ≡ whole.table_id → whole'.me ≡ (both_of whole.me.0 seat.me.0, whole.me.1) → Gathering table limit all whole' rest'
+      pub gathers_one : (whole' : Seat (Option B) (ChairRun (ChairState B V))) → whole'.table_id ≡ whole.table_id
+          → whole'.me ≡ (both_of whole.me.0 seat.me.0, whole.me.1) → Gathering table limit all whole' rest'
       gathers_one whole' same merged =
-          let joined : whole'.me ≡ (both_of whole.me.0 c.seat.me.0, whole.me.1) = merged ∙ ap (λ (s : Seat (Option B) (ChairRun (ChairState B V))). (both_of whole.me.0 s.me.0, whole.me.1)) is in
+          let joined : whole'.me ≡ (both_of whole.me.0 c.seat.me.0, whole.me.1) =
+          merged ∙ ap (λ (s : Seat (Option B) (ChairRun (ChairState B V))). (
+            both_of whole.me.0 s.me.0,
+            whole.me.1,
+          )) is in
           let last = each_left (length rest') c (at_last rest' c (length rest') refl) in
           record {
             own = same ∙ g.own;
             free = ap (λ (m : Me (Option B) (ChairRun (ChairState B V))). m.1) joined ∙ g.free;
             live = ap (λ (m : Me (Option B) (ChairRun (ChairState B V))). m.0.live) joined;
             next = ap (λ (m : Me (Option B) (ChairRun (ChairState B V))). m.0.place) joined ∙ last.1;
-            taken = g.taken ∙ ap (λ (l : List (ChairToken B V)). map state_of l ++ chairs_of whole.me.0) e ∙ ap (λ (l : List (ChairState B V)). l ++ chairs_of whole.me.0) (map-append state_of rest' (c ∷ []))
-                ∙ append_assoc (map state_of rest') (state_of c ∷ []) (chairs_of whole.me.0) ∙ ap (λ (m : Me (Option B) (ChairRun (ChairState B V))). map state_of rest' ++ chairs_of m.0) (sym joined);
+            taken = g.taken ∙ ap (λ (l : List (ChairToken B V)). map state_of l ++ chairs_of whole.me.0) e
+                ∙ ap (λ (l : List (ChairState B V)). l ++ chairs_of whole.me.0) (map-append state_of rest' (c ∷ []))
+                ∙ append_assoc (map state_of rest') (state_of c ∷ []) (chairs_of whole.me.0)
+                ∙ ap (λ (m : Me (Option B) (ChairRun (ChairState B V))). map state_of rest' ++ chairs_of m.0)
+                (sym joined);
             left = λ k x f. each_left k x (at_longer rest' (c ∷ []) k x f);
           }

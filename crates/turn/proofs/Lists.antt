@@ -12,12 +12,16 @@ module _ {A : Type 0} where
   got_at (x ∷ xs) (suc j) a e = got_at xs j a e
 
   -- what stands in a list after a write
-  pub at_set : (l : List A) (i j : ℕ) (a b : A) → slice_get (set l i a) j ≡ Some b → ((j ≡ i) × (a ≡ b)) ⊎ ((j ≢ i) × (slice_get l j ≡ Some b))
+  pub at_set : (l : List A) (i j : ℕ) (a b : A) → slice_get (set l i a) j ≡ Some b
+      → ((j ≡ i) × (a ≡ b)) ⊎ ((j ≢ i) × (slice_get l j ≡ Some b))
   at_set [] i j a b e = absurd (none-some b e)
   at_set (x ∷ xs) zero zero a b e = inl (refl, same_Some a b e)
   at_set (x ∷ xs) zero (suc j) a b e = inr ((λ h. omega arith), e)
   at_set (x ∷ xs) (suc i) zero a b e = inr ((λ h. omega arith), e)
-  at_set (x ∷ xs) (suc i) (suc j) a b e = ⊎_elim (λ (t : (j ≡ i) × (a ≡ b)). inl (ap suc t.0, t.1)) (λ (t : (j ≢ i) × (slice_get xs j ≡ Some b)). let n = t.0 in inr ((λ h. n (omega arith)), t.1)) (at_set xs i j a b e)
+  at_set (x ∷ xs) (suc i) (suc j) a b e =
+      ⊎_elim (λ (t : (j ≡ i) × (a ≡ b)). inl (ap suc t.0, t.1))
+      (λ (t : (j ≢ i) × (slice_get xs j ≡ Some b)). let n = t.0 in inr ((λ h. n (omega arith)), t.1))
+      (at_set xs i j a b e)
 
   pub set_here : (l : List A) (i : ℕ) (a : A) → i < length l → slice_get (set l i a) i ≡ Some a
   set_here [] i a h = absurd (omega arith)
@@ -49,18 +53,21 @@ module _ {A : Type 0} where
   at_last (x ∷ xs) a (suc n) e = at_last xs a n (omega arith)
 
   -- what stands in a list that is one longer
-  pub at_end : (l : List A) (a b : A) (j : ℕ) → slice_get (l ++ a ∷ []) j ≡ Some b → (slice_get l j ≡ Some b) ⊎ ((j ≡ length l) × (a ≡ b))
+  pub at_end : (l : List A) (a b : A) (j : ℕ) → slice_get (l ++ a ∷ []) j ≡ Some b
+      → (slice_get l j ≡ Some b) ⊎ ((j ≡ length l) × (a ≡ b))
   at_end [] a b zero e = inr (refl, same_Some a b e)
   at_end [] a b (suc j) e = absurd (none-some b e)
   at_end (x ∷ xs) a b zero e = inl e
-  at_end (x ∷ xs) a b (suc j) e = ⊎_elim inl (λ (t : (j ≡ length xs) × (a ≡ b)). inr (ap suc t.0, t.1)) (at_end xs a b j e)
+  at_end (x ∷ xs) a b (suc j) e = ⊎_elim inl (λ (t : (j ≡ length xs) × (a ≡ b)). inr (ap suc t.0, t.1))
+      (at_end xs a b j e)
 
   -- two elements at one place are one
   pub at_once : (l : List A) (j : ℕ) (a b : A) → slice_get l j ≡ Some a → slice_get l j ≡ Some b → a ≡ b
   at_once l j a b d e = same_Some a b (sym d ∙ e)
 
   -- lists of one length that agree at each place are one
-  pub same_list : (l m : List A) → length l ≡ length m → ((j : ℕ) (a : A) → slice_get m j ≡ Some a → slice_get l j ≡ Some a) → l ≡ m
+  pub same_list : (l m : List A) → length l ≡ length m
+      → ((j : ℕ) (a : A) → slice_get m j ≡ Some a → slice_get l j ≡ Some a) → l ≡ m
   same_list [] [] n h = refl
   same_list [] (y ∷ ys) n h = absurd (omega arith)
   same_list (x ∷ xs) [] n h = absurd (omega arith)
@@ -82,7 +89,8 @@ module _ {A B : Type 0} where
   at_map f (x ∷ xs) (suc i) a e = at_map f xs i a e
 
   -- what stands in a list of images is an image
-  pub at_unmap : (f : A → B) (l : List A) (k : ℕ) (b : B) → slice_get (map f l) k ≡ Some b → (a : A) × (slice_get l k ≡ Some a) × (f a ≡ b)
+  pub at_unmap : (f : A → B) (l : List A) (k : ℕ) (b : B) → slice_get (map f l) k ≡ Some b
+      → (a : A) × (slice_get l k ≡ Some a) × (f a ≡ b)
   at_unmap f [] k b e = absurd (none-some b e)
   at_unmap f (x ∷ xs) zero b e = (x, refl, same_Some (f x) b e)
   at_unmap f (x ∷ xs) (suc k) b e = at_unmap f xs k b e

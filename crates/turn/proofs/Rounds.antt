@@ -40,36 +40,48 @@ book_or : {B : Type 0} → B → List (ℕ × Option B) → B
 book_or b [] = b
 book_or b (x ∷ xs) = unwrap_or x.1 b
 
-pub slot_once : {B : Type 0} (xs : List (ℕ × Option B)) (a b : B) → xs ≡ (0, Some a) ∷ [] → xs ≡ (0, Some b) ∷ [] → a ≡ b
+pub slot_once : {B : Type 0} (xs : List (ℕ × Option B)) (a b : B) → xs ≡ (0, Some a) ∷ [] → xs ≡ (0, Some b) ∷ []
+    → a ≡ b
 unfolding book_or
 slot_once xs a b d e = sym (ap (book_or a) d) ∙ ap (book_or a) e
 
-module _ (B V : Type 0) (fact : B → List V → Type 0) (width : ℕ) (shows : List ℕ → ℕ → Type 0) (at : ℕ → ℕ) (passed : ℕ → ℕ → ℕ) (board : IsBoard width shows at passed) (n limit slots id : ℕ) where
+module _ (B V : Type 0) (fact : B → List V → Type 0) (width : ℕ) (shows : List ℕ → ℕ → Type 0) (at : ℕ → ℕ)
+    (passed : ℕ → ℕ → ℕ) (board : IsBoard width shows at passed) (n limit slots id : ℕ) where
   abbrev Rule : State (Option B) (ChairRun (ChairState B V)) → Type 0
   Rule = Dealt n (Turns fact shows limit)
 
   abbrev Hold : Type 0
   Hold = Me (Option B) (ChairRun (ChairState B V))
 
-  pub draws_allowed : (me : Hold) → IsAtStage Outside me → me.0.lead.entries < limit → Allows Rule slots id me 0 (λ m. (m + 1) % 2 ^ 64) (Draws me)
+  pub draws_allowed : (me : Hold) → IsAtStage Outside me → me.0.lead.entries < limit
+      → Allows Rule slots id me 0 (λ m. (m + 1) % 2 ^ 64) (Draws me)
   draws_allowed me sits less s h long seen fit =
       let mine = got_at s.views id me.0 seen in
       let p = me.0.place in
       let c : ChairState B V = chair_state Outside me.0.lead.entries me.0.lead.view in
       let next = get_or s.words 0 0 in
       let mine' : slice_get s.views id ≡ Some (one p c) = mine ∙ ap (λ (x : Hold). Some x.0) sits in
-      let r = draws B V fact width shows at passed board limit s.words s.homes h.chairs h.keeps p c (at_place (Option B) (ChairState B V) n (Turns fact shows limit) s h id p c mine') refl less in
+      let r = draws B V fact width shows at passed board limit s.words s.homes h.chairs h.keeps p c
+      (at_place (Option B) (ChairState B V) n (Turns fact shows limit) s h id p c mine') refl less in
       let d : ChairState B V = chair_state (Waiting next) (me.0.lead.entries + 1) me.0.lead.view in (
         one p d,
         keeps,
         tt,
-        moved (Option B) (ChairState B V) n (Turns fact shows limit) s h id p c d (set s.words 0 ((next + 1) % 2 ^ 64)) s.homes mine' r.1,
-        (let z : (one p d, me.1) ≡ seat_with p (Waiting next) (me.0.lead.entries + 1) me.0.lead.view = ap (λ (x : Hold). (one p d, x.1)) sits in z, r.0),
+        moved (Option B) (ChairState B V) n (Turns fact shows limit) s h id p c d
+            (set s.words 0 ((next + 1) % 2 ^ 64)) s.homes mine' r.1,
+        (
+          let z : (one p d, me.1) ≡ seat_with p (Waiting next) (me.0.lead.entries + 1) me.0.lead.view =
+              ap (λ (x : Hold). (one p d, x.1)) sits in z,
+          r.0,
+        ),
       )
 
   -- a look that finds the chair's own number
-  finds_own : (m : ℕ) (me : Hold) → IsAtStage (Waiting m) me → (s : State (Option B) (ChairRun (ChairState B V))) → Rule s → slice_get s.views id ≡ Some me.0 → get_or s.words (at m) 0 ≡ m
-      → (w : ChairRun (ChairState B V)) × (a : Act (Option B)) × Valid s.homes me.1 a × Rule (stepped s (at m) (get_or s.words (at m) 0) id me.1 w a) × Looks fact me (get_or s.words (at m) 0) (w, carried_after me.1 a)
+  finds_own : (m : ℕ) (me : Hold) → IsAtStage (Waiting m) me → (s : State (Option B) (ChairRun (ChairState B V)))
+      → Rule s → slice_get s.views id ≡ Some me.0 → get_or s.words (at m) 0 ≡ m
+      → (w : ChairRun (ChairState B V)) × (a : Act (Option B)) × Valid s.homes me.1 a
+      × Rule (stepped s (at m) (get_or s.words (at m) 0) id me.1 w a)
+      × Looks fact me (get_or s.words (at m) 0) (w, carried_after me.1 a)
   finds_own m me sits s h mine found =
       let p = me.0.place in
       let c : ChairState B V = chair_state (Waiting m) me.0.lead.entries me.0.lead.view in
@@ -84,38 +96,59 @@ module _ (B V : Type 0) (fact : B → List V → Type 0) (width : ℕ) (shows : 
       let lies : s.homes ≡ some (Some t.book) ∷ [] = t.lies ∙ ap (λ (o : Bool). shelf o t.book) off in
       let empty : set s.homes 0 none ≡ none ∷ [] = ap (λ (hs : List (maybe.Option (Option B))). set hs 0 none) lies in
       let none_yet : me.1 ≡ [] = ap (λ (x : Hold). x.1) sits in
-      let took : StepsIn fact m me (one p d, (0, Some t.book) ∷ me.1) = (t.book, (map view_of h.chairs, at_map view_of h.chairs p c here, t.kept), ap (λ (xs : List (ℕ × Option B)). (one p d, (0, Some t.book) ∷ xs)) none_yet) in (
+      let took : StepsIn fact m me (one p d, (0, Some t.book) ∷ me.1) = (
+        t.book,
+        (map view_of h.chairs, at_map view_of h.chairs p c here, t.kept),
+        ap (λ (xs : List (ℕ × Option B)). (one p d, (0, Some t.book) ∷ xs)) none_yet,
+      ) in (
         one p d,
         takes 0 (Some t.book),
         ap (λ (hs : List (maybe.Option (Option B))). get_elem? hs 0) lies,
-        subst (λ (ws : List ℕ). Rule (record { words = ws; homes = set s.homes 0 none; views = set s.views id (one p d) })) (sym (set-get_or s.words (at m) 0))
-            (moved (Option B) (ChairState B V) n (Turns fact shows limit) s h id p c d s.words (set s.homes 0 none) mine' (subst (λ (hs : List (maybe.Option (Option B))). Turns fact shows limit s.words hs (set h.chairs p d)) (sym empty) r)),
+        subst (λ (ws : List ℕ). Rule (record {
+          words = ws;
+          homes = set s.homes 0 none;
+          views =
+              set s.views id (one p d);
+        })) (sym (set-get_or s.words (at m) 0))
+            (moved (Option B) (ChairState B V) n (Turns fact shows limit) s h id p c d s.words (set s.homes 0 none)
+            mine' (subst (λ (hs : List (maybe.Option (Option B))). Turns fact shows limit s.words hs
+            (set h.chairs p d)) (sym empty) r)),
         λ k waits.
             let same : m ≡ k = waiting_once me.0.lead.stage m k (ap (λ (x : Hold). x.0.lead.stage) sits) waits in
-            subst (λ (b : Bool). MatchBool b (StepsIn fact k me (one p d, (0, Some t.book) ∷ me.1)) ((one p d, (0, Some t.book) ∷ me.1) ≡ me)) (sym (eq-eqb (get_or s.words (at m) 0) k (found ∙ same)))
+            subst (λ (b : Bool). MatchBool b (StepsIn fact k me (one p d, (0, Some t.book) ∷ me.1))
+            ((one p d, (0, Some t.book) ∷ me.1) ≡ me)) (sym (eq-eqb (get_or s.words (at m) 0) k (found ∙ same)))
             (subst (λ (i : ℕ). StepsIn fact i me (one p d, (0, Some t.book) ∷ me.1)) same took),
       )
 
   -- a look that finds another number
-  finds_other : (m : ℕ) (me : Hold) → IsAtStage (Waiting m) me → (s : State (Option B) (ChairRun (ChairState B V))) → Rule s → slice_get s.views id ≡ Some me.0 → get_or s.words (at m) 0 ≢ m
-      → (w : ChairRun (ChairState B V)) × (a : Act (Option B)) × Valid s.homes me.1 a × Rule (stepped s (at m) (get_or s.words (at m) 0) id me.1 w a) × Looks fact me (get_or s.words (at m) 0) (w, carried_after me.1 a)
+  finds_other : (m : ℕ) (me : Hold) → IsAtStage (Waiting m) me → (s : State (Option B) (ChairRun (ChairState B V)))
+      → Rule s → slice_get s.views id ≡ Some me.0 → get_or s.words (at m) 0 ≢ m
+      → (w : ChairRun (ChairState B V)) × (a : Act (Option B)) × Valid s.homes me.1 a
+      × Rule (stepped s (at m) (get_or s.words (at m) 0) id me.1 w a)
+      × Looks fact me (get_or s.words (at m) 0) (w, carried_after me.1 a)
   finds_other m me sits s h mine found = (
     me.0,
     keeps,
     tt,
-    subst (λ (ws : List ℕ). Rule (record { words = ws; homes = s.homes; views = set s.views id me.0 })) (sym (set-get_or s.words (at m) 0))
-        (subst (λ (vs : List (ChairRun (ChairState B V))). Rule (record { words = s.words; homes = s.homes; views = vs })) (sym (set_again s.views id me.0 mine)) h),
+    subst (λ (ws : List ℕ). Rule (record { words = ws; homes = s.homes; views = set s.views id me.0 }))
+        (sym (set-get_or s.words (at m) 0))
+        (subst (λ (vs : List (ChairRun (ChairState B V))). Rule
+        (record { words = s.words; homes = s.homes; views = vs })) (sym (set_again s.views id me.0 mine)) h),
     λ k waits.
         let same : m ≡ k = waiting_once me.0.lead.stage m k (ap (λ (x : Hold). x.0.lead.stage) sits) waits in
-        subst (λ (b : Bool). MatchBool b (StepsIn fact k me me) (me ≡ me)) (sym (ne_eqb (get_or s.words (at m) 0) k (λ e. found (e ∙ sym same)))) refl,
+        subst (λ (b : Bool). MatchBool b (StepsIn fact k me me) (me ≡ me))
+        (sym (ne_eqb (get_or s.words (at m) 0) k (λ e. found (e ∙ sym same)))) refl,
   )
 
-  pub looks_allowed : (m : ℕ) (me : Hold) → IsAtStage (Waiting m) me → Allows Rule slots id me (at m) (λ k. k) (Looks fact me)
+  pub looks_allowed : (m : ℕ) (me : Hold) → IsAtStage (Waiting m) me
+      → Allows Rule slots id me (at m) (λ k. k) (Looks fact me)
   looks_allowed m me sits s h long seen fit =
       let mine = got_at s.views id me.0 seen in
       dite (ℕ_discrete (get_or s.words (at m) 0) m) (finds_own m me sits s h mine) (finds_other m me sits s h mine)
 
-  pub leaves_allowed : (then : B → B → ℕ → V → V → Type 0) (m : ℕ) (found book : B) (me : Hold) → me ≡ ((with_stage (Inside m found) me).0, (0, Some book) ∷ []) → MayHandIn fact then found book me.0.place me.0.lead.view
+  pub leaves_allowed : (then : B → B → ℕ → V → V → Type 0) (m : ℕ) (found book : B) (me : Hold)
+      → me ≡ ((with_stage (Inside m found) me).0, (0, Some book) ∷ [])
+      → MayHandIn fact then found book me.0.place me.0.lead.view
       → Allows Rule slots id me (at (m + 1)) (passed m) (λ _ after. Leaves then me after)
   leaves_allowed then m found book me sits may s h long seen fit =
       let mine = got_at s.views id me.0 seen in
@@ -128,28 +161,41 @@ module _ (B V : Type 0) (fact : B → List V → Type 0) (width : ℕ) (shows : 
       let has = served B V fact width shows at passed board limit s.words s.homes h.chairs t p c here m found refl in
       let shown : shows s.words m = subst (λ (k : ℕ). shows s.words k) (sym has.0) t.shown in
       let words = set s.words (at (m + 1)) (passed m (get_or s.words (at (m + 1)) 0)) in
-      let next : get_or words 0 0 ≡ get_or s.words 0 0 = get_or-set_other s.words (at (m + 1)) 0 (passed m (get_or s.words (at (m + 1)) 0)) 0 (λ e. let z = board.beside_next (m + 1) in omega arith) in
-      let w = may (map view_of h.chairs) (at_map view_of h.chairs p c here) (subst (λ (b : B). fact b (map view_of h.chairs)) (sym has.2) t.kept) in
+      let next : get_or words 0 0 ≡ get_or s.words 0 0 =
+      get_or-set_other s.words (at (m + 1)) 0 (passed m (get_or s.words (at (m + 1)) 0)) 0
+      (λ e. let z = board.beside_next (m + 1) in omega arith) in
+      let w = may (map view_of h.chairs) (at_map view_of h.chairs p c here)
+      (subst (λ (b : B). fact b (map view_of h.chairs)) (sym has.2) t.kept) in
       let d : ChairState B V = chair_state Outside me.0.lead.entries w.0 in
       let has_slot : me.1 ≡ (0, Some book) ∷ [] = ap (λ (x : Hold). x.1) sits in
-      let r = leaves B V fact width shows at passed board limit s.words s.homes h.chairs t p c here m found book w.0 words refl (board.passes s.words m shown has.1) next w.2 in
-      let back : put_back s.homes me.1 ≡ some (Some book) ∷ [] = ap (λ (xs : List (ℕ × Option B)). put_back s.homes xs) has_slot ∙ ap (λ (hs : List (maybe.Option (Option B))). set hs 0 (some (Some book))) has.3 in (
+      let r = leaves B V fact width shows at passed board limit s.words s.homes h.chairs t p c here m found book
+      w.0 words refl (board.passes s.words m shown has.1) next w.2 in
+      let back : put_back s.homes me.1 ≡ some (Some book) ∷ [] =
+      ap (λ (xs : List (ℕ × Option B)). put_back s.homes xs) has_slot
+      ∙ ap (λ (hs : List (maybe.Option (Option B))). set hs 0 (some (Some book))) has.3 in (
         one p d,
         gives,
         tt,
-        moved (Option B) (ChairState B V) n (Turns fact shows limit) s h id p c d words (put_back s.homes me.1) mine' (subst (λ (hs : List (maybe.Option (Option B))). Turns fact shows limit words hs (set h.chairs p d)) (sym back) r),
+        moved (Option B) (ChairState B V) n (Turns fact shows limit) s h id p c d words (put_back s.homes me.1)
+            mine' (subst (λ (hs : List (maybe.Option (Option B))). Turns fact shows limit words hs
+            (set h.chairs p d)) (sym back) r),
         (
           ap (λ (xs : List (ℕ × Option B)). (one p d, rest xs)) has_slot,
           λ k a b stands e.
-              let same : found ≡ a = inside_once me.0.lead.stage m k found a (ap (λ (x : Hold). x.0.lead.stage) sits) stands in
+              let same : found ≡ a = inside_once me.0.lead.stage m k found a
+              (ap (λ (x : Hold). x.0.lead.stage) sits) stands in
               subst₂ (λ (x y : B). then x y p v w.0) same (slot_once me.1 book b has_slot e) w.1,
         ),
       )
 
   -- the same once the book was put back into the slot
-  pub leaves_after : (then : B → B → ℕ → V → V → Type 0) (m : ℕ) (found book : B) (was me : Hold) → IsAtStage (Inside m found) was → me ≡ (was.0, (0, Some book) ∷ rest was.1) → MayHandIn fact then found book was.0.place was.0.lead.view
+  pub leaves_after : (then : B → B → ℕ → V → V → Type 0) (m : ℕ) (found book : B) (was me : Hold)
+      → IsAtStage (Inside m found) was → me ≡ (was.0, (0, Some book) ∷ rest was.1)
+      → MayHandIn fact then found book was.0.place was.0.lead.view
       → Allows Rule slots id me (at (m + 1)) (passed m) (λ _ after. Leaves then me after)
   leaves_after then m found book was me sits put may =
       let back : Hold = (was.0, (0, Some book) ∷ rest was.1) in
-      let inside : back ≡ ((with_stage (Inside m found) back).0, (0, Some book) ∷ []) = ap (λ (x : Hold). (x.0, (0, Some book) ∷ rest x.1)) sits in
-      subst (λ (x : Hold). Allows Rule slots id x (at (m + 1)) (passed m) (λ _ after. Leaves then x after)) (sym put) (leaves_allowed then m found book back inside may)
+      let inside : back ≡ ((with_stage (Inside m found) back).0, (0, Some book) ∷ []) =
+      ap (λ (x : Hold). (x.0, (0, Some book) ∷ rest x.1)) sits in
+      subst (λ (x : Hold). Allows Rule slots id x (at (m + 1)) (passed m) (λ _ after. Leaves then x after))
+      (sym put) (leaves_allowed then m found book back inside may)

@@ -19,8 +19,10 @@ book_where_full : {B : Type 0} (out : Bool) (book b : B) → shelf out book ≡ 
 book_where_full true book b e = cc
 book_where_full false book b e = cc
 
-module _ (B V : Type 0) (fact : B → List V → Type 0) (width : ℕ) (shows : List ℕ → ℕ → Type 0) (at : ℕ → ℕ) (passed : ℕ → ℕ → ℕ) (board : IsBoard width shows at passed) (limit : ℕ)
-    (ws : List ℕ) (hs : List (maybe.Option (Option B))) (cs : List (ChairState B V)) (t : Turns fact shows limit ws hs cs) where
+module _ (B V : Type 0) (fact : B → List V → Type 0) (width : ℕ) (shows : List ℕ → ℕ → Type 0) (at : ℕ → ℕ)
+    (passed : ℕ → ℕ → ℕ) (board : IsBoard width shows at passed) (limit : ℕ)
+    (ws : List ℕ) (hs : List (maybe.Option (Option B))) (cs : List (ChairState B V))
+    (t : Turns fact shows limit ws hs cs) where
   -- a number that was drawn and not left
   between : (k m : ℕ) → HasNumber cs k m → (t.serving ≤ m) × (m < drawn cs)
   between k m h = fits_number t.serving (drawn cs) m t.out t.book h.0.stage h.2 (t.fits k h.0 h.1)

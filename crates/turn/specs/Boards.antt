@@ -1,7 +1,8 @@
 -- What the words show, and the two boards.
 use Rattle.std.specs.Prelude.{◌≡◌, ℕ, ◌+◌, ◌%◌, ◌^◌, ◌<◌, ◌≤◌, List, length, slice_index, slice_set}
 
--- A board: `shows words k` says that the words let the number k in, the chair with the number m looks at the word `at m`,
+-- A board: `shows words k` says that the words let the number k in, the chair with the number m looks at the word
+-- `at m`,
 -- and who leaves with the number m makes the word at `at (m + 1)` what `passed m` says of it
 pub record IsBoard (width : ℕ) (shows : List ℕ → ℕ → Type 0) (at : ℕ → ℕ) (passed : ℕ → ℕ → ℕ) : Type 0 where
   pub within : (m : ℕ) → at m < width
@@ -13,7 +14,8 @@ pub record IsBoard (width : ℕ) (shows : List ℕ → ℕ → Type 0) (at : ℕ
   pub lets_in : (words : List ℕ) (k : ℕ) → shows words k → slice_index words (at k) ≡ k
   pub finds : (words : List ℕ) (k m : ℕ) → shows words k → k ≤ m → slice_index words (at m) ≡ m → m ≡ k
   -- leaving lets the next number in
-  pub passes : (words : List ℕ) (m : ℕ) → shows words m → m + 1 < 2 ^ 64 → shows (slice_set words (at (m + 1)) (passed m (slice_index words (at (m + 1))))) (m + 1)
+  pub passes : (words : List ℕ) (m : ℕ) → shows words m → m + 1 < 2 ^ 64
+      → shows (slice_set words (at (m + 1)) (passed m (slice_index words (at (m + 1))))) (m + 1)
 
 -- one word for all: it is the number that is let in
 abbrev pub Counts : List ℕ → ℕ → Type 0
@@ -21,4 +23,5 @@ Counts words k = (length words ≡ 2) × (slice_index words 1 ≡ k)
 
 -- one word for each of n chairs, from word 1 on: that of k is k, and none is above it
 abbrev pub Points : ℕ → List ℕ → ℕ → Type 0
-Points n words k = (length words ≡ n + 1) × (slice_index words (k % n + 1) ≡ k) × ((j : ℕ) → j < n → slice_index words (j + 1) ≤ k)
+Points n words k = (length words ≡ n + 1) × (slice_index words (k % n + 1) ≡ k)
+    × ((j : ℕ) → j < n → slice_index words (j + 1) ≤ k)

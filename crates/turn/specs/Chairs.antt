@@ -59,13 +59,16 @@ module _ {B V : Type 0} where
 
   -- all n chairs of the lock, in the order of their places and none inside
   abbrev pub AreAll : LockId → ℕ → List (ChairToken B V) → Type 0
-  AreAll l n cs = (length cs ≡ n) × ((k : ℕ) (c : ChairToken B V) → slice_get cs k ≡ Some c → (lock c ≡ l) × (place c ≡ k) × IsOutside c)
+  AreAll l n cs = (length cs ≡ n) × ((k : ℕ) (c : ChairToken B V) → slice_get cs k ≡ Some c
+      → (lock c ≡ l) × (place c ≡ k) × IsOutside c)
 
   -- the fact holds of the book and some list of views with v at the place p
   abbrev pub Stands : (B → List V → Type 0) → B → ℕ → V → Type 0
   Stands fact b p v = (views : List V) × (slice_get views p ≡ Some v) × fact b views
 
-  -- whatever the other views are: where the fact held of the book as it was found, some new view is told of and keeps it with the book handed in
+  -- whatever the other views are: where the fact held of the book as it was found, some new view is told of and
+  -- keeps it with the book handed in
   abbrev pub MayHandIn : (B → List V → Type 0) → (B → B → ℕ → V → V → Type 0) → B → B → ℕ → V → Type 0
   MayHandIn fact then found book p v =
-      (views : List V) → slice_get views p ≡ Some v → fact found views → (w : V) × then found book p v w × fact book (slice_set views p w)
+      (views : List V) → slice_get views p ≡ Some v → fact found views
+      → (w : V) × then found book p v w × fact book (slice_set views p w)

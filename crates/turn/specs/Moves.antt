@@ -25,7 +25,8 @@ module _ {B V : Type 0} where
   seat_with p g e v = (one p (chair_state g e v), carried g)
 
   -- the seat with its chair at another stage
-  abbrev pub with_stage : Stage B → Me (Option B) (ChairRun (ChairState B V)) → Me (Option B) (ChairRun (ChairState B V))
+  abbrev pub with_stage : Stage B → Me (Option B) (ChairRun (ChairState B V))
+      → Me (Option B) (ChairRun (ChairState B V))
   with_stage g me = seat_with me.0.place g me.0.lead.entries me.0.lead.view
 
   -- the seat has one chair, at this stage
@@ -34,19 +35,25 @@ module _ {B V : Type 0} where
 
   -- a draw: the chair waits with the number found, and has entered once more
   abbrev pub Draws : Me (Option B) (ChairRun (ChairState B V)) → ℕ → Me (Option B) (ChairRun (ChairState B V)) → Type 0
-  Draws me found after = (after ≡ seat_with me.0.place (Waiting found) (me.0.lead.entries + 1) me.0.lead.view) × (found + 1 < 2 ^ 64)
+  Draws me found after = (after ≡ seat_with me.0.place (Waiting found) (me.0.lead.entries + 1) me.0.lead.view)
+      × (found + 1 < 2 ^ 64)
 
   -- the chair that waited with the number m is inside, and its seat has the slot with the book, of which the fact holds
-  abbrev pub StepsIn : (B → List V → Type 0) → ℕ → Me (Option B) (ChairRun (ChairState B V)) → Me (Option B) (ChairRun (ChairState B V)) → Type 0
-  StepsIn fact m me after = (book : B) × Stands fact book me.0.place me.0.lead.view × (after ≡ ((with_stage (Inside m book) me).0, (0, Some book) ∷ []))
+  abbrev pub StepsIn : (B → List V → Type 0) → ℕ → Me (Option B) (ChairRun (ChairState B V))
+      → Me (Option B) (ChairRun (ChairState B V)) → Type 0
+  StepsIn fact m me after = (book : B) × Stands fact book me.0.place me.0.lead.view
+      × (after ≡ ((with_stage (Inside m book) me).0, (0, Some book) ∷ []))
 
   -- a look: the number found is the chair's own, and it steps in, or nothing changes
-  abbrev pub Looks : (B → List V → Type 0) → Me (Option B) (ChairRun (ChairState B V)) → ℕ → Me (Option B) (ChairRun (ChairState B V)) → Type 0
-  Looks fact me found after = (m : ℕ) → me.0.lead.stage ≡ Waiting m → MatchBool (found == m) (StepsIn fact m me after) (after ≡ me)
+  abbrev pub Looks : (B → List V → Type 0) → Me (Option B) (ChairRun (ChairState B V)) → ℕ
+      → Me (Option B) (ChairRun (ChairState B V)) → Type 0
+  Looks fact me found after = (m : ℕ) → me.0.lead.stage ≡ Waiting m
+      → MatchBool (found == m) (StepsIn fact m me after) (after ≡ me)
 
   -- a leave: the chair, which was inside with the book found, is outside with a new view, and the slot is given back
   -- with the book
-  abbrev pub Leaves : (B → B → ℕ → V → V → Type 0) → Me (Option B) (ChairRun (ChairState B V)) → Me (Option B) (ChairRun (ChairState B V)) → Type 0
+  abbrev pub Leaves : (B → B → ℕ → V → V → Type 0) → Me (Option B) (ChairRun (ChairState B V))
+      → Me (Option B) (ChairRun (ChairState B V)) → Type 0
   Leaves then me after =
       (after ≡ seat_with me.0.place Outside me.0.lead.entries after.0.lead.view)
       × ((m : ℕ) (found book : B) → me.0.lead.stage ≡ Inside m found → me.1 ≡ (0, Some book) ∷ []

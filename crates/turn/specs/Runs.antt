@@ -33,10 +33,13 @@ module _ {C : Type 0} where
 
   -- a run's chairs stand at its places, and these are the places of the seat id
   abbrev pub Knows : List C → (ℕ → ℕ) → ℕ → ChairRun C → Type 0
-  Knows chairs owner id h = (j : ℕ) (c : C) → slice_get (chairs_of h) j ≡ Some c → (slice_get chairs (h.place + j) ≡ Some c) × (owner (h.place + j) ≡ id)
+  Knows chairs owner id h = (j : ℕ) (c : C) → slice_get (chairs_of h) j ≡ Some c
+      → (slice_get chairs (h.place + j) ≡ Some c) × (owner (h.place + j) ≡ id)
 
--- there are n chairs, each place is one seat's, each live seat knows its chairs, and `core` holds of the words, the slots and the chairs
-pub record Dealt {S C : Type 0} (n : ℕ) (core : List ℕ → List (maybe.Option S) → List C → Type 0) (s : State S (ChairRun C)) : Type 0 where
+-- there are n chairs, each place is one seat's, each live seat knows its chairs, and `core` holds of the words, the
+-- slots and the chairs
+pub record Dealt {S C : Type 0} (n : ℕ) (core : List ℕ → List (maybe.Option S) → List C → Type 0)
+    (s : State S (ChairRun C)) : Type 0 where
   pub chairs : List C
   pub owner : ℕ → ℕ
   pub all : length chairs ≡ n

@@ -42,7 +42,8 @@ module _ {B V : Type 0} where
   HasNumber chairs k m = (c : ChairState B V) × (slice_get chairs k ≡ Some c) × (number c.stage ≡ Some m)
 
 -- `shows words k` says that the words let the number k in
-pub record Turns {B V : Type 0} (fact : B → List V → Type 0) (shows : List ℕ → ℕ → Type 0) (limit : ℕ) (words : List ℕ) (homes : List (maybe.Option (Option B))) (chairs : List (ChairState B V)) : Type 0 where
+pub record Turns {B V : Type 0} (fact : B → List V → Type 0) (shows : List ℕ → ℕ → Type 0) (limit : ℕ)
+    (words : List ℕ) (homes : List (maybe.Option (Option B))) (chairs : List (ChairState B V)) : Type 0 where
   -- the number of leaves; the book as it lies in the slot or was taken from it; whether it is out
   pub serving : ℕ
   pub book : B

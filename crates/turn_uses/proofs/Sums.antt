@@ -20,7 +20,8 @@ bounded count views t =
     let s = t.summed in
     omega arith
 
-pub adds : (count : ℕ) (views : List ℕ) (p v : ℕ) → IsTallied count views → slice_get views p ≡ Some v → v < 2 ^ 32 → IsTallied (count + 1) (set views p (v + 1))
+pub adds : (count : ℕ) (views : List ℕ) (p v : ℕ) → IsTallied count views → slice_get views p ≡ Some v → v < 2 ^ 32
+    → IsTallied (count + 1) (set views p (v + 1))
 adds count views p v t at room =
     let read : get_or views p 0 ≡ v = get_or_from_slice_get views p v 0 at in
     let sums = sum_by-set (λ (x : ℕ). x) views p (v + 1) 0 (slice_get_within views p v at) in

@@ -16,4 +16,5 @@ module _ {B : Type 0} where
 
   -- the chair after a thread added so many times, or couldn't since a chair enters at most `limit` times
   abbrev pub HasAdded : ℕ → ℕ → ChairToken B ℕ → ChairToken B ℕ → Bool → Type 0
-  HasAdded limit times old new done = IsSameChair old new × IsOutside new × MatchBool done ((view new ≡ times) × (times ≤ limit)) (limit < times)
+  HasAdded limit times old new done = IsSameChair old new × IsOutside new
+      × MatchBool done ((view new ≡ times) × (times ≤ limit)) (limit < times)

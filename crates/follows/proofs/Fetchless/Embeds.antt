@@ -99,7 +99,10 @@ shifted place (suc m) = suc (place m)
 -- with a call before them
 call_of : (e : Event) (g h : List Event) → IsFetchlessOf g h → IsFetchlessOf (e ∷ g) (e ∷ h)
 call_of e g h x =
-    record { embeds = record { place = shifted x.embeds.place; rises = rises; there = there; back = back }; fronts = fronts }
+    record {
+      embeds = record { place = shifted x.embeds.place; rises = rises; there = there; back = back };
+      fronts = fronts;
+    }
   where
     rises : (m k : ℕ) → m < k → shifted x.embeds.place m < shifted x.embeds.place k
     rises zero zero less = absurd (omega arith)

@@ -31,7 +31,8 @@ link_there g h x i k e f (meets m) =
     let departures = x.fronts k is_depart no_departure f.processor in
     meets (record { arrives = m.arrives; departs = m.departs; episode = sym arrivals ∙ m.episode ∙ departures })
 
-edge_there : (g h : List Event) (x : IsFetchlessOf g h) (i k : ℕ) → Edge g i k → Edge h (x.embeds.place i) (x.embeds.place k)
+edge_there : (g h : List Event) (x : IsFetchlessOf g h) (i k : ℕ) → Edge g i k
+    → Edge h (x.embeds.place i) (x.embeds.place k)
 edge_there g h x i k e =
     record {
       before = x.embeds.rises i k e.before;

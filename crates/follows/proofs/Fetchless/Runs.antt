@@ -20,7 +20,8 @@ use Rattle.follows.proofs.Fetchless.WellFormed.{well_formed_back}
 pub no_fetch_in : (h : List Event) → HasNoFetch (fetchless h)
 no_fetch_in = by_events (λ g h. HasNoFetch g) (λ i e at. absurd (none-some e at)) (λ e h is x. x) call
   where
-    call : (e : Event) (h : List Event) → is_fetch e.kind ≡ false → HasNoFetch (fetchless h) → HasNoFetch (e ∷ fetchless h)
+    call : (e : Event) (h : List Event) → is_fetch e.kind ≡ false → HasNoFetch (fetchless h)
+        → HasNoFetch (e ∷ fetchless h)
     call e h is x zero f at = subst (λ (y : Event). is_fetch y.kind ≡ false) (same_Some e f at) is
     call e h is x (suc i) f at = x i f at
 
@@ -32,7 +33,8 @@ calls_same p = by_events (λ g h. calls_of g p ≡ calls_of h p) refl fetch call
         → calls_of (fetchless h) p ≡ calls_of (e ∷ h) p
     fetch e h is same = same ∙ sym (calls_of_first-fetch e.processor p e.kind h is)
 
-    own : (e : Event) (h : List Event) → is_fetch e.kind ≡ false → calls_of (fetchless h) e.processor ≡ calls_of h e.processor
+    own : (e : Event) (h : List Event) → is_fetch e.kind ≡ false
+        → calls_of (fetchless h) e.processor ≡ calls_of h e.processor
         → calls_of (e ∷ fetchless h) e.processor ≡ calls_of (e ∷ h) e.processor
     own e h is same =
         calls_of_first e.processor e.kind (fetchless h) is ∙ ap (λ ks. e.kind ∷ ks) same
@@ -61,7 +63,8 @@ fetch_writes memory _ is = refl
 
 -- what replays does so without its fetches
 replays_back : (h : List Event) (memory : List ℕ) → Replays memory h → Replays memory (fetchless h)
-replays_back = by_events (λ g h. (memory : List ℕ) → Replays memory h → Replays memory g) (λ memory replays. replays) fetch call
+replays_back = by_events (λ g h. (memory : List ℕ) → Replays memory h → Replays memory g)
+    (λ memory replays. replays) fetch call
   where
     fetch : (e : Event) (h : List Event) → is_fetch e.kind ≡ true
         → ((memory : List ℕ) → Replays memory h → Replays memory (fetchless h)) → (memory : List ℕ)
@@ -75,7 +78,8 @@ replays_back = by_events (λ g h. (memory : List ℕ) → Replays memory h → R
         → Replays memory (e ∷ h) → Replays memory (e ∷ fetchless h)
     call e h is more memory replays =
         let first = answers_first memory e.processor e.kind h replays in
-        replays_first memory e (fetchless h) first (more (wrote memory (flat_write e.kind)) (replays_rest memory e h replays))
+        replays_first memory e (fetchless h) first
+        (more (wrote memory (flat_write e.kind)) (replays_rest memory e h replays))
 
 -- a flat run is one without its fetches
 pub fetchless_run : (s : Plan) (h : List Event) → IsFlatRun s h → IsFlatRun s (fetchless h)

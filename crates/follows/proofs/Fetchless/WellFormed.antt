@@ -62,7 +62,8 @@ last_there s g h x p i k well waiting l =
     record {
       does = x.there i (event p k) l.does;
       last = λ m f after at.
-          none_below s h p (x.place i) k well waiting (x.there i (event p k) l.does) no_call (suc m) m f (omega arith) after at;
+          none_below s h p (x.place i) k well waiting (x.there i (event p k) l.does) no_call (suc m) m f
+          (omega arith) after at;
     }
   where
     no_call : NoCallAfter h p (x.place i)
@@ -113,7 +114,8 @@ granted_back : (s : Sizes) (g h : List Event) (x : Embeds g h) (i l : ℕ) → W
 granted_back s g h x i l well m =
     record {
       free = λ q held. m.free q (holds_there g h x q l held);
-      first = λ k q before last. m.first (x.place k) q (x.rises k i before) (last_there s g h x q k (Ask l) well refl last);
+      first = λ k q before last. m.first (x.place k) q (x.rises k i before)
+          (last_there s g h x q k (Ask l) well refl last);
     }
 
 acquired_back : (s : Sizes) (g h : List Event) (x : Embeds g h) (p l : ℕ) → WellFormed s h → Allowed s h p (Acquire l)
@@ -131,7 +133,8 @@ departed_back s g h x p counts a =
     λ q inside. rw (counts is_depart no_departure p, counts is_arrive no_arrival q) (a.2 q inside) in
     (b.0, b.2, all)
 
-awaited_back : (s : Sizes) (g h : List Event) (x : Embeds g h) (p f : ℕ) → Allowed s h p (Await f) → Allowed s g p (Await f)
+awaited_back : (s : Sizes) (g h : List Event) (x : Embeds g h) (p f : ℕ) → Allowed s h p (Await f)
+    → Allowed s g p (Await f)
 awaited_back s g h x p f a =
     let b = last_back g h x p a.0 (Watch f) refl a.3 in
     let set = x.back a.1 (event a.2 (Set f)) a.4 refl in
@@ -172,4 +175,5 @@ pub well_formed_back : (s : Sizes) (g h : List Event) → IsFetchlessOf g h → 
 well_formed_back s g h x well m e at =
     let n = x.embeds.place m in
     let front : WellFormed s (take n h) = well_formed_take s h n well in
-    follow_back s (take m g) (take n h) (embeds_take g h x.embeds m) e front (x.fronts m) (well n e (x.embeds.there m e at))
+    follow_back s (take m g) (take n h) (embeds_take g h x.embeds m) e front (x.fronts m)
+    (well n e (x.embeds.there m e at))

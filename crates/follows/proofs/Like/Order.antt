@@ -27,7 +27,8 @@ lets_like a b c d first second h = lets_back c d (rw (← first, ← second) (le
 link_like : (h g : List Event) (i k : ℕ) (e f x y : Event) → IsLike h g → AreAlike e x → AreAlike f y → Link h i k e f
     → Link g i k x y
 link_like h g i k e f x y like first second (same s) = same (sym first.processors ∙ s ∙ second.processors)
-link_like h g i k e f x y like first second (lets l) = lets (lets_like e.kind f.kind x.kind y.kind first.kinds second.kinds l)
+link_like h g i k e f x y like first second (lets l) =
+    lets (lets_like e.kind f.kind x.kind y.kind first.kinds second.kinds l)
 link_like h g i k e f x y like first second (meets m) =
     let arrivals = count_like is_arrive (take i h) (take i g) e.processor arrive_valueless (like_take h g i like) in
     let departures = count_like is_depart (take k h) (take k g) f.processor depart_valueless (like_take h g k like) in

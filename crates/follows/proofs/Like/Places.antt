@@ -59,7 +59,11 @@ like_at h g i e like at =
         record {
           event = f;
           at = here;
-          like = record { processors = sym (ap (λ (x : Event). x.processor) same); kinds = sym (ap (λ (x : Event). x.kind) same) };
+          like = record {
+            processors = sym (ap (λ (x : Event). x.processor) same);
+            kinds =
+                sym (ap (λ (x : Event). x.kind) same);
+          };
         }
 
 -- so what has no value is done in both
@@ -77,7 +81,8 @@ like_take h g i like = sym (take-map without_value i h) ∙ ap (take i) like ∙
 -- as many events of a kind, where the kind doesn't tell values apart
 pub count_like : (is : Kind → Bool) (h g : List Event) (p : ℕ) → ((k : Kind) → is (valueless k) ≡ is k) → IsLike h g
     → count_of is h p ≡ count_of is g p
-count_like is h g p same like = sym (valueless_count h) ∙ ap (λ (es : List Event). count_of is es p) like ∙ valueless_count g
+count_like is h g p same like = sym (valueless_count h) ∙ ap (λ (es : List Event). count_of is es p) like
+    ∙ valueless_count g
   where
     valueless_count : (es : List Event) → count_of is (map without_value es) p ≡ count_of is es p
     valueless_count [] = refl

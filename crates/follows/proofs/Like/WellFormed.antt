@@ -84,14 +84,17 @@ allowed_like s h g p a b like same x =
 answers_like : (h g : List Event) (p i : ℕ) (a b c : Kind) → IsLike h g → valueless a ≡ valueless b
     → ((k : Kind) → LastIs h p i k → Answers k a) → LastIs g p i c → Answers c b
 answers_like h g p i a b (Ask l) like same answers last =
-    exact b (Acquire l) (sym same ∙ ap valueless (answers (Ask l) (last_like g h p i (Ask l) (sym like) refl last))) refl
+    exact b (Acquire l) (sym same ∙ ap valueless
+    (answers (Ask l) (last_like g h p i (Ask l) (sym like) refl last))) refl
 answers_like h g p i a b Arrive like same answers last =
     exact b Depart (sym same ∙ ap valueless (answers Arrive (last_like g h p i Arrive (sym like) refl last))) refl
 answers_like h g p i a b (Watch f) like same answers last =
-    exact b (Await f) (sym same ∙ ap valueless (answers (Watch f) (last_like g h p i (Watch f) (sym like) refl last))) refl
+    exact b (Await f) (sym same ∙ ap valueless
+    (answers (Watch f) (last_like g h p i (Watch f) (sym like) refl last))) refl
 answers_like h g p i a b _ like same answers last = tt
 
-follow_like : (s : Sizes) (h g : List Event) (e f : Event) → IsLike h g → AreAlike e f → MayFollow s h e → MayFollow s g f
+follow_like : (s : Sizes) (h g : List Event) (e f : Event) → IsLike h g → AreAlike e f → MayFollow s h e
+    → MayFollow s g f
 follow_like s h g e f like alike m =
     let P : ℕ → Type 0 = λ p. (i : ℕ) (c : Kind) → LastIs g p i c → Answers c f.kind in
     let Q : ℕ → Type 0 = λ p. Allowed s g p f.kind in

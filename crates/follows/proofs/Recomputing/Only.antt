@@ -35,7 +35,8 @@ same_call memory reply (plain c) k l first second answer other = sym (told l k (
 
 -- both first calls are of one step, so they are the same
 same_first : (memory : List ℕ) (reply : ℕ) (steps : List Step) (k l : Kind) (ks ls : List Kind)
-    → AreSteps reply steps (k ∷ ks) → AreSteps reply steps (l ∷ ls) → AnswersWord memory k → AnswersWord memory l → k ≡ l
+    → AreSteps reply steps (k ∷ ks) → AreSteps reply steps (l ∷ ls) → AnswersWord memory k → AnswersWord memory l
+    → k ≡ l
 same_first memory reply [] k l ks ls first second answer other = absurd first
 same_first memory reply (s ∷ steps) k l ks ls first second answer other =
     same_call memory reply s k l first.0 second.0 answer other
@@ -136,7 +137,8 @@ same_events n (e ∷ f) (x ∷ g) memory due inside like first second calls othe
     let right : Q e.processor = subst Q (sym mine) others in
     let within = inside 0 e refl in
     let kind =
-    same_kind n e.processor e.kind x.kind f g memory due (is_fetch e.kind) refl kinds within first replays calls right in
+    same_kind n e.processor e.kind x.kind f g memory due (is_fetch e.kind) refl kinds within first replays calls
+    right in
     let R : Kind → Type 0 = λ k. Replays memory (event e.processor k ∷ g) in
     let S : Kind → Type 0 = λ k. FirstCalls n (event e.processor k ∷ g) due in
     let again = subst R (sym kind) replays in
@@ -160,5 +162,6 @@ calls_right s f lawful follows p inside =
 -- flat runs of a lawful script that are alike are the same
 pub only_law : OnlyLaw
 only_law s f g lawful first second like =
-    same_events s.processors f g (replicate (addresses s) 0) (due_of s) (λ i e at. (first.well_formed i e at).processor) like
+    same_events s.processors f g (replicate (addresses s) 0) (due_of s)
+    (λ i e at. (first.well_formed i e at).processor) like
     first.replays second.replays (calls_right s f lawful first.follows) (calls_right s g lawful second.follows)

@@ -149,7 +149,8 @@ redo_call memory due p k es call inside calls redo =
     by_steps (s ∷ steps) first is = redo_step memory due p (calls p).0 k es s steps call first is inside calls redo
 
 redo_first : (memory : List ℕ) (due : ℕ → Due) (e : Event) (es : List Event) (fetches : Bool)
-    → is_fetch e.kind ≡ fetches → AddressesInRange (length memory) (e ∷ es) → CallsDue (e ∷ es) due → CanRedo es → Redone memory due (e ∷ es)
+    → is_fetch e.kind ≡ fetches → AddressesInRange (length memory) (e ∷ es) → CallsDue (e ∷ es) due → CanRedo es
+    → Redone memory due (e ∷ es)
 redo_first memory due e es true is inside calls redo = redo_fetch memory due e.processor e.kind es is inside calls redo
 redo_first memory due e es false is inside calls redo = redo_call memory due e.processor e.kind es is inside calls redo
 

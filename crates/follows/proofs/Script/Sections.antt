@@ -35,7 +35,8 @@ loads_of (a ∷ shown) = plain (kind.Load a 0) ∷ loads_of shown
 abbrev pub steps_of_section : List Instruction → List ℕ → List Step
 steps_of_section section shown = steps_of_all section ++ plain kind.Arrive ∷ plain kind.Depart ∷ loads_of shown
 
-instruction_steps : (i : Instruction) (kinds : List Kind) (reply : ℕ) → AreEventsOf i kinds → AreSteps reply (steps_of i) kinds
+instruction_steps : (i : Instruction) (kinds : List Kind) (reply : ℕ) → AreEventsOf i kinds
+    → AreSteps reply (steps_of i) kinds
 instruction_steps (Load a) kinds reply are = rw are.1 (refl, tt)
 instruction_steps (Store a v) kinds reply are = rw are (refl, tt)
 instruction_steps (Add a v) kinds reply are = rw are.1 (refl, (refl, tt))
@@ -54,7 +55,8 @@ all_steps (i ∷ is) kinds reply are =
     let more : (last : ℕ) → AreSteps last (steps_of_all is) are.1 = λ last. all_steps is are.1 last are.4 in
     rw are.2 (steps-append reply (steps_of i) (steps_of_all is) are.0 are.1 first more)
 
-loads_steps : (loads : List (ℕ × ℕ)) (reply : ℕ) → AreSteps reply (loads_of (map (λ (x : ℕ × ℕ). x.0) loads)) (map load_of loads)
+loads_steps : (loads : List (ℕ × ℕ)) (reply : ℕ)
+    → AreSteps reply (loads_of (map (λ (x : ℕ × ℕ). x.0) loads)) (map load_of loads)
 loads_steps [] reply = tt
 loads_steps (x ∷ loads) reply = (refl, loads_steps loads x.1)
 
@@ -93,7 +95,8 @@ two_told : (reply : ℕ) (c d : Kind) (kinds : List Kind) → replyless c ≡ c 
     → is_load d ≡ false → AreSteps reply (plain c ∷ plain d ∷ []) kinds → kinds ≡ c ∷ d ∷ []
 two_told reply c d kinds first second none neither h =
     let x = two_steps reply (plain c) (plain d) kinds h in
-    x.are ∙ ap₂ (λ k l. k ∷ l ∷ []) (told x.first c (x.first_is ∙ first) none) (told x.second d (x.second_is ∙ second) neither)
+    x.are ∙ ap₂ (λ k l. k ∷ l ∷ []) (told x.first c (x.first_is ∙ first) none)
+    (told x.second d (x.second_is ∙ second) neither)
 
 load_told : (reply a : ℕ) (kinds : List Kind) → AreSteps reply (plain (kind.Load a 0) ∷ []) kinds
     → (v : ℕ) × (kinds ≡ kind.Load a v ∷ [])
@@ -110,7 +113,8 @@ add_told reply a v kinds h =
     let P : Kind → Type 0 = λ k. IsStep (reply_after reply k) (adds a v) x.second in
     (load.0, x.are ∙ ap₂ (λ k l. k ∷ l ∷ []) load.1 (subst P load.1 x.second_is))
 
-instruction_told : (i : Instruction) (kinds : List Kind) (reply : ℕ) → AreSteps reply (steps_of i) kinds → AreEventsOf i kinds
+instruction_told : (i : Instruction) (kinds : List Kind) (reply : ℕ) → AreSteps reply (steps_of i) kinds
+    → AreEventsOf i kinds
 instruction_told (Load a) kinds reply h = load_told reply a kinds h
 instruction_told (Store a v) kinds reply h = one_told reply (kind.Store a v) kinds refl refl h
 instruction_told (Add a v) kinds reply h = add_told reply a v kinds h
@@ -136,7 +140,8 @@ record AreLoads (shown : List ℕ) (kinds : List Kind) : Type 0 where
   are : kinds ≡ map load_of loads
   addresses_are : map (λ (x : ℕ × ℕ). x.0) loads ≡ shown
 
-loads_told : (shown : List ℕ) (kinds : List Kind) (reply : ℕ) → AreSteps reply (loads_of shown) kinds → AreLoads shown kinds
+loads_told : (shown : List ℕ) (kinds : List Kind) (reply : ℕ) → AreSteps reply (loads_of shown) kinds
+    → AreLoads shown kinds
 loads_told [] [] reply h = record { loads = []; are = refl; addresses_are = refl }
 loads_told [] (k ∷ kinds) reply h = absurd h
 loads_told (a ∷ shown) [] reply h = absurd h

@@ -92,7 +92,8 @@ pub record AreTwo (reply : ℕ) (s t : Step) (kinds : List Kind) : Type 0 where
   pub first_is : IsStep reply s first
   pub second_is : IsStep (reply_after reply first) t second
 
-pub two_steps : (reply : ℕ) (s t : Step) (kinds : List Kind) → AreSteps reply (s ∷ t ∷ []) kinds → AreTwo reply s t kinds
+pub two_steps : (reply : ℕ) (s t : Step) (kinds : List Kind) → AreSteps reply (s ∷ t ∷ []) kinds
+    → AreTwo reply s t kinds
 two_steps reply s t [] h = absurd h
 two_steps reply s t (k ∷ []) h = absurd h.1
 two_steps reply s t (k ∷ l ∷ []) h =

@@ -131,7 +131,8 @@ pub sent_more : {X : Type 0} (kept : X → Kept) (items : List X) (n : ℕ) (x :
 sent_more {X} kept items n x before now inside read so_far is =
     let step = take_more items n x inside in
     let one : take (n + 1) items ≡ take n items ++ x ∷ [] = rw (← read) at step in
-    let last : flat_map sent_interval (map kept (x ∷ [])) ≡ sent_interval (kept x) = append-nil (sent_interval (kept x)) in
+    let last : flat_map sent_interval (map kept (x ∷ [])) ≡ sent_interval (kept x) =
+    append-nil (sent_interval (kept x)) in
     is ∙ ap₂ (λ (xs ys : List SentRecord). xs ++ ys) so_far (sym last)
     ∙ sym (flat_map-append sent_interval (map kept (take n items)) (map kept (x ∷ [])))
     ∙ ap (flat_map sent_interval) (sym (map-append kept (take n items) (x ∷ [])))

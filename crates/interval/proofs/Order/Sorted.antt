@@ -87,5 +87,6 @@ sorted_all {X} kept ks xs ys rises all other up =
     let rising : Rises (map kept ys) =
     in_order-map IsBefore kept ys (rises_once (λ (x : X). (kept x).place) ys up counts) in
     same_rising (map kept ys) ks rising rises
-    (λ k h. (all.same k).0 (has_permuted (map kept ys) (map kept xs) k (IsPermutation-sym (map kept xs) (map kept ys) moved) h))
+    (λ k h. (all.same k).0 (has_permuted (map kept ys) (map kept xs) k
+    (IsPermutation-sym (map kept xs) (map kept ys) moved) h))
     (λ k h. has_permuted (map kept xs) (map kept ys) k moved ((all.same k).1 h))

@@ -1,4 +1,5 @@
--- What is kept after one list of events and then another: the memory, who holds which lock, which flags are set, and the costs.
+-- What is kept after one list of events and then another: the memory, who holds which lock, which flags are set,
+-- and the costs.
 use Rattle.std.proofs.Common.{◌≡◌, ℕ, ◌+◌, inl, inr, ◌↔◌, List, [], ◌++◌, length, sym, refl, ap, ◌∙◌, length-append, add_assoc, arith}
 use Rattle.std.proofs.lemmas.List.Sums.{sum_by-append}
 use Rattle.std.proofs.lemmas.Option.{none-some}

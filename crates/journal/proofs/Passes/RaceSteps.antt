@@ -32,7 +32,8 @@ access_quiet Depart a h = absurd cc
 access_quiet (Await f) a h = absurd cc
 access_quiet _ a h = refl
 
--- of two accesses that conflict, by two processors, the first races with the second exactly where the second's timestamp doesn't count its interval
+-- of two accesses that conflict, by two processors, the first races with the second exactly where the second's
+-- timestamp doesn't count its interval
 pub race_by_time : (events : List Event) (place i : ℕ) (e f : Event) (t : ℕ → ℕ) → At events place e → At events i f
     → i < place → f.processor ≢ e.processor → Conflict f e → IsTimeOf (take place events) e.processor t
     → Race events i place ↔ (t f.processor ≤ interval_at events f.processor i)

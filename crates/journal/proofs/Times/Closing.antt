@@ -1,4 +1,5 @@
--- Where intervals are closed: closing order extends happens-before, and a past has an interval where it has its closing event.
+-- Where intervals are closed: closing order extends happens-before, and a past has an interval where it has its
+-- closing event.
 use Rattle.std.proofs.Common.{ℕ, ◌≡◌, ◌≢◌, ◌<◌, ◌≤◌, ◌⊎◌, ◌↔◌, inl, inr, List, arith, refl, sym, ap, subst, ◌∙◌}
 use Rattle.std.proofs.lemmas.Bool.{cases_eq, cases_lt, cases_order}
 use Rattle.journal.specs.declared.event.Event.{Event}

@@ -37,7 +37,8 @@ others_keep j es p t away a =
     (λ i lt. ((others j es p i away).1, (others j es p i away).0))
     (λ i h. past_within j p i ((others j es p i away).0 h)) a
 
--- what an event does to its processor's timestamp: it joins what the event brings, and counts the event where that closes an interval
+-- what an event does to its processor's timestamp: it joins what the event brings, and counts the event where that
+-- closes an interval
 pub time_push : (j : List Event) (e : Event) (t u : ℕ → ℕ) → IsTimeOf j e.processor t
     → IsTimeIn j (Brings j e.processor e.kind) u
     → IsTimeOf (j ++ e ∷ []) e.processor (λ q. max (t q) (u q) + count_of is_closing (e ∷ []) q)
@@ -143,7 +144,8 @@ time_at_last j e t a = record { covers = covers; within = a.within }
         → UpTo (j ++ e ∷ []) (length j) i ↔ (interval_at (j ++ e ∷ []) q i < t q)
     covers q i c = ((λ h. (a.covers q i c).0 (there i h)), (λ lt. back i ((a.covers q i c).1 lt)))
 
--- of any past that a processor's event leaves at closing events only, the time tells of each event of the processor whether it is in it
+-- of any past that a processor's event leaves at closing events only, the time tells of each event of the processor
+-- whether it is in it
 pub covered_in : (j : List Event) (among : ℕ → Type 0) (t : ℕ → ℕ) (q i : ℕ) (a : Kind) → IsTimeIn j among t
     → ((m n : ℕ) → HappensBefore j m n → among n → among m) → Does j i q a → (among i → LeavesAt j q i among)
     → among i ↔ (interval_at j q i < t q)

@@ -35,7 +35,8 @@ reaches_at j k p i b at quiet =
     λ h. subst (λ xs. P xs (length (take k j))) (sym split) (subst (λ m. P j m) (sym long) h) in
     ((λ h. new.0 (same.0 (back h))), (λ x. there (same.1 (new.1 x))))
 
--- an earlier event happens before another processor's that takes nothing exactly where its timestamp before that counts the event's interval
+-- an earlier event happens before another processor's that takes nothing exactly where its timestamp before that
+-- counts the event's interval
 pub ordered_before : (j : List Event) (k p q i : ℕ) (a b : Kind) (t : ℕ → ℕ) → IsTimeOf (take k j) p t → Does j i q a
     → Does j k p b → is_taking b ≡ false → q ≢ p → i < k → HappensBefore j i k ↔ (interval_at j q i < t q)
 ordered_before j k p q i a b t time does at quiet apart lt =

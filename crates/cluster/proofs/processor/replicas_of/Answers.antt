@@ -7,5 +7,6 @@ use Rattle.cluster.proofs.processor.replicas_of.Goals as goal
 pub loop-preserved : goal.loop-preserved
 loop-preserved c =
     c.in_ok-push.ensures.items
-    ∙ ap₂ (λ (xs : List Copied) (x : Copied). xs ++ x ∷ []) c.loop.invariant (c.in_ok-zero.ensures ∙ ap blank c.shape.view_is)
+    ∙ ap₂ (λ (xs : List Copied) (x : Copied). xs ++ x ∷ []) c.loop.invariant
+    (c.in_ok-zero.ensures ∙ ap blank c.shape.view_is)
     ∙ replicate_more c.loop.counter (blank c.args.shape)

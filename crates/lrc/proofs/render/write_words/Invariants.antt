@@ -5,4 +5,5 @@ use Rattle.lrc.specs.Writing.{Passes}
 use Rattle.lrc.proofs.render.write_words.Given as goal
 
 abbrev pub invariant-loop-address : goal.invariant-loop-address
-invariant-loop-address g l = Passes (g.W.Write.contents l.fn.out) (g.W.Write.contents l.out) l.fn.pending l.pending (flat_map word_line (take l.address-index l.shown))
+invariant-loop-address g l = Passes (g.W.Write.contents l.fn.out) (g.W.Write.contents l.out) l.fn.pending l.pending
+    (flat_map word_line (take l.address-index l.shown))

@@ -6,4 +6,5 @@ use Rattle.lrc.proofs.words.number_of.Goals as goal
 pub returns : goal.returns
 returns c =
     number_read (λ bs r. ParsesUnsigned 64 10 bs r × ExplainsUnsignedError 10 bs r × HasUnsignedDigitsIfOk bs r)
-    (found_of c.args.matches.now) c.args.id.now c.get_one.result c.get_one.ensures.none c.get_one.ensures.value (λ u x g. g.0)
+    (found_of c.args.matches.now) c.args.id.now c.get_one.result c.get_one.ensures.none c.get_one.ensures.value
+    (λ u x g. g.0)

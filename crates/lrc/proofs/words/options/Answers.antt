@@ -10,9 +10,11 @@ returns c =
     let app = c.in_ok-command.ensures.app in
     let words = map (λ w. w.now) c.args.words.now in
     let locks_are : map (λ s. s.now) c.as_slice.result.now ≡ codes "array" ∷ codes "ticket" ∷ [] = search rules in
-    let entered : subcommand_rows_of c.in_ok-matches.matches ≡ subcommand_of (lrc_app (vp.Names c.as_slice.result)) words =
+    let entered : subcommand_rows_of c.in_ok-matches.matches
+    ≡ subcommand_of (lrc_app (vp.Names c.as_slice.result)) words =
     (c.in_ok-matches.ensures.matches (ap is_simple app)).1 ∙ ap (λ (a : App). subcommand_of a words) app in
-    let faults = no_fault _ _ _ c.in_ok-matches.was (c.try_get_matches_from.ensures.kinds (ap is_simple_and_free app)) in
+    let faults = no_fault _ _ _ c.in_ok-matches.was
+    (c.try_get_matches_from.ensures.kinds (ap is_simple_and_free app)) in
     record {
       locks = vp.Names c.as_slice.result;
       locks_are = locks_are;

@@ -5,4 +5,5 @@ use Rattle.lrc.proofs.words.wants_journal.Goals as goal
 
 pub returns : goal.returns
 returns c =
-    flag_read (found_of c.args.matches.now) (codes "journal") c.get_flag.result c.get_flag.ensures.none c.get_flag.ensures.value c.get_flag.ensures.other
+    flag_read (found_of c.args.matches.now) (codes "journal") c.get_flag.result c.get_flag.ensures.none
+    c.get_flag.ensures.value c.get_flag.ensures.other

@@ -8,7 +8,8 @@ show-requires-clause-own g c κs within =
     let s = plan_of c.args.script.now in
     let ms = c.args.processors.items in
     let m = c.index_mut.result.now in
-    let at = first_at s c.args.cluster ms m c.requires.lawful c.requires.sizes c.requires.walked c.index_mut.ensures.value in
+    let at = first_at s c.args.cluster ms m c.requires.lawful c.requires.sizes c.requires.walked
+    c.index_mut.ensures.value in
     let w = walks_at s c.args.cluster ms c.requires.lawful c.requires.sizes c.requires.walked 0 m at in
     (walked_of c.args.cluster 0 m w.0 w.1).lock
 
@@ -17,8 +18,10 @@ report-requires-after_bounds g c κs within =
     let s = plan_of c.args.script.now in
     let ms = c.args.processors.items in
     let m = c.index_mut.result.now in
-    let at = first_at s c.args.cluster ms m c.requires.lawful c.requires.sizes c.requires.walked c.index_mut.ensures.value in
-    (have_followed s c.args.cluster ms m c.show.new.processor c.in_ok-shown.shown.items c.requires.lawful c.requires.sizes
+    let at = first_at s c.args.cluster ms m c.requires.lawful c.requires.sizes c.requires.walked
+    c.index_mut.ensures.value in
+    (have_followed s c.args.cluster ms m c.show.new.processor c.in_ok-shown.shown.items c.requires.lawful
+    c.requires.sizes
     c.requires.walked at c.in_ok-shown.ensures.ok (c.in_ok-shown.ensures.addresses ∙ c.deref.ensures.value)).all
 
 pub returns : goal.returns
@@ -26,7 +29,8 @@ returns g c =
     let s = plan_of c.args.script.now in
     let ms = c.args.processors.items in
     let m = c.index_mut.result.now in
-    let at = first_at s c.args.cluster ms m c.requires.lawful c.requires.sizes c.requires.walked c.index_mut.ensures.value in
+    let at = first_at s c.args.cluster ms m c.requires.lawful c.requires.sizes c.requires.walked
+    c.index_mut.ensures.value in
     c.in_ok-report.ensures s (have_followed s c.args.cluster ms m c.show.new.processor c.in_ok-shown.shown.items
     c.requires.lawful c.requires.sizes c.requires.walked at c.in_ok-shown.ensures.ok
     (c.in_ok-shown.ensures.addresses ∙ c.deref.ensures.value))

@@ -9,15 +9,18 @@ pub returns-then-is_stuck-stuck-clause-some : goal.returns-then-is_stuck-stuck-c
 returns-then-is_stuck-stuck-clause-some g c =
     let xs = c.args.outcomes.now in
     let k = c.loop-processor.processor in
-    let at = slice_get_read xs (length xs) k c.index-outcomes-processor.result refl c.loop-processor-test.true c.index-outcomes-processor.is in
+    let at = slice_get_read xs (length xs) k c.index-outcomes-processor.result refl c.loop-processor-test.true
+    c.index-outcomes-processor.is in
     let so : c.is_stuck.result ≡ c.args.stuck = search rules in
-    first_so xs c.args.stuck k c.in-Err.cause c.loop-processor.invariant (at ∙ ap Some c.in-Err.is) (sym c.is_stuck.ensures ∙ so)
+    first_so xs c.args.stuck k c.in-Err.cause c.loop-processor.invariant (at ∙ ap Some c.in-Err.is)
+    (sym c.is_stuck.ensures ∙ so)
 
 pub loop-processor-preserved : goal.loop-processor-preserved
 loop-processor-preserved g c =
     let xs = c.args.outcomes.now in
     let k = c.loop-processor.processor in
-    let at = slice_get_read xs (length xs) k c.index-outcomes-processor.result refl c.loop-processor-test.true c.index-outcomes-processor.is in
+    let at = slice_get_read xs (length xs) k c.index-outcomes-processor.result refl c.loop-processor-test.true
+    c.index-outcomes-processor.is in
     none_more xs c.args.stuck k c.loop-processor.invariant (λ cause failed so.
     let same : c.index-outcomes-processor.result ≡ Err cause = same_Some _ _ (sym at ∙ failed) in
     elim c.match-outcomes-processor.branch [
@@ -27,4 +30,5 @@ loop-processor-preserved g c =
 
 pub returns-clause-none : goal.returns-clause-none
 returns-clause-none g c = λ p cause failed.
-    c.loop-processor.invariant p cause (let within = slice_get_within c.args.outcomes.now p _ failed in omega arith) failed
+    c.loop-processor.invariant p cause (let within = slice_get_within c.args.outcomes.now p _ failed in
+    omega arith) failed

@@ -8,4 +8,5 @@ pub conclude-requires-clause-walked : goal.conclude-requires-clause-walked
 conclude-requires-clause-walked g c κs within =
     let sections = items_of c.args.script.now.sections.items in
     let are : AreOutcomes c.in_ok-cluster.cluster sections c.in_ok-cluster.outcomes.items = search rules in
-    all_walked c.in_ok-cluster.cluster sections c.in_ok-cluster.outcomes.items c.in_ok-processors.processors.items are c.in_ok-processors.ensures.ok
+    all_walked c.in_ok-cluster.cluster sections c.in_ok-cluster.outcomes.items c.in_ok-processors.processors.items
+    are c.in_ok-processors.ensures.ok

@@ -23,7 +23,8 @@ returns-in-Ok-clause-way g c =
     let section = c.deref.result.now in
     let at = c.index.result.now in
     let inside : p < length ms = omega (arith, c.requires.within) in
-    all_turned c.args.cluster.now s.sections ms all p section m c.take_turn.new.processor at c.in-Ok.outcome.0 c.requires.way
+    all_turned c.args.cluster.now s.sections ms all p section m c.take_turn.new.processor at c.in-Ok.outcome.0
+    c.requires.way
     (section_read s c.args.cluster.now ms all c.args.script.now.sections.items p c.index-section.result.now section
     c.requires.lawful c.requires.sizes refl c.requires.way inside c.index-section.ensures c.deref.ensures.value)
     (slice_get_read ms (length ms) p m refl inside c.index_mut.ensures.value)

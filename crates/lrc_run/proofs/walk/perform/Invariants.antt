@@ -3,4 +3,7 @@ use Rattle.lrc_run.specs.Walks.{Begins}
 use Rattle.lrc_run.proofs.walk.perform.Given as goal
 
 abbrev pub invariant-loop : goal.invariant-loop
-invariant-loop g l = record { own : l.processor.lock ≡ l.cluster.lock; begun : Begins l.fn.processor l.processor l.fn.instruction }
+invariant-loop g l = record {
+  own : l.processor.lock ≡ l.cluster.lock;
+  begun : Begins l.fn.processor l.processor l.fn.instruction;
+}

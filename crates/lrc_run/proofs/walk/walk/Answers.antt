@@ -10,5 +10,6 @@ loop-index-preserved g c =
     record {
       own = c.perform.ensures.same.lock ∙ c.loop-index.invariant.own;
       all = rw (add-one, take-suc_at c.args.section.now c.loop-index.index _ at)
-          (does_more c.args.processor.now c.loop-index.processor c.perform.new.processor _ _ c.loop-index.invariant.all c.in_ok-perform.ensures.ok);
+          (does_more c.args.processor.now c.loop-index.processor c.perform.new.processor
+          _ _ c.loop-index.invariant.all c.in_ok-perform.ensures.ok);
     }

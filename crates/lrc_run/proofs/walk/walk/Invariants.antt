@@ -3,4 +3,7 @@ use Rattle.lrc_run.specs.Walks.{DoesAll}
 use Rattle.lrc_run.proofs.walk.walk.Given as goal
 
 abbrev pub invariant-loop-index : goal.invariant-loop-index
-invariant-loop-index g l = record { own : l.processor.lock ≡ l.cluster.lock; all : DoesAll l.fn.processor l.processor (take l.index l.section) }
+invariant-loop-index g l = record {
+  own : l.processor.lock ≡ l.cluster.lock;
+  all : DoesAll l.fn.processor l.processor (take l.index l.section);
+}

@@ -7,4 +7,5 @@ pub returns : goal.returns
 returns c =
     let bytes = c.self.inside.bytes in
     let many = c.self.invariant.0 in
-    drop-set bytes 159 10 (omega (arith, many)) ∙ ap (λ l. 10 ∷ l) (drop_of_length-le bytes {i = 160} (omega (arith, many)))
+    drop-set bytes 159 10 (omega (arith, many))
+    ∙ ap (λ l. 10 ∷ l) (drop_of_length-le bytes {i = 160} (omega (arith, many)))

@@ -6,7 +6,8 @@ use Rattle.lrc.proofs.line.Line.put_digits.Goals as goal
 
 pub write_digits-self-inside-requires : goal.write_digits-self-inside-requires
 write_digits-self-inside-requires c =
-    let few = length-decimal-le 20 c.args.number (omega arith) (omega (arith, c.ranges.number.fits)) c.ranges.number.fits in
+    let few = length-decimal-le 20 c.args.number (omega arith) (omega (arith, c.ranges.number.fits))
+    c.ranges.number.fits in
     let left = length-drop c.self.inside.start c.self.inside.bytes in
     let seen = ap length c.self.view_is in
     let many = c.self.invariant.0 in
@@ -14,7 +15,8 @@ write_digits-self-inside-requires c =
 
 pub returns-clause-length : goal.returns-clause-length
 returns-clause-length c =
-    let few = length-decimal-le 20 c.args.number (omega arith) (omega (arith, c.ranges.number.fits)) c.ranges.number.fits in
+    let few = length-decimal-le 20 c.args.number (omega arith) (omega (arith, c.ranges.number.fits))
+    c.ranges.number.fits in
     let seen = ap length c.self.view_is in
     let made = ap length c.write_digits-self-inside.ensures.written in
     let whole = length-append (decimal c.args.number) (drop c.self.inside.start c.self.inside.bytes) in

@@ -13,7 +13,8 @@ returns-in_ok-done-in-Next g c = λ start at.
     let section = c.args.section.now in
     let done = c.in_ok-done-in-Next.done in
     let here = subst (λ (x : Progress). IsAt start m section x) c.in-Next.is at in
-    let way = subst (λ (i : Instruction). IsOnItsWay m n i done) c.instruction_at.ensures c.in_ok-done-in-Next.ensures in
+    let way = subst (λ (i : Instruction). IsOnItsWay m n i done) c.instruction_at.ensures
+    c.in_ok-done-in-Next.ensures in
     subst (λ (x : Progress). IsAt start n section x) (sym c.progress_after.ensures)
     (after_instruction start m n section c.in-Next.n done here.0 here.1 way)
 

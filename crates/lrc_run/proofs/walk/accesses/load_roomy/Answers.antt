@@ -17,4 +17,5 @@ returns-in_ok-flush-in-Err-BlockFull g c =
     tries_after c.args.processor.now roomy answer.new.self answer.result _
     (makes_refused c.args.processor.now full roomy c.in-Err-BlockFull.ensures.err
     (makes_call full roomy c.flush.result c.flush.ensures))
-    (tries_load roomy answer.new.self c.args.address answer.result answer.ensures.err answer.ensures.ok answer.ensures.calls)
+    (tries_load roomy answer.new.self c.args.address answer.result answer.ensures.err answer.ensures.ok
+    answer.ensures.calls)

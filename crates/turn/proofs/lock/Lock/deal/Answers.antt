@@ -11,8 +11,14 @@ split_seat-seat-requires g c =
     let wide = lock.wide in
     let more = lock.layout.more in
     let d = c.loop.invariant.0 in
-    let live = is_live (g.K.Keeper.first lock.table.shared.key.book.value) lock.table.shared.table_id g.row.ENTRIES lock.layout.seats c.loop.counter c.loop.rest c.loop.chairs.items d c.loop-test.true in
-    (d.own, omega arith, deals (Option g.row.B.Denot) (ChairState g.row.B.Denot g.row.K-View.Denot) lock.table.shared.key.seats (Turns g.K.Keeper.fact (g.W.Board.shows lock.table.shared.key.seats) lock.table.shared.key.entries) c.loop.rest.id c.loop.rest.me.0 live)
+    let live = is_live (g.K.Keeper.first lock.table.shared.key.book.value) lock.table.shared.table_id g.row.ENTRIES
+    lock.layout.seats c.loop.counter c.loop.rest c.loop.chairs.items d c.loop-test.true in (
+      d.own,
+      omega arith,
+      deals (Option g.row.B.Denot) (ChairState g.row.B.Denot g.row.K-View.Denot)
+          lock.table.shared.key.seats (Turns g.K.Keeper.fact (g.W.Board.shows lock.table.shared.key.seats)
+          lock.table.shared.key.entries) c.loop.rest.id c.loop.rest.me.0 live,
+    )
 
 pub loop-preserved : goal.loop-preserved
 loop-preserved g c =
@@ -20,5 +26,8 @@ loop-preserved g c =
     let inv = c.loop.invariant in
     let cut = c.split_seat-seat.ensures in
     let pushed = c.push_reserved.ensures in
-    let one = deals_one (g.K.Keeper.first lock.table.shared.key.book.value) lock.table.shared.table_id g.row.ENTRIES lock.layout.seats c.loop.counter c.loop.rest c.loop.chairs.items inv.0 c.loop-test.true c.split_seat-seat.new.seat c.split_seat-seat.result c.fresh.result cut.0 cut.2 cut.3 cut.4 c.fresh.ensures in
+    let one = deals_one (g.K.Keeper.first lock.table.shared.key.book.value) lock.table.shared.table_id
+    g.row.ENTRIES lock.layout.seats c.loop.counter c.loop.rest c.loop.chairs.items inv.0 c.loop-test.true
+    c.split_seat-seat.new.seat c.split_seat-seat.result c.fresh.result cut.0 cut.2 cut.3 cut.4
+    c.fresh.ensures in
     (rw pushed.items one, omega arith, omega arith)

@@ -14,6 +14,12 @@ fetch_add-requires g c =
     let positive : 0 < n = omega arith in
     let left = c.requires.left in
     let here = c.lawful.ensures in
-    let board = subst (λ (k : ℕ). IsBoard (g.W.Board.width k) (g.W.Board.shows k) (g.W.Board.at k) g.W.Board.passed) (sym sized.0) c.lawful.ensures in
-    let within = here.within 0 in
-    (c.requires.own, omega arith, draws_allowed _ _ g.K.Keeper.fact (g.W.Board.width n) (g.W.Board.shows n) (g.W.Board.at n) g.W.Board.passed board n lock.table.shared.key.entries _ _ c.args.seat.now.me c.requires.outside (omega arith))
+    let board = subst (λ (k : ℕ). IsBoard (g.W.Board.width k) (g.W.Board.shows k) (g.W.Board.at k)
+    g.W.Board.passed) (sym sized.0) c.lawful.ensures in
+    let within = here.within 0 in (
+      c.requires.own,
+      omega arith,
+      draws_allowed _ _ g.K.Keeper.fact (g.W.Board.width n) (g.W.Board.shows n)
+          (g.W.Board.at n) g.W.Board.passed board n lock.table.shared.key.entries _ _ c.args.seat.now.me
+          c.requires.outside (omega arith),
+    )
