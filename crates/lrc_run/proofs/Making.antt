@@ -1,5 +1,5 @@
 -- What calls on a processor add to those that it has made.
-use Rattle.std.proofs.Common.{ℕ, Bool, ◌≡◌, Option, Some, None, Result, Ok, Err, OnErr, OnOk, IfOk, List, [], ◌∷◌, ◌++◌, false, true, cond, refl, sym, ap, subst, ◌∙◌, append_assoc, append-nil}
+use Rattle.std.proofs.Common.{ℕ, Bool, inl, inr, ◌≡◌, Option, Some, None, Result, Ok, Err, OnErr, OnOk, IfOk, List, [], ◌∷◌, ◌++◌, false, true, cond, refl, sym, ap, subst, ◌∙◌, append_assoc, append-nil}
 use Rattle.std.specs.Prelude.{not}
 use Rattle.std.specs.Result.{result_err}
 use Rattle.journal.specs.declared.event.Event.{Event}
@@ -166,6 +166,29 @@ no_fetch_last first last none = cases (is_fetch first) (is_fetch last) refl refl
 -- an instruction's events are no fetches, its last one too
 last_is_no_fetch : (i : Instruction) (first last : Kind) → AreEventsOf i (first ∷ last ∷ []) → is_fetch last ≡ false
 last_is_no_fetch i first last are = no_fetch_last first last (no_fetch_one i (first ∷ last ∷ []) are)
+
+-- what is awaited stays so where a call is refused
+refused_awaits : (first : Option Refused) (many : ℕ) (absent : Local → Type 0) (done : Local → Local → Type 0)
+    (added : List Event) (m n : Local) (e : Refused) (f : Option Refused) → first ≡ f
+    → IsCall first many absent done added m n (Some e) → n.awaits ≡ m.awaits
+refused_awaits first many absent done added m n e (Some x) is call =
+    ap (λ (l : Local). l.awaits) (call.outside x is).1
+refused_awaits first many absent done added m n e None is call = elim (call.err e is refl) [
+  | inl inside ↦ ap (λ (l : Local). l.awaits) inside.entered.after.same
+  | inr outside ↦ ap (λ (l : Local). l.awaits) outside.1
+]
+
+-- a take of what hasn't come
+pub takes_nothing : {A : Type 0} {first : Option Refused} {many : ℕ} {absent : Local → Type 0}
+    {done : Local → Local → Type 0} {added : List Event} (m n : Local) (r : Result A Refused) (e : Refused)
+    → r ≡ Err e → IsCall first many absent done added m n (result_err r) → Takes m n false
+takes_nothing {A} {first} {many} {absent} {done} {added} m n r e is call =
+    let refused = subst (λ (x : Result A Refused). IsCall first many absent done added m n (result_err x)) is call in
+    record {
+      same = call.same;
+      yes = λ not. absurd (cc);
+      no = λ not. (refused.kept (λ none. cc), refused_awaits first many absent done added m n e first refl refused);
+    }
 
 -- what was begun is done by the take that finds what it awaits, and begun still by one that doesn't
 pub on_its_way : (l m n : Local) (i : Instruction) (taken : Bool) → Begins l m i → Takes m n taken
