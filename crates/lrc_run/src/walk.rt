@@ -15,7 +15,6 @@ use cluster::{Cluster, Processor, Rule};
 use crossbeam_utils::Backoff;
 use lrc_script::script::Instruction;
 use std::sync::Wait;
-use std::thread::yield_now;
 use turn::Turn;
 
 /// Does the section's instructions in order, each after its gate, and then passes the closing barrier, which
@@ -63,21 +62,7 @@ fn perform<T: Turn<Book, Rule>, R: Wait>(
         if end(rt, cluster, processor)? {
             return Ok(());
         }
-        give_way(&backoff);
+        backoff.snooze();
     }
     Err(Cause::Stuck)
-}
-
-/// How often a thread that has waited long lets others go first between two looks.
-const YIELDS: u32 = 16;
-
-/// Lets other threads go first between two looks. A look enters the book's lock, which serves in turn: where more
-/// threads look than run, each waits for some that don't run, so who has waited long looks seldom.
-fn give_way(backoff: &Backoff) {
-    backoff.snooze();
-    if backoff.is_completed() {
-        for _ in 1..YIELDS {
-            yield_now();
-        }
-    }
 }
