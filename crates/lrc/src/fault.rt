@@ -1,7 +1,7 @@
 //! Why the program ends without a report.
 
-use crate::render::OutFault;
 use book::Refused;
+use lrc_report::render::OutFault;
 use lrc_run::{Cause, RunFault};
 use lrc_script::fault::ScriptFault;
 use std::alloc::AllocError;

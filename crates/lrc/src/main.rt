@@ -1,11 +1,9 @@
 //! `lrc`: runs scripts of a shared memory and prints the final words, a race verdict and the traffic.
 //!
-//! **What contracts see.** A run's `Report` is one of a script's plan (`IsReportOf` of `lrc_run`). `report_text`
-//! is the text of a report, with its journal where that is asked for; `AreGiven` says what options the words
-//! give, by the matches that clap states for a simple command.
+//! **What contracts see.** A run's `Report` is one of a script's plan (`IsReportOf` of `lrc_run`). What its text is, and
+//! what options the words give, `lrc_report` and `lrc_words` say.
 //!
-//! **What is proved.** The report that is written is one of the script that was read; `render::render` writes
-//! its text and nothing else, after a fault a beginning of it; `words::options` reads the words.
+//! **What is proved.** The report that is written is one of the script that was read.
 //!
 //! **What is only tested.** The texts of faults, help and usage, the exit statuses, and that memory isn't wanted
 //! needlessly.
@@ -14,21 +12,16 @@
 ghost use Rattle.std.specs.Prelude.{◌<◌};
 
 mod fault;
-mod line;
-mod options;
-mod pending;
 mod program;
-mod render;
 #[cfg(test)]
 mod tests;
-mod words;
 
 use crate::fault::ProgramFault;
-use crate::options::Options;
 use crate::program::{program, say};
-use crate::words::options;
 use clap::Error;
 use clap::error::ErrorKind;
+use lrc_words::options::Options;
+use lrc_words::words::options;
 use std::fs::File;
 use std::process::ExitCode;
 use std::sync::Wait;

@@ -6,11 +6,12 @@ ghost use Rattle.lrc_script.specs.Plan.{plan_of};
 ghost use Rattle.lrc_run.specs.Runs.{IsReportOf};
 
 use crate::fault::ProgramFault;
-use crate::options::Options;
-use crate::render::render;
 use cluster::{BookLock, TicketBookLock};
-use lrc_run::{Open, Report, RunFault, run_with, step_with};
+use lrc_report::Report;
+use lrc_report::render::render;
+use lrc_run::{Open, RunFault, run_with, step_with};
 use lrc_script::script::{MOST_BYTES, Script, parse};
+use lrc_words::options::Options;
 use std::alloc::Global;
 use std::io::{Read, Write};
 use std::sync::Wait;

@@ -3,17 +3,10 @@
 ghost use Rattle.std.specs.Prelude.{◌<◌};
 
 mod endings;
-mod events;
 mod rows;
-mod words;
 
-use self::words::plain;
-use crate::options::Options;
 use crate::program::program;
-use crate::render::{OutFault, render};
-use cluster::BookLock;
-use lrc_run::step_with;
-use lrc_script::script::parse;
+use lrc_words::options::Options;
 use std::alloc::Global;
 use std::io;
 use std::io::{ErrorKind, Read, Write};
@@ -52,7 +45,13 @@ fn check<R: Abort + Threads + Wait + Sync>(
     out: &[u8],
     err: &[u8],
 ) {
-    check_with(rt, alloc, &plain(false), script, (status, out, err));
+    check_with(
+        rt,
+        alloc,
+        &Options::plain(false),
+        script,
+        (status, out, err),
+    );
 }
 
 #[test]
@@ -199,7 +198,7 @@ fn unreadable(rt: HostRuntime) {
     let status = program(
         &rt,
         rt.alloc(),
-        &plain(false),
+        &Options::plain(false),
         &mut Broken,
         &mut printed,
         &mut said,
@@ -228,7 +227,7 @@ fn longer_than_any_script(rt: HostRuntime) {
     let status = program(
         &rt,
         rt.alloc(),
-        &plain(false),
+        &Options::plain(false),
         &mut Endless,
         &mut printed,
         &mut said,
@@ -264,32 +263,6 @@ impl Write for Narrow {
     }
 }
 
-/// Of a text that doesn't fit, just the bytes that fit are written.
-#[test]
-fn failed_writes(rt: HostRuntime) -> Result<(), Fail> {
-    let text =
-        b"word 0 7\nverdict race-free\ntraffic 2 0 0\nevent 0 0 store 0 7\nevent 1 0 arrive\nevent 2 0 depart\nevent 3 0 load 0 7\n";
-    let script = parse(rt.alloc(), SEVEN).map_err(|_| "not parsed")?;
-    let report = step_with::<BookLock, HostRuntime>(&rt, rt.alloc(), &script, None).map_err(
-        |_| "not run",
-    )?;
-    for left in 0..text.len() {
-        let mut out = Narrow {
-            left,
-            taken: Vec::new(rt.alloc()),
-        };
-        assert_eq!(rt; render(&report, true, &mut out), Err(OutFault));
-        assert_eq!(rt; out.taken.as_slice(), &text[..left]);
-    }
-    let mut out = Narrow {
-        left: text.len(),
-        taken: Vec::new(rt.alloc()),
-    };
-    assert_eq!(rt; render(&report, true, &mut out), Ok(()));
-    assert_eq!(rt; out.taken.as_slice(), text.as_slice());
-    Ok(())
-}
-
 #[test]
 fn failed_output(rt: HostRuntime) {
     let mut source = SEVEN;
@@ -301,7 +274,7 @@ fn failed_output(rt: HostRuntime) {
     let status = program(
         &rt,
         rt.alloc(),
-        &plain(false),
+        &Options::plain(false),
         &mut source,
         &mut out,
         &mut said,
@@ -332,7 +305,7 @@ fn failed_flush(rt: HostRuntime) {
     let status = program(
         &rt,
         rt.alloc(),
-        &plain(false),
+        &Options::plain(false),
         &mut source,
         &mut Unflushed,
         &mut said,
@@ -353,7 +326,7 @@ fn failed_error_output(rt: HostRuntime) {
     let status = program(
         &rt,
         rt.alloc(),
-        &plain(false),
+        &Options::plain(false),
         &mut source,
         &mut printed,
         &mut said,

@@ -28,7 +28,7 @@ use Rattle.follows.proofs.Recomputing.Recomputed.{recomputed_law, race_free_law}
 use Rattle.replicas.specs.Local.{Local, calls}
 use Rattle.cluster.specs.Clusters.{Shared}
 use Rattle.cluster.specs.Finishing.{AreAllOf, HasCallsOf, IsFinished, IsProcessorOf}
-use Rattle.lrc_run.specs.declared.report.Report.{Report}
+use Rattle.lrc_report.specs.declared.report.Report.{Report}
 use Rattle.lrc_run.specs.Endings.{HasFollowed, HaveFollowed}
 use Rattle.lrc_run.specs.Laws.{RaceFreeReportLaw}
 use Rattle.lrc_run.specs.Runs.{HasRace, IsReportOf}

@@ -1,8 +1,8 @@
 -- Faults among outcomes, found one by one.
 use Rattle.std.proofs.Common.{ℕ, ◌≡◌, ◌≢◌, ◌+◌, ◌<◌, ◌≤◌, ◌⊎◌, inl, inr, Bool, true, false, Some, List, Result, Err, slice_get, refl, subst, arith}
 use Rattle.std.proofs.lemmas.Bool.{cases_lt}
-use Rattle.lrc_run.specs.declared.report.Cause.{Cause}
-use Rattle.lrc_run.specs.declared.report.RunFault.{RunFault}
+use Rattle.lrc_run.specs.declared.cause.Cause.{Cause}
+use Rattle.lrc_run.specs.declared.cause.RunFault.{RunFault}
 use Rattle.lrc_run.specs.Faults.{is_stuck, Failed, NoneFailed, NoneFailedSo, IsFirstSo}
 
 -- none below a place failed so

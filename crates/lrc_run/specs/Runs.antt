@@ -10,7 +10,7 @@ use Rattle.journal.specs.Races.{Race}
 use Rattle.journal.specs.Traffic.{messages, records, words}
 use Rattle.lrc_script.specs.Lawful.{addresses}
 use Rattle.lrc_script.specs.Plan.{Plan}
-use Rattle.lrc_run.specs.declared.report.Report.{Report}
+use Rattle.lrc_report.specs.declared.report.Report.{Report}
 use Rattle.follows.specs.Follows.{sizes_of, Follows, calls_of, load_of}
 use Rattle.follows.specs.Recomputed.{IsRecomputed}
 

@@ -8,10 +8,11 @@ ghost use Rattle.lrc_run.specs.Endings.{HaveFollowed};
 ghost use Rattle.lrc_run.specs.Runs.{IsReportOf};
 ghost use Rattle.lrc_run.specs.Walks.{AreWalked};
 
-use crate::report::{Cause, Report};
+use crate::cause::Cause;
 use crate::shown::show;
 use book::Book;
 use cluster::{Cluster, Processor, Rule};
+use lrc_report::Report;
 use lrc_script::script::Script;
 use std::alloc::{AllocError, Global};
 use std::sync::Wait;

@@ -1,6 +1,6 @@
 //! Runs of scripts on a cluster: each processor on a thread of its own, or all by turns on one.
 //!
-//! **What contracts see.** A script as its plan. A `Report` is one of the plan (`IsReportOf`) where its journal has the
+//! **What contracts see.** A script as its plan. A `Report` (of `lrc_report`) is one of the plan (`IsReportOf`) where its journal has the
 //! plan's sizes and holds what is left, after some of it was cut off, of a history that is well formed and explained and
 //! follows the plan; the verdict, the shown words and the traffic are those of the whole history (`Tells`).
 //!
@@ -13,12 +13,12 @@
 //! asked before each instruction; the schedule of `step`, and which processor it tells as stuck.
 #![tactic(auto)]
 
+mod cause;
 mod ending;
 mod faults;
 mod gate;
 pub mod laws;
 mod orders;
-mod report;
 mod running;
 mod shown;
 mod steps;
@@ -26,8 +26,8 @@ mod steps;
 mod tests;
 mod walk;
 
+pub use cause::{Cause, RunFault};
 pub use gate::{Gate, Open, Stopped};
 pub use orders::order;
-pub use report::{Cause, Report, RunFault};
 pub use running::{run, run_with};
 pub use steps::{step, step_with};

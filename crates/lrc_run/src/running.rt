@@ -9,12 +9,13 @@ ghost use Rattle.lrc_run.specs.Threads.{AreOutcomes};
 mod threads;
 
 use self::threads::walk_all;
+use crate::cause::{Cause, RunFault};
 use crate::ending::conclude;
 use crate::faults::gathered;
 use crate::gate::Gate;
-use crate::report::{Cause, Report, RunFault};
 use book::Book;
 use cluster::{BookLock, Cluster, Processor, Rule};
+use lrc_report::Report;
 use lrc_script::script::Script;
 use std::alloc::Global;
 use std::sync::Wait;

@@ -12,11 +12,12 @@ ghost use Rattle.lrc_run.specs.Walks.{AreWalked};
 mod turns;
 
 use self::turns::{Progress, take_turn};
+use crate::cause::{Cause, RunFault};
 use crate::ending::conclude;
 use crate::orders::order;
-use crate::report::{Cause, Report, RunFault};
 use book::Book;
 use cluster::{BookLock, Cluster, Processor, Rule};
+use lrc_report::Report;
 use lrc_script::script::Script;
 use rand_core::SeedableRng;
 use rand_pcg::Pcg32;

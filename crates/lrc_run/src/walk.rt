@@ -8,8 +8,8 @@ mod instructions;
 
 pub(crate) use self::accesses::load;
 pub(crate) use self::instructions::{begin, end};
+use crate::cause::Cause;
 use crate::gate::Gate;
-use crate::report::Cause;
 use book::Book;
 use cluster::{Cluster, Processor, Rule};
 use crossbeam_utils::Backoff;

@@ -8,7 +8,7 @@ use crate::gaps::wrong_place;
 use crate::rebuilt::journal_of;
 use crate::table::Table;
 use journal::{Event, Journal, Kind, Traffic};
-use lrc_run::Report;
+use lrc_report::Report;
 use lrc_script::script::{Instruction, Script};
 use std::alloc::{AllocError, Global};
 

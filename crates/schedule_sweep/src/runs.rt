@@ -6,7 +6,8 @@ ghost use Rattle.lrc_script.specs.Plan.{plan_of};
 
 use crate::flaw::Flaw;
 use cluster::{BookLock, TicketBookLock};
-use lrc_run::{Open, Report, RunFault, run_with, step_with};
+use lrc_report::Report;
+use lrc_run::{Open, RunFault, run_with, step_with};
 use lrc_script::script::{Script, parse};
 use std::alloc::Global;
 use std::sync::Wait;

@@ -9,7 +9,7 @@ use crate::cuts::{with_cuts, with_loads};
 use crate::draws::Drawing;
 use crate::flaw::{Flaw, expect};
 use crate::runs::{Lock, Schedule, read_again, step_report, threads_report};
-use lrc_run::Report;
+use lrc_report::Report;
 use lrc_script::script::Script;
 use std::alloc::Global;
 use std::sync::Wait;

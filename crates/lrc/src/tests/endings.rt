@@ -2,8 +2,8 @@
 
 use crate::fault::ProgramFault;
 use crate::program::say;
-use crate::render::OutFault;
 use book::Refused;
+use lrc_report::render::OutFault;
 use lrc_run::{Cause, RunFault};
 use lrc_script::fault::ScriptFault;
 use std::alloc::{AllocError, Global};

@@ -3,8 +3,7 @@
 ghost use Rattle.std.specs.Prelude.{◌<◌, ◌≡◌};
 
 use super::check_with;
-use super::words::plain;
-use crate::options::Options;
+use lrc_words::options::Options;
 use std::alloc::Global;
 use std::process::Abort;
 use std::sync::Wait;
@@ -84,7 +83,7 @@ fn with_lock(step: bool, ticket: bool, tries: u64) -> Options
     Options {
         ticket,
         tries,
-        ..plain(step)
+        ..Options::plain(step)
     }
 }
 
@@ -144,7 +143,7 @@ fn by_drawn_turns(rt: HostRuntime) {
     for seed in 0..4 {
         let options = Options {
             seed: Some(seed),
-            ..plain(true)
+            ..Options::plain(true)
         };
         check_all(&rt, rt.alloc(), &options, &ROWS);
     }
@@ -155,7 +154,7 @@ fn by_drawn_turns(rt: HostRuntime) {
 fn numbers_after_a_cut(rt: HostRuntime) {
     let options = Options {
         journal: true,
-        ..plain(true)
+        ..Options::plain(true)
     };
     let out =
         b"word 0 5\nverdict race-free\ntraffic 10 1 1\ncut 3\nevent 3 0 depart\nevent 4 1 depart\nevent 5 0 arrive\nevent 6 1 fetch 0 1 1 1\nevent 7 1 load 0 5\nevent 8 1 arrive\nevent 9 1 depart\nevent 10 0 depart\nevent 11 0 load 0 5\n";

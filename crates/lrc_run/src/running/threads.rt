@@ -6,8 +6,8 @@ ghost use Rattle.cluster.specs.Clusters.{AreNew};
 ghost use Rattle.lrc_run.specs.Threads.{AreOutcomes, AreOutcomesOf, AreStarted, IsOutcomeOf};
 ghost use Rattle.lrc_run.specs.Walks.{Walks};
 
+use crate::cause::Cause;
 use crate::gate::Gate;
-use crate::report::Cause;
 use crate::walk::walk;
 use book::Book;
 use cluster::{Cluster, Processor, Rule};

@@ -4,7 +4,7 @@ ghost use Rattle.replicas.specs.Local.{Local};
 ghost use Rattle.lrc_run.specs.Steps.{IsAt, instruction_at, progress_after};
 ghost use Rattle.lrc_run.specs.Walks.{IsOnItsWay};
 
-use crate::report::Cause;
+use crate::cause::Cause;
 use crate::walk::{begin, end};
 use book::Book;
 use cluster::{Cluster, Processor, Rule};

@@ -1,8 +1,9 @@
 //! Scripts that cut the journal.
 
-use crate::{Open, Report, run, step, step_with};
+use crate::{Open, run, step, step_with};
 use cluster::TicketBookLock;
 use journal::{Event, Kind};
+use lrc_report::Report;
 use lrc_script::script::parse;
 use std::alloc::Global;
 use std::process::Abort;

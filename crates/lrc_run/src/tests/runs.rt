@@ -1,8 +1,9 @@
 //! Scripts with each processor on a thread of its own.
 ghost use Rattle.std.specs.Prelude.{◌<◌};
 
-use crate::{Cause, Gate, Open, Report, RunFault, Stopped, run, run_with};
+use crate::{Cause, Gate, Open, RunFault, Stopped, run, run_with};
 use cluster::TicketBookLock;
+use lrc_report::Report;
 use lrc_script::script::parse;
 use std::alloc::Global;
 use std::process::Abort;

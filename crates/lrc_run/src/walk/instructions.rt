@@ -5,7 +5,7 @@ ghost use Rattle.cluster.specs.Calls.{IsSameProcessor};
 ghost use Rattle.lrc_run.specs.Walks.{IsOnItsWay, Takes, Tries};
 
 use super::accesses::{add, load, store};
-use crate::report::Cause;
+use crate::cause::Cause;
 use book::{Book, Refused};
 use cluster::{Cluster, Processor, Rule};
 use lrc_script::script::Instruction;

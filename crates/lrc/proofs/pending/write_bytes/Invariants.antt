@@ -1,9 +1,0 @@
-use Rattle.std.proofs.Common.{length}
-use Rattle.lrc.proofs.Writing.{IsUnderWay}
-use Rattle.lrc.proofs.pending.write_bytes.Given as goal
-
-abbrev pub invariant-loop-rest : goal.invariant-loop-rest
-invariant-loop-rest g l = IsUnderWay (g.W.Write.contents l.fn.out) (g.W.Write.contents l.out) l.bytes l.rest
-
-abbrev pub decreases-loop-rest : goal.decreases-loop-rest
-decreases-loop-rest g l = length l.rest

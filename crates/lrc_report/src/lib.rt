@@ -1,0 +1,18 @@
+//! A run's report, and its text.
+//!
+//! **What contracts see.** A `Report` as it is; `report_text` is its text, with its journal where that is asked for. A
+//! writer by the bytes that it was given (`contents`).
+//!
+//! **What is proved.** `render` writes the text of a report and nothing else; after a fault a beginning of it.
+//!
+//! **What is only tested.** That many lines are few writes, and that a fault comes just where a write fails.
+#![tactic(auto)]
+
+mod line;
+mod pending;
+pub mod render;
+mod report;
+#[cfg(test)]
+mod tests;
+
+pub use report::Report;

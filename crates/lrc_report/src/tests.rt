@@ -1,0 +1,139 @@
+//! Whole reports, and writers that fail under them.
+
+mod events;
+
+use crate::render::{OutFault, render};
+use crate::report::Report;
+use journal::{Event, Journal, Kind};
+use std::alloc::Global;
+use std::io;
+use std::io::{ErrorKind, Write};
+use std::process::Abort;
+use std::test::Fail;
+
+/// What a processor alone does that stores 7, passes the barrier and loads.
+const EVENTS: [Kind; 4] = [
+    Kind::Store(0, 7),
+    Kind::Arrive,
+    Kind::Depart,
+    Kind::Load(0, 7),
+];
+
+/// The journal of these events.
+fn journal_of(alloc: Global) -> Result<Journal, Fail> {
+    let mut journal = Journal::new(alloc, 1, 1)?;
+    for kind in EVENTS {
+        journal.reserve(1)?;
+        journal.append(Event { processor: 0, kind });
+    }
+    Ok(journal)
+}
+
+/// Its report, with this verdict.
+fn report_of(alloc: Global, racy: bool, journal: Journal) -> Result<Report, Fail> {
+    let mut shown = Vec::new(alloc);
+    shown.push((0, 7))?;
+    Ok(Report {
+        shown,
+        racy,
+        traffic: journal.traffic(),
+        journal,
+    })
+}
+
+/// Checks the text of a report.
+fn check<R: Abort>(rt: &R, alloc: Global, report: &Report, journal: bool, text: &[u8]) {
+    let mut out = Vec::new(alloc);
+    assert_eq!(rt; render(report, journal, &mut out), Ok(()));
+    assert_eq!(rt; out.as_slice(), text);
+}
+
+/// With the journal and without, and both verdicts.
+#[test]
+fn whole_reports(rt: HostRuntime) -> Result<(), Fail> {
+    let alloc = rt.alloc();
+    let report = report_of(alloc, false, journal_of(alloc)?)?;
+    let short = b"word 0 7\nverdict race-free\ntraffic 2 0 0\n";
+    check(&rt, alloc, &report, false, short);
+    check(&rt, alloc, &report, true, TEXT);
+    let racy = report_of(alloc, true, journal_of(alloc)?)?;
+    let text = b"word 0 7\nverdict racy\ntraffic 2 0 0\n";
+    check(&rt, alloc, &racy, false, text);
+    Ok(())
+}
+
+/// After a cut the journal's lines begin with how many events are gone, and are numbered on from there.
+#[test]
+fn cut_journal(rt: HostRuntime) -> Result<(), Fail> {
+    let mut journal = journal_of(rt.alloc())?;
+    journal.cut().map_err(|_| "not cut")?;
+    let report = report_of(rt.alloc(), false, journal)?;
+    let text =
+        b"word 0 7\nverdict race-free\ntraffic 2 0 0\ncut 2\nevent 2 0 depart\nevent 3 0 load 0 7\n";
+    check(&rt, rt.alloc(), &report, true, text);
+    Ok(())
+}
+
+/// Nothing is shown and nothing was done.
+#[test]
+fn empty_report(rt: HostRuntime) -> Result<(), Fail> {
+    let alloc = rt.alloc();
+    let journal = Journal::new(alloc, 1, 1)?;
+    let report = Report {
+        shown: Vec::new(alloc),
+        racy: false,
+        traffic: journal.traffic(),
+        journal,
+    };
+    let text = b"verdict race-free\ntraffic 0 0 0\n";
+    check(&rt, alloc, &report, true, text);
+    Ok(())
+}
+
+/// The report of the journal above, with its journal.
+const TEXT: &[u8] =
+    b"word 0 7\nverdict race-free\ntraffic 2 0 0\nevent 0 0 store 0 7\nevent 1 0 arrive\nevent 2 0 depart\nevent 3 0 load 0 7\n";
+
+/// A writer that takes so many bytes, three at a time, and then fails.
+#[derive(Drop)]
+struct Narrow {
+    left: usize,
+    taken: Vec<u8>,
+}
+
+impl Write for Narrow {
+    fn write(&mut self, bytes: &[u8]) -> io::Result<usize> {
+        let count = bytes.len().min(self.left).min(3);
+        if count == 0 {
+            return Err(io::Error::from(ErrorKind::BrokenPipe));
+        }
+        self.taken.extend_from_slice(&bytes[..count])?;
+        self.left -= count;
+        Ok(count)
+    }
+
+    fn flush(&mut self) -> io::Result<()> {
+        Ok(())
+    }
+}
+
+/// Of a text that doesn't fit, just the bytes that fit are written.
+#[test]
+fn failed_writes(rt: HostRuntime) -> Result<(), Fail> {
+    let report = report_of(rt.alloc(), false, journal_of(rt.alloc())?)?;
+    for left in 0..TEXT.len() {
+        let mut out = Narrow {
+            left,
+            taken: Vec::new(rt.alloc()),
+        };
+        assert_eq!(rt; render(&report, true, &mut out), Err(OutFault));
+        assert_eq!(rt; out.taken.as_slice(), &TEXT[..left]);
+    }
+    let mut out = Narrow {
+        left: TEXT.len(),
+        taken: Vec::new(rt.alloc()),
+    };
+    assert_eq!(rt; render(&report, true, &mut out), Ok(()));
+    assert_eq!(rt; out.taken.as_slice(), TEXT);
+    Ok(())
+}

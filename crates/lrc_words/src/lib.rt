@@ -1,0 +1,14 @@
+//! The words of the program `lrc`: which script is to be run, and how.
+//!
+//! **What contracts see.** `Options` as they are; `AreGiven` says what options the words give, by the matches that clap
+//! states for a simple command.
+//!
+//! **What is proved.** Where `options` answers options, the words give them.
+//!
+//! **What is only tested.** Which words are refused, and the texts of faults and help.
+#![tactic(auto)]
+
+pub mod options;
+#[cfg(test)]
+mod tests;
+pub mod words;
