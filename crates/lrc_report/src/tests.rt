@@ -11,25 +11,19 @@ use std::io::{ErrorKind, Write};
 use std::process::Abort;
 use std::test::Fail;
 
-/// What a processor alone does that stores 7, passes the barrier and loads.
-const EVENTS: [Kind; 4] = [
-    Kind::Store(0, 7),
-    Kind::Arrive,
-    Kind::Depart,
-    Kind::Load(0, 7),
-];
-
-/// The journal of these events.
+/// The journal of a processor alone that stores 7, passes the barrier and loads.
 fn journal_of(alloc: Global) -> Result<Journal, Fail> {
+    let by_0 = |kind| Event { processor: 0, kind };
     let mut journal = Journal::new(alloc, 1, 1)?;
-    for kind in EVENTS {
-        journal.reserve(1)?;
-        journal.append(Event { processor: 0, kind });
-    }
+    journal.reserve(4)?;
+    journal.append(by_0(Kind::Store(0, 7)));
+    journal.append(by_0(Kind::Arrive));
+    journal.append(by_0(Kind::Depart));
+    journal.append(by_0(Kind::Load(0, 7)));
     Ok(journal)
 }
 
-/// Its report, with this verdict.
+/// The report of a journal, with this verdict.
 fn report_of(alloc: Global, racy: bool, journal: Journal) -> Result<Report, Fail> {
     let mut shown = Vec::new(alloc);
     shown.push((0, 7))?;

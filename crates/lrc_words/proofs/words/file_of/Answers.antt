@@ -1,4 +1,4 @@
-use Rattle.std.proofs.Common.{◌≡◌, ◌∙◌, ap, codes, Some}
+use Rattle.std.proofs.Common.{◌∙◌, ap, codes, Some}
 use Rattle.clap.specs.Words.{found_of}
 use Rattle.clap.proofs.WalkLemmas.{first_value-rows}
 use Rattle.lrc_words.proofs.words.file_of.Goals as goal

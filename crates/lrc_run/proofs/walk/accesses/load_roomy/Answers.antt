@@ -19,3 +19,7 @@ returns-in_ok-flush-in-Err-BlockFull g c =
     (makes_call full roomy c.flush.result c.flush.ensures))
     (tries_load roomy answer.new.self c.args.address answer.result answer.ensures.err answer.ensures.ok
     answer.ensures.calls)
+
+pub returns-in_default-2 : goal.returns-in_default-2
+returns-in_default-2 g c = tries_load c.args.processor.now c.load.new.self c.args.address c.load.result
+    c.load.ensures.err c.load.ensures.ok c.load.ensures.calls

@@ -19,3 +19,7 @@ returns-in_ok-flush-in-Err-BlockFull g c =
     (makes_call full roomy c.flush.result c.flush.ensures))
     (tries_store roomy answer.new.self c.args.address c.args.value answer.result answer.ensures.err
     answer.ensures.ok answer.ensures.calls)
+
+pub returns-in_default-2 : goal.returns-in_default-2
+returns-in_default-2 g c = tries_store c.args.processor.now c.store.new.self c.args.address c.args.value c.store.result
+    c.store.ensures.err c.store.ensures.ok c.store.ensures.calls
