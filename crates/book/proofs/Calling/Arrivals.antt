@@ -1,5 +1,5 @@
 -- What an arrival rests on, and what it makes, read off the book.
-use Rattle.std.proofs.Common.{suc, ◌⊎◌, ◌++◌, take, ◌≡◌, ◌≢◌, ℕ, ◌+◌, ◌<◌, inl, inr, List, [], ◌∷◌, length, map, Bool, true, false, cond, Option, Some, None, replicate, slice_get, slice_set, slice_index, slice_index_or, subst, sym, refl, ap, ◌∙◌, arith}
+use Rattle.std.proofs.Common.{suc, ◌++◌, take, ◌≡◌, ◌≢◌, ℕ, ◌+◌, ◌<◌, inl, inr, List, [], ◌∷◌, length, map, Bool, true, false, cond, Option, Some, None, replicate, slice_get, slice_set, slice_index, slice_index_or, subst, sym, refl, ap, ◌∙◌, arith}
 use Rattle.std.proofs.lemmas.Bool.{cases_eq}
 use Rattle.std.proofs.lemmas.Option.{slice_get-get_or, same_Some, none-some}
 use Rattle.std.proofs.lemmas.List.{length-set, length-map, map-append, get_or-set_same, get_or-set_other}
@@ -272,13 +272,14 @@ departures_made old b p records i t o same opened made =
 
 -- each one's timestamp once p has closed its interval
 pub read_after : (times : List (List ℕ)) (p q : ℕ) (own old t : List ℕ) → p < length times → q < length times
-    → t ≡ slice_index_or times q t → ((q ≡ p) × (old ≡ own)) ⊎ ((q ≢ p) × (old ≡ t))
+    → t ≡ slice_index_or times q t → (q ≡ p → old ≡ own) → (q ≢ p → old ≡ t)
     → old ≡ slice_index_or (slice_set times p own) q []
-read_after times p q own old t here there read (inl same) =
-    same.1 ∙ sym
-    (ap (λ (n : ℕ). slice_index_or (slice_set times p own) n []) same.0 ∙ get_or-set_same times p own [] here)
-read_after times p q own old t here there read (inr other) =
-    other.1 ∙ read ∙ same_default times q t [] there ∙ sym (get_or-set_other times p q own [] other.0)
+read_after times p q own old t lt there read mine others = elim (cases_eq q p) [
+  | inl is ↦ (
+      let P : ℕ → Type 0 = λ x. own ≡ slice_index_or (slice_set times p own) x [] in
+      mine is ∙ subst P (sym is) (sym (get_or-set_same times p own [] lt)))
+  | inr apart ↦ others apart ∙ read ∙ same_default times q t [] there ∙ sym (get_or-set_other times p q own [] apart)
+]
 
 -- one more departure is made
 pub departing_step : (c : Closings) (u : List ℕ) (times : List (List ℕ)) (q : ℕ) (old : List ℕ) (ms ns : List Letter)

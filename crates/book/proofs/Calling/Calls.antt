@@ -17,8 +17,10 @@ use Rattle.interval.specs.Intervals.{ClosedInterval}
 use Rattle.interval.specs.Closings.{Closings, pushed}
 use Rattle.journal.specs.Did.{event}
 use Rattle.book.specs.Transitions.{handed_in, open_interval, closed_by}
+use Rattle.book.specs.declared.protocol.Protocol.TheInside.{Inside}
+use Rattle.book.specs.Holding.{state_of}
 use Rattle.book.specs.State.{State, time_of}
-use Rattle.book.specs.Calls.{MayFlush, MayCall, IsOpen}
+use Rattle.book.specs.Calls.{IsInner, MayFlush, MayCall, IsOpen}
 use Rattle.book.proofs.Parts.History.{happened, history_long}
 use Rattle.book.proofs.Parts.Told.{is_processor, own_stamp, own_number}
 
@@ -76,23 +78,30 @@ flushes b p block may = let hands_in = may.hands_in in record {
   gives = record { waits = (None, hands_in.idle, λ some. absurd (some refl)); inner = hands_in.inner };
 }
 
--- the block's events may be appended
-pub block_processors : (b : State) (p n : ℕ) (block : List Event) → MayFlush b p block → n ≡ b.journal.processors
-    → (k : ℕ) (d : Event) → k < length block → (slice_index_or block k d).processor < n
-block_processors b p n block may same k d lt =
-    let told = may.by.told in
-    let x = may.gives.inner k (slice_index_or block k d) (slice_get-get_or block k d lt) in
-    let mine = x.mine in
-    let within = is_processor may.by.sizes may.by.history b p may.gives.waits.0 told may.gives.waits.1 in
-    let processors = told.sizes.processors in
-    omega arith
+-- the block's events may be appended to the journal
+pub block_fits : (b : Inside) (now : State) (p : ℕ) (log : Log) (room : ℕ) (block : List Event) → state_of b ≡ now
+    → log ≡ record b.journal { room = room } → MayFlush now p block
+    → ((k : ℕ) (d : Event) → k < length block → (slice_index_or block k d).processor < log.processors)
+    × ((k : ℕ) (d : Event) → k < length block → AddressInRange log.addresses (slice_index_or block k d).kind)
+block_fits b now p log room block same made may = (processor, address)
+  where
+    inner : (k : ℕ) (d : Event) → k < length block → IsInner may.by.sizes p (slice_index_or block k d)
+    inner k d lt = may.gives.inner k (slice_index_or block k d) (slice_get-get_or block k d lt)
 
-pub block_addresses : (b : State) (p n : ℕ) (block : List Event) → MayFlush b p block → n ≡ b.journal.addresses
-    → (k : ℕ) (d : Event) → k < length block → AddressInRange n (slice_index_or block k d).kind
-block_addresses b p n block may same k d lt =
-    let x = may.gives.inner k (slice_index_or block k d) (slice_get-get_or block k d lt) in
-    subst (λ m. AddressInRange m (slice_index_or block k d).kind) (sym (same ∙ may.by.told.sizes.addresses))
-    (address_within may.by.sizes (slice_index_or block k d).kind x.in_range)
+    processor : (k : ℕ) (d : Event) → k < length block → (slice_index_or block k d).processor < log.processors
+    processor k d lt =
+        let mine = (inner k d lt).mine in
+        let within = is_processor may.by.sizes may.by.history now p may.gives.waits.0 may.by.told may.gives.waits.1 in
+        let processors = may.by.told.sizes.processors in
+        let is = ap (λ (l : Log). l.processors) made ∙ ap (λ (x : State). x.journal.processors) same in
+        omega arith
+
+    address : (k : ℕ) (d : Event) → k < length block → AddressInRange log.addresses (slice_index_or block k d).kind
+    address k d lt =
+        subst (λ m. AddressInRange m (slice_index_or block k d).kind)
+        (sym (ap (λ (l : Log). l.addresses) made ∙ ap (λ (x : State). x.journal.addresses) same
+        ∙ may.by.told.sizes.addresses))
+        (address_within may.by.sizes (slice_index_or block k d).kind (inner k d lt).in_range)
 
 -- an event that closes an interval has no address
 pub closing_address : (n : ℕ) (k : Kind) → is_closing k ≡ true → AddressInRange n k
@@ -165,6 +174,19 @@ pub closed_records : (b : State) (block : List Event) (p : ℕ) (k : Kind) (i : 
     (records : List Changes) → i ≡ open_interval b p records
     → closed_by (handed_in b block) p k i.records ≡ closed_by (handed_in b block) p k records
 closed_records b block p k i records is = ap (λ (x : ClosedInterval). closed_by (handed_in b block) p k x.records) is
+
+-- room that is made in the journal leaves the book
+pub roomy : (b : Inside) (now : State) (log : Log) → log ≡ record b.journal { room = log.room } → state_of b ≡ now
+    → record (state_of b) { journal = record log { room = b.owing } } ≡ now
+roomy b now log made same = ap (λ (l : Log). record (state_of b) { journal = record l { room = b.owing } }) made ∙ same
+
+-- the book after a closing event, as of the book before the call
+pub closed_since : (b now c : State) (block : List Event) (p : ℕ) (k : Kind) (i : ClosedInterval)
+    (records : List Changes) → b ≡ now → i ≡ open_interval b p records
+    → c ≡ closed_by (handed_in b block) p k i.records → c ≡ closed_by (handed_in now block) p k records
+closed_since b now c block p k i records same opened closed =
+    closed ∙ closed_records b block p k i records opened
+    ∙ ap (λ (x : State). closed_by (handed_in x block) p k records) same
 
 pub still_open : (b : State) (p : ℕ) (i : ClosedInterval) (records : List Changes) → i ≡ open_interval b p records
     → i ≡ open_interval b p i.records

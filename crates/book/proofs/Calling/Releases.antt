@@ -192,19 +192,6 @@ released_granted old b p l block records locks transit t r m may is time line po
     released_is old b p l block records locks transit t is time line
     (post ∙ passed_some b (lock_at b.locks l).queue t old.times r m grant.1 grant.0)
 
--- a release of a lock that nobody asked for
-pub released_unasked : (old b : State) (p l : ℕ) (block : List Event) (records : List Changes) (locks : Locks)
-    (t : List ℕ) → MayRelease old p l block → b ≡ closed_by (handed_in old block) p (Release l) records
-    → t ≡ tick (time_of old p) p
-    → locks ≡ with_lock b.locks l (released (lock_at b.locks l) t)
-    → None ≡ option_map (addressed_grant (pushed old.closed (open_interval old p records)) old.times t)
-    (slice_get (lock_at old.locks l).queue 0)
-    → record b { locks = locks } ≡ book_released (handed_in old block) p l records
-released_unasked old b p l block records locks t may is time line made =
-    let grant = grant_made old b p l block records t None may is made in
-    released_is old b p l block records locks b.transit t is time line
-    (passed_none b (lock_at b.locks l).queue t old.times grant.0)
-
 pub next_sent : (b : State) (p l : ℕ) (o : Option ℕ) → IsReleasing b p l → o ≡ slice_get (lock_at b.locks l).queue 0
     → IfSome o (λ r. MayBeSent b.closed b.times r)
 next_sent b p l None rel is = tt

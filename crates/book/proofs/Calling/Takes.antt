@@ -32,7 +32,7 @@ use Rattle.book.specs.State.{State, time_of}
 use Rattle.book.specs.Brought.{signal_to, message_among, message_for, has_come, sent_with, brought}
 use Rattle.book.specs.Transitions.{trimmed_by, barrier_left, book_taken}
 use Rattle.book.specs.Told.{IsTold}
-use Rattle.book.specs.Calls.{MaySignal, MayTake, MayTakeSome, MayTrim}
+use Rattle.book.specs.Calls.{IsSignalled, MaySignal, MayTake, MayTakeSome, MayTrim}
 use Rattle.book.proofs.Parts.Each.{is_at, item_at}
 use Rattle.book.proofs.Parts.Meetings.{stage_free}
 use Rattle.book.proofs.Keeps.Flags.{last_watch}
@@ -267,32 +267,25 @@ brings_is b p k m waits is =
     sym (ap (λ (w : Option Kind). sent_with (option_and_then (message_for b p) w))
     (get_or_from_slice_get b.awaits p (Some k) None waits) ∙ ap sent_with is)
 
--- of one who waits for a flag that is set: what was read tells what a take would bring
-pub record IsSignalled (b now : State) (p f : ℕ) (own time : List ℕ) : Type 0 where
-  pub old_long : length own ≡ length b.closed.first
-  pub new_long : length time ≡ length b.closed.first
-  pub kept : (q : ℕ) → slice_index b.closed.first q ≤ slice_index own q
-  pub brings : between b.closed own time ≡ sent_with (message_for now p (Await f))
-
 -- what stands in the book of one who waits for a flag
 pub waits_flag : (b now : State) (p f : ℕ) → b ≡ now → MayTake now p (Await f) → IsReceiving b p (Await f)
 waits_flag b now p f same may = subst (λ x. IsReceiving x p (Await f)) (sym same) (receiving now p (Await f) may)
 
+-- what was read of one who waits for a flag that is set
 pub signalled : (b now : State) (p f : ℕ) (own time : List ℕ) (o : Option (List ℕ)) → b ≡ now
     → MayTake now p (Await f) → own ≡ slice_index_or b.times p own → o ≡ slice_index_or b.flags f o → o ≡ Some time
-    → IsSignalled b now p f own time
+    → IsSignalled now p f own time
 signalled b now p f own time o same may own_is flag_is set =
     let w = waits_flag b now p f same may in
     let flag = w.flag f refl in
     let read = own_read b.times p own w.times own_is in
     let at : slice_index_or b.flags f None ≡ Some time =
     sym (same_default b.flags f o None flag.within) ∙ sym flag_is ∙ set in
-    record {
+    subst (λ (x : State). IsSignalled x p f own time) same (record {
       old_long = ap (λ (t : List ℕ). length t) read ∙ flag.long;
       new_long = flag.time time at;
       kept = subst (λ (t : List ℕ). (q : ℕ) → slice_index b.closed.first q ≤ slice_index t q) (sym read) flag.kept;
       brings = ap (λ (t : List ℕ). between b.closed t time) read
           ∙ ap (λ (x : Option (List ℕ)). sent_with
-          (option_map (λ (t : List ℕ). signal_to b.closed t (time_of b p)) x)) (sym at)
-          ∙ ap (λ (x : State). sent_with (message_for x p (Await f))) same;
-    }
+          (option_map (λ (t : List ℕ). signal_to b.closed t (time_of b p)) x)) (sym at);
+    })

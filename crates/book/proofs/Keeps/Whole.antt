@@ -9,7 +9,7 @@ use Rattle.journal.specs.declared.event.Kind.TheVariants.{Acquire, Release}
 use Rattle.journal.specs.Sizes.{Sizes}
 use Rattle.journal.specs.Log.{Log}
 use Rattle.journal.specs.HistoryLaws.{IsOf}
-use Rattle.journal.specs.Events.{At, is_closing, is_taking}
+use Rattle.journal.specs.Events.{is_closing, is_taking}
 use Rattle.journal.specs.WellFormed.{Holds}
 use Rattle.journal.proofs.Order.Places.{at_longer, at_last}
 use Rattle.journal.specs.Did.{did}
