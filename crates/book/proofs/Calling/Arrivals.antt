@@ -33,7 +33,7 @@ use Rattle.book.proofs.Parts.Each.{item_at, is_at}
 use Rattle.book.proofs.Parts.Doings.{count_others}
 use Rattle.book.proofs.Parts.Mail.{idle_allowed, no_mail}
 use Rattle.book.proofs.Calling.Posting.{all_same}
-use Rattle.book.proofs.Parts.Meetings.{stage_away, idle_counts, waits_there, all_true, arrived_stages}
+use Rattle.book.proofs.Parts.Meetings.{stage_away, idle_counts, waits_there, arrived_here, arrived_stages}
 use Rattle.book.proofs.Parts.Told.{is_idle, is_processor, own_stamp, within_closing}
 
 -- when the last one arrives the others wait, and nobody may go on
@@ -56,13 +56,7 @@ nobody_goes s h b p q t told idle full less a posted allowed = elim (cases_eq q 
     all = arrived_stages s h p b.barrier told.well_formed free lt told.barrier
 
     here : IsAtStage (did h p Arrive) told.barrier.complete q Here
-    here =
-        let item = item_at s.processors (IsAtStage (did h p Arrive) told.barrier.complete)
-        (slice_set b.barrier.stages p Here) q Away all.1 less in
-        subst (λ st. IsAtStage (did h p Arrive) told.barrier.complete q st)
-        (sym (all_true (slice_set b.barrier.stages p Here) full q
-        (slice_index_or (slice_set b.barrier.stages p Here) q Away) item))
-        (all.1.each q (slice_index_or (slice_set b.barrier.stages p Here) q Away) item)
+    here = arrived_here s h p b.barrier told.well_formed free lt told.barrier full q less
 
     waits : q ≢ p → (i : ℕ) × LastIs h q i Arrive
     waits apart =

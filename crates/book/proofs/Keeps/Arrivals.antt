@@ -1,6 +1,6 @@
 -- Arrivals: what the book is told by the history before, it is told by the history with the event after.
-use Rattle.std.proofs.Common.{◌≡◌, ◌≢◌, ℕ, ◌<◌, ◌≤◌, inl, inr, List, [], ◌∷◌, length, map, Bool, true, false, Option, Some, None, slice_get, slice_set, slice_index_or, subst, sym, refl, ap, ◌∙◌, arith}
-use Rattle.std.proofs.lemmas.Option.{same_Some, none-some, slice_get_within, slice_get-get_or, slice_get-map}
+use Rattle.std.proofs.Common.{◌≡◌, ◌≢◌, ℕ, ◌<◌, ◌≤◌, inl, inr, List, [], length, map, Bool, true, false, Option, Some, None, slice_get, slice_index_or, subst, sym, refl, ap, ◌∙◌, arith}
+use Rattle.std.proofs.lemmas.Option.{same_Some, slice_get_within, slice_get-get_or, slice_get-map}
 use Rattle.std.proofs.lemmas.List.{length-map}
 use Rattle.std.specs.Option.{option_map}
 use Rattle.journal.specs.declared.event.Event.{Event}
@@ -19,24 +19,22 @@ use Rattle.barrier.specs.Episodes.{is_full, joined, completed}
 use Rattle.transit.specs.Letters.{Letter}
 use Rattle.journal.specs.Did.{event, did}
 use Rattle.book.specs.Stamps.{AreAll, IsStamp}
-use Rattle.book.specs.Lines.{IsLock}
 use Rattle.book.specs.Mail.{IsPosted, Carries, IsMail}
-use Rattle.book.specs.Flags.{IsFlag}
 use Rattle.book.specs.Meetings.{IsBarrier}
 use Rattle.book.specs.ClosedIntervals.{AreContents}
 use Rattle.book.specs.State.{State, time_of}
 use Rattle.book.specs.Transitions.{closed_by, departure_to, mail_met, book_arrived}
 use Rattle.book.specs.Told.{IsTold}
-use Rattle.book.proofs.Parts.Each.{each_kept, each_own}
+use Rattle.book.proofs.Parts.Each.{each_own}
 use Rattle.book.proofs.Parts.Doings.{last_none, count_others, count_kept}
 use Rattle.book.proofs.Parts.Stamps.{stamp_closing}
 use Rattle.book.proofs.Parts.Lines.{idle_no_ask}
 use Rattle.book.proofs.Parts.Mail.{News, lets_posted, allowed_on, brings_on, mail_unless, idle_mail}
-use Rattle.book.proofs.Parts.Flags.{flag_kept}
+use Rattle.book.proofs.Parts.Flags.{flags_kept}
 use Rattle.book.proofs.Parts.Meetings.{barrier_waits, barrier_completes, completes_all, idle_counts}
-use Rattle.book.proofs.Parts.History.{history_on}
-use Rattle.book.proofs.Parts.Told.{is_idle, is_processor, own_stamp, follows, still_formed, awaits_set, times_closing, closed_now, within_closing, tight_closing, old_notices}
-use Rattle.book.proofs.Keeps.Locks.{lock_kept}
+use Rattle.book.proofs.Parts.Told.{is_processor, is_idle, has_none, own_stamp, follows, still_formed, times_closing, old_notices}
+use Rattle.book.proofs.Keeps.Events.{told_closing}
+use Rattle.book.proofs.Keeps.Locks.{locks_kept}
 
 -- in an open episode only those may depart that might before
 departs_before : (s : Sizes) (h : List Event) (p r n : ℕ) → r ≢ p
@@ -107,39 +105,30 @@ arrived_mail s h b c p u false told same long idle may next lt time full =
 
     waits : (x : IsBarrier s (did h p Arrive) (joined b.barrier p u))
         × ((q : ℕ) → q < s.processors → x.complete ≤ count_of is_arrive h q) × (count_of is_arrive h p ≡ x.complete)
-    waits = barrier_waits s h p b.barrier u told.well_formed free lt told.barrier time full
+    waits = barrier_waits s h p b.barrier told.well_formed free lt told.barrier u time full
 
     counts : count_of is_depart h p ≡ waits.0.complete
     counts = sym (idle_counts s h p told.well_formed free) ∙ waits.2
 arrived_mail s h b c p u true told same long idle may next lt time full =
-    record {
-      long =
-          length-map c.times (λ (own : List ℕ). Some (departure_to c.closed (join b.barrier.gathered u) own)) ∙ long;
-      each = each;
-    }
+    record { long = length-map c.times departs ∙ long; each = each }
   where
-    carries : (q : ℕ) → q < s.processors → (own : List ℕ)
-        → IsMail s (did h p Arrive) q (Some (departure_to c.closed (join b.barrier.gathered u) own))
+    -- one's departure, with what it lacks
+    departs : List ℕ → Option Letter
+    departs own = Some (departure_to c.closed (join b.barrier.gathered u) own)
+
+    carries : (q : ℕ) → q < s.processors → (own : List ℕ) → IsMail s (did h p Arrive) q (departs own)
     carries q less own =
-        let x = completes_all s h p b.barrier u told.well_formed next (is_idle s h b p told idle)
-        lt told.barrier time full q less in
+        let x = completes_all s h p b.barrier told.well_formed (is_idle s h b p told idle)
+        lt told.barrier u time next full q less in
         record { kind = Depart; lets = tt; allowed = x.0; time = x.1 }
 
-    each : (q : ℕ) (o : Option Letter)
-        → slice_get (map (λ (own : List ℕ). Some (departure_to c.closed (join b.barrier.gathered u) own)) c.times) q
-        ≡ Some o → IsMail s (did h p Arrive) q o
+    each : (q : ℕ) (o : Option Letter) → slice_get (map departs c.times) q ≡ Some o → IsMail s (did h p Arrive) q o
     each q o at =
-        let within = slice_get_within
-        (map (λ (own : List ℕ). Some (departure_to c.closed (join b.barrier.gathered u) own)) c.times) q o at in
-        let mapped = length-map c.times
-        (λ (own : List ℕ). Some (departure_to c.closed (join b.barrier.gathered u) own)) in
-        let there = slice_get-map (λ (own : List ℕ). Some (departure_to c.closed (join b.barrier.gathered u) own))
-        c.times q in
+        let within = slice_get_within (map departs c.times) q o at in
+        let mapped = length-map c.times departs in
         let read = slice_get-get_or c.times q [] (omega arith) in
-        let is = same_Some (Some (departure_to c.closed (join b.barrier.gathered u) (slice_index_or c.times q []))) o
-        (sym (there
-        ∙ ap (λ x. option_map (λ (own : List ℕ). Some (departure_to c.closed (join b.barrier.gathered u) own)) x)
-        read) ∙ at) in
+        let is = same_Some (departs (slice_index_or c.times q [])) o
+        (sym (slice_get-map departs c.times q ∙ ap (λ x. option_map departs x) read) ∙ at) in
         subst (λ x. IsMail s (did h p Arrive) q x) is (carries q (omega arith) (slice_index_or c.times q []))
 
 -- the barrier after an arrival
@@ -148,9 +137,9 @@ arrived_barrier : (s : Sizes) (h : List Event) (b : State) (p : ℕ) (u : List �
     → IsStamp s.processors (did h p Arrive) (InPast (did h p Arrive) p) u → is_full (joined b.barrier p u) ≡ full
     → IsBarrier s (did h p Arrive) (completed full (joined b.barrier p u))
 arrived_barrier s h b p u false told idle next lt time full =
-    (barrier_waits s h p b.barrier u told.well_formed (is_idle s h b p told idle) lt told.barrier time full).0
+    (barrier_waits s h p b.barrier told.well_formed (is_idle s h b p told idle) lt told.barrier u time full).0
 arrived_barrier s h b p u true told idle next lt time full =
-    barrier_completes s h p b.barrier u told.well_formed next (is_idle s h b p told idle) lt told.barrier time full
+    barrier_completes s h p b.barrier told.well_formed (is_idle s h b p told idle) lt told.barrier u time next full
 
 -- a departure that is made now has the notices that its receiver lacks
 met_notices : (full : Bool) (c : State) (u : List ℕ) (r : ℕ) (m : Letter) (t : List ℕ)
@@ -168,54 +157,36 @@ met_notices true c u r m t at time old =
 pub told_arrive : (s : Sizes) (h : List Event) (b : State) (p : ℕ) (records : List Changes) → IsTold s h b
     → slice_get b.awaits p ≡ Some None → AreContents s h p (count_of is_closing h p) records
     → IsTold s (did h p Arrive) (book_arrived b p records)
-told_arrive s h b p records told idle stored = record {
-  well_formed = well;
-  sizes = record {
-    processors = told.sizes.processors;
-    words = told.sizes.words;
-    addresses = told.sizes.addresses;
-    lockers = told.sizes.lockers;
-  };
-  holds = history_on b.journal h (event p Arrive ∷ []) told.holds;
-  closed = closed_now s h b p Arrive records told lt refl stored;
-  times = times;
-  locks = each_kept s.locks (IsLock s.processors h) (IsLock s.processors (did h p Arrive)) b.locks.locks told.locks
-      (λ l x at is. lock_kept s.processors h p Arrive l x (λ e. absurd cc) (λ e. absurd cc) (λ e. absurd cc)
-      (idle_no_ask h p l free) is);
-  barrier = arrived_barrier s h b p (tick (time_of b p) p) (is_full (joined b.barrier p (tick (time_of b p) p)))
-      told idle well lt time refl;
-  flags = each_kept s.flags (IsFlag s.processors h) (IsFlag s.processors (did h p Arrive)) b.flags told.flags
-      (λ f o at is. flag_kept s.processors h p Arrive f o (λ e. absurd cc) is);
-  awaits = awaits_set s h b p Arrive told;
-  transit = arrived_mail s h b (closed_by b p Arrive records) p (tick (time_of b p) p)
-      (is_full (joined b.barrier p (tick (time_of b p) p))) told refl times.long idle may well lt time refl;
-  notices = λ r m t at now. met_notices (is_full (joined b.barrier p (tick (time_of b p) p)))
-      (closed_by b p Arrive records) (join b.barrier.gathered (tick (time_of b p) p)) r m t at now
-      (λ there. old_notices s h b p records r m t told lt (apart r m there) there now);
-  within = within_closing s h b p told lt;
-  tight = tight_closing s h b p told lt;
-}
+told_arrive s h b p records told idle stored =
+    told_closing s h b p told lt Arrive may (book_arrived b p records)
+    (record {
+      locks = locks_kept s h p Arrive b.locks.locks (λ l e. absurd cc) (λ l e. absurd cc) (λ l e. absurd cc)
+          (λ l. idle_no_ask h p l (is_idle s h b p told idle)) told.locks;
+      barrier = arrived_barrier s h b p now full told idle well lt time refl;
+      flags = flags_kept s h p Arrive b.flags (λ f e. absurd cc) told.flags;
+      transit = arrived_mail s h b (closed_by b p Arrive records) p now full told refl
+          (times_closing s h b p told lt Arrive refl refl).long idle may well lt time refl;
+      notices = λ r m t at read. met_notices full (closed_by b p Arrive records) (join b.barrier.gathered now)
+          r m t at read
+          (λ there. old_notices s h b p told lt records r m t (has_none s h b p told idle r m there) there read);
+    })
+    refl refl records stored refl
   where
+    -- p's timestamp then, and whether the episode is complete with it
+    now : List ℕ
+    now = tick (time_of b p) p
+
+    full : Bool
+    full = is_full (joined b.barrier p now)
+
     lt : p < s.processors
     lt = is_processor s h b p None told idle
 
-    free : IsIdle h p
-    free = is_idle s h b p told idle
-
     may : MayFollow s h (event p Arrive)
-    may = follows s h b p Arrive told idle tt tt
+    may = follows s h b p told Arrive idle tt tt
 
     well : WellFormed s (did h p Arrive)
-    well = still_formed s h b p Arrive told may
+    well = still_formed s h b p told Arrive may
 
-    times : AreAll s.processors (λ q t. IsStamp s.processors (did h p Arrive) (InPast (did h p Arrive) q) t)
-        (slice_set b.times p (tick (time_of b p) p))
-    times = times_closing s h b p Arrive told lt refl refl
-
-    time : IsStamp s.processors (did h p Arrive) (InPast (did h p Arrive) p) (tick (time_of b p) p)
+    time : IsStamp s.processors (did h p Arrive) (InPast (did h p Arrive) p) now
     time = stamp_closing s.processors h p Arrive (time_of b p) lt refl refl (own_stamp s h b p told lt)
-
-    apart : (r : ℕ) (m : Letter) → slice_get b.transit r ≡ Some (Some m) → r ≢ p
-    apart r m at is = let P : ℕ → Type 0 =
-        λ x. slice_get b.transit x ≡ Some (Some m) in
-        none-some m (idle_mail s h p (Some m) free (told.transit.each p (Some m) (subst P is at)))

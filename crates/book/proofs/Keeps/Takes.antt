@@ -8,7 +8,7 @@ use Rattle.journal.specs.Pasts.{InPast}
 use Rattle.book.specs.Brought.{signal_to, message_for, has_come}
 use Rattle.book.specs.Laws.{IsMessage}
 use Rattle.book.proofs.Keeps.Flags.{last_watch, watching_mail, told_signal, signal_ready}
-use Rattle.std.proofs.Common.{◌⊎◌, true, slice_index_or, ◌≡◌, ◌≢◌, ℕ, ◌<◌, inl, inr, ◌↔◌, List, [], ◌∷◌, false, Option, Some, None, IsTrue, slice_get, slice_set, subst, sym, refl, ap, ◌∙◌}
+use Rattle.std.proofs.Common.{◌⊎◌, true, slice_index_or, ◌≡◌, ◌≢◌, ℕ, ◌<◌, inl, inr, ◌↔◌, List, [], false, Option, Some, None, IsTrue, slice_get, slice_set, subst, sym, refl, ap, ◌∙◌}
 use Rattle.std.proofs.lemmas.Bool.{cases_eq}
 use Rattle.std.proofs.lemmas.Option.{same_Some, none-some}
 use Rattle.lists.proofs.Sets.{slice_get-set_found, slice_get-set_other}
@@ -36,12 +36,12 @@ use Rattle.book.specs.Transitions.{barrier_left, book_joined, book_received}
 use Rattle.book.specs.Told.{IsTold}
 use Rattle.book.proofs.Parts.Each.{each_set, each_kept, item_at, is_at}
 use Rattle.book.proofs.Parts.Mail.{lets_posted, mail_kept, own_none}
-use Rattle.book.proofs.Parts.Flags.{flag_kept}
+use Rattle.book.proofs.Parts.Flags.{flags_kept}
 use Rattle.book.proofs.Parts.Meetings.{barrier_kept, barrier_departed}
-use Rattle.book.proofs.Parts.ClosedIntervals.{closed_quiet}
 use Rattle.book.proofs.Parts.Loose.{IsLoose}
-use Rattle.book.proofs.Parts.History.{history_on}
-use Rattle.book.proofs.Parts.Told.{is_processor, still_formed, awaits_set, times_taking, within_taking}
+use Rattle.book.proofs.Parts.Doings.{unlike}
+use Rattle.book.proofs.Parts.Told.{is_processor}
+use Rattle.book.proofs.Keeps.Events.{told_taking}
 use Rattle.book.proofs.Keeps.Locks.{lock_kept, lock_taken}
 
 posted_taking : (k : Kind) → IsPosted k → IsTrue (is_taking k)
@@ -90,63 +90,30 @@ took_barrier s h b p Depart told lt posted allowed =
     barrier_departed s h p b.barrier told.well_formed allowed lt told.barrier
 took_barrier s h b p _ told lt posted allowed = absurd posted
 
--- of an event that is let by a message
-record IsTaking (k : Kind) : Type 0 where
-  takes : IsTrue (is_taking k)
-  closes : is_closing k ≡ false
-  ask : (l : ℕ) → k ≢ Ask l
-  arrive : k ≢ Arrive
-  release : (l : ℕ) → k ≢ Release l
-  set : (f : ℕ) → k ≢ Set f
-
-takes_posted : (k : Kind) → IsPosted k → IsTaking k
-takes_posted (Acquire l) posted =
-    record {
-      takes = refl;
-      closes = refl;
-      ask = λ m e. absurd cc;
-      arrive = λ e. absurd cc;
-      release = λ m e. absurd cc;
-      set = λ f e. absurd cc;
-    }
-takes_posted Depart posted =
-    record {
-      takes = refl;
-      closes = refl;
-      ask = λ m e. absurd cc;
-      arrive = λ e. absurd cc;
-      release = λ m e. absurd cc;
-      set = λ f e. absurd cc;
-    }
-takes_posted _ posted = absurd posted
+-- what takes closes nothing
+taking_quiet : (k : Kind) → IsTrue (is_taking k) → is_closing k ≡ false
+taking_quiet (Acquire l) takes = refl
+taking_quiet Depart takes = refl
+taking_quiet (Await f) takes = refl
+taking_quiet _ takes = absurd cc
 
 -- p takes its mail
 pub told_take : (s : Sizes) (h : List Event) (b : State) (p : ℕ) (k : Kind) (m : Letter) → IsTold s h b
     → slice_get b.awaits p ≡ Some (Some k) → slice_get b.transit p ≡ Some (Some m)
     → IsLoose s (did h p k) (book_received b p k m)
-told_take s h b p k m told waits mail = record {
-  well_formed = still_formed s h b p k told may;
-  sizes = record {
-    processors = told.sizes.processors;
-    words = told.sizes.words;
-    addresses = told.sizes.addresses;
-    lockers = told.sizes.lockers;
-  };
-  holds = history_on b.journal h (event p k ∷ []) told.holds;
-  closed = closed_quiet s h p k b.closed kind.closes told.closed;
-  times = times_taking s h b p k m.time told lt kind.closes lets.2;
-  locks = each_kept s.locks (IsLock s.processors h) (IsLock s.processors (did h p k)) b.locks.locks told.locks
-      (λ l x at is. took_lock s h p k l x lets.0 lets.1 is);
-  barrier = took_barrier s h b p k told lt lets.0 lets.1;
-  flags = each_kept s.flags (IsFlag s.processors h) (IsFlag s.processors (did h p k)) b.flags told.flags
-      (λ f o at is. flag_kept s.processors h p k f o (kind.set f) is);
-  awaits = awaits_set s h b p k told;
-  transit = each_set s.processors (IsMail s h) (IsMail s (did h p k)) b.transit p None told.transit
-      (λ r o isnt at is. mail_kept s h p k r o may isnt kind.release kind.arrive is)
-      (own_none s h p k kind.ask kind.arrive);
-  notices = notices;
-  within = within_taking s h b p m.time told lt;
-}
+told_take s h b p k m told waits mail =
+    told_taking s h b p told lt k may (book_received b p k m)
+    (record {
+      locks = each_kept s.locks (IsLock s.processors h) (IsLock s.processors (did h p k)) b.locks.locks told.locks
+          (λ l x at is. took_lock s h p k l x lets.0 lets.1 is);
+      barrier = took_barrier s h b p k told lt lets.0 lets.1;
+      flags = flags_kept s h p k b.flags (λ f. other (Set f) refl) told.flags;
+      transit = each_set s.processors (IsMail s h) (IsMail s (did h p k)) b.transit p None told.transit
+          (λ r o isnt at is. mail_kept s h p k r o may isnt (λ l. other (Release l) refl) (other Arrive refl) is)
+          (own_none s h p k (λ l. other (Ask l) refl) (other Arrive refl));
+      notices = notices;
+    })
+    quiet m.time lets.2 refl
   where
     lt : p < s.processors
     lt = is_processor s h b p (Some k) told waits
@@ -154,11 +121,14 @@ told_take s h b p k m told waits mail = record {
     lets : IsPosted k × Allowed s h p k × IsStamp s.processors h (Brings h p k) m.time
     lets = message_lets s h p k m (told.awaits.each p (Some k) waits) (told.transit.each p (Some m) mail)
 
-    kind : IsTaking k
-    kind = takes_posted k lets.0
+    quiet : is_closing k ≡ false
+    quiet = taking_quiet k (posted_taking k lets.0)
+
+    other : (a : Kind) → is_closing a ≡ true → k ≢ a
+    other a closes = unlike is_closing k a quiet closes
 
     may : MayFollow s h (event p k)
-    may = taking_follows s h p k told.well_formed kind.takes lets.1
+    may = taking_follows s h p k told.well_formed (posted_taking k lets.0) lets.1
 
     notices : (r : ℕ) (n : Letter) (t : List ℕ) → slice_get (slice_set b.transit p None) r ≡ Some (Some n)
         → slice_get (slice_set b.times p (join (time_of b p) m.time)) r ≡ Some t

@@ -10,9 +10,11 @@ use Rattle.journal.proofs.Times.Times.{time_none}
 use Rattle.journal.proofs.Order.Places.{at_last}
 use Rattle.journal.proofs.Times.Kept.{does_kept, kind_kept, kind_joins}
 use Rattle.journal.specs.Did.{event, did}
-use Rattle.book.specs.Stamps.{IsStamp}
+use Rattle.journal.specs.Sizes.{Sizes}
+use Rattle.book.specs.Stamps.{AreAll, IsStamp}
 use Rattle.book.specs.Flags.{IsFlag}
 use Rattle.book.specs.Transitions.{flag_joined}
+use Rattle.book.proofs.Parts.Each.{each_kept}
 use Rattle.book.proofs.Parts.Stamps.{stamp_equal, stamp_join}
 use Rattle.book.proofs.Parts.Mail.{other_kind}
 
@@ -28,6 +30,13 @@ flag_kept n h p k f (Some t) isnt x = (
     is = kind_kept h (event p k ∷ []) (Set f) (slice_index t) (other_kind p k (Set f) isnt) x.1.is;
   },
 )
+
+pub flags_kept : (s : Sizes) (h : List Event) (p : ℕ) (k : Kind) (flags : List (Option (List ℕ)))
+    → ((f : ℕ) → k ≢ Set f) → AreAll s.flags (IsFlag s.processors h) flags
+    → AreAll s.flags (IsFlag s.processors (did h p k)) flags
+flags_kept s h p k flags isnt all =
+    each_kept s.flags (IsFlag s.processors h) (IsFlag s.processors (did h p k)) flags all
+    (λ f o at is. flag_kept s.processors h p k f o (isnt f) is)
 
 -- a set joins its timestamp
 pub flag_set : (n : ℕ) (h : List Event) (p f : ℕ) (o : Option (List ℕ)) (t : List ℕ) → IsFlag n h f o

@@ -20,7 +20,8 @@ read c =
     let owner = ap (λ (i : ClosedInterval). i.owner) c.interval.view_is in
     read_after c.args.times.now c.args.interval.now.owner c.loop-q.q c.args.own.now c.time_after-old.result.now
     c.index-times-q.result c.requires.processor c.loop-q-test.true c.index-times-q.is
-    (λ is. c.time_after-old.ensures.owner (is ∙ sym owner)) (λ apart. c.time_after-old.ensures.others (λ is. apart (is ∙ owner)))
+    (λ is. c.time_after-old.ensures.owner (is ∙ sym owner))
+    (λ apart. c.time_after-old.ensures.others (λ is. apart (is ∙ owner)))
 
 pub between_after-requires-clause-old_long : goal.between_after-requires-clause-old_long
 between_after-requires-clause-old_long c =

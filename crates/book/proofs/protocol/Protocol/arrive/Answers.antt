@@ -102,7 +102,8 @@ closed c =
 
 pub arrive-requires-clause-away : goal.arrive-requires-clause-away
 arrive-requires-clause-away c =
-    ap (λ (b : State). slice_get b.barrier.stages c.args.p) (closed (goal.at.arrive-requires-clause-away c).After-self-2)
+    ap (λ (b : State). slice_get b.barrier.stages c.args.p)
+    (closed (goal.at.arrive-requires-clause-away c).After-self-2)
     ∙ (arriving c.args.self.now c.args.p c.args.block.now c.requires.call).away
 
 pub arrive-requires-clause-long : goal.arrive-requires-clause-long

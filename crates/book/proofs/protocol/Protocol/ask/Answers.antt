@@ -39,14 +39,16 @@ pub grant_if_free-requires-clause-own_long : goal.grant_if_free-requires-clause-
 grant_if_free-requires-clause-own_long c = (asks (goal.at.grant_if_free-requires-clause-own_long c).After-self).own_long
 
 pub grant_if_free-requires-clause-time_long : goal.grant_if_free-requires-clause-time_long
-grant_if_free-requires-clause-time_long c = (asks (goal.at.grant_if_free-requires-clause-time_long c).After-self).time_long
+grant_if_free-requires-clause-time_long c =
+    (asks (goal.at.grant_if_free-requires-clause-time_long c).After-self).time_long
 
 pub grant_if_free-requires-clause-kept : goal.grant_if_free-requires-clause-kept
 grant_if_free-requires-clause-kept c = (asks (goal.at.grant_if_free-requires-clause-kept c).After-self).kept
 
 -- the book once the interval is closed
 closed : (c : After-self-2) → state_of c.self-2.inside
-    ≡ closed_by (handed_in c.args.self.now c.args.block.now) c.args.p (Ask c.args.l) (map arc_value c.args.records.items)
+    ≡ closed_by (handed_in c.args.self.now c.args.block.now) c.args.p (Ask c.args.l)
+    (map arc_value c.args.records.items)
 closed c =
     closed_since _ c.args.self.now _ c.args.block.now c.args.p (Ask c.args.l) c.open_interval-interval.result _
     (roomy c.self.inside c.args.self.now _ c.in_ok-make_room.ensures.same c.self.view_is)

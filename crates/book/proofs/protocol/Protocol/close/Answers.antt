@@ -65,7 +65,8 @@ pub append-requires-clause-address : goal.append-requires-clause-address
 append-requires-clause-address c = closing_address c.append_all.new.journal.addresses c.args.kind c.requires.kind
 
 pub index_mut-requires : goal.index_mut-requires
-index_mut-requires c = omega (arith, (standing (goal.at.index_mut-requires c).After-self).times, c.self.inside.times.ok.0)
+index_mut-requires c =
+    omega (arith, (standing (goal.at.index_mut-requires c).After-self).times, c.self.inside.times.ok.0)
 
 pub tick-requires-clause-in_range : goal.tick-requires-clause-in_range
 tick-requires-clause-in_range c =

@@ -18,7 +18,8 @@ close-requires-clause-open c =
 
 -- the book once the interval is closed
 closed : (c : After-self) → state_of c.self.inside
-    ≡ closed_by (handed_in c.args.self.now c.args.block.now) c.args.p (Set c.args.f) (map arc_value c.args.records.items)
+    ≡ closed_by (handed_in c.args.self.now c.args.block.now) c.args.p (Set c.args.f)
+    (map arc_value c.args.records.items)
 closed c =
     closed_since c.args.self.now c.args.self.now _ c.args.block.now c.args.p (Set c.args.f)
     c.open_interval-interval.result (map arc_value c.args.records.items) refl c.open_interval-interval.ensures
@@ -32,7 +33,8 @@ index-requires-2 c =
 
 -- the flag and p's timestamp, as they are read
 read : (c : After-index-2) → state_of c.self.inside
-    ≡ closed_by (handed_in c.args.self.now c.args.block.now) c.args.p (Set c.args.f) (map arc_value c.args.records.items)
+    ≡ closed_by (handed_in c.args.self.now c.args.block.now) c.args.p (Set c.args.f)
+    (map arc_value c.args.records.items)
     → IsSetRead c.args.self.now c.args.p c.args.f c.index.result.now c.index-2.result.now
 read c is =
     set_read c.args.self.now (state_of c.self.inside) c.args.p c.args.f (Set c.args.f) c.args.block.now
