@@ -79,11 +79,11 @@ flushes b p block may = let hands_in = may.hands_in in record {
 }
 
 -- the block's events may be appended to the journal
-pub block_fits : (b : Inside) (now : State) (p : ℕ) (log : Log) (room : ℕ) (block : List Event) → state_of b ≡ now
+pub block_fits : {now : State} {log : Log} {p room : ℕ} {block : List Event} (b : Inside) → state_of b ≡ now
     → log ≡ record b.journal { room = room } → MayFlush now p block
     → ((k : ℕ) (d : Event) → k < length block → (slice_index_or block k d).processor < log.processors)
     × ((k : ℕ) (d : Event) → k < length block → AddressInRange log.addresses (slice_index_or block k d).kind)
-block_fits b now p log room block same made may = (processor, address)
+block_fits {now} {log} {p} {room} {block} b same made may = (processor, address)
   where
     inner : (k : ℕ) (d : Event) → k < length block → IsInner may.by.sizes p (slice_index_or block k d)
     inner k d lt = may.gives.inner k (slice_index_or block k d) (slice_get-get_or block k d lt)
@@ -187,6 +187,23 @@ pub closed_since : (b now c : State) (block : List Event) (p : ℕ) (k : Kind) (
 closed_since b now c block p k i records same opened closed =
     closed ∙ closed_records b block p k i records opened
     ∙ ap (λ (x : State). closed_by (handed_in x block) p k records) same
+
+-- and where room was made first
+pub closed_roomy : (b : Inside) (now c : State) (log : Log) (block : List Event) (p : ℕ) (k : Kind)
+    (i : ClosedInterval) (records : List Changes) → log ≡ record b.journal { room = log.room } → state_of b ≡ now
+    → i ≡ open_interval (state_of b) p records
+    → c ≡ closed_by (handed_in (record (state_of b) { journal = record log { room = b.owing } }) block) p k i.records
+    → c ≡ closed_by (handed_in now block) p k records
+closed_roomy b now c log block p k i records made same opened closed =
+    closed_since (record (state_of b) { journal = record log { room = b.owing } }) now c block p k i records
+    (roomy b now log made same) opened closed
+
+-- so p's interval is open then
+pub opens_roomy : (b : Inside) (now : State) (log : Log) (block : List Event) (p : ℕ)
+    → log ≡ record b.journal { room = log.room } → state_of b ≡ now → MayCall now p block
+    → IsOpen (record (state_of b) { journal = record log { room = b.owing } }) p
+opens_roomy b now log block p made same may =
+    opens (record (state_of b) { journal = record log { room = b.owing } }) now p block (roomy b now log made same) may
 
 pub still_open : (b : State) (p : ℕ) (i : ClosedInterval) (records : List Changes) → i ≡ open_interval b p records
     → i ≡ open_interval b p i.records

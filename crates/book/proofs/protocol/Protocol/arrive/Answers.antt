@@ -14,15 +14,14 @@ use Rattle.barrier.specs.declared.episodes.Stage.TheVariants.{Away}
 use Rattle.book.specs.Calls.{MayBeSent}
 use Rattle.book.specs.Holding.{state_of}
 use Rattle.book.proofs.Parts.History.{happened_fits}
-use Rattle.book.proofs.Calling.Calls.{IsStanding, stands, opens, still_open, roomy, closed_since}
+use Rattle.book.proofs.Calling.Calls.{IsStanding, stands, still_open, opens_roomy, closed_roomy}
 use Rattle.book.proofs.Calling.Arrivals.{IsArriving, arrives, arriving, departures_made, none_waits, arrived_met, arrived_alone}
 use Rattle.book.proofs.protocol.Protocol.arrive.Goals.{After-closing_time-time, In_ok-departures, After-self-2, in-Some, in_default}
 use Rattle.book.proofs.protocol.Protocol.arrive.Goals as goal
 
 pub open_interval-interval-requires : goal.open_interval-interval-requires
 open_interval-interval-requires c =
-    opens _ c.args.self.now c.args.p c.args.block.now
-    (roomy c.self.inside c.args.self.now _ c.in_ok-make_room.ensures.same c.self.view_is) c.requires.call
+    opens_roomy c.self.inside _ _ _ c.args.p c.in_ok-make_room.ensures.same c.self.view_is c.requires.call
 
 pub close-requires-clause-open : goal.close-requires-clause-open
 close-requires-clause-open c =
@@ -31,8 +30,7 @@ close-requires-clause-open c =
 
 pub closing_time-time-requires-clause-open : goal.closing_time-time-requires-clause-open
 closing_time-time-requires-clause-open c =
-    opens _ c.args.self.now c.args.p c.args.block.now
-    (roomy c.self.inside c.args.self.now _ c.in_ok-make_room.ensures.same c.self.view_is) c.requires.call
+    opens_roomy c.self.inside _ _ _ c.args.p c.in_ok-make_room.ensures.same c.self.view_is c.requires.call
 
 pub closing_time-time-requires-clause-fits : goal.closing_time-time-requires-clause-fits
 closing_time-time-requires-clause-fits c =
@@ -96,9 +94,9 @@ departures_with-requires-clause-all c =
 closed : (c : After-self-2) → state_of c.self-2.inside
     ≡ closed_by (handed_in c.args.self.now c.args.block.now) c.args.p Arrive (map arc_value c.args.records.items)
 closed c =
-    closed_since _ c.args.self.now _ c.args.block.now c.args.p Arrive c.open_interval-interval.result _
-    (roomy c.self.inside c.args.self.now _ c.in_ok-make_room.ensures.same c.self.view_is)
-    c.open_interval-interval.ensures (c.self-2.view_is ∙ c.in_ok-close.ensures.ok)
+    closed_roomy c.self.inside c.args.self.now _ _ c.args.block.now c.args.p Arrive _ _
+    c.in_ok-make_room.ensures.same c.self.view_is c.open_interval-interval.ensures
+    (c.self-2.view_is ∙ c.in_ok-close.ensures.ok)
 
 pub arrive-requires-clause-away : goal.arrive-requires-clause-away
 arrive-requires-clause-away c =

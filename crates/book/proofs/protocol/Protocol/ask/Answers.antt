@@ -9,15 +9,14 @@ use Rattle.transit.specs.declared.message.Message.{Message}
 use Rattle.book.specs.State.{State}
 use Rattle.book.specs.Transitions.{handed_in, closed_by, if_free, grant_from}
 use Rattle.book.specs.Holding.{state_of}
-use Rattle.book.proofs.Calling.Calls.{stands, opens, still_open, roomy, closed_since}
+use Rattle.book.proofs.Calling.Calls.{stands, still_open, opens_roomy, closed_roomy}
 use Rattle.book.proofs.Calling.Asks.{IsAsking, asking, asked_granted, asked_waits}
 use Rattle.book.proofs.protocol.Protocol.ask.Goals.{After-self, After-self-2, In_ok-grant}
 use Rattle.book.proofs.protocol.Protocol.ask.Goals as goal
 
 pub open_interval-interval-requires : goal.open_interval-interval-requires
 open_interval-interval-requires c =
-    opens _ c.args.self.now c.args.p c.args.block.now
-    (roomy c.self.inside c.args.self.now _ c.in_ok-make_room.ensures.same c.self.view_is) c.requires.call.call
+    opens_roomy c.self.inside _ _ _ c.args.p c.in_ok-make_room.ensures.same c.self.view_is c.requires.call.call
 
 pub close-requires-clause-open : goal.close-requires-clause-open
 close-requires-clause-open c =
@@ -50,9 +49,9 @@ closed : (c : After-self-2) → state_of c.self-2.inside
     ≡ closed_by (handed_in c.args.self.now c.args.block.now) c.args.p (Ask c.args.l)
     (map arc_value c.args.records.items)
 closed c =
-    closed_since _ c.args.self.now _ c.args.block.now c.args.p (Ask c.args.l) c.open_interval-interval.result _
-    (roomy c.self.inside c.args.self.now _ c.in_ok-make_room.ensures.same c.self.view_is)
-    c.open_interval-interval.ensures (c.self-2.view_is ∙ c.in_ok-close.ensures.ok)
+    closed_roomy c.self.inside c.args.self.now _ _ c.args.block.now c.args.p (Ask c.args.l) _ _
+    c.in_ok-make_room.ensures.same c.self.view_is c.open_interval-interval.ensures
+    (c.self-2.view_is ∙ c.in_ok-close.ensures.ok)
 
 pub ask-requires-clause-processor : goal.ask-requires-clause-processor
 ask-requires-clause-processor c =

@@ -6,13 +6,11 @@ use Rattle.book.proofs.protocol.Protocol.audit.Goals as goal
 
 pub append_all-requires-clause-processor : goal.append_all-requires-clause-processor
 append_all-requires-clause-processor c =
-    (block_fits c.self.inside c.args.self.now c.args.p c.make_room.new.journal _ c.args.block.now c.self.view_is
-    c.in_ok-make_room.ensures.same c.requires.call).0
+    (block_fits c.self.inside c.self.view_is c.in_ok-make_room.ensures.same c.requires.call).0
 
 pub append_all-requires-clause-address : goal.append_all-requires-clause-address
 append_all-requires-clause-address c =
-    (block_fits c.self.inside c.args.self.now c.args.p c.make_room.new.journal _ c.args.block.now c.self.view_is
-    c.in_ok-make_room.ensures.same c.requires.call).1
+    (block_fits c.self.inside c.self.view_is c.in_ok-make_room.ensures.same c.requires.call).1
 
 -- the copy is of the journal before the block
 copied : (c : In_ok-copy) → c.in_ok-copy.copy ≡ record c.self.inside.journal { room = length c.args.block.now }
@@ -21,10 +19,10 @@ copied c =
 
 pub append_all-requires-2-clause-processor : goal.append_all-requires-2-clause-processor
 append_all-requires-2-clause-processor c =
-    (block_fits c.self.inside c.args.self.now c.args.p c.in_ok-copy.copy _ c.args.block.now c.self.view_is
+    (block_fits c.self.inside c.self.view_is
     (copied (goal.at.append_all-requires-2-clause-processor c).In_ok-copy) c.requires.call).0
 
 pub append_all-requires-2-clause-address : goal.append_all-requires-2-clause-address
 append_all-requires-2-clause-address c =
-    (block_fits c.self.inside c.args.self.now c.args.p c.in_ok-copy.copy _ c.args.block.now c.self.view_is
+    (block_fits c.self.inside c.self.view_is
     (copied (goal.at.append_all-requires-2-clause-address c).In_ok-copy) c.requires.call).1

@@ -3,10 +3,8 @@ use Rattle.book.proofs.protocol.Protocol.hand_in.Goals as goal
 
 pub append_all-requires-clause-processor : goal.append_all-requires-clause-processor
 append_all-requires-clause-processor c =
-    (block_fits c.self.inside c.args.self.now c.args.p c.make_room.new.journal _ c.args.block.now c.self.view_is
-    c.in_ok-make_room.ensures.same c.requires.call).0
+    (block_fits c.self.inside c.self.view_is c.in_ok-make_room.ensures.same c.requires.call).0
 
 pub append_all-requires-clause-address : goal.append_all-requires-clause-address
 append_all-requires-clause-address c =
-    (block_fits c.self.inside c.args.self.now c.args.p c.make_room.new.journal _ c.args.block.now c.self.view_is
-    c.in_ok-make_room.ensures.same c.requires.call).1
+    (block_fits c.self.inside c.self.view_is c.in_ok-make_room.ensures.same c.requires.call).1

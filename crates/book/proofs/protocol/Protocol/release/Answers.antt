@@ -13,15 +13,14 @@ use Rattle.book.specs.Transitions.{addressed, addressed_grant, handed_in, open_i
 use Rattle.book.specs.Calls.{MayBeSent}
 use Rattle.book.specs.Holding.{state_of}
 use Rattle.book.proofs.Parts.History.{happened_fits}
-use Rattle.book.proofs.Calling.Calls.{stands, opens, still_open, roomy, closed_since}
+use Rattle.book.proofs.Calling.Calls.{stands, still_open, opens_roomy, closed_roomy}
 use Rattle.book.proofs.Calling.Releases.{IsReleasing, releases, releasing, next_sent, grant_read, grant_to_whom, released_granted}
 use Rattle.book.proofs.protocol.Protocol.release.Goals.{After-closing_time-time, After-self-2, In_ok-grant, In-Some}
 use Rattle.book.proofs.protocol.Protocol.release.Goals as goal
 
 pub open_interval-interval-requires : goal.open_interval-interval-requires
 open_interval-interval-requires c =
-    opens _ c.args.self.now c.args.p c.args.block.now
-    (roomy c.self.inside c.args.self.now _ c.in_ok-make_room.ensures.same c.self.view_is) c.requires.call.call
+    opens_roomy c.self.inside _ _ _ c.args.p c.in_ok-make_room.ensures.same c.self.view_is c.requires.call.call
 
 pub close-requires-clause-open : goal.close-requires-clause-open
 close-requires-clause-open c =
@@ -30,8 +29,7 @@ close-requires-clause-open c =
 
 pub closing_time-time-requires-clause-open : goal.closing_time-time-requires-clause-open
 closing_time-time-requires-clause-open c =
-    opens _ c.args.self.now c.args.p c.args.block.now
-    (roomy c.self.inside c.args.self.now _ c.in_ok-make_room.ensures.same c.self.view_is) c.requires.call.call
+    opens_roomy c.self.inside _ _ _ c.args.p c.in_ok-make_room.ensures.same c.self.view_is c.requires.call.call
 
 pub closing_time-time-requires-clause-fits : goal.closing_time-time-requires-clause-fits
 closing_time-time-requires-clause-fits c =
@@ -69,9 +67,9 @@ closed : (c : After-self-2) → state_of c.self-2.inside
     ≡ closed_by (handed_in c.args.self.now c.args.block.now) c.args.p (Release c.args.l)
     (map arc_value c.args.records.items)
 closed c =
-    closed_since _ c.args.self.now _ c.args.block.now c.args.p (Release c.args.l) c.open_interval-interval.result _
-    (roomy c.self.inside c.args.self.now _ c.in_ok-make_room.ensures.same c.self.view_is)
-    c.open_interval-interval.ensures (c.self-2.view_is ∙ c.in_ok-close.ensures.ok)
+    closed_roomy c.self.inside c.args.self.now _ _ c.args.block.now c.args.p (Release c.args.l) _ _
+    c.in_ok-make_room.ensures.same c.self.view_is c.open_interval-interval.ensures
+    (c.self-2.view_is ∙ c.in_ok-close.ensures.ok)
 
 pub release-requires-clause-holder : goal.release-requires-clause-holder
 release-requires-clause-holder c =
