@@ -165,25 +165,6 @@ map_twice : {A B C : Type 0} (f : A → B) (g : B → C) (xs : List A) → map g
 map_twice f g [] = refl
 map_twice f g (x ∷ xs) = ap (λ ys. g (f x) ∷ ys) (map_twice f g xs)
 
-arrived_is : (old b : State) (p : ℕ) (block : List Event) (records : List Changes) (barrier : Episodes)
-    (transit : List (Option Letter)) (t : List ℕ) → b ≡ closed_by (handed_in old block) p Arrive records
-    → t ≡ tick (time_of old p) p
-    → barrier ≡ arrived b.barrier p t
-    → transit ≡ mail_met (is_full (joined b.barrier p t)) b (join b.barrier.gathered t)
-    → record b { barrier = barrier; transit = transit } ≡ book_arrived (handed_in old block) p records
-arrived_is old b p block records barrier transit t is time here mail =
-    let c : State = closed_by (handed_in old block) p Arrive records in
-    ap (λ (x : Episodes). record b { barrier = x; transit = transit }) here
-    ∙ ap (λ (x : List (Option Letter)). record b { barrier = arrived b.barrier p t; transit = x }) mail
-    ∙ ap (λ (x : State). record x {
-      barrier = arrived x.barrier p t;
-      transit = mail_met (is_full (joined x.barrier p t)) x (join x.barrier.gathered t);
-    }) is
-    ∙ ap (λ (u : List ℕ). record c {
-      barrier = arrived old.barrier p u;
-      transit = mail_met (is_full (joined old.barrier p u)) c (join old.barrier.gathered u);
-    }) time
-
 -- the departures of all, or none
 met_some : (full : Bool) (c : State) (u : List ℕ) (ms : List Letter)
     → Some ms ≡ cond full (Some (map (departure_to c.closed u) c.times)) None
@@ -199,40 +180,53 @@ met_none : (full : Bool) (c : State) (u : List ℕ)
 met_none true c u made = absurd (none-some (map (departure_to c.closed u) c.times) made)
 met_none false c u made = refl
 
--- what stands of the departures when the interval is closed
-departures_read : (old b : State) (p : ℕ) (block : List Event) (records : List Changes) (t : List ℕ)
-    (o : Option (List Letter)) → b ≡ closed_by (handed_in old block) p Arrive records → t ≡ tick (time_of old p) p
-    → o ≡ departures_to (pushed old.closed (open_interval old p records)) old.barrier (slice_set old.times p t) p t
-    → o ≡ departures_to b.closed b.barrier b.times p t
-departures_read old b p block records t o is time made =
-    made ∙ ap (λ (u : List ℕ). departures_to (pushed old.closed (open_interval old p records)) old.barrier
-    (slice_set old.times p u) p t) time
-    ∙ sym (ap (λ (x : State). departures_to x.closed x.barrier x.times p t) is)
+-- p arrives at this time
+module _ (old b : State) (p : ℕ) (block : List Event) (records : List Changes) (t : List ℕ)
+    (is : b ≡ closed_by (handed_in old block) p Arrive records) (time : t ≡ tick (time_of old p) p) where
+  arrived_is : (barrier : Episodes) (transit : List (Option Letter)) → barrier ≡ arrived b.barrier p t
+      → transit ≡ mail_met (is_full (joined b.barrier p t)) b (join b.barrier.gathered t)
+      → record b { barrier = barrier; transit = transit } ≡ book_arrived (handed_in old block) p records
+  arrived_is barrier transit here mail =
+      let c : State = closed_by (handed_in old block) p Arrive records in
+      ap (λ (x : Episodes). record b { barrier = x; transit = transit }) here
+      ∙ ap (λ (x : List (Option Letter)). record b { barrier = arrived b.barrier p t; transit = x }) mail
+      ∙ ap (λ (x : State). record x {
+        barrier = arrived x.barrier p t;
+        transit = mail_met (is_full (joined x.barrier p t)) x (join x.barrier.gathered t);
+      }) is
+      ∙ ap (λ (u : List ℕ). record c {
+        barrier = arrived old.barrier p u;
+        transit = mail_met (is_full (joined old.barrier p u)) c (join old.barrier.gathered u);
+      }) time
 
--- an arrival that completes the episode
-pub arrived_met : (old b : State) (p : ℕ) (block : List Event) (records : List Changes) (barrier : Episodes)
-    (transit : List (Option Letter)) (t : List ℕ) (ms : List Letter)
-    → b ≡ closed_by (handed_in old block) p Arrive records → t ≡ tick (time_of old p) p
-    → barrier ≡ arrived b.barrier p t → transit ≡ map (λ (m : Letter). Some m) ms
-    → Some ms ≡ departures_to (pushed old.closed (open_interval old p records)) old.barrier
-    (slice_set old.times p t) p t
-    → record b { barrier = barrier; transit = transit } ≡ book_arrived (handed_in old block) p records
-arrived_met old b p block records barrier transit t ms is time here post made =
-    arrived_is old b p block records barrier transit t is time here
-    (post ∙ met_some (is_full (joined b.barrier p t)) b (join b.barrier.gathered t) ms
-    (departures_read old b p block records t (Some ms) is time made))
+  -- what stands of the departures when the interval is closed
+  departures_read : (o : Option (List Letter))
+      → o ≡ departures_to (pushed old.closed (open_interval old p records)) old.barrier (slice_set old.times p t) p t
+      → o ≡ departures_to b.closed b.barrier b.times p t
+  departures_read o made =
+      made ∙ ap (λ (u : List ℕ). departures_to (pushed old.closed (open_interval old p records)) old.barrier
+      (slice_set old.times p u) p t) time
+      ∙ sym (ap (λ (x : State). departures_to x.closed x.barrier x.times p t) is)
 
--- an arrival that leaves it open
-pub arrived_alone : (old b : State) (p : ℕ) (block : List Event) (records : List Changes) (barrier : Episodes)
-    (t : List ℕ) → b ≡ closed_by (handed_in old block) p Arrive records → t ≡ tick (time_of old p) p
-    → barrier ≡ arrived b.barrier p t
-    → None ≡ departures_to (pushed old.closed (open_interval old p records)) old.barrier (slice_set old.times p t)
-    p t
-    → record b { barrier = barrier } ≡ book_arrived (handed_in old block) p records
-arrived_alone old b p block records barrier t is time here made =
-    arrived_is old b p block records barrier b.transit t is time here
-    (met_none (is_full (joined b.barrier p t)) b (join b.barrier.gathered t)
-    (departures_read old b p block records t None is time made))
+  -- an arrival that completes the episode
+  pub arrived_met : (barrier : Episodes) (transit : List (Option Letter)) (ms : List Letter)
+      → barrier ≡ arrived b.barrier p t → transit ≡ map (λ (m : Letter). Some m) ms
+      → Some ms ≡ departures_to (pushed old.closed (open_interval old p records)) old.barrier
+      (slice_set old.times p t) p t
+      → record b { barrier = barrier; transit = transit } ≡ book_arrived (handed_in old block) p records
+  arrived_met barrier transit ms here post made =
+      arrived_is barrier transit here
+      (post ∙ met_some (is_full (joined b.barrier p t)) b (join b.barrier.gathered t) ms
+      (departures_read (Some ms) made))
+
+  -- an arrival that leaves it open
+  pub arrived_alone : (barrier : Episodes) → barrier ≡ arrived b.barrier p t
+      → None ≡ departures_to (pushed old.closed (open_interval old p records)) old.barrier
+      (slice_set old.times p t) p t
+      → record b { barrier = barrier } ≡ book_arrived (handed_in old block) p records
+  arrived_alone barrier here made =
+      arrived_is barrier b.transit here
+      (met_none (is_full (joined b.barrier p t)) b (join b.barrier.gathered t) (departures_read None made))
 
 -- all have no message when all departures are made
 pub none_waits : (old : State) (p : ℕ) (c : Closings) (t : List ℕ) (ms : List Letter) → IsArriving old p

@@ -1,5 +1,5 @@
 -- What the calls of an idle processor rest on, read off the book.
-use Rattle.std.proofs.Common.{◌≡◌, ℕ, ◌-◌, ◌<◌, ◌≤◌, List, [], ◌∷◌, ◌++◌, slice_set, length, Option, Some, None, slice_get, slice_index, slice_index_or, ◌==◌, ◌&&◌, true, subst, sym, refl, ap, ◌∙◌, arith}
+use Rattle.std.proofs.Common.{◌≡◌, ℕ, ◌-◌, ◌<◌, ◌≤◌, List, [], ◌∷◌, ◌++◌, slice_set, length, Option, None, slice_index, slice_index_or, ◌==◌, ◌&&◌, true, subst, sym, refl, ap, ◌∙◌, arith}
 use Rattle.std.proofs.lemmas.Option.{slice_get-get_or, get_or_from_slice_get}
 use Rattle.std.proofs.lemmas.List.Sums.{count_by-le-length}
 use Rattle.journal.specs.declared.event.Event.{Event}
@@ -161,9 +161,6 @@ stands b now p block same may = subst (λ x. IsStanding x p) (sym same) (standin
 pub own_read : (times : List (List ℕ)) (p : ℕ) (t : List ℕ) → p < length times → t ≡ slice_index_or times p t
     → t ≡ slice_index_or times p []
 own_read times p t lt is = is ∙ same_default times p t [] lt
-
-pub own_entry_read : (t own : List ℕ) (p n : ℕ) → t ≡ own → slice_get t p ≡ Some n → n ≡ slice_index own p
-own_entry_read t own p n is at = sym (get_or_from_slice_get t p n 0 at) ∙ ap (λ (ts : List ℕ). slice_index ts p) is
 
 -- p's interval is open
 pub opens : (b now : State) (p : ℕ) (block : List Event) → b ≡ now → MayCall now p block → IsOpen b p

@@ -77,11 +77,11 @@ receiving_by s h b p k told waits =
       journal = omega arith;
       own_long = omega arith;
       flag = λ f is. signals f (subst (λ a. slice_get b.awaits p ≡ Some (Some a)) is waits);
-      none = λ f is. no_mail_waits s h b p f told (subst (λ a. slice_get b.awaits p ≡ Some (Some a)) is waits);
-      long = λ m is. (let long = (message_is s h b p k m told waits is).time.long in omega arith);
+      none = λ f is. no_mail_waits s h b p told f (subst (λ a. slice_get b.awaits p ≡ Some (Some a)) is waits);
+      long = λ m is. (let long = (message_is s h b p told k m waits is).time.long in omega arith);
       free = λ m is departs. departing
-          (subst (λ a. Allowed s h p a) departs (message_is s h b p k m told waits is).allowed) lt;
-      come = λ t j also. message_come t j b p k also waits;
+          (subst (λ a. Allowed s h p a) departs (message_is s h b p told k m waits is).allowed) lt;
+      come = λ t j also. message_come t j b p also k waits;
       takes = waits_taking h p k (told.awaits.each p (Some k) waits);
       all_long = λ i t at. (let stamp = told.times.each i t at in let long = stamp.long in omega arith);
       owners = omega arith;

@@ -147,11 +147,11 @@ returns-clause-ok c =
     elim c.match-departures-2.branch [
       | in-Some x ↦ x.self-is
           ∙ arrived_met c.args.self.now (state_of c.self-2.inside) c.args.p c.args.block.now records
-          c.arrive.new.self x.post_all.new.transit c.closing_time-time.result
-          (map letter x.in-Some.messages.items) is w.0 c.arrive.ensures.barrier x.post_all.ensures
+          c.closing_time-time.result is w.0 c.arrive.new.self x.post_all.new.transit
+          (map letter x.in-Some.messages.items) c.arrive.ensures.barrier x.post_all.ensures
           (sym (ap letters x.in-Some.is) ∙ w.1)
       | in_default x ↦ x.self-is
           ∙ arrived_alone c.args.self.now (state_of c.self-2.inside) c.args.p c.args.block.now records
-          c.arrive.new.self c.closing_time-time.result is w.0 c.arrive.ensures.barrier
+          c.closing_time-time.result is w.0 c.arrive.new.self c.arrive.ensures.barrier
           (sym (ap letters x.in_default.is) ∙ w.1)
     ]

@@ -80,16 +80,15 @@ made c =
 
 pub returns-in-Some-clause-ok : goal.returns-in-Some-clause-ok
 returns-in-Some-clause-ok c =
+    let at = goal.at.returns-in-Some-clause-ok c in
     asked_granted c.args.self.now (state_of c.self-2.inside) c.args.p c.args.l c.args.block.now
-    (map arc_value c.args.records.items) c.ask.new.self c.post.new.self (letter c.in-Some.message)
-    c.requires.call (closed (goal.at.returns-in-Some-clause-ok c).After-self-2) c.ask.ensures.locks c.post.ensures
-    (sym (ap (λ (m : Option Message). option_map letter m) c.in-Some.is)
-    ∙ made (goal.at.returns-in-Some-clause-ok c).In_ok-grant)
+    (map arc_value c.args.records.items) c.requires.call (closed at.After-self-2) c.ask.new.self c.ask.ensures.locks
+    c.post.new.self (letter c.in-Some.message) c.post.ensures
+    (sym (ap (λ (m : Option Message). option_map letter m) c.in-Some.is) ∙ made at.In_ok-grant)
 
 pub returns-in_default-clause-ok : goal.returns-in_default-clause-ok
 returns-in_default-clause-ok c =
+    let at = goal.at.returns-in_default-clause-ok c in
     asked_waits c.args.self.now (state_of c.self-2.inside) c.args.p c.args.l c.args.block.now
-    (map arc_value c.args.records.items) c.ask.new.self c.requires.call
-    (closed (goal.at.returns-in_default-clause-ok c).After-self-2) c.ask.ensures.locks
-    (sym (ap (λ (m : Option Message). option_map letter m) c.in_default.is)
-    ∙ made (goal.at.returns-in_default-clause-ok c).In_ok-grant)
+    (map arc_value c.args.records.items) c.requires.call (closed at.After-self-2) c.ask.new.self c.ask.ensures.locks
+    (sym (ap (λ (m : Option Message). option_map letter m) c.in_default.is) ∙ made at.In_ok-grant)

@@ -107,9 +107,9 @@ post-requires c =
 
 pub returns-in-Some-clause-ok : goal.returns-in-Some-clause-ok
 returns-in-Some-clause-ok c =
-    released_granted c.args.self.now (state_of c.self-2.inside)
-    c.args.p c.args.l c.args.block.now (map arc_value c.args.records.items) c.release.new.self c.post.new.self
-    c.closing_time-time.result c.in-Some.next (letter c.in-Some.message) c.requires.call
-    (closed (goal.at.returns-in-Some-clause-ok c).After-self-2)
+    let at = goal.at.returns-in-Some-clause-ok c in
+    released_granted c.args.self.now (state_of c.self-2.inside) c.args.p c.args.l c.args.block.now
+    (map arc_value c.args.records.items) c.closing_time-time.result (closed at.After-self-2)
     (c.closing_time-time.ensures ∙ ap (λ (b : State). tick (time_of b c.args.p) c.args.p) c.self.view_is)
-    c.release.ensures.locks c.post.ensures (made (goal.at.returns-in-Some-clause-ok c).In-Some)
+    c.release.new.self c.post.new.self c.in-Some.next (letter c.in-Some.message) c.requires.call
+    c.release.ensures.locks c.post.ensures (made at.In-Some)
