@@ -176,7 +176,8 @@ module _ (old b : State) (p l : ℕ) (block : List Event) (records : List Change
 
   -- a release whose grant is posted
   pub released_granted : (locks : Locks) (transit : List (Option Letter)) (r : ℕ) (m : Letter)
-      → MayRelease old p l block → locks ≡ with_lock b.locks l (released (lock_at b.locks l) t) → transit ≡ slice_set b.transit r (Some m)
+      → MayRelease old p l block → locks ≡ with_lock b.locks l (released (lock_at b.locks l) t)
+      → transit ≡ slice_set b.transit r (Some m)
       → Some (r, m) ≡ option_map (addressed_grant (pushed old.closed (open_interval old p records)) old.times t)
       (slice_get (lock_at old.locks l).queue 0)
       → record b { locks = locks; transit = transit } ≡ book_released (handed_in old block) p l records

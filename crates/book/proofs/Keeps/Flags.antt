@@ -58,7 +58,7 @@ module _ (s : Sizes) (h : List Event) (b : State) (p f : ℕ) (records : List Ch
         barrier = barrier_kept s h p k b.barrier plain.arrives plain.departs told.barrier;
         flags = all;
         transit = each_own s.processors (IsMail s h) (IsMail s (did h p k)) b.transit p told.transit
-            (λ r o isnt at is. mail_kept s h p k r o may isnt plain.release arrive is)
+            (λ r o isnt at is. mail_kept s h p k may r isnt o plain.release arrive is)
             (λ o at is. own_idle s h p k o free plain.ask arrive is);
         notices = λ r m t at. old_notices s h b p told lt records r m t (has_none s h b p told idle r m at) at;
       })
@@ -145,7 +145,7 @@ told_signal s h b p f t told waits set =
       barrier = barrier_kept s h p (Await f) b.barrier refl refl told.barrier;
       flags = flags_kept s h p (Await f) b.flags (λ g e. absurd cc) told.flags;
       transit = each_own s.processors (IsMail s h) (IsMail s (did h p (Await f))) b.transit p told.transit
-          (λ r o isnt at is. mail_kept s h p (Await f) r o may isnt (λ m e. absurd cc) (λ e. absurd cc) is)
+          (λ r o isnt at is. mail_kept s h p (Await f) may r isnt o (λ m e. absurd cc) (λ e. absurd cc) is)
           (λ o at is. subst (λ x. IsMail s (did h p (Await f)) p x) (watching_mail s h p last.0 f o last.1 is)
           (own_none s h p (Await f) (λ m e. absurd cc) (λ e. absurd cc)));
       notices = λ r m u at now. told.notices r m u at

@@ -1,5 +1,5 @@
 -- Asks and releases: what the book is told by the history before, it is told by the history with the event after.
-use Rattle.std.proofs.Common.{◌≡◌, ◌≢◌, ℕ, ◌<◌, inl, inr, List, [], ◌∷◌, ◌++◌, Option, Some, None, slice_get, slice_set, slice_index, subst, sym, refl, ap, ◌∙◌}
+use Rattle.std.proofs.Common.{◌≡◌, ◌≢◌, ℕ, ◌<◌, inl, inr, List, [], ◌∷◌, ◌++◌, Option, Some, None, slice_get, slice_set, subst, sym, refl, ap, ◌∙◌}
 use Rattle.std.proofs.lemmas.Bool.{cases_eq}
 use Rattle.std.proofs.lemmas.Option.{same_Some, none-some, get_or_from_slice_get}
 use Rattle.journal.specs.declared.event.Event.{Event}
@@ -12,7 +12,6 @@ use Rattle.journal.specs.Waits.{IsIdle}
 use Rattle.journal.specs.Pasts.{UpToSome}
 use Rattle.journal.specs.Brings.{SomeDoes}
 use Rattle.lists.proofs.Sets.{slice_get-set_found, slice_get-set_other}
-use Rattle.journal.proofs.Times.Kept.{kind_kept}
 use Rattle.journal.proofs.Journals.WellFormed.{last_cases, holds_cases}
 use Rattle.journal.proofs.Journals.Holding.{holder_alone}
 use Rattle.page.specs.Changes.{Changes}
@@ -34,7 +33,7 @@ use Rattle.book.proofs.Parts.Each.{each_set, each_kept, each_own, is_at}
 use Rattle.book.proofs.Parts.Doings.{last_none, holds_back}
 use Rattle.book.proofs.Parts.Stamps.{stamp_closing, stamp_released}
 use Rattle.book.proofs.Parts.Lines.{NoAsk, idle_no_ask, not_in_line, line_kept, line_asked, line_released, line_taken, first_allowed, allowed_first}
-use Rattle.book.proofs.Parts.Mail.{News, other_kind, mail_unless, mail_kept, own_idle}
+use Rattle.book.proofs.Parts.Mail.{News, stamp_kept, mail_unless, mail_kept, own_idle}
 use Rattle.book.proofs.Parts.Flags.{flags_kept}
 use Rattle.book.proofs.Parts.Meetings.{barrier_kept}
 use Rattle.book.proofs.Parts.Told.{is_processor, is_idle, has_none, own_stamp, follows, still_formed, old_notices}
@@ -46,11 +45,7 @@ pub lock_kept : (n : ℕ) (h : List Event) (p : ℕ) (k : Kind) (l : ℕ) (x : L
 lock_kept n h p k l x ask acquire release none is = record {
   line_is = line_kept h p k l (line x) ask acquire release none is.line_is;
   held = is.held;
-  time = record {
-    long = is.time.long;
-    is = kind_kept h (event p k ∷ []) (Release l) (slice_index x.time) (other_kind p k (Release l) release)
-        is.time.is;
-  };
+  time = stamp_kept n h p k (Release l) x.time release is.time;
 }
 
 -- each stays that is neither asked for nor taken nor released
@@ -68,20 +63,12 @@ lock_asked n h p l None (y ∷ xs) t none free is = absurd (cc (is.held refl))
 lock_asked n h p l None [] t none free is = record {
   line_is = line_asked h p l [] none free is.line_is;
   held = λ e. absurd (cc (e));
-  time = record {
-    long = is.time.long;
-    is = kind_kept h (event p (Ask l) ∷ []) (Release l) (slice_index t)
-        (other_kind p (Ask l) (Release l) (λ e. absurd cc)) is.time.is;
-  };
+  time = stamp_kept n h p (Ask l) (Release l) t (λ e. absurd cc) is.time;
 }
 lock_asked n h p l (Some q) xs t none free is = record {
   line_is = line_asked h p l (q ∷ xs) none free is.line_is;
   held = λ e. absurd (cc (e));
-  time = record {
-    long = is.time.long;
-    is = kind_kept h (event p (Ask l) ∷ []) (Release l) (slice_index t)
-        (other_kind p (Ask l) (Release l) (λ e. absurd cc)) is.time.is;
-  };
+  time = stamp_kept n h p (Ask l) (Release l) t (λ e. absurd cc) is.time;
 }
 
 pub lock_taken : (n : ℕ) (h : List Event) (p l i : ℕ) (x : Lock) → LastIs h p i (Ask l) → MayBeGranted h i l
@@ -89,11 +76,7 @@ pub lock_taken : (n : ℕ) (h : List Event) (p l i : ℕ) (x : Lock) → LastIs 
 lock_taken n h p l i x last may is = record {
   line_is = line_taken h p l i (line x) last may is.line_is;
   held = is.held;
-  time = record {
-    long = is.time.long;
-    is = kind_kept h (event p (Acquire l) ∷ []) (Release l) (slice_index x.time)
-        (other_kind p (Acquire l) (Release l) (λ e. absurd cc)) is.time.is;
-  };
+  time = stamp_kept n h p (Acquire l) (Release l) x.time (λ e. absurd cc) is.time;
 }
 
 -- the line of a lock is that of its holder and its queue
@@ -181,7 +164,7 @@ told_ask s h b p l records told range idle free stored =
       barrier = barrier_kept s h p (Ask l) b.barrier refl refl told.barrier;
       flags = flags_kept s h p (Ask l) b.flags (λ f e. absurd cc) told.flags;
       transit = each_set s.processors (IsMail s h) (IsMail s (did h p (Ask l))) b.transit p made told.transit
-          (λ r o isnt at is. mail_kept s h p (Ask l) r o may isnt (λ m e. absurd cc) (λ e. absurd cc) is)
+          (λ r o isnt at is. mail_kept s h p (Ask l) may r isnt o (λ m e. absurd cc) (λ e. absurd cc) is)
           (asked_mail s h p l (lock_at b.locks l).holder (lock_at b.locks l).queue (lock_at b.locks l).time
           (grant_from c p (lock_at b.locks l).time).notices none free lock);
       notices = notices;
@@ -224,7 +207,7 @@ told_ask s h b p l records told range idle free stored =
 released_mail : (s : Sizes) (h : List Event) (p l r : ℕ) (xs : List ℕ) (o : Option Letter)
     → MayFollow s h (event p (Release l)) → r ≢ p → IsLine (did h p (Release l)) l xs → ¬ (slice_get xs 0 ≡ Some r)
     → IsMail s h r o → IsMail s (did h p (Release l)) r o
-released_mail s h p l r xs o may isnt line behind mail = mail_unless s h p (Release l) r o may isnt never mail
+released_mail s h p l r xs o may isnt line behind mail = mail_unless s h p (Release l) may r isnt o never mail
   where
     never : (a : Kind) → IsPosted a → News (Release l) a → ¬ Allowed s (did h p (Release l)) r a
     never (Acquire m) posted news (i, last, grant_from) =

@@ -159,7 +159,7 @@ told_quiet s h b p k log same told idle takes closes range holds = record {
       (λ w at is. subst (λ x. IsAwaited (did h p k) p x) (plain.awaits ∙ same_Some None w (sym idle ∙ at))
       (awaited_now h p k));
   transit = each_own s.processors (IsMail s h) (IsMail s (did h p k)) b.transit p told.transit
-      (λ r o isnt at is. mail_kept s h p k r o may isnt release arrive is)
+      (λ r o isnt at is. mail_kept s h p k may r isnt o release arrive is)
       (λ o at is. own_idle s h p k o free ask arrive is);
   notices = told.notices;
   within = told.within;

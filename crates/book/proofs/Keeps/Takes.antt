@@ -131,7 +131,7 @@ module _ (s : Sizes) (h : List Event) (b : State) (p : ℕ) (told : IsTold s h b
         barrier = took_barrier k lt lets.0 lets.1;
         flags = flags_kept s h p k b.flags (λ f. other (Set f) refl) told.flags;
         transit = each_set s.processors (IsMail s h) (IsMail s (did h p k)) b.transit p None told.transit
-            (λ r o isnt at is. mail_kept s h p k r o may isnt (λ l. other (Release l) refl) (other Arrive refl) is)
+            (λ r o isnt at is. mail_kept s h p k may r isnt o (λ l. other (Release l) refl) (other Arrive refl) is)
             (own_none s h p k (λ l. other (Ask l) refl) (other Arrive refl));
         notices = notices;
       })

@@ -92,7 +92,7 @@ release_law s h block b p l records told may are range held =
 
 pub arrive_law : ArriveLaw
 arrive_law s h block b p records told may are =
-    told_arrive s (h ++ block) (handed_in b block) p records (block_told s h block b p told may) may.idle are
+    told_arrive s (h ++ block) (handed_in b block) p (block_told s h block b p told may) may.idle records are
 
 pub set_law : SetLaw
 set_law s h block b p f records told may are range =
