@@ -251,12 +251,7 @@ pub departures_made : (old b : State) (p : ℕ) (records : List Changes) (i : Cl
     (o : Option (List Letter)) → b ≡ old → i ≡ open_interval b p records
     → o ≡ departures_to (pushed b.closed i) b.barrier (slice_set b.times i.owner t) i.owner t
     → o ≡ departures_to (pushed old.closed (open_interval old p records)) old.barrier (slice_set old.times p t) p t
-departures_made old b p records i t o same opened made =
-    made
-    ∙ ap (λ (x : ClosedInterval). departures_to (pushed b.closed x) b.barrier (slice_set b.times x.owner t)
-    x.owner t) opened
-    ∙ ap (λ (x : State). departures_to (pushed x.closed (open_interval x p records)) x.barrier
-    (slice_set x.times p t) p t) same
+departures_made old b p records i t o same opened made = cc
 
 -- each one's timestamp once p has closed its interval
 pub read_after : (times : List (List ℕ)) (p q : ℕ) (own old t : List ℕ) → p < length times → q < length times
@@ -287,11 +282,8 @@ departing_step c u times q old ms ns m made less is one more =
 pub departures_are : (c : Closings) (b : Episodes) (times : List (List ℕ)) (p : ℕ) (own u : List ℕ) (full : Bool)
     (ms : List Letter) → full ≡ is_full (joined b p own) → full ≡ true → u ≡ join b.gathered own
     → ms ≡ map (departure_to c u) times → Some ms ≡ departures_to c b times p own
-departures_are c b times p own u full ms is all time made =
-    ap (λ (xs : List Letter). Some xs) (made ∙ ap (λ (t : List ℕ). map (departure_to c t) times) time)
-    ∙ ap (λ (f : Bool). cond f (Some (map (departure_to c (join b.gathered own)) times)) None) (sym all ∙ is)
+departures_are c b times p own u full ms is all time made = cc
 
 pub none_depart : (c : Closings) (b : Episodes) (times : List (List ℕ)) (p : ℕ) (own : List ℕ) (full : Bool)
     → full ≡ is_full (joined b p own) → full ≡ false → None ≡ departures_to c b times p own
-none_depart c b times p own full is some =
-    ap (λ (f : Bool). cond f (Some (map (departure_to c (join b.gathered own)) times)) None) (sym some ∙ is)
+none_depart c b times p own full is some = cc

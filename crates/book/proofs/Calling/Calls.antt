@@ -132,27 +132,7 @@ pub closing_is : (b : State) (p : ℕ) (k : Kind) (block : List Event) (records 
     → waits ≡ slice_set b.awaits p (awaited k)
     → record b { journal = log; closed = c; times = slice_set b.times p t; awaits = waits }
     ≡ closed_by (handed_in b block) p k records
-closing_is b p k block records log c t waits one two three four =
-    ap (λ (l : Log). record b { journal = l; closed = c; times = slice_set b.times p t; awaits = waits }) one
-    ∙ ap (λ (x : Closings). record b {
-      journal = record b.journal { events = (b.journal.events ++ block) ++ event p k ∷ [] };
-      closed = x;
-      times = slice_set b.times p t;
-      awaits = waits;
-    }) two
-    ∙ ap (λ (x : List ℕ). record b {
-      journal = record b.journal { events = (b.journal.events ++ block) ++ event p k ∷ [] };
-      closed = pushed b.closed (open_interval b p records);
-      times = slice_set b.times p x;
-      awaits = waits;
-    }) three
-    ∙ ap (λ (x : List (Option Kind)). record b {
-      journal = record b.journal { events = (b.journal.events ++ block) ++ event p k ∷ [] };
-      closed = pushed b.closed (open_interval b p records);
-      times =
-          slice_set b.times p (tick (time_of b p) p);
-      awaits = x;
-    }) four
+closing_is b p k block records log c t waits one two three four = cc
 
 pub stands : (b now : State) (p : ℕ) (block : List Event) → b ≡ now → MayCall now p block → IsStanding b p
 stands b now p block same may = subst (λ x. IsStanding x p) (sym same) (standing now p block may)

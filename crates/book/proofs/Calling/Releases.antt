@@ -205,10 +205,4 @@ pub grant_read : (old b : State) (p l : ℕ) (records : List Changes) (i : Close
     → g ≡ option_map (addressed_grant (pushed b.closed i) times t) o
     → g ≡ option_map (addressed_grant (pushed old.closed (open_interval old p records)) old.times t)
     (slice_get (lock_at old.locks l).queue 0)
-grant_read old b p l records i times t o g same all opened next made =
-    made
-    ∙ ap (λ (x : List (List ℕ)). option_map (addressed_grant (pushed b.closed i) x t) o) all
-    ∙ ap (λ (x : ClosedInterval). option_map (addressed_grant (pushed b.closed x) b.times t) o) opened
-    ∙ ap (λ (x : Option ℕ). option_map (addressed_grant (pushed b.closed (open_interval b p records)) b.times t) x) next
-    ∙ ap (λ (x : State). option_map (addressed_grant (pushed x.closed (open_interval x p records)) x.times t)
-    (slice_get (lock_at x.locks l).queue 0)) same
+grant_read old b p l records i times t o g same all opened next made = cc

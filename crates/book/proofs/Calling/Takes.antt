@@ -196,43 +196,7 @@ pub took_is : (b : State) (p : ℕ) (k : Kind) (m : Letter) (u : List ℕ) (log 
       barrier = barrier;
     } ≡ book_taken b p k m
 took_is b p k m u log c waits transit barrier one two three set four five six =
-    ap (λ (ws : List (Option Kind)). record b {
-      journal = log;
-      closed = c;
-      times = slice_set b.times p u;
-      awaits = ws;
-      transit = transit;
-      barrier = barrier;
-    }) set
-    ∙ ap (λ (l : Log). record b {
-      journal = l;
-      closed = c;
-      times = slice_set b.times p u;
-      awaits = slice_set b.awaits p None;
-      transit = transit;
-      barrier = barrier;
-    }) one
-    ∙ ap (λ (x : Closings). record b {
-      journal = record b.journal { events = b.journal.events ++ event p k ∷ [] };
-      closed = x;
-      times = slice_set b.times p u;
-      awaits = slice_set b.awaits p None;
-      transit = transit;
-      barrier = barrier;
-    }) three
-    ∙ ap (λ (v : List ℕ). record b {
-      journal = record b.journal { events = b.journal.events ++ event p k ∷ [] };
-      closed = trimmed_by b.closed (slice_set b.times p v) (length (slice_set b.times p v));
-      times =
-          slice_set b.times p v;
-      awaits = slice_set b.awaits p None;
-      transit = transit;
-      barrier = barrier;
-    }) two
-    ∙ ap (λ (x : List (Option Letter)). record (book_taken b p k m)
-    { awaits = slice_set b.awaits p None; transit = x; barrier = barrier }) four
-    ∙ ap (λ (x : Episodes). record (book_taken b p k m) { awaits = slice_set b.awaits p None; barrier = x }) five
-    ∙ ap (λ (w : Option Kind). record (book_taken b p k m) { awaits = slice_set b.awaits p w }) (sym (takes_on k six))
+    let none = takes_on k six in cc
   where
     takes_on : (a : Kind) → IsTrue (is_taking a) → awaited a ≡ None
     takes_on (Acquire l) takes = refl
@@ -254,11 +218,7 @@ comes b now p k flags r same w flags_are is s h told =
 pub received_is : (b now : State) (p : ℕ) (k : Kind) (flags : List (Option (List ℕ))) (own : List ℕ) (m : Letter)
     → b ≡ now → flags ≡ b.flags → own ≡ time_of b p → message_among b.closed flags b.transit own p k ≡ Some m
     → message_for now p k ≡ Some m
-received_is b now p k flags own m same flags_are own_is is =
-    ap (λ (x : State). message_for x p k) (sym same)
-    ∙ ap (λ (t : List ℕ). message_among b.closed b.flags b.transit t p k) (sym own_is)
-    ∙ ap (λ (fs : List (Option (List ℕ))). message_among b.closed fs b.transit own p k) (sym flags_are)
-    ∙ is
+received_is b now p k flags own m same flags_are own_is is = cc
 
 -- what a message brings is what was due
 pub brings_is : (b : State) (p : ℕ) (k : Kind) (m : Letter) → slice_get b.awaits p ≡ Some (Some k)
