@@ -186,27 +186,13 @@ module _ (old b : State) (p : ℕ) (block : List Event) (records : List Changes)
   arrived_is : (barrier : Episodes) (transit : List (Option Letter)) → barrier ≡ arrived b.barrier p t
       → transit ≡ mail_met (is_full (joined b.barrier p t)) b (join b.barrier.gathered t)
       → record b { barrier = barrier; transit = transit } ≡ book_arrived (handed_in old block) p records
-  arrived_is barrier transit here mail =
-      let c : State = closed_by (handed_in old block) p Arrive records in
-      ap (λ (x : Episodes). record b { barrier = x; transit = transit }) here
-      ∙ ap (λ (x : List (Option Letter)). record b { barrier = arrived b.barrier p t; transit = x }) mail
-      ∙ ap (λ (x : State). record x {
-        barrier = arrived x.barrier p t;
-        transit = mail_met (is_full (joined x.barrier p t)) x (join x.barrier.gathered t);
-      }) is
-      ∙ ap (λ (u : List ℕ). record c {
-        barrier = arrived old.barrier p u;
-        transit = mail_met (is_full (joined old.barrier p u)) c (join old.barrier.gathered u);
-      }) time
+  arrived_is barrier transit here mail = rw is (let now = rw is at here in let post = rw is at mail in cc)
 
   -- what stands of the departures when the interval is closed
   departures_read : (o : Option (List Letter))
       → o ≡ departures_to (pushed old.closed (open_interval old p records)) old.barrier (slice_set old.times p t) p t
       → o ≡ departures_to b.closed b.barrier b.times p t
-  departures_read o made =
-      made ∙ ap (λ (u : List ℕ). departures_to (pushed old.closed (open_interval old p records)) old.barrier
-      (slice_set old.times p u) p t) time
-      ∙ sym (ap (λ (x : State). departures_to x.closed x.barrier x.times p t) is)
+  departures_read o made = cc
 
   -- an arrival that completes the episode
   pub arrived_met : (barrier : Episodes) (transit : List (Option Letter)) (ms : List Letter)

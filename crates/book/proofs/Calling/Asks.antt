@@ -82,13 +82,7 @@ pub set_is : (old b : State) (p f : ℕ) (block : List Event) (records : List Ch
     (t r : List ℕ) → b ≡ closed_by (handed_in old block) p (Set f) records → IsSetRead old p f o t
     → r ≡ flag_joined o t
     → record b { flags = slice_set b.flags f (Some r) } ≡ book_set (handed_in old block) p f records
-set_is old b p f block records o t r is read made =
-    let value : r ≡ flag_joined (slice_index_or old.flags f None) (tick (time_of old p) p) =
-    made ∙ ap (λ (x : Option (List ℕ)). flag_joined x t) read.flag
-    ∙ ap (λ (x : List ℕ). flag_joined (slice_index_or old.flags f None) x) read.time in
-    ap (λ (x : State). record x { flags = slice_set x.flags f (Some r) }) is
-    ∙ ap (λ (x : List ℕ). record (closed_by (handed_in old block) p (Set f) records)
-    { flags = slice_set old.flags f (Some x) }) value
+set_is old b p f block records o t r is read made = rw is (cc)
 
 -- what an ask rests on
 pub record IsAsking (b : State) (p l : ℕ) : Type 0 where
@@ -166,12 +160,7 @@ module _ (old b : State) (p l : ℕ) (block : List Event) (records : List Change
       (if_free (lock_at old.locks l).holder
       (grant_from (closed_by (handed_in old block) p (Ask l) records) p (lock_at old.locks l).time))
       → record b { locks = locks; transit = transit } ≡ book_asked (handed_in old block) p l records
-  asked_is transit mail =
-      ap (λ (x : State). record x { locks = locks; transit = transit }) is
-      ∙ ap (λ (x : Locks). record (closed_by (handed_in old block) p (Ask l) records) { locks = x; transit = transit })
-      (line ∙ ap (λ (x : State). with_lock x.locks l (asked (lock_at x.locks l) p)) is)
-      ∙ ap (λ (x : List (Option Letter)). record (closed_by (handed_in old block) p (Ask l) records)
-      { locks = with_lock old.locks l (asked (lock_at old.locks l) p); transit = x }) mail
+  asked_is transit mail = rw is (let now = rw is at line in cc)
 
   -- the grant as it was made, written for p
   mail_asked : (o : Option Letter)

@@ -119,10 +119,7 @@ pub logs_are : (a b c d : Log) (owing : ℕ) (block : List Event) (e : Event) �
     → c ≡ record b { events = b.events ++ block; room = b.room - length block }
     → d ≡ record c { events = c.events ++ e ∷ []; room = c.room - 1 }
     → record d { room = owing } ≡ record a { events = (a.events ++ block) ++ e ∷ []; room = owing }
-logs_are a b c d owing block e first second third =
-    ap (λ (l : Log). record l { room = owing }) third
-    ∙ ap (λ (l : Log). record l { events = l.events ++ e ∷ []; room = owing }) second
-    ∙ ap (λ (l : Log). record l { events = (l.events ++ block) ++ e ∷ []; room = owing }) first
+logs_are a b c d owing block e first second third = cc
 
 -- the book after a block and an event that closes an interval, part by part
 pub closing_is : (b : State) (p : ℕ) (k : Kind) (block : List Event) (records : List Changes) (log : Log)

@@ -147,19 +147,7 @@ module _ (old b : State) (p l : ℕ) (block : List Event) (records : List Change
       → locks ≡ with_lock b.locks l (released (lock_at b.locks l) t)
       → transit ≡ mail_passed_on b (lock_at b.locks l).queue t
       → record b { locks = locks; transit = transit } ≡ book_released (handed_in old block) p l records
-  released_is locks transit line mail =
-      let c : State = closed_by (handed_in old block) p (Release l) records in
-      ap (λ (x : Locks). record b { locks = x; transit = transit }) line
-      ∙ ap (λ (x : List (Option Letter)). record b
-      { locks = with_lock b.locks l (released (lock_at b.locks l) t); transit = x }) mail
-      ∙ ap (λ (x : State). record x {
-        locks = with_lock x.locks l (released (lock_at x.locks l) t);
-        transit = mail_passed_on x (lock_at x.locks l).queue t;
-      }) is
-      ∙ ap (λ (u : List ℕ). record c {
-        locks = with_lock old.locks l (released (lock_at old.locks l) u);
-        transit = mail_passed_on c (lock_at old.locks l).queue u;
-      }) time
+  released_is locks transit line mail = rw is (let now = rw is at line in let post = rw is at mail in cc)
 
   -- what stands of the grant when the interval is closed
   grant_made : (o : Option (ℕ × Letter)) → MayRelease old p l block

@@ -170,9 +170,7 @@ may_trim b p k times before u w is long old =
 pub log_is : (a b c : Log) (owing : ℕ) (e : Event) → b ≡ record a { room = b.room }
     → c ≡ record b { events = b.events ++ e ∷ []; room = b.room - 1 }
     → record c { room = owing } ≡ record a { events = a.events ++ e ∷ []; room = owing }
-log_is a b c owing e first second =
-    ap (λ (l : Log). record l { room = owing }) second
-    ∙ ap (λ (l : Log). record l { events = l.events ++ e ∷ []; room = owing }) first
+log_is a b c owing e first second = cc
 
 -- an event that takes has no address
 pub taking_address : (n : ℕ) (k : Kind) → IsTrue (is_taking k) → AddressInRange n k
