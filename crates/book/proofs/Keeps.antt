@@ -1,4 +1,5 @@
 -- What the history tells of the book stays so: the transitions.
+pub mod Events
 pub mod Locks
 pub mod Flags
 pub mod Arrivals

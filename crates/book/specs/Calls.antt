@@ -2,11 +2,13 @@
 use Rattle.std.specs.Prelude.{ℕ, ◌≡◌, ◌≢◌, ◌<◌, ◌≤◌, false, Option, List, [], Some, None, length, slice_get, slice_index, slice_index_or, slice_set}
 use Rattle.journal.specs.declared.event.Event.{Event}
 use Rattle.journal.specs.declared.event.Kind.{Kind}
+use Rattle.journal.specs.declared.event.Kind.TheVariants.{Await}
 use Rattle.journal.specs.Sizes.{Sizes}
 use Rattle.journal.specs.Events.{At, is_closing, is_taking}
 use Rattle.journal.specs.WellFormed.{KindInRange, Holds}
-use Rattle.interval.specs.Closings.{Closings}
+use Rattle.interval.specs.Closings.{Closings, between}
 use Rattle.book.specs.State.{State, time_of}
+use Rattle.book.specs.Brought.{message_for, sent_with}
 use Rattle.book.specs.ClosedIntervals.{AreFromFirst, IsTight}
 use Rattle.book.specs.Told.{IsToldBySome}
 
@@ -85,6 +87,14 @@ pub record MaySignal (c : Closings) (flags : List (Option (List ℕ))) (own : Li
   pub time : (t : List ℕ) → slice_index_or flags f None ≡ Some t → length t ≡ length c.first
   pub long : length own ≡ length c.first
   pub kept : (q : ℕ) → slice_index c.first q ≤ slice_index own q
+
+-- the signal of flag f, which has the timestamp `time`, is what p waits for, whose timestamp is `own`: no interval is
+-- dropped that p lacks
+pub record IsSignalled (b : State) (p f : ℕ) (own time : List ℕ) : Type 0 where
+  pub old_long : length own ≡ length b.closed.first
+  pub new_long : length time ≡ length b.closed.first
+  pub kept : (q : ℕ) → slice_index b.closed.first q ≤ slice_index own q
+  pub brings : between b.closed own time ≡ sent_with (message_for b p (Await f))
 
 -- the intervals may be trimmed after p's timestamp has risen from `before`: where p isn't alone, nothing was left
 -- to trim till then

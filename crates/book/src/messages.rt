@@ -1,5 +1,5 @@
 //! Messages that are made before the interval is closed with which they come.
-ghost use Rattle.std.specs.Prelude.{◌≡◌, ℕ, ◌<◌, ◌≤◌, IfOk, IfSome, IsSome, List, OnOk, OnErr, None, Some, true, length, map, replicate, slice_index, slice_set};
+ghost use Rattle.std.specs.Prelude.{◌≡◌, ◌≢◌, ℕ, ◌<◌, ◌≤◌, IfOk, IfSome, IsSome, List, OnOk, OnErr, None, Some, true, length, map, replicate, slice_index, slice_set};
 ghost use Rattle.std.specs.Option.{option_map};
 ghost use Rattle.interval.specs.Intervals.{HasRisingPages};
 ghost use Rattle.interval.specs.Closings.{pushed};
@@ -60,12 +60,20 @@ pub(crate) fn departures(
 {
     let mut departures = Vec::with_capacity(alloc, times.len())?;
     for (q, old) in times.iter().enumerate() {
-        let old = if q == interval.owner { own } else { old };
+        let old = time_after(q, interval.owner, own, old);
         let notices = closed.between_after(interval, old, time)?;
         let time = time.copy();
         departures.push(Message::Departure { time, notices })?;
     }
     Ok(departures)
+}
+
+/// The timestamp of `q`, who has this one, once the owner has the timestamp `own`.
+fn time_after<'a>(q: usize, owner: usize, own: &'a VTime, old: &'a VTime) -> &'a VTime
+    ensures owner { q ≡ owner → result.now ≡ own.now }
+    ensures others { q ≢ owner → result.now ≡ old.now }
+{
+    if q == owner { own } else { old }
 }
 
 /// Sends each processor its message; nobody has one.

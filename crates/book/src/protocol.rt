@@ -213,9 +213,8 @@ impl Protocol {
         let interval = self.open_interval(p, records);
         self.close(p, Kind::Ask(l), block, interval)?;
         self.locks.ask(l, p);
-        match grant {
-            Some(message) => self.transit.post(p, message),
-            None => {}
+        if let Some(message) = grant {
+            self.transit.post(p, message);
         }
         Ok(())
     }
@@ -244,9 +243,8 @@ impl Protocol {
         let grant = grant_to(locks.next(l), &self.closed, &self.times, &interval, &time)?;
         self.close(p, Kind::Release(l), block, interval)?;
         self.locks.release(l, p, time);
-        match grant {
-            Some((next, message)) => self.transit.post(next, message),
-            None => {}
+        if let Some((next, message)) = grant {
+            self.transit.post(next, message);
         }
         Ok(())
     }
@@ -273,9 +271,8 @@ impl Protocol {
         let departures = self.departures_with(&interval, &time)?;
         self.close(p, Kind::Arrive, block, interval)?;
         self.barrier.arrive(p, &time);
-        match departures {
-            Some(messages) => post_all(&mut self.transit, messages),
-            None => {}
+        if let Some(messages) = departures {
+            post_all(&mut self.transit, messages);
         }
         Ok(())
     }

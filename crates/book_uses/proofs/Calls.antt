@@ -84,6 +84,33 @@ pub follows_hand_in : (s : Sizes) (h : List Event) (b new : State) (p : ℕ) (bl
 follows_hand_in s h b new p block told may is =
     follows s (h ++ block) b new (handed_in b block) (hand_in_law s h block b p told may) refl is
 
+-- so a book is kept after a block, for which the history made room, was handed in and noted
+pub kept_handed : (t new : Inside) (p : ℕ) (block roomy : List Event) → IsKept t
+    → (telling_of new).sizes ≡ (telling_of t).sizes → new.owing ≡ t.owing → roomy ≡ t.history.items
+    → new.history.items ≡ roomy ++ block → MayGive (telling_of t).sizes t.book p block
+    → new.book ≡ handed_in t.book block → IsKept new
+kept_handed t new p block roomy kept sizes owing same noted may is =
+    kept_after t new (t.history.items ++ block) kept sizes owing (noted ∙ ap (λ es. es ++ block) same)
+    (follows_hand_in (telling_of t).sizes t.history.items t.book new.book p block kept.telling.told may is)
+
+-- and after an event that closes an interval
+pub kept_closed : (t new : Inside) (p : ℕ) (k : Kind) (block roomy : List Event) → IsKept t
+    → (telling_of new).sizes ≡ (telling_of t).sizes → new.owing ≡ t.owing → roomy ≡ t.history.items
+    → new.history.items ≡ did (roomy ++ block) p k
+    → Follows (telling_of t).sizes (did (t.history.items ++ block) p k) t.book new.book → IsKept new
+kept_closed t new p k block roomy kept sizes owing same noted follows =
+    kept_after t new (did (t.history.items ++ block) p k) kept sizes owing
+    (noted ∙ ap (λ es. did (es ++ block) p k) same) follows
+
+-- what was found of the book as it is seen holds of it as it is held
+pub gives_found : (t : Inside) (now : Telling) (p : ℕ) (block : List Event) → telling_of t ≡ now
+    → MayGive now.sizes now.book p block → MayGive (telling_of t).sizes t.book p block
+gives_found t now p block same may = subst (λ (x : Telling). MayGive x.sizes x.book p block) (sym same) may
+
+pub closes_found : (t : Inside) (now : Telling) (p : ℕ) (block : List Event) (records : List Changes)
+    → telling_of t ≡ now → MayClose now p block records → MayClose (telling_of t) p block records
+closes_found t now p block records same may = subst (λ (x : Telling). MayClose x p block records) (sym same) may
+
 -- a cut leaves the history, and the room
 pub follows_cut : (s : Sizes) (h : List Event) (b new : State) → IsTold s h b → WasBookCut b new → Follows s h b new
 follows_cut s h b new told was =

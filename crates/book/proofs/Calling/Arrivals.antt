@@ -1,5 +1,5 @@
 -- What an arrival rests on, and what it makes, read off the book.
-use Rattle.std.proofs.Common.{suc, ◌⊎◌, ◌++◌, take, ◌≡◌, ◌≢◌, ℕ, ◌+◌, ◌<◌, inl, inr, List, [], ◌∷◌, length, map, Bool, true, false, cond, Option, Some, None, replicate, slice_get, slice_set, slice_index, slice_index_or, subst, sym, refl, ap, ◌∙◌, arith}
+use Rattle.std.proofs.Common.{suc, ◌++◌, take, ◌≡◌, ◌≢◌, ℕ, ◌+◌, ◌<◌, inl, inr, List, [], ◌∷◌, length, map, Bool, true, false, cond, Option, Some, None, replicate, slice_get, slice_set, slice_index, slice_index_or, subst, sym, refl, ap, ◌∙◌, arith}
 use Rattle.std.proofs.lemmas.Bool.{cases_eq}
 use Rattle.std.proofs.lemmas.Option.{slice_get-get_or, same_Some, none-some}
 use Rattle.std.proofs.lemmas.List.{length-set, length-map, map-append, get_or-set_same, get_or-set_other}
@@ -33,7 +33,7 @@ use Rattle.book.proofs.Parts.Each.{item_at, is_at}
 use Rattle.book.proofs.Parts.Doings.{count_others}
 use Rattle.book.proofs.Parts.Mail.{idle_allowed, no_mail}
 use Rattle.book.proofs.Calling.Posting.{all_same}
-use Rattle.book.proofs.Parts.Meetings.{stage_away, idle_counts, waits_there, all_true, arrived_stages}
+use Rattle.book.proofs.Parts.Meetings.{stage_away, idle_counts, waits_there, arrived_here, arrived_stages}
 use Rattle.book.proofs.Parts.Told.{is_idle, is_processor, own_stamp, within_closing}
 
 -- when the last one arrives the others wait, and nobody may go on
@@ -56,13 +56,7 @@ nobody_goes s h b p q t told idle full less a posted allowed = elim (cases_eq q 
     all = arrived_stages s h p b.barrier told.well_formed free lt told.barrier
 
     here : IsAtStage (did h p Arrive) told.barrier.complete q Here
-    here =
-        let item = item_at s.processors (IsAtStage (did h p Arrive) told.barrier.complete)
-        (slice_set b.barrier.stages p Here) q Away all.1 less in
-        subst (λ st. IsAtStage (did h p Arrive) told.barrier.complete q st)
-        (sym (all_true (slice_set b.barrier.stages p Here) full q
-        (slice_index_or (slice_set b.barrier.stages p Here) q Away) item))
-        (all.1.each q (slice_index_or (slice_set b.barrier.stages p Here) q Away) item)
+    here = arrived_here s h p b.barrier told.well_formed free lt told.barrier full q less
 
     waits : q ≢ p → (i : ℕ) × LastIs h q i Arrive
     waits apart =
@@ -171,25 +165,6 @@ map_twice : {A B C : Type 0} (f : A → B) (g : B → C) (xs : List A) → map g
 map_twice f g [] = refl
 map_twice f g (x ∷ xs) = ap (λ ys. g (f x) ∷ ys) (map_twice f g xs)
 
-arrived_is : (old b : State) (p : ℕ) (block : List Event) (records : List Changes) (barrier : Episodes)
-    (transit : List (Option Letter)) (t : List ℕ) → b ≡ closed_by (handed_in old block) p Arrive records
-    → t ≡ tick (time_of old p) p
-    → barrier ≡ arrived b.barrier p t
-    → transit ≡ mail_met (is_full (joined b.barrier p t)) b (join b.barrier.gathered t)
-    → record b { barrier = barrier; transit = transit } ≡ book_arrived (handed_in old block) p records
-arrived_is old b p block records barrier transit t is time here mail =
-    let c : State = closed_by (handed_in old block) p Arrive records in
-    ap (λ (x : Episodes). record b { barrier = x; transit = transit }) here
-    ∙ ap (λ (x : List (Option Letter)). record b { barrier = arrived b.barrier p t; transit = x }) mail
-    ∙ ap (λ (x : State). record x {
-      barrier = arrived x.barrier p t;
-      transit = mail_met (is_full (joined x.barrier p t)) x (join x.barrier.gathered t);
-    }) is
-    ∙ ap (λ (u : List ℕ). record c {
-      barrier = arrived old.barrier p u;
-      transit = mail_met (is_full (joined old.barrier p u)) c (join old.barrier.gathered u);
-    }) time
-
 -- the departures of all, or none
 met_some : (full : Bool) (c : State) (u : List ℕ) (ms : List Letter)
     → Some ms ≡ cond full (Some (map (departure_to c.closed u) c.times)) None
@@ -205,40 +180,39 @@ met_none : (full : Bool) (c : State) (u : List ℕ)
 met_none true c u made = absurd (none-some (map (departure_to c.closed u) c.times) made)
 met_none false c u made = refl
 
--- what stands of the departures when the interval is closed
-departures_read : (old b : State) (p : ℕ) (block : List Event) (records : List Changes) (t : List ℕ)
-    (o : Option (List Letter)) → b ≡ closed_by (handed_in old block) p Arrive records → t ≡ tick (time_of old p) p
-    → o ≡ departures_to (pushed old.closed (open_interval old p records)) old.barrier (slice_set old.times p t) p t
-    → o ≡ departures_to b.closed b.barrier b.times p t
-departures_read old b p block records t o is time made =
-    made ∙ ap (λ (u : List ℕ). departures_to (pushed old.closed (open_interval old p records)) old.barrier
-    (slice_set old.times p u) p t) time
-    ∙ sym (ap (λ (x : State). departures_to x.closed x.barrier x.times p t) is)
+-- p arrives at this time
+module _ (old b : State) (p : ℕ) (block : List Event) (records : List Changes) (t : List ℕ)
+    (is : b ≡ closed_by (handed_in old block) p Arrive records) (time : t ≡ tick (time_of old p) p) where
+  arrived_is : (barrier : Episodes) (transit : List (Option Letter)) → barrier ≡ arrived b.barrier p t
+      → transit ≡ mail_met (is_full (joined b.barrier p t)) b (join b.barrier.gathered t)
+      → record b { barrier = barrier; transit = transit } ≡ book_arrived (handed_in old block) p records
+  arrived_is barrier transit here mail = rw is (let now = rw is at here in let post = rw is at mail in cc)
 
--- an arrival that completes the episode
-pub arrived_met : (old b : State) (p : ℕ) (block : List Event) (records : List Changes) (barrier : Episodes)
-    (transit : List (Option Letter)) (t : List ℕ) (ms : List Letter)
-    → b ≡ closed_by (handed_in old block) p Arrive records → t ≡ tick (time_of old p) p
-    → barrier ≡ arrived b.barrier p t → transit ≡ map (λ (m : Letter). Some m) ms
-    → Some ms ≡ departures_to (pushed old.closed (open_interval old p records)) old.barrier
-    (slice_set old.times p t) p t
-    → record b { barrier = barrier; transit = transit } ≡ book_arrived (handed_in old block) p records
-arrived_met old b p block records barrier transit t ms is time here post made =
-    arrived_is old b p block records barrier transit t is time here
-    (post ∙ met_some (is_full (joined b.barrier p t)) b (join b.barrier.gathered t) ms
-    (departures_read old b p block records t (Some ms) is time made))
+  -- what stands of the departures when the interval is closed
+  departures_read : (o : Option (List Letter))
+      → o ≡ departures_to (pushed old.closed (open_interval old p records)) old.barrier (slice_set old.times p t) p t
+      → o ≡ departures_to b.closed b.barrier b.times p t
+  departures_read o made = cc
 
--- an arrival that leaves it open
-pub arrived_alone : (old b : State) (p : ℕ) (block : List Event) (records : List Changes) (barrier : Episodes)
-    (t : List ℕ) → b ≡ closed_by (handed_in old block) p Arrive records → t ≡ tick (time_of old p) p
-    → barrier ≡ arrived b.barrier p t
-    → None ≡ departures_to (pushed old.closed (open_interval old p records)) old.barrier (slice_set old.times p t)
-    p t
-    → record b { barrier = barrier } ≡ book_arrived (handed_in old block) p records
-arrived_alone old b p block records barrier t is time here made =
-    arrived_is old b p block records barrier b.transit t is time here
-    (met_none (is_full (joined b.barrier p t)) b (join b.barrier.gathered t)
-    (departures_read old b p block records t None is time made))
+  -- an arrival that completes the episode
+  pub arrived_met : (barrier : Episodes) (transit : List (Option Letter)) (ms : List Letter)
+      → barrier ≡ arrived b.barrier p t → transit ≡ map (λ (m : Letter). Some m) ms
+      → Some ms ≡ departures_to (pushed old.closed (open_interval old p records)) old.barrier
+      (slice_set old.times p t) p t
+      → record b { barrier = barrier; transit = transit } ≡ book_arrived (handed_in old block) p records
+  arrived_met barrier transit ms here post made =
+      arrived_is barrier transit here
+      (post ∙ met_some (is_full (joined b.barrier p t)) b (join b.barrier.gathered t) ms
+      (departures_read (Some ms) made))
+
+  -- an arrival that leaves it open
+  pub arrived_alone : (barrier : Episodes) → barrier ≡ arrived b.barrier p t
+      → None ≡ departures_to (pushed old.closed (open_interval old p records)) old.barrier
+      (slice_set old.times p t) p t
+      → record b { barrier = barrier } ≡ book_arrived (handed_in old block) p records
+  arrived_alone barrier here made =
+      arrived_is barrier b.transit here
+      (met_none (is_full (joined b.barrier p t)) b (join b.barrier.gathered t) (departures_read None made))
 
 -- all have no message when all departures are made
 pub none_waits : (old : State) (p : ℕ) (c : Closings) (t : List ℕ) (ms : List Letter) → IsArriving old p
@@ -263,22 +237,18 @@ pub departures_made : (old b : State) (p : ℕ) (records : List Changes) (i : Cl
     (o : Option (List Letter)) → b ≡ old → i ≡ open_interval b p records
     → o ≡ departures_to (pushed b.closed i) b.barrier (slice_set b.times i.owner t) i.owner t
     → o ≡ departures_to (pushed old.closed (open_interval old p records)) old.barrier (slice_set old.times p t) p t
-departures_made old b p records i t o same opened made =
-    made
-    ∙ ap (λ (x : ClosedInterval). departures_to (pushed b.closed x) b.barrier (slice_set b.times x.owner t)
-    x.owner t) opened
-    ∙ ap (λ (x : State). departures_to (pushed x.closed (open_interval x p records)) x.barrier
-    (slice_set x.times p t) p t) same
+departures_made old b p records i t o same opened made = cc
 
 -- each one's timestamp once p has closed its interval
 pub read_after : (times : List (List ℕ)) (p q : ℕ) (own old t : List ℕ) → p < length times → q < length times
-    → t ≡ slice_index_or times q t → ((q ≡ p) × (old ≡ own)) ⊎ ((q ≢ p) × (old ≡ t))
+    → t ≡ slice_index_or times q t → (q ≡ p → old ≡ own) → (q ≢ p → old ≡ t)
     → old ≡ slice_index_or (slice_set times p own) q []
-read_after times p q own old t here there read (inl same) =
-    same.1 ∙ sym
-    (ap (λ (n : ℕ). slice_index_or (slice_set times p own) n []) same.0 ∙ get_or-set_same times p own [] here)
-read_after times p q own old t here there read (inr other) =
-    other.1 ∙ read ∙ same_default times q t [] there ∙ sym (get_or-set_other times p q own [] other.0)
+read_after times p q own old t lt there read mine others = elim (cases_eq q p) [
+  | inl is ↦ (
+      let P : ℕ → Type 0 = λ x. own ≡ slice_index_or (slice_set times p own) x [] in
+      mine is ∙ subst P (sym is) (sym (get_or-set_same times p own [] lt)))
+  | inr apart ↦ others apart ∙ read ∙ same_default times q t [] there ∙ sym (get_or-set_other times p q own [] apart)
+]
 
 -- one more departure is made
 pub departing_step : (c : Closings) (u : List ℕ) (times : List (List ℕ)) (q : ℕ) (old : List ℕ) (ms ns : List Letter)
@@ -298,11 +268,8 @@ departing_step c u times q old ms ns m made less is one more =
 pub departures_are : (c : Closings) (b : Episodes) (times : List (List ℕ)) (p : ℕ) (own u : List ℕ) (full : Bool)
     (ms : List Letter) → full ≡ is_full (joined b p own) → full ≡ true → u ≡ join b.gathered own
     → ms ≡ map (departure_to c u) times → Some ms ≡ departures_to c b times p own
-departures_are c b times p own u full ms is all time made =
-    ap (λ (xs : List Letter). Some xs) (made ∙ ap (λ (t : List ℕ). map (departure_to c t) times) time)
-    ∙ ap (λ (f : Bool). cond f (Some (map (departure_to c (join b.gathered own)) times)) None) (sym all ∙ is)
+departures_are c b times p own u full ms is all time made = cc
 
 pub none_depart : (c : Closings) (b : Episodes) (times : List (List ℕ)) (p : ℕ) (own : List ℕ) (full : Bool)
     → full ≡ is_full (joined b p own) → full ≡ false → None ≡ departures_to c b times p own
-none_depart c b times p own full is some =
-    ap (λ (f : Bool). cond f (Some (map (departure_to c (join b.gathered own)) times)) None) (sym some ∙ is)
+none_depart c b times p own full is some = cc

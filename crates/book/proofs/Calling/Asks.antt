@@ -82,13 +82,7 @@ pub set_is : (old b : State) (p f : ℕ) (block : List Event) (records : List Ch
     (t r : List ℕ) → b ≡ closed_by (handed_in old block) p (Set f) records → IsSetRead old p f o t
     → r ≡ flag_joined o t
     → record b { flags = slice_set b.flags f (Some r) } ≡ book_set (handed_in old block) p f records
-set_is old b p f block records o t r is read made =
-    let value : r ≡ flag_joined (slice_index_or old.flags f None) (tick (time_of old p) p) =
-    made ∙ ap (λ (x : Option (List ℕ)). flag_joined x t) read.flag
-    ∙ ap (λ (x : List ℕ). flag_joined (slice_index_or old.flags f None) x) read.time in
-    ap (λ (x : State). record x { flags = slice_set x.flags f (Some r) }) is
-    ∙ ap (λ (x : List ℕ). record (closed_by (handed_in old block) p (Set f) records)
-    { flags = slice_set old.flags f (Some x) }) value
+set_is old b p f block records o t r is read made = rw is (cc)
 
 -- what an ask rests on
 pub record IsAsking (b : State) (p l : ℕ) : Type 0 where
@@ -158,51 +152,39 @@ set_back [] i v at = refl
 set_back {A} (x ∷ xs) zero v at = ap (λ (y : A). y ∷ xs) (sym (same_Some x v at))
 set_back {A} (x ∷ xs) (suc i) v at = ap (λ (ys : List A). x ∷ ys) (set_back xs i v at)
 
-asked_is : (old b : State) (p l : ℕ) (block : List Event) (records : List Changes) (locks : Locks)
-    (transit : List (Option Letter)) → b ≡ closed_by (handed_in old block) p (Ask l) records
-    → locks ≡ with_lock b.locks l (asked (lock_at b.locks l) p)
-    → transit ≡ slice_set old.transit p
-    (if_free (lock_at old.locks l).holder
-    (grant_from (closed_by (handed_in old block) p (Ask l) records) p (lock_at old.locks l).time))
-    → record b { locks = locks; transit = transit } ≡ book_asked (handed_in old block) p l records
-asked_is old b p l block records locks transit is line mail =
-    ap (λ (x : State). record x { locks = locks; transit = transit }) is
-    ∙ ap (λ (x : Locks). record (closed_by (handed_in old block) p (Ask l) records) { locks = x; transit = transit })
-    (line ∙ ap (λ (x : State). with_lock x.locks l (asked (lock_at x.locks l) p)) is)
-    ∙ ap (λ (x : List (Option Letter)). record (closed_by (handed_in old block) p (Ask l) records)
-    { locks = with_lock old.locks l (asked (lock_at old.locks l) p); transit = x }) mail
+-- p asks for the lock
+module _ (old b : State) (p l : ℕ) (block : List Event) (records : List Changes) (may : MayAsk old p l block)
+    (is : b ≡ closed_by (handed_in old block) p (Ask l) records) (locks : Locks)
+    (line : locks ≡ with_lock b.locks l (asked (lock_at b.locks l) p)) where
+  asked_is : (transit : List (Option Letter)) → transit ≡ slice_set old.transit p
+      (if_free (lock_at old.locks l).holder
+      (grant_from (closed_by (handed_in old block) p (Ask l) records) p (lock_at old.locks l).time))
+      → record b { locks = locks; transit = transit } ≡ book_asked (handed_in old block) p l records
+  asked_is transit mail = rw is (let now = rw is at line in cc)
 
--- an ask whose grant is posted
-pub asked_granted : (old b : State) (p l : ℕ) (block : List Event) (records : List Changes) (locks : Locks)
-    (transit : List (Option Letter)) (m : Letter) → MayAsk old p l block
-    → b ≡ closed_by (handed_in old block) p (Ask l) records
-    → locks ≡ with_lock b.locks l (asked (lock_at b.locks l) p) → transit ≡ slice_set b.transit p (Some m)
-    → Some m ≡ if_free (lock_at old.locks l).holder (grant_from old p (lock_at old.locks l).time)
-    → record b { locks = locks; transit = transit } ≡ book_asked (handed_in old block) p l records
-asked_granted old b p l block records locks transit m may is line post made =
-    let asks = asking old p l block may in
-    let st = standing old p block may.call in
-    let mail = post ∙ ap (λ (x : State). slice_set x.transit p (Some m)) is
-    ∙ ap (λ (x : Option Letter). slice_set old.transit p x)
-    (made ∙ ap (λ (x : Letter). if_free (lock_at old.locks l).holder x)
-    (grant_same old p l block records st.times asks)) in
-    asked_is old b p l block records locks transit is line mail
+  -- the grant as it was made, written for p
+  mail_asked : (o : Option Letter)
+      → o ≡ if_free (lock_at old.locks l).holder (grant_from old p (lock_at old.locks l).time)
+      → slice_set old.transit p o ≡ slice_set old.transit p
+      (if_free (lock_at old.locks l).holder
+      (grant_from (closed_by (handed_in old block) p (Ask l) records) p (lock_at old.locks l).time))
+  mail_asked o made =
+      ap (λ (x : Option Letter). slice_set old.transit p x)
+      (made ∙ ap (λ (x : Letter). if_free (lock_at old.locks l).holder x)
+      (grant_same old p l block records (standing old p block may.call).times (asking old p l block may)))
 
--- an ask that has to wait
-pub asked_waits : (old b : State) (p l : ℕ) (block : List Event) (records : List Changes) (locks : Locks)
-    → MayAsk old p l block → b ≡ closed_by (handed_in old block) p (Ask l) records
-    → locks ≡ with_lock b.locks l (asked (lock_at b.locks l) p)
-    → None ≡ if_free (lock_at old.locks l).holder (grant_from old p (lock_at old.locks l).time)
-    → record b { locks = locks } ≡ book_asked (handed_in old block) p l records
-asked_waits old b p l block records locks may is line made =
-    let asks = asking old p l block may in
-    let st = standing old p block may.call in
-    let mail : b.transit
-    ≡ slice_set old.transit p
-    (if_free (lock_at old.locks l).holder
-    (grant_from (closed_by (handed_in old block) p (Ask l) records) p (lock_at old.locks l).time)) =
-    ap (λ (x : State). x.transit) is ∙ sym (set_back old.transit p None asks.none)
-    ∙ ap (λ (x : Option Letter). slice_set old.transit p x)
-    (made ∙ ap (λ (x : Letter). if_free (lock_at old.locks l).holder x)
-    (grant_same old p l block records st.times asks)) in
-    asked_is old b p l block records locks b.transit is line mail
+  -- an ask whose grant is posted
+  pub asked_granted : (transit : List (Option Letter)) (m : Letter) → transit ≡ slice_set b.transit p (Some m)
+      → Some m ≡ if_free (lock_at old.locks l).holder (grant_from old p (lock_at old.locks l).time)
+      → record b { locks = locks; transit = transit } ≡ book_asked (handed_in old block) p l records
+  asked_granted transit m post made =
+      asked_is transit
+      (post ∙ ap (λ (x : State). slice_set x.transit p (Some m)) is ∙ mail_asked (Some m) made)
+
+  -- an ask that has to wait
+  pub asked_waits : None ≡ if_free (lock_at old.locks l).holder (grant_from old p (lock_at old.locks l).time)
+      → record b { locks = locks } ≡ book_asked (handed_in old block) p l records
+  asked_waits made =
+      asked_is b.transit
+      (ap (λ (x : State). x.transit) is ∙ sym (set_back old.transit p None (asking old p l block may).none)
+      ∙ mail_asked None made)

@@ -1,5 +1,5 @@
 -- What the calls of an idle processor rest on, read off the book.
-use Rattle.std.proofs.Common.{◌≡◌, ℕ, ◌-◌, ◌<◌, ◌≤◌, List, [], ◌∷◌, ◌++◌, slice_set, length, Option, Some, None, slice_get, slice_index, slice_index_or, ◌==◌, ◌&&◌, true, subst, sym, refl, ap, ◌∙◌, arith}
+use Rattle.std.proofs.Common.{◌≡◌, ℕ, ◌-◌, ◌<◌, ◌≤◌, List, [], ◌∷◌, ◌++◌, slice_set, length, Option, None, slice_index, slice_index_or, ◌==◌, ◌&&◌, true, subst, sym, refl, ap, ◌∙◌, arith}
 use Rattle.std.proofs.lemmas.Option.{slice_get-get_or, get_or_from_slice_get}
 use Rattle.std.proofs.lemmas.List.Sums.{count_by-le-length}
 use Rattle.journal.specs.declared.event.Event.{Event}
@@ -17,8 +17,10 @@ use Rattle.interval.specs.Intervals.{ClosedInterval}
 use Rattle.interval.specs.Closings.{Closings, pushed}
 use Rattle.journal.specs.Did.{event}
 use Rattle.book.specs.Transitions.{handed_in, open_interval, closed_by}
+use Rattle.book.specs.declared.protocol.Protocol.TheInside.{Inside}
+use Rattle.book.specs.Holding.{state_of}
 use Rattle.book.specs.State.{State, time_of}
-use Rattle.book.specs.Calls.{MayFlush, MayCall, IsOpen}
+use Rattle.book.specs.Calls.{IsInner, MayFlush, MayCall, IsOpen}
 use Rattle.book.proofs.Parts.History.{happened, history_long}
 use Rattle.book.proofs.Parts.Told.{is_processor, own_stamp, own_number}
 
@@ -76,23 +78,30 @@ flushes b p block may = let hands_in = may.hands_in in record {
   gives = record { waits = (None, hands_in.idle, λ some. absurd (some refl)); inner = hands_in.inner };
 }
 
--- the block's events may be appended
-pub block_processors : (b : State) (p n : ℕ) (block : List Event) → MayFlush b p block → n ≡ b.journal.processors
-    → (k : ℕ) (d : Event) → k < length block → (slice_index_or block k d).processor < n
-block_processors b p n block may same k d lt =
-    let told = may.by.told in
-    let x = may.gives.inner k (slice_index_or block k d) (slice_get-get_or block k d lt) in
-    let mine = x.mine in
-    let within = is_processor may.by.sizes may.by.history b p may.gives.waits.0 told may.gives.waits.1 in
-    let processors = told.sizes.processors in
-    omega arith
+-- the block's events may be appended to the journal
+pub block_fits : {now : State} {log : Log} {p room : ℕ} {block : List Event} (b : Inside) → state_of b ≡ now
+    → log ≡ record b.journal { room = room } → MayFlush now p block
+    → ((k : ℕ) (d : Event) → k < length block → (slice_index_or block k d).processor < log.processors)
+    × ((k : ℕ) (d : Event) → k < length block → AddressInRange log.addresses (slice_index_or block k d).kind)
+block_fits {now} {log} {p} {room} {block} b same made may = (processor, address)
+  where
+    inner : (k : ℕ) (d : Event) → k < length block → IsInner may.by.sizes p (slice_index_or block k d)
+    inner k d lt = may.gives.inner k (slice_index_or block k d) (slice_get-get_or block k d lt)
 
-pub block_addresses : (b : State) (p n : ℕ) (block : List Event) → MayFlush b p block → n ≡ b.journal.addresses
-    → (k : ℕ) (d : Event) → k < length block → AddressInRange n (slice_index_or block k d).kind
-block_addresses b p n block may same k d lt =
-    let x = may.gives.inner k (slice_index_or block k d) (slice_get-get_or block k d lt) in
-    subst (λ m. AddressInRange m (slice_index_or block k d).kind) (sym (same ∙ may.by.told.sizes.addresses))
-    (address_within may.by.sizes (slice_index_or block k d).kind x.in_range)
+    processor : (k : ℕ) (d : Event) → k < length block → (slice_index_or block k d).processor < log.processors
+    processor k d lt =
+        let mine = (inner k d lt).mine in
+        let within = is_processor may.by.sizes may.by.history now p may.gives.waits.0 may.by.told may.gives.waits.1 in
+        let processors = may.by.told.sizes.processors in
+        let is = ap (λ (l : Log). l.processors) made ∙ ap (λ (x : State). x.journal.processors) same in
+        omega arith
+
+    address : (k : ℕ) (d : Event) → k < length block → AddressInRange log.addresses (slice_index_or block k d).kind
+    address k d lt =
+        subst (λ m. AddressInRange m (slice_index_or block k d).kind)
+        (sym (ap (λ (l : Log). l.addresses) made ∙ ap (λ (x : State). x.journal.addresses) same
+        ∙ may.by.told.sizes.addresses))
+        (address_within may.by.sizes (slice_index_or block k d).kind (inner k d lt).in_range)
 
 -- an event that closes an interval has no address
 pub closing_address : (n : ℕ) (k : Kind) → is_closing k ≡ true → AddressInRange n k
@@ -110,10 +119,7 @@ pub logs_are : (a b c d : Log) (owing : ℕ) (block : List Event) (e : Event) �
     → c ≡ record b { events = b.events ++ block; room = b.room - length block }
     → d ≡ record c { events = c.events ++ e ∷ []; room = c.room - 1 }
     → record d { room = owing } ≡ record a { events = (a.events ++ block) ++ e ∷ []; room = owing }
-logs_are a b c d owing block e first second third =
-    ap (λ (l : Log). record l { room = owing }) third
-    ∙ ap (λ (l : Log). record l { events = l.events ++ e ∷ []; room = owing }) second
-    ∙ ap (λ (l : Log). record l { events = (l.events ++ block) ++ e ∷ []; room = owing }) first
+logs_are a b c d owing block e first second third = cc
 
 -- the book after a block and an event that closes an interval, part by part
 pub closing_is : (b : State) (p : ℕ) (k : Kind) (block : List Event) (records : List Changes) (log : Log)
@@ -123,27 +129,7 @@ pub closing_is : (b : State) (p : ℕ) (k : Kind) (block : List Event) (records 
     → waits ≡ slice_set b.awaits p (awaited k)
     → record b { journal = log; closed = c; times = slice_set b.times p t; awaits = waits }
     ≡ closed_by (handed_in b block) p k records
-closing_is b p k block records log c t waits one two three four =
-    ap (λ (l : Log). record b { journal = l; closed = c; times = slice_set b.times p t; awaits = waits }) one
-    ∙ ap (λ (x : Closings). record b {
-      journal = record b.journal { events = (b.journal.events ++ block) ++ event p k ∷ [] };
-      closed = x;
-      times = slice_set b.times p t;
-      awaits = waits;
-    }) two
-    ∙ ap (λ (x : List ℕ). record b {
-      journal = record b.journal { events = (b.journal.events ++ block) ++ event p k ∷ [] };
-      closed = pushed b.closed (open_interval b p records);
-      times = slice_set b.times p x;
-      awaits = waits;
-    }) three
-    ∙ ap (λ (x : List (Option Kind)). record b {
-      journal = record b.journal { events = (b.journal.events ++ block) ++ event p k ∷ [] };
-      closed = pushed b.closed (open_interval b p records);
-      times =
-          slice_set b.times p (tick (time_of b p) p);
-      awaits = x;
-    }) four
+closing_is b p k block records log c t waits one two three four = cc
 
 pub stands : (b now : State) (p : ℕ) (block : List Event) → b ≡ now → MayCall now p block → IsStanding b p
 stands b now p block same may = subst (λ x. IsStanding x p) (sym same) (standing now p block may)
@@ -152,9 +138,6 @@ stands b now p block same may = subst (λ x. IsStanding x p) (sym same) (standin
 pub own_read : (times : List (List ℕ)) (p : ℕ) (t : List ℕ) → p < length times → t ≡ slice_index_or times p t
     → t ≡ slice_index_or times p []
 own_read times p t lt is = is ∙ same_default times p t [] lt
-
-pub own_entry_read : (t own : List ℕ) (p n : ℕ) → t ≡ own → slice_get t p ≡ Some n → n ≡ slice_index own p
-own_entry_read t own p n is at = sym (get_or_from_slice_get t p n 0 at) ∙ ap (λ (ts : List ℕ). slice_index ts p) is
 
 -- p's interval is open
 pub opens : (b now : State) (p : ℕ) (block : List Event) → b ≡ now → MayCall now p block → IsOpen b p
@@ -165,6 +148,36 @@ pub closed_records : (b : State) (block : List Event) (p : ℕ) (k : Kind) (i : 
     (records : List Changes) → i ≡ open_interval b p records
     → closed_by (handed_in b block) p k i.records ≡ closed_by (handed_in b block) p k records
 closed_records b block p k i records is = ap (λ (x : ClosedInterval). closed_by (handed_in b block) p k x.records) is
+
+-- room that is made in the journal leaves the book
+pub roomy : (b : Inside) (now : State) (log : Log) → log ≡ record b.journal { room = log.room } → state_of b ≡ now
+    → record (state_of b) { journal = record log { room = b.owing } } ≡ now
+roomy b now log made same = ap (λ (l : Log). record (state_of b) { journal = record l { room = b.owing } }) made ∙ same
+
+-- the book after a closing event, as of the book before the call
+pub closed_since : (b now c : State) (block : List Event) (p : ℕ) (k : Kind) (i : ClosedInterval)
+    (records : List Changes) → b ≡ now → i ≡ open_interval b p records
+    → c ≡ closed_by (handed_in b block) p k i.records → c ≡ closed_by (handed_in now block) p k records
+closed_since b now c block p k i records same opened closed =
+    closed ∙ closed_records b block p k i records opened
+    ∙ ap (λ (x : State). closed_by (handed_in x block) p k records) same
+
+-- and where room was made first
+pub closed_roomy : (b : Inside) (now c : State) (log : Log) (block : List Event) (p : ℕ) (k : Kind)
+    (i : ClosedInterval) (records : List Changes) → log ≡ record b.journal { room = log.room } → state_of b ≡ now
+    → i ≡ open_interval (state_of b) p records
+    → c ≡ closed_by (handed_in (record (state_of b) { journal = record log { room = b.owing } }) block) p k i.records
+    → c ≡ closed_by (handed_in now block) p k records
+closed_roomy b now c log block p k i records made same opened closed =
+    closed_since (record (state_of b) { journal = record log { room = b.owing } }) now c block p k i records
+    (roomy b now log made same) opened closed
+
+-- so p's interval is open then
+pub opens_roomy : (b : Inside) (now : State) (log : Log) (block : List Event) (p : ℕ)
+    → log ≡ record b.journal { room = log.room } → state_of b ≡ now → MayCall now p block
+    → IsOpen (record (state_of b) { journal = record log { room = b.owing } }) p
+opens_roomy b now log block p made same may =
+    opens (record (state_of b) { journal = record log { room = b.owing } }) now p block (roomy b now log made same) may
 
 pub still_open : (b : State) (p : ℕ) (i : ClosedInterval) (records : List Changes) → i ≡ open_interval b p records
     → i ≡ open_interval b p i.records

@@ -135,75 +135,44 @@ passed_some c (q ∷ queue) t times r m same made =
     ap (λ (x : ℕ × Letter). slice_set c.transit x.0 (Some x.1)) is
     ∙ ap (λ (own : List ℕ). slice_set c.transit q (Some (grant_to c.closed t own))) (same q refl)
 
-pub passed_none : (c : State) (queue t : List ℕ) (times : List (List ℕ))
-    → None ≡ option_map (addressed_grant c.closed times t) (slice_get queue 0) → c.transit ≡ mail_passed_on c queue t
-passed_none c [] t times made = refl
-passed_none c (q ∷ queue) t times made = absurd (none-some (addressed_grant c.closed times t q) made)
-
 -- after p's closing event the others' timestamps are as before
 others_time : (b : State) (p r : ℕ) (u : List ℕ) → r ≢ p
     → slice_index_or b.times r [] ≡ slice_index_or (slice_set b.times p u) r []
 others_time b p r u apart = sym (get_or-set_other b.times p r u [] apart)
 
-released_is : (old b : State) (p l : ℕ) (block : List Event) (records : List Changes) (locks : Locks)
-    (transit : List (Option Letter)) (t : List ℕ) → b ≡ closed_by (handed_in old block) p (Release l) records
-    → t ≡ tick (time_of old p) p
-    → locks ≡ with_lock b.locks l (released (lock_at b.locks l) t)
-    → transit ≡ mail_passed_on b (lock_at b.locks l).queue t
-    → record b { locks = locks; transit = transit } ≡ book_released (handed_in old block) p l records
-released_is old b p l block records locks transit t is time line mail =
-    let c : State = closed_by (handed_in old block) p (Release l) records in
-    ap (λ (x : Locks). record b { locks = x; transit = transit }) line
-    ∙ ap (λ (x : List (Option Letter)). record b
-    { locks = with_lock b.locks l (released (lock_at b.locks l) t); transit = x }) mail
-    ∙ ap (λ (x : State). record x {
-      locks = with_lock x.locks l (released (lock_at x.locks l) t);
-      transit = mail_passed_on x (lock_at x.locks l).queue t;
-    }) is
-    ∙ ap (λ (u : List ℕ). record c {
-      locks = with_lock old.locks l (released (lock_at old.locks l) u);
-      transit = mail_passed_on c (lock_at old.locks l).queue u;
-    }) time
+-- p releases the lock at this time
+module _ (old b : State) (p l : ℕ) (block : List Event) (records : List Changes) (t : List ℕ)
+    (is : b ≡ closed_by (handed_in old block) p (Release l) records) (time : t ≡ tick (time_of old p) p) where
+  released_is : (locks : Locks) (transit : List (Option Letter))
+      → locks ≡ with_lock b.locks l (released (lock_at b.locks l) t)
+      → transit ≡ mail_passed_on b (lock_at b.locks l).queue t
+      → record b { locks = locks; transit = transit } ≡ book_released (handed_in old block) p l records
+  released_is locks transit line mail = rw is (let now = rw is at line in let post = rw is at mail in cc)
 
--- what stands of the grant when the interval is closed
-grant_made : (old b : State) (p l : ℕ) (block : List Event) (records : List Changes) (t : List ℕ)
-    (o : Option (ℕ × Letter)) → MayRelease old p l block → b ≡ closed_by (handed_in old block) p (Release l) records
-    → o ≡ option_map (addressed_grant (pushed old.closed (open_interval old p records)) old.times t)
-    (slice_get (lock_at old.locks l).queue 0)
-    → (o ≡ option_map (addressed_grant b.closed old.times t) (slice_get (lock_at b.locks l).queue 0))
-    × ((q : ℕ) → slice_get (lock_at b.locks l).queue 0 ≡ Some q → slice_index_or old.times q [] ≡ time_of b q)
-grant_made old b p l block records t o may is made =
-    subst (λ (x : State).
-    (o ≡ option_map (addressed_grant x.closed old.times t) (slice_get (lock_at x.locks l).queue 0))
-    × ((q : ℕ) → slice_get (lock_at x.locks l).queue 0 ≡ Some q → slice_index_or old.times q [] ≡ time_of x q))
-    (sym is)
-    (made, λ q at. others_time old p q (tick (time_of old p) p) ((releasing old p l block may).next q at).apart)
+  -- what stands of the grant when the interval is closed
+  grant_made : (o : Option (ℕ × Letter)) → MayRelease old p l block
+      → o ≡ option_map (addressed_grant (pushed old.closed (open_interval old p records)) old.times t)
+      (slice_get (lock_at old.locks l).queue 0)
+      → (o ≡ option_map (addressed_grant b.closed old.times t) (slice_get (lock_at b.locks l).queue 0))
+      × ((q : ℕ) → slice_get (lock_at b.locks l).queue 0 ≡ Some q → slice_index_or old.times q [] ≡ time_of b q)
+  grant_made o may made =
+      subst (λ (x : State).
+      (o ≡ option_map (addressed_grant x.closed old.times t) (slice_get (lock_at x.locks l).queue 0))
+      × ((q : ℕ) → slice_get (lock_at x.locks l).queue 0 ≡ Some q → slice_index_or old.times q [] ≡ time_of x q))
+      (sym is)
+      (made, λ q at. others_time old p q (tick (time_of old p) p) ((releasing old p l block may).next q at).apart)
 
--- a release whose grant is posted
-pub released_granted : (old b : State) (p l : ℕ) (block : List Event) (records : List Changes) (locks : Locks)
-    (transit : List (Option Letter)) (t : List ℕ) (r : ℕ) (m : Letter) → MayRelease old p l block
-    → b ≡ closed_by (handed_in old block) p (Release l) records → t ≡ tick (time_of old p) p
-    → locks ≡ with_lock b.locks l (released (lock_at b.locks l) t) → transit ≡ slice_set b.transit r (Some m)
-    → Some (r, m) ≡ option_map (addressed_grant (pushed old.closed (open_interval old p records)) old.times t)
-    (slice_get (lock_at old.locks l).queue 0)
-    → record b { locks = locks; transit = transit } ≡ book_released (handed_in old block) p l records
-released_granted old b p l block records locks transit t r m may is time line post made =
-    let grant = grant_made old b p l block records t (Some (r, m)) may is made in
-    released_is old b p l block records locks transit t is time line
-    (post ∙ passed_some b (lock_at b.locks l).queue t old.times r m grant.1 grant.0)
-
--- a release of a lock that nobody asked for
-pub released_unasked : (old b : State) (p l : ℕ) (block : List Event) (records : List Changes) (locks : Locks)
-    (t : List ℕ) → MayRelease old p l block → b ≡ closed_by (handed_in old block) p (Release l) records
-    → t ≡ tick (time_of old p) p
-    → locks ≡ with_lock b.locks l (released (lock_at b.locks l) t)
-    → None ≡ option_map (addressed_grant (pushed old.closed (open_interval old p records)) old.times t)
-    (slice_get (lock_at old.locks l).queue 0)
-    → record b { locks = locks } ≡ book_released (handed_in old block) p l records
-released_unasked old b p l block records locks t may is time line made =
-    let grant = grant_made old b p l block records t None may is made in
-    released_is old b p l block records locks b.transit t is time line
-    (passed_none b (lock_at b.locks l).queue t old.times grant.0)
+  -- a release whose grant is posted
+  pub released_granted : (locks : Locks) (transit : List (Option Letter)) (r : ℕ) (m : Letter)
+      → MayRelease old p l block → locks ≡ with_lock b.locks l (released (lock_at b.locks l) t)
+      → transit ≡ slice_set b.transit r (Some m)
+      → Some (r, m) ≡ option_map (addressed_grant (pushed old.closed (open_interval old p records)) old.times t)
+      (slice_get (lock_at old.locks l).queue 0)
+      → record b { locks = locks; transit = transit } ≡ book_released (handed_in old block) p l records
+  released_granted locks transit r m may line post made =
+      let grant = grant_made (Some (r, m)) may made in
+      released_is locks transit line
+      (post ∙ passed_some b (lock_at b.locks l).queue t old.times r m grant.1 grant.0)
 
 pub next_sent : (b : State) (p l : ℕ) (o : Option ℕ) → IsReleasing b p l → o ≡ slice_get (lock_at b.locks l).queue 0
     → IfSome o (λ r. MayBeSent b.closed b.times r)
@@ -224,10 +193,4 @@ pub grant_read : (old b : State) (p l : ℕ) (records : List Changes) (i : Close
     → g ≡ option_map (addressed_grant (pushed b.closed i) times t) o
     → g ≡ option_map (addressed_grant (pushed old.closed (open_interval old p records)) old.times t)
     (slice_get (lock_at old.locks l).queue 0)
-grant_read old b p l records i times t o g same all opened next made =
-    made
-    ∙ ap (λ (x : List (List ℕ)). option_map (addressed_grant (pushed b.closed i) x t) o) all
-    ∙ ap (λ (x : ClosedInterval). option_map (addressed_grant (pushed b.closed x) b.times t) o) opened
-    ∙ ap (λ (x : Option ℕ). option_map (addressed_grant (pushed b.closed (open_interval b p records)) b.times t) x) next
-    ∙ ap (λ (x : State). option_map (addressed_grant (pushed x.closed (open_interval x p records)) x.times t)
-    (slice_get (lock_at x.locks l).queue 0)) same
+grant_read old b p l records i times t o g same all opened next made = cc

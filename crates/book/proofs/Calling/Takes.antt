@@ -32,7 +32,7 @@ use Rattle.book.specs.State.{State, time_of}
 use Rattle.book.specs.Brought.{signal_to, message_among, message_for, has_come, sent_with, brought}
 use Rattle.book.specs.Transitions.{trimmed_by, barrier_left, book_taken}
 use Rattle.book.specs.Told.{IsTold}
-use Rattle.book.specs.Calls.{MaySignal, MayTake, MayTakeSome, MayTrim}
+use Rattle.book.specs.Calls.{IsSignalled, MaySignal, MayTake, MayTakeSome, MayTrim}
 use Rattle.book.proofs.Parts.Each.{is_at, item_at}
 use Rattle.book.proofs.Parts.Meetings.{stage_free}
 use Rattle.book.proofs.Keeps.Flags.{last_watch}
@@ -77,11 +77,11 @@ receiving_by s h b p k told waits =
       journal = omega arith;
       own_long = omega arith;
       flag = λ f is. signals f (subst (λ a. slice_get b.awaits p ≡ Some (Some a)) is waits);
-      none = λ f is. no_mail_waits s h b p f told (subst (λ a. slice_get b.awaits p ≡ Some (Some a)) is waits);
-      long = λ m is. (let long = (message_is s h b p k m told waits is).time.long in omega arith);
+      none = λ f is. no_mail_waits s h b p told f (subst (λ a. slice_get b.awaits p ≡ Some (Some a)) is waits);
+      long = λ m is. (let long = (message_is s h b p told k m waits is).time.long in omega arith);
       free = λ m is departs. departing
-          (subst (λ a. Allowed s h p a) departs (message_is s h b p k m told waits is).allowed) lt;
-      come = λ t j also. message_come t j b p k also waits;
+          (subst (λ a. Allowed s h p a) departs (message_is s h b p told k m waits is).allowed) lt;
+      come = λ t j also. message_come t j b p also k waits;
       takes = waits_taking h p k (told.awaits.each p (Some k) waits);
       all_long = λ i t at. (let stamp = told.times.each i t at in let long = stamp.long in omega arith);
       owners = omega arith;
@@ -170,9 +170,7 @@ may_trim b p k times before u w is long old =
 pub log_is : (a b c : Log) (owing : ℕ) (e : Event) → b ≡ record a { room = b.room }
     → c ≡ record b { events = b.events ++ e ∷ []; room = b.room - 1 }
     → record c { room = owing } ≡ record a { events = a.events ++ e ∷ []; room = owing }
-log_is a b c owing e first second =
-    ap (λ (l : Log). record l { room = owing }) second
-    ∙ ap (λ (l : Log). record l { events = l.events ++ e ∷ []; room = owing }) first
+log_is a b c owing e first second = cc
 
 -- an event that takes has no address
 pub taking_address : (n : ℕ) (k : Kind) → IsTrue (is_taking k) → AddressInRange n k
@@ -196,43 +194,7 @@ pub took_is : (b : State) (p : ℕ) (k : Kind) (m : Letter) (u : List ℕ) (log 
       barrier = barrier;
     } ≡ book_taken b p k m
 took_is b p k m u log c waits transit barrier one two three set four five six =
-    ap (λ (ws : List (Option Kind)). record b {
-      journal = log;
-      closed = c;
-      times = slice_set b.times p u;
-      awaits = ws;
-      transit = transit;
-      barrier = barrier;
-    }) set
-    ∙ ap (λ (l : Log). record b {
-      journal = l;
-      closed = c;
-      times = slice_set b.times p u;
-      awaits = slice_set b.awaits p None;
-      transit = transit;
-      barrier = barrier;
-    }) one
-    ∙ ap (λ (x : Closings). record b {
-      journal = record b.journal { events = b.journal.events ++ event p k ∷ [] };
-      closed = x;
-      times = slice_set b.times p u;
-      awaits = slice_set b.awaits p None;
-      transit = transit;
-      barrier = barrier;
-    }) three
-    ∙ ap (λ (v : List ℕ). record b {
-      journal = record b.journal { events = b.journal.events ++ event p k ∷ [] };
-      closed = trimmed_by b.closed (slice_set b.times p v) (length (slice_set b.times p v));
-      times =
-          slice_set b.times p v;
-      awaits = slice_set b.awaits p None;
-      transit = transit;
-      barrier = barrier;
-    }) two
-    ∙ ap (λ (x : List (Option Letter)). record (book_taken b p k m)
-    { awaits = slice_set b.awaits p None; transit = x; barrier = barrier }) four
-    ∙ ap (λ (x : Episodes). record (book_taken b p k m) { awaits = slice_set b.awaits p None; barrier = x }) five
-    ∙ ap (λ (w : Option Kind). record (book_taken b p k m) { awaits = slice_set b.awaits p w }) (sym (takes_on k six))
+    let none = takes_on k six in cc
   where
     takes_on : (a : Kind) → IsTrue (is_taking a) → awaited a ≡ None
     takes_on (Acquire l) takes = refl
@@ -254,11 +216,7 @@ comes b now p k flags r same w flags_are is s h told =
 pub received_is : (b now : State) (p : ℕ) (k : Kind) (flags : List (Option (List ℕ))) (own : List ℕ) (m : Letter)
     → b ≡ now → flags ≡ b.flags → own ≡ time_of b p → message_among b.closed flags b.transit own p k ≡ Some m
     → message_for now p k ≡ Some m
-received_is b now p k flags own m same flags_are own_is is =
-    ap (λ (x : State). message_for x p k) (sym same)
-    ∙ ap (λ (t : List ℕ). message_among b.closed b.flags b.transit t p k) (sym own_is)
-    ∙ ap (λ (fs : List (Option (List ℕ))). message_among b.closed fs b.transit own p k) (sym flags_are)
-    ∙ is
+received_is b now p k flags own m same flags_are own_is is = cc
 
 -- what a message brings is what was due
 pub brings_is : (b : State) (p : ℕ) (k : Kind) (m : Letter) → slice_get b.awaits p ≡ Some (Some k)
@@ -267,32 +225,25 @@ brings_is b p k m waits is =
     sym (ap (λ (w : Option Kind). sent_with (option_and_then (message_for b p) w))
     (get_or_from_slice_get b.awaits p (Some k) None waits) ∙ ap sent_with is)
 
--- of one who waits for a flag that is set: what was read tells what a take would bring
-pub record IsSignalled (b now : State) (p f : ℕ) (own time : List ℕ) : Type 0 where
-  pub old_long : length own ≡ length b.closed.first
-  pub new_long : length time ≡ length b.closed.first
-  pub kept : (q : ℕ) → slice_index b.closed.first q ≤ slice_index own q
-  pub brings : between b.closed own time ≡ sent_with (message_for now p (Await f))
-
 -- what stands in the book of one who waits for a flag
 pub waits_flag : (b now : State) (p f : ℕ) → b ≡ now → MayTake now p (Await f) → IsReceiving b p (Await f)
 waits_flag b now p f same may = subst (λ x. IsReceiving x p (Await f)) (sym same) (receiving now p (Await f) may)
 
+-- what was read of one who waits for a flag that is set
 pub signalled : (b now : State) (p f : ℕ) (own time : List ℕ) (o : Option (List ℕ)) → b ≡ now
     → MayTake now p (Await f) → own ≡ slice_index_or b.times p own → o ≡ slice_index_or b.flags f o → o ≡ Some time
-    → IsSignalled b now p f own time
+    → IsSignalled now p f own time
 signalled b now p f own time o same may own_is flag_is set =
     let w = waits_flag b now p f same may in
     let flag = w.flag f refl in
     let read = own_read b.times p own w.times own_is in
     let at : slice_index_or b.flags f None ≡ Some time =
     sym (same_default b.flags f o None flag.within) ∙ sym flag_is ∙ set in
-    record {
+    subst (λ (x : State). IsSignalled x p f own time) same (record {
       old_long = ap (λ (t : List ℕ). length t) read ∙ flag.long;
       new_long = flag.time time at;
       kept = subst (λ (t : List ℕ). (q : ℕ) → slice_index b.closed.first q ≤ slice_index t q) (sym read) flag.kept;
       brings = ap (λ (t : List ℕ). between b.closed t time) read
           ∙ ap (λ (x : Option (List ℕ)). sent_with
-          (option_map (λ (t : List ℕ). signal_to b.closed t (time_of b p)) x)) (sym at)
-          ∙ ap (λ (x : State). sent_with (message_for x p (Await f))) same;
-    }
+          (option_map (λ (t : List ℕ). signal_to b.closed t (time_of b p)) x)) (sym at);
+    })

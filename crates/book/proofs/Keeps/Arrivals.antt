@@ -1,6 +1,6 @@
 -- Arrivals: what the book is told by the history before, it is told by the history with the event after.
-use Rattle.std.proofs.Common.{◌≡◌, ◌≢◌, ℕ, ◌<◌, ◌≤◌, inl, inr, List, [], ◌∷◌, length, map, Bool, true, false, Option, Some, None, slice_get, slice_set, slice_index_or, subst, sym, refl, ap, ◌∙◌, arith}
-use Rattle.std.proofs.lemmas.Option.{same_Some, none-some, slice_get_within, slice_get-get_or, slice_get-map}
+use Rattle.std.proofs.Common.{◌≡◌, ◌≢◌, ℕ, ◌<◌, ◌≤◌, inl, inr, List, [], length, map, Bool, true, false, Option, Some, None, slice_get, slice_index_or, subst, sym, refl, ap, ◌∙◌, arith}
+use Rattle.std.proofs.lemmas.Option.{same_Some, slice_get_within, slice_get-get_or, slice_get-map}
 use Rattle.std.proofs.lemmas.List.{length-map}
 use Rattle.std.specs.Option.{option_map}
 use Rattle.journal.specs.declared.event.Event.{Event}
@@ -19,24 +19,22 @@ use Rattle.barrier.specs.Episodes.{is_full, joined, completed}
 use Rattle.transit.specs.Letters.{Letter}
 use Rattle.journal.specs.Did.{event, did}
 use Rattle.book.specs.Stamps.{AreAll, IsStamp}
-use Rattle.book.specs.Lines.{IsLock}
-use Rattle.book.specs.Mail.{IsPosted, Carries, IsMail}
-use Rattle.book.specs.Flags.{IsFlag}
+use Rattle.book.specs.Mail.{IsPosted, IsMail}
 use Rattle.book.specs.Meetings.{IsBarrier}
 use Rattle.book.specs.ClosedIntervals.{AreContents}
 use Rattle.book.specs.State.{State, time_of}
 use Rattle.book.specs.Transitions.{closed_by, departure_to, mail_met, book_arrived}
 use Rattle.book.specs.Told.{IsTold}
-use Rattle.book.proofs.Parts.Each.{each_kept, each_own}
+use Rattle.book.proofs.Parts.Each.{each_own}
 use Rattle.book.proofs.Parts.Doings.{last_none, count_others, count_kept}
 use Rattle.book.proofs.Parts.Stamps.{stamp_closing}
 use Rattle.book.proofs.Parts.Lines.{idle_no_ask}
-use Rattle.book.proofs.Parts.Mail.{News, lets_posted, allowed_on, brings_on, mail_unless, idle_mail}
-use Rattle.book.proofs.Parts.Flags.{flag_kept}
+use Rattle.book.proofs.Parts.Mail.{News, mail_stays, mail_unless, idle_mail}
+use Rattle.book.proofs.Parts.Flags.{flags_kept}
 use Rattle.book.proofs.Parts.Meetings.{barrier_waits, barrier_completes, completes_all, idle_counts}
-use Rattle.book.proofs.Parts.History.{history_on}
-use Rattle.book.proofs.Parts.Told.{is_idle, is_processor, own_stamp, follows, still_formed, awaits_set, times_closing, closed_now, within_closing, tight_closing, old_notices}
-use Rattle.book.proofs.Keeps.Locks.{lock_kept}
+use Rattle.book.proofs.Parts.Told.{is_processor, is_idle, has_none, own_stamp, follows, still_formed, times_closing, old_notices}
+use Rattle.book.proofs.Keeps.Events.{told_closing}
+use Rattle.book.proofs.Keeps.Locks.{locks_kept}
 
 -- in an open episode only those may depart that might before
 departs_before : (s : Sizes) (h : List Event) (p r n : ℕ) → r ≢ p
@@ -58,24 +56,13 @@ waits_mail : (s : Sizes) (h : List Event) (p r n : ℕ) (o : Option Letter) → 
     → ((q : ℕ) → q < s.processors → n ≤ count_of is_arrive h q)
     → (q : ℕ) × (q < s.processors) × (count_of is_arrive (did h p Arrive) q ≡ n)
     → IsMail s h r o → IsMail s (did h p Arrive) r o
-waits_mail s h p r n None may isnt most lacks mail = mail_unless s h p Arrive r None may isnt never mail
+waits_mail s h p r n None may isnt most lacks mail = mail_unless s h p Arrive may r isnt None never mail
   where
     never : (a : Kind) → IsPosted a → News Arrive a → ¬ Allowed s (did h p Arrive) r a
     never (Acquire l) posted news allowed = absurd cc
     never Depart posted news allowed = mail Depart tt (departs_before s h p r n isnt most lacks allowed)
     never _ posted news allowed = absurd posted
-waits_mail s h p r n (Some m) may isnt most lacks mail = still
-  where
-    posted : IsPosted mail.kind
-    posted = lets_posted m.kind mail.kind mail.lets
-
-    still : Carries s (did h p Arrive) r m
-    still = record {
-      kind = mail.kind;
-      lets = mail.lets;
-      allowed = allowed_on s h p Arrive r mail.kind may isnt posted mail.allowed;
-      time = brings_on s h p Arrive r mail.kind m.time may isnt posted mail.allowed mail.time;
-    }
+waits_mail s h p r n (Some m) may isnt most lacks mail = mail_stays s h p Arrive may r isnt m mail
 
 -- the one who arrives has none then
 arrived_none : (s : Sizes) (h : List Event) (p n : ℕ) → count_of is_depart h p ≡ n
@@ -89,69 +76,6 @@ arrived_none s h p n same lacks Depart posted allowed =
     absurd (omega arith)
 arrived_none s h p n same lacks _ posted allowed = absurd posted
 
--- everyone's mail after an arrival
-arrived_mail : (s : Sizes) (h : List Event) (b c : State) (p : ℕ) (u : List ℕ) (full : Bool) → IsTold s h b
-    → c.transit ≡ b.transit → length c.times ≡ s.processors → slice_get b.awaits p ≡ Some None
-    → MayFollow s h (event p Arrive) → WellFormed s (did h p Arrive) → p < s.processors
-    → IsStamp s.processors (did h p Arrive) (InPast (did h p Arrive) p) u → is_full (joined b.barrier p u) ≡ full
-    → AreAll s.processors (IsMail s (did h p Arrive)) (mail_met full c (join b.barrier.gathered u))
-arrived_mail s h b c p u false told same long idle may next lt time full =
-    subst (λ ms. AreAll s.processors (IsMail s (did h p Arrive)) ms) (sym same)
-    (each_own s.processors (IsMail s h) (IsMail s (did h p Arrive)) b.transit p told.transit
-    (λ r o isnt at is. waits_mail s h p r waits.0.complete o may isnt waits.1 waits.0.lacks is)
-    (λ o at is. subst (λ x. IsMail s (did h p Arrive) p x) (idle_mail s h p o free is)
-    (arrived_none s h p waits.0.complete counts waits.0.lacks)))
-  where
-    free : IsIdle h p
-    free = is_idle s h b p told idle
-
-    waits : (x : IsBarrier s (did h p Arrive) (joined b.barrier p u))
-        × ((q : ℕ) → q < s.processors → x.complete ≤ count_of is_arrive h q) × (count_of is_arrive h p ≡ x.complete)
-    waits = barrier_waits s h p b.barrier u told.well_formed free lt told.barrier time full
-
-    counts : count_of is_depart h p ≡ waits.0.complete
-    counts = sym (idle_counts s h p told.well_formed free) ∙ waits.2
-arrived_mail s h b c p u true told same long idle may next lt time full =
-    record {
-      long =
-          length-map c.times (λ (own : List ℕ). Some (departure_to c.closed (join b.barrier.gathered u) own)) ∙ long;
-      each = each;
-    }
-  where
-    carries : (q : ℕ) → q < s.processors → (own : List ℕ)
-        → IsMail s (did h p Arrive) q (Some (departure_to c.closed (join b.barrier.gathered u) own))
-    carries q less own =
-        let x = completes_all s h p b.barrier u told.well_formed next (is_idle s h b p told idle)
-        lt told.barrier time full q less in
-        record { kind = Depart; lets = tt; allowed = x.0; time = x.1 }
-
-    each : (q : ℕ) (o : Option Letter)
-        → slice_get (map (λ (own : List ℕ). Some (departure_to c.closed (join b.barrier.gathered u) own)) c.times) q
-        ≡ Some o → IsMail s (did h p Arrive) q o
-    each q o at =
-        let within = slice_get_within
-        (map (λ (own : List ℕ). Some (departure_to c.closed (join b.barrier.gathered u) own)) c.times) q o at in
-        let mapped = length-map c.times
-        (λ (own : List ℕ). Some (departure_to c.closed (join b.barrier.gathered u) own)) in
-        let there = slice_get-map (λ (own : List ℕ). Some (departure_to c.closed (join b.barrier.gathered u) own))
-        c.times q in
-        let read = slice_get-get_or c.times q [] (omega arith) in
-        let is = same_Some (Some (departure_to c.closed (join b.barrier.gathered u) (slice_index_or c.times q []))) o
-        (sym (there
-        ∙ ap (λ x. option_map (λ (own : List ℕ). Some (departure_to c.closed (join b.barrier.gathered u) own)) x)
-        read) ∙ at) in
-        subst (λ x. IsMail s (did h p Arrive) q x) is (carries q (omega arith) (slice_index_or c.times q []))
-
--- the barrier after an arrival
-arrived_barrier : (s : Sizes) (h : List Event) (b : State) (p : ℕ) (u : List ℕ) (full : Bool) → IsTold s h b
-    → slice_get b.awaits p ≡ Some None → WellFormed s (did h p Arrive) → p < s.processors
-    → IsStamp s.processors (did h p Arrive) (InPast (did h p Arrive) p) u → is_full (joined b.barrier p u) ≡ full
-    → IsBarrier s (did h p Arrive) (completed full (joined b.barrier p u))
-arrived_barrier s h b p u false told idle next lt time full =
-    (barrier_waits s h p b.barrier u told.well_formed (is_idle s h b p told idle) lt told.barrier time full).0
-arrived_barrier s h b p u true told idle next lt time full =
-    barrier_completes s h p b.barrier u told.well_formed next (is_idle s h b p told idle) lt told.barrier time full
-
 -- a departure that is made now has the notices that its receiver lacks
 met_notices : (full : Bool) (c : State) (u : List ℕ) (r : ℕ) (m : Letter) (t : List ℕ)
     → slice_get (mail_met full c u) r ≡ Some (Some m) → slice_get c.times r ≡ Some t
@@ -164,58 +88,90 @@ met_notices true c u r m t at time old =
     (sym (there ∙ ap (λ x. option_map (λ (own : List ℕ). Some (departure_to c.closed u own)) x) time) ∙ at) in
     subst (λ x. x.notices ≡ between c.closed t x.time) (same_Some (departure_to c.closed u t) m is) refl
 
--- p arrives at the barrier
-pub told_arrive : (s : Sizes) (h : List Event) (b : State) (p : ℕ) (records : List Changes) → IsTold s h b
-    → slice_get b.awaits p ≡ Some None → AreContents s h p (count_of is_closing h p) records
-    → IsTold s (did h p Arrive) (book_arrived b p records)
-told_arrive s h b p records told idle stored = record {
-  well_formed = well;
-  sizes = record {
-    processors = told.sizes.processors;
-    words = told.sizes.words;
-    addresses = told.sizes.addresses;
-    lockers = told.sizes.lockers;
-  };
-  holds = history_on b.journal h (event p Arrive ∷ []) told.holds;
-  closed = closed_now s h b p Arrive records told lt refl stored;
-  times = times;
-  locks = each_kept s.locks (IsLock s.processors h) (IsLock s.processors (did h p Arrive)) b.locks.locks told.locks
-      (λ l x at is. lock_kept s.processors h p Arrive l x (λ e. absurd cc) (λ e. absurd cc) (λ e. absurd cc)
-      (idle_no_ask h p l free) is);
-  barrier = arrived_barrier s h b p (tick (time_of b p) p) (is_full (joined b.barrier p (tick (time_of b p) p)))
-      told idle well lt time refl;
-  flags = each_kept s.flags (IsFlag s.processors h) (IsFlag s.processors (did h p Arrive)) b.flags told.flags
-      (λ f o at is. flag_kept s.processors h p Arrive f o (λ e. absurd cc) is);
-  awaits = awaits_set s h b p Arrive told;
-  transit = arrived_mail s h b (closed_by b p Arrive records) p (tick (time_of b p) p)
-      (is_full (joined b.barrier p (tick (time_of b p) p))) told refl times.long idle may well lt time refl;
-  notices = λ r m t at now. met_notices (is_full (joined b.barrier p (tick (time_of b p) p)))
-      (closed_by b p Arrive records) (join b.barrier.gathered (tick (time_of b p) p)) r m t at now
-      (λ there. old_notices s h b p records r m t told lt (apart r m there) there now);
-  within = within_closing s h b p told lt;
-  tight = tight_closing s h b p told lt;
-}
-  where
-    lt : p < s.processors
-    lt = is_processor s h b p None told idle
+-- p, which waits for nothing, arrives at the barrier
+module _ (s : Sizes) (h : List Event) (b : State) (p : ℕ) (told : IsTold s h b)
+    (idle : slice_get b.awaits p ≡ Some None) where
+  lt : p < s.processors
+  lt = is_processor s h b p None told idle
 
-    free : IsIdle h p
-    free = is_idle s h b p told idle
+  free : IsIdle h p
+  free = is_idle s h b p told idle
 
-    may : MayFollow s h (event p Arrive)
-    may = follows s h b p Arrive told idle tt tt
+  may : MayFollow s h (event p Arrive)
+  may = follows s h b p told Arrive idle tt tt
 
-    well : WellFormed s (did h p Arrive)
-    well = still_formed s h b p Arrive told may
+  well : WellFormed s (did h p Arrive)
+  well = still_formed s h b p told Arrive may
 
-    times : AreAll s.processors (λ q t. IsStamp s.processors (did h p Arrive) (InPast (did h p Arrive) q) t)
-        (slice_set b.times p (tick (time_of b p) p))
-    times = times_closing s h b p Arrive told lt refl refl
+  -- p's timestamp then
+  abbrev now : List ℕ
+  now = tick (time_of b p) p
 
-    time : IsStamp s.processors (did h p Arrive) (InPast (did h p Arrive) p) (tick (time_of b p) p)
-    time = stamp_closing s.processors h p Arrive (time_of b p) lt refl refl (own_stamp s h b p told lt)
+  time : IsStamp s.processors (did h p Arrive) (InPast (did h p Arrive) p) now
+  time = stamp_closing s.processors h p Arrive (time_of b p) lt refl refl (own_stamp s h b p told lt)
 
-    apart : (r : ℕ) (m : Letter) → slice_get b.transit r ≡ Some (Some m) → r ≢ p
-    apart r m at is = let P : ℕ → Type 0 =
-        λ x. slice_get b.transit x ≡ Some (Some m) in
-        none-some m (idle_mail s h p (Some m) free (told.transit.each p (Some m) (subst P is at)))
+  -- everyone's mail after the arrival
+  arrived_mail : (c : State) (full : Bool) → c.transit ≡ b.transit → length c.times ≡ s.processors
+      → is_full (joined b.barrier p now) ≡ full
+      → AreAll s.processors (IsMail s (did h p Arrive)) (mail_met full c (join b.barrier.gathered now))
+  arrived_mail c false same long full =
+      subst (λ ms. AreAll s.processors (IsMail s (did h p Arrive)) ms) (sym same)
+      (each_own s.processors (IsMail s h) (IsMail s (did h p Arrive)) b.transit p told.transit
+      (λ r o isnt at is. waits_mail s h p r waits.0.complete o may isnt waits.1 waits.0.lacks is)
+      (λ o at is. subst (λ x. IsMail s (did h p Arrive) p x) (idle_mail s h p o free is)
+      (arrived_none s h p waits.0.complete counts waits.0.lacks)))
+    where
+      waits : (x : IsBarrier s (did h p Arrive) (joined b.barrier p now))
+          × ((q : ℕ) → q < s.processors → x.complete ≤ count_of is_arrive h q) × (count_of is_arrive h p ≡ x.complete)
+      waits = barrier_waits s h p b.barrier told.well_formed free lt told.barrier now time full
+
+      counts : count_of is_depart h p ≡ waits.0.complete
+      counts = sym (idle_counts s h p told.well_formed free) ∙ waits.2
+  arrived_mail c true same long full = record { long = length-map c.times departs ∙ long; each = each }
+    where
+      -- one's departure, with what it lacks
+      departs : List ℕ → Option Letter
+      departs own = Some (departure_to c.closed (join b.barrier.gathered now) own)
+
+      carries : (q : ℕ) → q < s.processors → (own : List ℕ) → IsMail s (did h p Arrive) q (departs own)
+      carries q less own =
+          let x = completes_all s h p b.barrier told.well_formed free lt told.barrier now time well full q less in
+          record { kind = Depart; lets = tt; allowed = x.0; time = x.1 }
+
+      each : (q : ℕ) (o : Option Letter) → slice_get (map departs c.times) q ≡ Some o → IsMail s (did h p Arrive) q o
+      each q o at =
+          let within = slice_get_within (map departs c.times) q o at in
+          let mapped = length-map c.times departs in
+          let read = slice_get-get_or c.times q [] (omega arith) in
+          let is = same_Some (departs (slice_index_or c.times q [])) o
+          (sym (slice_get-map departs c.times q ∙ ap (λ x. option_map departs x) read) ∙ at) in
+          subst (λ x. IsMail s (did h p Arrive) q x) is (carries q (omega arith) (slice_index_or c.times q []))
+
+  -- and the barrier
+  arrived_barrier : (full : Bool) → is_full (joined b.barrier p now) ≡ full
+      → IsBarrier s (did h p Arrive) (completed full (joined b.barrier p now))
+  arrived_barrier false full =
+      (barrier_waits s h p b.barrier told.well_formed free lt told.barrier now time full).0
+  arrived_barrier true full =
+      barrier_completes s h p b.barrier told.well_formed free lt told.barrier now time well full
+
+  pub told_arrive : (records : List Changes) → AreContents s h p (count_of is_closing h p) records
+      → IsTold s (did h p Arrive) (book_arrived b p records)
+  told_arrive records stored =
+      told_closing s h b p told lt Arrive may (book_arrived b p records)
+      (record {
+        locks = locks_kept s h p Arrive b.locks.locks (λ l e. absurd cc) (λ l e. absurd cc) (λ l e. absurd cc)
+            (λ l. idle_no_ask h p l free) told.locks;
+        barrier = arrived_barrier full refl;
+        flags = flags_kept s h p Arrive b.flags (λ f e. absurd cc) told.flags;
+        transit = arrived_mail (closed_by b p Arrive records) full refl
+            (times_closing s h b p told lt Arrive refl refl).long refl;
+        notices = λ r m t at read. met_notices full (closed_by b p Arrive records) (join b.barrier.gathered now)
+            r m t at read
+            (λ there. old_notices s h b p told lt records r m t (has_none s h b p told idle r m there) there read);
+      })
+      refl refl records stored refl
+    where
+      -- whether the episode is complete
+      full : Bool
+      full = is_full (joined b.barrier p now)

@@ -1,6 +1,6 @@
 -- Sets, watches and awaits: what the book is told by the history before, it is told by the history with the event
 -- after.
-use Rattle.std.proofs.Common.{◌≡◌, ◌≢◌, ℕ, ◌<◌, ◌↔◌, List, [], ◌∷◌, true, false, Option, Some, None, slice_get, slice_set, slice_index_or, subst, sym, refl, ap, ◌∙◌}
+use Rattle.std.proofs.Common.{◌≡◌, ◌≢◌, ℕ, ◌<◌, ◌↔◌, List, true, false, Option, Some, None, slice_get, slice_set, slice_index_or, subst, sym, refl, ap, ◌∙◌}
 use Rattle.std.proofs.lemmas.Option.{same_Some, none-some}
 use Rattle.journal.specs.declared.event.Event.{Event}
 use Rattle.journal.specs.declared.event.Kind.{Kind}
@@ -17,24 +17,23 @@ use Rattle.vtime.specs.Times.{tick, join}
 use Rattle.transit.specs.Letters.{Letter}
 use Rattle.journal.specs.Did.{event, did}
 use Rattle.book.specs.Stamps.{AreAll, IsAwaited}
-use Rattle.book.specs.Lines.{IsLock}
 use Rattle.book.specs.Mail.{IsPosted, IsMail}
 use Rattle.book.specs.Flags.{IsFlag}
 use Rattle.book.specs.ClosedIntervals.{AreContents}
 use Rattle.book.specs.State.{State, time_of}
 use Rattle.book.specs.Transitions.{closed_by, flag_joined, book_set, book_watched, book_joined}
 use Rattle.book.specs.Told.{IsTold}
-use Rattle.book.proofs.Parts.Each.{each_set, each_kept, each_own, is_at}
+use Rattle.book.proofs.Parts.Each.{each_set, each_own, is_at}
 use Rattle.book.proofs.Parts.Stamps.{stamp_closing}
 use Rattle.book.proofs.Parts.Lines.{idle_no_ask}
-use Rattle.book.proofs.Parts.Mail.{mail_kept, idle_mail, own_idle, own_none, lets_posted}
-use Rattle.book.proofs.Parts.Flags.{flag_kept, flag_set}
+use Rattle.book.proofs.Parts.Mail.{mail_kept, own_idle, own_none, lets_posted}
+use Rattle.book.proofs.Parts.Flags.{flag_kept, flags_kept, flag_set}
 use Rattle.book.proofs.Parts.Meetings.{barrier_kept}
-use Rattle.book.proofs.Parts.ClosedIntervals.{closed_quiet}
 use Rattle.book.proofs.Parts.Loose.{IsLoose}
-use Rattle.book.proofs.Parts.History.{history_on}
-use Rattle.book.proofs.Parts.Told.{is_idle, is_processor, own_stamp, follows, still_formed, awaits_set, times_closing, times_taking, closed_now, within_closing, tight_closing, within_taking, old_notices}
-use Rattle.book.proofs.Keeps.Locks.{lock_kept}
+use Rattle.book.proofs.Parts.Doings.{unlike}
+use Rattle.book.proofs.Parts.Told.{is_processor, is_idle, has_none, own_stamp, follows, old_notices}
+use Rattle.book.proofs.Keeps.Events.{told_closing, told_taking}
+use Rattle.book.proofs.Keeps.Locks.{locks_kept}
 
 -- the event closes its interval, and neither locks nor the barrier know of it
 record IsPlainClosing (k : Kind) : Type 0 where
@@ -43,97 +42,73 @@ record IsPlainClosing (k : Kind) : Type 0 where
   arrives : is_arrive k ≡ false
   departs : is_depart k ≡ false
   ask : (l : ℕ) → k ≢ Ask l
-  acquire : (l : ℕ) → k ≢ Acquire l
   release : (l : ℕ) → k ≢ Release l
-  arrive : k ≢ Arrive
 
-told_closing : (s : Sizes) (h : List Event) (b : State) (p : ℕ) (k : Kind) (records : List Changes)
-    (flags : List (Option (List ℕ))) → IsTold s h b → slice_get b.awaits p ≡ Some None → MayFollow s h (event p k)
-    → IsPlainClosing k
-    → AreAll s.flags (IsFlag s.processors (did h p k)) flags → AreContents s h p (count_of is_closing h p) records
-    → IsTold s (did h p k) (record (closed_by b p k records) { flags = flags })
-told_closing s h b p k records flags told idle may plain all stored = record {
-  well_formed = still_formed s h b p k told may;
-  sizes = record {
-    processors = told.sizes.processors;
-    words = told.sizes.words;
-    addresses = told.sizes.addresses;
-    lockers = told.sizes.lockers;
-  };
-  holds = history_on b.journal h (event p k ∷ []) told.holds;
-  closed = closed_now s h b p k records told lt plain.closes stored;
-  times = times_closing s h b p k told lt plain.takes plain.closes;
-  locks = each_kept s.locks (IsLock s.processors h) (IsLock s.processors (did h p k)) b.locks.locks told.locks
-      (λ l x at is. lock_kept s.processors h p k l x (plain.ask l) (plain.acquire l) (plain.release l)
-      (idle_no_ask h p l free) is);
-  barrier = barrier_kept s h p k b.barrier plain.arrives plain.departs told.barrier;
-  flags = all;
-  awaits = awaits_set s h b p k told;
-  transit = each_own s.processors (IsMail s h) (IsMail s (did h p k)) b.transit p told.transit
-      (λ r o isnt at is. mail_kept s h p k r o may isnt plain.release plain.arrive is)
-      (λ o at is. own_idle s h p k o free plain.ask plain.arrive is);
-  notices = λ r m t at now. old_notices s h b p records r m t told lt (apart r m at) at now;
-  within = within_closing s h b p told lt;
-  tight = tight_closing s h b p told lt;
-}
-  where
-    lt : p < s.processors
-    lt = is_processor s h b p None told idle
+module _ (s : Sizes) (h : List Event) (b : State) (p f : ℕ) (records : List Changes) (told : IsTold s h b)
+    (range : f < s.flags) (idle : slice_get b.awaits p ≡ Some None)
+    (stored : AreContents s h p (count_of is_closing h p) records) where
+  told_plain : (k : Kind) → IsPlainClosing k → MayFollow s h (event p k) → (flags : List (Option (List ℕ)))
+      → AreAll s.flags (IsFlag s.processors (did h p k)) flags
+      → IsTold s (did h p k) (record (closed_by b p k records) { flags = flags })
+  told_plain k plain may flags all =
+      told_closing s h b p told lt k may (record (closed_by b p k records) { flags = flags })
+      (record {
+        locks = locks_kept s h p k b.locks.locks plain.ask (λ l. unlike is_taking k (Acquire l) plain.takes refl)
+            plain.release (λ l. idle_no_ask h p l free) told.locks;
+        barrier = barrier_kept s h p k b.barrier plain.arrives plain.departs told.barrier;
+        flags = all;
+        transit = each_own s.processors (IsMail s h) (IsMail s (did h p k)) b.transit p told.transit
+            (λ r o isnt at is. mail_kept s h p k may r isnt o plain.release arrive is)
+            (λ o at is. own_idle s h p k o free plain.ask arrive is);
+        notices = λ r m t at. old_notices s h b p told lt records r m t (has_none s h b p told idle r m at) at;
+      })
+      plain.takes plain.closes records stored refl
+    where
+      lt : p < s.processors
+      lt = is_processor s h b p None told idle
 
-    free : IsIdle h p
-    free = is_idle s h b p told idle
+      free : IsIdle h p
+      free = is_idle s h b p told idle
 
-    apart : (r : ℕ) (m : Letter) → slice_get b.transit r ≡ Some (Some m) → r ≢ p
-    apart r m at is = let P : ℕ → Type 0 =
-        λ x. slice_get b.transit x ≡ Some (Some m) in
-        none-some m (idle_mail s h p (Some m) free (told.transit.each p (Some m) (subst P is at)))
+      arrive : k ≢ Arrive
+      arrive = unlike is_arrive k Arrive plain.arrives refl
 
--- p sets a flag
-pub told_set : (s : Sizes) (h : List Event) (b : State) (p f : ℕ) (records : List Changes) → IsTold s h b
-    → f < s.flags → slice_get b.awaits p ≡ Some None → AreContents s h p (count_of is_closing h p) records
-    → IsTold s (did h p (Set f)) (book_set b p f records)
-told_set s h b p f records told range idle stored =
-    told_closing s h b p (Set f) records
-    (slice_set b.flags f (Some (flag_joined (slice_index_or b.flags f None) (tick (time_of b p) p)))) told idle
-    (follows s h b p (Set f) told idle range tt)
-    (record {
-      takes = refl;
-      closes = refl;
-      arrives = refl;
-      departs = refl;
-      ask = λ l e. absurd cc;
-      acquire = λ l e. absurd cc;
-      release = λ l e. absurd cc;
-      arrive = λ e. absurd cc;
-    })
-    (each_set s.flags (IsFlag s.processors h) (IsFlag s.processors (did h p (Set f))) b.flags f
-    (Some (flag_joined (slice_index_or b.flags f None) (tick (time_of b p) p))) told.flags
-    (λ g o isnt at is. flag_kept s.processors h p (Set f) g o (λ e. isnt (cc e)) is)
-    (flag_set s.processors h p f (slice_index_or b.flags f None) (tick (time_of b p) p)
-    (is_at s.flags (IsFlag s.processors h) b.flags f None told.flags range)
-    (let lt = is_processor s h b p None told idle in
-    stamp_closing s.processors h p (Set f) (time_of b p) lt refl refl (own_stamp s h b p told lt))))
-    stored
+  -- p sets a flag
+  pub told_set : IsTold s (did h p (Set f)) (book_set b p f records)
+  told_set =
+      told_plain (Set f)
+      (record {
+        takes = refl;
+        closes = refl;
+        arrives = refl;
+        departs = refl;
+        ask = λ l e. absurd cc;
+        release = λ l e. absurd cc;
+      })
+      (follows s h b p told (Set f) idle range tt)
+      (slice_set b.flags f (Some (flag_joined (slice_index_or b.flags f None) (tick (time_of b p) p))))
+      (each_set s.flags (IsFlag s.processors h) (IsFlag s.processors (did h p (Set f))) b.flags f
+      (Some (flag_joined (slice_index_or b.flags f None) (tick (time_of b p) p))) told.flags
+      (λ g o isnt at is. flag_kept s.processors h p (Set f) g o (λ e. isnt (cc e)) is)
+      (flag_set s.processors h p f (slice_index_or b.flags f None) (tick (time_of b p) p)
+      (is_at s.flags (IsFlag s.processors h) b.flags f None told.flags range)
+      (let lt = is_processor s h b p None told idle in
+      stamp_closing s.processors h p (Set f) (time_of b p) lt refl refl (own_stamp s h b p told lt))))
 
--- p watches a flag
-pub told_watch : (s : Sizes) (h : List Event) (b : State) (p f : ℕ) (records : List Changes) → IsTold s h b
-    → f < s.flags → slice_get b.awaits p ≡ Some None → AreContents s h p (count_of is_closing h p) records
-    → IsTold s (did h p (Watch f)) (book_watched b p f records)
-told_watch s h b p f records told range idle stored =
-    told_closing s h b p (Watch f) records b.flags told idle (follows s h b p (Watch f) told idle range tt)
-    (record {
-      takes = refl;
-      closes = refl;
-      arrives = refl;
-      departs = refl;
-      ask = λ l e. absurd cc;
-      acquire = λ l e. absurd cc;
-      release = λ l e. absurd cc;
-      arrive = λ e. absurd cc;
-    })
-    (each_kept s.flags (IsFlag s.processors h) (IsFlag s.processors (did h p (Watch f))) b.flags told.flags
-    (λ g o at is. flag_kept s.processors h p (Watch f) g o (λ e. absurd cc) is))
-    stored
+  -- p watches a flag
+  pub told_watch : IsTold s (did h p (Watch f)) (book_watched b p f records)
+  told_watch =
+      told_plain (Watch f)
+      (record {
+        takes = refl;
+        closes = refl;
+        arrives = refl;
+        departs = refl;
+        ask = λ l e. absurd cc;
+        release = λ l e. absurd cc;
+      })
+      (follows s h b p told (Watch f) idle range tt) b.flags
+      (flags_kept s h p (Watch f) b.flags (λ g e. absurd cc) told.flags)
 
 -- who waits for a flag has watched it
 watched : (a : Kind) (f : ℕ) → awaited a ≡ Some (Await f) → a ≡ Watch f
@@ -161,36 +136,23 @@ watching_mail s h p i f (Some m) last mail = absurd (go mail.kind (lets_posted m
 pub told_signal : (s : Sizes) (h : List Event) (b : State) (p f : ℕ) (t : List ℕ) → IsTold s h b
     → slice_get b.awaits p ≡ Some (Some (Await f)) → slice_get b.flags f ≡ Some (Some t)
     → IsLoose s (did h p (Await f)) (book_joined b p (Await f) t)
-told_signal s h b p f t told waits set = record {
-  well_formed = still_formed s h b p (Await f) told may;
-  sizes = record {
-    processors = told.sizes.processors;
-    words = told.sizes.words;
-    addresses = told.sizes.addresses;
-    lockers = told.sizes.lockers;
-  };
-  holds = history_on b.journal h (event p (Await f) ∷ []) told.holds;
-  closed = closed_quiet s h p (Await f) b.closed refl told.closed;
-  times = times_taking s h b p (Await f) t told lt refl flag.1;
-  locks = each_kept s.locks (IsLock s.processors h) (IsLock s.processors (did h p (Await f))) b.locks.locks told.locks
-      (λ l x at is. lock_kept s.processors h p (Await f) l x (λ e. absurd cc) (λ e. absurd cc) (λ e. absurd cc)
-      (λ i ask. absurd (cc ((last_unique h p last.0 i (Watch f) (Ask l) last.1 ask).1))) is);
-  barrier = barrier_kept s h p (Await f) b.barrier refl refl told.barrier;
-  flags = each_kept s.flags (IsFlag s.processors h) (IsFlag s.processors (did h p (Await f))) b.flags told.flags
-      (λ g o at is. flag_kept s.processors h p (Await f) g o (λ e. absurd cc) is);
-  awaits = awaits_set s h b p (Await f) told;
-  transit = each_own s.processors (IsMail s h) (IsMail s (did h p (Await f))) b.transit p told.transit
-      (λ r o isnt at is. mail_kept s h p (Await f) r o may isnt (λ m e. absurd cc) (λ e. absurd cc) is)
-      (λ o at is. subst (λ x. IsMail s (did h p (Await f)) p x) (watching_mail s h p last.0 f o last.1 is)
-      (own_none s h p (Await f) (λ m e. absurd cc) (λ e. absurd cc)));
-  notices = λ r m u at now. told.notices r m u at
-      (sym (slice_get-set_other b.times p r (join (time_of b p) t) (apart r m at)) ∙ now);
-  within = within_taking s h b p t told lt;
-}
+told_signal s h b p f t told waits set =
+    told_taking s h b p told (is_processor s h b p (Some (Await f)) told waits) (Await f) may
+    (book_joined b p (Await f) t)
+    (record {
+      locks = locks_kept s h p (Await f) b.locks.locks (λ l e. absurd cc) (λ l e. absurd cc) (λ l e. absurd cc)
+          (λ l i ask. absurd (cc ((last_unique h p last.0 i (Watch f) (Ask l) last.1 ask).1))) told.locks;
+      barrier = barrier_kept s h p (Await f) b.barrier refl refl told.barrier;
+      flags = flags_kept s h p (Await f) b.flags (λ g e. absurd cc) told.flags;
+      transit = each_own s.processors (IsMail s h) (IsMail s (did h p (Await f))) b.transit p told.transit
+          (λ r o isnt at is. mail_kept s h p (Await f) may r isnt o (λ m e. absurd cc) (λ e. absurd cc) is)
+          (λ o at is. subst (λ x. IsMail s (did h p (Await f)) p x) (watching_mail s h p last.0 f o last.1 is)
+          (own_none s h p (Await f) (λ m e. absurd cc) (λ e. absurd cc)));
+      notices = λ r m u at now. told.notices r m u at
+          (sym (slice_get-set_other b.times p r (join (time_of b p) t) (apart r m at)) ∙ now);
+    })
+    refl t flag.1 refl
   where
-    lt : p < s.processors
-    lt = is_processor s h b p (Some (Await f)) told waits
-
     last : (i : ℕ) × LastIs h p i (Watch f)
     last = last_watch h p f (told.awaits.each p (Some (Await f)) waits)
 
@@ -201,8 +163,8 @@ told_signal s h b p f t told waits set = record {
     may = taking_follows s h p (Await f) told.well_formed refl (last.0, flag.0.0, flag.0.1.0, last.1, flag.0.1.1)
 
     apart : (r : ℕ) (m : Letter) → slice_get b.transit r ≡ Some (Some m) → r ≢ p
-    apart r m at is = let P : ℕ → Type 0 =
-        λ x. slice_get b.transit x ≡ Some (Some m) in
+    apart r m at is =
+        let P : ℕ → Type 0 = λ x. slice_get b.transit x ≡ Some (Some m) in
         none-some m (watching_mail s h p last.0 f (Some m) last.1 (told.transit.each p (Some m) (subst P is at)))
 
 -- who waits for a flag may go on exactly where it is set

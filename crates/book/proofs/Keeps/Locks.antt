@@ -1,5 +1,5 @@
 -- Asks and releases: what the book is told by the history before, it is told by the history with the event after.
-use Rattle.std.proofs.Common.{◌≡◌, ◌≢◌, ℕ, ◌<◌, inl, inr, List, [], ◌∷◌, ◌++◌, Option, Some, None, slice_get, slice_set, slice_index, subst, sym, refl, ap, ◌∙◌}
+use Rattle.std.proofs.Common.{◌≡◌, ◌≢◌, ℕ, ◌<◌, inl, inr, List, [], ◌∷◌, ◌++◌, Option, Some, None, slice_get, slice_set, subst, sym, refl, ap, ◌∙◌}
 use Rattle.std.proofs.lemmas.Bool.{cases_eq}
 use Rattle.std.proofs.lemmas.Option.{same_Some, none-some, get_or_from_slice_get}
 use Rattle.journal.specs.declared.event.Event.{Event}
@@ -12,7 +12,6 @@ use Rattle.journal.specs.Waits.{IsIdle}
 use Rattle.journal.specs.Pasts.{UpToSome}
 use Rattle.journal.specs.Brings.{SomeDoes}
 use Rattle.lists.proofs.Sets.{slice_get-set_found, slice_get-set_other}
-use Rattle.journal.proofs.Times.Kept.{kind_kept}
 use Rattle.journal.proofs.Journals.WellFormed.{last_cases, holds_cases}
 use Rattle.journal.proofs.Journals.Holding.{holder_alone}
 use Rattle.page.specs.Changes.{Changes}
@@ -26,7 +25,6 @@ use Rattle.journal.specs.Did.{event, did}
 use Rattle.book.specs.Stamps.{AreAll, IsStamp}
 use Rattle.book.specs.Lines.{IsLine, IsLock}
 use Rattle.book.specs.Mail.{IsPosted, IsMail}
-use Rattle.book.specs.Flags.{IsFlag}
 use Rattle.book.specs.ClosedIntervals.{AreContents}
 use Rattle.book.specs.State.{State, time_of}
 use Rattle.book.specs.Transitions.{closed_by, grant_from, if_free, mail_passed_on, book_asked, book_released}
@@ -35,13 +33,11 @@ use Rattle.book.proofs.Parts.Each.{each_set, each_kept, each_own, is_at}
 use Rattle.book.proofs.Parts.Doings.{last_none, holds_back}
 use Rattle.book.proofs.Parts.Stamps.{stamp_closing, stamp_released}
 use Rattle.book.proofs.Parts.Lines.{NoAsk, idle_no_ask, not_in_line, line_kept, line_asked, line_released, line_taken, first_allowed, allowed_first}
-use Rattle.book.proofs.Parts.Mail.{News, other_kind, mail_unless, mail_kept, idle_mail, own_idle}
-use Rattle.book.proofs.Parts.Flags.{flag_kept}
+use Rattle.book.proofs.Parts.Mail.{News, stamp_kept, mail_unless, mail_kept, own_idle}
+use Rattle.book.proofs.Parts.Flags.{flags_kept}
 use Rattle.book.proofs.Parts.Meetings.{barrier_kept}
-use Rattle.book.proofs.Parts.History.{history_on}
-use Rattle.book.proofs.Parts.Told.{is_idle, is_processor, own_stamp, follows, still_formed, awaits_set, times_closing, closed_now, within_closing, tight_closing, old_notices}
-
--- locks
+use Rattle.book.proofs.Parts.Told.{is_processor, is_idle, has_none, own_stamp, follows, still_formed, old_notices}
+use Rattle.book.proofs.Keeps.Events.{told_closing}
 
 -- a lock that the event does not name stays
 pub lock_kept : (n : ℕ) (h : List Event) (p : ℕ) (k : Kind) (l : ℕ) (x : Lock) → k ≢ Ask l → k ≢ Acquire l
@@ -49,12 +45,16 @@ pub lock_kept : (n : ℕ) (h : List Event) (p : ℕ) (k : Kind) (l : ℕ) (x : L
 lock_kept n h p k l x ask acquire release none is = record {
   line_is = line_kept h p k l (line x) ask acquire release none is.line_is;
   held = is.held;
-  time = record {
-    long = is.time.long;
-    is = kind_kept h (event p k ∷ []) (Release l) (slice_index x.time) (other_kind p k (Release l) release)
-        is.time.is;
-  };
+  time = stamp_kept n h p k (Release l) x.time release is.time;
 }
+
+-- each stays that is neither asked for nor taken nor released
+pub locks_kept : (s : Sizes) (h : List Event) (p : ℕ) (k : Kind) (xs : List Lock) → ((l : ℕ) → k ≢ Ask l)
+    → ((l : ℕ) → k ≢ Acquire l) → ((l : ℕ) → k ≢ Release l) → ((l : ℕ) → NoAsk h p l)
+    → AreAll s.locks (IsLock s.processors h) xs → AreAll s.locks (IsLock s.processors (did h p k)) xs
+locks_kept s h p k xs ask acquire release none all =
+    each_kept s.locks (IsLock s.processors h) (IsLock s.processors (did h p k)) xs all
+    (λ l x at is. lock_kept s.processors h p k l x (ask l) (acquire l) (release l) (none l) is)
 
 lock_asked : (n : ℕ) (h : List Event) (p l : ℕ) (o : Option ℕ) (xs t : List ℕ) → NoAsk h p l → ¬ Holds h p l
     → IsLock n h l (record { holder = o; queue = xs; time = t })
@@ -63,20 +63,12 @@ lock_asked n h p l None (y ∷ xs) t none free is = absurd (cc (is.held refl))
 lock_asked n h p l None [] t none free is = record {
   line_is = line_asked h p l [] none free is.line_is;
   held = λ e. absurd (cc (e));
-  time = record {
-    long = is.time.long;
-    is = kind_kept h (event p (Ask l) ∷ []) (Release l) (slice_index t)
-        (other_kind p (Ask l) (Release l) (λ e. absurd cc)) is.time.is;
-  };
+  time = stamp_kept n h p (Ask l) (Release l) t (λ e. absurd cc) is.time;
 }
 lock_asked n h p l (Some q) xs t none free is = record {
   line_is = line_asked h p l (q ∷ xs) none free is.line_is;
   held = λ e. absurd (cc (e));
-  time = record {
-    long = is.time.long;
-    is = kind_kept h (event p (Ask l) ∷ []) (Release l) (slice_index t)
-        (other_kind p (Ask l) (Release l) (λ e. absurd cc)) is.time.is;
-  };
+  time = stamp_kept n h p (Ask l) (Release l) t (λ e. absurd cc) is.time;
 }
 
 pub lock_taken : (n : ℕ) (h : List Event) (p l i : ℕ) (x : Lock) → LastIs h p i (Ask l) → MayBeGranted h i l
@@ -84,11 +76,7 @@ pub lock_taken : (n : ℕ) (h : List Event) (p l i : ℕ) (x : Lock) → LastIs 
 lock_taken n h p l i x last may is = record {
   line_is = line_taken h p l i (line x) last may is.line_is;
   held = is.held;
-  time = record {
-    long = is.time.long;
-    is = kind_kept h (event p (Acquire l) ∷ []) (Release l) (slice_index x.time)
-        (other_kind p (Acquire l) (Release l) (λ e. absurd cc)) is.time.is;
-  };
+  time = stamp_kept n h p (Acquire l) (Release l) x.time (λ e. absurd cc) is.time;
 }
 
 -- the line of a lock is that of its holder and its queue
@@ -111,8 +99,6 @@ line_passed n h p l o xs t none held is =
     let first = holder_first n h p l o xs t held is in
     line_released h p l xs none held
     (subst (λ x. IsLine h l (line (record { holder = x; queue = xs; time = t }))) first is.line_is)
-
--- messages
 
 -- the mail of one who asks: a grant where nobody stands before it
 asked_mail : (s : Sizes) (h : List Event) (p l : ℕ) (o : Option ℕ) (xs t : List ℕ) (notices : List SentRecord)
@@ -166,45 +152,37 @@ granted_notices c r u t m at is =
 pub told_ask : (s : Sizes) (h : List Event) (b : State) (p l : ℕ) (records : List Changes) → IsTold s h b
     → l < s.locks → slice_get b.awaits p ≡ Some None → ¬ Holds h p l
     → AreContents s h p (count_of is_closing h p) records → IsTold s (did h p (Ask l)) (book_asked b p l records)
-told_ask s h b p l records told range idle free stored = record {
-  well_formed = still_formed s h b p (Ask l) told may;
-  sizes = record {
-    processors = told.sizes.processors;
-    words = told.sizes.words;
-    addresses = told.sizes.addresses;
-    lockers = told.sizes.lockers;
-  };
-  holds = history_on b.journal h (event p (Ask l) ∷ []) told.holds;
-  closed = closed_now s h b p (Ask l) records told lt refl stored;
-  times = times_closing s h b p (Ask l) told lt refl refl;
-  locks = each_set s.locks (IsLock s.processors h) (IsLock s.processors (did h p (Ask l))) b.locks.locks l
-      (asked (lock_at b.locks l) p) told.locks
-      (λ m x isnt at is. lock_kept s.processors h p (Ask l) m x (λ e. isnt (cc e)) (λ e. absurd cc) (λ e. absurd cc)
-      (idle_no_ask h p m (is_idle s h b p told idle)) is)
-      (lock_asked s.processors h p l (lock_at b.locks l).holder (lock_at b.locks l).queue
-      (lock_at b.locks l).time none free lock);
-  barrier = barrier_kept s h p (Ask l) b.barrier refl refl told.barrier;
-  flags = each_kept s.flags (IsFlag s.processors h) (IsFlag s.processors (did h p (Ask l))) b.flags told.flags
-      (λ f o at is. flag_kept s.processors h p (Ask l) f o (λ e. absurd cc) is);
-  awaits = awaits_set s h b p (Ask l) told;
-  transit = each_set s.processors (IsMail s h) (IsMail s (did h p (Ask l))) b.transit p
-      (if_free (lock_at b.locks l).holder (grant_from c p (lock_at b.locks l).time)) told.transit
-      (λ r o isnt at is. mail_kept s h p (Ask l) r o may isnt (λ m e. absurd cc) (λ e. absurd cc) is)
-      (asked_mail s h p l (lock_at b.locks l).holder (lock_at b.locks l).queue (lock_at b.locks l).time
-      (grant_from c p (lock_at b.locks l).time).notices none free lock);
-  notices = notices;
-  within = within_closing s h b p told lt;
-  tight = tight_closing s h b p told lt;
-}
+told_ask s h b p l records told range idle free stored =
+    told_closing s h b p told lt (Ask l) may (book_asked b p l records)
+    (record {
+      locks = each_set s.locks (IsLock s.processors h) (IsLock s.processors (did h p (Ask l))) b.locks.locks l
+          (asked (lock_at b.locks l) p) told.locks
+          (λ m x isnt at is. lock_kept s.processors h p (Ask l) m x (λ e. isnt (cc e)) (λ e. absurd cc) (λ e. absurd cc)
+          (idle_no_ask h p m (is_idle s h b p told idle)) is)
+          (lock_asked s.processors h p l (lock_at b.locks l).holder (lock_at b.locks l).queue
+          (lock_at b.locks l).time none free lock);
+      barrier = barrier_kept s h p (Ask l) b.barrier refl refl told.barrier;
+      flags = flags_kept s h p (Ask l) b.flags (λ f e. absurd cc) told.flags;
+      transit = each_set s.processors (IsMail s h) (IsMail s (did h p (Ask l))) b.transit p made told.transit
+          (λ r o isnt at is. mail_kept s h p (Ask l) may r isnt o (λ m e. absurd cc) (λ e. absurd cc) is)
+          (asked_mail s h p l (lock_at b.locks l).holder (lock_at b.locks l).queue (lock_at b.locks l).time
+          (grant_from c p (lock_at b.locks l).time).notices none free lock);
+      notices = notices;
+    })
+    refl refl records stored refl
   where
     c : State
     c = closed_by b p (Ask l) records
+
+    -- its grant, where nobody holds the lock
+    made : Option Letter
+    made = if_free (lock_at b.locks l).holder (grant_from c p (lock_at b.locks l).time)
 
     lt : p < s.processors
     lt = is_processor s h b p None told idle
 
     may : MayFollow s h (event p (Ask l))
-    may = follows s h b p (Ask l) told idle range free
+    may = follows s h b p told (Ask l) idle range free
 
     none : NoAsk h p l
     none = idle_no_ask h p l (is_idle s h b p told idle)
@@ -212,37 +190,24 @@ told_ask s h b p l records told range idle free stored = record {
     lock : IsLock s.processors h l (lock_at b.locks l)
     lock = is_at s.locks (IsLock s.processors h) b.locks.locks l (unheld b.locks.processors) told.locks range
 
-    notices : (r : ℕ) (m : Letter) (t : List ℕ)
-        → slice_get
-        (slice_set b.transit p
-        (if_free (lock_at b.locks l).holder (grant_from (closed_by b p (Ask l) records) p (lock_at b.locks l).time)))
-        r ≡ Some (Some m) → slice_get (closed_by b p (Ask l) records).times r ≡ Some t
-        → m.notices ≡ between (closed_by b p (Ask l) records).closed t m.time
+    notices : (r : ℕ) (m : Letter) (t : List ℕ) → slice_get (slice_set b.transit p made) r ≡ Some (Some m)
+        → slice_get c.times r ≡ Some t → m.notices ≡ between c.closed t m.time
     notices r m t at time = elim (cases_eq r p) [
       | inl is ↦ (
-          let P : ℕ → Type 0 =
-          λ x. slice_get
-          (slice_set b.transit p
-          (if_free (lock_at b.locks l).holder
-          (grant_from (closed_by b p (Ask l) records) p (lock_at b.locks l).time))) x ≡ Some (Some m) in
-          let Q : ℕ → Type 0 = λ x. slice_get (closed_by b p (Ask l) records).times x ≡ Some t in
-          let found = slice_get-set_found b.transit p
-          (if_free (lock_at b.locks l).holder
-          (grant_from (closed_by b p (Ask l) records) p (lock_at b.locks l).time)) (Some m) (subst P is at) in
-          granted_notices (closed_by b p (Ask l) records) p (lock_at b.locks l).time t m (subst Q is time)
-          (due_is (lock_at b.locks l).holder
-          (grant_from (closed_by b p (Ask l) records) p (lock_at b.locks l).time) m found))
-      | inr isnt ↦ old_notices s h b p records r m t told lt isnt
-          (sym (slice_get-set_other b.transit p r
-          (if_free (lock_at b.locks l).holder
-          (grant_from (closed_by b p (Ask l) records) p (lock_at b.locks l).time)) isnt) ∙ at) time
+          let P : ℕ → Type 0 = λ x. slice_get (slice_set b.transit p made) x ≡ Some (Some m) in
+          let Q : ℕ → Type 0 = λ x. slice_get c.times x ≡ Some t in
+          let found = slice_get-set_found b.transit p made (Some m) (subst P is at) in
+          granted_notices c p (lock_at b.locks l).time t m (subst Q is time)
+          (due_is (lock_at b.locks l).holder (grant_from c p (lock_at b.locks l).time) m found))
+      | inr isnt ↦ old_notices s h b p told lt records r m t isnt
+          (sym (slice_get-set_other b.transit p r made isnt) ∙ at) time
     ]
 
 -- the others' mail when p releases the lock: news for the first of the queue alone
 released_mail : (s : Sizes) (h : List Event) (p l r : ℕ) (xs : List ℕ) (o : Option Letter)
     → MayFollow s h (event p (Release l)) → r ≢ p → IsLine (did h p (Release l)) l xs → ¬ (slice_get xs 0 ≡ Some r)
     → IsMail s h r o → IsMail s (did h p (Release l)) r o
-released_mail s h p l r xs o may isnt line behind mail = mail_unless s h p (Release l) r o may isnt never mail
+released_mail s h p l r xs o may isnt line behind mail = mail_unless s h p (Release l) may r isnt o never mail
   where
     never : (a : Kind) → IsPosted a → News (Release l) a → ¬ Allowed s (did h p (Release l)) r a
     never (Acquire m) posted news (i, last, grant_from) =
@@ -310,34 +275,23 @@ pub told_release : (s : Sizes) (h : List Event) (b : State) (p l : ℕ) (records
     → l < s.locks → slice_get b.awaits p ≡ Some None → Holds h p l
     → AreContents s h p (count_of is_closing h p) records
     → IsTold s (did h p (Release l)) (book_released b p l records)
-told_release s h b p l records told range idle held stored = record {
-  well_formed = well;
-  sizes = record {
-    processors = told.sizes.processors;
-    words = told.sizes.words;
-    addresses = told.sizes.addresses;
-    lockers = told.sizes.lockers;
-  };
-  holds = history_on b.journal h (event p (Release l) ∷ []) told.holds;
-  closed = closed_now s h b p (Release l) records told lt refl stored;
-  times = times_closing s h b p (Release l) told lt refl refl;
-  locks = each_set s.locks (IsLock s.processors h) (IsLock s.processors (did h p (Release l))) b.locks.locks l
-      (released (lock_at b.locks l) (tick (time_of b p) p)) told.locks
-      (λ m x isnt at is. lock_kept s.processors h p (Release l) m x (λ e. absurd cc) (λ e. absurd cc)
-      (λ e. isnt (cc e)) (idle_no_ask h p m free) is)
-      (lock_passed s.processors (did h p (Release l)) l (lock_at b.locks l).queue (tick (time_of b p) p) line_now time);
-  barrier = barrier_kept s h p (Release l) b.barrier refl refl told.barrier;
-  flags = each_kept s.flags (IsFlag s.processors h) (IsFlag s.processors (did h p (Release l))) b.flags told.flags
-      (λ f o at is. flag_kept s.processors h p (Release l) f o (λ e. absurd cc) is);
-  awaits = awaits_set s h b p (Release l) told;
-  transit = mail_released s h (closed_by b p (Release l) records) p l (lock_at b.locks l).queue
-      (tick (time_of b p) p) told.well_formed may free held line_now time told.transit;
-  notices = λ r m t at now. passed_notices (closed_by b p (Release l) records) (lock_at b.locks l).queue
-      (tick (time_of b p) p) r m t at now
-      (λ there. old_notices s h b p records r m t told lt (apart r m there) there now);
-  within = within_closing s h b p told lt;
-  tight = tight_closing s h b p told lt;
-}
+told_release s h b p l records told range idle held stored =
+    told_closing s h b p told lt (Release l) may (book_released b p l records)
+    (record {
+      locks = each_set s.locks (IsLock s.processors h) (IsLock s.processors (did h p (Release l))) b.locks.locks l
+          (released (lock_at b.locks l) now) told.locks
+          (λ m x isnt at is. lock_kept s.processors h p (Release l) m x (λ e. absurd cc) (λ e. absurd cc)
+          (λ e. isnt (cc e)) (idle_no_ask h p m free) is)
+          (lock_passed s.processors (did h p (Release l)) l (lock_at b.locks l).queue now line_now time);
+      barrier = barrier_kept s h p (Release l) b.barrier refl refl told.barrier;
+      flags = flags_kept s h p (Release l) b.flags (λ f e. absurd cc) told.flags;
+      transit = mail_released s h (closed_by b p (Release l) records) p l (lock_at b.locks l).queue now
+          told.well_formed may free held line_now time told.transit;
+      notices = λ r m t at read. passed_notices (closed_by b p (Release l) records) (lock_at b.locks l).queue
+          now r m t at read
+          (λ there. old_notices s h b p told lt records r m t (has_none s h b p told idle r m there) there read);
+    })
+    refl refl records stored refl
   where
     lt : p < s.processors
     lt = is_processor s h b p None told idle
@@ -346,10 +300,11 @@ told_release s h b p l records told range idle held stored = record {
     free = is_idle s h b p told idle
 
     may : MayFollow s h (event p (Release l))
-    may = follows s h b p (Release l) told idle range held
+    may = follows s h b p told (Release l) idle range held
 
-    well : WellFormed s (did h p (Release l))
-    well = still_formed s h b p (Release l) told may
+    -- p's timestamp then
+    now : List ℕ
+    now = tick (time_of b p) p
 
     lock : IsLock s.processors h l (lock_at b.locks l)
     lock = is_at s.locks (IsLock s.processors h) b.locks.locks l (unheld b.locks.processors) told.locks range
@@ -359,11 +314,6 @@ told_release s h b p l records told range idle held stored = record {
         (lock_at b.locks l).time (idle_no_ask h p l free) held lock
 
     time : IsStamp s.processors (did h p (Release l))
-        (UpToSome (did h p (Release l)) (SomeDoes (did h p (Release l)) (Release l))) (tick (time_of b p) p)
-    time = stamp_released s h p l (tick (time_of b p) p) well
+        (UpToSome (did h p (Release l)) (SomeDoes (did h p (Release l)) (Release l))) now
+    time = stamp_released s h p l now (still_formed s h b p told (Release l) may)
         (stamp_closing s.processors h p (Release l) (time_of b p) lt refl refl (own_stamp s h b p told lt))
-
-    apart : (r : ℕ) (m : Letter) → slice_get b.transit r ≡ Some (Some m) → r ≢ p
-    apart r m at is = let P : ℕ → Type 0 =
-        λ x. slice_get b.transit x ≡ Some (Some m) in
-        none-some m (idle_mail s h p (Some m) free (told.transit.each p (Some m) (subst P is at)))

@@ -31,19 +31,19 @@ use Rattle.book.specs.State.{State}
 use Rattle.book.specs.Transitions.{new_book, appended, handed_in, least, trimmed_by}
 use Rattle.book.specs.Told.{HoldsSome, IsTold}
 use Rattle.book.specs.Calls.{IsInner, IsBlockOf}
-use Rattle.book.proofs.Parts.Each.{each_kept, each_own, each_replicate}
-use Rattle.book.proofs.Parts.Doings.{awaited_on, awaited_now}
+use Rattle.book.proofs.Parts.Each.{each_own, each_replicate}
+use Rattle.book.proofs.Parts.Doings.{unlike, awaited_on, awaited_now}
 use Rattle.book.proofs.Parts.Stamps.{stamp_none, stamp_others, stamp_quiet}
 use Rattle.book.proofs.Parts.Lines.{idle_no_ask}
 use Rattle.book.proofs.Parts.Mail.{mail_kept, own_idle}
-use Rattle.book.proofs.Parts.Flags.{flag_kept}
+use Rattle.book.proofs.Parts.Flags.{flags_kept}
 use Rattle.book.proofs.Parts.Meetings.{barrier_kept}
 use Rattle.book.proofs.Parts.ClosedIntervals.{closed_quiet, closed_trimmed, within_trimmed, least_le}
 use Rattle.interval.proofs.News.Unchanged.{between-trimmed}
 use Rattle.book.proofs.Parts.Loose.{IsLoose}
 use Rattle.book.proofs.Parts.History.{history_new, history_on}
-use Rattle.book.proofs.Parts.Told.{is_idle, follows, still_formed}
-use Rattle.book.proofs.Keeps.Locks.{lock_kept}
+use Rattle.book.proofs.Parts.Told.{same_sizes, is_idle, follows, still_formed}
+use Rattle.book.proofs.Keeps.Locks.{locks_kept}
 
 -- nothing has happened in an empty history
 nothing : (i : ℕ) (e : Event) → ¬ At [] i e
@@ -103,55 +103,17 @@ told_new s some = record {
     none p Depart posted allowed = nothing allowed.0 (event p Arrive) allowed.1.does
     none p _ posted allowed = absurd posted
 
--- a load, a store or a fetch neither waits nor names a lock, a flag or the barrier
+-- a load, a store or a fetch waits for nothing, leaves the barrier, and is always allowed
 record IsPlain (k : Kind) : Type 0 where
   awaits : awaited k ≡ None
   arrives : is_arrive k ≡ false
   departs : is_depart k ≡ false
-  ask : (l : ℕ) → k ≢ Ask l
-  acquire : (l : ℕ) → k ≢ Acquire l
-  release : (l : ℕ) → k ≢ Release l
-  set : (f : ℕ) → k ≢ Set f
-  arrive : k ≢ Arrive
   allowed : (s : Sizes) (h : List Event) (p : ℕ) → Allowed s h p k
 
 plain_kind : (k : Kind) → is_taking k ≡ false → is_closing k ≡ false → IsPlain k
-plain_kind (Load a v) t c =
-    record {
-      awaits = refl;
-      arrives = refl;
-      departs = refl;
-      ask = λ l e. absurd cc;
-      acquire = λ l e. absurd cc;
-      release = λ l e. absurd cc;
-      set = λ f e. absurd cc;
-      arrive = λ e. absurd cc;
-      allowed = λ s h p. tt;
-    }
-plain_kind (Store a v) t c =
-    record {
-      awaits = refl;
-      arrives = refl;
-      departs = refl;
-      ask = λ l e. absurd cc;
-      acquire = λ l e. absurd cc;
-      release = λ l e. absurd cc;
-      set = λ f e. absurd cc;
-      arrive = λ e. absurd cc;
-      allowed = λ s h p. tt;
-    }
-plain_kind (Fetch w n r d) t c =
-    record {
-      awaits = refl;
-      arrives = refl;
-      departs = refl;
-      ask = λ l e. absurd cc;
-      acquire = λ l e. absurd cc;
-      release = λ l e. absurd cc;
-      set = λ f e. absurd cc;
-      arrive = λ e. absurd cc;
-      allowed = λ s h p. tt;
-    }
+plain_kind (Load a v) t c = record { awaits = refl; arrives = refl; departs = refl; allowed = λ s h p. tt }
+plain_kind (Store a v) t c = record { awaits = refl; arrives = refl; departs = refl; allowed = λ s h p. tt }
+plain_kind (Fetch w n r d) t c = record { awaits = refl; arrives = refl; departs = refl; allowed = λ s h p. tt }
 plain_kind _ t c = absurd cc
 
 -- a book with another journal that holds the history
@@ -160,12 +122,7 @@ pub told_journal : (s : Sizes) (h : List Event) (b : State) (log : Log)
     → IsTold s h b → IsTold s h (record b { journal = log })
 told_journal s h b log same holds told = record {
   well_formed = told.well_formed;
-  sizes = record {
-    processors = same.0 ∙ told.sizes.processors;
-    words = told.sizes.words;
-    addresses = same.1 ∙ told.sizes.addresses;
-    lockers = told.sizes.lockers;
-  };
+  sizes = same_sizes s b _ told.sizes (same.0, refl, same.1, refl);
   holds = holds;
   closed = told.closed;
   times = told.times;
@@ -185,32 +142,25 @@ told_quiet : (s : Sizes) (h : List Event) (b : State) (p : ℕ) (k : Kind) (log 
     → slice_get b.awaits p ≡ Some None → is_taking k ≡ false → is_closing k ≡ false → KindInRange s k
     → HoldsSome log (did h p k) → IsTold s (did h p k) (record b { journal = log })
 told_quiet s h b p k log same told idle takes closes range holds = record {
-  well_formed = still_formed s h b p k told may;
-  sizes = record {
-    processors = same.0 ∙ told.sizes.processors;
-    words = told.sizes.words;
-    addresses = same.1 ∙ told.sizes.addresses;
-    lockers = told.sizes.lockers;
-  };
+  well_formed = still_formed s h b p told k may;
+  sizes = same_sizes s b _ told.sizes (same.0, refl, same.1, refl);
   holds = holds;
   closed = closed_quiet s h p k b.closed closes told.closed;
   times = each_own s.processors (λ q t. IsStamp s.processors h (InPast h q) t)
       (λ q t. IsStamp s.processors (did h p k) (InPast (did h p k) q) t) b.times p told.times
       (λ q t isnt at is. stamp_others s.processors h p k q t isnt is)
       (λ t at is. stamp_quiet s.processors h p k t takes closes is);
-  locks = each_kept s.locks (IsLock s.processors h) (IsLock s.processors (did h p k)) b.locks.locks told.locks
-      (λ l x at is. lock_kept s.processors h p k l x (plain.ask l) (plain.acquire l) (plain.release l)
-      (idle_no_ask h p l free) is);
+  locks = locks_kept s h p k b.locks.locks ask (λ l. unlike is_taking k (Acquire l) takes refl) release
+      (λ l. idle_no_ask h p l free) told.locks;
   barrier = barrier_kept s h p k b.barrier plain.arrives plain.departs told.barrier;
-  flags = each_kept s.flags (IsFlag s.processors h) (IsFlag s.processors (did h p k)) b.flags told.flags
-      (λ f o at is. flag_kept s.processors h p k f o (plain.set f) is);
+  flags = flags_kept s h p k b.flags (λ f. unlike is_closing k (Set f) closes refl) told.flags;
   awaits = each_own s.processors (IsAwaited h) (IsAwaited (did h p k)) b.awaits p told.awaits
       (λ q w isnt at is. awaited_on h p k q w isnt is)
       (λ w at is. subst (λ x. IsAwaited (did h p k) p x) (plain.awaits ∙ same_Some None w (sym idle ∙ at))
       (awaited_now h p k));
   transit = each_own s.processors (IsMail s h) (IsMail s (did h p k)) b.transit p told.transit
-      (λ r o isnt at is. mail_kept s h p k r o may isnt plain.release plain.arrive is)
-      (λ o at is. own_idle s h p k o free plain.ask plain.arrive is);
+      (λ r o isnt at is. mail_kept s h p k may r isnt o release arrive is)
+      (λ o at is. own_idle s h p k o free ask arrive is);
   notices = told.notices;
   within = told.within;
   tight = told.tight;
@@ -223,7 +173,16 @@ told_quiet s h b p k log same told idle takes closes range holds = record {
     free = is_idle s h b p told idle
 
     may : MayFollow s h (event p k)
-    may = follows s h b p k told idle range (plain.allowed s h p)
+    may = follows s h b p told k idle range (plain.allowed s h p)
+
+    ask : (l : ℕ) → k ≢ Ask l
+    ask l = unlike is_closing k (Ask l) closes refl
+
+    release : (l : ℕ) → k ≢ Release l
+    release l = unlike is_closing k (Release l) closes refl
+
+    arrive : k ≢ Arrive
+    arrive = unlike is_closing k Arrive closes refl
 
 -- p hands in a block of loads, stores and fetches
 pub told_block : (s : Sizes) (h block : List Event) (b : State) (p : ℕ) → IsTold s h b
@@ -259,12 +218,7 @@ trimmed_once : (s : Sizes) (h : List Event) (b : State) (c : Closings) (owner to
     → IsLoose s h (record b { closed = c }) → IsLoose s h (record b { closed = trimmed c owner to })
 trimmed_once s h b c owner to covered lt told = record {
   well_formed = told.well_formed;
-  sizes = record {
-    processors = told.sizes.processors;
-    words = told.sizes.words;
-    addresses = told.sizes.addresses;
-    lockers = told.sizes.lockers;
-  };
+  sizes = same_sizes s (record b { closed = c }) _ told.sizes (refl, refl, refl, refl);
   holds = told.holds;
   closed = closed_trimmed s h c owner to lt told.closed;
   times = told.times;

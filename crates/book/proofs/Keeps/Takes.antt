@@ -1,16 +1,10 @@
 -- Takes of grants and departures: what the book is told by the history before, it is told by the history with the
 -- event after.
-use Rattle.std.proofs.lemmas.Bool.{true≢false}
+use Rattle.std.proofs.Common.{◌⊎◌, true, slice_index_or, ◌≡◌, ◌≢◌, ℕ, ◌<◌, inl, inr, ◌↔◌, List, [], false, Option, Some, None, IsTrue, slice_get, slice_set, subst, sym, refl, ap, ◌∙◌}
+use Rattle.std.proofs.lemmas.Bool.{cases_eq, true≢false}
+use Rattle.std.proofs.lemmas.Option.{same_Some, none-some}
 use Rattle.std.proofs.lemmas.List.{set-get_or}
 use Rattle.std.specs.Option.{option_map, is_some}
-use Rattle.journal.specs.Waits.{awaited}
-use Rattle.journal.specs.Pasts.{InPast}
-use Rattle.book.specs.Brought.{signal_to, message_for, has_come}
-use Rattle.book.specs.Laws.{IsMessage}
-use Rattle.book.proofs.Keeps.Flags.{last_watch, watching_mail, told_signal, signal_ready}
-use Rattle.std.proofs.Common.{◌⊎◌, true, slice_index_or, ◌≡◌, ◌≢◌, ℕ, ◌<◌, inl, inr, ◌↔◌, List, [], ◌∷◌, false, Option, Some, None, IsTrue, slice_get, slice_set, subst, sym, refl, ap, ◌∙◌}
-use Rattle.std.proofs.lemmas.Bool.{cases_eq}
-use Rattle.std.proofs.lemmas.Option.{same_Some, none-some}
 use Rattle.lists.proofs.Sets.{slice_get-set_found, slice_get-set_other}
 use Rattle.journal.specs.declared.event.Event.{Event}
 use Rattle.journal.specs.declared.event.Kind.{Kind}
@@ -18,6 +12,8 @@ use Rattle.journal.specs.declared.event.Kind.TheVariants.{Ask, Acquire, Release,
 use Rattle.journal.specs.Sizes.{Sizes}
 use Rattle.journal.specs.Events.{is_closing, is_taking}
 use Rattle.journal.specs.WellFormed.{LastIs, MayBeGranted, Allowed, MayFollow, Ready}
+use Rattle.journal.specs.Waits.{awaited}
+use Rattle.journal.specs.Pasts.{InPast}
 use Rattle.journal.specs.Brings.{Brings}
 use Rattle.journal.proofs.Journals.WellFormed.{last_unique}
 use Rattle.journal.proofs.Journals.Ready.{waits_for, taking_follows}
@@ -33,16 +29,19 @@ use Rattle.book.specs.Meetings.{IsBarrier}
 use Rattle.lockq.specs.Lock.{Lock}
 use Rattle.book.specs.State.{State, time_of}
 use Rattle.book.specs.Transitions.{barrier_left, book_joined, book_received}
+use Rattle.book.specs.Brought.{signal_to, message_for, has_come}
 use Rattle.book.specs.Told.{IsTold}
+use Rattle.book.specs.Laws.{IsMessage}
 use Rattle.book.proofs.Parts.Each.{each_set, each_kept, item_at, is_at}
 use Rattle.book.proofs.Parts.Mail.{lets_posted, mail_kept, own_none}
-use Rattle.book.proofs.Parts.Flags.{flag_kept}
+use Rattle.book.proofs.Parts.Flags.{flags_kept}
 use Rattle.book.proofs.Parts.Meetings.{barrier_kept, barrier_departed}
-use Rattle.book.proofs.Parts.ClosedIntervals.{closed_quiet}
 use Rattle.book.proofs.Parts.Loose.{IsLoose}
-use Rattle.book.proofs.Parts.History.{history_on}
-use Rattle.book.proofs.Parts.Told.{is_processor, still_formed, awaits_set, times_taking, within_taking}
+use Rattle.book.proofs.Parts.Doings.{unlike}
+use Rattle.book.proofs.Parts.Told.{is_processor}
+use Rattle.book.proofs.Keeps.Events.{told_taking}
 use Rattle.book.proofs.Keeps.Locks.{lock_kept, lock_taken}
+use Rattle.book.proofs.Keeps.Flags.{last_watch, watching_mail, told_signal, signal_ready}
 
 posted_taking : (k : Kind) → IsPosted k → IsTrue (is_taking k)
 posted_taking (Acquire l) posted = refl
@@ -82,111 +81,12 @@ took_lock s h p Depart l x posted (i, last, all) is =
     (λ n ask. absurd (cc ((last_unique h p i n Arrive (Ask l) last ask).1))) is
 took_lock s h p _ l x posted allowed is = absurd posted
 
-took_barrier : (s : Sizes) (h : List Event) (b : State) (p : ℕ) (k : Kind) → IsTold s h b → p < s.processors
-    → IsPosted k → Allowed s h p k → IsBarrier s (did h p k) (barrier_left k b.barrier p)
-took_barrier s h b p (Acquire l) told lt posted allowed =
-    barrier_kept s h p (Acquire l) b.barrier refl refl told.barrier
-took_barrier s h b p Depart told lt posted allowed =
-    barrier_departed s h p b.barrier told.well_formed allowed lt told.barrier
-took_barrier s h b p _ told lt posted allowed = absurd posted
-
--- of an event that is let by a message
-record IsTaking (k : Kind) : Type 0 where
-  takes : IsTrue (is_taking k)
-  closes : is_closing k ≡ false
-  ask : (l : ℕ) → k ≢ Ask l
-  arrive : k ≢ Arrive
-  release : (l : ℕ) → k ≢ Release l
-  set : (f : ℕ) → k ≢ Set f
-
-takes_posted : (k : Kind) → IsPosted k → IsTaking k
-takes_posted (Acquire l) posted =
-    record {
-      takes = refl;
-      closes = refl;
-      ask = λ m e. absurd cc;
-      arrive = λ e. absurd cc;
-      release = λ m e. absurd cc;
-      set = λ f e. absurd cc;
-    }
-takes_posted Depart posted =
-    record {
-      takes = refl;
-      closes = refl;
-      ask = λ m e. absurd cc;
-      arrive = λ e. absurd cc;
-      release = λ m e. absurd cc;
-      set = λ f e. absurd cc;
-    }
-takes_posted _ posted = absurd posted
-
--- p takes its mail
-pub told_take : (s : Sizes) (h : List Event) (b : State) (p : ℕ) (k : Kind) (m : Letter) → IsTold s h b
-    → slice_get b.awaits p ≡ Some (Some k) → slice_get b.transit p ≡ Some (Some m)
-    → IsLoose s (did h p k) (book_received b p k m)
-told_take s h b p k m told waits mail = record {
-  well_formed = still_formed s h b p k told may;
-  sizes = record {
-    processors = told.sizes.processors;
-    words = told.sizes.words;
-    addresses = told.sizes.addresses;
-    lockers = told.sizes.lockers;
-  };
-  holds = history_on b.journal h (event p k ∷ []) told.holds;
-  closed = closed_quiet s h p k b.closed kind.closes told.closed;
-  times = times_taking s h b p k m.time told lt kind.closes lets.2;
-  locks = each_kept s.locks (IsLock s.processors h) (IsLock s.processors (did h p k)) b.locks.locks told.locks
-      (λ l x at is. took_lock s h p k l x lets.0 lets.1 is);
-  barrier = took_barrier s h b p k told lt lets.0 lets.1;
-  flags = each_kept s.flags (IsFlag s.processors h) (IsFlag s.processors (did h p k)) b.flags told.flags
-      (λ f o at is. flag_kept s.processors h p k f o (kind.set f) is);
-  awaits = awaits_set s h b p k told;
-  transit = each_set s.processors (IsMail s h) (IsMail s (did h p k)) b.transit p None told.transit
-      (λ r o isnt at is. mail_kept s h p k r o may isnt kind.release kind.arrive is)
-      (own_none s h p k kind.ask kind.arrive);
-  notices = notices;
-  within = within_taking s h b p m.time told lt;
-}
-  where
-    lt : p < s.processors
-    lt = is_processor s h b p (Some k) told waits
-
-    lets : IsPosted k × Allowed s h p k × IsStamp s.processors h (Brings h p k) m.time
-    lets = message_lets s h p k m (told.awaits.each p (Some k) waits) (told.transit.each p (Some m) mail)
-
-    kind : IsTaking k
-    kind = takes_posted k lets.0
-
-    may : MayFollow s h (event p k)
-    may = taking_follows s h p k told.well_formed kind.takes lets.1
-
-    notices : (r : ℕ) (n : Letter) (t : List ℕ) → slice_get (slice_set b.transit p None) r ≡ Some (Some n)
-        → slice_get (slice_set b.times p (join (time_of b p) m.time)) r ≡ Some t
-        → n.notices ≡ between b.closed t n.time
-    notices r n t at now = elim (cases_eq r p) [
-      | inl is ↦ (let P : ℕ → Type 0 = λ x. slice_get (slice_set b.transit p None) x ≡ Some (Some n) in
-          absurd (none-some n (slice_get-set_found b.transit p None (Some n) (subst P is at))))
-      | inr isnt ↦ told.notices r n t (sym (slice_get-set_other b.transit p r None isnt) ∙ at)
-          (sym (slice_get-set_other b.times p r (join (time_of b p) m.time) isnt) ∙ now)
-    ]
-
--- who waits for a grant or a departure may go on exactly where its message is there
-pub mail_ready : (s : Sizes) (h : List Event) (b : State) (p : ℕ) (k : Kind) (o : Option Letter) → IsTold s h b
-    → slice_get b.awaits p ≡ Some (Some k) → IsPosted k → slice_get b.transit p ≡ Some o → (o ≢ None) ↔ Ready s h p
-mail_ready s h b p k o told waits posted at =
-    (there o (told.transit.each p o at), λ ready. back o (told.transit.each p o at) ready)
-  where
-    there : (x : Option Letter) → IsMail s h p x → (x ≢ None) → Ready s h p
-    there None mail isnt = absurd (isnt refl)
-    there (Some m) mail isnt =
-        (mail.kind, posted_taking mail.kind (lets_posted m.kind mail.kind mail.lets), mail.allowed)
-
-    back : (x : Option Letter) → IsMail s h p x → Ready s h p → x ≢ None
-    back (Some m) mail ready e = absurd (cc (e))
-    back None mail (a, taking, allowed) e =
-        mail k posted
-        (subst (λ c. Allowed s h p c) (awaits_it s h p k a (told.awaits.each p (Some k) waits) taking allowed)
-        allowed)
+-- what takes closes nothing
+taking_quiet : (k : Kind) → IsTrue (is_taking k) → is_closing k ≡ false
+taking_quiet (Acquire l) takes = refl
+taking_quiet Depart takes = refl
+taking_quiet (Await f) takes = refl
+taking_quiet _ takes = absurd cc
 
 -- what p waits for is a grant, a departure or a flag
 awaited_cases : (a k : Kind) → awaited a ≡ Some k → ((f : ℕ) × (k ≡ Await f)) ⊎ IsPosted k
@@ -208,99 +108,158 @@ waits_taking h p k w =
     elim (awaited_cases last.1 k (sym (w.last last.0 last.1 last.2)))
     [ inl flag ↦ subst (λ a. IsTrue (is_taking a)) (sym flag.1) refl | inr posted ↦ posted_taking k posted ]
 
--- p's mail, as it stands in the book
-mail_at : (s : Sizes) (h : List Event) (b : State) (p : ℕ) (m : Letter) → IsTold s h b → p < s.processors
-    → slice_index_or b.transit p None ≡ Some m → slice_get b.transit p ≡ Some (Some m)
-mail_at s h b p m told lt is =
-    item_at s.processors (IsMail s h) b.transit p None told.transit lt ∙ ap (λ (o : Option Letter). Some o) is
-
-mail_is : (s : Sizes) (h : List Event) (b : State) (p : ℕ) (k : Kind) (m : Letter) → IsTold s h b
-    → slice_get b.awaits p ≡ Some (Some k) → slice_index_or b.transit p None ≡ Some m → IsMessage s h b p k m
-mail_is s h b p k m told waits is =
-    let lt = is_processor s h b p (Some k) told waits in
-    let at = mail_at s h b p m told lt is in
-    let lets = message_lets s h p k m (told.awaits.each p (Some k) waits) (told.transit.each p (Some m) at) in
-    record {
-      allowed = lets.1;
-      time = lets.2;
-      notices = told.notices p m (time_of b p) at
-          (item_at s.processors (λ q t. IsStamp s.processors h (InPast h q) t) b.times p [] told.times lt);
-    }
-
--- a flag as it stands in the book
-flag_at : (s : Sizes) (h : List Event) (b : State) (p f : ℕ) → IsTold s h b
-    → slice_get b.awaits p ≡ Some (Some (Await f)) → slice_get b.flags f ≡ Some (slice_index_or b.flags f None)
-flag_at s h b p f told waits =
-    let last = last_watch h p f (told.awaits.each p (Some (Await f)) waits) in
-    item_at s.flags (IsFlag s.processors h) b.flags f None told.flags
-    (told.well_formed last.0 (event p (Watch f)) last.1.does).in_range
-
-signal_is : (s : Sizes) (h : List Event) (b : State) (p f : ℕ) (m : Letter) (o : Option (List ℕ)) → IsTold s h b
-    → slice_get b.awaits p ≡ Some (Some (Await f)) → slice_get b.flags f ≡ Some o
-    → option_map (λ (t : List ℕ). signal_to b.closed t (time_of b p)) o ≡ Some m → IsMessage s h b p (Await f) m
-signal_is s h b p f m None told waits at is = absurd (none-some m is)
-signal_is s h b p f m (Some t) told waits at is =
-    let last = last_watch h p f (told.awaits.each p (Some (Await f)) waits) in
-    let flag : IsFlag s.processors h f (Some t) = told.flags.each f (Some t) at in
-    subst (IsMessage s h b p (Await f)) (same_Some (signal_to b.closed t (time_of b p)) m is)
-    (record { allowed = (last.0, flag.0.0, flag.0.1.0, last.1, flag.0.1.1); time = flag.1; notices = refl })
-
--- p's message lets p go on
-pub message_is : (s : Sizes) (h : List Event) (b : State) (p : ℕ) (k : Kind) (m : Letter) → IsTold s h b
-    → slice_get b.awaits p ≡ Some (Some k) → message_for b p k ≡ Some m → IsMessage s h b p k m
-message_is s h b p (Await f) m told waits is =
-    signal_is s h b p f m (slice_index_or b.flags f None) told waits (flag_at s h b p f told waits) is
-message_is s h b p _ m told waits is = mail_is s h b p _ m told waits is
-
--- who waits for a flag has no mail
-pub no_mail_waits : (s : Sizes) (h : List Event) (b : State) (p f : ℕ) → IsTold s h b
-    → slice_get b.awaits p ≡ Some (Some (Await f)) → b.transit ≡ slice_set b.transit p None
-no_mail_waits s h b p f told waits =
-    let lt = is_processor s h b p (Some (Await f)) told waits in
-    let last = last_watch h p f (told.awaits.each p (Some (Await f)) waits) in
-    let none = watching_mail s h p last.0 f (slice_index_or b.transit p None) last.1
-    (is_at s.processors (IsMail s h) b.transit p None told.transit lt) in
-    sym (set-get_or b.transit p None) ∙ ap (λ (o : Option Letter). slice_set b.transit p o) (sym none)
-
-signal_took : (s : Sizes) (h : List Event) (b : State) (p f : ℕ) (m : Letter) (o : Option (List ℕ)) → IsTold s h b
-    → slice_get b.awaits p ≡ Some (Some (Await f)) → slice_get b.flags f ≡ Some o
-    → option_map (λ (t : List ℕ). signal_to b.closed t (time_of b p)) o ≡ Some m
-    → IsLoose s (did h p (Await f)) (book_received b p (Await f) m)
-signal_took s h b p f m None told waits at is = absurd (none-some m is)
-signal_took s h b p f m (Some t) told waits at is =
-    subst (λ x. IsLoose s (did h p (Await f)) (book_received b p (Await f) x))
-    (same_Some (signal_to b.closed t (time_of b p)) m is)
-    (subst (λ ts. IsLoose s (did h p (Await f)) (record (book_joined b p (Await f) t) { transit = ts }))
-    (no_mail_waits s h b p f told waits) (told_signal s h b p f t told waits at))
-
--- p takes its message
-pub told_took : (s : Sizes) (h : List Event) (b : State) (p : ℕ) (k : Kind) (m : Letter) → IsTold s h b
-    → slice_get b.awaits p ≡ Some (Some k) → message_for b p k ≡ Some m
-    → IsLoose s (did h p k) (book_received b p k m)
-told_took s h b p (Await f) m told waits is =
-    signal_took s h b p f m (slice_index_or b.flags f None) told waits (flag_at s h b p f told waits) is
-told_took s h b p _ m told waits is =
-    told_take s h b p _ m told waits (mail_at s h b p m told (is_processor s h b p (Some _) told waits) is)
-
-mail_come : (s : Sizes) (h : List Event) (b : State) (p : ℕ) (k : Kind) → IsTold s h b
-    → slice_get b.awaits p ≡ Some (Some k) → ((f : ℕ) → k ≢ Await f)
-    → (slice_index_or b.transit p None ≢ None) ↔ Ready s h p
-mail_come s h b p k told waits isnt =
-    mail_ready s h b p k (slice_index_or b.transit p None) told waits
-    (waits_posted h p k (told.awaits.each p (Some k) waits) isnt)
-    (item_at s.processors (IsMail s h) b.transit p None told.transit (is_processor s h b p (Some k) told waits))
-
 there : {A R : Type 0} (o : Option A) → ((o ≢ None) ↔ R) → (is_some o ≡ true) ↔ R
 there None is = ((λ e. absurd (true≢false (sym e))), (λ r. absurd (is.1 r refl)))
 there (Some a) is = ((λ e. is.0 (λ none. none-some a (sym none))), (λ r. refl))
 
--- p's message has come exactly where p may go on
-pub message_come : (s : Sizes) (h : List Event) (b : State) (p : ℕ) (k : Kind) → IsTold s h b
-    → slice_get b.awaits p ≡ Some (Some k) → (has_come b.flags b.transit p k ≡ true) ↔ Ready s h p
-message_come s h b p (Await f) told waits =
-    there (slice_index_or b.flags f None)
-    (signal_ready s h b p f (slice_index_or b.flags f None) told waits (flag_at s h b p f told waits))
-message_come s h b p (Acquire l) told waits =
-    there (slice_index_or b.transit p None) (mail_come s h b p (Acquire l) told waits (λ f e. absurd (cc (e))))
-message_come s h b p _ told waits =
-    there (slice_index_or b.transit p None) (mail_come s h b p _ told waits (λ f e. absurd (cc (e))))
+-- of a book that is told, and a processor that takes
+module _ (s : Sizes) (h : List Event) (b : State) (p : ℕ) (told : IsTold s h b) where
+  took_barrier : (k : Kind) → p < s.processors → IsPosted k → Allowed s h p k
+      → IsBarrier s (did h p k) (barrier_left k b.barrier p)
+  took_barrier (Acquire l) lt posted allowed = barrier_kept s h p (Acquire l) b.barrier refl refl told.barrier
+  took_barrier Depart lt posted allowed = barrier_departed s h p b.barrier told.well_formed allowed lt told.barrier
+  took_barrier _ lt posted allowed = absurd posted
+
+  -- p takes its mail
+  told_take : (k : Kind) (m : Letter) → slice_get b.awaits p ≡ Some (Some k)
+      → slice_get b.transit p ≡ Some (Some m) → IsLoose s (did h p k) (book_received b p k m)
+  told_take k m waits mail =
+      told_taking s h b p told lt k may (book_received b p k m)
+      (record {
+        locks = each_kept s.locks (IsLock s.processors h) (IsLock s.processors (did h p k)) b.locks.locks told.locks
+            (λ l x at is. took_lock s h p k l x lets.0 lets.1 is);
+        barrier = took_barrier k lt lets.0 lets.1;
+        flags = flags_kept s h p k b.flags (λ f. other (Set f) refl) told.flags;
+        transit = each_set s.processors (IsMail s h) (IsMail s (did h p k)) b.transit p None told.transit
+            (λ r o isnt at is. mail_kept s h p k may r isnt o (λ l. other (Release l) refl) (other Arrive refl) is)
+            (own_none s h p k (λ l. other (Ask l) refl) (other Arrive refl));
+        notices = notices;
+      })
+      quiet m.time lets.2 refl
+    where
+      lt : p < s.processors
+      lt = is_processor s h b p (Some k) told waits
+
+      lets : IsPosted k × Allowed s h p k × IsStamp s.processors h (Brings h p k) m.time
+      lets = message_lets s h p k m (told.awaits.each p (Some k) waits) (told.transit.each p (Some m) mail)
+
+      quiet : is_closing k ≡ false
+      quiet = taking_quiet k (posted_taking k lets.0)
+
+      other : (a : Kind) → is_closing a ≡ true → k ≢ a
+      other a closes = unlike is_closing k a quiet closes
+
+      may : MayFollow s h (event p k)
+      may = taking_follows s h p k told.well_formed (posted_taking k lets.0) lets.1
+
+      notices : (r : ℕ) (n : Letter) (t : List ℕ) → slice_get (slice_set b.transit p None) r ≡ Some (Some n)
+          → slice_get (slice_set b.times p (join (time_of b p) m.time)) r ≡ Some t
+          → n.notices ≡ between b.closed t n.time
+      notices r n t at now = elim (cases_eq r p) [
+        | inl is ↦ (let P : ℕ → Type 0 = λ x. slice_get (slice_set b.transit p None) x ≡ Some (Some n) in
+            absurd (none-some n (slice_get-set_found b.transit p None (Some n) (subst P is at))))
+        | inr isnt ↦ told.notices r n t (sym (slice_get-set_other b.transit p r None isnt) ∙ at)
+            (sym (slice_get-set_other b.times p r (join (time_of b p) m.time) isnt) ∙ now)
+      ]
+
+  -- who waits for a grant or a departure may go on exactly where its message is there
+  mail_ready : (k : Kind) (o : Option Letter) → slice_get b.awaits p ≡ Some (Some k) → IsPosted k
+      → slice_get b.transit p ≡ Some o → (o ≢ None) ↔ Ready s h p
+  mail_ready k o waits posted at =
+      (goes o (told.transit.each p o at), λ ready. back o (told.transit.each p o at) ready)
+    where
+      goes : (x : Option Letter) → IsMail s h p x → (x ≢ None) → Ready s h p
+      goes None mail isnt = absurd (isnt refl)
+      goes (Some m) mail isnt =
+          (mail.kind, posted_taking mail.kind (lets_posted m.kind mail.kind mail.lets), mail.allowed)
+
+      back : (x : Option Letter) → IsMail s h p x → Ready s h p → x ≢ None
+      back (Some m) mail ready e = absurd (cc (e))
+      back None mail (a, taking, allowed) e =
+          mail k posted
+          (subst (λ c. Allowed s h p c) (awaits_it s h p k a (told.awaits.each p (Some k) waits) taking allowed)
+          allowed)
+
+  -- p's mail, as it stands in the book
+  mail_at : (m : Letter) → p < s.processors → slice_index_or b.transit p None ≡ Some m
+      → slice_get b.transit p ≡ Some (Some m)
+  mail_at m lt is =
+      item_at s.processors (IsMail s h) b.transit p None told.transit lt ∙ ap (λ (o : Option Letter). Some o) is
+
+  mail_is : (k : Kind) (m : Letter) → slice_get b.awaits p ≡ Some (Some k) → slice_index_or b.transit p None ≡ Some m
+      → IsMessage s h b p k m
+  mail_is k m waits is =
+      let lt = is_processor s h b p (Some k) told waits in
+      let at = mail_at m lt is in
+      let lets = message_lets s h p k m (told.awaits.each p (Some k) waits) (told.transit.each p (Some m) at) in
+      record {
+        allowed = lets.1;
+        time = lets.2;
+        notices = told.notices p m (time_of b p) at
+            (item_at s.processors (λ q t. IsStamp s.processors h (InPast h q) t) b.times p [] told.times lt);
+      }
+
+  module _ (f : ℕ) (waits : slice_get b.awaits p ≡ Some (Some (Await f))) where
+    -- a flag as it stands in the book
+    flag_at : slice_get b.flags f ≡ Some (slice_index_or b.flags f None)
+    flag_at =
+        let last = last_watch h p f (told.awaits.each p (Some (Await f)) waits) in
+        item_at s.flags (IsFlag s.processors h) b.flags f None told.flags
+        (told.well_formed last.0 (event p (Watch f)) last.1.does).in_range
+
+    signal_is : (m : Letter) (o : Option (List ℕ)) → slice_get b.flags f ≡ Some o
+        → option_map (λ (t : List ℕ). signal_to b.closed t (time_of b p)) o ≡ Some m → IsMessage s h b p (Await f) m
+    signal_is m None at is = absurd (none-some m is)
+    signal_is m (Some t) at is =
+        let last = last_watch h p f (told.awaits.each p (Some (Await f)) waits) in
+        let flag : IsFlag s.processors h f (Some t) = told.flags.each f (Some t) at in
+        subst (IsMessage s h b p (Await f)) (same_Some (signal_to b.closed t (time_of b p)) m is)
+        (record { allowed = (last.0, flag.0.0, flag.0.1.0, last.1, flag.0.1.1); time = flag.1; notices = refl })
+
+    -- who waits for a flag has no mail
+    pub no_mail_waits : b.transit ≡ slice_set b.transit p None
+    no_mail_waits =
+        let lt = is_processor s h b p (Some (Await f)) told waits in
+        let last = last_watch h p f (told.awaits.each p (Some (Await f)) waits) in
+        let none = watching_mail s h p last.0 f (slice_index_or b.transit p None) last.1
+        (is_at s.processors (IsMail s h) b.transit p None told.transit lt) in
+        sym (set-get_or b.transit p None) ∙ ap (λ (o : Option Letter). slice_set b.transit p o) (sym none)
+
+    signal_took : (m : Letter) (o : Option (List ℕ)) → slice_get b.flags f ≡ Some o
+        → option_map (λ (t : List ℕ). signal_to b.closed t (time_of b p)) o ≡ Some m
+        → IsLoose s (did h p (Await f)) (book_received b p (Await f) m)
+    signal_took m None at is = absurd (none-some m is)
+    signal_took m (Some t) at is =
+        subst (λ x. IsLoose s (did h p (Await f)) (book_received b p (Await f) x))
+        (same_Some (signal_to b.closed t (time_of b p)) m is)
+        (subst (λ ts. IsLoose s (did h p (Await f)) (record (book_joined b p (Await f) t) { transit = ts }))
+        no_mail_waits (told_signal s h b p f t told waits at))
+
+  -- p's message lets p go on
+  pub message_is : (k : Kind) (m : Letter) → slice_get b.awaits p ≡ Some (Some k) → message_for b p k ≡ Some m
+      → IsMessage s h b p k m
+  message_is (Await f) m waits is = signal_is f waits m (slice_index_or b.flags f None) (flag_at f waits) is
+  message_is _ m waits is = mail_is _ m waits is
+
+  -- p takes its message
+  pub told_took : (k : Kind) (m : Letter) → slice_get b.awaits p ≡ Some (Some k) → message_for b p k ≡ Some m
+      → IsLoose s (did h p k) (book_received b p k m)
+  told_took (Await f) m waits is = signal_took f waits m (slice_index_or b.flags f None) (flag_at f waits) is
+  told_took _ m waits is = told_take _ m waits (mail_at m (is_processor s h b p (Some _) told waits) is)
+
+  mail_come : (k : Kind) → slice_get b.awaits p ≡ Some (Some k) → ((f : ℕ) → k ≢ Await f)
+      → (slice_index_or b.transit p None ≢ None) ↔ Ready s h p
+  mail_come k waits isnt =
+      mail_ready k (slice_index_or b.transit p None) waits
+      (waits_posted h p k (told.awaits.each p (Some k) waits) isnt)
+      (item_at s.processors (IsMail s h) b.transit p None told.transit (is_processor s h b p (Some k) told waits))
+
+  -- p's message has come exactly where p may go on
+  pub message_come : (k : Kind) → slice_get b.awaits p ≡ Some (Some k)
+      → (has_come b.flags b.transit p k ≡ true) ↔ Ready s h p
+  message_come (Await f) waits =
+      there (slice_index_or b.flags f None)
+      (signal_ready s h b p f (slice_index_or b.flags f None) told waits (flag_at f waits))
+  message_come (Acquire l) waits =
+      there (slice_index_or b.transit p None) (mail_come (Acquire l) waits (λ f e. absurd (cc (e))))
+  message_come _ waits = there (slice_index_or b.transit p None) (mail_come _ waits (λ f e. absurd (cc (e))))

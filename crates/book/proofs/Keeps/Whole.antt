@@ -9,7 +9,7 @@ use Rattle.journal.specs.declared.event.Kind.TheVariants.{Acquire, Release}
 use Rattle.journal.specs.Sizes.{Sizes}
 use Rattle.journal.specs.Log.{Log}
 use Rattle.journal.specs.HistoryLaws.{IsOf}
-use Rattle.journal.specs.Events.{At, is_closing, is_taking}
+use Rattle.journal.specs.Events.{is_closing, is_taking}
 use Rattle.journal.specs.WellFormed.{Holds}
 use Rattle.journal.proofs.Order.Places.{at_longer, at_last}
 use Rattle.journal.specs.Did.{did}
@@ -92,7 +92,7 @@ release_law s h block b p l records told may are range held =
 
 pub arrive_law : ArriveLaw
 arrive_law s h block b p records told may are =
-    told_arrive s (h ++ block) (handed_in b block) p records (block_told s h block b p told may) may.idle are
+    told_arrive s (h ++ block) (handed_in b block) p (block_told s h block b p told may) may.idle records are
 
 pub set_law : SetLaw
 set_law s h block b p f records told may are range =
@@ -104,7 +104,7 @@ watch_law s h block b p f records told may are range =
 
 pub take_law : TakeLaw
 take_law s h b p k m told waits is =
-    let next = told_took s h b p k m told waits is in
+    let next = told_took s h b p told k m waits is in
     let long = next.times.long in
     let lt = is_processor s h b p (Some k) told waits in
     let first = next.closed.first_long in
@@ -126,7 +126,7 @@ cut_law s h old new told was =
     (told_journal s h old new.journal (processors, addresses_are) holds told)
 
 pub message_law : MessageLaw
-message_law s h b p k m told waits is = message_is s h b p k m told waits is
+message_law s h b p k m told waits is = message_is s h b p told k m waits is
 
 pub news_law : NewsLaw
 news_law s h b p n k u told lt brings = news_are s h b p n k u told lt brings

@@ -1,6 +1,6 @@
 -- What one more event changes in who did what last.
-use Rattle.std.proofs.Common.{◌≡◌, ◌≢◌, ℕ, ◌+◌, ◌≤◌, ◌⊎◌, inl, inr, List, [], ◌∷◌, length, Bool, cond, false, Option, None, subst, sym, refl, ap, ◌∙◌, arith}
-use Rattle.std.proofs.lemmas.Bool.{cases_eq, eq-eqb}
+use Rattle.std.proofs.Common.{◌≡◌, ◌≢◌, ℕ, ◌+◌, ◌≤◌, inl, inr, List, [], ◌∷◌, length, Bool, cond, true, false, Option, None, subst, sym, refl, ap, ◌∙◌, arith}
+use Rattle.std.proofs.lemmas.Bool.{cases_eq, eq-eqb, true≢false}
 use Rattle.std.proofs.lemmas.Option.{none-some}
 use Rattle.journal.specs.declared.event.Event.{Event}
 use Rattle.journal.specs.declared.event.Kind.{Kind}
@@ -28,6 +28,10 @@ last_on h p k q i a isnt last = last_longer h (event p k ∷ []) q i a (away p q
 
 pub last_own : (h : List Event) (p : ℕ) (k : Kind) → LastIs (did h p k) p (length h) k
 last_own h p k = last_now h (event p k)
+
+-- a kind of which this doesn't hold is none of which it does
+pub unlike : (is : Kind → Bool) (k a : Kind) → is k ≡ false → is a ≡ true → k ≢ a
+unlike is k a never does e = true≢false (sym does ∙ sym (ap is e) ∙ never)
 
 -- who has not done this last has not after another's or another kind of event
 pub last_none : (h : List Event) (p : ℕ) (k : Kind) (i : ℕ) (a : Kind) → k ≢ a → ¬ LastIs (did h p k) p i a

@@ -8,13 +8,15 @@ use Rattle.journal.specs.Pasts.{InPast, UpToSome}
 use Rattle.journal.specs.Brings.{SomeDoes}
 use Rattle.journal.proofs.Times.Times.{time_none}
 use Rattle.journal.proofs.Order.Places.{at_last}
-use Rattle.journal.proofs.Times.Kept.{does_kept, kind_kept, kind_joins}
+use Rattle.journal.proofs.Times.Kept.{does_kept, kind_joins}
 use Rattle.journal.specs.Did.{event, did}
-use Rattle.book.specs.Stamps.{IsStamp}
+use Rattle.journal.specs.Sizes.{Sizes}
+use Rattle.book.specs.Stamps.{AreAll, IsStamp}
 use Rattle.book.specs.Flags.{IsFlag}
 use Rattle.book.specs.Transitions.{flag_joined}
+use Rattle.book.proofs.Parts.Each.{each_kept}
 use Rattle.book.proofs.Parts.Stamps.{stamp_equal, stamp_join}
-use Rattle.book.proofs.Parts.Mail.{other_kind}
+use Rattle.book.proofs.Parts.Mail.{other_kind, stamp_kept}
 
 -- what is no set of the flag leaves it
 pub flag_kept : (n : ℕ) (h : List Event) (p : ℕ) (k : Kind) (f : ℕ) (o : Option (List ℕ)) → k ≢ Set f
@@ -23,11 +25,15 @@ flag_kept n h p k f None isnt none =
     λ m does. none m ((does_kept h (event p k ∷ []) (Set f) m (other_kind p k (Set f) isnt)).1 does)
 flag_kept n h p k f (Some t) isnt x = (
   (x.0.0, (does_kept h (event p k ∷ []) (Set f) x.0.0 (other_kind p k (Set f) isnt)).0 x.0.1),
-  record {
-    long = x.1.long;
-    is = kind_kept h (event p k ∷ []) (Set f) (slice_index t) (other_kind p k (Set f) isnt) x.1.is;
-  },
+  stamp_kept n h p k (Set f) t isnt x.1,
 )
+
+pub flags_kept : (s : Sizes) (h : List Event) (p : ℕ) (k : Kind) (flags : List (Option (List ℕ)))
+    → ((f : ℕ) → k ≢ Set f) → AreAll s.flags (IsFlag s.processors h) flags
+    → AreAll s.flags (IsFlag s.processors (did h p k)) flags
+flags_kept s h p k flags isnt all =
+    each_kept s.flags (IsFlag s.processors h) (IsFlag s.processors (did h p k)) flags all
+    (λ f o at is. flag_kept s.processors h p k f o (isnt f) is)
 
 -- a set joins its timestamp
 pub flag_set : (n : ℕ) (h : List Event) (p f : ℕ) (o : Option (List ℕ)) (t : List ℕ) → IsFlag n h f o

@@ -11,7 +11,7 @@ use Rattle.journal.specs.WellFormed.{LastIs, Holds, MayBeGranted, Allowed, MayFo
 use Rattle.journal.specs.Waits.{IsIdle}
 use Rattle.journal.specs.Pasts.{UpToSome}
 use Rattle.journal.specs.Times.{IsTimeIn}
-use Rattle.journal.specs.Brings.{Brings, SomeArrives}
+use Rattle.journal.specs.Brings.{Brings, SomeDoes, SomeArrives}
 use Rattle.lists.proofs.Places.{push_cases}
 use Rattle.journal.proofs.Order.Places.{at_within, does_same}
 use Rattle.journal.proofs.Times.Kept.{kind_kept, arrivals_others}
@@ -21,7 +21,7 @@ use Rattle.transit.specs.Letters.{Letter}
 use Rattle.transit.specs.Letters.Kind.{grant, departure, signal}
 use Rattle.journal.specs.Did.{event, did}
 use Rattle.book.specs.Stamps.{IsStamp}
-use Rattle.book.specs.Mail.{LetsDo, IsPosted, IsMail}
+use Rattle.book.specs.Mail.{Carries, LetsDo, IsPosted, IsMail}
 use Rattle.book.proofs.Parts.Doings.{last_on, last_none, holds_on, count_others, count_more, count_kept}
 
 pub lets_posted : (m : Letters.Kind) (k : Kind) → LetsDo m k → IsPosted k
@@ -56,116 +56,123 @@ other_kind p k a isnt m f at is =
     elim (push_cases [] (event p k) m f at)
     [ inl old ↦ none-some f old.1 | inr new ↦ isnt (ap (λ x. x.kind) new.1 ∙ is) ]
 
--- what a processor is let do it stays allowed to do, whatever others do
-pub allowed_on : (s : Sizes) (h : List Event) (p : ℕ) (k : Kind) (r : ℕ) (a : Kind) → MayFollow s h (event p k)
-    → r ≢ p → IsPosted a → Allowed s h r a → Allowed s (did h p k) r a
-allowed_on s h p k r (Acquire l) may isnt posted (i, last, granted) =
-    (i, last_on h p k r i (Ask l) isnt last, record { free = free; first = first })
-  where
-    both : (m : ℕ) → LastIs h p m (Ask l) → MayBeGranted h m l → ⊥
-    both m mine too = elim (cases_order i m) [
-      | inl is ↦ (let P : ℕ → Type 0 = λ x. At h x (event p (Ask l)) in
-          isnt (does_same h i r p (Ask l) (Ask l) last.does (subst P (sym is) mine.does)).0)
-      | inr apart ↦ elim apart [ inl lt ↦ too.first i r lt last | inr lt ↦ granted.first m p lt mine ]
-    ]
+-- what is kept of the timestamps of events of a kind stays, where another kind is done
+pub stamp_kept : (n : ℕ) (h : List Event) (p : ℕ) (k a : Kind) (t : List ℕ) → k ≢ a
+    → IsStamp n h (UpToSome h (SomeDoes h a)) t
+    → IsStamp n (did h p k) (UpToSome (did h p k) (SomeDoes (did h p k) a)) t
+stamp_kept n h p k a t isnt x =
+    record { long = x.long; is = kind_kept h (event p k ∷ []) a (slice_index t) (other_kind p k a isnt) x.is }
 
-    taken : Allowed s h p (Acquire l) → ⊥
-    taken x = both x.0 x.1 x.2
+-- what another does
+module _ (s : Sizes) (h : List Event) (p : ℕ) (k : Kind) (may : MayFollow s h (event p k)) (r : ℕ) (isnt : r ≢ p) where
+  -- what a processor is let do it stays allowed to do, whatever others do
+  pub allowed_on : (a : Kind) → IsPosted a → Allowed s h r a → Allowed s (did h p k) r a
+  allowed_on (Acquire l) posted (i, last, granted) =
+      (i, last_on h p k r i (Ask l) isnt last, record { free = free; first = first })
+    where
+      both : (m : ℕ) → LastIs h p m (Ask l) → MayBeGranted h m l → ⊥
+      both m mine too = elim (cases_order i m) [
+        | inl is ↦ (let P : ℕ → Type 0 = λ x. At h x (event p (Ask l)) in
+            isnt (does_same h i r p (Ask l) (Ask l) last.does (subst P (sym is) mine.does)).0)
+        | inr apart ↦ elim apart [ inl lt ↦ too.first i r lt last | inr lt ↦ granted.first m p lt mine ]
+      ]
 
-    free : (q : ℕ) → ¬ Holds (did h p k) q l
-    free q held = elim (holds_cases h (event p k) q l held) [
-      | inl old ↦ granted.free q old.0
-      | inr new ↦ taken (subst (λ b. Allowed s h p b) (ap (λ e. e.kind) new) may.allowed)
-    ]
+      taken : Allowed s h p (Acquire l) → ⊥
+      taken x = both x.0 x.1 x.2
 
-    first : (m q : ℕ) → m < i → ¬ LastIs (did h p k) q m (Ask l)
-    first m q lt ask = elim (last_cases h (event p k) q m (Ask l) ask) [
-      | inl own ↦ (let within = at_within h i (record { processor = r; kind = Ask l }) last.does in
-          absurd (omega (arith, own.1)))
-      | inr old ↦ granted.first m q lt old.1
-    ]
-allowed_on s h p k r Depart may isnt posted (i, last, all) = (
-  i,
-  last_on h p k r i Arrive isnt last,
-  λ q lt. (let one = all q lt in let same = count_others is_depart h p k r isnt in
-      let more = count_more is_arrive h p k q in omega arith),
-)
-allowed_on s h p k r _ may isnt posted allowed = absurd posted
+      free : (q : ℕ) → ¬ Holds (did h p k) q l
+      free q held = elim (holds_cases h (event p k) q l held) [
+        | inl old ↦ granted.free q old.0
+        | inr new ↦ taken (subst (λ b. Allowed s h p b) (ap (λ e. e.kind) new) may.allowed)
+      ]
 
--- nor do others change what that brings
-pub brings_on : (s : Sizes) (h : List Event) (p : ℕ) (k : Kind) (r : ℕ) (a : Kind) (t : List ℕ)
-    → MayFollow s h (event p k) → r ≢ p → IsPosted a → Allowed s h r a → IsStamp s.processors h (Brings h r a) t
-    → IsStamp s.processors (did h p k) (Brings (did h p k) r a) t
-brings_on s h p k r (Acquire l) t may isnt posted (i, last, granted) x =
-    record {
-      long = x.long;
-      is = kind_kept h (event p k ∷ []) (Release l) (slice_index t)
-          (other_kind p k (Release l) (λ e. granted.free p (subst (λ b. Allowed s h p b) e may.allowed))) x.is;
-    }
-brings_on s h p k r Depart t may isnt posted (i, last, all) x =
-    record {
-      long = x.long;
-      is = subst (λ n. IsTimeIn (did h p k) (UpToSome (did h p k) (SomeArrives (did h p k) n)) (slice_index t))
-          (sym (count_others is_depart h p k r isnt))
-          (arrivals_others h (event p k) (count_of is_depart h r) (slice_index t)
-          (λ e. (let one = all p may.processor in absurd (omega arith))) x.is);
-    }
-brings_on s h p k r _ t may isnt posted allowed x = absurd posted
+      first : (m q : ℕ) → m < i → ¬ LastIs (did h p k) q m (Ask l)
+      first m q lt ask = elim (last_cases h (event p k) q m (Ask l) ask) [
+        | inl own ↦ (let within = at_within h i (record { processor = r; kind = Ask l }) last.does in
+            absurd (omega (arith, own.1)))
+        | inr old ↦ granted.first m q lt old.1
+      ]
+  allowed_on Depart posted (i, last, all) = (
+    i,
+    last_on h p k r i Arrive isnt last,
+    λ q lt. (let one = all q lt in let same = count_others is_depart h p k r isnt in
+        let more = count_more is_arrive h p k q in omega arith),
+  )
+  allowed_on _ posted allowed = absurd posted
 
--- what is allowed after an event that is no news was so before
-pub allowed_back : (s : Sizes) (h : List Event) (p : ℕ) (k : Kind) (r : ℕ) (a : Kind) → MayFollow s h (event p k)
-    → r ≢ p → IsPosted a → ¬ News k a → Allowed s (did h p k) r a → Allowed s h r a
-allowed_back s h p k r (Acquire l) may isnt posted none (i, last, granted) =
-    (i, old, record { free = λ q held. granted.free q (holds_on h p k q l none held); first = first })
-  where
-    old : LastIs h r i (Ask l)
-    old = elim (last_cases h (event p k) r i (Ask l) last) [ inl own ↦ absurd (isnt (sym own.0)) | inr o ↦ o.1 ]
+  -- nor do others change what that brings
+  brings_on : (a : Kind) (t : List ℕ) → IsPosted a → Allowed s h r a → IsStamp s.processors h (Brings h r a) t
+      → IsStamp s.processors (did h p k) (Brings (did h p k) r a) t
+  brings_on (Acquire l) t posted (i, last, granted) x =
+      stamp_kept s.processors h p k (Release l) t
+      (λ e. granted.free p (subst (λ b. Allowed s h p b) e may.allowed)) x
+  brings_on Depart t posted (i, last, all) x =
+      record {
+        long = x.long;
+        is = subst (λ n. IsTimeIn (did h p k) (UpToSome (did h p k) (SomeArrives (did h p k) n)) (slice_index t))
+            (sym (count_others is_depart h p k r isnt))
+            (arrivals_others h (event p k) (count_of is_depart h r) (slice_index t)
+            (λ e. (let one = all p may.processor in absurd (omega arith))) x.is);
+      }
+  brings_on _ t posted allowed x = absurd posted
 
-    first : (m q : ℕ) → m < i → ¬ LastIs h q m (Ask l)
-    first m q lt ask = elim (cases_eq q p) [
-      | inl is ↦ (
-          let P : ℕ → Type 0 = λ x. LastIs h x m (Ask l) in
-          let acquires : k ≡ Acquire l = may.answers m (Ask l) (subst P is ask) in
-          granted.free p (subst (λ b. Holds (did h p b) p l) (sym acquires) (holds_now h p l)))
-      | inr apart ↦ granted.first m q lt (last_on h p k q m (Ask l) apart ask)
-    ]
-allowed_back s h p k r Depart may isnt posted none (i, last, all) = (
-  i,
-  old,
-  λ q lt.
-      (let one = all q lt in let same = count_others is_depart h p k r isnt in
-      let too = count_kept is_arrive h p k q (arrives_not k none) in omega arith),
-)
-  where
-    old : LastIs h r i Arrive
-    old = elim (last_cases h (event p k) r i Arrive last) [ inl own ↦ absurd (isnt (sym own.0)) | inr o ↦ o.1 ]
-allowed_back s h p k r _ may isnt posted none allowed = absurd posted
+  -- what is allowed after an event that is no news was so before
+  allowed_back : (a : Kind) → IsPosted a → ¬ News k a → Allowed s (did h p k) r a → Allowed s h r a
+  allowed_back (Acquire l) posted none (i, last, granted) =
+      (i, old, record { free = λ q held. granted.free q (holds_on h p k q l none held); first = first })
+    where
+      old : LastIs h r i (Ask l)
+      old = elim (last_cases h (event p k) r i (Ask l) last) [ inl own ↦ absurd (isnt (sym own.0)) | inr o ↦ o.1 ]
 
--- another's message stays right, and stays away unless the event brings news
-pub mail_unless : (s : Sizes) (h : List Event) (p : ℕ) (k : Kind) (r : ℕ) (o : Option Letter)
-    → MayFollow s h (event p k) → r ≢ p → ((a : Kind) → IsPosted a → News k a → ¬ Allowed s (did h p k) r a)
-    → IsMail s h r o → IsMail s (did h p k) r o
-mail_unless s h p k r None may isnt never mail =
-    λ a posted allowed. elim (news_cases k a) [
-      | inl news ↦ never a posted news allowed
-      | inr none ↦ mail a posted (allowed_back s h p k r a may isnt posted none allowed)
-    ]
-mail_unless s h p k r (Some m) may isnt never mail = let posted = lets_posted m.kind mail.kind mail.lets in record {
-  kind = mail.kind;
-  lets = mail.lets;
-  allowed = allowed_on s h p k r mail.kind may isnt posted mail.allowed;
-  time = brings_on s h p k r mail.kind m.time may isnt posted mail.allowed mail.time;
-}
+      first : (m q : ℕ) → m < i → ¬ LastIs h q m (Ask l)
+      first m q lt ask = elim (cases_eq q p) [
+        | inl is ↦ (
+            let P : ℕ → Type 0 = λ x. LastIs h x m (Ask l) in
+            let acquires : k ≡ Acquire l = may.answers m (Ask l) (subst P is ask) in
+            granted.free p (subst (λ b. Holds (did h p b) p l) (sym acquires) (holds_now h p l)))
+        | inr apart ↦ granted.first m q lt (last_on h p k q m (Ask l) apart ask)
+      ]
+  allowed_back Depart posted none (i, last, all) = (
+    i,
+    old,
+    λ q lt.
+        (let one = all q lt in let same = count_others is_depart h p k r isnt in
+        let too = count_kept is_arrive h p k q (arrives_not k none) in omega arith),
+  )
+    where
+      old : LastIs h r i Arrive
+      old = elim (last_cases h (event p k) r i Arrive last) [ inl own ↦ absurd (isnt (sym own.0)) | inr o ↦ o.1 ]
+  allowed_back _ posted none allowed = absurd posted
 
-pub mail_kept : (s : Sizes) (h : List Event) (p : ℕ) (k : Kind) (r : ℕ) (o : Option Letter)
-    → MayFollow s h (event p k) → r ≢ p → ((l : ℕ) → k ≢ Release l) → k ≢ Arrive → IsMail s h r o
-    → IsMail s (did h p k) r o
-mail_kept s h p k r o may isnt release arrive mail = mail_unless s h p k r o may isnt (none release arrive) mail
-  where
-    none : ((l : ℕ) → k ≢ Release l) → k ≢ Arrive → (a : Kind) → IsPosted a → News k a → ¬ Allowed s (did h p k) r a
-    none f g (Acquire l) posted news allowed = f l news
-    none f g Depart posted news allowed = g news
-    none f g _ posted news allowed = absurd posted
+  -- another's message stays right
+  pub mail_stays : (m : Letter) → Carries s h r m → Carries s (did h p k) r m
+  mail_stays m mail =
+      let posted = lets_posted m.kind mail.kind mail.lets in
+      record {
+        kind = mail.kind;
+        lets = mail.lets;
+        allowed = allowed_on mail.kind posted mail.allowed;
+        time = brings_on mail.kind m.time posted mail.allowed mail.time;
+      }
+
+  -- and stays away unless the event brings news
+  pub mail_unless : (o : Option Letter) → ((a : Kind) → IsPosted a → News k a → ¬ Allowed s (did h p k) r a)
+      → IsMail s h r o → IsMail s (did h p k) r o
+  mail_unless None never mail =
+      λ a posted allowed. elim (news_cases k a) [
+        | inl news ↦ never a posted news allowed
+        | inr none ↦ mail a posted (allowed_back a posted none allowed)
+      ]
+  mail_unless (Some m) never mail = mail_stays m mail
+
+  pub mail_kept : (o : Option Letter) → ((l : ℕ) → k ≢ Release l) → k ≢ Arrive → IsMail s h r o
+      → IsMail s (did h p k) r o
+  mail_kept o release arrive mail = mail_unless o none mail
+    where
+      none : (a : Kind) → IsPosted a → News k a → ¬ Allowed s (did h p k) r a
+      none (Acquire l) posted news allowed = release l news
+      none Depart posted news allowed = arrive news
+      none _ posted news allowed = absurd posted
 
 -- who is idle has no message
 pub idle_allowed : (s : Sizes) (h : List Event) (p : ℕ) (a : Kind) → IsIdle h p → IsPosted a → ¬ Allowed s h p a

@@ -155,30 +155,6 @@ stage_lacks h n p Away isnt x = x.0
 stage_lacks h n p Here isnt x = absurd (isnt refl)
 stage_lacks h n p Free isnt x = x.0
 
--- all stages after p's arrival, before the episode is looked at
-pub arrived_stages : (s : Sizes) (h : List Event) (p : ℕ) (b : Episodes) → WellFormed s h → IsIdle h p
-    → p < s.processors → (x : IsBarrier s h b)
-    → (count_of is_arrive h p ≡ x.complete)
-    × AreAll s.processors (IsAtStage (did h p Arrive) x.complete) (slice_set b.stages p Here)
-arrived_stages s h p b well idle lt x = (
-  here.0,
-  each_set s.processors (IsAtStage h x.complete) (IsAtStage (did h p Arrive) x.complete)
-      b.stages p Here x.stages (λ q st isnt at is. stage_others h p Arrive x.complete q st isnt is)
-      (own_arrive, own_depart),
-)
-  where
-    here : IsAtStage h x.complete p Away
-    here = let item = is_at s.processors (IsAtStage h x.complete) b.stages p Away x.stages lt in
-        subst (λ st. IsAtStage h x.complete p st)
-        (sym (stage_away h x.complete p (slice_index_or b.stages p Away) (idle_counts s h p well idle) item)) item
-
-    own_arrive : count_of is_arrive (did h p Arrive) p ≡ x.complete + 1
-    own_arrive = let one : count_of is_arrive (did h p Arrive) p ≡ count_of is_arrive h p + 1 =
-        count_did is_arrive h p Arrive in let e = here.0 in omega arith
-
-    own_depart : count_of is_depart (did h p Arrive) p ≡ x.complete
-    own_depart = count_kept is_depart h p Arrive p refl ∙ here.1
-
 -- the open episode gathers the arrival
 pub arrival_gathered : (s : Sizes) (h : List Event) (p n : ℕ) (t u : List ℕ) → count_of is_arrive h p ≡ n
     → IsStamp s.processors h (UpToSome h (SomeArrives h n)) t
@@ -192,122 +168,137 @@ arrival_gathered s h p n t u is x y =
     (UpToSome (did h p Arrive) (SomeArrives (did h p Arrive) (count_of is_arrive h p))) t u z.long y.long
     (arrival_joins h (event p Arrive) (slice_index t) (slice_index u) refl z.is y.is)) x
 
--- when not all are here, the episode stays open
-pub barrier_waits : (s : Sizes) (h : List Event) (p : ℕ) (b : Episodes) (u : List ℕ) → WellFormed s h → IsIdle h p
-    → p < s.processors → IsBarrier s h b → IsStamp s.processors (did h p Arrive) (InPast (did h p Arrive) p) u
-    → is_full (joined b p u) ≡ false
-    → (x : IsBarrier s (did h p Arrive) (joined b p u))
-    × ((q : ℕ) → q < s.processors → x.complete ≤ count_of is_arrive h q) × (count_of is_arrive h p ≡ x.complete)
-barrier_waits s h p b u well idle lt x time open_still = (
-  record {
-    complete = x.complete;
-    stages = all.1;
-    lacks = (
-      r.0,
-      subst (λ m. r.0 < m) all.1.long (slice_get_within (slice_set b.stages p Here) r.0 r.1 r.2),
-      stage_lacks (did h p Arrive) x.complete r.0 r.1 r.3 (all.1.each r.0 r.1 r.2),
-    );
-    gathered = arrival_gathered s h p x.complete b.gathered u all.0 x.gathered time;
-  },
-  λ q less. stage_arrived h x.complete q (slice_index_or b.stages q Away)
-      (is_at s.processors (IsAtStage h x.complete) b.stages q Away x.stages less),
-  all.0,
-)
-  where
-    all : (count_of is_arrive h p ≡ x.complete)
-        × AreAll s.processors (IsAtStage (did h p Arrive) x.complete) (slice_set b.stages p Here)
-    all = arrived_stages s h p b well idle lt x
-
-    r : (k : ℕ) × (st : Stage) × (slice_get (slice_set b.stages p Here) k ≡ Some st) × (Here ≢ st)
-    r = not_all (slice_set b.stages p Here) open_still
-
 -- an event's processor is within the sizes
 within_sizes : (s : Sizes) (h : List Event) (q i : ℕ) (k : Kind) → WellFormed s h → At h i (event q k)
     → q < s.processors
 within_sizes s h q i k well at = (well i (event q k) at).processor
 
--- when all are here, all are free, and nobody has arrived at the next episode
-pub barrier_completes : (s : Sizes) (h : List Event) (p : ℕ) (b : Episodes) (u : List ℕ) → WellFormed s h
-    → WellFormed s (did h p Arrive) → IsIdle h p → p < s.processors → IsBarrier s h b
-    → IsStamp s.processors (did h p Arrive) (InPast (did h p Arrive) p) u
-    → is_full (joined b p u) ≡ true → IsBarrier s (did h p Arrive) (completed true (joined b p u))
-barrier_completes s h p b u well next idle lt x time full = record {
-  complete = x.complete + 1;
-  stages = subst (λ n. AreAll n (IsAtStage (did h p Arrive) (x.complete + 1))
-      (replicate (length (slice_set b.stages p Here)) Free)) all.1.long
-      (record { long = length-replicate {A = Stage} (length (slice_set b.stages p Here)) Free; each = each });
-  lacks = (p, lt, (arrived_all p lt).0);
-  gathered = subst (λ n. IsStamp s.processors (did h p Arrive)
-      (UpToSome (did h p Arrive) (SomeArrives (did h p Arrive) (x.complete + 1))) (replicate n 0)) (sym all.1.long)
-      (stamp_none s.processors (did h p Arrive)
-      (UpToSome (did h p Arrive) (SomeArrives (did h p Arrive) (x.complete + 1)))
-      (λ i some. nobody some.0 some.1));
-}
-  where
-    all : (count_of is_arrive h p ≡ x.complete)
-        × AreAll s.processors (IsAtStage (did h p Arrive) x.complete) (slice_set b.stages p Here)
-    all = arrived_stages s h p b well idle lt x
+-- an idle processor arrives
+module _ (s : Sizes) (h : List Event) (p : ℕ) (b : Episodes) (well : WellFormed s h) (idle : IsIdle h p)
+    (lt : p < s.processors) (x : IsBarrier s h b) where
+  -- all stages then, before the episode is looked at
+  pub arrived_stages : (count_of is_arrive h p ≡ x.complete)
+      × AreAll s.processors (IsAtStage (did h p Arrive) x.complete) (slice_set b.stages p Here)
+  arrived_stages = (
+    here.0,
+    each_set s.processors (IsAtStage h x.complete) (IsAtStage (did h p Arrive) x.complete)
+        b.stages p Here x.stages (λ q st isnt at is. stage_others h p Arrive x.complete q st isnt is)
+        (own_arrive, own_depart),
+  )
+    where
+      here : IsAtStage h x.complete p Away
+      here =
+          let item = is_at s.processors (IsAtStage h x.complete) b.stages p Away x.stages lt in
+          subst (λ st. IsAtStage h x.complete p st)
+          (sym (stage_away h x.complete p (slice_index_or b.stages p Away) (idle_counts s h p well idle) item)) item
 
-    arrived_all : (q : ℕ) → q < s.processors → IsAtStage (did h p Arrive) x.complete q Here
-    arrived_all q less =
-        let item = item_at s.processors (IsAtStage (did h p Arrive) x.complete) (slice_set b.stages p Here)
-        q Away all.1 less in
-        subst (λ st. IsAtStage (did h p Arrive) x.complete q st)
-        (sym (all_true (slice_set b.stages p Here) full q (slice_index_or (slice_set b.stages p Here) q Away)
-        item)) (all.1.each q (slice_index_or (slice_set b.stages p Here) q Away) item)
+      own_arrive : count_of is_arrive (did h p Arrive) p ≡ x.complete + 1
+      own_arrive =
+          let one : count_of is_arrive (did h p Arrive) p ≡ count_of is_arrive h p + 1 =
+          count_did is_arrive h p Arrive in
+          let e = here.0 in
+          omega arith
 
-    each : (q : ℕ) (st : Stage) → slice_get (replicate (length (slice_set b.stages p Here)) Free) q ≡ Some st
-        → IsAtStage (did h p Arrive) (x.complete + 1) q st
-    each q st at =
-        let within = slice_get_within (replicate (length (slice_set b.stages p Here)) Free) q st at in
-        let long = length-replicate {A = Stage} (length (slice_set b.stages p Here)) Free in
-        let same = all.1.long in
-        let counts = arrived_all q (omega arith) in
-        subst (λ y. IsAtStage (did h p Arrive) (x.complete + 1) q y)
-        (slice_get-replicate_found (length (slice_set b.stages p Here)) Free st q at)
-        (counts.0, ap (λ m. m + 1) counts.1)
+      own_depart : count_of is_depart (did h p Arrive) p ≡ x.complete
+      own_depart = count_kept is_depart h p Arrive p refl ∙ here.1
 
-    nobody : (i : ℕ) → ¬ SomeArrives (did h p Arrive) (x.complete + 1) i
-    nobody i some =
-        let less = within_sizes s (did h p Arrive) some.0 i Arrive next some.1.does in
-        let front = count_of-within is_arrive (did h p Arrive) i some.0 Arrive some.1.does refl in
-        let number = some.1.number in
-        let counts = (arrived_all some.0 less).0 in
-        absurd (omega arith)
+  -- when all are here, each is
+  pub arrived_here : list_all is_here (slice_set b.stages p Here) ≡ true → (q : ℕ) → q < s.processors
+      → IsAtStage (did h p Arrive) x.complete q Here
+  arrived_here full q less =
+      let all = arrived_stages.1 in
+      let item = item_at s.processors (IsAtStage (did h p Arrive) x.complete) (slice_set b.stages p Here)
+      q Away all less in
+      subst (λ st. IsAtStage (did h p Arrive) x.complete q st)
+      (sym (all_true (slice_set b.stages p Here) full q (slice_index_or (slice_set b.stages p Here) q Away) item))
+      (all.each q (slice_index_or (slice_set b.stages p Here) q Away) item)
 
--- then each is allowed to depart, with the join of all arrivals
-pub completes_all : (s : Sizes) (h : List Event) (p : ℕ) (b : Episodes) (u : List ℕ) → WellFormed s h
-    → WellFormed s (did h p Arrive) → IsIdle h p → p < s.processors → IsBarrier s h b
-    → IsStamp s.processors (did h p Arrive) (InPast (did h p Arrive) p) u
-    → is_full (joined b p u) ≡ true → (q : ℕ) → q < s.processors
-    → Allowed s (did h p Arrive) q Depart
-    × IsStamp s.processors (did h p Arrive) (Brings (did h p Arrive) q Depart) (join b.gathered u)
-completes_all s h p b u well next idle lt x time full q less = (
-  (
-    waits.0,
-    waits.1,
-    λ r below. (let one = (arrived_all r below).0 in let d = (arrived_all q less).1 in omega arith),
-  ),
-  brings,
-)
-  where
-    all : (count_of is_arrive h p ≡ x.complete)
-        × AreAll s.processors (IsAtStage (did h p Arrive) x.complete) (slice_set b.stages p Here)
-    all = arrived_stages s h p b well idle lt x
+  module _ (u : List ℕ) (time : IsStamp s.processors (did h p Arrive) (InPast (did h p Arrive) p) u) where
+    -- when not all are here, the episode stays open
+    pub barrier_waits : is_full (joined b p u) ≡ false → (y : IsBarrier s (did h p Arrive) (joined b p u))
+        × ((q : ℕ) → q < s.processors → y.complete ≤ count_of is_arrive h q) × (count_of is_arrive h p ≡ y.complete)
+    barrier_waits open_still = (
+      record {
+        complete = x.complete;
+        stages = all.1;
+        lacks = (
+          r.0,
+          subst (λ m. r.0 < m) all.1.long (slice_get_within (slice_set b.stages p Here) r.0 r.1 r.2),
+          stage_lacks (did h p Arrive) x.complete r.0 r.1 r.3 (all.1.each r.0 r.1 r.2),
+        );
+        gathered = arrival_gathered s h p x.complete b.gathered u all.0 x.gathered time;
+      },
+      λ q less. stage_arrived h x.complete q (slice_index_or b.stages q Away)
+          (is_at s.processors (IsAtStage h x.complete) b.stages q Away x.stages less),
+      all.0,
+    )
+      where
+        all : (count_of is_arrive h p ≡ x.complete)
+            × AreAll s.processors (IsAtStage (did h p Arrive) x.complete) (slice_set b.stages p Here)
+        all = arrived_stages
 
-    arrived_all : (r : ℕ) → r < s.processors → IsAtStage (did h p Arrive) x.complete r Here
-    arrived_all r below =
-        let item = item_at s.processors (IsAtStage (did h p Arrive) x.complete) (slice_set b.stages p Here)
-        r Away all.1 below in
-        subst (λ st. IsAtStage (did h p Arrive) x.complete r st)
-        (sym (all_true (slice_set b.stages p Here) full r (slice_index_or (slice_set b.stages p Here) r Away)
-        item)) (all.1.each r (slice_index_or (slice_set b.stages p Here) r Away) item)
+        r : (k : ℕ) × (st : Stage) × (slice_get (slice_set b.stages p Here) k ≡ Some st) × (Here ≢ st)
+        r = not_all (slice_set b.stages p Here) open_still
 
-    waits : (i : ℕ) × LastIs (did h p Arrive) q i Arrive
-    waits = let counts = arrived_all q less in let a = counts.0 in let d =
-        counts.1 in waits_there s (did h p Arrive) q next (omega arith)
+    module _ (next : WellFormed s (did h p Arrive)) (full : is_full (joined b p u) ≡ true) where
+      -- when all are here, all are free, and nobody has arrived at the next episode
+      pub barrier_completes : IsBarrier s (did h p Arrive) (completed true (joined b p u))
+      barrier_completes = record {
+        complete = x.complete + 1;
+        stages = subst (λ n. AreAll n (IsAtStage (did h p Arrive) (x.complete + 1))
+            (replicate (length (slice_set b.stages p Here)) Free)) long
+            (record { long = length-replicate {A = Stage} (length (slice_set b.stages p Here)) Free; each = each });
+        lacks = (p, lt, (arrived_here full p lt).0);
+        gathered = subst (λ n. IsStamp s.processors (did h p Arrive)
+            (UpToSome (did h p Arrive) (SomeArrives (did h p Arrive) (x.complete + 1))) (replicate n 0)) (sym long)
+            (stamp_none s.processors (did h p Arrive)
+            (UpToSome (did h p Arrive) (SomeArrives (did h p Arrive) (x.complete + 1)))
+            (λ i some. nobody some.0 some.1));
+      }
+        where
+          long : length (slice_set b.stages p Here) ≡ s.processors
+          long = arrived_stages.1.long
 
-    brings : IsStamp s.processors (did h p Arrive) (Brings (did h p Arrive) q Depart) (join b.gathered u)
-    brings = subst (λ n. IsStamp s.processors (did h p Arrive)
-        (UpToSome (did h p Arrive) (SomeArrives (did h p Arrive) n)) (join b.gathered u))
-        (sym (arrived_all q less).1) (arrival_gathered s h p x.complete b.gathered u all.0 x.gathered time)
+          each : (q : ℕ) (st : Stage) → slice_get (replicate (length (slice_set b.stages p Here)) Free) q ≡ Some st
+              → IsAtStage (did h p Arrive) (x.complete + 1) q st
+          each q st at =
+              let within = slice_get_within (replicate (length (slice_set b.stages p Here)) Free) q st at in
+              let same = length-replicate {A = Stage} (length (slice_set b.stages p Here)) Free in
+              let all = long in
+              let counts = arrived_here full q (omega arith) in
+              subst (λ y. IsAtStage (did h p Arrive) (x.complete + 1) q y)
+              (slice_get-replicate_found (length (slice_set b.stages p Here)) Free st q at)
+              (counts.0, ap (λ m. m + 1) counts.1)
+
+          nobody : (i : ℕ) → ¬ SomeArrives (did h p Arrive) (x.complete + 1) i
+          nobody i some =
+              let less = within_sizes s (did h p Arrive) some.0 i Arrive next some.1.does in
+              let front = count_of-within is_arrive (did h p Arrive) i some.0 Arrive some.1.does refl in
+              let number = some.1.number in
+              let counts = (arrived_here full some.0 less).0 in
+              absurd (omega arith)
+
+      -- then each is allowed to depart, with the join of all arrivals
+      pub completes_all : (q : ℕ) → q < s.processors → Allowed s (did h p Arrive) q Depart
+          × IsStamp s.processors (did h p Arrive) (Brings (did h p Arrive) q Depart) (join b.gathered u)
+      completes_all q less = (
+        (
+          waits.0,
+          waits.1,
+          λ r below. (let one = (arrived_here full r below).0 in let d = (arrived_here full q less).1 in omega arith),
+        ),
+        brings,
+      )
+        where
+          waits : (i : ℕ) × LastIs (did h p Arrive) q i Arrive
+          waits =
+              let counts = arrived_here full q less in
+              let a = counts.0 in
+              let d = counts.1 in
+              waits_there s (did h p Arrive) q next (omega arith)
+
+          brings : IsStamp s.processors (did h p Arrive) (Brings (did h p Arrive) q Depart) (join b.gathered u)
+          brings = subst (λ n. IsStamp s.processors (did h p Arrive)
+              (UpToSome (did h p Arrive) (SomeArrives (did h p Arrive) n)) (join b.gathered u))
+              (sym (arrived_here full q less).1)
+              (arrival_gathered s h p x.complete b.gathered u arrived_stages.0 x.gathered time)

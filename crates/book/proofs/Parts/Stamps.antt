@@ -1,5 +1,5 @@
 -- Timestamps under one more event.
-use Rattle.std.proofs.Common.{◌≡◌, ◌≢◌, ◌↔◌, ℕ, ◌+◌, ◌<◌, max, inl, inr, List, [], ◌∷◌, length, replicate, Bool, cond, false, true, slice_index, subst, sym, refl, ap, ◌∙◌, arith}
+use Rattle.std.proofs.Common.{◌≡◌, ◌≢◌, ℕ, ◌+◌, ◌<◌, max, inl, inr, List, [], ◌∷◌, length, replicate, Bool, cond, false, true, slice_index, subst, sym, refl, ap, ◌∙◌, arith}
 use Rattle.std.proofs.lemmas.Bool.{cases_eq}
 use Rattle.std.proofs.lemmas.List.{length-set, length-replicate, get_or-set_same, get_or-set_other}
 use Rattle.lists.proofs.Sets.{index-zeros}
@@ -12,7 +12,7 @@ use Rattle.journal.specs.WellFormed.{WellFormed}
 use Rattle.journal.specs.Pasts.{InPast, UpToSome}
 use Rattle.journal.specs.Times.{IsTimeIn}
 use Rattle.journal.specs.Brings.{Brings, SomeDoes}
-use Rattle.journal.proofs.Times.Times.{time_equal, time_same, time_none}
+use Rattle.journal.proofs.Times.Times.{time_equal, time_none}
 use Rattle.journal.proofs.Times.Pushes.{others_keep, own_quiet, own_closing, own_taking}
 use Rattle.journal.proofs.Journals.Holding.{release_time}
 use Rattle.vtime.specs.Times.{tick, join}
@@ -42,10 +42,6 @@ tick_index t p k q closes lt = elim (cases_eq q p) [
 pub stamp_equal : (n : ℕ) (h : List Event) (among : ℕ → Type 0) (t : List ℕ) (u : ℕ → ℕ) → length t ≡ n
     → ((q : ℕ) → u q ≡ slice_index t q) → IsTimeIn h among u → IsStamp n h among t
 stamp_equal n h among t u long same is = record { long = long; is = time_equal h among u (slice_index t) same is }
-
-pub stamp_same : (n : ℕ) (h : List Event) (some others : ℕ → Type 0) (t : List ℕ) → ((i : ℕ) → some i ↔ others i)
-    → IsStamp n h some t → IsStamp n h others t
-stamp_same n h some others t same x = record { long = x.long; is = time_same h some others (slice_index t) same x.is }
 
 -- zeros where nothing is counted
 pub stamp_none : (n : ℕ) (h : List Event) (some : ℕ → Type 0) → ((i : ℕ) → some i → ⊥)

@@ -1,7 +1,7 @@
 -- The book stays what the history says: each part under one event.
 use Rattle.std.proofs.Common.{◌≡◌, ◌≢◌, ℕ, ◌+◌, ◌<◌, ◌≤◌, zero, suc, inl, inr, List, [], length, true, false, Option, Some, None, slice_get, slice_set, slice_index, slice_index_or, subst, sym, ◌∙◌, arith}
 use Rattle.std.proofs.lemmas.Bool.{cases_eq, cases_lt}
-use Rattle.std.proofs.lemmas.Option.{slice_get_within, slice_get-get_or, get_or_from_slice_get}
+use Rattle.std.proofs.lemmas.Option.{none-some, slice_get_within, slice_get-get_or, get_or_from_slice_get}
 use Rattle.std.proofs.lemmas.List.{get_or-set_same, get_or-set_other, get_or_past}
 use Rattle.journal.specs.declared.event.Event.{Event}
 use Rattle.journal.specs.declared.event.Kind.{Kind}
@@ -27,80 +27,32 @@ use Rattle.book.specs.ClosedIntervals.{AreContents, AreClosed, IsWithin, IsTight
 use Rattle.book.specs.State.{State, time_of}
 use Rattle.book.specs.Transitions.{open_interval}
 use Rattle.book.specs.Told.{IsTold}
+use Rattle.book.specs.Told.{HasSizes}
 use Rattle.book.proofs.Parts.Each.{each_set, is_at}
+use Rattle.book.proofs.Parts.Mail.{idle_mail}
 use Rattle.book.proofs.Parts.Doings.{awaits_idle, awaited_on, awaited_now}
 use Rattle.book.proofs.Parts.Stamps.{stamp_others, stamp_closing, stamp_taking}
 use Rattle.book.proofs.Parts.ClosedIntervals.{closed_closing}
 use Rattle.interval.proofs.News.Unchanged.{between-pushed}
 
--- who awaits nothing is idle
-pub is_idle : (s : Sizes) (h : List Event) (b : State) (p : ℕ) → IsTold s h b → slice_get b.awaits p ≡ Some None
-    → IsIdle h p
-is_idle s h b p told none = awaits_idle h p (told.awaits.each p None none)
-
 -- whose number is found is a processor
 pub is_processor : (s : Sizes) (h : List Event) (b : State) (p : ℕ) (w : Option Kind) → IsTold s h b
     → slice_get b.awaits p ≡ Some w → p < s.processors
-is_processor s h b p w told at = let within = slice_get_within b.awaits p w at in let long =
-    told.awaits.long in omega arith
+is_processor s h b p w told at =
+    let within = slice_get_within b.awaits p w at in
+    let long = told.awaits.long in
+    omega arith
 
--- p's timestamp
-pub own_stamp : (s : Sizes) (h : List Event) (b : State) (p : ℕ) → IsTold s h b → p < s.processors
-    → IsStamp s.processors h (InPast h p) (time_of b p)
-own_stamp s h b p told lt = is_at s.processors (λ q t. IsStamp s.processors h (InPast h q) t) b.times p [] told.times lt
-
--- an idle processor's event may follow
-pub follows : (s : Sizes) (h : List Event) (b : State) (p : ℕ) (k : Kind) → IsTold s h b
-    → slice_get b.awaits p ≡ Some None → KindInRange s k → Allowed s h p k → MayFollow s h (event p k)
-follows s h b p k told none range allowed =
-    idle_follows s h p k (is_processor s h b p None told none) (is_idle s h b p told none) range allowed
-
-pub still_formed : (s : Sizes) (h : List Event) (b : State) (p : ℕ) (k : Kind) → IsTold s h b
-    → MayFollow s h (event p k) → WellFormed s (did h p k)
-still_formed s h b p k told may = (each_push s h (event p k)).1 (told.well_formed, may)
-
--- what is waited for
-pub awaits_set : (s : Sizes) (h : List Event) (b : State) (p : ℕ) (k : Kind) → IsTold s h b
-    → AreAll s.processors (IsAwaited (did h p k)) (slice_set b.awaits p (awaited k))
-awaits_set s h b p k told =
-    each_set s.processors (IsAwaited h) (IsAwaited (did h p k)) b.awaits p (awaited k) told.awaits
-    (λ q w isnt at is. awaited_on h p k q w isnt is) (awaited_now h p k)
-
--- the timestamps after a closing event
-pub times_closing : (s : Sizes) (h : List Event) (b : State) (p : ℕ) (k : Kind) → IsTold s h b → p < s.processors
-    → is_taking k ≡ false → is_closing k ≡ true
-    → AreAll s.processors (λ q t. IsStamp s.processors (did h p k) (InPast (did h p k) q) t)
-    (slice_set b.times p (tick (time_of b p) p))
-times_closing s h b p k told lt quiet closes =
-    each_set s.processors (λ q t. IsStamp s.processors h (InPast h q) t)
-    (λ q t. IsStamp s.processors (did h p k) (InPast (did h p k) q) t) b.times p (tick (time_of b p) p) told.times
-    (λ q t isnt at is. stamp_others s.processors h p k q t isnt is)
-    (stamp_closing s.processors h p k (time_of b p) lt quiet closes (own_stamp s h b p told lt))
-
--- and after an event that takes
-pub times_taking : (s : Sizes) (h : List Event) (b : State) (p : ℕ) (k : Kind) (u : List ℕ) → IsTold s h b
-    → p < s.processors → is_closing k ≡ false → IsStamp s.processors h (Brings h p k) u
-    → AreAll s.processors (λ q t. IsStamp s.processors (did h p k) (InPast (did h p k) q) t)
-    (slice_set b.times p (join (time_of b p) u))
-times_taking s h b p k u told lt quiet brings =
-    each_set s.processors (λ q t. IsStamp s.processors h (InPast h q) t)
-    (λ q t. IsStamp s.processors (did h p k) (InPast (did h p k) q) t) b.times p (join (time_of b p) u) told.times
-    (λ q t isnt at is. stamp_others s.processors h p k q t isnt is)
-    (stamp_taking s.processors h p k (time_of b p) u quiet (own_stamp s h b p told lt) brings)
-
--- the number of p's open interval
-pub own_number : (s : Sizes) (h : List Event) (b : State) (p : ℕ) → IsTold s h b → p < s.processors
-    → slice_index (time_of b p) p ≡ count_of is_closing h p
-own_number s h b p told lt = own_entry h p (slice_index (time_of b p)) (own_stamp s h b p told lt).is
-
--- the closed intervals after a closing event
-pub closed_now : (s : Sizes) (h : List Event) (b : State) (p : ℕ) (k : Kind) (records : List Changes) → IsTold s h b
-    → p < s.processors → is_closing k ≡ true → AreContents s h p (count_of is_closing h p) records
-    → AreClosed s (did h p k) (pushed b.closed (open_interval b p records))
-closed_now s h b p k records told lt closes stored =
-    closed_closing s h p k b.closed (slice_index (time_of b p) p) records closes lt (own_number s h b p told lt)
-    (told.within p p (time_of b p) (slice_get-get_or b.times p [] (subst (λ n. p < n) (sym told.times.long) lt)))
-    (subst (λ n. AreContents s h p n records) (sym (own_number s h b p told lt)) stored) told.closed
+-- a book with as many processors, addresses and words a page has the same sizes
+pub same_sizes : (s : Sizes) (b c : State) → HasSizes s b
+    → (c.journal.processors ≡ b.journal.processors) × (c.words ≡ b.words)
+    × (c.journal.addresses ≡ b.journal.addresses) × (c.locks.processors ≡ b.locks.processors) → HasSizes s c
+same_sizes s b c is same = record {
+  processors = same.0 ∙ is.processors;
+  words = same.1 ∙ is.words;
+  addresses = same.2 ∙ is.addresses;
+  lockers = same.3 ∙ is.lockers;
+}
 
 -- a timestamp that grows covers what it covered
 within_set : (first : List ℕ) (times : List (List ℕ)) (p : ℕ) (u : List ℕ) → p < length times
@@ -132,69 +84,134 @@ tick_grows t p q = elim (cases_eq q p) [
 join_grows : (t u : List ℕ) (q : ℕ) → slice_index t q ≤ slice_index (join t u) q
 join_grows t u q = let e = get_or-join t u q in omega arith
 
-pub within_closing : (s : Sizes) (h : List Event) (b : State) (p : ℕ) → IsTold s h b → p < s.processors
-    → IsWithin b.closed.first (slice_set b.times p (tick (time_of b p) p))
-within_closing s h b p told lt =
-    within_set b.closed.first b.times p (tick (time_of b p) p) (subst (λ n. p < n) (sym told.times.long) lt)
-    (tick_grows (time_of b p) p) told.within
+-- of a processor of a book that is told
+module _ (s : Sizes) (h : List Event) (b : State) (p : ℕ) (told : IsTold s h b) where
+  -- who awaits nothing is idle
+  pub is_idle : slice_get b.awaits p ≡ Some None → IsIdle h p
+  is_idle none = awaits_idle h p (told.awaits.each p None none)
 
-pub within_taking : (s : Sizes) (h : List Event) (b : State) (p : ℕ) (u : List ℕ) → IsTold s h b → p < s.processors
-    → IsWithin b.closed.first (slice_set b.times p (join (time_of b p) u))
-within_taking s h b p u told lt =
-    within_set b.closed.first b.times p (join (time_of b p) u) (subst (λ n. p < n) (sym told.times.long) lt)
-    (join_grows (time_of b p) u) told.within
+  -- and has no message
+  pub has_none : slice_get b.awaits p ≡ Some None → (r : ℕ) (m : Letter) → slice_get b.transit r ≡ Some (Some m) → r ≢ p
+  has_none none r m at is =
+      let P : ℕ → Type 0 = λ x. slice_get b.transit x ≡ Some (Some m) in
+      none-some m (idle_mail s h p (Some m) (is_idle none) (told.transit.each p (Some m) (subst P is at)))
 
--- with two processors or more, a tick leaves what everyone covers
-pub tight_closing : (s : Sizes) (h : List Event) (b : State) (p : ℕ) → IsTold s h b → p < s.processors
-    → 1 < s.processors → IsTight b.closed.first (slice_set b.times p (tick (time_of b p) p))
-tight_closing s h b p told lt more q less =
-    let found = told.tight more q less in
-    let long = told.times.long in
-    elim (cases_eq found.0 p) [
-      | inr isnt ↦ (
-        found.0,
-        found.1,
-        slice_get-set_other b.times p found.0 (tick (time_of b p) p) isnt ∙ found.2,
-        found.3,
-      )
-      | inl is ↦ elim (cases_eq q p) [
-        | inr apart ↦ (
-            let P : ℕ → Type 0 = λ x. slice_get b.times x ≡ Some found.1 in
-            let own = sym (get_or_from_slice_get b.times p found.1 [] (subst P is found.2)) in
-            let same = get_or-set_other (time_of b p) p q (slice_index (time_of b p) p + 1) 0 apart in
-            let entry = subst (λ (t : List ℕ). slice_index t q ≤ slice_index b.closed.first q) own found.3 in
-            (p, tick (time_of b p) p, slice_get-set_same b.times p (tick (time_of b p) p) (omega arith), omega arith))
-        | inl own ↦ (
-            let P : ℕ → Type 0 = λ x. slice_get b.times x ≡ Some found.1 in
-            let mine = sym (get_or_from_slice_get b.times p found.1 [] (subst P is found.2)) in
-            let Q : ℕ → Type 0 = λ x. slice_index found.1 x ≤ slice_index b.closed.first x in
-            let entry = subst (λ (t : List ℕ). slice_index t p ≤ slice_index b.closed.first p) mine
-            (subst Q own found.3) in
-            let number = own_number s h b p told lt in
-            let r = another p s.processors more in
-            let at = slice_get-get_or b.times r.0 [] (omega (arith, r.1)) in
-            let most = (told.times.each r.0 (time_of b r.0) at).is.within p in
-            let R : ℕ → Type 0 = λ x. slice_index (time_of b r.0) x ≤ slice_index b.closed.first x in (
-              r.0,
-              time_of b r.0,
-              slice_get-set_other b.times p r.0 (tick (time_of b p) p) r.2 ∙ at,
-              subst R (sym own) (omega arith),
-            ))
-      ]
-    ]
-  where
-    another : (p n : ℕ) → 1 < n → (r : ℕ) × (r < n) × (r ≢ p)
-    another zero n more = (1, more, λ e. absurd (omega arith))
-    another (suc p) n more = (0, omega arith, λ e. absurd (omega arith))
+  module _ (k : Kind) where
+    -- an idle processor's event may follow
+    pub follows : slice_get b.awaits p ≡ Some None → KindInRange s k → Allowed s h p k → MayFollow s h (event p k)
+    follows none range allowed =
+        idle_follows s h p k (is_processor s h b p None told none) (is_idle none) range allowed
 
--- the notices of a message posted before a closing event
-pub old_notices : (s : Sizes) (h : List Event) (b : State) (p : ℕ) (records : List Changes) (r : ℕ) (m : Letter)
-    (t : List ℕ) → IsTold s h b → p < s.processors → r ≢ p
-    → slice_get b.transit r ≡ Some (Some m) → slice_get (slice_set b.times p (tick (time_of b p) p)) r ≡ Some t
-    → m.notices ≡ between (pushed b.closed (open_interval b p records)) t m.time
-old_notices s h b p records r m t told lt isnt at time =
-    let mail : Carries s h r m = told.transit.each r (Some m) at in
-    let most = mail.time.is.within p in
-    let number = own_number s h b p told lt in
-    told.notices r m t at (sym (slice_get-set_other b.times p r (tick (time_of b p) p) isnt) ∙ time)
-    ∙ sym (between-pushed b.closed (open_interval b p records) t m.time (omega arith))
+    pub still_formed : MayFollow s h (event p k) → WellFormed s (did h p k)
+    still_formed may = (each_push s h (event p k)).1 (told.well_formed, may)
+
+    -- what is waited for
+    pub awaits_set : AreAll s.processors (IsAwaited (did h p k)) (slice_set b.awaits p (awaited k))
+    awaits_set =
+        each_set s.processors (IsAwaited h) (IsAwaited (did h p k)) b.awaits p (awaited k) told.awaits
+        (λ q w isnt at is. awaited_on h p k q w isnt is) (awaited_now h p k)
+
+  module _ (lt : p < s.processors) where
+    -- p's timestamp
+    pub own_stamp : IsStamp s.processors h (InPast h p) (time_of b p)
+    own_stamp = is_at s.processors (λ q t. IsStamp s.processors h (InPast h q) t) b.times p [] told.times lt
+
+    -- all timestamps, once p has another one
+    times_set : (k : Kind) (t : List ℕ) → IsStamp s.processors (did h p k) (InPast (did h p k) p) t
+        → AreAll s.processors (λ q u. IsStamp s.processors (did h p k) (InPast (did h p k) q) u) (slice_set b.times p t)
+    times_set k t stamp =
+        each_set s.processors (λ q u. IsStamp s.processors h (InPast h q) u)
+        (λ q u. IsStamp s.processors (did h p k) (InPast (did h p k) q) u) b.times p t told.times
+        (λ q u isnt at is. stamp_others s.processors h p k q u isnt is) stamp
+
+    -- the timestamps after a closing event
+    pub times_closing : (k : Kind) → is_taking k ≡ false → is_closing k ≡ true
+        → AreAll s.processors (λ q t. IsStamp s.processors (did h p k) (InPast (did h p k) q) t)
+        (slice_set b.times p (tick (time_of b p) p))
+    times_closing k quiet closes =
+        times_set k (tick (time_of b p) p) (stamp_closing s.processors h p k (time_of b p) lt quiet closes own_stamp)
+
+    -- and after an event that takes
+    pub times_taking : (k : Kind) (u : List ℕ) → is_closing k ≡ false → IsStamp s.processors h (Brings h p k) u
+        → AreAll s.processors (λ q t. IsStamp s.processors (did h p k) (InPast (did h p k) q) t)
+        (slice_set b.times p (join (time_of b p) u))
+    times_taking k u quiet brings =
+        times_set k (join (time_of b p) u) (stamp_taking s.processors h p k (time_of b p) u quiet own_stamp brings)
+
+    -- the number of p's open interval
+    pub own_number : slice_index (time_of b p) p ≡ count_of is_closing h p
+    own_number = own_entry h p (slice_index (time_of b p)) own_stamp.is
+
+    -- p has a place among the timestamps
+    timed : p < length b.times
+    timed = subst (λ n. p < n) (sym told.times.long) lt
+
+    -- the closed intervals after a closing event
+    pub closed_now : (k : Kind) (records : List Changes) → is_closing k ≡ true
+        → AreContents s h p (count_of is_closing h p) records
+        → AreClosed s (did h p k) (pushed b.closed (open_interval b p records))
+    closed_now k records closes stored =
+        closed_closing s h p k b.closed (slice_index (time_of b p) p) records closes lt own_number
+        (told.within p p (time_of b p) (slice_get-get_or b.times p [] timed))
+        (subst (λ n. AreContents s h p n records) (sym own_number) stored) told.closed
+
+    pub within_closing : IsWithin b.closed.first (slice_set b.times p (tick (time_of b p) p))
+    within_closing =
+        within_set b.closed.first b.times p (tick (time_of b p) p) timed (tick_grows (time_of b p) p) told.within
+
+    pub within_taking : (u : List ℕ) → IsWithin b.closed.first (slice_set b.times p (join (time_of b p) u))
+    within_taking u =
+        within_set b.closed.first b.times p (join (time_of b p) u) timed (join_grows (time_of b p) u) told.within
+
+    -- with two processors or more, a tick leaves what everyone covers
+    pub tight_closing : 1 < s.processors → IsTight b.closed.first (slice_set b.times p (tick (time_of b p) p))
+    tight_closing more q less =
+        let found = told.tight more q less in
+        let long = told.times.long in
+        elim (cases_eq found.0 p) [
+          | inr isnt ↦ (
+            found.0,
+            found.1,
+            slice_get-set_other b.times p found.0 (tick (time_of b p) p) isnt ∙ found.2,
+            found.3,
+          )
+          | inl is ↦ elim (cases_eq q p) [
+            | inr apart ↦ (
+                let P : ℕ → Type 0 = λ x. slice_get b.times x ≡ Some found.1 in
+                let own = sym (get_or_from_slice_get b.times p found.1 [] (subst P is found.2)) in
+                let same = get_or-set_other (time_of b p) p q (slice_index (time_of b p) p + 1) 0 apart in
+                let entry = subst (λ (t : List ℕ). slice_index t q ≤ slice_index b.closed.first q) own found.3 in
+                (p, tick (time_of b p) p, slice_get-set_same b.times p (tick (time_of b p) p) timed, omega arith))
+            | inl own ↦ (
+                let P : ℕ → Type 0 = λ x. slice_get b.times x ≡ Some found.1 in
+                let mine = sym (get_or_from_slice_get b.times p found.1 [] (subst P is found.2)) in
+                let Q : ℕ → Type 0 = λ x. slice_index found.1 x ≤ slice_index b.closed.first x in
+                let entry = subst (λ (t : List ℕ). slice_index t p ≤ slice_index b.closed.first p) mine
+                (subst Q own found.3) in
+                let number = own_number in
+                let r = another p s.processors more in
+                let at = slice_get-get_or b.times r.0 [] (omega (arith, r.1)) in
+                let most = (told.times.each r.0 (time_of b r.0) at).is.within p in
+                let R : ℕ → Type 0 = λ x. slice_index (time_of b r.0) x ≤ slice_index b.closed.first x in (
+                  r.0,
+                  time_of b r.0,
+                  slice_get-set_other b.times p r.0 (tick (time_of b p) p) r.2 ∙ at,
+                  subst R (sym own) (omega arith),
+                ))
+          ]
+        ]
+      where
+        another : (p n : ℕ) → 1 < n → (r : ℕ) × (r < n) × (r ≢ p)
+        another zero n more = (1, more, λ e. absurd (omega arith))
+        another (suc p) n more = (0, omega arith, λ e. absurd (omega arith))
+
+    -- the notices of a message posted before a closing event
+    pub old_notices : (records : List Changes) (r : ℕ) (m : Letter) (t : List ℕ) → r ≢ p
+        → slice_get b.transit r ≡ Some (Some m) → slice_get (slice_set b.times p (tick (time_of b p) p)) r ≡ Some t
+        → m.notices ≡ between (pushed b.closed (open_interval b p records)) t m.time
+    old_notices records r m t isnt at time =
+        let mail : Carries s h r m = told.transit.each r (Some m) at in
+        let most = mail.time.is.within p in
+        let number = own_number in
+        told.notices r m t at (sym (slice_get-set_other b.times p r (tick (time_of b p) p) isnt) ∙ time)
+        ∙ sym (between-pushed b.closed (open_interval b p records) t m.time (omega arith))

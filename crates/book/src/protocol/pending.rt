@@ -1,13 +1,14 @@
 //! How much a take would bring.
-ghost use Rattle.std.specs.Prelude.{◌≡◌, ◌<◌, EachIndex, None, count_by, length, slice_index, slice_index_or};
+ghost use Rattle.std.specs.Prelude.{◌≡◌, ◌<◌, EachIndex, IfSome, None, count_by, length, slice_index, slice_index_or};
 ghost use Rattle.journal.specs.declared.event.Kind.TheVariants.{Await};
 ghost use Rattle.interval.specs.Closings.{is_of_page};
 ghost use Rattle.book.specs.Brought.{brought, message_for, sent_with};
-ghost use Rattle.book.specs.Calls.{MayLook, MayTake};
+ghost use Rattle.book.specs.Calls.{IsSignalled, MayLook, MayTake};
 
 use super::Protocol;
 use crate::awaited::Awaited;
 use interval::Sent;
+use vtime::VTime;
 
 impl Protocol {
     /// What `Book::due` says.
@@ -44,8 +45,8 @@ impl Protocol {
         ensures same_length { length counts.new ≡ length counts.old }
     {
         let closed = &self.closed;
-        match &self.flags[f] {
-            Some(time) => closed.count_news(&self.times[p], time, counts),
+        match self.signalled(p, f) {
+            Some((own, time)) => closed.count_news(own, time, counts),
             None => counts.fill(0),
         }
     }
@@ -71,10 +72,20 @@ impl Protocol {
             ≡ count_by (is_of_page page) (sent_with (message_for self.now p (Await f))) }
     {
         let closed = &self.closed;
-        match &self.flags[f] {
-            Some(time) => closed.news_of(page, &self.times[p], time),
+        match self.signalled(p, f) {
+            Some((own, time)) => closed.news_of(page, own, time),
             None => 0,
         }
+    }
+
+    /// The timestamps of `p` and of the flag for which `p` waits, where that is set.
+    fn signalled(&self, p: usize, f: usize) -> Option<(&VTime, &VTime)>
+        requires call { MayTake self.now p (Await f) }
+        ensures set { IfSome result (λ x. IsSignalled self.now p f x.0.now x.1.now) }
+        ensures none { result ≡ None → message_for self.now p (Await f) ≡ None }
+    {
+        let time = self.flags[f].as_ref()?;
+        Some((&self.times[p], time))
     }
 
     /// The same where `p` waits for a grant or a departure.

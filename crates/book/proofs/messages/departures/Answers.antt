@@ -1,4 +1,4 @@
-use Rattle.std.proofs.Common.{◌≡◌, ◌≤◌, ℕ, List, inl, inr, length, map, slice_index, ap, ◌∙◌, sym, subst, arith}
+use Rattle.std.proofs.Common.{◌≡◌, ◌≤◌, ℕ, List, length, map, slice_index, slice_index_or, slice_set, [], ap, ◌∙◌, sym, subst, arith}
 use Rattle.std.proofs.lemmas.List.{length-set, map-append}
 use Rattle.interval.specs.Intervals.{ClosedInterval, SentRecord}
 use Rattle.interval.specs.Closings.{pushed, between}
@@ -6,76 +6,47 @@ use Rattle.transit.specs.Letters.{Letter, letter}
 use Rattle.book.specs.Transitions.{departure_to}
 use Rattle.transit.specs.Letters.Kind.{departure}
 use Rattle.book.proofs.Calling.Arrivals.{read_after, departing_step}
-use Rattle.book.proofs.messages.departures.Goals.{then-q-interval, else-q-interval}
+use Rattle.book.proofs.messages.departures.Goals.{After-time_after-old}
 use Rattle.book.proofs.messages.departures.Goals as goal
 
 -- a departure of these notices
 abbrev departs : List SentRecord → List ℕ → Letter
 departs notices time = record { kind = departure; time = time; notices = notices }
 
+-- the timestamp of q once the interval's owner has closed it
+read : (c : After-time_after-old) → c.time_after-old.result.now
+    ≡ slice_index_or (slice_set c.args.times.now c.args.interval.now.owner c.args.own.now) c.loop-q.q []
+read c =
+    let owner = ap (λ (i : ClosedInterval). i.owner) c.interval.view_is in
+    read_after c.args.times.now c.args.interval.now.owner c.loop-q.q c.args.own.now c.time_after-old.result.now
+    c.index-times-q.result c.requires.processor c.loop-q-test.true c.index-times-q.is
+    (λ is. c.time_after-old.ensures.owner (is ∙ sym owner))
+    (λ apart. c.time_after-old.ensures.others (λ is. apart (is ∙ owner)))
+
 pub between_after-requires-clause-old_long : goal.between_after-requires-clause-old_long
 between_after-requires-clause-old_long c =
-    let is = read_after c.args.times.now c.args.interval.now.owner c.loop-q.q c.args.own.now c.if-q-interval.old.now
-    c.index-times-q.result c.requires.processor c.loop-q-test.true c.index-times-q.is
-    (elim c.if-q-interval.branch [
-      | then-q-interval w ↦
-          inl (
-            w.if-q-interval.true ∙ ap (λ (i : ClosedInterval). i.owner) c.interval.view_is,
-            ap (λ b. b.now) w.old-is,
-          )
-      | else-q-interval w ↦
-          inr (
-            (λ e. w.if-q-interval.false (e ∙ sym (ap (λ (i : ClosedInterval). i.owner) c.interval.view_is))),
-            ap (λ b. b.now) w.old-is,
-          )
-    ]) in
+    let is = read (goal.at.between_after-requires-clause-old_long c).After-time_after-old in
     ap length is ∙ (c.requires.all c.loop-q.q c.loop-q-test.true).long
 
 pub between_after-requires-clause-none_trimmed : goal.between_after-requires-clause-none_trimmed
 between_after-requires-clause-none_trimmed c =
-    let is = read_after c.args.times.now c.args.interval.now.owner c.loop-q.q c.args.own.now c.if-q-interval.old.now
-    c.index-times-q.result c.requires.processor c.loop-q-test.true c.index-times-q.is
-    (elim c.if-q-interval.branch [
-      | then-q-interval w ↦
-          inl (
-            w.if-q-interval.true ∙ ap (λ (i : ClosedInterval). i.owner) c.interval.view_is,
-            ap (λ b. b.now) w.old-is,
-          )
-      | else-q-interval w ↦
-          inr (
-            (λ e. w.if-q-interval.false (e ∙ sym (ap (λ (i : ClosedInterval). i.owner) c.interval.view_is))),
-            ap (λ b. b.now) w.old-is,
-          )
-    ]) in
+    let is = read (goal.at.between_after-requires-clause-none_trimmed c).After-time_after-old in
     subst (λ t. (q : ℕ) → slice_index c.args.closed.now.first q ≤ slice_index t q) (sym is)
     (c.requires.all c.loop-q.q c.loop-q-test.true).kept
 
 pub loop-q-preserved : goal.loop-q-preserved
 loop-q-preserved c =
-    let is = read_after c.args.times.now c.args.interval.now.owner c.loop-q.q c.args.own.now c.if-q-interval.old.now
-    c.index-times-q.result c.requires.processor c.loop-q-test.true c.index-times-q.is
-    (elim c.if-q-interval.branch [
-      | then-q-interval w ↦
-          inl (
-            w.if-q-interval.true ∙ ap (λ (i : ClosedInterval). i.owner) c.interval.view_is,
-            ap (λ b. b.now) w.old-is,
-          )
-      | else-q-interval w ↦
-          inr (
-            (λ e. w.if-q-interval.false (e ∙ sym (ap (λ (i : ClosedInterval). i.owner) c.interval.view_is))),
-            ap (λ b. b.now) w.old-is,
-          )
-    ]) in
+    let is = read (goal.at.loop-q-preserved c).After-time_after-old in
     let long = length-set c.args.times.now c.args.interval.now.owner c.args.own.now in
     let lt = c.loop-q-test.true in
     let m : Letter = record { kind = departure; time = c.copy-time.result; notices = c.in_ok-notices.notices.items } in
     let one : m ≡ departure_to (pushed c.args.closed.now c.args.interval.now)
-    c.args.time.now c.if-q-interval.old.now =
+    c.args.time.now c.time_after-old.result.now =
     ap (λ (ns : List SentRecord). departs ns c.copy-time.result) c.in_ok-notices.ensures.value
     ∙ ap (λ (t : List ℕ). departs
-    (between (pushed c.args.closed.now c.args.interval.now) c.if-q-interval.old.now c.args.time.now) t)
+    (between (pushed c.args.closed.now c.args.interval.now) c.time_after-old.result.now c.args.time.now) t)
     c.copy-time.ensures in
     let more = ap (map letter) c.in_ok-push.ensures.items ∙ map-append letter c.loop-q.departures.items _ in
     departing_step (pushed c.args.closed.now c.args.interval.now)
-    c.args.time.now _ c.loop-q.q c.if-q-interval.old.now (map letter c.loop-q.departures.items)
+    c.args.time.now _ c.loop-q.q c.time_after-old.result.now (map letter c.loop-q.departures.items)
     (map letter c.push.new.self.items) m c.loop-q.invariant (omega arith) is one more

@@ -3,28 +3,25 @@ use Rattle.std.proofs.lemmas.List.{length-set, length-map}
 use Rattle.std.specs.Arc.{arc_value}
 use Rattle.std.specs.Option.{option_map}
 use Rattle.journal.specs.declared.event.Kind.TheVariants.{Arrive}
-use Rattle.journal.specs.Log.{Log}
-use Rattle.transit.specs.Letters.{letter}
+use Rattle.transit.specs.Letters.{Letter, letter}
 use Rattle.transit.specs.declared.message.Message.{Message}
 use Rattle.vtime.specs.Times.{tick}
 use Rattle.book.specs.State.{State, time_of}
-use Rattle.book.specs.Transitions.{handed_in, open_interval, closed_by}
+use Rattle.book.specs.Transitions.{handed_in, open_interval, closed_by, departures_to}
 use Rattle.interval.specs.Intervals.{ClosedInterval}
 use Rattle.interval.specs.Closings.{pushed}
 use Rattle.barrier.specs.declared.episodes.Stage.TheVariants.{Away}
 use Rattle.book.specs.Calls.{MayBeSent}
 use Rattle.book.specs.Holding.{state_of}
 use Rattle.book.proofs.Parts.History.{happened_fits}
-use Rattle.book.proofs.Calling.Calls.{stands, opens, still_open, closed_records}
-use Rattle.book.proofs.Calling.Arrivals.{arrives, arriving, departures_made, none_waits, arrived_met, arrived_alone}
-use Rattle.book.proofs.protocol.Protocol.arrive.Goals.{in-Some, in-None}
+use Rattle.book.proofs.Calling.Calls.{IsStanding, stands, still_open, opens_roomy, closed_roomy}
+use Rattle.book.proofs.Calling.Arrivals.{IsArriving, arrives, arriving, departures_made, none_waits, arrived_met, arrived_alone}
+use Rattle.book.proofs.protocol.Protocol.arrive.Goals.{After-closing_time-time, In_ok-departures, After-self-2, in-Some, in_default}
 use Rattle.book.proofs.protocol.Protocol.arrive.Goals as goal
 
 pub open_interval-interval-requires : goal.open_interval-interval-requires
 open_interval-interval-requires c =
-    let same = ap (λ (l : Log). record (state_of c.self.inside)
-    { journal = record l { room = c.self.inside.owing } }) c.in_ok-make_room.ensures.same ∙ c.self.view_is in
-    opens _ c.args.self.now c.args.p c.args.block.now same c.requires.call
+    opens_roomy c.self.inside _ _ _ c.args.p c.in_ok-make_room.ensures.same c.self.view_is c.requires.call
 
 pub close-requires-clause-open : goal.close-requires-clause-open
 close-requires-clause-open c =
@@ -33,9 +30,7 @@ close-requires-clause-open c =
 
 pub closing_time-time-requires-clause-open : goal.closing_time-time-requires-clause-open
 closing_time-time-requires-clause-open c =
-    let same = ap (λ (l : Log). record (state_of c.self.inside)
-    { journal = record l { room = c.self.inside.owing } }) c.in_ok-make_room.ensures.same ∙ c.self.view_is in
-    opens _ c.args.self.now c.args.p c.args.block.now same c.requires.call
+    opens_roomy c.self.inside _ _ _ c.args.p c.in_ok-make_room.ensures.same c.self.view_is c.requires.call
 
 pub closing_time-time-requires-clause-fits : goal.closing_time-time-requires-clause-fits
 closing_time-time-requires-clause-fits c =
@@ -44,133 +39,119 @@ closing_time-time-requires-clause-fits c =
     let all = happened_fits c.self.inside.journal c.self.inside.owing c.self.invariant.few in
     omega arith
 
+-- what the arrival rests on, whose interval is p's
+rests : (c : After-closing_time-time)
+    → IsStanding (state_of c.self.inside) c.args.p × IsArriving (state_of c.self.inside) c.args.p
+    × (c.args.p ≡ c.open_interval-interval.result.owner)
+rests c = (
+  stands (state_of c.self.inside) c.args.self.now c.args.p c.args.block.now c.self.view_is c.requires.call,
+  arrives (state_of c.self.inside) c.args.self.now c.args.p c.args.block.now c.self.view_is c.requires.call,
+  sym (ap (λ (i : ClosedInterval). i.owner) c.open_interval-interval.ensures),
+)
+
+-- the timestamp after the arrival
+ticked : (c : After-closing_time-time)
+    → c.closing_time-time.result ≡ tick (time_of (state_of c.self.inside) c.args.p) c.args.p
+ticked c = c.closing_time-time.ensures
+
+-- there are as many stages as it has entries
+long : (c : After-closing_time-time) → length c.closing_time-time.result ≡ length c.self.inside.barrier.stages
+long c =
+    ap (λ (t : List ℕ). length t) (ticked c)
+    ∙ length-set (time_of (state_of c.self.inside) c.args.p) c.args.p
+    (slice_index (time_of (state_of c.self.inside) c.args.p) c.args.p + 1) ∙ (rests c).1.own_long
+    ∙ sym (rests c).1.stages
+
 pub departures_with-requires-clause-owner : goal.departures_with-requires-clause-owner
 departures_with-requires-clause-owner c =
-    subst (λ q. q < length c.self.inside.closed.next)
-    (sym (ap (λ (i : ClosedInterval). i.owner) c.open_interval-interval.ensures))
-    ((stands (state_of c.self.inside)
-    c.args.self.now c.args.p c.args.block.now c.self.view_is c.requires.call).next)
+    let w = rests (goal.at.departures_with-requires-clause-owner c).After-closing_time-time in
+    subst (λ q. q < length c.self.inside.closed.next) w.2 w.0.next
 
 pub departures_with-requires-clause-processor : goal.departures_with-requires-clause-processor
 departures_with-requires-clause-processor c =
-    subst (λ q. q < length c.self.inside.times.items)
-    (sym (ap (λ (i : ClosedInterval). i.owner) c.open_interval-interval.ensures))
-    ((stands (state_of c.self.inside)
-    c.args.self.now c.args.p c.args.block.now c.self.view_is c.requires.call).times)
+    let w = rests (goal.at.departures_with-requires-clause-processor c).After-closing_time-time in
+    subst (λ q. q < length c.self.inside.times.items) w.2 w.0.times
 
 pub departures_with-requires-clause-away : goal.departures_with-requires-clause-away
 departures_with-requires-clause-away c =
-    subst (λ q. slice_get c.self.inside.barrier.stages q ≡ Some Away)
-    (sym (ap (λ (i : ClosedInterval). i.owner) c.open_interval-interval.ensures))
-    ((arrives (state_of c.self.inside)
-    c.args.self.now c.args.p c.args.block.now c.self.view_is c.requires.call).away)
+    let w = rests (goal.at.departures_with-requires-clause-away c).After-closing_time-time in
+    subst (λ q. slice_get c.self.inside.barrier.stages q ≡ Some Away) w.2 w.1.away
 
 pub departures_with-requires-clause-own_long : goal.departures_with-requires-clause-own_long
 departures_with-requires-clause-own_long c =
-    let arr = arrives (state_of c.self.inside)
-    c.args.self.now c.args.p c.args.block.now c.self.view_is c.requires.call in
-    let ticked : c.closing_time-time.result ≡ tick (time_of (state_of c.self.inside) c.args.p) c.args.p =
-    c.closing_time-time.ensures in
-    ap (λ (t : List ℕ). length t) ticked
-    ∙ length-set (time_of (state_of c.self.inside) c.args.p) c.args.p
-    (slice_index (time_of (state_of c.self.inside) c.args.p) c.args.p + 1) ∙ arr.own_long ∙ sym arr.stages
+    long (goal.at.departures_with-requires-clause-own_long c).After-closing_time-time
 
 pub departures_with-requires-clause-all : goal.departures_with-requires-clause-all
 departures_with-requires-clause-all c =
-    let arr = arrives (state_of c.self.inside)
-    c.args.self.now c.args.p c.args.block.now c.self.view_is c.requires.call in
-    let ticked : c.closing_time-time.result ≡ tick (time_of (state_of c.self.inside) c.args.p) c.args.p =
-    c.closing_time-time.ensures in
+    let at = (goal.at.departures_with-requires-clause-all c).After-closing_time-time in
+    let w = rests at in
     subst (λ q. (r : ℕ) → r < length c.self.inside.times.items
-    → MayBeSent c.self.inside.closed (slice_set c.self.inside.times.items q c.closing_time-time.result) r)
-    (sym (ap (λ (i : ClosedInterval). i.owner) c.open_interval-interval.ensures))
+    → MayBeSent c.self.inside.closed (slice_set c.self.inside.times.items q c.closing_time-time.result) r) w.2
     (subst (λ (t : List ℕ). (r : ℕ) → r < length c.self.inside.times.items
-    → MayBeSent c.self.inside.closed (slice_set c.self.inside.times.items c.args.p t) r) (sym ticked) arr.sent)
+    → MayBeSent c.self.inside.closed (slice_set c.self.inside.times.items c.args.p t) r) (sym (ticked at)) w.1.sent)
+
+-- the book once the interval is closed
+closed : (c : After-self-2) → state_of c.self-2.inside
+    ≡ closed_by (handed_in c.args.self.now c.args.block.now) c.args.p Arrive (map arc_value c.args.records.items)
+closed c =
+    closed_roomy c.self.inside c.args.self.now _ _ c.args.block.now c.args.p Arrive _ _
+    c.in_ok-make_room.ensures.same c.self.view_is c.open_interval-interval.ensures
+    (c.self-2.view_is ∙ c.in_ok-close.ensures.ok)
 
 pub arrive-requires-clause-away : goal.arrive-requires-clause-away
 arrive-requires-clause-away c =
-    let same = ap (λ (l : Log). record (state_of c.self.inside)
-    { journal = record l { room = c.self.inside.owing } }) c.in_ok-make_room.ensures.same ∙ c.self.view_is in
-    let is = c.self-2.view_is ∙ c.in_ok-close.ensures.ok
-    ∙ closed_records _ c.args.block.now c.args.p Arrive c.open_interval-interval.result
-    (map arc_value c.args.records.items) c.open_interval-interval.ensures
-    ∙ ap (λ (b : State). closed_by (handed_in b c.args.block.now) c.args.p Arrive
-    (map arc_value c.args.records.items)) same in
-    ap (λ (b : State). slice_get b.barrier.stages c.args.p) is
+    ap (λ (b : State). slice_get b.barrier.stages c.args.p)
+    (closed (goal.at.arrive-requires-clause-away c).After-self-2)
     ∙ (arriving c.args.self.now c.args.p c.args.block.now c.requires.call).away
 
 pub arrive-requires-clause-long : goal.arrive-requires-clause-long
 arrive-requires-clause-long c =
-    let arr = arrives (state_of c.self.inside)
-    c.args.self.now c.args.p c.args.block.now c.self.view_is c.requires.call in
-    let ticked : c.closing_time-time.result ≡ tick (time_of (state_of c.self.inside) c.args.p) c.args.p =
-    c.closing_time-time.ensures in
-    let same = ap (λ (l : Log). record (state_of c.self.inside)
-    { journal = record l { room = c.self.inside.owing } }) c.in_ok-make_room.ensures.same ∙ c.self.view_is in
-    let is = c.self-2.view_is ∙ c.in_ok-close.ensures.ok
-    ∙ closed_records _ c.args.block.now c.args.p Arrive c.open_interval-interval.result
-    (map arc_value c.args.records.items) c.open_interval-interval.ensures
-    ∙ ap (λ (b : State). closed_by (handed_in b c.args.block.now) c.args.p Arrive
-    (map arc_value c.args.records.items)) same in
-    ap (λ (t : List ℕ). length t) ticked
-    ∙ length-set (time_of (state_of c.self.inside) c.args.p) c.args.p
-    (slice_index (time_of (state_of c.self.inside) c.args.p) c.args.p + 1) ∙ arr.own_long ∙ sym arr.stages
+    long (goal.at.arrive-requires-clause-long c).After-closing_time-time
     ∙ ap (λ (b : State). length b.barrier.stages) c.self.view_is
-    ∙ sym (ap (λ (b : State). length b.barrier.stages) is)
+    ∙ sym (ap (λ (b : State). length b.barrier.stages) (closed (goal.at.arrive-requires-clause-long c).After-self-2))
+
+-- the departures as letters
+abbrev letters : Option (Vec Message Global) → Option (List Letter)
+letters o = option_map (λ (ms : Vec Message Global). map letter ms.items) o
+
+-- the timestamp and the departures, read off the book before the call
+made : (c : In_ok-departures) → (c.closing_time-time.result ≡ tick (time_of c.args.self.now c.args.p) c.args.p)
+    × (letters c.in_ok-departures.departures
+    ≡ departures_to
+    (pushed c.args.self.now.closed (open_interval c.args.self.now c.args.p (map arc_value c.args.records.items)))
+    c.args.self.now.barrier (slice_set c.args.self.now.times c.args.p c.closing_time-time.result) c.args.p
+    c.closing_time-time.result)
+made c = (
+  c.closing_time-time.ensures ∙ ap (λ (b : State). tick (time_of b c.args.p) c.args.p) c.self.view_is,
+  departures_made c.args.self.now (state_of c.self.inside) c.args.p (map arc_value c.args.records.items)
+      c.open_interval-interval.result c.closing_time-time.result
+      (letters c.in_ok-departures.departures)
+      c.self.view_is c.open_interval-interval.ensures c.in_ok-departures.ensures,
+)
 
 pub post_all-requires : goal.post_all-requires
 post_all-requires c =
-    let ticked : c.closing_time-time.result ≡ tick (time_of (state_of c.self.inside) c.args.p) c.args.p =
-    c.closing_time-time.ensures in
-    let same = ap (λ (l : Log). record (state_of c.self.inside)
-    { journal = record l { room = c.self.inside.owing } }) c.in_ok-make_room.ensures.same ∙ c.self.view_is in
-    let is = c.self-2.view_is ∙ c.in_ok-close.ensures.ok
-    ∙ closed_records _ c.args.block.now c.args.p Arrive c.open_interval-interval.result
-    (map arc_value c.args.records.items) c.open_interval-interval.ensures
-    ∙ ap (λ (b : State). closed_by (handed_in b c.args.block.now) c.args.p Arrive
-    (map arc_value c.args.records.items)) same in
-    let time = ticked ∙ ap (λ (b : State). tick (time_of b c.args.p) c.args.p) c.self.view_is in
-    let made = departures_made c.args.self.now (state_of c.self.inside) c.args.p (map arc_value c.args.records.items)
-    c.open_interval-interval.result c.closing_time-time.result
-    (option_map (λ (ms : Vec Message Global). map letter ms.items) c.in_ok-departures.departures)
-    c.self.view_is c.open_interval-interval.ensures c.in_ok-departures.ensures in
-    let some = sym (ap (λ (o : Option (Vec Message Global)). option_map
-    (λ (ms : Vec Message Global). map letter ms.items) o) c.in-Some.is) ∙ made in
-    ap (λ (b : State). b.transit) is
+    let w = made (goal.at.post_all-requires c).In_ok-departures in
+    ap (λ (b : State). b.transit) (closed (goal.at.post_all-requires c).After-self-2)
     ∙ none_waits c.args.self.now c.args.p
     (pushed c.args.self.now.closed (open_interval c.args.self.now c.args.p (map arc_value c.args.records.items)))
     c.closing_time-time.result (map letter c.in-Some.messages.items)
-    (arriving c.args.self.now c.args.p c.args.block.now c.requires.call) time some
+    (arriving c.args.self.now c.args.p c.args.block.now c.requires.call) w.0 (sym (ap letters c.in-Some.is) ∙ w.1)
     ∙ ap (λ (n : ℕ). replicate n None) (length-map c.in-Some.messages.items letter)
 
 pub returns-clause-ok : goal.returns-clause-ok
 returns-clause-ok c =
-    let ticked : c.closing_time-time.result ≡ tick (time_of (state_of c.self.inside) c.args.p) c.args.p =
-    c.closing_time-time.ensures in
-    let same = ap (λ (l : Log). record (state_of c.self.inside)
-    { journal = record l { room = c.self.inside.owing } }) c.in_ok-make_room.ensures.same ∙ c.self.view_is in
-    let is = c.self-2.view_is ∙ c.in_ok-close.ensures.ok
-    ∙ closed_records _ c.args.block.now c.args.p Arrive c.open_interval-interval.result
-    (map arc_value c.args.records.items) c.open_interval-interval.ensures
-    ∙ ap (λ (b : State). closed_by (handed_in b c.args.block.now) c.args.p Arrive
-    (map arc_value c.args.records.items)) same in
-    let time = ticked ∙ ap (λ (b : State). tick (time_of b c.args.p) c.args.p) c.self.view_is in
-    let made = departures_made c.args.self.now (state_of c.self.inside) c.args.p (map arc_value c.args.records.items)
-    c.open_interval-interval.result c.closing_time-time.result
-    (option_map (λ (ms : Vec Message Global). map letter ms.items) c.in_ok-departures.departures)
-    c.self.view_is c.open_interval-interval.ensures c.in_ok-departures.ensures in
+    let w = made (goal.at.returns-clause-ok c).In_ok-departures in
+    let is = closed (goal.at.returns-clause-ok c).After-self-2 in
+    let records = map arc_value c.args.records.items in
     elim c.match-departures-2.branch [
-      | in-Some w ↦ (
-          let some = sym (ap (λ (o : Option (Vec Message Global)). option_map
-          (λ (ms : Vec Message Global). map letter ms.items) o) w.in-Some.is) ∙ made in
-          w.self-is ∙ arrived_met c.args.self.now (state_of c.self-2.inside) c.args.p c.args.block.now
-          (map arc_value c.args.records.items)
-          c.arrive.new.self w.post_all.new.transit c.closing_time-time.result
-          (map letter w.in-Some.messages.items) is time c.arrive.ensures.barrier w.post_all.ensures some)
-      | in-None w ↦ (
-          let none = sym (ap (λ (o : Option (Vec Message Global)). option_map
-          (λ (ms : Vec Message Global). map letter ms.items) o) w.in-None.is) ∙ made in
-          w.self-is ∙ arrived_alone c.args.self.now (state_of c.self-2.inside) c.args.p c.args.block.now
-          (map arc_value c.args.records.items)
-          c.arrive.new.self c.closing_time-time.result is time c.arrive.ensures.barrier none)
+      | in-Some x ↦ x.self-is
+          ∙ arrived_met c.args.self.now (state_of c.self-2.inside) c.args.p c.args.block.now records
+          c.closing_time-time.result is w.0 c.arrive.new.self x.post_all.new.transit
+          (map letter x.in-Some.messages.items) c.arrive.ensures.barrier x.post_all.ensures
+          (sym (ap letters x.in-Some.is) ∙ w.1)
+      | in_default x ↦ x.self-is
+          ∙ arrived_alone c.args.self.now (state_of c.self-2.inside) c.args.p c.args.block.now records
+          c.closing_time-time.result is w.0 c.arrive.new.self c.arrive.ensures.barrier
+          (sym (ap letters x.in_default.is) ∙ w.1)
     ]

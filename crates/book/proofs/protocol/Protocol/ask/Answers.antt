@@ -1,8 +1,7 @@
-use Rattle.std.proofs.Common.{map, Option, slice_get, ap, ◌∙◌, sym, subst, arith}
+use Rattle.std.proofs.Common.{◌≡◌, map, Option, slice_get, ap, ◌∙◌, sym, subst, arith}
 use Rattle.std.specs.Arc.{arc_value}
 use Rattle.std.specs.Option.{option_map}
 use Rattle.journal.specs.declared.event.Kind.TheVariants.{Ask}
-use Rattle.journal.specs.Log.{Log}
 use Rattle.lists.specs.Places.{Has}
 use Rattle.lockq.specs.Lock.{lock_at, line}
 use Rattle.transit.specs.Letters.{letter}
@@ -10,15 +9,14 @@ use Rattle.transit.specs.declared.message.Message.{Message}
 use Rattle.book.specs.State.{State}
 use Rattle.book.specs.Transitions.{handed_in, closed_by, if_free, grant_from}
 use Rattle.book.specs.Holding.{state_of}
-use Rattle.book.proofs.Calling.Calls.{stands, opens, still_open, closed_records}
+use Rattle.book.proofs.Calling.Calls.{stands, still_open, opens_roomy, closed_roomy}
 use Rattle.book.proofs.Calling.Asks.{IsAsking, asking, asked_granted, asked_waits}
+use Rattle.book.proofs.protocol.Protocol.ask.Goals.{After-self, After-self-2, In_ok-grant}
 use Rattle.book.proofs.protocol.Protocol.ask.Goals as goal
 
 pub open_interval-interval-requires : goal.open_interval-interval-requires
 open_interval-interval-requires c =
-    let same = ap (λ (l : Log). record (state_of c.self.inside)
-    { journal = record l { room = c.self.inside.owing } }) c.in_ok-make_room.ensures.same ∙ c.self.view_is in
-    opens _ c.args.self.now c.args.p c.args.block.now same c.requires.call.call
+    opens_roomy c.self.inside _ _ _ c.args.p c.in_ok-make_room.ensures.same c.self.view_is c.requires.call.call
 
 pub close-requires-clause-open : goal.close-requires-clause-open
 close-requires-clause-open c =
@@ -30,85 +28,67 @@ grant_if_free-requires-clause-processor c =
     (stands (state_of c.self.inside)
     c.args.self.now c.args.p c.args.block.now c.self.view_is c.requires.call.call).times
 
+-- what the ask rests on
+asks : (c : After-self) → IsAsking (state_of c.self.inside) c.args.p c.args.l
+asks c =
+    subst (λ b. IsAsking b c.args.p c.args.l) (sym c.self.view_is)
+    (asking c.args.self.now c.args.p c.args.l c.args.block.now c.requires.call)
+
 pub grant_if_free-requires-clause-own_long : goal.grant_if_free-requires-clause-own_long
-grant_if_free-requires-clause-own_long c =
-    (subst (λ b. IsAsking b c.args.p c.args.l) (sym c.self.view_is)
-    (asking c.args.self.now c.args.p c.args.l c.args.block.now c.requires.call)).own_long
+grant_if_free-requires-clause-own_long c = (asks (goal.at.grant_if_free-requires-clause-own_long c).After-self).own_long
 
 pub grant_if_free-requires-clause-time_long : goal.grant_if_free-requires-clause-time_long
 grant_if_free-requires-clause-time_long c =
-    (subst (λ b. IsAsking b c.args.p c.args.l) (sym c.self.view_is)
-    (asking c.args.self.now c.args.p c.args.l c.args.block.now c.requires.call)).time_long
+    (asks (goal.at.grant_if_free-requires-clause-time_long c).After-self).time_long
 
 pub grant_if_free-requires-clause-kept : goal.grant_if_free-requires-clause-kept
-grant_if_free-requires-clause-kept c =
-    (subst (λ b. IsAsking b c.args.p c.args.l) (sym c.self.view_is)
-    (asking c.args.self.now c.args.p c.args.l c.args.block.now c.requires.call)).kept
+grant_if_free-requires-clause-kept c = (asks (goal.at.grant_if_free-requires-clause-kept c).After-self).kept
+
+-- the book once the interval is closed
+closed : (c : After-self-2) → state_of c.self-2.inside
+    ≡ closed_by (handed_in c.args.self.now c.args.block.now) c.args.p (Ask c.args.l)
+    (map arc_value c.args.records.items)
+closed c =
+    closed_roomy c.self.inside c.args.self.now _ _ c.args.block.now c.args.p (Ask c.args.l) _ _
+    c.in_ok-make_room.ensures.same c.self.view_is c.open_interval-interval.ensures
+    (c.self-2.view_is ∙ c.in_ok-close.ensures.ok)
 
 pub ask-requires-clause-processor : goal.ask-requires-clause-processor
 ask-requires-clause-processor c =
-    let same = ap (λ (l : Log). record (state_of c.self.inside)
-    { journal = record l { room = c.self.inside.owing } }) c.in_ok-make_room.ensures.same ∙ c.self.view_is in
-    let is = c.self-2.view_is ∙ c.in_ok-close.ensures.ok
-    ∙ closed_records _ c.args.block.now c.args.p (Ask c.args.l) c.open_interval-interval.result
-    (map arc_value c.args.records.items) c.open_interval-interval.ensures
-    ∙ ap (λ (b : State). closed_by (handed_in b c.args.block.now) c.args.p (Ask c.args.l)
-    (map arc_value c.args.records.items)) same in
     let lt = (asking c.args.self.now c.args.p c.args.l c.args.block.now c.requires.call).processor in
-    let e = ap (λ (b : State). b.locks.processors) is in
+    let e = ap (λ (b : State). b.locks.processors) (closed (goal.at.ask-requires-clause-processor c).After-self-2) in
     omega arith
 
 pub ask-requires-clause-apart : goal.ask-requires-clause-apart
 ask-requires-clause-apart c =
-    let same = ap (λ (l : Log). record (state_of c.self.inside)
-    { journal = record l { room = c.self.inside.owing } }) c.in_ok-make_room.ensures.same ∙ c.self.view_is in
-    let is = c.self-2.view_is ∙ c.in_ok-close.ensures.ok
-    ∙ closed_records _ c.args.block.now c.args.p (Ask c.args.l) c.open_interval-interval.result
-    (map arc_value c.args.records.items) c.open_interval-interval.ensures
-    ∙ ap (λ (b : State). closed_by (handed_in b c.args.block.now) c.args.p (Ask c.args.l)
-    (map arc_value c.args.records.items)) same in
-    subst (λ (x : _). ¬ Has (line (lock_at x c.args.l)) c.args.p) (sym (ap (λ (b : State). b.locks) is))
+    subst (λ (x : _). ¬ Has (line (lock_at x c.args.l)) c.args.p)
+    (sym (ap (λ (b : State). b.locks) (closed (goal.at.ask-requires-clause-apart c).After-self-2)))
     (asking c.args.self.now c.args.p c.args.l c.args.block.now c.requires.call).apart
 
 pub post-requires : goal.post-requires
 post-requires c =
-    let same = ap (λ (l : Log). record (state_of c.self.inside)
-    { journal = record l { room = c.self.inside.owing } }) c.in_ok-make_room.ensures.same ∙ c.self.view_is in
-    let is = c.self-2.view_is ∙ c.in_ok-close.ensures.ok
-    ∙ closed_records _ c.args.block.now c.args.p (Ask c.args.l) c.open_interval-interval.result
-    (map arc_value c.args.records.items) c.open_interval-interval.ensures
-    ∙ ap (λ (b : State). closed_by (handed_in b c.args.block.now) c.args.p (Ask c.args.l)
-    (map arc_value c.args.records.items)) same in
-    ap (λ (b : State). slice_get b.transit c.args.p) is
+    ap (λ (b : State). slice_get b.transit c.args.p) (closed (goal.at.post-requires c).After-self-2)
     ∙ (asking c.args.self.now c.args.p c.args.l c.args.block.now c.requires.call).none
+
+-- the grant, read off the book before the call
+made : (c : In_ok-grant) → option_map letter c.in_ok-grant.grant
+    ≡ if_free (lock_at c.args.self.now.locks c.args.l).holder
+    (grant_from c.args.self.now c.args.p (lock_at c.args.self.now.locks c.args.l).time)
+made c =
+    c.in_ok-grant.ensures ∙ ap (λ (b : State). if_free (lock_at b.locks c.args.l).holder
+    (grant_from b c.args.p (lock_at b.locks c.args.l).time)) c.self.view_is
 
 pub returns-in-Some-clause-ok : goal.returns-in-Some-clause-ok
 returns-in-Some-clause-ok c =
-    let same = ap (λ (l : Log). record (state_of c.self.inside)
-    { journal = record l { room = c.self.inside.owing } }) c.in_ok-make_room.ensures.same ∙ c.self.view_is in
-    let is = c.self-2.view_is ∙ c.in_ok-close.ensures.ok
-    ∙ closed_records _ c.args.block.now c.args.p (Ask c.args.l) c.open_interval-interval.result
-    (map arc_value c.args.records.items) c.open_interval-interval.ensures
-    ∙ ap (λ (b : State). closed_by (handed_in b c.args.block.now) c.args.p (Ask c.args.l)
-    (map arc_value c.args.records.items)) same in
-    let made = sym (ap (λ (m : Option Message). option_map letter m) c.in-Some.is) ∙ c.in_ok-grant.ensures
-    ∙ ap (λ (b : State). if_free (lock_at b.locks c.args.l).holder
-    (grant_from b c.args.p (lock_at b.locks c.args.l).time)) c.self.view_is in
+    let at = goal.at.returns-in-Some-clause-ok c in
     asked_granted c.args.self.now (state_of c.self-2.inside) c.args.p c.args.l c.args.block.now
-    (map arc_value c.args.records.items) c.ask.new.self c.post.new.self (letter c.in-Some.message)
-    c.requires.call is c.ask.ensures.locks c.post.ensures made
+    (map arc_value c.args.records.items) c.requires.call (closed at.After-self-2) c.ask.new.self c.ask.ensures.locks
+    c.post.new.self (letter c.in-Some.message) c.post.ensures
+    (sym (ap (λ (m : Option Message). option_map letter m) c.in-Some.is) ∙ made at.In_ok-grant)
 
-pub returns-in-None-clause-ok : goal.returns-in-None-clause-ok
-returns-in-None-clause-ok c =
-    let same = ap (λ (l : Log). record (state_of c.self.inside)
-    { journal = record l { room = c.self.inside.owing } }) c.in_ok-make_room.ensures.same ∙ c.self.view_is in
-    let is = c.self-2.view_is ∙ c.in_ok-close.ensures.ok
-    ∙ closed_records _ c.args.block.now c.args.p (Ask c.args.l) c.open_interval-interval.result
-    (map arc_value c.args.records.items) c.open_interval-interval.ensures
-    ∙ ap (λ (b : State). closed_by (handed_in b c.args.block.now) c.args.p (Ask c.args.l)
-    (map arc_value c.args.records.items)) same in
-    let made = sym (ap (λ (m : Option Message). option_map letter m) c.in-None.is) ∙ c.in_ok-grant.ensures
-    ∙ ap (λ (b : State). if_free (lock_at b.locks c.args.l).holder
-    (grant_from b c.args.p (lock_at b.locks c.args.l).time)) c.self.view_is in
+pub returns-in_default-clause-ok : goal.returns-in_default-clause-ok
+returns-in_default-clause-ok c =
+    let at = goal.at.returns-in_default-clause-ok c in
     asked_waits c.args.self.now (state_of c.self-2.inside) c.args.p c.args.l c.args.block.now
-    (map arc_value c.args.records.items) c.ask.new.self c.requires.call is c.ask.ensures.locks made
+    (map arc_value c.args.records.items) c.requires.call (closed at.After-self-2) c.ask.new.self c.ask.ensures.locks
+    (sym (ap (λ (m : Option Message). option_map letter m) c.in_default.is) ∙ made at.In_ok-grant)

@@ -1,4 +1,4 @@
-use Rattle.std.proofs.Common.{◌<◌, length, map, slice_index, slice_set, subst, sym, ap, ◌∙◌, arith}
+use Rattle.std.proofs.Common.{◌≡◌, ◌<◌, length, map, slice_index, slice_set, subst, sym, ap, ◌∙◌, arith}
 use Rattle.std.proofs.lemmas.List.{length-map, map-set}
 use Rattle.std.specs.Option.{option_map}
 use Rattle.journal.specs.Log.{Log}
@@ -7,55 +7,58 @@ use Rattle.interval.specs.Intervals.{ClosedInterval}
 use Rattle.interval.specs.Closings.{pushed}
 use Rattle.journal.specs.Did.{event}
 use Rattle.book.specs.Awaiting.{kind_of}
-use Rattle.book.specs.State.{State}
+use Rattle.book.specs.State.{State, time_of}
 use Rattle.book.specs.Transitions.{handed_in, open_interval, closed_by}
 use Rattle.book.specs.Holding.{state_of}
 use Rattle.book.proofs.Parts.History.{happened_fits}
-use Rattle.book.proofs.Calling.Calls.{stands, own_read, flushes, block_processors, block_addresses, closing_address, logs_are, closing_is}
+use Rattle.book.proofs.Calling.Calls.{IsStanding, stands, own_read, flushes, block_fits, closing_address, logs_are, closing_is}
+use Rattle.book.proofs.protocol.Protocol.close.Goals.{After-self, After-index_mut}
 use Rattle.book.proofs.protocol.Protocol.close.Goals as goal
+
+-- numbers of the book as it is found
+standing : (c : After-self) → IsStanding (state_of c.self.inside) c.args.p
+standing c = stands (state_of c.self.inside) c.args.self.now c.args.p c.args.block.now c.self.view_is c.requires.call
+
+-- p's timestamp, as it is read
+own : (c : After-index_mut) → IsStanding (state_of c.self.inside) c.args.p
+    → c.index_mut.result.now ≡ time_of (state_of c.self.inside) c.args.p
+own c st = own_read c.self.inside.times.items c.args.p c.index_mut.result.now st.times c.index_mut.ensures.value
 
 pub push-requires-clause-owner : goal.push-requires-clause-owner
 push-requires-clause-owner c =
-    let lt = (stands (state_of c.self.inside)
-    c.args.self.now c.args.p c.args.block.now c.self.view_is c.requires.call).next in
-    subst (λ q. q < length c.self.inside.closed.next) (sym (ap (λ (i : ClosedInterval). i.owner) c.requires.open)) lt
+    subst (λ q. q < length c.self.inside.closed.next) (sym (ap (λ (i : ClosedInterval). i.owner) c.requires.open))
+    (standing (goal.at.push-requires-clause-owner c).After-self).next
 
 pub push-requires-clause-number : goal.push-requires-clause-number
 push-requires-clause-number c =
-    let number = (stands (state_of c.self.inside)
-    c.args.self.now c.args.p c.args.block.now c.self.view_is c.requires.call).number in
     let open_is = c.requires.open
     ∙ ap (λ (b : State). open_interval b c.args.p c.args.interval.records) (sym c.self.view_is) in
-    ap (λ (i : ClosedInterval). i.number) open_is ∙ number
+    ap (λ (i : ClosedInterval). i.number) open_is
+    ∙ (standing (goal.at.push-requires-clause-number c).After-self).number
     ∙ ap (λ q. slice_index c.self.inside.closed.next q)
     (sym (ap (λ (i : ClosedInterval). i.owner) c.requires.open))
 
 pub push-requires-clause-fits : goal.push-requires-clause-fits
-push-requires-clause-fits c = let few =
-    (stands (state_of c.self.inside)
-    c.args.self.now c.args.p c.args.block.now c.self.view_is c.requires.call).pushed in
-    let all = happened_fits c.self.inside.journal c.self.inside.owing c.self.invariant.few in omega arith
+push-requires-clause-fits c =
+    let few = (standing (goal.at.push-requires-clause-fits c).After-self).pushed in
+    let all = happened_fits c.self.inside.journal c.self.inside.owing c.self.invariant.few in
+    omega arith
 
 pub append_all-requires-clause-processor : goal.append_all-requires-clause-processor
 append_all-requires-clause-processor c =
-    block_processors c.args.self.now c.args.p c.make_room.new.journal.processors c.args.block.now
-    (flushes c.args.self.now c.args.p c.args.block.now c.requires.call)
-    (ap (λ (l : Log). l.processors) c.in_ok-make_room.ensures.same
-    ∙ ap (λ (b : State). b.journal.processors) c.self.view_is)
+    (block_fits c.self.inside c.self.view_is c.in_ok-make_room.ensures.same
+    (flushes _ c.args.p c.args.block.now c.requires.call)).0
 
 pub append_all-requires-clause-address : goal.append_all-requires-clause-address
 append_all-requires-clause-address c =
-    block_addresses c.args.self.now c.args.p c.make_room.new.journal.addresses c.args.block.now
-    (flushes c.args.self.now c.args.p c.args.block.now c.requires.call)
-    (ap (λ (l : Log). l.addresses) c.in_ok-make_room.ensures.same
-    ∙ ap (λ (b : State). b.journal.addresses) c.self.view_is)
+    (block_fits c.self.inside c.self.view_is c.in_ok-make_room.ensures.same
+    (flushes _ c.args.p c.args.block.now c.requires.call)).1
 
 pub append-requires-clause-processor : goal.append-requires-clause-processor
 append-requires-clause-processor c =
     let first = ap (λ (l : Log). l.processors) c.in_ok-make_room.ensures.same in
     let second = ap (λ (l : Log). l.processors) c.append_all.ensures in
-    let lt = (stands (state_of c.self.inside)
-    c.args.self.now c.args.p c.args.block.now c.self.view_is c.requires.call).journal in
+    let lt = (standing (goal.at.append-requires-clause-processor c).After-self).journal in
     omega arith
 
 pub append-requires-clause-address : goal.append-requires-clause-address
@@ -63,54 +66,40 @@ append-requires-clause-address c = closing_address c.append_all.new.journal.addr
 
 pub index_mut-requires : goal.index_mut-requires
 index_mut-requires c =
-    omega (
-      arith,
-      (stands (state_of c.self.inside) c.args.self.now c.args.p c.args.block.now c.self.view_is c.requires.call).times,
-      c.self.inside.times.ok.0,
-    )
+    omega (arith, (standing (goal.at.index_mut-requires c).After-self).times, c.self.inside.times.ok.0)
 
 pub tick-requires-clause-in_range : goal.tick-requires-clause-in_range
-tick-requires-clause-in_range c = let lt =
-    (stands (state_of c.self.inside) c.args.self.now c.args.p c.args.block.now c.self.view_is c.requires.call).own in
-    let e = ap length
-    (own_read c.self.inside.times.items c.args.p c.index_mut.result.now
-    (stands (state_of c.self.inside)
-    c.args.self.now c.args.p c.args.block.now c.self.view_is c.requires.call).times c.index_mut.ensures.value) in
+tick-requires-clause-in_range c =
+    let at = goal.at.tick-requires-clause-in_range c in
+    let st = standing at.After-self in
+    let lt = st.own in
+    let e = ap length (own at.After-index_mut st) in
     omega arith
 
 pub tick-requires-clause-fits : goal.tick-requires-clause-fits
-tick-requires-clause-fits c = let few =
-    (stands (state_of c.self.inside) c.args.self.now c.args.p c.args.block.now c.self.view_is c.requires.call).few in
-    let all = happened_fits c.self.inside.journal c.self.inside.owing c.self.invariant.few in let e =
-    ap (λ ts. slice_index ts c.args.p)
-    (own_read c.self.inside.times.items c.args.p c.index_mut.result.now
-    (stands (state_of c.self.inside)
-    c.args.self.now c.args.p c.args.block.now c.self.view_is c.requires.call).times c.index_mut.ensures.value) in
+tick-requires-clause-fits c =
+    let at = goal.at.tick-requires-clause-fits c in
+    let st = standing at.After-self in
+    let few = st.few in
+    let all = happened_fits c.self.inside.journal c.self.inside.owing c.self.invariant.few in
+    let e = ap (λ ts. slice_index ts c.args.p) (own at.After-index_mut st) in
     omega arith
 
 pub index_mut-requires-2 : goal.index_mut-requires-2
 index_mut-requires-2 c =
-    omega (
-      arith,
-      (stands (state_of c.self.inside)
-          c.args.self.now c.args.p c.args.block.now c.self.view_is c.requires.call).awaits,
-      length-map c.self.inside.awaits.items (option_map kind_of),
-      c.self.inside.awaits.ok.0,
-    )
+    let lt = (standing (goal.at.index_mut-requires-2 c).After-self).awaits in
+    omega (arith, length-map c.self.inside.awaits.items (option_map kind_of), c.self.inside.awaits.ok.0)
 
 pub returns-clause-ok : goal.returns-clause-ok
 returns-clause-ok c =
+    let at = goal.at.returns-clause-ok c in
     let records = c.args.interval.records in
     let log = logs_are c.self.inside.journal c.make_room.new.journal c.append_all.new.journal c.append.new.self
     c.self.inside.owing c.args.block.now
     (event c.args.p c.args.kind) c.in_ok-make_room.ensures.same c.append_all.ensures c.append.ensures in
     let closed = c.in_ok-push.ensures.ok ∙ ap (λ (i : ClosedInterval). pushed c.self.inside.closed i) c.requires.open
     ∙ ap (λ (b : State). pushed c.self.inside.closed (open_interval b c.args.p records)) (sym c.self.view_is) in
-    let time = c.tick.ensures
-    ∙ ap (λ ts. tick ts c.args.p)
-    (own_read c.self.inside.times.items c.args.p c.index_mut.result.now
-    (stands (state_of c.self.inside)
-    c.args.self.now c.args.p c.args.block.now c.self.view_is c.requires.call).times c.index_mut.ensures.value) in
+    let time = c.tick.ensures ∙ ap (λ ts. tick ts c.args.p) (own at.After-index_mut (standing at.After-self)) in
     let waits = map-set (option_map kind_of) c.self.inside.awaits.items c.args.p c.after.result
     ∙ ap (λ w. slice_set (map (option_map kind_of) c.self.inside.awaits.items) c.args.p w) c.after.ensures in
     let whole = closing_is (state_of c.self.inside) c.args.p c.args.kind c.args.block.now records

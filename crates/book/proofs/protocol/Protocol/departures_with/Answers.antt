@@ -1,4 +1,4 @@
-use Rattle.std.proofs.Common.{ℕ, List, slice_set, map, ap, ◌∙◌}
+use Rattle.std.proofs.Common.{◌≡◌, ℕ, List, slice_set, map, ap, ◌∙◌}
 use Rattle.vtime.specs.Times.{join}
 use Rattle.barrier.specs.Episodes.{is_full, joined}
 use Rattle.interval.specs.Intervals.{ClosedInterval}
@@ -7,28 +7,31 @@ use Rattle.transit.specs.Letters.{letter}
 use Rattle.book.specs.State.{State}
 use Rattle.book.specs.Transitions.{departure_to}
 use Rattle.book.proofs.Calling.Arrivals.{departures_are, none_depart}
+use Rattle.book.proofs.protocol.Protocol.departures_with.Goals.{After-completes-is_last}
 use Rattle.book.proofs.protocol.Protocol.departures_with.Goals as goal
+
+-- whether the episode is complete with this arrival
+full : (c : After-completes-is_last) → c.completes-is_last.result
+    ≡ is_full (joined c.args.self.now.barrier c.args.interval.now.owner c.args.own.now)
+full c =
+    c.completes-is_last.ensures.full c.args.own.now
+    ∙ ap (λ (n : ℕ). is_full (joined c.self.inside.barrier n c.args.own.now))
+    (ap (λ (i : ClosedInterval). i.owner) c.interval.view_is)
+    ∙ ap (λ (b : State). is_full (joined b.barrier c.args.interval.now.owner c.args.own.now)) c.self.view_is
 
 pub returns-then-not-is_last : goal.returns-then-not-is_last
 returns-then-not-is_last c =
-    let full = c.completes-is_last.ensures.full c.args.own.now
-    ∙ ap (λ (n : ℕ). is_full (joined c.self.inside.barrier n c.args.own.now))
-    (ap (λ (i : ClosedInterval). i.owner) c.interval.view_is)
-    ∙ ap (λ (b : State). is_full (joined b.barrier c.args.interval.now.owner c.args.own.now)) c.self.view_is in
     none_depart (pushed c.args.self.now.closed c.args.interval.now) c.args.self.now.barrier
     (slice_set c.args.self.now.times c.args.interval.now.owner c.args.own.now)
-    c.args.interval.now.owner c.args.own.now c.completes-is_last.result full c.if-not-is_last.true
+    c.args.interval.now.owner c.args.own.now c.completes-is_last.result
+    (full (goal.at.returns-then-not-is_last c).After-completes-is_last) c.if-not-is_last.true
 
 pub returns : goal.returns
 returns c =
-    let full = c.completes-is_last.ensures.full c.args.own.now
-    ∙ ap (λ (n : ℕ). is_full (joined c.self.inside.barrier n c.args.own.now))
-    (ap (λ (i : ClosedInterval). i.owner) c.interval.view_is)
-    ∙ ap (λ (b : State). is_full (joined b.barrier c.args.interval.now.owner c.args.own.now)) c.self.view_is in
     departures_are (pushed c.args.self.now.closed c.args.interval.now) c.args.self.now.barrier
     (slice_set c.args.self.now.times c.args.interval.now.owner c.args.own.now)
     c.args.interval.now.owner c.args.own.now c.time_with-time.result c.completes-is_last.result
-    (map letter c.in_ok-all.all.items) full c.if-not-is_last.false
+    (map letter c.in_ok-all.all.items) (full (goal.at.returns c).After-completes-is_last) c.if-not-is_last.false
     (c.time_with-time.ensures.value ∙ ap (λ (b : State). join b.barrier.gathered c.args.own.now) c.self.view_is)
     (c.in_ok-all.ensures
     ∙ ap (λ (ts : List (List ℕ)). map

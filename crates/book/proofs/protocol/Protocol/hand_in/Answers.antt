@@ -1,17 +1,10 @@
-use Rattle.std.proofs.Common.{ap, ◌∙◌}
-use Rattle.journal.specs.Log.{Log}
-use Rattle.book.specs.State.{State}
-use Rattle.book.proofs.Calling.Calls.{block_processors, block_addresses}
+use Rattle.book.proofs.Calling.Calls.{block_fits}
 use Rattle.book.proofs.protocol.Protocol.hand_in.Goals as goal
 
 pub append_all-requires-clause-processor : goal.append_all-requires-clause-processor
 append_all-requires-clause-processor c =
-    block_processors c.args.self.now c.args.p c.make_room.new.journal.processors c.args.block.now c.requires.call
-    (ap (λ (l : Log). l.processors) c.in_ok-make_room.ensures.same
-    ∙ ap (λ (b : State). b.journal.processors) c.self.view_is)
+    (block_fits c.self.inside c.self.view_is c.in_ok-make_room.ensures.same c.requires.call).0
 
 pub append_all-requires-clause-address : goal.append_all-requires-clause-address
 append_all-requires-clause-address c =
-    block_addresses c.args.self.now c.args.p c.make_room.new.journal.addresses c.args.block.now c.requires.call
-    (ap (λ (l : Log). l.addresses) c.in_ok-make_room.ensures.same
-    ∙ ap (λ (b : State). b.journal.addresses) c.self.view_is)
+    (block_fits c.self.inside c.self.view_is c.in_ok-make_room.ensures.same c.requires.call).1

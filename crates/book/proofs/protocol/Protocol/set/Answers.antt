@@ -1,9 +1,11 @@
-use Rattle.std.proofs.Common.{map, refl, ◌∙◌, arith}
+use Rattle.std.proofs.Common.{◌≡◌, map, refl, ◌∙◌, arith}
 use Rattle.std.specs.Arc.{arc_value}
 use Rattle.journal.specs.declared.event.Kind.TheVariants.{Set}
 use Rattle.book.specs.Holding.{state_of}
-use Rattle.book.proofs.Calling.Calls.{opens, still_open, closed_records}
-use Rattle.book.proofs.Calling.Asks.{still_timed, set_read, set_is}
+use Rattle.book.specs.Transitions.{handed_in, closed_by}
+use Rattle.book.proofs.Calling.Calls.{opens, still_open, closed_since}
+use Rattle.book.proofs.Calling.Asks.{IsSetRead, still_timed, set_read, set_is}
+use Rattle.book.proofs.protocol.Protocol.set.Goals.{After-self, After-index-2}
 use Rattle.book.proofs.protocol.Protocol.set.Goals as goal
 
 pub open_interval-interval-requires : goal.open_interval-interval-requires
@@ -14,31 +16,39 @@ close-requires-clause-open c =
     still_open c.args.self.now c.args.p c.open_interval-interval.result (map arc_value c.args.records.items)
     c.open_interval-interval.ensures
 
+-- the book once the interval is closed
+closed : (c : After-self) → state_of c.self.inside
+    ≡ closed_by (handed_in c.args.self.now c.args.block.now) c.args.p (Set c.args.f)
+    (map arc_value c.args.records.items)
+closed c =
+    closed_since c.args.self.now c.args.self.now _ c.args.block.now c.args.p (Set c.args.f)
+    c.open_interval-interval.result (map arc_value c.args.records.items) refl c.open_interval-interval.ensures
+    (c.self.view_is ∙ c.in_ok-close.ensures.ok)
+
 pub index-requires-2 : goal.index-requires-2
 index-requires-2 c =
-    let is = c.self.view_is ∙ c.in_ok-close.ensures.ok
-    ∙ closed_records c.args.self.now c.args.block.now c.args.p (Set c.args.f) c.open_interval-interval.result
-    (map arc_value c.args.records.items) c.open_interval-interval.ensures in
     let lt = still_timed c.args.self.now (state_of c.self.inside) c.args.p (Set c.args.f) c.args.block.now
-    (map arc_value c.args.records.items) c.requires.call is in
+    (map arc_value c.args.records.items) c.requires.call (closed (goal.at.index-requires-2 c).After-self) in
     omega (arith, lt, c.self.inside.times.ok.0)
+
+-- the flag and p's timestamp, as they are read
+read : (c : After-index-2) → state_of c.self.inside
+    ≡ closed_by (handed_in c.args.self.now c.args.block.now) c.args.p (Set c.args.f)
+    (map arc_value c.args.records.items)
+    → IsSetRead c.args.self.now c.args.p c.args.f c.index.result.now c.index-2.result.now
+read c is =
+    set_read c.args.self.now (state_of c.self.inside) c.args.p c.args.f (Set c.args.f) c.args.block.now
+    (map arc_value c.args.records.items)
+    c.index.result.now c.index-2.result.now c.requires.call c.requires.flag is c.index.ensures c.index-2.ensures
 
 pub with_set-time-requires : goal.with_set-time-requires
 with_set-time-requires c =
-    (set_read c.args.self.now (state_of c.self.inside) c.args.p c.args.f (Set c.args.f) c.args.block.now
-    (map arc_value c.args.records.items) c.index.result.now c.index-2.result.now c.requires.call c.requires.flag
-    (c.self.view_is ∙ c.in_ok-close.ensures.ok
-    ∙ closed_records c.args.self.now c.args.block.now c.args.p (Set c.args.f) c.open_interval-interval.result
-    (map arc_value c.args.records.items) c.open_interval-interval.ensures) c.index.ensures c.index-2.ensures).long
+    let at = goal.at.with_set-time-requires c in (read at.After-index-2 (closed at.After-self)).long
 
 pub returns-clause-ok : goal.returns-clause-ok
 returns-clause-ok c =
-    let is = c.self.view_is ∙ c.in_ok-close.ensures.ok
-    ∙ closed_records c.args.self.now c.args.block.now c.args.p (Set c.args.f) c.open_interval-interval.result
-    (map arc_value c.args.records.items) c.open_interval-interval.ensures in
-    let read = set_read c.args.self.now (state_of c.self.inside) c.args.p c.args.f (Set c.args.f) c.args.block.now
-    (map arc_value c.args.records.items)
-    c.index.result.now c.index-2.result.now c.requires.call c.requires.flag is c.index.ensures c.index-2.ensures in
+    let at = goal.at.returns-clause-ok c in
+    let is = closed at.After-self in
     set_is c.args.self.now (state_of c.self.inside) c.args.p c.args.f c.args.block.now
-    (map arc_value c.args.records.items)
-    c.index.result.now c.index-2.result.now c.with_set-time.result is read c.with_set-time.ensures
+    (map arc_value c.args.records.items) c.index.result.now c.index-2.result.now c.with_set-time.result is
+    (read at.After-index-2 is) c.with_set-time.ensures

@@ -1,7 +1,10 @@
-use Rattle.std.proofs.Common.{◌≡◌, ◌<◌, ℕ, List, [], ◌∷◌, ◌++◌, length, map, inl, inr, None, refl, slice_get, slice_set, slice_index_or, ap, ◌∙◌, sym, subst, arith, true≢false}
+use Rattle.std.proofs.Common.{◌≡◌, ◌↔◌, ◌<◌, ℕ, List, [], ◌∷◌, ◌++◌, length, map, inl, inr, Some, None, true, refl, slice_get, slice_set, slice_index_or, ap, ◌∙◌, sym, subst, arith, true≢false}
 use Rattle.std.proofs.lemmas.List.{length-map, map-set}
 use Rattle.std.specs.Option.{option_map}
 use Rattle.journal.specs.Did.{event}
+use Rattle.journal.specs.declared.event.Event.{Event}
+use Rattle.journal.specs.Sizes.{Sizes}
+use Rattle.journal.specs.WellFormed.{Ready}
 use Rattle.journal.specs.InRange.{AddressInRange}
 use Rattle.journal.specs.Log.{Log}
 use Rattle.vtime.specs.Times.{join}
@@ -11,176 +14,153 @@ use Rattle.book.specs.Awaiting.{kind_of}
 use Rattle.book.specs.Brought.{message_for}
 use Rattle.book.specs.Calls.{MaySignal}
 use Rattle.book.specs.Holding.{state_of}
-use Rattle.book.specs.State.{State}
+use Rattle.book.specs.State.{State, time_of}
 use Rattle.book.specs.Transitions.{trimmed_by, book_taken}
+use Rattle.book.specs.Told.{IsTold}
 use Rattle.book.proofs.Calling.Calls.{own_read}
-use Rattle.book.proofs.Calling.Takes.{reading, may_trim, log_is, taking_address, took_is, comes, received_is, brings_is}
+use Rattle.book.proofs.Calling.Takes.{IsReceiving, reading, may_trim, log_is, taking_address, took_is, comes, received_is, brings_is}
+use Rattle.book.proofs.protocol.Protocol.take.Goals.{In-Some, After-has_come, After-index-2, In_ok-message, After-index_mut}
 use Rattle.book.proofs.protocol.Protocol.take.Goals as goal
 
-pub has_come-requires-clause-flag : goal.has_come-requires-clause-flag
-has_come-requires-clause-flag c =
-    let w = reading (state_of c.self.inside)
+-- what p waits for
+waits : (c : In-Some) → IsReceiving (state_of c.self.inside) c.args.p (kind_of c.in-Some.awaited)
+waits c =
+    reading (state_of c.self.inside)
     c.args.self.now c.self.inside.awaits.items c.args.p c.index.result.now refl c.self.view_is c.requires.call
-    c.index.ensures c.in-Some.awaited c.in-Some.is in
-    λ f is. subst (λ fs. f < length fs) (sym c.deref.ensures.value) (w.flag f (ap kind_of is)).within
+    c.index.ensures c.in-Some.awaited c.in-Some.is
+
+-- it has come exactly where p is ready
+come : (c : After-has_come) → IsReceiving (state_of c.self.inside) c.args.p (kind_of c.in-Some.awaited)
+    → (s : Sizes) (h : List Event) → IsTold s h c.args.self.now → (c.has_come.result ≡ true) ↔ Ready s h c.args.p
+come c w =
+    comes _ c.args.self.now c.args.p (kind_of c.in-Some.awaited)
+    c.deref.result.now c.has_come.result c.self.view_is w c.deref.ensures.value c.has_come.ensures
+
+-- p's timestamp, as it was read
+own : (c : After-index-2) → IsReceiving (state_of c.self.inside) c.args.p (kind_of c.in-Some.awaited)
+    → c.index-2.result.now ≡ time_of (state_of c.self.inside) c.args.p
+own c w = own_read c.self.inside.times.items c.args.p c.index-2.result.now w.times c.index-2.ensures
+
+-- and as it is written
+written : (c : After-index_mut) → IsReceiving (state_of c.self.inside) c.args.p (kind_of c.in-Some.awaited)
+    → c.index_mut.result.now ≡ time_of (state_of c.self.inside) c.args.p
+written c w = own_read c.self.inside.times.items c.args.p c.index_mut.result.now w.times c.index_mut.ensures.value
+
+-- the message is what has come
+received : (c : In_ok-message) → c.index-2.result.now ≡ time_of (state_of c.self.inside) c.args.p
+    → message_for (state_of c.self.inside) c.args.p (kind_of c.in-Some.awaited) ≡ Some (letter c.in_ok-message.message)
+received c is =
+    received_is (state_of c.self.inside) (state_of c.self.inside) c.args.p (kind_of c.in-Some.awaited)
+    c.deref-2.result.now c.index-2.result.now (letter c.in_ok-message.message) refl c.deref-2.ensures.value is
+    c.in_ok-message.ensures.ok
+
+pub has_come-requires-clause-flag : goal.has_come-requires-clause-flag
+has_come-requires-clause-flag c f is =
+    subst (λ fs. f < length fs) (sym c.deref.ensures.value)
+    ((waits (goal.at.has_come-requires-clause-flag c).In-Some).flag f (ap kind_of is)).within
 
 pub returns-then-not-has_come-clause-absent : goal.returns-then-not-has_come-clause-absent
-returns-then-not-has_come-clause-absent c =
-    λ s h told. (
-      λ e ready. absurd
-          (true≢false
-          (sym ((comes _ c.args.self.now c.args.p (kind_of c.in-Some.awaited)
-          c.deref.result.now c.has_come.result c.self.view_is
-          (reading (state_of c.self.inside)
-          c.args.self.now c.self.inside.awaits.items c.args.p c.index.result.now refl c.self.view_is c.requires.call
-          c.index.ensures c.in-Some.awaited c.in-Some.is) c.deref.ensures.value
-          c.has_come.ensures s h told).1 ready) ∙ c.if-not-has_come.true)),
-      λ isnt. refl,
-    )
+returns-then-not-has_come-clause-absent c s h told =
+    let at = goal.at.returns-then-not-has_come-clause-absent c in
+    let is = come at.After-has_come (waits at.In-Some) s h told in
+    ((λ e ready. absurd (true≢false (sym (is.1 ready) ∙ c.if-not-has_come.true))), (λ isnt. refl))
 
 pub returns-in_err-make_room-clause-absent : goal.returns-in_err-make_room-clause-absent
-returns-in_err-make_room-clause-absent c =
-    λ s h told. (
+returns-in_err-make_room-clause-absent c s h told =
+    let at = goal.at.returns-in_err-make_room-clause-absent c in
+    let is = come at.After-has_come (waits at.In-Some) s h told in (
       λ e ready. (let x : NotYet ≡ c.in_err-make_room.field-0.0 = rw e at c.from_residual.ensures.1 in
           elim c.in_err-make_room.ensures.only [ inl full ↦ absurd (cc (full)) | inr none ↦ absurd (cc (none)) ]),
-      λ isnt. absurd (isnt
-          ((comes _ c.args.self.now c.args.p (kind_of c.in-Some.awaited)
-          c.deref.result.now c.has_come.result c.self.view_is
-          (reading (state_of c.self.inside)
-          c.args.self.now c.self.inside.awaits.items c.args.p c.index.result.now refl c.self.view_is c.requires.call
-          c.index.ensures c.in-Some.awaited c.in-Some.is) c.deref.ensures.value c.has_come.ensures s h told).0
-          c.if-not-has_come.false)),
+      λ isnt. absurd (isnt (is.0 c.if-not-has_come.false)),
     )
 
 pub index-requires-2 : goal.index-requires-2
-index-requires-2 c =
-    let w = reading (state_of c.self.inside)
-    c.args.self.now c.self.inside.awaits.items c.args.p c.index.result.now refl c.self.view_is c.requires.call
-    c.index.ensures c.in-Some.awaited c.in-Some.is in
-    omega (arith, w.times, c.self.inside.times.ok.0)
+index-requires-2 c = omega (arith, (waits (goal.at.index-requires-2 c).In-Some).times, c.self.inside.times.ok.0)
 
 pub receive-requires-clause-processor : goal.receive-requires-clause-processor
-receive-requires-clause-processor c =
-    let w = reading (state_of c.self.inside)
-    c.args.self.now c.self.inside.awaits.items c.args.p c.index.result.now refl c.self.view_is c.requires.call
-    c.index.ensures c.in-Some.awaited c.in-Some.is in
-    w.transit
+receive-requires-clause-processor c = (waits (goal.at.receive-requires-clause-processor c).In-Some).transit
 
 pub receive-requires-clause-flag : goal.receive-requires-clause-flag
-receive-requires-clause-flag c =
-    let w = reading (state_of c.self.inside)
-    c.args.self.now c.self.inside.awaits.items c.args.p c.index.result.now refl c.self.view_is c.requires.call
-    c.index.ensures c.in-Some.awaited c.in-Some.is in
-    λ f is. subst (λ fs. MaySignal c.self.inside.closed fs c.index-2.result.now f) (sym c.deref-2.ensures.value)
-    (subst (λ t. MaySignal c.self.inside.closed c.self.inside.flags.items t f)
-    (sym (own_read c.self.inside.times.items c.args.p c.index-2.result.now w.times c.index-2.ensures))
+receive-requires-clause-flag c f is =
+    let at = goal.at.receive-requires-clause-flag c in
+    let w = waits at.In-Some in
+    subst (λ fs. MaySignal c.self.inside.closed fs c.index-2.result.now f) (sym c.deref-2.ensures.value)
+    (subst (λ t. MaySignal c.self.inside.closed c.self.inside.flags.items t f) (sym (own at.After-index-2 w))
     (w.flag f (ap kind_of is)))
 
 pub receive-requires-clause-none : goal.receive-requires-clause-none
-receive-requires-clause-none c =
-    let w = reading (state_of c.self.inside)
-    c.args.self.now c.self.inside.awaits.items c.args.p c.index.result.now refl c.self.view_is c.requires.call
-    c.index.ensures c.in-Some.awaited c.in-Some.is in
-    λ f is. w.none f (ap kind_of is)
+receive-requires-clause-none c f is =
+    (waits (goal.at.receive-requires-clause-none c).In-Some).none f (ap kind_of is)
 
 pub returns-in_err-message-clause-absent : goal.returns-in_err-message-clause-absent
-returns-in_err-message-clause-absent c =
-    λ s h told. (
+returns-in_err-message-clause-absent c s h told =
+    let at = goal.at.returns-in_err-message-clause-absent c in
+    let is = come at.After-has_come (waits at.In-Some) s h told in (
       λ e ready. (let x : NotYet ≡ NoMemory = rw e at c.from_residual-in_err-message.ensures.1 in absurd (cc (x))),
-      λ isnt. absurd (isnt
-          ((comes _ c.args.self.now c.args.p (kind_of c.in-Some.awaited)
-          c.deref.result.now c.has_come.result c.self.view_is
-          (reading (state_of c.self.inside)
-          c.args.self.now c.self.inside.awaits.items c.args.p c.index.result.now refl c.self.view_is c.requires.call
-          c.index.ensures c.in-Some.awaited c.in-Some.is) c.deref.ensures.value c.has_come.ensures s h told).0
-          c.if-not-has_come.false)),
+      λ isnt. absurd (isnt (is.0 c.if-not-has_come.false)),
     )
 
 pub append-requires-clause-processor : goal.append-requires-clause-processor
 append-requires-clause-processor c =
-    let w = reading (state_of c.self.inside)
-    c.args.self.now c.self.inside.awaits.items c.args.p c.index.result.now refl c.self.view_is c.requires.call
-    c.index.ensures c.in-Some.awaited c.in-Some.is in
-    let lt = w.journal in
+    let lt = (waits (goal.at.append-requires-clause-processor c).In-Some).journal in
     let e = ap (λ (l : Log). l.processors) c.in_ok-make_room.ensures.same in
     omega arith
 
 pub append-requires-clause-address : goal.append-requires-clause-address
 append-requires-clause-address c =
-    let w = reading (state_of c.self.inside)
-    c.args.self.now c.self.inside.awaits.items c.args.p c.index.result.now refl c.self.view_is c.requires.call
-    c.index.ensures c.in-Some.awaited c.in-Some.is in
     subst (λ k. AddressInRange c.make_room.new.journal.addresses k) (sym c.kind-kind.ensures)
-    (taking_address c.make_room.new.journal.addresses (kind_of c.in-Some.awaited) w.takes)
+    (taking_address c.make_room.new.journal.addresses (kind_of c.in-Some.awaited)
+    (waits (goal.at.append-requires-clause-address c).In-Some).takes)
 
 pub index_mut-requires : goal.index_mut-requires
-index_mut-requires c =
-    let w = reading (state_of c.self.inside)
-    c.args.self.now c.self.inside.awaits.items c.args.p c.index.result.now refl c.self.view_is c.requires.call
-    c.index.ensures c.in-Some.awaited c.in-Some.is in
-    omega (arith, w.times, c.self.inside.times.ok.0)
+index_mut-requires c = omega (arith, (waits (goal.at.index_mut-requires c).In-Some).times, c.self.inside.times.ok.0)
 
 pub join-requires : goal.join-requires
 join-requires c =
-    let w = reading (state_of c.self.inside)
-    c.args.self.now c.self.inside.awaits.items c.args.p c.index.result.now refl c.self.view_is c.requires.call
-    c.index.ensures c.in-Some.awaited c.in-Some.is in
-    let mail = ap (λ (t : List ℕ). length t) c.time.ensures
-    ∙ w.long (letter c.in_ok-message.message)
-    (received_is (state_of c.self.inside) (state_of c.self.inside) c.args.p (kind_of c.in-Some.awaited)
-    c.deref-2.result.now c.index-2.result.now (letter c.in_ok-message.message) refl c.deref-2.ensures.value
-    (own_read c.self.inside.times.items c.args.p c.index-2.result.now w.times c.index-2.ensures)
-    c.in_ok-message.ensures.ok) in
-    let own = ap length
-    (own_read c.self.inside.times.items c.args.p c.index_mut.result.now w.times c.index_mut.ensures.value)
-    ∙ w.own_long in
-    mail ∙ sym own
+    let at = goal.at.join-requires c in
+    let w = waits at.In-Some in
+    ap (λ (t : List ℕ). length t) c.time.ensures
+    ∙ w.long (letter c.in_ok-message.message) (received at.In_ok-message (own at.After-index-2 w))
+    ∙ sym (ap length (written at.After-index_mut w) ∙ w.own_long)
 
 pub index_mut-requires-2 : goal.index_mut-requires-2
 index_mut-requires-2 c =
-    let w = reading (state_of c.self.inside)
-    c.args.self.now c.self.inside.awaits.items c.args.p c.index.result.now refl c.self.view_is c.requires.call
-    c.index.ensures c.in-Some.awaited c.in-Some.is in
+    let w = waits (goal.at.index_mut-requires-2 c).In-Some in
     omega (arith, w.awaits, length-map c.self.inside.awaits.items (option_map kind_of), c.self.inside.awaits.ok.0)
 
 pub leave-requires : goal.leave-requires
-leave-requires c =
-    let w = reading (state_of c.self.inside)
-    c.args.self.now c.self.inside.awaits.items c.args.p c.index.result.now refl c.self.view_is c.requires.call
-    c.index.ensures c.in-Some.awaited c.in-Some.is in
-    λ is. w.free (letter c.in_ok-message.message)
-    (received_is (state_of c.self.inside) (state_of c.self.inside) c.args.p (kind_of c.in-Some.awaited)
-    c.deref-2.result.now c.index-2.result.now (letter c.in_ok-message.message) refl c.deref-2.ensures.value
-    (own_read c.self.inside.times.items c.args.p c.index-2.result.now w.times c.index-2.ensures)
-    c.in_ok-message.ensures.ok) (ap kind_of is)
+leave-requires c is =
+    let at = goal.at.leave-requires c in
+    let w = waits at.In-Some in
+    w.free (letter c.in_ok-message.message) (received at.In_ok-message (own at.After-index-2 w)) (ap kind_of is)
 
 pub trim-requires : goal.trim-requires
 trim-requires c =
-    let w = reading (state_of c.self.inside)
-    c.args.self.now c.self.inside.awaits.items c.args.p c.index.result.now refl c.self.view_is c.requires.call
-    c.index.ensures c.in-Some.awaited c.in-Some.is in
-    let own = ap length
-    (own_read c.self.inside.times.items c.args.p c.index_mut.result.now w.times c.index_mut.ensures.value)
-    ∙ w.own_long in
+    let at = goal.at.trim-requires c in
+    let w = waits at.In-Some in
     may_trim (state_of c.self.inside) c.args.p (kind_of c.in-Some.awaited)
     c.deref-3.result.now c.copy-before.result c.join.new.self w c.deref-3.ensures.value
-    (c.join.ensures.same_length ∙ own)
+    (c.join.ensures.same_length ∙ ap length (written at.After-index_mut w) ∙ w.own_long)
     (c.copy-before.ensures
     ∙ own_read c.self.inside.times.items c.args.p c.index-3.result.now w.times c.index-3.ensures)
 
+-- the message is what p waited for
+was_due : (c : In_ok-message) → c.index-2.result.now ≡ time_of (state_of c.self.inside) c.args.p
+    → message_for c.args.self.now c.args.p (kind_of c.in-Some.awaited) ≡ Some (letter c.in_ok-message.message)
+was_due c is =
+    ap (λ (b : State). message_for b c.args.p (kind_of c.in-Some.awaited)) (sym c.self.view_is) ∙ received c is
+
 pub returns-clause-ok : goal.returns-clause-ok
 returns-clause-ok c =
-    let w = reading (state_of c.self.inside)
-    c.args.self.now c.self.inside.awaits.items c.args.p c.index.result.now refl c.self.view_is c.requires.call
-    c.index.ensures c.in-Some.awaited c.in-Some.is in
+    let at = goal.at.returns-clause-ok c in
+    let w = waits at.In-Some in
     let m = letter c.in_ok-message.message in
-    let again = own_read c.self.inside.times.items c.args.p c.index_mut.result.now w.times c.index_mut.ensures.value in
     let log = log_is c.self.inside.journal c.make_room.new.journal c.append.new.self c.self.inside.owing
     (event c.args.p c.kind-kind.result) c.in_ok-make_room.ensures.same c.append.ensures
     ∙ ap (λ k. record c.self.inside.journal
     { events = c.self.inside.journal.events ++ event c.args.p k ∷ []; room = c.self.inside.owing })
     c.kind-kind.ensures in
-    let time = c.join.ensures.value ∙ ap (λ (t : List ℕ). join t c.time.result.now) again
+    let time = c.join.ensures.value ∙ ap (λ (t : List ℕ). join t c.time.result.now) (written at.After-index_mut w)
     ∙ ap (λ (t : List ℕ). join (slice_index_or c.self.inside.times.items c.args.p []) t) c.time.ensures in
     let closed = c.trim.ensures
     ∙ ap (λ (ts : List (List ℕ)). trimmed_by c.self.inside.closed ts (length ts)) c.deref-3.ensures.value in
@@ -191,38 +171,22 @@ returns-clause-ok c =
     (map-set (option_map kind_of) c.self.inside.awaits.items c.args.p None)
     c.in_ok-message.ensures.after c.leave.ensures w.takes in
     record {
-      kind = (kind_of c.in-Some.awaited);
+      kind = kind_of c.in-Some.awaited;
       awaits = ap (λ (b : State). slice_get b.awaits c.args.p) (sym c.self.view_is) ∙ w.waits;
-      message = ap (λ (b : State). message_for b c.args.p (kind_of c.in-Some.awaited)) (sym c.self.view_is)
-          ∙ received_is (state_of c.self.inside) (state_of c.self.inside) c.args.p (kind_of c.in-Some.awaited)
-          c.deref-2.result.now c.index-2.result.now (letter c.in_ok-message.message) refl c.deref-2.ensures.value
-          (own_read c.self.inside.times.items c.args.p c.index-2.result.now w.times c.index-2.ensures)
-          c.in_ok-message.ensures.ok;
+      message = was_due at.In_ok-message (own at.After-index-2 w);
       after = whole ∙ ap (λ (b : State). book_taken b c.args.p (kind_of c.in-Some.awaited) m) c.self.view_is;
     }
 
 pub returns-clause-brings : goal.returns-clause-brings
 returns-clause-brings c =
-    let w = reading (state_of c.self.inside)
-    c.args.self.now c.self.inside.awaits.items c.args.p c.index.result.now refl c.self.view_is c.requires.call
-    c.index.ensures c.in-Some.awaited c.in-Some.is in
+    let at = goal.at.returns-clause-brings c in
+    let w = waits at.In-Some in
     brings_is c.args.self.now c.args.p (kind_of c.in-Some.awaited) (letter c.in_ok-message.message)
     (ap (λ (b : State). slice_get b.awaits c.args.p) (sym c.self.view_is) ∙ w.waits)
-    (ap (λ (b : State). message_for b c.args.p (kind_of c.in-Some.awaited)) (sym c.self.view_is)
-    ∙ received_is (state_of c.self.inside) (state_of c.self.inside) c.args.p (kind_of c.in-Some.awaited)
-    c.deref-2.result.now c.index-2.result.now (letter c.in_ok-message.message) refl c.deref-2.ensures.value
-    (own_read c.self.inside.times.items c.args.p c.index-2.result.now w.times c.index-2.ensures)
-    c.in_ok-message.ensures.ok)
+    (was_due at.In_ok-message (own at.After-index-2 w))
 
 pub returns-clause-absent : goal.returns-clause-absent
-returns-clause-absent c =
-    λ s h told. (
-      λ e ready. absurd (cc (e)),
-      λ isnt. absurd (isnt
-          ((comes _ c.args.self.now c.args.p (kind_of c.in-Some.awaited)
-          c.deref.result.now c.has_come.result c.self.view_is
-          (reading (state_of c.self.inside)
-          c.args.self.now c.self.inside.awaits.items c.args.p c.index.result.now refl c.self.view_is c.requires.call
-          c.index.ensures c.in-Some.awaited c.in-Some.is) c.deref.ensures.value c.has_come.ensures s h told).0
-          c.if-not-has_come.false)),
-    )
+returns-clause-absent c s h told =
+    let at = goal.at.returns-clause-absent c in
+    let is = come at.After-has_come (waits at.In-Some) s h told in
+    ((λ e ready. absurd (cc (e))), (λ isnt. absurd (isnt (is.0 c.if-not-has_come.false))))

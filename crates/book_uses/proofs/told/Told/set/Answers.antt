@@ -1,29 +1,25 @@
-use Rattle.std.proofs.Common.{◌∙◌, ◌<◌, ◌++◌, refl, ap, map, subst, sym, arith}
+use Rattle.std.proofs.Common.{refl, map, arith}
 use Rattle.std.specs.Arc.{arc_value}
 use Rattle.journal.specs.declared.event.Kind.TheVariants.{Set}
-use Rattle.journal.specs.Did.{did}
-use Rattle.book_uses.specs.Telling.{Telling, MayClose}
+use Rattle.book_uses.specs.Telling.{MayClose}
 use Rattle.book_uses.specs.Keeping.{telling_of}
-use Rattle.book_uses.proofs.Calls.{kept_after, follows_set, may_call}
+use Rattle.book_uses.proofs.Calls.{kept_closed, closes_found, follows_set, may_call}
+use Rattle.book_uses.proofs.told.Told.set.Goals.{In_ok-records}
 use Rattle.book_uses.proofs.told.Told.set.Goals as goal
+
+-- p may close its interval
+closes : (c : In_ok-records)
+    → MayClose (telling_of c.self.inside) c.args.p c.args.block.now (map arc_value c.in_ok-records.records.items)
+closes c = closes_found c.self.inside _ c.args.p c.args.block.now _ c.self.view_is c.in_ok-records.ensures
 
 pub invariant_of-self-2 : goal.invariant_of-self-2
 invariant_of-self-2 c =
-    let records = map arc_value c.in_ok-records.records.items in
-    let may = subst (λ (t : Telling). MayClose t c.args.p c.args.block.now records) (sym c.self.view_is)
-    c.in_ok-records.ensures in
-    let less : c.args.f < c.self.inside.flags = (let lt = c.if-f-self.false in omega arith) in
-    kept_after c.self.inside _ _ c.self.invariant refl refl
-    (c.note_closing.ensures
-    ∙ ap (λ es. did (es ++ c.args.block.now) c.args.p (Set c.args.f)) c.in_ok-reserve.ensures.items)
-    (follows_set (telling_of c.self.inside)
-    c.set.new.self c.args.p c.args.block.now records c.self.invariant.telling may c.args.f less
-    c.in_ok-set.ensures.ok)
+    kept_closed c.self.inside _ c.args.p (Set c.args.f) c.args.block.now _ c.self.invariant refl refl
+    c.in_ok-reserve.ensures.items c.note_closing.ensures
+    (follows_set (telling_of c.self.inside) c.set.new.self c.args.p c.args.block.now _ c.self.invariant.telling
+    (closes (goal.at.invariant_of-self-2 c).In_ok-records) c.args.f (omega arith) c.in_ok-set.ensures.ok)
 
 pub set-requires-clause-call : goal.set-requires-clause-call
 set-requires-clause-call c =
-    let records = map arc_value c.in_ok-records.records.items in
-    let may = subst (λ (t : Telling). MayClose t c.args.p c.args.block.now records) (sym c.self.view_is)
-    c.in_ok-records.ensures in
     may_call (telling_of c.self.inside).sizes c.self.inside.history.items c.self.inside.book c.args.p
-    c.self.invariant.telling.told c.args.block.now may.may
+    c.self.invariant.telling.told c.args.block.now (closes (goal.at.set-requires-clause-call c).In_ok-records).may
