@@ -32,7 +32,6 @@ impl<T: Turn<Book, Rule>> Cluster<T> {
         ensures { IsClosingCall (ask_test processor.old lock) (Kind.Ask lock)
             processor.old processor.new (result_err result) }
     {
-        processor.admit_ask(lock)?;
         self.close(rt, processor, Kind::Ask(lock))
     }
 
@@ -50,7 +49,6 @@ impl<T: Turn<Book, Rule>> Cluster<T> {
         ensures { IsClosingCall (release_test processor.old lock) (Kind.Release lock)
             processor.old processor.new (result_err result) }
     {
-        processor.admit_release(lock)?;
         self.close(rt, processor, Kind::Release(lock))
     }
 
@@ -63,7 +61,6 @@ impl<T: Turn<Book, Rule>> Cluster<T> {
         ensures { IsClosingCall (arrive_test processor.old) Kind.Arrive
             processor.old processor.new (result_err result) }
     {
-        processor.admit_arrival()?;
         self.close(rt, processor, Kind::Arrive)
     }
 
@@ -82,7 +79,6 @@ impl<T: Turn<Book, Rule>> Cluster<T> {
         ensures { IsClosingCall (flag_test processor.old flag) (Kind.Set flag)
             processor.old processor.new (result_err result) }
     {
-        processor.admit_flag(flag)?;
         self.close(rt, processor, Kind::Set(flag))
     }
 
@@ -100,7 +96,6 @@ impl<T: Turn<Book, Rule>> Cluster<T> {
         ensures { IsClosingCall (flag_test processor.old flag) (Kind.Watch flag)
             processor.old processor.new (result_err result) }
     {
-        processor.admit_flag(flag)?;
         self.close(rt, processor, Kind::Watch(flag))
     }
 }
