@@ -159,22 +159,31 @@ calls_closed m k sound =
     rw (append-nil, filter-append, eq-eqb m.number m.number refl) (ap (λ (xs : List Event). xs ++ event m.number k
     ∷ []) (sym (append-nil (part (m.seen ++ m.block) m.number)) ∙ calls_handed m sound))
 
--- a visit that closed it
-pub closed_visit : {A : Type 0} {m : Local} {b new : State} {after : ChairToken State View} {block : List Event}
-    (k : Kind) (records : List Changes) (a : A) → Visit m b new after → block ≡ m.block
-    → new ≡ book_closed k (handed_in b block) m.number records
-    → IsFullAt (length b.journal.events + length block + 1) (Ok a)
-    → Visit m b (book_closed k (handed_in b m.block) m.number records) after
-    × (length b.journal.events + length m.block + 1 ≤ most_events)
-closed_visit {b = b} {block = block} k records a v same ok full = (
-  left_as v (rw (← same) ok),
-  rw (← same) (had_room a (length b.journal.events + length block + 1) full),
-)
+-- a visit that closed the interval by this event
+pub record Closed (m : Local) (b : State) (k : Kind) (records : List Changes)
+    (after : ChairToken State View) : Type 0 where
+  pub may : MayMake m k
+  pub are : AreHarvests m.copies records
+  pub fits : length b.journal.events + length m.block + 1 ≤ most_events
+  pub visit : Visit m b (book_closed k (handed_in b m.block) m.number records) after
 
-module _ {m : Local} {b : State} {after : ChairToken State View} (k : Kind) (may : MayMake m k)
-    (records : List Changes) (are : AreHarvests m.copies records)
-    (v : Visit m b (book_closed k (handed_in b m.block) m.number records) after)
-    (fits : length b.journal.events + length m.block + 1 ≤ most_events) where
+-- as the book answered
+pub closed_visit : {A : Type 0} {m : Local} {b new : State} {k : Kind} {records : List Changes}
+    {after : ChairToken State View} {block : List Event} (a : A) → MayMake m k → AreHarvests m.copies records
+    → Visit m b new after → block ≡ m.block → new ≡ book_closed k (handed_in b block) m.number records
+    → IsFullAt (length b.journal.events + length block + 1) (Ok a) → Closed m b k records after
+closed_visit {b = b} {block = block} a may are v same ok full = record {
+  may = may;
+  are = are;
+  fits = rw (← same) (had_room a (length b.journal.events + length block + 1) full);
+  visit = left_as v (rw (← same) ok);
+}
+
+module _ {m : Local} {b : State} {k : Kind} {records : List Changes} {after : ChairToken State View}
+    (t : Closed m b k records after) where
+  abbrev v : Visit m b (book_closed k (handed_in b m.block) m.number records) after
+  v = t.visit
+
   -- the processor after its interval was closed
   abbrev closed_now : Local
   closed_now = record (on after m) {
@@ -196,7 +205,7 @@ module _ {m : Local} {b : State} {after : ChairToken State View} (k : Kind) (may
   history = (m.seen ++ v.finds.rest) ++ (m.block ++ event m.number k ∷ [])
 
   call : IsCallOf m b (m.block ++ event m.number k ∷ []) last
-  call = call_of_closing m v.sound b k may records are fits
+  call = call_of_closing m v.sound b k t.may records t.are t.fits
 
   before : IsSound then
   before = entered_sound m b v.sound v.finds last.journal.base.cut
@@ -215,7 +224,7 @@ module _ {m : Local} {b : State} {after : ChairToken State View} (k : Kind) (may
       let P : List Event → Type 0 = λ h. WellFormed m.sizes h in
       let Q : List Event → Type 0 = λ h. length h ≤ most_seen in
       let told = call.told v.finds in
-      subst IsSound (sym same) (called_sound then k before may.closes may.in_range (subst P moved told.well_formed)
+      subst IsSound (sym same) (called_sound then k before t.may.closes t.may.in_range (subst P moved told.well_formed)
       (subst Q moved (told_few m.sizes history last told (call.few v.finds))))
 
   pub closed_done : {many : ℕ}

@@ -1,5 +1,5 @@
 -- A call that hands the block in.
-use Rattle.std.proofs.Common.{ℕ, zero, suc, ◌≡◌, ◌+◌, ◌≤◌, Result, None, OnOk, OnErr, Err, Ok, List, [], ◌∷◌, ◌++◌, length, inl, inr, refl, sym, ap, subst, ◌∙◌, append-nil, append_assoc}
+use Rattle.std.proofs.Common.{ℕ, zero, suc, ◌≡◌, ◌+◌, ◌≤◌, Result, None, OnOk, OnErr, Err, Ok, List, [], ◌∷◌, ◌++◌, length, inl, inr, refl, sym, ap, subst, subst₂, take, ◌∙◌, append-nil, append_assoc}
 use Rattle.std.proofs.lemmas.Bool.{cases_lt, eq-eqb}
 use Rattle.std.proofs.lemmas.List.Elements.{filter-append}
 use Rattle.journal.specs.declared.event.Event.{Event}
@@ -22,7 +22,7 @@ use Rattle.cluster.specs.Refusals.{flush_refusal}
 use Rattle.cluster.specs.Calls.{IsCall, IsHanded, Nothing}
 use Rattle.cluster.specs.Entering.{IsCallOf, entered}
 use Rattle.cluster.proofs.Leaving.{call_of_nothing, call_of_block}
-use Rattle.cluster.specs.Histories.{IsAudit, IsJournalOf}
+use Rattle.cluster.specs.Histories.{IsAudit, IsFaithful, IsJournalOf}
 use Rattle.cluster.proofs.Histories.{faithful, journal_of, taken_is, told_few}
 use Rattle.cluster.proofs.Visiting.{Visit, on, left_as}
 use Rattle.cluster.proofs.Made.{entered_sound, not_spent, now_is, call_done}
@@ -57,19 +57,25 @@ calls_handed m sound =
     rw (filter-append, part_own m.block m.number (λ k e at. (sound.inner k e at).mine), append-nil) refl
 
 -- a visit that handed the block in
+pub record Handed (m : Local) (b new : State) (after : ChairToken State View) : Type 0 where
+  pub fits : length b.journal.events + length m.block ≤ most_events
+  pub is : new ≡ handed_in b m.block
+  pub visit : Visit m b (handed_in b m.block) after
+
+-- as the book answered
 pub handed_visit : {A : Type 0} {m : Local} {b new : State} {after : ChairToken State View} {block : List Event} (a : A)
     → Visit m b new after → block ≡ m.block → new ≡ handed_in b block
-    → IsFullAt (length b.journal.events + length block) (Ok a)
-    → Visit m b (handed_in b m.block) after × (length b.journal.events + length m.block ≤ most_events)
-    × (new ≡ handed_in b m.block)
-handed_visit {b = b} {block = block} a v same ok full = (
-  left_as v (rw (← same) ok),
-  rw (← same) (had_room a (length b.journal.events + length block) full),
-  rw (← same) ok,
-)
+    → IsFullAt (length b.journal.events + length block) (Ok a) → Handed m b new after
+handed_visit {b = b} {block = block} a v same ok full = record {
+  fits = rw (← same) (had_room a (length b.journal.events + length block) full);
+  is = rw (← same) ok;
+  visit = left_as v (rw (← same) ok);
+}
 
-module _ {m : Local} {b : State} {after : ChairToken State View} (v : Visit m b (handed_in b m.block) after)
-    (fits : length b.journal.events + length m.block ≤ most_events) where
+module _ {m : Local} {b new : State} {after : ChairToken State View} (t : Handed m b new after) where
+  abbrev v : Visit m b (handed_in b m.block) after
+  v = t.visit
+
   -- the processor after its block was handed in
   abbrev handed_now : Local
   handed_now = record (on after m) { block = [] }
@@ -81,7 +87,7 @@ module _ {m : Local} {b : State} {after : ChairToken State View} (v : Visit m b 
   history = (m.seen ++ v.finds.rest) ++ m.block
 
   call : IsCallOf m b m.block (handed_in b m.block)
-  call = call_of_block m v.sound b fits
+  call = call_of_block m v.sound b t.fits
 
   told : IsTold m.sizes history (handed_in b m.block)
   told = call.told v.finds
@@ -101,19 +107,20 @@ module _ {m : Local} {b : State} {after : ChairToken State View} (v : Visit m b 
       ∙ calls_handed then (entered_sound m b v.sound v.finds b.journal.base.cut) ∙ sym (append-nil (calls then)))
 
   -- and a journal like the book's is what an audit answers
-  pub audit_done : {new : State} (j : Log) → new ≡ handed_in b m.block → j ≡ record new.journal { room = j.room }
-      → IsAudit m handed_now j
-  audit_done j is copy =
+  pub audit_done : (j : Log) → j ≡ record new.journal { room = j.room } → IsAudit m handed_now j
+  audit_done j copy =
       let ends : handed_now.seen ≡ history = ap (λ (n : Local). n.seen) same in
       let ends_cut : handed_now.cut ≡ b.journal.base.cut = ap (λ (n : Local). n.cut) same in
+      let P : ℕ → List Event → Type 0 = λ c h. IsJournalOf m.sizes (take c h) h j in
       record {
         journal =
-            rw (ends, ends_cut) (subst (λ (c : List Event). IsJournalOf m.sizes c history j)
+            subst₂ P (sym ends_cut) (sym ends) (subst (λ (c : List Event). IsJournalOf m.sizes c history j)
             (taken_is m.sizes history (handed_in b m.block) told)
             (journal_of m.sizes history (handed_in b m.block) j told
-            (copy ∙ ap (λ (x : State). record x.journal { room = j.room }) is)));
+            (copy ∙ ap (λ (x : State). record x.journal { room = j.room }) t.is)));
         faithful =
-            rw ends (faithful m.sizes history told.well_formed (call.explained v.finds) (call.counted v.finds));
+            subst (IsFaithful m.sizes) (sym ends)
+            (faithful m.sizes history told.well_formed (call.explained v.finds) (call.counted v.finds));
         begins = (v.finds.rest ++ m.block, ends ∙ append_assoc m.seen v.finds.rest m.block);
         calls_are = sym (append-nil (part handed_now.seen m.number));
       }

@@ -4,7 +4,7 @@ use Rattle.journal.specs.declared.event.Event.{Event}
 use Rattle.journal.specs.Sizes.{Sizes}
 use Rattle.lists.proofs.Sets.{slice_get-set_same}
 use Rattle.std.proofs.lemmas.Option.{slice_get_within}
-use Rattle.turn.specs.Chairs.{LockId, lock, place, view, entries, IsOutside, IsInside, IsSameChair}
+use Rattle.turn.specs.Chairs.{LockId, lock, place, view, entries, IsInside}
 use Rattle.turn.specs.declared.chair.ChairToken.{ChairToken}
 use Rattle.turn.specs.declared.chair.Held.{Held}
 use Rattle.book.specs.State.{State}
@@ -12,22 +12,14 @@ use Rattle.replicas.specs.Local.{Local}
 use Rattle.replicas.specs.Sound.{IsSound}
 use Rattle.cluster.specs.declared.keeper.View.{View}
 use Rattle.cluster.specs.Seats.{local, IsSeated}
-use Rattle.cluster.specs.Kept.{Sees, added, view_of}
+use Rattle.cluster.specs.Kept.{added, view_of}
 use Rattle.cluster.specs.Covers.{IsAllowed}
-use Rattle.cluster.specs.Entering.{Finds, FindsBook, HasEntered, IsCallOf, IsChairOf}
+use Rattle.cluster.specs.Entering.{Finds, FindsBook, HasEntered, HasLeft, IsCallOf, IsChairOf}
 use Rattle.cluster.proofs.Leaving.{finds, call_kept}
 
 -- the processor on this chair
 abbrev pub on : ChairToken State View → Local → Local
 on chair m = local chair m.number m.sizes m.block m.copies m.stored m.time m.held m.awaits
-
--- what p knows of the book that it leaves
-abbrev pub Leaves : ChairToken State View → Held → State → ChairToken State View → Type 0
-Leaves mid right new after = (b : State) → IsInside mid right b → Sees b new (place mid) (view mid) (view after)
-
--- the right to be inside was given back
-abbrev pub HasLeft : ChairToken State View → ChairToken State View → Type 0
-HasLeft mid after = IsSameChair mid after × (entries after ≡ entries mid) × IsOutside after
 
 -- p entered, found this book and left the new one: what its chair tells then
 pub record Visit (m : Local) (b new : State) (after : ChairToken State View) : Type 0 where
@@ -70,10 +62,10 @@ module _ {m : Local} {old : ChairToken State View} (sound : IsSound m) (seated :
   may_give_back {b = b} into call = (m, b, call.0, chair_of into, into.inside, call.1)
 
   -- and it was
-  pub visited : {mid : ChairToken State View} (after : ChairToken State View) {right : Held} {b new : State}
-      → HasEntered old mid right b → Leaves mid right new after → HasLeft mid after → Visit m b new after
-  visited {mid} after {right} {b} {new} into leaves left =
-      let sees = leaves b into.inside in
+  pub visited : {mid after : ChairToken State View} {right : Held} {b new : State} → HasEntered old mid right b
+      → HasLeft mid after right new → Visit m b new after
+  visited {mid} {b = b} {new} into left =
+      let sees = left.seen b into.inside in
       let chair = chair_of into in
       let P : ℕ → View → Type 0 = λ k v. slice_get sees.views k ≡ Some v in
       let at = subst₂ P chair.place_is chair.view_is sees.at in
@@ -85,12 +77,12 @@ module _ {m : Local} {old : ChairToken State View} (sound : IsSound m) (seated :
         some_left = rw (times, mine) into.some_left;
         finds = finds m b sees.views at ((view mid).shape, sees.history, sees.kept);
         seated = record {
-          place_is = left.0.1 ∙ chair.place_is;
+          place_is = left.same.1 ∙ chair.place_is;
           shape_is = sees.shape ∙ ap (λ (x : View). x.shape) into.view_is ∙ seated.shape_is;
-          outside = left.2;
+          outside = left.outside;
         };
-        same_lock = left.0.0 ∙ into.same.0 ∙ sym mine;
-        once_more = left.1 ∙ into.once_more ∙ ap (λ (n : ℕ). n + 1) (sym times);
+        same_lock = left.same.0 ∙ into.same.0 ∙ sym mine;
+        once_more = left.entries_are ∙ into.once_more ∙ ap (λ (n : ℕ). n + 1) (sym times);
         seen = sees.seen ∙ ap (λ (h : List Event). h ++ added b.journal new.journal) goes.begins;
         cut = sees.cut;
       }

@@ -59,9 +59,9 @@ impl<T: Turn<Book, Rule>> Cluster<T> {
     {
         let (held, mut book) = self.take_book(rt, &mut processor.chair)?;
         let block = processor.block.as_slice();
-        let result = close_in(&mut book, processor.number, kind, block, records);
+        let closed = close_in(&mut book, processor.number, kind, block, records);
         self.give_book(&mut processor.chair, held, book);
-        result?;
+        closed?;
         processor.block.clear();
         clean(&mut processor.replicas, &mut processor.stored);
         processor.time.tick(processor.number);

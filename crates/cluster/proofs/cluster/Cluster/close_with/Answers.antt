@@ -2,11 +2,14 @@ use Rattle.std.proofs.Common.{map, refl, sym, subst, arith}
 use Rattle.std.specs.Arc.{arc_value}
 use Rattle.replicas.specs.Records.{AreHarvests}
 use Rattle.replicas.specs.Local.{Local}
+use Rattle.cluster.specs.Seats.{local}
 use Rattle.cluster.specs.Closing.{MayMake}
-use Rattle.cluster.proofs.ClosingCalls.{marked_well, may_close, call_of_close, closed_visit, closed_good, closed_done}
+use Rattle.cluster.proofs.ClosingCalls.{marked_well, may_close, call_of_close, Closed, closed_visit, closed_good, closed_done}
 use Rattle.cluster.proofs.Visiting.{book_found, may_give_back, visited, left_as}
 use Rattle.cluster.proofs.Made.{alike_all, refused_with, call_spent, call_refused, unchanged_sound}
+use Rattle.cluster.proofs.cluster.Cluster.close_with.Given as given
 use Rattle.cluster.proofs.cluster.Cluster.close_with.Goals as goal
+use Rattle.cluster.proofs.cluster.Cluster.close_with.Goals.{After-clear}
 
 pub returns-in_err-held : goal.returns-in_err-held
 returns-in_err-held g c =
@@ -14,8 +17,8 @@ returns-in_err-held g c =
     rw (refused_with _ _ c.from_residual.ensures.1, spent.0, spent.2, ← c.processor.view_is)
     (call_spent c.processor.invariant.0 spent.1)
 
-pub close_in-result-requires-clause-call : goal.close_in-result-requires-clause-call
-close_in-result-requires-clause-call g c =
+pub close_in-closed-requires-clause-call : goal.close_in-closed-requires-clause-call
+close_in-closed-requires-clause-call g c =
     let m = c.processor.invariant in
     let finds = book_found m.0 m.1 refl c.in_ok-held.book c.in_ok-held.ensures.finds in
     let may = subst (λ (l : Local). MayMake l c.args.kind) (sym c.processor.view_is) c.requires.may in
@@ -24,45 +27,47 @@ close_in-result-requires-clause-call g c =
 pub give_book-requires-clause-call : goal.give_book-requires-clause-call
 give_book-requires-clause-call g c κs within =
     let m = c.processor.invariant in
-    let made = c.close_in-result.ensures in
+    let made = c.close_in-closed.ensures in
     let may = subst (λ (l : Local). MayMake l c.args.kind) (sym c.processor.view_is) c.requires.may in
     let are =
     subst (λ (l : Local). AreHarvests l.copies (map arc_value c.args.records.items)) (sym c.processor.view_is)
     c.requires.records in
     may_give_back m.0 m.1 refl c.in_ok-held.ensures.entered
-    (call_of_close _ m.0 c.in_ok-held.book c.args.kind may _ are c.close_in-result.result _ _
+    (call_of_close _ m.0 c.in_ok-held.book c.args.kind may _ are c.close_in-closed.result _ _
     c.as_slice-block.ensures.value made.ok made.err made.full)
 
-pub invariant_of-processor-in_err-result : goal.invariant_of-processor-in_err-result
-invariant_of-processor-in_err-result g c =
+pub invariant_of-processor-in_err-closed : goal.invariant_of-processor-in_err-closed
+invariant_of-processor-in_err-closed g c =
     let m = c.processor.invariant in
-    let visit =
-    visited m.0 m.1 refl c.give_book.new.chair c.in_ok-held.ensures.entered c.give_book.ensures.seen
-    c.give_book.ensures.left in
-    (unchanged_sound (left_as visit c.in_err-result.ensures.err) _ (alike_all _), visit.seated, m.2)
+    let visit = visited m.0 m.1 refl c.in_ok-held.ensures.entered c.give_book.ensures in
+    (unchanged_sound (left_as visit c.in_err-closed.ensures.err) _ (alike_all _), visit.seated, m.2)
 
-pub returns-in_err-result : goal.returns-in_err-result
-returns-in_err-result g c =
+pub returns-in_err-closed : goal.returns-in_err-closed
+returns-in_err-closed g c =
     let m = c.processor.invariant in
-    let visit =
-    visited m.0 m.1 refl c.give_book.new.chair c.in_ok-held.ensures.entered c.give_book.ensures.seen
-    c.give_book.ensures.left in
-    let bad = c.in_err-result.ensures in
-    rw (refused_with _ _ c.from_residual-in_err-result.ensures.1, ← c.processor.view_is)
+    let visit = visited m.0 m.1 refl c.in_ok-held.ensures.entered c.give_book.ensures in
+    let bad = c.in_err-closed.ensures in
+    rw (refused_with _ _ c.from_residual-in_err-closed.ensures.1, ← c.processor.view_is)
     (call_refused (left_as visit bad.err) _ _ bad.only bad.full (rw (c.as_slice-block.ensures.value) (omega arith)))
 
-pub invariant_of-processor-2 : goal.invariant_of-processor-2
-invariant_of-processor-2 g c =
+-- the interval was closed
+closed : (g : given.Over) (c : After-clear g)
+    → let x = c.processor.inside in
+    Closed (local x.chair x.number x.shape x.block.items x.replicas.items x.stored x.time x.held.items x.awaits)
+    c.in_ok-held.book c.args.kind (map arc_value c.args.records.items) c.give_book.new.chair
+closed g c =
     let m = c.processor.invariant in
-    let visit =
-    visited m.0 m.1 refl c.give_book.new.chair c.in_ok-held.ensures.entered c.give_book.ensures.seen
-    c.give_book.ensures.left in
-    let good = c.in_ok-result.ensures in
+    let visit = visited m.0 m.1 refl c.in_ok-held.ensures.entered c.give_book.ensures in
     let may = subst (λ (l : Local). MayMake l c.args.kind) (sym c.processor.view_is) c.requires.may in
     let are =
     subst (λ (l : Local). AreHarvests l.copies (map arc_value c.args.records.items)) (sym c.processor.view_is)
     c.requires.records in
-    let done = closed_visit c.args.kind _ c.in_ok-result.field-0 visit c.as_slice-block.ensures.value good.ok good.full in (
+    let good = c.in_ok-closed.ensures in
+    closed_visit c.in_ok-closed.field-0 may are visit c.as_slice-block.ensures.value good.ok good.full
+
+pub invariant_of-processor-2 : goal.invariant_of-processor-2
+invariant_of-processor-2 g c =
+    let t = closed g (goal.at.invariant_of-processor-2 g c).After-clear in (
       rw (
         c.clear.ensures.items,
         c.clean.ensures.copies,
@@ -70,23 +75,13 @@ invariant_of-processor-2 g c =
         c.tick.ensures,
         c.mark_held.ensures,
         c.awaited-processor-inside.ensures,
-      ) (closed_good c.args.kind may _ are done.0 done.1),
-      visit.seated,
-      (let was = m.2 in let same = c.clear.ensures.capacity in omega arith),
+      ) (closed_good t),
+      t.visit.seated,
+      (let was = c.processor.invariant.2 in let same = c.clear.ensures.capacity in omega arith),
     )
 
 pub returns : goal.returns
 returns g c =
-    let m = c.processor.invariant in
-    let visit =
-    visited m.0 m.1 refl c.give_book.new.chair c.in_ok-held.ensures.entered c.give_book.ensures.seen
-    c.give_book.ensures.left in
-    let good = c.in_ok-result.ensures in
-    let may = subst (λ (l : Local). MayMake l c.args.kind) (sym c.processor.view_is) c.requires.may in
-    let are =
-    subst (λ (l : Local). AreHarvests l.copies (map arc_value c.args.records.items)) (sym c.processor.view_is)
-    c.requires.records in
-    let done = closed_visit c.args.kind _ c.in_ok-result.field-0 visit c.as_slice-block.ensures.value good.ok good.full in
     rw (
       c.clear.ensures.items,
       c.clean.ensures.copies,
@@ -95,7 +90,7 @@ returns g c =
       c.mark_held.ensures,
       c.awaited-processor-inside.ensures,
       ← c.processor.view_is,
-    ) (closed_done c.args.kind may _ are done.0 done.1)
+    ) (closed_done (closed g (goal.at.returns g c).After-clear))
 
 pub clean-requires : goal.clean-requires
 clean-requires g c = marked_well _ c.processor.invariant.0

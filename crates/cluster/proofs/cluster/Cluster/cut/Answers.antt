@@ -13,40 +13,32 @@ returns-in_err-held g c =
 pub give_book-requires-clause-call : goal.give_book-requires-clause-call
 give_book-requires-clause-call g c κs within =
     let m = c.processor.invariant in
-    let made = c.cut_off-result.ensures in
+    let made = c.cut_off-cut.ensures in
     may_give_back m.0 m.1 refl c.in_ok-held.ensures.entered
-    (call_of_cutting _ c.in_ok-held.book _ c.cut_off-result.result made.ok made.err)
+    (call_of_cutting _ c.in_ok-held.book _ c.cut_off-cut.result made.ok made.err)
 
-pub invariant_of-processor-in_err-result : goal.invariant_of-processor-in_err-result
-invariant_of-processor-in_err-result g c =
+pub invariant_of-processor-in_err-cut : goal.invariant_of-processor-in_err-cut
+invariant_of-processor-in_err-cut g c =
     let m = c.processor.invariant in
-    let visit =
-    visited m.0 m.1 refl c.give_book.new.chair c.in_ok-held.ensures.entered c.give_book.ensures.seen
-    c.give_book.ensures.left in
-    (unchanged_sound (left_as visit c.in_err-result.ensures.err) _ (alike_all _), visit.seated, m.2)
+    let visit = visited m.0 m.1 refl c.in_ok-held.ensures.entered c.give_book.ensures in
+    (unchanged_sound (left_as visit c.in_err-cut.ensures.err) _ (alike_all _), visit.seated, m.2)
 
-pub returns-in_err-result : goal.returns-in_err-result
-returns-in_err-result g c =
+pub returns-in_err-cut : goal.returns-in_err-cut
+returns-in_err-cut g c =
     let m = c.processor.invariant in
-    let visit =
-    visited m.0 m.1 refl c.give_book.new.chair c.in_ok-held.ensures.entered c.give_book.ensures.seen
-    c.give_book.ensures.left in
-    let bad = c.in_err-result.ensures in
-    rw (refused_with _ _ c.from_residual-in_err-result.ensures.1, bad.fault.1, ← c.processor.view_is)
+    let visit = visited m.0 m.1 refl c.in_ok-held.ensures.entered c.give_book.ensures in
+    let bad = c.in_err-cut.ensures in
+    rw (refused_with _ _ c.from_residual-in_err-cut.ensures.1, bad.fault.1, ← c.processor.view_is)
     (cut_refused (left_as visit bad.err) bad.fault.0 bad.fault.2)
 
 pub invariant_of-processor-2 : goal.invariant_of-processor-2
 invariant_of-processor-2 g c =
     let m = c.processor.invariant in
-    let visit =
-    visited m.0 m.1 refl c.give_book.new.chair c.in_ok-held.ensures.entered c.give_book.ensures.seen
-    c.give_book.ensures.left in
-    (cut_good visit c.in_ok-result.ensures.ok, visit.seated, m.2)
+    let visit = visited m.0 m.1 refl c.in_ok-held.ensures.entered c.give_book.ensures in
+    (cut_good visit c.in_ok-cut.ensures.ok, visit.seated, m.2)
 
 pub returns : goal.returns
 returns g c =
     let m = c.processor.invariant in
-    let visit =
-    visited m.0 m.1 refl c.give_book.new.chair c.in_ok-held.ensures.entered c.give_book.ensures.seen
-    c.give_book.ensures.left in
-    rw (← c.processor.view_is) (cut_done visit c.in_ok-result.ensures.ok)
+    let visit = visited m.0 m.1 refl c.in_ok-held.ensures.entered c.give_book.ensures in
+    rw (← c.processor.view_is) (cut_done visit c.in_ok-cut.ensures.ok)

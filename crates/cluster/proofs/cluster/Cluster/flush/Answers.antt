@@ -11,8 +11,8 @@ returns-in_err-held g c =
     rw (refused_with _ _ c.from_residual.ensures.1, spent.0, spent.2, ← c.processor.view_is)
     (call_spent c.processor.invariant.0 spent.1)
 
-pub hand_in-result-requires-clause-call : goal.hand_in-result-requires-clause-call
-hand_in-result-requires-clause-call g c =
+pub hand_in-handed-requires-clause-call : goal.hand_in-handed-requires-clause-call
+hand_in-handed-requires-clause-call g c =
     let m = c.processor.invariant in
     let finds = book_found m.0 m.1 refl c.in_ok-held.book c.in_ok-held.ensures.finds in
     rw (c.as_slice.ensures.value) (may_flush _ m.0 c.in_ok-held.book finds)
@@ -20,37 +20,31 @@ hand_in-result-requires-clause-call g c =
 pub give_book-requires-clause-call : goal.give_book-requires-clause-call
 give_book-requires-clause-call g c κs within =
     let m = c.processor.invariant in
-    let made = c.hand_in-result.ensures in
+    let made = c.hand_in-handed.ensures in
     may_give_back m.0 m.1 refl c.in_ok-held.ensures.entered
     (call_of_hand_in _ m.0 _ _ _ _ c.as_slice.ensures.value made.ok made.err made.full)
 
-pub invariant_of-processor-in_err-result : goal.invariant_of-processor-in_err-result
-invariant_of-processor-in_err-result g c =
+pub invariant_of-processor-in_err-handed : goal.invariant_of-processor-in_err-handed
+invariant_of-processor-in_err-handed g c =
     let m = c.processor.invariant in
-    let visit =
-    visited m.0 m.1 refl c.give_book.new.chair c.in_ok-held.ensures.entered c.give_book.ensures.seen
-    c.give_book.ensures.left in
-    (unchanged_sound (left_as visit c.in_err-result.ensures.err) _ (alike_all _), visit.seated, m.2)
+    let visit = visited m.0 m.1 refl c.in_ok-held.ensures.entered c.give_book.ensures in
+    (unchanged_sound (left_as visit c.in_err-handed.ensures.err) _ (alike_all _), visit.seated, m.2)
 
-pub returns-in_err-result : goal.returns-in_err-result
-returns-in_err-result g c =
+pub returns-in_err-handed : goal.returns-in_err-handed
+returns-in_err-handed g c =
     let m = c.processor.invariant in
-    let visit =
-    visited m.0 m.1 refl c.give_book.new.chair c.in_ok-held.ensures.entered c.give_book.ensures.seen
-    c.give_book.ensures.left in
-    let bad = c.in_err-result.ensures in
-    rw (refused_with _ _ c.from_residual-in_err-result.ensures.1, ← c.processor.view_is)
+    let visit = visited m.0 m.1 refl c.in_ok-held.ensures.entered c.give_book.ensures in
+    let bad = c.in_err-handed.ensures in
+    rw (refused_with _ _ c.from_residual-in_err-handed.ensures.1, ← c.processor.view_is)
     (call_refused (left_as visit bad.err) _ _ bad.only bad.full (rw (c.as_slice.ensures.value) refl))
 
 pub invariant_of-processor-2 : goal.invariant_of-processor-2
 invariant_of-processor-2 g c =
     let m = c.processor.invariant in
-    let visit =
-    visited m.0 m.1 refl c.give_book.new.chair c.in_ok-held.ensures.entered c.give_book.ensures.seen
-    c.give_book.ensures.left in
-    let good = c.in_ok-result.ensures in
-    let done = handed_visit c.in_ok-result.field-0 visit c.as_slice.ensures.value good.ok good.full in (
-      rw (c.clear.ensures.items) (handed_good done.0 done.1),
+    let visit = visited m.0 m.1 refl c.in_ok-held.ensures.entered c.give_book.ensures in
+    let good = c.in_ok-handed.ensures in
+    let done = handed_visit c.in_ok-handed.field-0 visit c.as_slice.ensures.value good.ok good.full in (
+      rw (c.clear.ensures.items) (handed_good done),
       visit.seated,
       (let was = m.2 in let same = c.clear.ensures.capacity in omega arith),
     )
@@ -58,9 +52,7 @@ invariant_of-processor-2 g c =
 pub returns : goal.returns
 returns g c =
     let m = c.processor.invariant in
-    let visit =
-    visited m.0 m.1 refl c.give_book.new.chair c.in_ok-held.ensures.entered c.give_book.ensures.seen
-    c.give_book.ensures.left in
-    let good = c.in_ok-result.ensures in
-    let done = handed_visit c.in_ok-result.field-0 visit c.as_slice.ensures.value good.ok good.full in
-    rw (c.clear.ensures.items, ← c.processor.view_is) (handed_done done.0 done.1)
+    let visit = visited m.0 m.1 refl c.in_ok-held.ensures.entered c.give_book.ensures in
+    let good = c.in_ok-handed.ensures in
+    let done = handed_visit c.in_ok-handed.field-0 visit c.as_slice.ensures.value good.ok good.full in
+    rw (c.clear.ensures.items, ← c.processor.view_is) (handed_done done)

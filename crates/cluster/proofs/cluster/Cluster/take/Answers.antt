@@ -15,15 +15,13 @@ use Rattle.cluster.proofs.cluster.Cluster.take.Goals.{After-into_parts-time}
 took : (g : given.Over) (c : After-into_parts-time g)
     → let x = c.processor.inside in
     Took (local x.chair x.number x.shape x.block.items x.replicas.items x.stored x.time x.held.items x.awaits)
-    c.in_ok-held.book c.in_ok-kind.kind (letter c.in_ok-result.field-0) c.give_book.new.chair
+    c.in_ok-held.book c.in_ok-kind.kind (letter c.in_ok-received.field-0) c.give_book.new.chair
 took g c =
     let m = c.processor.invariant in
     let waits = ap (λ (l : Local). l.awaits) c.processor.view_is ∙ c.in_ok-kind.ensures.kind in
-    let visit =
-    visited m.0 m.1 refl c.give_book.new.chair c.in_ok-held.ensures.entered c.give_book.ensures.seen
-    c.give_book.ensures.left in
-    let ok = c.in_ok-result.ensures in
-    took_visit c.in_ok-result.field-0 waits visit ok.ok ok.full
+    let visit = visited m.0 m.1 refl c.in_ok-held.ensures.entered c.give_book.ensures in
+    let ok = c.in_ok-received.ensures in
+    took_visit c.in_ok-received.field-0 waits visit ok.ok ok.full
 
 pub returns-in_err-kind : goal.returns-in_err-kind
 returns-in_err-kind g c =
@@ -41,8 +39,8 @@ returns-in_err-held g c =
       ← c.processor.view_is,
     ) (call_spent c.processor.invariant.0 spent.1)
 
-pub receive-result-requires-clause-call : goal.receive-result-requires-clause-call
-receive-result-requires-clause-call g c =
+pub receive-received-requires-clause-call : goal.receive-received-requires-clause-call
+receive-received-requires-clause-call g c =
     let m = c.processor.invariant in
     let waits = ap (λ (l : Local). l.awaits) c.processor.view_is ∙ c.in_ok-kind.ensures.kind in
     may_take _ m.0 _ _ waits (book_found m.0 m.1 refl c.in_ok-held.book c.in_ok-held.ensures.finds)
@@ -52,28 +50,24 @@ give_book-requires-clause-call g c κs within =
     let m = c.processor.invariant in
     let waits = ap (λ (l : Local). l.awaits) c.processor.view_is ∙ c.in_ok-kind.ensures.kind in
     let finds = book_found m.0 m.1 refl c.in_ok-held.book c.in_ok-held.ensures.finds in
-    let made = c.receive-result.ensures in
+    let made = c.receive-received.ensures in
     may_give_back m.0 m.1 refl c.in_ok-held.ensures.entered
-    (call_of_receive _ m.0 _ _ waits finds c.receive-result.result _ made.ok made.err made.full)
+    (call_of_receive _ m.0 _ _ waits finds c.receive-received.result _ made.ok made.err made.full)
 
-pub invariant_of-processor-in_err-result : goal.invariant_of-processor-in_err-result
-invariant_of-processor-in_err-result g c =
+pub invariant_of-processor-in_err-received : goal.invariant_of-processor-in_err-received
+invariant_of-processor-in_err-received g c =
     let m = c.processor.invariant in
-    let visit =
-    visited m.0 m.1 refl c.give_book.new.chair c.in_ok-held.ensures.entered c.give_book.ensures.seen
-    c.give_book.ensures.left in
-    let bad = c.in_err-result.ensures in
+    let visit = visited m.0 m.1 refl c.in_ok-held.ensures.entered c.give_book.ensures in
+    let bad = c.in_err-received.ensures in
     (unchanged_sound (left_as visit bad.err) _ bad.same, visit.seated, m.2)
 
-pub returns-in_err-result : goal.returns-in_err-result
-returns-in_err-result g c =
+pub returns-in_err-received : goal.returns-in_err-received
+returns-in_err-received g c =
     let m = c.processor.invariant in
-    let visit =
-    visited m.0 m.1 refl c.give_book.new.chair c.in_ok-held.ensures.entered c.give_book.ensures.seen
-    c.give_book.ensures.left in
-    let bad = c.in_err-result.ensures in
+    let visit = visited m.0 m.1 refl c.in_ok-held.ensures.entered c.give_book.ensures in
+    let bad = c.in_err-received.ensures in
     rw (
-      refused_with _ _ c.from_residual-in_err-result.ensures.1,
+      refused_with _ _ c.from_residual-in_err-received.ensures.1,
       ← c.in_ok-kind.ensures.test,
       ← c.processor.view_is,
     ) (take_refused (left_as visit bad.err) _ bad.same _ bad.absent bad.full bad.only)
@@ -81,7 +75,7 @@ returns-in_err-result g c =
 pub learn-requires : goal.learn-requires
 learn-requires g c =
     let t = took g (goal.at.learn-requires g c).After-into_parts-time in
-    let ok = c.in_ok-result.ensures in
+    let ok = c.in_ok-received.ensures in
     rw (c.into_parts-time.ensures.notices) (may_learn_taken t _ ok.same ok.room)
 
 pub join-requires : goal.join-requires
@@ -101,7 +95,7 @@ pub invariant_of-processor-2 : goal.invariant_of-processor-2
 invariant_of-processor-2 g c =
     let t = took g (goal.at.invariant_of-processor-2 g c).After-into_parts-time in
     let learned = rw c.into_parts-time.ensures.notices at c.learn.ensures in
-    let told = after_same _ _ _ _ c.in_ok-result.ensures.same learned in (
+    let told = after_same _ _ _ _ c.in_ok-received.ensures.same learned in (
       rw (c.join.ensures.value, c.into_parts-time.ensures.time, c.mark_held.ensures) (taken_good t _ told),
       t.visit.seated,
       c.processor.invariant.2,
@@ -111,7 +105,7 @@ pub returns : goal.returns
 returns g c =
     let t = took g (goal.at.returns g c).After-into_parts-time in
     let learned = rw c.into_parts-time.ensures.notices at c.learn.ensures in
-    let told = after_same _ _ _ _ c.in_ok-result.ensures.same learned in
+    let told = after_same _ _ _ _ c.in_ok-received.ensures.same learned in
     rw (
       c.join.ensures.value,
       c.into_parts-time.ensures.time,
