@@ -4,7 +4,7 @@ use Rattle.journal.specs.declared.event.Event.{Event}
 use Rattle.journal.specs.Sizes.{Sizes}
 use Rattle.lists.proofs.Sets.{slice_get-set_same}
 use Rattle.std.proofs.lemmas.Option.{slice_get_within}
-use Rattle.turn.specs.Chairs.{LockId, lock, place, view, entries, IsInside}
+use Rattle.turn.specs.Chairs.{LockId, lock, view, entries, IsInside}
 use Rattle.turn.specs.declared.chair.ChairToken.{ChairToken}
 use Rattle.turn.specs.declared.chair.Held.{Held}
 use Rattle.book.specs.State.{State}

@@ -1,4 +1,5 @@
-//! What a program calls: asks, releases, arrivals, sets and watches.
+//! What a program calls: asks, releases, arrivals, sets and watches. Each is a close by its event, under a name and
+//! with reasons of refusal of its own.
 ghost use Rattle.std.specs.Prelude.{◌≡◌};
 ghost use Rattle.std.specs.Result.{result_err};
 ghost use Rattle.cluster.specs.Refusals.{arrive_test, ask_test, release_test, flag_test};
