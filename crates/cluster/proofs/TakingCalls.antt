@@ -145,11 +145,9 @@ module _ (m : Local) (sound : IsSound m) (b : State) (k : Kind) (waits : m.await
       → OnErr r (new ≡ b) → (◌≢◌ {A = Result Message Refused} r (Err NotYet)
       → IsFullAt (length b.journal.events + 1) r) → (es : List Event) × IsCallOf m b es new
   call_of_receive (Ok x) new ok err full =
-      let t = taken_message m sound b k waits (letter x) new f ok in (
-        event m.number k ∷ [],
-        rw (t.1)
-            (call_of_take m sound b k waits (letter x) t.0 (had_room x (length b.journal.events + 1) (full (λ h. absurd (cc h))))),
-      )
+      let t = taken_message m sound b k waits (letter x) new f ok in
+      let fits = had_room x (length b.journal.events + 1) (full (λ h. absurd (cc h))) in
+      (event m.number k ∷ [], rw (t.1) (call_of_take m sound b k waits (letter x) t.0 fits))
   call_of_receive (Err e) new ok err full = ([], rw err (call_of_nothing m b))
 
 -- a take that the book refused
@@ -181,8 +179,8 @@ pub record Took (m : Local) (b : State) (k : Kind) (x : Letter) (after : ChairTo
   pub visit : Visit m b (book_taken b m.number k x) after
 
 -- as the book answered
-pub took_visit : {A : Type 0} {m : Local} {b new : State} {k : Kind} {x : Letter} {after : ChairToken State View} (a : A)
-    → m.awaits ≡ Some k → Visit m b new after → Takes b m.number x new
+pub took_visit : {A : Type 0} {m : Local} {b new : State} {k : Kind} {x : Letter} {after : ChairToken State View}
+    (a : A) → m.awaits ≡ Some k → Visit m b new after → Takes b m.number x new
     → (◌≢◌ {A = Result A Refused} (Ok a) (Err NotYet) → IsFullAt (length b.journal.events + 1) (Ok a))
     → Took m b k x after
 took_visit {m = m} {b} {new} {k} {x} a waits visit ok full =

@@ -1,4 +1,5 @@
--- A processor's chair before, inside and after a call.
+-- A processor's chair before, inside and after a call. The calls that enter have goals of one shape, each over a record
+-- of its own steps, which no lemma can be stated of: what they share is said here and in Made, over plain variables.
 use Rattle.std.proofs.Common.{ℕ, ◌≡◌, ◌<◌, ◌+◌, Some, List, ◌++◌, slice_get, slice_set, refl, sym, ap, ap₂, subst, subst₂, ◌∙◌}
 use Rattle.journal.specs.declared.event.Event.{Event}
 use Rattle.journal.specs.Sizes.{Sizes}
