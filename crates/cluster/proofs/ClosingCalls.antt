@@ -94,15 +94,15 @@ marked_well m sound = record {
   clean = sound.clean;
 }
 
--- what is owing stays
-room_closed : (k : Kind) (b : State) (p : ℕ) (records : List Changes)
-    → (book_closed k b p records).journal.room ≡ b.journal.room
-room_closed (Ask l) b p records = refl
-room_closed (Release l) b p records = refl
-room_closed Arrive b p records = refl
-room_closed (Set f) b p records = refl
-room_closed (Watch f) b p records = refl
-room_closed _ b p records = refl
+-- what is owing stays, and nothing is cut off
+journal_closed : (k : Kind) (b : State) (p : ℕ) (records : List Changes) → let new = book_closed k b p records in
+    (new.journal.room ≡ b.journal.room) × (new.journal.base.cut ≡ b.journal.base.cut)
+journal_closed (Ask l) b p records = (refl, refl)
+journal_closed (Release l) b p records = (refl, refl)
+journal_closed Arrive b p records = (refl, refl)
+journal_closed (Set f) b p records = (refl, refl)
+journal_closed (Watch f) b p records = (refl, refl)
+journal_closed _ b p records = (refl, refl)
 
 -- the journal goes on with the event
 events_closed : (k : Kind) → is_closing k ≡ true → (b : State) (p : ℕ) (records : List Changes)
@@ -113,16 +113,6 @@ events_closed Arrive closes b p records = refl
 events_closed (Set f) closes b p records = refl
 events_closed (Watch f) closes b p records = refl
 events_closed _ closes b p records = absurd (true≢false (sym closes))
-
--- nothing is cut off
-cut_closed : (k : Kind) (b : State) (p : ℕ) (records : List Changes)
-    → (book_closed k b p records).journal.base.cut ≡ b.journal.base.cut
-cut_closed (Ask l) b p records = refl
-cut_closed (Release l) b p records = refl
-cut_closed Arrive b p records = refl
-cut_closed (Set f) b p records = refl
-cut_closed (Watch f) b p records = refl
-cut_closed _ b p records = refl
 
 closing_no_load : (k : Kind) → is_closing k ≡ true → (a v : ℕ) → k ≢ Load a v
 closing_no_load k closes a v is = true≢false (sym closes ∙ ap is_closing is)
@@ -136,11 +126,11 @@ module _ (m : Local) (sound : IsSound m) (b : State) (k : Kind) (may : MayMake m
   pub call_of_closing : length b.journal.events + length m.block + 1 ≤ most_events
       → IsCallOf m b (m.block ++ event m.number k ∷ []) (book_closed k (handed_in b m.block) m.number records)
   call_of_closing fits =
+      let same = journal_closed k (handed_in b m.block) m.number records in
       call_of_event m sound b k (book_closed k (handed_in b m.block) m.number records) (closing_no_load k may.closes)
       (closing_no_fetch k may.closes) fits (events_closed k may.closes (handed_in b m.block) m.number records
       ∙ append_assoc b.journal.events m.block (event m.number k ∷ []))
-      (room_closed k (handed_in b m.block) m.number records) (cut_closed k (handed_in b m.block) m.number records)
-      (λ f. told_closed m sound b f k records may are)
+      same.0 same.1 (λ f. told_closed m sound b f k records may are)
 
   -- whatever the book answers
   pub call_of_close : {A : Type 0} (r : Result A Refused) (block : List Event) (new : State) → block ≡ m.block
