@@ -1,5 +1,5 @@
 -- A call that closes the interval.
-use Rattle.std.proofs.Common.{ℕ, ◌≡◌, ◌≢◌, ◌↔◌, ◌+◌, ◌<◌, ◌≤◌, Bool, true, false, true≢false, Option, None, Result, Ok, Err, OnOk, OnErr, List, [], ◌∷◌, ◌++◌, length, map, replicate, slice_index_or, refl, sym, ap, subst, ◌∙◌, append-nil, append_assoc, arith}
+use Rattle.std.proofs.Common.{ℕ, ◌≡◌, ◌≢◌, ◌+◌, ◌<◌, ◌≤◌, true, false, true≢false, None, Result, Ok, Err, OnOk, OnErr, List, [], ◌∷◌, ◌++◌, length, map, replicate, slice_index_or, refl, sym, ap, subst, ◌∙◌, append-nil, append_assoc, arith}
 use Rattle.std.proofs.lemmas.Bool.{eq-eqb}
 use Rattle.std.proofs.lemmas.List.Elements.{filter-append}
 use Rattle.journal.specs.declared.event.Event.{Event}
@@ -15,11 +15,10 @@ use Rattle.book.specs.State.{State}
 use Rattle.book.specs.Told.{IsTold}
 use Rattle.book.specs.Transitions.{handed_in}
 use Rattle.book.specs.declared.refused.Refused.{Refused}
-use Rattle.book.specs.declared.refused.Refused.TheVariants.{JournalFull}
+use Rattle.book.specs.Refusals.{IsFullAt}
 use Rattle.book.proofs.Keeps.Whole.{ask_law, release_law, arrive_law, set_law, watch_law}
 use Rattle.turn.specs.declared.chair.ChairToken.{ChairToken}
 use Rattle.vtime.specs.Times.{tick}
-use Rattle.replicas.specs.Copies.{Copied}
 use Rattle.replicas.specs.Local.{Local, calls}
 use Rattle.replicas.specs.Records.{AreHarvests, DirtyAreMarked}
 use Rattle.replicas.specs.Sound.{IsSound, most_seen}
@@ -28,15 +27,15 @@ use Rattle.replicas.proofs.Calls.{called_sound}
 use Rattle.replicas.proofs.Locks.{held_mark}
 use Rattle.replicas.proofs.Records.{harvest_contents}
 use Rattle.cluster.specs.declared.keeper.View.{View}
-use Rattle.cluster.specs.Seats.{IsSeated}
+use Rattle.cluster.specs.Refusals.{flush_refusal}
 use Rattle.cluster.specs.Calls.{IsCall, Nothing}
 use Rattle.cluster.specs.Closing.{MayMake, MayHold, MayClose, IsClosedBy, book_closed}
 use Rattle.cluster.specs.Entering.{Finds, IsCallOf, entered}
 use Rattle.cluster.proofs.Finding.{here_sound, may_hand_in, may_call}
-use Rattle.cluster.proofs.Handing.{fits_else, calls_handed}
+use Rattle.cluster.proofs.Handing.{had_room, calls_handed}
 use Rattle.cluster.proofs.Histories.{told_few}
-use Rattle.cluster.proofs.Visiting.{Visit, HasLeft, HasSeen, local_on}
-use Rattle.cluster.proofs.Made.{entered_sound, now_is, now_seated, call_done}
+use Rattle.cluster.proofs.Visiting.{Visit, on, left_as}
+use Rattle.cluster.proofs.Made.{entered_sound, not_spent, now_is, call_done}
 use Rattle.cluster.proofs.Leaving.{call_of_nothing, call_of_event}
 
 module _ (m : Local) (sound : IsSound m) (b : State) (f : Finds m b) where
@@ -95,15 +94,15 @@ marked_well m sound = record {
   clean = sound.clean;
 }
 
--- what is owing stays
-room_closed : (k : Kind) (b : State) (p : ℕ) (records : List Changes)
-    → (book_closed k b p records).journal.room ≡ b.journal.room
-room_closed (Ask l) b p records = refl
-room_closed (Release l) b p records = refl
-room_closed Arrive b p records = refl
-room_closed (Set f) b p records = refl
-room_closed (Watch f) b p records = refl
-room_closed _ b p records = refl
+-- what is owing stays, and nothing is cut off
+journal_closed : (k : Kind) (b : State) (p : ℕ) (records : List Changes) → let new = book_closed k b p records in
+    (new.journal.room ≡ b.journal.room) × (new.journal.base.cut ≡ b.journal.base.cut)
+journal_closed (Ask l) b p records = (refl, refl)
+journal_closed (Release l) b p records = (refl, refl)
+journal_closed Arrive b p records = (refl, refl)
+journal_closed (Set f) b p records = (refl, refl)
+journal_closed (Watch f) b p records = (refl, refl)
+journal_closed _ b p records = (refl, refl)
 
 -- the journal goes on with the event
 events_closed : (k : Kind) → is_closing k ≡ true → (b : State) (p : ℕ) (records : List Changes)
@@ -114,16 +113,6 @@ events_closed Arrive closes b p records = refl
 events_closed (Set f) closes b p records = refl
 events_closed (Watch f) closes b p records = refl
 events_closed _ closes b p records = absurd (true≢false (sym closes))
-
--- nothing is cut off
-cut_closed : (k : Kind) (b : State) (p : ℕ) (records : List Changes)
-    → (book_closed k b p records).journal.base.cut ≡ b.journal.base.cut
-cut_closed (Ask l) b p records = refl
-cut_closed (Release l) b p records = refl
-cut_closed Arrive b p records = refl
-cut_closed (Set f) b p records = refl
-cut_closed (Watch f) b p records = refl
-cut_closed _ b p records = refl
 
 closing_no_load : (k : Kind) → is_closing k ≡ true → (a v : ℕ) → k ≢ Load a v
 closing_no_load k closes a v is = true≢false (sym closes ∙ ap is_closing is)
@@ -137,20 +126,20 @@ module _ (m : Local) (sound : IsSound m) (b : State) (k : Kind) (may : MayMake m
   pub call_of_closing : length b.journal.events + length m.block + 1 ≤ most_events
       → IsCallOf m b (m.block ++ event m.number k ∷ []) (book_closed k (handed_in b m.block) m.number records)
   call_of_closing fits =
+      let same = journal_closed k (handed_in b m.block) m.number records in
       call_of_event m sound b k (book_closed k (handed_in b m.block) m.number records) (closing_no_load k may.closes)
       (closing_no_fetch k may.closes) fits (events_closed k may.closes (handed_in b m.block) m.number records
       ∙ append_assoc b.journal.events m.block (event m.number k ∷ []))
-      (room_closed k (handed_in b m.block) m.number records) (cut_closed k (handed_in b m.block) m.number records)
-      (λ f. told_closed m sound b f k records may are)
+      same.0 same.1 (λ f. told_closed m sound b f k records may are)
 
   -- whatever the book answers
   pub call_of_close : {A : Type 0} (r : Result A Refused) (block : List Event) (new : State) → block ≡ m.block
-      → OnOk r (new ≡ book_closed k (handed_in b block) m.number records) → OnErr r (new ≡ b) → r ≡ Err JournalFull
-      ↔ (most_events < length b.journal.events + length block + 1) → (es : List Event) × IsCallOf m b es new
+      → OnOk r (new ≡ book_closed k (handed_in b block) m.number records) → OnErr r (new ≡ b)
+      → IsFullAt (length b.journal.events + length block + 1) r → (es : List Event) × IsCallOf m b es new
   call_of_close (Ok a) block new same ok err full = (
     m.block ++ event m.number k ∷ [],
-    rw (ok, same) (call_of_closing (rw (← same) (fits_else (length b.journal.events + length block + 1)
-        (Ok a ≡ Err JournalFull) full (λ h. absurd (cc h))))),
+    rw (ok, same)
+        (call_of_closing (rw (← same) (had_room a (length b.journal.events + length block + 1) full))),
   )
   call_of_close (Err e) block new same ok err full = ([], rw err (call_of_nothing m b))
 
@@ -160,63 +149,76 @@ calls_closed m k sound =
     rw (append-nil, filter-append, eq-eqb m.number m.number refl) (ap (λ (xs : List Event). xs ++ event m.number k
     ∷ []) (sym (append-nil (part (m.seen ++ m.block) m.number)) ∙ calls_handed m sound))
 
-module _ (v : Visit) (after : ChairToken State View) (left : HasLeft v.mid after) (k : Kind) (may : MayMake v.was k)
-    (records : List Changes)
-    (are : AreHarvests v.was.copies records) (new : State)
-    (is : new ≡ book_closed k (handed_in v.book v.was.block) v.was.number records)
-    (fits : length v.book.journal.events + length v.was.block + 1 ≤ most_events) (sees : HasSeen v new after) where
+-- a visit that closed the interval by this event
+pub record Closed (m : Local) (b : State) (k : Kind) (records : List Changes)
+    (after : ChairToken State View) : Type 0 where
+  pub may : MayMake m k
+  pub are : AreHarvests m.copies records
+  pub fits : length b.journal.events + length m.block + 1 ≤ most_events
+  pub visit : Visit m b (book_closed k (handed_in b m.block) m.number records) after
+
+-- as the book answered
+pub closed_visit : {A : Type 0} {m : Local} {b new : State} {k : Kind} {records : List Changes}
+    {after : ChairToken State View} {block : List Event} (a : A) → MayMake m k → AreHarvests m.copies records
+    → Visit m b new after → block ≡ m.block → new ≡ book_closed k (handed_in b block) m.number records
+    → IsFullAt (length b.journal.events + length block + 1) (Ok a) → Closed m b k records after
+closed_visit {b = b} {block = block} a may are v same ok full = record {
+  may = may;
+  are = are;
+  fits = rw (← same) (had_room a (length b.journal.events + length block + 1) full);
+  visit = left_as v (rw (← same) ok);
+}
+
+module _ {m : Local} {b : State} {k : Kind} {records : List Changes} {after : ChairToken State View}
+    (t : Closed m b k records after) where
+  abbrev v : Visit m b (book_closed k (handed_in b m.block) m.number records) after
+  v = t.visit
+
   -- the processor after its interval was closed
   abbrev closed_now : Local
-  closed_now =
-      local_on after v.was [] (map cleaned v.was.copies) (replicate 64 false) (tick v.was.time v.was.number)
-      (held_after k v.was.held) (awaited k)
+  closed_now = record (on after m) {
+    block = [];
+    copies = map cleaned m.copies;
+    stored = replicate 64 false;
+    time = tick m.time m.number;
+    held = held_after k m.held;
+    awaits = awaited k;
+  }
+
+  abbrev last : State
+  last = book_closed k (handed_in b m.block) m.number records
+
+  abbrev then : Local
+  then = entered m v.finds.rest last.journal.base.cut
+
+  abbrev history : List Event
+  history = (m.seen ++ v.finds.rest) ++ (m.block ++ event m.number k ∷ [])
+
+  call : IsCallOf m b (m.block ++ event m.number k ∷ []) last
+  call = call_of_closing m v.sound b k t.may records t.are t.fits
+
+  before : IsSound then
+  before = entered_sound m b v.sound v.finds last.journal.base.cut
+
+  moved : history ≡ did ((m.seen ++ v.finds.rest) ++ m.block) m.number k
+  moved = sym (append_assoc (m.seen ++ v.finds.rest) m.block (event m.number k ∷ []))
+
+  same : closed_now ≡ closed (handed then) k
+  same =
+      now_is v (m.block ++ event m.number k ∷ []) call closed_now refl
+      ∙ ap (λ (h : List Event). record (closed (handed then) k) { seen = h }) moved
 
   -- it is as it has to be
-  pub closed_ends : IsSound closed_now × IsSeated after v.was.number v.was.sizes
-      × ((first : Option Refused) (many : ℕ) → first ≡ None
-      → IsCall first many Nothing (IsClosedBy k) (event v.was.number k ∷ []) v.was closed_now None)
-  closed_ends =
-      let was = v.was in
-      let call = call_of_closing was v.sound v.book k may records are fits in
-      let seen = subst (λ (n : State). HasSeen v n after) is sees in
-      let es = was.block ++ event v.was.number k ∷ [] in
-      let last = book_closed k (handed_in v.book was.block) was.number records in
-      let moved : ((was.seen ++ v.finds.rest) ++ es) ≡ did ((was.seen ++ v.finds.rest) ++ was.block) was.number k =
-      sym (append_assoc (was.seen ++ v.finds.rest) was.block (event v.was.number k ∷ [])) in
-      let same : closed_now ≡ closed (handed (entered was v.finds.rest last.journal.base.cut)) k =
-      now_is v after left es last call seen [] (map cleaned was.copies) (replicate 64 false)
-      (tick was.time was.number) (held_after k was.held) (awaited k)
-      ∙ ap (λ (h : List Event). record (entered was v.finds.rest last.journal.base.cut) {
-        seen = h;
-        block = [];
-        copies = map cleaned was.copies;
-        stored = replicate 64 false;
-        time = tick was.time was.number;
-        held = held_after k was.held;
-        awaits = awaited k;
-      }) moved in
-      let before = entered_sound was v.book v.sound v.finds last.journal.base.cut in
-      let P : List Event → Type 0 = λ h. WellFormed was.sizes h in
+  pub closed_good : IsSound closed_now
+  closed_good =
+      let P : List Event → Type 0 = λ h. WellFormed m.sizes h in
       let Q : List Event → Type 0 = λ h. length h ≤ most_seen in
-      let good =
-      subst IsSound (sym same) (called_sound (entered was v.finds.rest last.journal.base.cut) k before may.closes
-      may.in_range (subst P moved (call.told v.finds).well_formed) (subst Q moved (told_few v.was.sizes
-      ((was.seen ++ v.finds.rest) ++ es) last (call.told v.finds) (call.few v.finds)))) in
-      let all : calls closed_now ≡ calls (entered was v.finds.rest last.journal.base.cut) ++ event v.was.number k ∷ [] =
-      ap calls same ∙ calls_closed (entered was v.finds.rest last.journal.base.cut) k before in (
-        good,
-        now_seated v after left es last call seen [] (map cleaned was.copies) (replicate 64 false)
-            (tick was.time was.number) (held_after k was.held) (awaited k),
-        λ first many free. call_done v after left es last call seen [] (map cleaned was.copies) (replicate 64 false)
-            (tick was.time was.number) (held_after k was.held) (awaited k) first many Nothing (IsClosedBy k)
-            (event v.was.number k ∷ []) free good same all,
-      )
+      let told = call.told v.finds in
+      subst IsSound (sym same) (called_sound then k before t.may.closes t.may.in_range (subst P moved told.well_formed)
+      (subst Q moved (told_few m.sizes history last told (call.few v.finds))))
 
-  -- the same of parts that are equal to these
-  pub closed_parts : (bl : List Event) (cs : List Copied) (st : List Bool) (ti : List ℕ) (he : List Bool)
-      (aw : Option Kind) → bl ≡ [] → cs ≡ map cleaned v.was.copies → st ≡ replicate 64 false
-      → ti ≡ tick v.was.time v.was.number → he ≡ held_after k v.was.held → aw ≡ awaited k
-      → IsSound (local_on after v.was bl cs st ti he aw) × IsSeated after v.was.number v.was.sizes
-      × ((first : Option Refused) (many : ℕ) → first ≡ None → IsCall first many Nothing (IsClosedBy k)
-      (event v.was.number k ∷ []) v.was (local_on after v.was bl cs st ti he aw) None)
-  closed_parts bl cs st ti he aw u v w x y z = rw (u, v, w, x, y, z) closed_ends
+  pub closed_done : {many : ℕ}
+      → IsCall (flush_refusal m) many Nothing (IsClosedBy k) (event m.number k ∷ []) m closed_now None
+  closed_done =
+      call_done v (m.block ++ event m.number k ∷ []) call closed_now refl (not_spent v) closed_good same
+      (ap calls same ∙ calls_closed then k before)

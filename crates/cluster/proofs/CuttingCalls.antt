@@ -22,22 +22,21 @@ use Rattle.book.specs.Cutting.{WasBookCut, refused_by}
 use Rattle.book.specs.State.{State}
 use Rattle.book.specs.Told.{IsTold}
 use Rattle.book.specs.declared.refused.Refused.{Refused}
+use Rattle.book.specs.declared.refused.Refused.TheVariants.{SeatSpent}
 use Rattle.book.proofs.Keeps.Whole.{cut_law}
 use Rattle.turn.specs.declared.chair.ChairToken.{ChairToken}
 use Rattle.replicas.specs.Local.{Local, calls}
 use Rattle.replicas.specs.Sound.{IsSound}
 use Rattle.cluster.specs.declared.keeper.View.{View}
-use Rattle.cluster.specs.Covers.{Covers}
 use Rattle.cluster.specs.Cutting.{IsCuttingCall, IsUncut, MayCutOff, WasCutOff}
 use Rattle.cluster.specs.Entering.{IsCallOf, entered}
 use Rattle.cluster.specs.Kept.{view_of}
 use Rattle.cluster.specs.Refusals.{flush_refusal}
-use Rattle.cluster.specs.Seats.{IsSeated}
 use Rattle.cluster.proofs.Covering.{covers}
 use Rattle.cluster.proofs.Histories.{taken_is}
 use Rattle.cluster.proofs.Leaving.{call_of_nothing}
-use Rattle.cluster.proofs.Made.{alike_all, calls_entered, entered_sound, free_of, now_is, now_seated, few_now, now_allowed, unchanged, unchanged_after, unchanged_is, unchanged_calls, unchanged_allowed, unchanged_sound}
-use Rattle.cluster.proofs.Visiting.{Visit, HasLeft, HasSeen, local_on}
+use Rattle.cluster.proofs.Made.{alike_all, calls_entered, entered_sound, free_of, seat_spent, not_spent, now_is, now_same, few_now, now_allowed, unchanged_after, unchanged_is, unchanged_calls, unchanged_allowed, unchanged_sound}
+use Rattle.cluster.proofs.Visiting.{Visit, on}
 
 -- what is dropped makes a list no longer
 length-drop_le : {A : Type 0} (n : ℕ) (xs : List A) → length (drop n xs) ≤ length xs
@@ -127,111 +126,95 @@ module _ (s : Sizes) (h : List Event) (b : State) (told : IsTold s h b) where
   uncut BaseFull fault = (fault.0, is_cut fault.0 fault.1, fault.2)
   uncut NoMemory fault = (fault.0, may_cut_off fault.0 fault.1)
 
-module _ (v : Visit) (after : ChairToken State View) (left : HasLeft v.mid after) where
-  abbrev p : Local
-  p = v.was
+-- a call that cut
+module _ {m : Local} {b new : State} {after : ChairToken State View} (v : Visit m b new after)
+    (was : WasBookCut b new) where
+  abbrev then : Local
+  then = entered m v.finds.rest b.journal.base.cut
 
   abbrev history : List Event
-  history = p.seen ++ v.finds.rest
+  history = m.seen ++ v.finds.rest
 
-  -- a call that cut
-  module _ (new : State) (was : WasBookCut v.book new) (sees : HasSeen v new after) where
-    abbrev cut_now : Local
-    cut_now = local_on after p p.block p.copies p.stored p.time p.held p.awaits
+  call : IsCallOf m b [] new
+  call = call_of_cut m b new was
 
-    call : IsCallOf p v.book [] new
-    call = call_of_cut p v.book new was
+  same : on after m ≡ record then { cut = new.journal.base.cut }
+  same =
+      now_is v [] call (on after m) refl
+      ∙ ap (λ (h : List Event). record then { seen = h; cut = new.journal.base.cut }) (append-nil history)
 
-    same : cut_now ≡ record (entered p v.finds.rest v.book.journal.base.cut) { cut = new.journal.base.cut }
-    same =
-        now_is v after left [] new call sees p.block p.copies p.stored p.time p.held p.awaits
-        ∙ ap (λ (h : List Event). record (entered p v.finds.rest new.journal.base.cut) { seen = h })
-        (append-nil history)
+  pub cut_good : IsSound (on after m)
+  cut_good = subst IsSound (sym same) (entered_sound m b v.sound v.finds new.journal.base.cut)
 
-    sound_now : IsSound cut_now
-    sound_now = subst IsSound (sym same) (entered_sound p v.book v.sound v.finds new.journal.base.cut)
+  grown : new.journal.base.cut ≡ b.journal.base.cut + was.journal.taken
+  grown =
+      let cut = was.journal.base.cut in
+      let within = was.journal.may.place.within in
+      cut ∙ ap (λ (n : ℕ). b.journal.base.cut + n) (length-take-le was.journal.taken b.journal.events within)
 
-    grown : new.journal.base.cut ≡ v.book.journal.base.cut + was.journal.taken
-    grown =
-        let cut = was.journal.base.cut in
-        let within = was.journal.may.place.within in
-        cut ∙ ap (λ (n : ℕ). v.book.journal.base.cut + n)
-        (length-take-le was.journal.taken v.book.journal.events within)
+  race_free : RaceFree (take (b.journal.base.cut + was.journal.taken) history)
+  race_free =
+      let told = cut_law m.sizes history b new v.finds.kept.told was in
+      let P : ℕ → Type 0 = λ n. RaceFree (take n history) in
+      subst P grown (subst RaceFree (taken_is m.sizes history new told) told.holds.rest.base.race_free)
 
-    race_free : RaceFree (take (v.book.journal.base.cut + was.journal.taken) history)
-    race_free =
-        let told = cut_law p.sizes history v.book new v.finds.kept.told was in
-        let P : ℕ → Type 0 = λ n. RaceFree (take n history) in
-        subst P grown (subst RaceFree (taken_is p.sizes history new told) told.holds.rest.base.race_free)
+  cut_off : WasCutOff then (on after m)
+  cut_off = record {
+    taken = was.journal.taken;
+    may = may_cut_off m.sizes history b v.finds.kept.told was.journal.taken was.journal.may;
+    race_free = race_free;
+    after = same ∙ ap (λ (n : ℕ). record then { cut = n }) grown;
+  }
 
-    cut_off : WasCutOff (entered p v.finds.rest v.book.journal.base.cut) cut_now
-    cut_off = record {
-      taken = was.journal.taken;
-      may = may_cut_off p.sizes history v.book v.finds.kept.told was.journal.taken was.journal.may;
-      race_free = race_free;
-      after = same ∙ ap (λ (n : ℕ). record (entered p v.finds.rest v.book.journal.base.cut) { cut = n }) grown;
+  pub cut_done : IsCuttingCall m (on after m) None
+  cut_done = record {
+    same = now_same v [] call (on after m) refl;
+    outside = λ d there. absurd (free_of (flush_refusal m) d (not_spent v) there);
+    ok = λ _. (
+      record {
+        rest = v.finds.rest;
+        away = v.finds.away;
+        cut = b.journal.base.cut;
+        more = v.finds.kept.behind m.number (view_of m.sizes m.seen m.cut) v.finds.at;
+        after = cut_off;
+      },
+      few_now v [] call (on after m) refl,
+    );
+    err = λ e _ is. absurd (none-some e is);
+    calls_are = ap calls same ∙ calls_entered m b v.finds new.journal.base.cut;
+    covers = covers (on after m) cut_good;
+    allowed = λ _. now_allowed v [] call (on after m) refl;
+  }
+
+-- a call that was refused inside
+pub cut_refused : {m : Local} {b : State} {after : ChairToken State View} (v : Visit m b b after) (e : CutFault)
+    → IsCutFault b.journal e → IsCuttingCall m (on after m) (Some (refused_by e))
+cut_refused {m} {b} {after} v e fault =
+    let alike = alike_all m.copies in
+    let now = on after m in
+    let is = unchanged_is v m.copies alike in
+    let P : Local → Type 0 = λ n. IsUncut n.sizes n.seen n.cut (refused_by e) in
+    let why = subst P (sym is) (uncut m.sizes (m.seen ++ v.finds.rest) b v.finds.kept.told e fault) in
+    let Q : Refused → Type 0 = λ r. IsUncut now.sizes now.seen now.cut r in
+    record {
+      same = record { lock = v.same_lock; number = refl; sizes = refl };
+      outside = λ d there. absurd (free_of (flush_refusal m) d (not_spent v) there);
+      ok = λ none. absurd (none-some (refused_by e) (sym none));
+      err = λ d _ some. (unchanged_after v m.copies alike, subst Q (same_Some (refused_by e) d some) why);
+      calls_are = unchanged_calls v m.copies alike;
+      covers = covers now (unchanged_sound v m.copies alike);
+      allowed = λ _. unchanged_allowed v m.copies alike;
     }
 
-    pub cut_ends : IsSound cut_now × IsSeated after p.number p.sizes
-        × (flush_refusal p ≡ None → IsCuttingCall p cut_now None)
-    cut_ends = (
-      sound_now,
-      now_seated v after left [] new call sees p.block p.copies p.stored p.time p.held p.awaits,
-      λ free. record {
-        same = record { lock = ap (λ (m : Local). m.lock) same; number = refl; sizes = refl };
-        outside = λ d there. absurd (free_of (flush_refusal p) d free there);
-        ok = λ _. (
-          record {
-            rest = v.finds.rest;
-            away = v.finds.away;
-            cut = v.book.journal.base.cut;
-            more = v.finds.kept.behind p.number (view_of p.sizes p.seen p.cut) v.finds.at;
-            after = cut_off;
-          },
-          few_now v after left [] new call sees p.block p.copies p.stored p.time p.held p.awaits,
-        );
-        err = λ e _ is. absurd (none-some e is);
-        calls_are = ap calls same ∙ calls_entered p v.book v.finds new.journal.base.cut;
-        covers = covers cut_now sound_now;
-        allowed = λ _. now_allowed v after left [] new call sees p.block p.copies p.stored p.time p.held p.awaits;
-      },
-    )
-
-  -- a call that was refused inside
-  module _ (sees : HasSeen v v.book after) where
-    abbrev uncut_now : Local
-    uncut_now = unchanged v after left p.copies (alike_all p.copies) sees
-
-    pub uncut_ends : (e : CutFault) → IsCutFault v.book.journal e → flush_refusal p ≡ None
-        → IsCuttingCall p uncut_now (Some (refused_by e))
-    uncut_ends e fault free =
-        let is = unchanged_is v after left p.copies (alike_all p.copies) sees in
-        let P : Local → Type 0 = λ m. IsUncut m.sizes m.seen m.cut (refused_by e) in
-        let why = subst P (sym is) (uncut p.sizes history v.book v.finds.kept.told e fault) in
-        let Q : Refused → Type 0 = λ r. IsUncut uncut_now.sizes uncut_now.seen uncut_now.cut r in
-        record {
-          same = record { lock = ap (λ (m : Local). m.lock) is; number = refl; sizes = refl };
-          outside = λ d there. absurd (free_of (flush_refusal p) d free there);
-          ok = λ none. absurd (none-some (refused_by e) (sym none));
-          err =
-              λ d _ some. (
-                unchanged_after v after left p.copies (alike_all p.copies) sees,
-                subst Q (same_Some (refused_by e) d some) why,
-              );
-          calls_are = unchanged_calls v after left p.copies (alike_all p.copies) sees;
-          covers = covers uncut_now (unchanged_sound v after left p.copies (alike_all p.copies) sees);
-          allowed = λ _. unchanged_allowed v after left p.copies (alike_all p.copies) sees;
-        }
-
 -- a call that has entered as often as it may
-pub cut_outside : (m : Local) (e : Refused) → flush_refusal m ≡ Some e → Covers m → IsCuttingCall m m (Some e)
-cut_outside m e is covered = record {
+pub cut_spent : {m : Local} → IsSound m → m.entries ≡ m.lock.limit → IsCuttingCall m m (Some SeatSpent)
+cut_spent {m} sound all = record {
   same = record { lock = refl; number = refl; sizes = refl };
-  outside = λ d there. (sym is ∙ there, refl);
-  ok = λ none. absurd (none-some e (sym none));
-  err = λ d free _. absurd (free_of (flush_refusal m) e free is);
+  outside = λ d there. (sym (seat_spent m all) ∙ there, refl);
+  ok = λ none. absurd (none-some SeatSpent (sym none));
+  err = λ d free _. absurd (free_of (flush_refusal m) SeatSpent free (seat_spent m all));
   calls_are = refl;
-  covers = covered;
+  covers = covers m sound;
   allowed = λ h. h;
 }
 

@@ -1,7 +1,7 @@
 -- A fetch keeps a processor sound.
 use Rattle.std.proofs.Common.{ℕ, zero, suc, ◌≡◌, ◌<◌, ◌≤◌, ◌+◌, ◌↔◌, Bool, false, Some, None, List, [], ◌∷◌, ◌++◌, map, length, sum, sum_by, replicate, get_or, slice_get, slice_set, inl, inr, refl, sym, ap, subst, subst₂, ◌∙◌, append_assoc, arith}
 use Rattle.std.proofs.lemmas.Bool.{cases_eq}
-use Rattle.std.proofs.lemmas.List.{length_push, length-set, length-map}
+use Rattle.std.proofs.lemmas.List.{length-set, length-map}
 use Rattle.std.proofs.lemmas.List.Sums.{count_by-le-length, sum-map}
 use Rattle.std.proofs.lemmas.Simd.{map-map}
 use Rattle.journal.specs.declared.event.Event.{Event}
@@ -42,7 +42,7 @@ use Rattle.journal.proofs.Missing.Fetches.{words_counted}
 use Rattle.replicas.proofs.Replicas.{replica_long, replica_pushed}
 use Rattle.cluster.proofs.Refusing.{MayFetch, may_fetch, stale_copy}
 use Rattle.replicas.proofs.Steps.{item_at}
-use Rattle.cluster.proofs.Noting.{inner_pushed, valid_is_not_stale}
+use Rattle.cluster.proofs.Noting.{noted_sound, valid_is_not_stale}
 
 -- rising numbers from b on and below n are few
 pub rising_few : {A : Type 0} (f : A → ℕ) (xs : List A) (b n : ℕ) → b ≤ n → InOrder (λ (x y : A). f x < f y) xs
@@ -227,27 +227,13 @@ module _ (m : Local) (sound : IsSound m) (n : ℕ) (c : Copied) (at : slice_get 
 
     -- a fetch applies the missing records and counts them
     pub fetched_sound : IsSound (fetched_at m n c k)
-    fetched_sound = record {
-      sizes = sound.sizes;
-      mine = sound.mine;
-      few = sound.few;
-      well_formed = sound.well_formed;
-      inner = inner_pushed m (Fetch k.writers n k.records k.words) refl refl may.within sound.inner;
-      short = let grows = length_push m.block e in let room = may.room in omega arith;
-      time = sound.time;
-      bases = bases;
-      answers =
-          answers_fetched m.sizes m.seen m.block m.number n k.writers k.records k.words c.page.words new
-          (map missing_of c.missing) sound.bases stale sound.answers;
-      counts = counted_now;
-      copies = record { long = length-set m.copies n (fetched c) ∙ sound.copies.long; each = copies_now };
-      marks = sound.marks;
-      clean = clean_now;
-      held = sound.held;
-      awaits = sound.awaits;
-      quiet = λ waits. absurd (waits may.idle);
-      unstored = λ waits. absurd (waits may.idle);
-    }
+    fetched_sound =
+        noted_sound m (Fetch k.writers n k.records k.words) sound refl refl may.within may.idle may.room
+        (slice_set m.copies n (fetched c)) m.stored bases
+        (answers_fetched m.sizes m.seen m.block m.number n k.writers k.records k.words c.page.words new
+        (map missing_of c.missing) sound.bases stale sound.answers) counted_now
+        (record { long = length-set m.copies n (fetched c) ∙ sound.copies.long; each = copies_now }) sound.marks
+        clean_now
       where
         clean_now : (i : ℕ) (x : Copied) → slice_get (slice_set m.copies n (fetched c)) i ≡ Some x
             → slice_get m.stored i ≡ Some false → IsClean x.page

@@ -8,7 +8,8 @@ use Rattle.journal.specs.declared.event.Kind.{Kind}
 use Rattle.journal.specs.declared.event.Kind.TheVariants.{Load, Store}
 use Rattle.journal.specs.Events.{At, is_taking, is_closing}
 use Rattle.journal.specs.WellFormed.{KindInRange}
-use Rattle.journal.specs.Blocks.{write_in}
+use Rattle.journal.specs.Blocks.{write_in, BlockAnswers}
+use Rattle.journal.specs.Counted.{BlockCounts}
 use Rattle.journal.specs.Did.{event}
 use Rattle.journal.proofs.Copies.OpenBlocks.{answers_push}
 use Rattle.journal.proofs.Copies.Pages.{valid_load}
@@ -21,6 +22,8 @@ use Rattle.lists.proofs.Sets.{slice_get-set_found, slice_get-set_other}
 use Rattle.page.specs.declared.pages.Access.TheVariants.{Valid, Invalid}
 use Rattle.page.specs.Contents.{IsClean}
 use Rattle.book.specs.Calls.{IsInner}
+use Rattle.book.specs.Stamps.{AreAll}
+use Rattle.lists.specs.Limits.{most_in_block}
 use Rattle.replicas.specs.Copies.{Copied, IsReplica, written_at}
 use Rattle.replicas.specs.Local.{Local, noted}
 use Rattle.cluster.specs.Accesses.{stored_at}
@@ -53,143 +56,132 @@ inner_pushed m k takes closes range inner i e at = elim (push_cases m.block (eve
   })
 ]
 
--- a load answers a word of a valid copy
-pub loaded : (m : Local) (a v : ℕ) (c : Copied) → access_refusal m a ≡ None → slice_get m.copies (a / m.sizes.words)
-    ≡ Some c → slice_get c.page.words (a % m.sizes.words) ≡ Some v → IsSound m → IsSound (noted m (Load a v))
-loaded m a v c free at word sound = record {
+-- one more event of its open block keeps p sound, where its copies, its marks and what it did in the block stay right
+pub noted_sound : (m : Local) (k : Kind) → IsSound m → is_taking k ≡ false → is_closing k ≡ false
+    → KindInRange m.sizes k → m.awaits ≡ None → length m.block < most_in_block
+    → (cs : List Copied) (st : List Bool) (bases : ℕ → List ℕ)
+    → BlockAnswers m.sizes m.seen (m.block ++ event m.number k ∷ []) m.number bases
+    → BlockCounts m.sizes m.seen (m.block ++ event m.number k ∷ []) m.number
+    → AreAll m.sizes.pages (λ n c.
+    IsReplica m.sizes m.seen (m.block ++ event m.number k ∷ []) m.number n (bases n) c) cs → length st ≡ 64
+    → ((n : ℕ) (c : Copied) → slice_get cs n ≡ Some c → slice_get st n ≡ Some false → IsClean c.page)
+    → IsSound (record (noted m k) { copies = cs; stored = st })
+noted_sound m k sound takes closes range idle room cs st bases answers counts copies marks clean = record {
   sizes = sound.sizes;
   mine = sound.mine;
   few = sound.few;
   well_formed = sound.well_formed;
-  inner = inner_pushed m (Load a v) refl refl may.within sound.inner;
-  short = let long = length_push m.block e in let room = may.room in omega arith;
+  inner = inner_pushed m k takes closes range sound.inner;
+  short = let long = length_push m.block (event m.number k) in let less = room in omega arith;
   time = sound.time;
-  bases = sound.bases;
-  answers =
-      valid_load m.sizes m.seen m.block m.number a v sound.bases (sound.bases n) c.page.words refl
-      ((sound.copies.each n c at).valid valid).0 word sound.answers;
-  counts =
-      block_counts_push m.sizes m.seen m.block e m.number (λ x w r d is. absurd (cc (ap (λ (f : Event). f.kind) is)))
-      sound.counts;
-  copies = record { long = sound.copies.long; each = copies };
-  marks = sound.marks;
-  clean = sound.clean;
-  held = sound.held;
-  awaits = sound.awaits;
-  quiet = λ waits. absurd (waits may.idle);
-  unstored = λ waits. absurd (waits may.idle);
-}
-  where
-    n : ℕ
-    n = a / m.sizes.words
-
-    e : Event
-    e = event m.number (Load a v)
-
-    may : MayAccess m a
-    may = may_access m a free
-
-    valid : c.page.access ≡ Valid
-    valid = let same : may.copy ≡ c = cc (may.at, at) in subst (λ (d : Copied). d.page.access ≡ Valid) same may.valid
-
-    copies : (i : ℕ) (d : Copied) → slice_get m.copies i ≡ Some d
-        → IsReplica m.sizes m.seen (m.block ++ e ∷ []) m.number i (sound.bases i) d
-    copies i d found = replica_pushed m.sizes m.seen m.block e m.number i (sound.bases i) d d refl refl (record {
-      words = refl;
-      dirty = refl;
-      access = refl;
-      missing = refl;
-      away =
-          λ stale. (
-            (λ here. let P : ℕ → Type 0 = λ k. slice_get m.copies k ≡ Some d in
-                let same : c ≡ d = cc (at, subst P (sym here) found) in
-                valid_is_not_stale (sym valid ∙ ap (λ (x : Copied). x.page.access) same ∙ stale)),
-            refl,
-          );
-    }) (sound.copies.each i d found)
-
--- a store writes a word of a valid copy, and marks it and its page
-pub stored : (m : Local) (a v : ℕ) (c : Copied) → access_refusal m a ≡ None
-    → slice_get m.copies (a / m.sizes.words) ≡ Some c → IsSound m → IsSound (stored_at m a v c)
-stored m a v c free at sound = record {
-  sizes = sound.sizes;
-  mine = sound.mine;
-  few = sound.few;
-  well_formed = sound.well_formed;
-  inner = inner_pushed m (Store a v) refl refl may.within sound.inner;
-  short = let long = length_push m.block e in let room = may.room in omega arith;
-  time = sound.time;
-  bases = sound.bases;
-  answers =
-      answers_push m.sizes m.seen m.block e m.number sound.bases sound.answers (λ b w is.
-      absurd (cc (ap (λ (f : Event). f.kind) is)));
-  counts =
-      block_counts_push m.sizes m.seen m.block e m.number (λ x w r d is. absurd (cc (ap (λ (f : Event). f.kind) is)))
-      sound.counts;
-  copies = record { long = length-set m.copies n d ∙ sound.copies.long; each = copies };
-  marks = length-set m.stored n true ∙ sound.marks;
+  bases = bases;
+  answers = answers;
+  counts = counts;
+  copies = copies;
+  marks = marks;
   clean = clean;
   held = sound.held;
   awaits = sound.awaits;
-  quiet = λ waits. absurd (waits may.idle);
-  unstored = λ waits. absurd (waits may.idle);
+  quiet = λ waits. absurd (waits idle);
+  unstored = λ waits. absurd (waits idle);
 }
-  where
-    n : ℕ
-    n = a / m.sizes.words
 
-    e : Event
-    e = event m.number (Store a v)
+module _ (m : Local) (a v : ℕ) (c : Copied) (free : access_refusal m a ≡ None)
+    (at : slice_get m.copies (a / m.sizes.words) ≡ Some c) where
+  may : MayAccess m a
+  may = may_access m a free
 
-    d : Copied
-    d = written_at c (a % m.sizes.words) v
+  abbrev n : ℕ
+  n = a / m.sizes.words
 
-    may : MayAccess m a
-    may = may_access m a free
+  valid : c.page.access ≡ Valid
+  valid = let same : may.copy ≡ c = cc (may.at, at) in subst (λ (x : Copied). x.page.access ≡ Valid) same may.valid
 
-    valid : c.page.access ≡ Valid
-    valid = let same : may.copy ≡ c = cc (may.at, at) in subst (λ (x : Copied). x.page.access ≡ Valid) same may.valid
+  -- a load answers a word of a valid copy
+  pub loaded : slice_get c.page.words (a % m.sizes.words) ≡ Some v → IsSound m → IsSound (noted m (Load a v))
+  loaded word sound =
+      noted_sound m (Load a v) sound refl refl may.within may.idle may.room m.copies m.stored sound.bases
+      (valid_load m.sizes m.seen m.block m.number a v sound.bases (sound.bases n) c.page.words refl
+      ((sound.copies.each n c at).valid valid).0 word sound.answers)
+      (block_counts_push m.sizes m.seen m.block e m.number (λ x w r d is. absurd (cc (ap (λ (f : Event). f.kind) is)))
+      sound.counts) (record { long = sound.copies.long; each = copies }) sound.marks sound.clean
+    where
+      e : Event
+      e = event m.number (Load a v)
 
-    here : IsReplica m.sizes m.seen (m.block ++ e ∷ []) m.number n (sound.bases n) d
-    here = replica_pushed m.sizes m.seen m.block e m.number n (sound.bases n) c d refl refl (record {
-      words = sym (ap (wrote c.page.words) (store_in m.sizes n a v refl));
-      dirty = sym (ap (mark c.page.dirty) (store_in m.sizes n a v refl));
-      access = refl;
-      missing = refl;
-      away = λ stale. absurd (valid_is_not_stale (sym valid ∙ stale));
-    }) (sound.copies.each n c at)
-
-    copies : (i : ℕ) (x : Copied) → slice_get (slice_set m.copies n d) i ≡ Some x
-        → IsReplica m.sizes m.seen (m.block ++ e ∷ []) m.number i (sound.bases i) x
-    copies i x found = elim (cases_eq i n) [
-      | inl same ↦
-          (let P : ℕ → Type 0 = λ k. slice_get (slice_set m.copies n d) k ≡ Some x in
-          let is : d ≡ x = slice_get-set_found m.copies n d x (subst P same found) in
-          let Q : ℕ → Copied → Type 0 =
-          λ k y. IsReplica m.sizes m.seen (m.block ++ e ∷ []) m.number k (sound.bases k) y in
-          subst₂ Q (sym same) is here)
-      | inr other ↦ replica_pushed m.sizes m.seen m.block e m.number i (sound.bases i) x x refl refl (record {
-        words = sym (ap (wrote x.page.words) (elsewhere i other));
-        dirty = sym (ap (mark x.page.dirty) (elsewhere i other));
+      copies : (i : ℕ) (d : Copied) → slice_get m.copies i ≡ Some d
+          → IsReplica m.sizes m.seen (m.block ++ e ∷ []) m.number i (sound.bases i) d
+      copies i d found = replica_pushed m.sizes m.seen m.block e m.number i (sound.bases i) d d refl refl (record {
+        words = refl;
+        dirty = refl;
         access = refl;
         missing = refl;
-        away = λ stale. ((λ same. other (sym same)), elsewhere i other);
-      }) (sound.copies.each i x (sym (slice_get-set_other m.copies n i d other) ∙ found))
-    ]
-      where
-        elsewhere : (i : ℕ) → i ≢ n → write_in m.sizes i (Store a v) ≡ None
-        elsewhere i other = rw (ne_eqb n i (λ same. other (sym same)))
+        away =
+            λ stale. (
+              (λ here. let P : ℕ → Type 0 = λ k. slice_get m.copies k ≡ Some d in
+                  let same : c ≡ d = cc (at, subst P (sym here) found) in
+                  valid_is_not_stale (sym valid ∙ ap (λ (x : Copied). x.page.access) same ∙ stale)),
+              refl,
+            );
+      }) (sound.copies.each i d found)
 
-    clean : (i : ℕ) (x : Copied) → slice_get (slice_set m.copies n d) i ≡ Some x
-        → slice_get (slice_set m.stored n true) i ≡ Some false → IsClean x.page
-    clean i x found unmarked = elim (cases_eq i n) [
-      | inl same ↦
-          (let P : ℕ → Type 0 = λ k. slice_get (slice_set m.stored n true) k ≡ Some false in
-          let is : true ≡ false = slice_get-set_found m.stored n true false (subst P same unmarked) in
-          absurd (cc))
-      | inr other ↦ sound.clean i x (sym (slice_get-set_other m.copies n i d other) ∙ found)
-          (sym (slice_get-set_other m.stored n i true other) ∙ unmarked)
-    ]
+  -- a store writes a word of a valid copy, and marks it and its page
+  pub stored : IsSound m → IsSound (stored_at m a v c)
+  stored sound =
+      noted_sound m (Store a v) sound refl refl may.within may.idle may.room (slice_set m.copies n d)
+      (slice_set m.stored n true) sound.bases
+      (answers_push m.sizes m.seen m.block e m.number sound.bases sound.answers (λ b w is.
+      absurd (cc (ap (λ (f : Event). f.kind) is))))
+      (block_counts_push m.sizes m.seen m.block e m.number (λ x w r d is. absurd (cc (ap (λ (f : Event). f.kind) is)))
+      sound.counts) (record { long = length-set m.copies n d ∙ sound.copies.long; each = copies })
+      (length-set m.stored n true ∙ sound.marks) clean
+    where
+      e : Event
+      e = event m.number (Store a v)
+
+      d : Copied
+      d = written_at c (a % m.sizes.words) v
+
+      here : IsReplica m.sizes m.seen (m.block ++ e ∷ []) m.number n (sound.bases n) d
+      here = replica_pushed m.sizes m.seen m.block e m.number n (sound.bases n) c d refl refl (record {
+        words = sym (ap (wrote c.page.words) (store_in m.sizes n a v refl));
+        dirty = sym (ap (mark c.page.dirty) (store_in m.sizes n a v refl));
+        access = refl;
+        missing = refl;
+        away = λ stale. absurd (valid_is_not_stale (sym valid ∙ stale));
+      }) (sound.copies.each n c at)
+
+      copies : (i : ℕ) (x : Copied) → slice_get (slice_set m.copies n d) i ≡ Some x
+          → IsReplica m.sizes m.seen (m.block ++ e ∷ []) m.number i (sound.bases i) x
+      copies i x found = elim (cases_eq i n) [
+        | inl same ↦
+            (let P : ℕ → Type 0 = λ k. slice_get (slice_set m.copies n d) k ≡ Some x in
+            let is : d ≡ x = slice_get-set_found m.copies n d x (subst P same found) in
+            let Q : ℕ → Copied → Type 0 =
+            λ k y. IsReplica m.sizes m.seen (m.block ++ e ∷ []) m.number k (sound.bases k) y in
+            subst₂ Q (sym same) is here)
+        | inr other ↦ replica_pushed m.sizes m.seen m.block e m.number i (sound.bases i) x x refl refl (record {
+          words = sym (ap (wrote x.page.words) (elsewhere i other));
+          dirty = sym (ap (mark x.page.dirty) (elsewhere i other));
+          access = refl;
+          missing = refl;
+          away = λ stale. ((λ same. other (sym same)), elsewhere i other);
+        }) (sound.copies.each i x (sym (slice_get-set_other m.copies n i d other) ∙ found))
+      ]
+        where
+          elsewhere : (i : ℕ) → i ≢ n → write_in m.sizes i (Store a v) ≡ None
+          elsewhere i other = rw (ne_eqb n i (λ same. other (sym same)))
+
+      clean : (i : ℕ) (x : Copied) → slice_get (slice_set m.copies n d) i ≡ Some x
+          → slice_get (slice_set m.stored n true) i ≡ Some false → IsClean x.page
+      clean i x found unmarked = elim (cases_eq i n) [
+        | inl same ↦
+            (let P : ℕ → Type 0 = λ k. slice_get (slice_set m.stored n true) k ≡ Some false in
+            let is : true ≡ false = slice_get-set_found m.stored n true false (subst P same unmarked) in
+            absurd (cc))
+        | inr other ↦ sound.clean i x (sym (slice_get-set_other m.copies n i d other) ∙ found)
+            (sym (slice_get-set_other m.stored n i true other) ∙ unmarked)
+      ]
 
 -- the parts of a processor after a store
 pub store_done : (was m : Local) (a v page offset : ℕ) (x y : Copied) (block : List Event) (marks : List Bool)

@@ -1,7 +1,7 @@
 -- What it means that a call is not refused.
-use Rattle.std.proofs.Common.{ℕ, ◌≡◌, ◌<◌, ◌/◌, Bool, true, false, not, nat_le, cond, Option, Some, None, List, refl, sym, ap, ◌∙◌, arith, length, slice_get, get_or, subst₂, is_some}
+use Rattle.std.proofs.Common.{ℕ, ◌≡◌, ◌<◌, ◌/◌, Bool, true, false, not, nat_le, cond, Option, Some, None, List, refl, sym, ap, ◌∙◌, length, slice_get, get_or, subst₂, is_some}
 use Rattle.std.proofs.lemmas.Option.{none-some, get_or_from_slice_get}
-use Rattle.std.proofs.lemmas.Bool.Decides.{nat_tests}
+use Rattle.std.proofs.lemmas.Bool.{leb-false, not-false}
 use Rattle.page.specs.declared.pages.Access.{Access}
 use Rattle.page.specs.declared.pages.Access.TheVariants.{Valid, Invalid}
 use Rattle.book.specs.declared.refused.Refused.{Refused}
@@ -17,16 +17,10 @@ pub due_none : (b : Bool) (r : Refused) (rest : Option Refused) → cond b (Some
 due_none true r rest h = absurd (none-some r (sym h))
 due_none false r rest h = (refl, h)
 
-pub unnegated : (b : Bool) → not b ≡ false → b ≡ true
-unnegated true h = refl
-unnegated false h = absurd (cc)
-
+-- what is not there is nothing
 pub unawaited : {A : Type 0} (o : Option A) → is_some o ≡ false → o ≡ None
 unawaited None h = refl
 unawaited (Some x) h = absurd (cc)
-
-pub above : (m n : ℕ) → nat_le m n ≡ false → n < m
-above m n h = grind (arith, nat_tests)
 
 -- a copy that serves is there and valid
 pub serving : (o : Option Copied) → serves o ≡ true → (c : Copied) × (o ≡ Some c) × (c.page.access ≡ Valid)
@@ -52,14 +46,14 @@ may_access m a none =
     let two = due_none (not (has_valid m (a / m.sizes.words))) _ _ one.1 in
     let three = due_none (is_waiting m) _ _ two.1 in
     let four = due_none (is_full m) _ _ three.1 in
-    let found = serving (slice_get m.copies (a / m.sizes.words)) (unnegated _ two.0) in
+    let found = serving (slice_get m.copies (a / m.sizes.words)) (not-false _ two.0) in
     record {
-      within = above (addresses m.sizes) a one.0;
+      within = leb-false (addresses m.sizes) a one.0;
       copy = found.0;
       at = found.1;
       valid = found.2;
       idle = unawaited m.awaits three.0;
-      room = above most_in_block (length m.block) four.0;
+      room = leb-false most_in_block (length m.block) four.0;
     }
 
 -- the copy that is read at the address's page is the processor's
@@ -88,9 +82,9 @@ may_fetch m n none =
     let three = due_none (is_full m) _ _ two.1 in
     let four = due_none (has_valid m n) _ _ three.1 in
     record {
-      within = above m.sizes.pages n one.0;
+      within = leb-false m.sizes.pages n one.0;
       idle = unawaited m.awaits two.0;
-      room = above most_in_block (length m.block) three.0;
+      room = leb-false most_in_block (length m.block) three.0;
       invalid = four.0;
     }
 

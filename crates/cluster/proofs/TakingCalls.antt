@@ -1,7 +1,7 @@
 -- A call that takes what the processor waits for.
-use Rattle.std.proofs.Common.{ℕ, ◌≡◌, ◌≢◌, ◌⊎◌, ◌↔◌, ◌+◌, ◌<◌, ◌≤◌, Bool, true, true≢false, Option, Some, None, Result, Ok, Err, IfOk, OnErr, List, [], ◌∷◌, ◌++◌, filter, length, slice_get, slice_index, slice_index_or, refl, sym, ap, subst, ◌∙◌, append-nil, arith}
+use Rattle.std.proofs.Common.{ℕ, ◌≡◌, ◌≢◌, ◌⊎◌, ◌↔◌, ◌+◌, ◌≤◌, true, true≢false, Option, Some, None, Result, Ok, Err, IfOk, OnErr, List, [], ◌∷◌, ◌++◌, length, slice_get, slice_index, refl, sym, ap, subst, ◌∙◌, append-nil, arith}
 use Rattle.std.proofs.lemmas.Bool.{eq-eqb}
-use Rattle.std.proofs.lemmas.Option.{none-some, slice_get_within, slice_get-get_or}
+use Rattle.std.proofs.lemmas.Option.{none-some}
 use Rattle.std.proofs.lemmas.List.Elements.{filter-append}
 use Rattle.journal.specs.declared.event.Event.{Event}
 use Rattle.journal.specs.declared.event.Kind.{Kind}
@@ -9,43 +9,43 @@ use Rattle.journal.specs.declared.event.Kind.TheVariants.{Load, Fetch, Ask, Acqu
 use Rattle.journal.specs.Did.{event, did}
 use Rattle.journal.specs.Events.{is_taking, part}
 use Rattle.journal.specs.Missing.{AreNews, InClosingOrder}
-use Rattle.journal.specs.WellFormed.{Allowed}
+use Rattle.journal.specs.WellFormed.{Allowed, Ready}
+use Rattle.journal.specs.Sizes.{Sizes}
 use Rattle.lists.specs.Limits.{most_events}
 use Rattle.turn.specs.declared.chair.ChairToken.{ChairToken}
-use Rattle.lists.specs.Places.{Has}
-use Rattle.page.specs.Contents.{Contents}
-use Rattle.page.specs.declared.pages.Access.TheVariants.{Invalid}
 use Rattle.transit.specs.Letters.{Letter, letter}
 use Rattle.transit.specs.declared.message.Message.{Message}
 use Rattle.vtime.specs.Times.{join}
-use Rattle.interval.specs.Closings.{between, is_of_page}
+use Rattle.interval.specs.Closings.{between}
 use Rattle.interval.specs.Intervals.{SentRecord}
 use Rattle.book.specs.Brought.{message_for}
 use Rattle.book.specs.Calls.{MayTakeSome}
 use Rattle.book.specs.Laws.{IsMessage}
 use Rattle.book.specs.News.{missing_in}
 use Rattle.book.specs.State.{State, time_of}
+use Rattle.book.specs.Told.{IsTold}
 use Rattle.book.specs.Transitions.{book_taken, Takes}
 use Rattle.book.specs.declared.refused.Refused.{Refused}
-use Rattle.book.specs.declared.refused.Refused.TheVariants.{NotYet, JournalFull}
+use Rattle.book.specs.declared.refused.Refused.TheVariants.{NotYet, JournalFull, NoMemory}
+use Rattle.book.specs.Refusals.{IsFullAt}
 use Rattle.book.proofs.Keeps.Whole.{take_law, message_law, news_law, news_order_law}
 use Rattle.replicas.specs.Copies.{Copied}
 use Rattle.replicas.specs.Local.{Local, calls}
 use Rattle.replicas.specs.Sound.{IsSound, most_seen}
-use Rattle.replicas.specs.Steps.{IsAfterNews, AreAfterNews, AreSameCopies, MayLearn, found, took, held_after}
+use Rattle.replicas.specs.Steps.{AreAfterNews, AreSameCopies, MayLearn, found, took, held_after}
 use Rattle.replicas.proofs.Calls.{took_message, waits_to_take}
 use Rattle.replicas.proofs.Waiting.{may_learn}
 use Rattle.cluster.specs.declared.keeper.View.{View}
 use Rattle.cluster.specs.Calls.{IsCall}
 use Rattle.cluster.specs.Entering.{Finds, IsCallOf, entered}
-use Rattle.cluster.specs.Seats.{IsSeated}
+use Rattle.cluster.specs.Refusals.{flush_refusal}
 use Rattle.cluster.specs.Taking.{IsLate, IsTaken, HasRoomFor, MayHoldOne, awaited_event}
 use Rattle.cluster.proofs.Finding.{here_sound, awaits_found, time_found}
-use Rattle.cluster.proofs.Handing.{fits_else}
+use Rattle.cluster.proofs.Handing.{had_room}
 use Rattle.cluster.proofs.Histories.{told_few}
 use Rattle.cluster.proofs.Leaving.{call_of_nothing, call_of_event_alone}
-use Rattle.cluster.proofs.Visiting.{Visit, HasLeft, HasSeen, local_on}
-use Rattle.cluster.proofs.Made.{entered_sound, now_is, now_seated, call_done}
+use Rattle.cluster.proofs.Visiting.{Visit, on, left_as}
+use Rattle.cluster.proofs.Made.{entered_sound, not_spent, now_is, call_done, call_inside, unchanged, unchanged_seen}
 
 taking_no_load : (k : Kind) → is_taking k ≡ true → (a v : ℕ) → k ≢ Load a v
 taking_no_load k takes a v is = true≢false (sym takes ∙ ap is_taking is)
@@ -139,29 +139,72 @@ calls_taken m k u copies none =
     rw (none, append-nil, filter-append, eq-eqb m.number m.number refl)
     (ap (λ (xs : List Event). xs ++ event m.number k ∷ []) (sym (append-nil (part m.seen m.number))))
 
--- a book that wasn't full has room for the event
-pub take_fits : {A : Type 0} (a : A) (n : ℕ) → (◌≢◌ {A = Result A Refused} (Ok a) (Err NotYet)
-    → ◌≡◌ {A = Result A Refused} (Ok a) (Err JournalFull) ↔ (most_events < n)) → n ≤ most_events
-take_fits {A} a n full =
-    fits_else n (◌≡◌ {A = Result A Refused} (Ok a) (Err JournalFull)) (full (λ h. absurd (cc h))) (λ h. absurd (cc h))
-
 module _ (m : Local) (sound : IsSound m) (b : State) (k : Kind) (waits : m.awaits ≡ Some k) (f : Finds m b) where
   -- whatever the book answers, it is a call of p
   pub call_of_receive : (r : Result Message Refused) (new : State) → IfOk r (λ x. Takes b m.number (letter x) new)
       → OnErr r (new ≡ b) → (◌≢◌ {A = Result Message Refused} r (Err NotYet)
-      → ◌≡◌ {A = Result Message Refused} r (Err JournalFull) ↔ (most_events < length b.journal.events + 1))
-      → (es : List Event) × IsCallOf m b es new
+      → IsFullAt (length b.journal.events + 1) r) → (es : List Event) × IsCallOf m b es new
   call_of_receive (Ok x) new ok err full =
-      let t = taken_message m sound b k waits (letter x) new f ok in (
-        event m.number k ∷ [],
-        rw (t.1)
-            (call_of_take m sound b k waits (letter x) t.0 (take_fits x (length b.journal.events + 1) full)),
-      )
+      let t = taken_message m sound b k waits (letter x) new f ok in
+      let fits = had_room x (length b.journal.events + 1) (full (λ h. absurd (cc h))) in
+      (event m.number k ∷ [], rw (t.1) (call_of_take m sound b k waits (letter x) t.0 fits))
   call_of_receive (Err e) new ok err full = ([], rw err (call_of_nothing m b))
 
+-- a take that the book refused
+pub take_refused : {m : Local} {b : State} {after : ChairToken State View} {done : Local → Local → Type 0}
+    {added : List Event} (v : Visit m b b after) (cs : List Copied) (alike : AreSameCopies m.copies cs) (e : Refused)
+    → ((s : Sizes) (h : List Event) → IsTold s h b
+    → ◌≡◌ {A = Result Message Refused} (Err e) (Err NotYet) ↔ (¬ Ready s h m.number))
+    → (◌≢◌ {A = Result Message Refused} (Err e) (Err NotYet)
+    → IsFullAt {A = Message} (length b.journal.events + 1) (Err e))
+    → (e ≡ NotYet) ⊎ (e ≡ JournalFull) ⊎ (e ≡ NoMemory)
+    → IsCall (flush_refusal m) 1 IsLate done added m (unchanged v cs alike) (Some e)
+take_refused {m} {b} v cs alike e absent full why =
+    call_inside v cs alike e (not_spent v) why (
+      (λ is. late.0 (ap (λ (x : Refused). Err x) is)),
+      λ so. (let is = late.1 so in cc is),
+    ) (λ in_time. let both = full (λ is. in_time (late.0 is)) in (
+      (λ is. both.0 (ap (λ (x : Refused). Err x) is)),
+      λ more. (let is = both.1 more in cc is),
+    ))
+  where
+    late : ◌≡◌ {A = Result Message Refused} (Err e) (Err NotYet) ↔ IsLate (unchanged v cs alike)
+    late = rw (unchanged_seen v cs alike) (absent m.sizes (m.seen ++ v.finds.rest) v.finds.kept.told)
+
+-- a visit that took what p waits for
+pub record Took (m : Local) (b : State) (k : Kind) (x : Letter) (after : ChairToken State View) : Type 0 where
+  pub waits : m.awaits ≡ Some k
+  pub come : message_for b m.number k ≡ Some x
+  pub fits : length b.journal.events + 1 ≤ most_events
+  pub visit : Visit m b (book_taken b m.number k x) after
+
+-- as the book answered
+pub took_visit : {A : Type 0} {m : Local} {b new : State} {k : Kind} {x : Letter} {after : ChairToken State View}
+    (a : A) → m.awaits ≡ Some k → Visit m b new after → Takes b m.number x new
+    → (◌≢◌ {A = Result A Refused} (Ok a) (Err NotYet) → IsFullAt (length b.journal.events + 1) (Ok a))
+    → Took m b k x after
+took_visit {m = m} {b} {new} {k} {x} a waits visit ok full =
+    let t = taken_message m visit.sound b k waits x new visit.finds ok in
+    record {
+      waits = waits;
+      come = t.0;
+      fits = had_room a (length b.journal.events + 1) (full (λ h. absurd (cc h)));
+      visit = left_as visit t.1;
+    }
+
+module _ {m : Local} {b : State} {k : Kind} {x : Letter} {after : ChairToken State View} (t : Took m b k x after) where
+  abbrev sound : IsSound m
+  sound = t.visit.sound
+
+  abbrev f : Finds m b
+  f = t.visit.finds
+
+  brings : IsMessage m.sizes (m.seen ++ f.rest) b m.number k x
+  brings = message m sound b k t.waits x t.come f
+
   -- a lock that it takes is one of those that it may hold
-  pub may_hold_taken : (x : Letter) → message_for b m.number k ≡ Some x → MayHoldOne (length m.held) k
-  may_hold_taken x come = go k (message m sound b k waits x come f).allowed
+  pub may_hold_taken : MayHoldOne (length m.held) k
+  may_hold_taken = go k brings.allowed
     where
       go : (j : Kind) → Allowed m.sizes (m.seen ++ f.rest) m.number j → MayHoldOne (length m.held) j
       go (Acquire l) may =
@@ -171,107 +214,53 @@ module _ (m : Local) (sound : IsSound m) (b : State) (k : Kind) (waits : m.await
       go _ may = tt
 
   -- the timestamp of what it takes has an entry for each processor
-  pub taken_long : (x : Letter) → message_for b m.number k ≡ Some x → length x.time ≡ length m.time
-  taken_long x come = (message m sound b k waits x come f).time.long ∙ sym sound.time.long
+  pub taken_long : length x.time ≡ length m.time
+  taken_long = brings.time.long ∙ sym sound.time.long
 
   -- what it takes may be learned by copies with room for it
-  pub may_learn_taken : (x : Letter) (come : message_for b m.number k ≡ Some x) (copies : List Copied)
-      → AreSameCopies m.copies copies → HasRoomFor x.notices copies → MayLearn copies x.notices
-  may_learn_taken x come copies alike room =
+  pub may_learn_taken : (copies : List Copied) → AreSameCopies m.copies copies → HasRoomFor x.notices copies
+      → MayLearn copies x.notices
+  may_learn_taken copies alike room =
       may_learn (found m f.rest) (here_sound m sound b f) copies alike waiting x.notices
-      (slice_index (join m.time x.time)) (news_taken m sound b k waits x come f) order room
+      (slice_index (join m.time x.time)) (news_taken m sound b k t.waits x t.come f) order room
     where
       waiting : m.awaits ≢ None
-      waiting none = none-some k (sym none ∙ waits)
+      waiting none = none-some k (sym none ∙ t.waits)
 
       order : (n : ℕ) → InClosingOrder (missing_in n x.notices)
       order n =
-          rw ((message m sound b k waits x come f).notices)
-          (news_order_law m.sizes (m.seen ++ f.rest) b n (time_of b m.number) x.time f.kept.told)
+          rw (brings.notices) (news_order_law m.sizes (m.seen ++ f.rest) b n (time_of b m.number) x.time f.kept.told)
 
--- why the book refused a take
-pub refused_take : (e : Refused) (Late P : Type 0) → ◌≡◌ {A = Result Message Refused} (Err e) (Err NotYet) ↔ Late
-    → (◌≢◌ {A = Result Message Refused} (Err e) (Err NotYet)
-    → ◌≡◌ {A = Result Message Refused} (Err e) (Err JournalFull) ↔ P)
-    → (e ≡ NotYet ↔ Late) × (¬ Late → e ≡ JournalFull ↔ P)
-refused_take e Late P late full = (
-  ((λ is. late.0 (ap (λ (x : Refused). Err x) is)), λ so. (let is = late.1 so in cc is)),
-  λ not_late. (let both = full (λ is. not_late (late.0 is)) in
-      ((λ is. both.0 (ap (λ (x : Refused). Err x) is)), λ more. (let is = both.1 more in cc is))),
-)
+  module _ (cs : List Copied) (told : AreAfterNews m.copies x.notices cs) where
+    -- the processor after it took
+    abbrev taken_now : Local
+    taken_now = record (on after m) {
+      copies = cs;
+      time = join m.time x.time;
+      held = held_after k m.held;
+      awaits = None;
+    }
 
-module _ (v : Visit) (after : ChairToken State View) (left : HasLeft v.mid after) (k : Kind)
-    (waits : v.was.awaits ≡ Some k) (x : Letter)
-    (come : message_for v.book v.was.number k ≡ Some x) (new : State) (is : new ≡ book_taken v.book v.was.number k x)
-    (fits : length v.book.journal.events + 1 ≤ most_events) (sees : HasSeen v new after) (cs : List Copied)
-    (told : AreAfterNews v.was.copies x.notices cs) where
-  -- the processor after it took
-  abbrev taken_now : Local
-  taken_now = local_on after v.was v.was.block cs v.was.stored (join v.was.time x.time) (held_after k v.was.held) None
+    abbrev then : Local
+    then = entered m f.rest b.journal.base.cut
 
-  -- it is as it has to be
-  pub taken_ends : IsSound taken_now × IsSeated after v.was.number v.was.sizes × ((first : Option Refused) → first
-      ≡ None → IsCall first 1 IsLate IsTaken (awaited_event v.was.number v.was.awaits) v.was taken_now None)
-  taken_ends =
-      let was = v.was in
-      let call = call_of_take was v.sound v.book k waits x come fits in
-      let seen = subst (λ (n : State). HasSeen v n after) is sees in
-      let es = event was.number k ∷ [] in
-      let last = book_taken v.book was.number k x in
-      let same : taken_now ≡ took (entered was v.finds.rest v.book.journal.base.cut) k x.time cs =
-      now_is v after left es last call seen was.block cs was.stored (join was.time x.time) (held_after k was.held)
-      None in
-      let good =
-      subst IsSound (sym same) (taken_sound was v.sound v.book k waits x come v.finds cs told
-      (told_few was.sizes ((was.seen ++ v.finds.rest) ++ es) last (call.told v.finds) (call.few v.finds))
-      v.book.journal.base.cut) in
-      let done =
-      subst (IsTaken (entered was v.finds.rest v.book.journal.base.cut)) (sym same)
-      (taken was v.sound v.book k waits x come v.finds cs told v.book.journal.base.cut) in
-      let quiet : was.block ≡ [] = v.sound.quiet (λ none. none-some k (sym none ∙ waits)) in
-      let all : calls taken_now
-      ≡ calls (entered was v.finds.rest v.book.journal.base.cut) ++ awaited_event v.was.number v.was.awaits =
-      ap calls same ∙ calls_taken (entered was v.finds.rest v.book.journal.base.cut) k x.time cs quiet
-      ∙ ap (λ (w : Option Kind). calls (entered was v.finds.rest v.book.journal.base.cut)
-      ++ awaited_event v.was.number w) (sym waits) in (
-        good,
-        now_seated v after left es last call seen was.block cs was.stored (join was.time x.time)
-            (held_after k was.held) None,
-        λ first free. call_done v after left es last call seen was.block cs was.stored (join was.time x.time)
-            (held_after k was.held) None first 1 IsLate IsTaken (awaited_event v.was.number v.was.awaits) free good
-            done all,
-      )
+    call : IsCallOf m b (event m.number k ∷ []) (book_taken b m.number k x)
+    call = call_of_take m sound b k t.waits x t.come t.fits
 
-  -- the same of parts that are equal to these
-  pub taken_parts : (ti : List ℕ) (he : List Bool) (aw : Option Kind) → ti ≡ join v.was.time x.time
-      → he ≡ held_after k v.was.held → aw ≡ None → IsSound (local_on after v.was v.was.block cs v.was.stored ti he aw)
-      × IsSeated after v.was.number v.was.sizes × ((first : Option Refused) → first ≡ None
-      → IsCall first 1 IsLate IsTaken (awaited_event v.was.number v.was.awaits) v.was
-      (local_on after v.was v.was.block cs v.was.stored ti he aw) None)
-  taken_parts ti he aw u v w = rw (u, v, w) taken_ends
+    same : taken_now ≡ took then k x.time cs
+    same = now_is t.visit (event m.number k ∷ []) call taken_now refl
 
--- copies that are alike come to the same by the same news
-pub after_alike : (xs ys zs : List Copied) (sent : List SentRecord) → AreSameCopies xs ys → AreAfterNews ys sent zs
-    → AreAfterNews xs sent zs
-after_alike xs ys zs sent alike after = record { all = after.all ∙ alike.all; each = each }
-  where
-    each : (n : ℕ) (c e : Copied) → slice_get xs n ≡ Some c → slice_get zs n ≡ Some e
-        → IsAfterNews c (filter (is_of_page n) sent) e
-    each n c e at there =
-        let within = slice_get_within xs n c at in
-        let all = alike.all in
-        let d = slice_index_or ys n c in
-        let between = slice_get-get_or ys n c (omega arith) in
-        let first = alike.each n c d at between in
-        let second = after.each n d e between there in
-        record {
-          none = λ h. (let then = second.none h in record {
-            page = then.page ∙ first.page;
-            missing = then.missing ∙ first.missing;
-          });
-          page = λ h. second.page h ∙ ap (λ (x : Contents). record x { access = Invalid }) first.page;
-          lacks =
-              subst (λ (ms : List SentRecord). (x : SentRecord)
-              → Has e.missing x ↔ (Has ms x ⊎ Has (filter (is_of_page n) sent) x)) first.missing second.lacks;
-          order = second.order;
-        }
+    -- it is as it has to be
+    pub taken_good : IsSound taken_now
+    taken_good =
+        subst IsSound (sym same) (taken_sound m sound b k t.waits x t.come f cs told
+        (told_few m.sizes ((m.seen ++ f.rest) ++ event m.number k ∷ []) (book_taken b m.number k x) (call.told f)
+        (call.few f)) b.journal.base.cut)
+
+    pub taken_done : IsCall (flush_refusal m) 1 IsLate IsTaken (awaited_event m.number m.awaits) m taken_now None
+    taken_done =
+        let quiet : m.block ≡ [] = sound.quiet (λ none. none-some k (sym none ∙ t.waits)) in
+        call_done t.visit (event m.number k ∷ []) call taken_now refl (not_spent t.visit) taken_good
+        (subst (IsTaken then) (sym same) (taken m sound b k t.waits x t.come f cs told b.journal.base.cut))
+        (ap calls same ∙ calls_taken then k x.time cs quiet
+        ∙ ap (λ (w : Option Kind). calls then ++ awaited_event m.number w) (sym t.waits))

@@ -1,229 +1,133 @@
--- A processor's chair before, inside and after a call.
-use Rattle.std.proofs.Common.{ℕ, ◌≡◌, ◌+◌, Bool, Option, Some, List, ◌++◌, slice_get, slice_set, refl, sym, ap, ap₂, subst₂, ◌∙◌}
+-- A processor's chair before, inside and after a call. The calls that enter have goals of one shape, each over a record
+-- of its own steps, which no lemma can be stated of: what they share is said here and in Made, over plain variables.
+use Rattle.std.proofs.Common.{ℕ, ◌≡◌, ◌<◌, ◌+◌, Some, List, ◌++◌, slice_get, slice_set, refl, sym, ap, ap₂, subst, subst₂, ◌∙◌}
 use Rattle.journal.specs.declared.event.Event.{Event}
-use Rattle.journal.specs.declared.event.Kind.{Kind}
 use Rattle.journal.specs.Sizes.{Sizes}
 use Rattle.lists.proofs.Sets.{slice_get-set_same}
 use Rattle.std.proofs.lemmas.Option.{slice_get_within}
-use Rattle.turn.specs.Chairs.{LockId, lock, place, view, entries, IsOutside, IsInside, IsSameChair}
+use Rattle.turn.specs.Chairs.{LockId, lock, view, entries, IsInside}
 use Rattle.turn.specs.declared.chair.ChairToken.{ChairToken}
 use Rattle.turn.specs.declared.chair.Held.{Held}
 use Rattle.book.specs.State.{State}
-use Rattle.replicas.specs.Copies.{Copied}
 use Rattle.replicas.specs.Local.{Local}
 use Rattle.replicas.specs.Sound.{IsSound}
 use Rattle.cluster.specs.declared.keeper.View.{View}
 use Rattle.cluster.specs.Seats.{local, IsSeated}
-use Rattle.cluster.specs.Kept.{Sees, added, view_of}
+use Rattle.cluster.specs.Kept.{added, view_of}
 use Rattle.cluster.specs.Covers.{IsAllowed}
-use Rattle.cluster.specs.Entering.{Finds, FindsBook, HasEntered, IsCallOf, IsChairOf, entered}
+use Rattle.cluster.specs.Entering.{Finds, FindsBook, HasEntered, HasLeft, IsCallOf, IsChairOf}
 use Rattle.cluster.proofs.Leaving.{finds, call_kept}
 
--- the view of a chair that is seated
-seated_view : (c : ChairToken State View) (p : ℕ) (s : Sizes) → IsSeated c p s
-    → view c ≡ view_of s (view c).seen (view c).cut
-seated_view c p s seated = ap (λ (z : Sizes). view_of z (view c).seen (view c).cut) seated.shape_is
+-- the processor on this chair
+abbrev pub on : ChairToken State View → Local → Local
+on chair m = local chair m.number m.sizes m.block m.copies m.stored m.time m.held m.awaits
 
--- processors of the same lock, entries and journal, and the same parts
-same_parts : (l l' : LockId) (e e' p : ℕ) (s : Sizes) (h h' : List Event) (k k' : ℕ) (bl : List Event)
-    (cs : List Copied) (st : List Bool) (ti : List ℕ) (he : List Bool) (aw : Option Kind) → l ≡ l' → e ≡ e'
-    → h ≡ h' → k ≡ k'
-    → ◌≡◌ {A = Local} (record {
-      lock = l;
-      entries = e;
-      number = p;
-      sizes = s;
-      seen = h;
-      cut = k;
-      block = bl;
-      copies =
-          cs;
-      stored = st;
-      time = ti;
-      held = he;
-      awaits = aw;
-    }) (record {
-      lock = l';
-      entries = e';
-      number = p;
-      sizes = s;
-      seen = h';
-      cut = k';
-      block = bl;
-      copies = cs;
-      stored = st;
-      time = ti;
-      held = he;
-      awaits = aw;
-    })
-same_parts l l' e e' p s h h' k k' bl cs st ti he aw a b c d = rw (a, b, c, d) refl
-
--- what p knows of a chair that is seated
-pub inside_of : (old mid : ChairToken State View) (m : Local) (right : Held) (b : State) → HasEntered old mid right b
-    → IsSeated old m.number m.sizes → (m.seen ≡ (view old).seen) × (m.cut ≡ (view old).cut) → IsChairOf m mid
-inside_of old mid m right b into seated seen = record {
-  place_is = into.same.1 ∙ seated.place_is;
-  view_is = into.view_is ∙ seated_view old m.number m.sizes seated ∙ ap₂ (view_of m.sizes) (sym seen.0) (sym seen.1);
-}
-
--- and of the book that its lock keeps
-pub book_of : (old : ChairToken State View) (m : Local) (b : State) → IsSeated old m.number m.sizes
-    → (m.seen ≡ (view old).seen) × (m.cut ≡ (view old).cut) → FindsBook old b → Finds m b
-book_of old m b seated seen stands =
-    let P : ℕ → View → Type 0 = λ k v. slice_get stands.0 k ≡ Some v in
-    finds m b stands.0 (subst₂ P seated.place_is (seated_view old m.number m.sizes seated
-    ∙ ap₂ (view_of m.sizes) (sym seen.0) (sym seen.1)) stands.1) stands.2
-
--- a processor that entered, and found this book
-pub record Visit : Type 0 where
-  pub was : Local
-  pub old : ChairToken State View
-  pub mid : ChairToken State View
-  pub right : Held
-  pub book : State
-  pub into : HasEntered old mid right book
-  pub seated : IsSeated old was.number was.sizes
-  pub same_lock : was.lock ≡ lock old
-  pub same_entries : was.entries ≡ entries old
-  pub same_seen : (was.seen ≡ (view old).seen) × (was.cut ≡ (view old).cut)
-  pub sound : IsSound was
-  pub finds : Finds was book
-
--- as its chair tells
-abbrev pub visit_of : (m : Local) (old mid : ChairToken State View) (right : Held) (b : State)
-    → HasEntered old mid right b → FindsBook old b → IsSeated old m.number m.sizes → IsSound m → m.lock ≡ lock old
-    → m.entries ≡ entries old → (m.seen ≡ (view old).seen) × (m.cut ≡ (view old).cut) → Visit
-visit_of m old mid right b into stands seated sound same_lock same_entries same_seen = record {
-  was = m;
-  old = old;
-  mid = mid;
-  right = right;
-  book = b;
-  into = into;
-  seated = seated;
-  same_lock = same_lock;
-  same_entries = same_entries;
-  same_seen = same_seen;
-  sound = sound;
-  finds = book_of old m b seated same_seen stands;
-}
-
--- what p knows of the book that it leaves
-abbrev pub Leaves : ChairToken State View → Held → State → ChairToken State View → Type 0
-Leaves mid right new after = (b : State) → IsInside mid right b → Sees b new (place mid) (view mid) (view after)
-
--- and of the book that it found, where it left so
-pub book_left : (old mid after : ChairToken State View) (m : Local) (right : Held) (b new : State)
-    → HasEntered old mid right b → IsSeated old m.number m.sizes
-    → (m.seen ≡ (view old).seen) × (m.cut ≡ (view old).cut) → Leaves mid right new after → Finds m b
-book_left old mid after m right b new into seated seen leaves =
-    let sees = leaves b into.inside in
-    let chair = inside_of old mid m right b into seated seen in
-    let P : ℕ → View → Type 0 = λ k v. slice_get sees.views k ≡ Some v in
-    finds m b sees.views (subst₂ P chair.place_is chair.view_is sees.at) ((view mid).shape, sees.history, sees.kept)
-
--- the visit with what is known of it then
-abbrev pub visit_left : (m : Local) (old mid after : ChairToken State View) (right : Held) (b new : State)
-    → HasEntered old mid right b → Leaves mid right new after → IsSeated old m.number m.sizes → IsSound m
-    → m.lock ≡ lock old → m.entries ≡ entries old → (m.seen ≡ (view old).seen) × (m.cut ≡ (view old).cut) → Visit
-visit_left m old mid after right b new into leaves seated sound same_lock same_entries same_seen = record {
-  was = m;
-  old = old;
-  mid = mid;
-  right = right;
-  book = b;
-  into = into;
-  seated = seated;
-  same_lock = same_lock;
-  same_entries = same_entries;
-  same_seen = same_seen;
-  sound = sound;
-  finds = book_left old mid after m right b new into seated same_seen leaves;
-}
-
--- the chair's view afterwards: the history that it found, and the events that were added
-pub record HasSeen (v : Visit) (new : State) (after : ChairToken State View) : Type 0 where
-  pub shape : (view after).shape ≡ (view v.mid).shape
-  pub seen : (view after).seen ≡ (v.was.seen ++ v.finds.rest) ++ added v.book.journal new.journal
+-- p entered, found this book and left the new one: what its chair tells then
+pub record Visit (m : Local) (b new : State) (after : ChairToken State View) : Type 0 where
+  pub sound : IsSound m
+  pub some_left : m.entries < m.lock.limit
+  pub finds : Finds m b
+  pub seated : IsSeated after m.number m.sizes
+  pub same_lock : lock after ≡ m.lock
+  pub once_more : entries after ≡ m.entries + 1
+  pub seen : (view after).seen ≡ (m.seen ++ finds.rest) ++ added b.journal new.journal
   pub cut : (view after).cut ≡ new.journal.base.cut
 
-pub seen_left : (m : Local) (old mid after : ChairToken State View) (right : Held) (b new : State)
-    (into : HasEntered old mid right b) (leaves : Leaves mid right new after)
-    (seated : IsSeated old m.number m.sizes) (sound : IsSound m) (same_lock : m.lock ≡ lock old)
-    (same_entries : m.entries ≡ entries old) (same_seen : (m.seen ≡ (view old).seen) × (m.cut ≡ (view old).cut))
-    → HasSeen (visit_left m old mid after right b new into leaves seated sound same_lock same_entries same_seen) new
-    after
-unfolding book_left
-seen_left m old mid after right b new into leaves seated sound same_lock same_entries same_seen =
-    let sees = leaves b into.inside in
-    let chair = inside_of old mid m right b into seated same_seen in
-    let P : ℕ → View → Type 0 = λ k v. slice_get sees.views k ≡ Some v in
-    let goes = sees.kept.each m.number (view_of m.sizes m.seen m.cut) (subst₂ P chair.place_is chair.view_is sees.at) in
-    record {
-      shape = sees.shape;
-      seen = sees.seen ∙ ap (λ (h : List Event). h ++ added b.journal new.journal) goes.begins;
-      cut = sees.cut;
-    }
+-- of a book that is left as this one
+pub left_as : {m : Local} {b new last : State} {after : ChairToken State View} → Visit m b new after → new ≡ last
+    → Visit m b last after
+left_as {m} {b} {new} {last} {after} v is = subst (λ (n : State). Visit m b n after) is v
 
--- the right to be inside was given back
-abbrev pub HasLeft : ChairToken State View → ChairToken State View → Type 0
-HasLeft mid after = IsSameChair mid after × (entries after ≡ entries mid) × IsOutside after
+module _ {m : Local} {old : ChairToken State View} (sound : IsSound m) (seated : IsSeated old m.number m.sizes)
+    (is : m ≡ on old m) where
+  -- what the chair has seen is what p has
+  view_is : view old ≡ view_of m.sizes m.seen m.cut
+  view_is =
+      ap (λ (z : Sizes). view_of z (view old).seen (view old).cut) seated.shape_is
+      ∙ ap₂ (view_of m.sizes) (sym (ap (λ (x : Local). x.seen) is)) (sym (ap (λ (x : Local). x.cut) is))
 
--- the processor on its chair afterwards, with these parts
-abbrev pub local_on : ChairToken State View → Local → List Event → List Copied → List Bool → List ℕ → List Bool
-    → Option Kind → Local
-local_on after m block copies stored time held awaits =
-    local after m.number m.sizes block copies stored time held awaits
+  chair_of : {mid : ChairToken State View} {right : Held} {b : State} → HasEntered old mid right b → IsChairOf m mid
+  chair_of into =
+      record { place_is = into.same.1 ∙ seated.place_is; view_is = into.view_is ∙ view_is }
 
-module _ (v : Visit) (es : List Event) (new : State) (call : IsCallOf v.was v.book es new)
-    (after : ChairToken State View) (left : HasLeft v.mid after) (sees : HasSeen v new after) where
+  -- the book that it finds
+  pub book_found : (b : State) → FindsBook old b → Finds m b
+  book_found b stands =
+      let P : ℕ → View → Type 0 = λ k v. slice_get stands.0 k ≡ Some v in
+      finds m b stands.0 (subst₂ P seated.place_is view_is stands.1) stands.2
+
+  -- a call of p may be given back
+  pub may_give_back : {mid : ChairToken State View} {right : Held} {b new : State} → HasEntered old mid right b
+      → ((es : List Event) × IsCallOf m b es new) → (n : Local) × (found : State) × (es : List Event)
+      × IsChairOf n mid × IsInside mid right found × IsCallOf n found es new
+  may_give_back {b = b} into call = (m, b, call.0, chair_of into, into.inside, call.1)
+
+  -- and it was
+  pub visited : {mid after : ChairToken State View} {right : Held} {b new : State} → HasEntered old mid right b
+      → HasLeft mid after right new → Visit m b new after
+  visited {mid} {b = b} {new} into left =
+      let sees = left.seen b into.inside in
+      let chair = chair_of into in
+      let P : ℕ → View → Type 0 = λ k v. slice_get sees.views k ≡ Some v in
+      let at = subst₂ P chair.place_is chair.view_is sees.at in
+      let goes = sees.kept.each m.number (view_of m.sizes m.seen m.cut) at in
+      let times = ap (λ (x : Local). x.entries) is in
+      let mine = ap (λ (x : Local). x.lock) is in
+      record {
+        sound = sound;
+        some_left = rw (times, mine) into.some_left;
+        finds = finds m b sees.views at ((view mid).shape, sees.history, sees.kept);
+        seated = record {
+          place_is = left.same.1 ∙ chair.place_is;
+          shape_is = sees.shape ∙ ap (λ (x : View). x.shape) into.view_is ∙ seated.shape_is;
+          outside = left.outside;
+        };
+        same_lock = left.same.0 ∙ into.same.0 ∙ sym mine;
+        once_more = left.entries_are ∙ into.once_more ∙ ap (λ (n : ℕ). n + 1) (sym times);
+        seen = sees.seen ∙ ap (λ (h : List Event). h ++ added b.journal new.journal) goes.begins;
+        cut = sees.cut;
+      }
+
+-- a processor whose chair tells the same
+same_told : (n : Local) (l l' : LockId) (e e' : ℕ) (h h' : List Event) (k k' : ℕ) → l ≡ l' → e ≡ e' → h ≡ h' → k ≡ k'
+    → record n { lock = l; entries = e; seen = h; cut = k } ≡ record n { lock = l'; entries = e'; seen = h'; cut = k' }
+same_told n l l' e e' h h' k k' a b c d = rw (a, b, c, d) refl
+
+module _ {m : Local} {b new : State} {after : ChairToken State View} (v : Visit m b new after) (es : List Event)
+    (call : IsCallOf m b es new) where
   -- what it has seen then
   abbrev pub seen_then : List Event
-  seen_then = (v.was.seen ++ v.finds.rest) ++ es
-
-  pub seated_after : IsSeated after v.was.number v.was.sizes
-  seated_after = record {
-    place_is = left.0.1 ∙ v.into.same.1 ∙ v.seated.place_is;
-    shape_is = sees.shape ∙ ap (λ (x : View). x.shape) v.into.view_is ∙ v.seated.shape_is;
-    outside = left.2;
-  }
-
-  seen_after : (view after).seen ≡ seen_then
-  seen_after = sees.seen ∙ ap (λ (xs : List Event). (v.was.seen ++ v.finds.rest) ++ xs) call.adds
+  seen_then = (m.seen ++ v.finds.rest) ++ es
 
   -- the processor afterwards, whatever else it changed
-  pub local_after : (bl : List Event) (cs : List Copied) (st : List Bool) (ti : List ℕ) (he : List Bool)
-      (aw : Option Kind)
-      → local_on after v.was bl cs st ti he aw
-      ≡ record (entered v.was v.finds.rest new.journal.base.cut) {
+  pub local_after : (n : Local) → n ≡ record (on after n) { number = m.number; sizes = m.sizes }
+      → n ≡ record n {
+        lock = m.lock;
+        entries = m.entries + 1;
+        number = m.number;
+        sizes = m.sizes;
         seen = seen_then;
-        block = bl;
-        copies = cs;
-        stored = st;
-        time = ti;
-        held = he;
-        awaits = aw;
+        cut = new.journal.base.cut;
       }
-  local_after bl cs st ti he aw =
-      let lock_is = left.0.0 ∙ v.into.same.0 ∙ sym v.same_lock in
-      let once_more = left.1 ∙ v.into.once_more ∙ ap (λ (n : ℕ). n + 1) (sym v.same_entries) in
-      same_parts (lock after) v.was.lock (entries after) (v.was.entries + 1) v.was.number v.was.sizes
-      (view after).seen seen_then (view after).cut new.journal.base.cut bl cs st ti he aw lock_is once_more
-      seen_after sees.cut
+  local_after n own =
+      let seen_is = v.seen ∙ ap (λ (xs : List Event). (m.seen ++ v.finds.rest) ++ xs) call.adds in
+      own
+      ∙ same_told (record n { number = m.number; sizes = m.sizes }) (lock after) m.lock (entries after) (m.entries + 1)
+      (view after).seen seen_then (view after).cut new.journal.base.cut v.same_lock v.once_more seen_is v.cut
 
   -- the lock's fact allows what it has seen
-  pub allowed_after : (m : Local) → m.number ≡ v.was.number → m.sizes ≡ v.was.sizes → m.seen ≡ seen_then
-      → m.cut ≡ new.journal.base.cut → IsAllowed m
-  allowed_after m number sizes seen cut =
+  pub allowed_after : (n : Local) → n.number ≡ m.number → n.sizes ≡ m.sizes → n.seen ≡ seen_then
+      → n.cut ≡ new.journal.base.cut → IsAllowed n
+  allowed_after n number sizes seen cut =
       let f = v.finds in
-      let now = view_of v.was.sizes seen_then new.journal.base.cut in (
+      let now = view_of m.sizes seen_then new.journal.base.cut in (
         seen_then,
         record {
           book = new;
-          views = slice_set f.views v.was.number now;
+          views = slice_set f.views m.number now;
           mine =
-              rw (number, sizes, seen, cut) (slice_get-set_same f.views v.was.number now
-              (slice_get_within f.views v.was.number (view_of v.was.sizes v.was.seen v.was.cut) f.at));
-          kept = rw sizes (call_kept v.was v.book es new call f);
+              rw (number, sizes, seen, cut) (slice_get-set_same f.views m.number now
+              (slice_get_within f.views m.number (view_of m.sizes m.seen m.cut) f.at));
+          kept = rw sizes (call_kept m b es new call f);
         },
       )

@@ -5,7 +5,7 @@ use Rattle.journal.specs.Events.{At}
 use Rattle.journal.specs.Loads.{Explained}
 use Rattle.journal.specs.Counted.{AreCounted}
 use Rattle.lists.specs.Limits.{most_events}
-use Rattle.turn.specs.Chairs.{lock, place, view, entries, IsSameChair, IsInside, Stands}
+use Rattle.turn.specs.Chairs.{lock, place, view, entries, IsSameChair, IsInside, IsOutside, Stands}
 use Rattle.turn.specs.declared.chair.Held.{Held}
 use Rattle.turn.specs.declared.chair.ChairToken.{ChairToken}
 use Rattle.book.specs.State.{State}
@@ -13,7 +13,7 @@ use Rattle.book.specs.Told.{IsTold}
 use Rattle.replicas.specs.Local.{Local}
 use Rattle.replicas.specs.Steps.{found}
 use Rattle.cluster.specs.declared.keeper.View.{View}
-use Rattle.cluster.specs.Kept.{IsKept, Kept, added, view_of}
+use Rattle.cluster.specs.Kept.{IsKept, Kept, Sees, added, view_of}
 
 -- p finds this book: a history of it that is kept goes on from what p has seen
 pub record Finds (m : Local) (b : State) : Type 0 where
@@ -46,6 +46,13 @@ pub record HasEntered (old new : ChairToken State View) (held : Held) (b : State
   pub same : IsSameChair old new
   pub view_is : view new ≡ view old
   pub inside : IsInside new held b
+
+-- the chair is outside again, gave this book back, and has seen what was left there
+pub record HasLeft (old new : ChairToken State View) (held : Held) (b : State) : Type 0 where
+  pub same : IsSameChair old new
+  pub entries_are : entries new ≡ entries old
+  pub outside : IsOutside new
+  pub seen : (found : State) → IsInside old held found → Sees found b (place old) (view old) (view new)
 
 -- the lock keeps this book, with the chair's view at its place
 abbrev pub FindsBook : ChairToken State View → State → Type 0

@@ -3,6 +3,8 @@ use Rattle.std.specs.Prelude.{ℕ, ◌/◌, Bool, false, not, nat_le, cond, Opti
 use Rattle.book.specs.declared.refused.Refused.{Refused}
 use Rattle.book.specs.declared.refused.Refused.TheVariants.{OutOfRange, Waiting, BlockFull, NotHeld, AlreadyHeld, BadLock, BadFlag, NothingAwaited, AlreadyValid, SeatSpent}
 use Rattle.book.specs.declared.refused.Refused.TheVariants as refused
+use Rattle.journal.specs.declared.event.Kind.{Kind}
+use Rattle.journal.specs.declared.event.Kind.TheVariants.{Ask, Release, Arrive, Set, Watch}
 use Rattle.journal.specs.Sizes.{addresses}
 use Rattle.lists.specs.Limits.{most_in_block}
 use Rattle.replicas.specs.Copies.{Copied, may_use, words_if}
@@ -97,6 +99,15 @@ release_test m l = first_due (
 -- why a set or a watch of this flag is
 abbrev pub flag_test : Local → ℕ → Option Refused
 flag_test m f = first_due ((nat_le m.sizes.flags f, BadFlag) ∷ (is_waiting m, Waiting) ∷ [])
+
+-- why a call that closes the interval by this event is
+abbrev pub closing_test : Local → Kind → Option Refused
+closing_test m (Ask l) = ask_test m l
+closing_test m (Release l) = release_test m l
+closing_test m Arrive = arrive_test m
+closing_test m (Set f) = flag_test m f
+closing_test m (Watch f) = flag_test m f
+closing_test m _ = None
 
 -- why a take is
 abbrev pub take_test : Local → Option Refused

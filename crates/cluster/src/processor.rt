@@ -1,5 +1,5 @@
 //! Processors.
-ghost use Rattle.std.specs.Prelude.{◌≡◌, ◌<◌, ◌+◌, ◌/◌, ◌%◌, ◌++◌, ◌∷◌, [], OnErr, OnOk, IfOk, Some, false, length, map, replicate, slice_index_or};
+ghost use Rattle.std.specs.Prelude.{◌≡◌, ◌<◌, ◌+◌, ◌/◌, ◌%◌, ◌++◌, ◌∷◌, [], OnErr, OnOk, IfOk, Some, false, true, length, map, replicate, slice_index_or};
 ghost use Rattle.std.specs.Option.{option_map};
 ghost use Rattle.std.specs.Result.{result_err};
 ghost use Rattle.replicas.specs.Local.{blank};
@@ -97,11 +97,12 @@ impl<T: Turn<Book, Rule>> Model for Processor<T> {
 
 impl<T: Turn<Book, Rule>> Processor<T> {
     ghost use Rattle.journal.specs.Did.{event};
+    ghost use Rattle.journal.specs.Events.{is_closing};
     ghost use Rattle.lists.specs.Limits.{most_in_block};
     ghost use Rattle.turn.specs.Chairs.{lock};
     ghost use Rattle.cluster.specs.Clusters.{AreParts, IsNewChair};
     ghost use Rattle.replicas.specs.Local.{calls, noted, new_local};
-    ghost use Rattle.cluster.specs.Refusals.{page_of, has_valid, is_waiting, access_refusal, fetch_refusal, event_refusal, arrive_test, ask_test, release_test, flag_test, take_test};
+    ghost use Rattle.cluster.specs.Refusals.{page_of, has_valid, is_waiting, access_refusal, fetch_refusal, event_refusal, arrive_test, ask_test, release_test, flag_test, take_test, closing_test};
     ghost use Rattle.cluster.specs.Accesses.{HasWord, IsStored, IsFetched};
     ghost use Rattle.cluster.specs.Covers.{Covers};
     ghost use Rattle.cluster.specs.Finishing.{IsApart};
@@ -314,10 +315,23 @@ impl<T: Turn<Book, Rule>> Processor<T> {
         Ok(())
     }
 
+    /// Whether the processor may make the call that closes its interval by this event.
+    pub(crate) fn admit_closing(&self, kind: Kind) -> Result<(), Refused>
+        requires { is_closing kind ≡ true }
+        ensures { result_err result ≡ closing_test self.now kind }
+    {
+        match kind {
+            Kind::Ask(lock) => self.admit_ask(lock),
+            Kind::Release(lock) => self.admit_release(lock),
+            Kind::Arrive => self.admit_arrival(),
+            Kind::Set(flag) | Kind::Watch(flag) => self.admit_flag(flag),
+            _ => unreachable!("the event closes an interval"),
+        }
+    }
+
     /// Whether the processor may arrive at the barrier.
-    pub(crate) fn admit_arrival(&self) -> Result<(), Refused>
-        ensures test { result_err result ≡ arrive_test self.now }
-        ensures covers { Covers self.now }
+    fn admit_arrival(&self) -> Result<(), Refused>
+        ensures { result_err result ≡ arrive_test self.now }
     {
         match self.awaits {
             Some(_) => Err(Refused::Waiting),
@@ -326,9 +340,8 @@ impl<T: Turn<Book, Rule>> Processor<T> {
     }
 
     /// Whether it may ask for the lock.
-    pub(crate) fn admit_ask(&self, lock: usize) -> Result<(), Refused>
-        ensures test { result_err result ≡ ask_test self.now lock }
-        ensures covers { Covers self.now }
+    fn admit_ask(&self, lock: usize) -> Result<(), Refused>
+        ensures { result_err result ≡ ask_test self.now lock }
     {
         if lock >= self.shape.locks {
             Err(Refused::BadLock)
@@ -342,9 +355,8 @@ impl<T: Turn<Book, Rule>> Processor<T> {
     }
 
     /// Whether it may release the lock.
-    pub(crate) fn admit_release(&self, lock: usize) -> Result<(), Refused>
-        ensures test { result_err result ≡ release_test self.now lock }
-        ensures covers { Covers self.now }
+    fn admit_release(&self, lock: usize) -> Result<(), Refused>
+        ensures { result_err result ≡ release_test self.now lock }
     {
         if lock >= self.shape.locks {
             Err(Refused::BadLock)
@@ -358,9 +370,8 @@ impl<T: Turn<Book, Rule>> Processor<T> {
     }
 
     /// Whether it may set the flag, or watch it.
-    pub(crate) fn admit_flag(&self, flag: usize) -> Result<(), Refused>
-        ensures test { result_err result ≡ flag_test self.now flag }
-        ensures covers { Covers self.now }
+    fn admit_flag(&self, flag: usize) -> Result<(), Refused>
+        ensures { result_err result ≡ flag_test self.now flag }
     {
         if flag >= self.shape.flags {
             Err(Refused::BadFlag)
@@ -375,7 +386,6 @@ impl<T: Turn<Book, Rule>> Processor<T> {
     pub(crate) fn admit_take(&self) -> Result<Kind, Refused>
         ensures test { result_err result ≡ take_test self.now }
         ensures kind { IfOk result (λ k. self.now.awaits ≡ Some k) }
-        ensures covers { Covers self.now }
     {
         match self.awaits {
             Some(kind) => Ok(kind),

@@ -1,4 +1,5 @@
-//! What a program calls: asks, releases, arrivals, sets and watches.
+//! What a program calls: asks, releases, arrivals, sets and watches. Each is a close by its event, under a name and
+//! with reasons of refusal of its own.
 ghost use Rattle.std.specs.Prelude.{◌≡◌};
 ghost use Rattle.std.specs.Result.{result_err};
 ghost use Rattle.cluster.specs.Refusals.{arrive_test, ask_test, release_test, flag_test};
@@ -32,7 +33,6 @@ impl<T: Turn<Book, Rule>> Cluster<T> {
         ensures { IsClosingCall (ask_test processor.old lock) (Kind.Ask lock)
             processor.old processor.new (result_err result) }
     {
-        processor.admit_ask(lock)?;
         self.close(rt, processor, Kind::Ask(lock))
     }
 
@@ -50,7 +50,6 @@ impl<T: Turn<Book, Rule>> Cluster<T> {
         ensures { IsClosingCall (release_test processor.old lock) (Kind.Release lock)
             processor.old processor.new (result_err result) }
     {
-        processor.admit_release(lock)?;
         self.close(rt, processor, Kind::Release(lock))
     }
 
@@ -63,7 +62,6 @@ impl<T: Turn<Book, Rule>> Cluster<T> {
         ensures { IsClosingCall (arrive_test processor.old) Kind.Arrive
             processor.old processor.new (result_err result) }
     {
-        processor.admit_arrival()?;
         self.close(rt, processor, Kind::Arrive)
     }
 
@@ -82,7 +80,6 @@ impl<T: Turn<Book, Rule>> Cluster<T> {
         ensures { IsClosingCall (flag_test processor.old flag) (Kind.Set flag)
             processor.old processor.new (result_err result) }
     {
-        processor.admit_flag(flag)?;
         self.close(rt, processor, Kind::Set(flag))
     }
 
@@ -100,7 +97,6 @@ impl<T: Turn<Book, Rule>> Cluster<T> {
         ensures { IsClosingCall (flag_test processor.old flag) (Kind.Watch flag)
             processor.old processor.new (result_err result) }
     {
-        processor.admit_flag(flag)?;
         self.close(rt, processor, Kind::Watch(flag))
     }
 }

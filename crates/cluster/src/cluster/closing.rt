@@ -9,6 +9,7 @@ ghost use Rattle.interval.specs.Intervals.{HasRisingPages};
 ghost use Rattle.book.specs.Transitions.{handed_in};
 ghost use Rattle.replicas.specs.Records.{AreHarvests};
 ghost use Rattle.replicas.specs.Steps.{held_after};
+ghost use Rattle.cluster.specs.Refusals.{closing_test};
 ghost use Rattle.cluster.specs.Closing.{MayClose, MayMake, MayHold, IsClosingCall, book_closed};
 
 use super::Cluster;
@@ -21,8 +22,8 @@ use std::sync::{Arc, Wait};
 use turn::Turn;
 
 impl<T: Turn<Book, Rule>> Cluster<T> {
-    /// Hands the block in, closes the interval by this event, and from then on waits for what comes after it.
-    /// The records are harvested before the book is entered.
+    /// Hands the block in, closes the interval by this event, and from then on waits for what comes after it,
+    /// where the processor may. The records are harvested before the book is entered.
     pub(super) fn close<R: Wait>(
         &self,
         rt: &R,
@@ -30,10 +31,11 @@ impl<T: Turn<Book, Rule>> Cluster<T> {
         kind: Kind,
     ) -> Result<(), Refused>
         requires own { processor.old.lock ≡ self.now.lock }
-        requires may { MayMake processor.old kind }
-        ensures { IsClosingCall None kind
+        requires closes { is_closing kind ≡ true }
+        ensures { IsClosingCall (closing_test processor.old kind) kind
             processor.old processor.new (result_err result) }
     {
+        processor.admit_closing(kind)?;
         if processor.chair.is_spent() {
             return Err(Refused::SeatSpent);
         }
@@ -57,9 +59,9 @@ impl<T: Turn<Book, Rule>> Cluster<T> {
     {
         let (held, mut book) = self.take_book(rt, &mut processor.chair)?;
         let block = processor.block.as_slice();
-        let result = close_in(&mut book, processor.number, kind, block, records);
+        let closed = close_in(&mut book, processor.number, kind, block, records);
         self.give_book(&mut processor.chair, held, book);
-        result?;
+        closed?;
         processor.block.clear();
         clean(&mut processor.replicas, &mut processor.stored);
         processor.time.tick(processor.number);

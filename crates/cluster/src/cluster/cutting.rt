@@ -27,9 +27,9 @@ impl<T: Turn<Book, Rule>> Cluster<T> {
         ensures { IsCuttingCall processor.old processor.new (result_err result) }
     {
         let (held, mut book) = self.take_book(rt, &mut processor.chair)?;
-        let result = cut_off(&mut book);
+        let cut = cut_off(&mut book);
         self.give_book(&mut processor.chair, held, book);
-        result?;
+        cut?;
         Ok(())
     }
 }

@@ -1,11 +1,10 @@
 //! How a call enters the book, and leaves it.
 ghost use Rattle.std.specs.Prelude.{◌≡◌, ◌+◌, ◌<◌, IfOk, IfErr, List};
-ghost use Rattle.turn.specs.Chairs.{lock, place, view, entries, IsOutside, IsInside, IsSameChair};
+ghost use Rattle.turn.specs.Chairs.{lock, entries, IsOutside, IsInside};
 ghost use Rattle.journal.specs.declared.event.Event.{Event};
 ghost use Rattle.replicas.specs.Local.{Local};
 ghost use Rattle.book.specs.State.{State};
-ghost use Rattle.cluster.specs.Kept.{Sees};
-ghost use Rattle.cluster.specs.Entering.{IsChairOf, IsCallOf, FindsBook, HasEntered};
+ghost use Rattle.cluster.specs.Entering.{IsChairOf, IsCallOf, FindsBook, HasEntered, HasLeft};
 
 use super::Cluster;
 use crate::keeper::{Looking, Rule};
@@ -41,10 +40,7 @@ impl<T: Turn<Book, Rule>> Cluster<T> {
         requires own { lock chair.old ≡ self.now.lock }
         requires call { (m : Local) × (found : State) × (es : List Event)
             × IsChairOf m chair.old × IsInside chair.old held found × IsCallOf m found es book }
-        ensures left { IsSameChair chair.old chair.new × (entries chair.new ≡ entries chair.old)
-            × IsOutside chair.new }
-        ensures seen { (found : State) → IsInside chair.old held found
-            → Sees found book (place chair.old) (view chair.old) (view chair.new) }
+        ensures { HasLeft chair.old chair.new held book }
     {
         let turn = &self.turn;
         turn.leave::<Looking>(chair, held, book);

@@ -24,9 +24,9 @@ impl<T: Turn<Book, Rule>> Cluster<T> {
         ensures { IsHandingCall processor.old processor.new (result_err result) }
     {
         let (held, mut book) = self.take_book(rt, &mut processor.chair)?;
-        let result = book.hand_in(processor.number, processor.block.as_slice());
+        let handed = book.hand_in(processor.number, processor.block.as_slice());
         self.give_book(&mut processor.chair, held, book);
-        result?;
+        handed?;
         processor.block.clear();
         Ok(())
     }
@@ -38,9 +38,9 @@ impl<T: Turn<Book, Rule>> Cluster<T> {
         ensures journal { IfOk result (λ j. IsAudit processor.old processor.new j) }
     {
         let (held, mut book) = self.take_book(rt, &mut processor.chair)?;
-        let result = book.audit(processor.number, processor.block.as_slice());
+        let audited = book.audit(processor.number, processor.block.as_slice());
         self.give_book(&mut processor.chair, held, book);
-        let journal = result?;
+        let journal = audited?;
         processor.block.clear();
         Ok(journal)
     }

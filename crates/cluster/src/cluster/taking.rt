@@ -45,9 +45,9 @@ impl<T: Turn<Book, Rule>> Cluster<T> {
     {
         let kind = processor.admit_take()?;
         let (held, mut book) = self.take_book(rt, &mut processor.chair)?;
-        let result = receive(&mut book, processor.number, &mut processor.replicas);
+        let received = receive(&mut book, processor.number, &mut processor.replicas);
         self.give_book(&mut processor.chair, held, book);
-        let (time, notices) = result?.into_parts();
+        let (time, notices) = received?.into_parts();
         learn(&mut processor.replicas, notices);
         processor.time.join(&time);
         mark_held(&mut processor.held, kind);

@@ -1,28 +1,5 @@
-use Rattle.std.proofs.Common.{◌≡◌, ◌+◌, Option, Some, [], ◌∷◌, length, refl, sym, ap, ◌∙◌}
-use Rattle.std.proofs.lemmas.Result.{err_from_is_err_and}
-use Rattle.journal.specs.declared.event.Kind.TheVariants.{Ask}
-use Rattle.journal.specs.Did.{event}
-use Rattle.book.specs.declared.refused.Refused.{Refused}
-use Rattle.cluster.specs.Calls.{Nothing}
-use Rattle.cluster.specs.Closing.{IsClosedBy}
-use Rattle.cluster.specs.Refusals.{or_spent, ask_test}
-use Rattle.cluster.proofs.Made.{call_outside}
-use Rattle.cluster.proofs.Admitting.{may_ask}
+-- Given by hand, so that a close by another event is refused without a search.
 use Rattle.cluster.proofs.cluster.Cluster.ask.Goals as goal
 
-pub returns-in_err-admit_ask : goal.returns-in_err-admit_ask
-returns-in_err-admit_ask g c =
-    let m = c.args.processor.now in
-    let answer = err_from_is_err_and c.from_residual.result c.from_residual.ensures.1 in
-    let first : or_spent (ask_test m c.args.lock) m ≡ Some answer.0 =
-    ap (λ (o : Option Refused). or_spent o m) (sym c.in_err-admit_ask.ensures.test)
-    ∙ ap (λ (e : Refused). Some e) (sym answer.2) in
-    rw (answer.1) (call_outside (or_spent (ask_test m c.args.lock) m) (length m.block + 1) Nothing
-    (IsClosedBy (Ask c.args.lock)) (event m.number (Ask c.args.lock) ∷ []) m m answer.0 first refl
-    c.admit_ask.ensures.covers)
-
-pub close-requires-clause-may : goal.close-requires-clause-may
-close-requires-clause-may g c κs within = may_ask c.args.processor.now c.args.lock (sym c.in_ok-admit_ask.ensures.test)
-
 pub returns : goal.returns
-returns g c = rw (← c.in_ok-admit_ask.ensures.test) c.close.ensures
+returns g c = c.close.ensures

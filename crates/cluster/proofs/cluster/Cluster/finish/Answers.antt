@@ -1,40 +1,37 @@
-use Rattle.std.proofs.Common.{map, sym, subst}
+use Rattle.std.proofs.Common.{List, map, sym, subst}
 use Rattle.std.specs.Vec.{vec_items}
+use Rattle.journal.specs.declared.event.Event.{Event}
 use Rattle.cluster.specs.Clusters.{Shared}
-use Rattle.cluster.specs.Finishing.{AreAllOf}
+use Rattle.cluster.specs.Finishing.{AreAllOf, AreBlocksOf, IsFinishing}
 use Rattle.cluster.proofs.Apart.{all_chairs, all_blocks, finishing_start, finished}
+use Rattle.cluster.proofs.cluster.Cluster.finish.Given as given
 use Rattle.cluster.proofs.cluster.Cluster.finish.Goals as goal
+use Rattle.cluster.proofs.cluster.Cluster.finish.Goals.{After-close-book}
+
+-- all blocks are to come
+begun : (g : given.Over) (c : After-close-book g) → (h : List Event)
+    × IsFinishing c.self.inside.shape c.args.processors.items 0 h c.close-book.result
+    × AreBlocksOf c.args.processors.items (map vec_items c.take_apart-chairs.result.1.items)
+begun g c =
+    let all = subst (λ (s : Shared). AreAllOf s c.args.processors.items) (sym c.self.view_is) c.requires in
+    let apart = c.take_apart-chairs.ensures in (
+      _,
+      finishing_start _ _ _ _ all apart c.close-book.result c.self.invariant.1.some_processors c.close-book.ensures,
+      all_blocks _ _ _ _ all apart,
+    )
 
 pub close-book-requires : goal.close-book-requires
 close-book-requires g c =
     let all = subst (λ (s : Shared). AreAllOf s c.args.processors.items) (sym c.self.view_is) c.requires in
-    all_chairs _ c.args.processors.items c.take_apart-chairs.result.0.items
-    (map vec_items c.take_apart-chairs.result.1.items) all c.take_apart-chairs.ensures _ c.self.invariant.0
+    all_chairs _ _ _ _ all c.take_apart-chairs.ensures _ c.self.invariant.0
 
 pub hand_in_all-requires : goal.hand_in_all-requires
 hand_in_all-requires g c =
-    let all = subst (λ (s : Shared). AreAllOf s c.args.processors.items) (sym c.self.view_is) c.requires in
-    let kept = c.close-book.ensures in
-    let start =
-    finishing_start _ c.args.processors.items c.take_apart-chairs.result.0.items
-    (map vec_items c.take_apart-chairs.result.1.items) all c.take_apart-chairs.ensures c.close-book.result
-    c.self.invariant.1.some_processors kept in
-    let blocks =
-    all_blocks _ c.args.processors.items c.take_apart-chairs.result.0.items
-    (map vec_items c.take_apart-chairs.result.1.items) all c.take_apart-chairs.ensures in
-    (_, c.args.processors.items, _, start, rw (c.as_slice.ensures.value) blocks)
+    let b = begun g (goal.at.hand_in_all-requires g c).After-close-book in
+    (_, _, b.0, b.1, rw (c.as_slice.ensures.value) b.2)
 
 pub returns : goal.returns
 returns g c =
-    let all = subst (λ (s : Shared). AreAllOf s c.args.processors.items) (sym c.self.view_is) c.requires in
-    let kept = c.close-book.ensures in
-    let start =
-    finishing_start _ c.args.processors.items c.take_apart-chairs.result.0.items
-    (map vec_items c.take_apart-chairs.result.1.items) all c.take_apart-chairs.ensures c.close-book.result
-    c.self.invariant.1.some_processors kept in
-    let blocks =
-    all_blocks _ c.args.processors.items c.take_apart-chairs.result.0.items
-    (map vec_items c.take_apart-chairs.result.1.items) all c.take_apart-chairs.ensures in
-    let done = c.hand_in_all.ensures _ c.args.processors.items _ start (rw (c.as_slice.ensures.value) blocks) in
-    rw (← c.self.view_is) (finished _ c.args.processors.items done.0 c.hand_in_all.new.book c.into_journal.result
-    done.1 c.into_journal.ensures)
+    let b = begun g (goal.at.returns g c).After-close-book in
+    let done = c.hand_in_all.ensures _ _ b.0 b.1 (rw (c.as_slice.ensures.value) b.2) in
+    rw (← c.self.view_is) (finished _ _ done.0 _ _ done.1 c.into_journal.ensures)

@@ -1,7 +1,8 @@
-use Rattle.std.proofs.Common.{◌≡◌, ◌<◌, [], replicate, refl, sym, subst, ap, ◌∙◌, arith}
+use Rattle.std.proofs.Common.{ℕ, ◌≡◌, [], replicate, refl, sym, subst₂, ap, ◌∙◌, arith}
 use Rattle.journal.specs.Sizes.{Sizes}
 use Rattle.turn.specs.Chairs.{LockId}
 use Rattle.book.specs.State.{State}
+use Rattle.book.specs.Transitions.{new_book}
 use Rattle.replicas.specs.Local.{new_local}
 use Rattle.cluster.specs.Kept.{IsKept, nothing_seen, sizes_of}
 use Rattle.cluster.proofs.Starting.{new_sizes, start_kept, new_covered}
@@ -9,30 +10,18 @@ use Rattle.cluster.proofs.cluster.Cluster.lawful.Goals as goal
 
 pub new-requires-3-clause-fact : goal.new-requires-3-clause-fact
 new-requires-3-clause-fact g c =
-    let s : Sizes = record {
-      processors = c.shape.inside.processors;
-      pages = c.shape.inside.pages;
-      words = c.shape.inside.words;
-      locks = c.shape.inside.locks;
-      flags = c.shape.inside.flags;
-    } in
-    let some : 0 < s.words = rw (ap (λ (x : Sizes). x.words) c.shape.view_is) c.requires.sizes.some_words in
-    let kept = start_kept s (rw (ap (λ (x : Sizes). x.processors) c.shape.view_is) c.requires.sizes.some_processors) in
-    let P : State → Type 0 = λ b. IsKept s [] b (replicate s.processors (nothing_seen (sizes_of b))) in
-    (s, [], subst P (sym c.in_ok-book.ensures) (rw (new_sizes s some) kept))
+    let s = c.args.shape in
+    let size = ap (λ (x : Sizes). x.processors) c.shape.view_is in
+    let book = c.in_ok-book.ensures ∙ ap new_book c.shape.view_is in
+    let P : State → ℕ → Type 0 = λ b n. IsKept s [] b (replicate n (nothing_seen (sizes_of b))) in
+    let kept = start_kept s c.requires.sizes.some_processors in
+    (s, [], subst₂ P (sym book) (sym size) (rw (new_sizes s c.requires.sizes.some_words) kept))
 
 pub seat_all-all-requires-clause-chairs : goal.seat_all-all-requires-clause-chairs
 seat_all-all-requires-clause-chairs g c κs within =
-    let s : Sizes = record {
-      processors = c.shape.inside.processors;
-      pages = c.shape.inside.pages;
-      words = c.shape.inside.words;
-      locks = c.shape.inside.locks;
-      flags = c.shape.inside.flags;
-    } in
-    let some : 0 < s.words = rw (ap (λ (x : Sizes). x.words) c.shape.view_is) c.requires.sizes.some_words in
     let same : sizes_of c.in_ok-book.book ≡ c.args.shape =
-    ap sizes_of c.in_ok-book.ensures ∙ new_sizes s some ∙ c.shape.view_is in
+    ap sizes_of (c.in_ok-book.ensures ∙ ap new_book c.shape.view_is)
+    ∙ new_sizes c.args.shape c.requires.sizes.some_words in
     let made = c.in_ok-turn.ensures in (
       (let long = made.1 in let size = ap (λ (x : Sizes). x.processors) c.shape.view_is in omega arith),
       λ p x at. (let f = made.2 p x at in record {
