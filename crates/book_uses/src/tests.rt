@@ -16,7 +16,6 @@ use std::alloc::{AllocError, Global};
 use std::process::Abort;
 use std::test::Fail;
 use transit::Message;
-use vtime::VTime;
 
 /// An address and the word that is stored there.
 type Store = (usize, u32);
@@ -214,7 +213,7 @@ fn gets(
         return Err(Refused::NotYet);
     };
     assert!(rt; name_of(&message) == name);
-    assert!(rt; is_stamp(rt.alloc(), message.time(), entries));
+    assert!(rt; message.time().entries() == entries);
     assert!(rt; are_sent(message.notices(), records));
     Ok(())
 }
@@ -275,33 +274,4 @@ fn did(processor: usize, kind: Kind) -> Event {
 
 fn has_events(journal: &Journal, wanted: &[Event]) -> bool {
     journal.events() == wanted
-}
-
-/// Whether the timestamp has these entries.
-fn is_stamp(alloc: Global, time: &VTime, entries: &[u64]) -> bool {
-    !entries.is_empty() && entries.len() <= 16 && *time == stamp(alloc, entries)
-}
-
-/// The timestamp with these entries, each below 10.
-fn stamp(alloc: Global, entries: &[u64]) -> VTime
-    requires some { 1 ≤ length entries.now }
-    requires most { length entries.now ≤ 16 }
-{
-    let mut time = VTime::zero(alloc, entries.len());
-    for (q, entry) in entries.iter().enumerate() {
-        raise(&mut time, q, *entry);
-    }
-    time
-}
-
-/// Raises the entry, while it is below 9.
-fn raise(time: &mut VTime, q: usize, count: u64)
-    requires { q < length time.old }
-    ensures { length time.new ≡ length time.old }
-{
-    for _ in 0..count.min(9) {
-        if time.entry(q) < 9 {
-            time.tick(q);
-        }
-    }
 }

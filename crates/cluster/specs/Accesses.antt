@@ -47,8 +47,8 @@ pub record IsLastInGap (s : Sizes) (j : List Event) (p n o v : ℕ) : Type 0 whe
 abbrev pub IsOutsideGap : Sizes → List Event → ℕ → ℕ → ℕ → Type 0
 IsOutsideGap s j p n o = (i q a w : ℕ) → Does j i q (Store a w) → a % s.words ≡ o → ¬ InGap s j p n i
 
--- each word with stores in the gap has the value of the one whose interval was closed last, and the others are as
--- before
+-- each word with stores in the gap has the value of the one whose interval was closed last,
+-- and the others are as before
 abbrev pub AreNewest : Sizes → List Event → ℕ → ℕ → List ℕ → List ℕ → Type 0
 AreNewest s j p n old new = (o v : ℕ) → slice_get new o ≡ Some v
     → IsLastInGap s j p n o v ⊎ ((slice_get old o ≡ Some v) × IsOutsideGap s j p n o)

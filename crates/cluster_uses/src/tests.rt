@@ -135,7 +135,7 @@ fn go_on<T: Turn<Book, Rule>>(
         Refuses(p, call, why) => assert!(rt; does(crew, rt, p, call) == Err(why)),
         HasPage(p, page, words) => assert!(rt; has_page(crew, p, page, words)),
         IsStale(p, page) => assert!(rt; is_stale(crew, p, page)),
-        HasTime(p, entries) => assert!(rt; has_time(crew, rt.alloc(), p, entries)),
+        HasTime(p, entries) => assert!(rt; has_time(crew, p, entries)),
         Holds(p, lock, held) => assert!(rt; holds(crew, p, lock) == held),
     }
     Ok(())
@@ -259,39 +259,10 @@ fn holds<T: Turn<Book, Rule>>(crew: &Crew<T>, p: usize, lock: usize) -> bool {
     }
 }
 
-fn has_time<T: Turn<Book, Rule>>(crew: &Crew<T>, alloc: Global, p: usize, entries: &[u64]) -> bool {
+fn has_time<T: Turn<Book, Rule>>(crew: &Crew<T>, p: usize, entries: &[u64]) -> bool {
     match crew.processor(p) {
-        Some(processor) => is_stamp(alloc, processor.timestamp(), entries),
+        Some(processor) => processor.timestamp().entries() == entries,
         None => false,
-    }
-}
-
-/// Whether the timestamp has these entries.
-fn is_stamp(alloc: Global, time: &VTime, entries: &[u64]) -> bool {
-    !entries.is_empty() && entries.len() <= 16 && *time == stamp(alloc, entries)
-}
-
-/// The timestamp with these entries, each below 10.
-fn stamp(alloc: Global, entries: &[u64]) -> VTime
-    requires some { 1 ≤ length entries.now }
-    requires most { length entries.now ≤ 16 }
-{
-    let mut time = VTime::zero(alloc, entries.len());
-    for (q, entry) in entries.iter().enumerate() {
-        raise(&mut time, q, *entry);
-    }
-    time
-}
-
-/// Raises the entry, while it is below 9.
-fn raise(time: &mut VTime, q: usize, count: u64)
-    requires { q < length time.old }
-    ensures { length time.new ≡ length time.old }
-{
-    for _ in 0..count.min(9) {
-        if time.entry(q) < 9 {
-            time.tick(q);
-        }
     }
 }
 

@@ -42,8 +42,8 @@ pub record IsReached (j : List Event) (numbers : ℕ → ℕ) (i : ℕ) : Type 0
   pub number : interval_at j by last < numbers by
   pub reaches : UpTo j last i
 
--- the last accesses of each address reach all accesses of it: its stores the last store, its loads that or the last
--- loads
+-- the last accesses of each address reach all accesses of it:
+-- its stores the last store, its loads that or the last loads
 pub record AreAccesses (j : List Event) (addresses : ℕ) (x : Accesses) : Type 0 where
   pub last_long : vec_len x.last ≡ addresses
   pub loads_long : vec_len x.loads ≡ addresses

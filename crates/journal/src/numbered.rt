@@ -9,7 +9,7 @@ use std::alloc::{AllocError, Global};
 use std::collections::{BTreeMap, VecDeque};
 
 /// Numbers below this have a place each in a table, which takes 64 KiB at most.
-const LOW: usize = 1024;
+const FIRST_HIGH: usize = 1024;
 
 /// A timestamp for each number; zeros at first. A low number is found at once, a high one by a search in those
 /// that occur, however great it is.
@@ -34,7 +34,7 @@ impl Numbered {
     pub(crate) fn at(&self, number: usize) -> Clock
         ensures { (q : ℕ) → slice_index result q ≡ kept_entry self.now number q }
     {
-        if number < LOW {
+        if number < FIRST_HIGH {
             clock_in(&self.low, number)
         } else {
             clock_at(&self.high, number)
@@ -45,7 +45,7 @@ impl Numbered {
     pub(crate) fn join(&mut self, number: usize, clock: &Clock) -> Result<(), AllocError>
         ensures { OnOk result (IsJoinedAt (kept_entry self.old) (kept_entry self.new) number (slice_index clock.now)) }
     {
-        if number < LOW {
+        if number < FIRST_HIGH {
             join_in(&mut self.low, number, clock)
         } else {
             join_at(&mut self.high, number, clock)

@@ -47,8 +47,8 @@ passed (q ∷ queue) time = record { holder = Some q; queue = queue; time = time
 abbrev pub released : Lock → List ℕ → Lock
 released k time = passed k.queue time
 
--- nobody stands twice in the line of n processors, and somebody is queued only where the lock is
--- held
+-- nobody stands twice in the line of n processors,
+-- and somebody is queued only where the lock is held
 pub record IsOrderly (n : ℕ) (k : Lock) : Type 0 where
   pub once : IsOnce (line k)
   pub within : (p : ℕ) → Has (line k) p → p < n

@@ -33,8 +33,8 @@ module _ {B V : Type 0} where
     -- the keeper's fact holds of the book in the slot
     pub kept : (b : B) → homes ≡ some (Some b) ∷ [] → fact b (map view_of chairs)
 
--- in each state that meets the rule of a lock with n chairs, of which each may enter `limit` times, the chairs take
--- turns
+-- in each state that meets the rule of a lock with n chairs, of which each may enter `limit` times,
+-- the chairs take turns
 abbrev pub TurnsLaw : {B V : Type 0} → (B → List V → Type 0) → (List ℕ → ℕ → Type 0) → (ℕ → ℕ) → ℕ → ℕ
     → Type 0
 TurnsLaw {B = B} {V = V} fact shows at n limit =

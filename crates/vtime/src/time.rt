@@ -53,6 +53,13 @@ impl VTime {
         self.entries[q]
     }
 
+    /// The entries, one a processor.
+    pub fn entries(&self) -> &[u64]
+        ensures { result.now ≡ self.now }
+    {
+        self.entries.as_slice()
+    }
+
     /// Adds one interval of processor `q`, which it has just closed.
     pub fn tick(&mut self, q: usize)
         requires in_range { q < length self.old }
@@ -146,22 +153,11 @@ mod tests {
         time
     }
 
-    fn has_entries(time: &VTime, wanted: &[u64]) -> bool
-        requires { length wanted.now ≡ length time.now }
-    {
-        for (q, count) in wanted.iter().enumerate() {
-            if time.entry(q) != *count {
-                return false;
-            }
-        }
-        true
-    }
-
     #[test]
     fn joins_by_place(rt: HostRuntime) {
         let mut time = stamp(rt.alloc(), &[2, 0, 5]);
         time.join(&stamp(rt.alloc(), &[1, 3, 5]));
-        assert!(rt; has_entries(&time, &[2, 3, 5]));
+        assert!(rt; time.entries() == [2, 3, 5].as_slice());
         assert!(rt; time.covers(0, 1));
         assert!(rt; !time.covers(0, 2));
         assert!(rt; time == stamp(rt.alloc(), &[2, 3, 5]));
@@ -171,13 +167,15 @@ mod tests {
     #[test]
     fn has_sixteen_entries(rt: HostRuntime) {
         let mut time = VTime::zero(rt.alloc(), MOST_PROCESSORS);
-        assert!(rt; has_entries(&time, &[0; 16]));
+        assert!(rt; time.entries() == [0; 16].as_slice());
         assert!(rt; !time.covers(15, 0));
         time.tick(15);
         assert!(rt; time.covers(15, 0));
         let before = time.copy();
         time.join(&VTime::zero(rt.alloc(), MOST_PROCESSORS));
         assert!(rt; time == before);
-        assert!(rt; has_entries(&before, &[0, 0, 0, 0, 0, 0, 0, 0, 0, 0, 0, 0, 0, 0, 0, 1]));
+        assert!(rt;
+            before.entries() == [0, 0, 0, 0, 0, 0, 0, 0, 0, 0, 0, 0, 0, 0, 0, 1].as_slice()
+        );
     }
 }

@@ -46,7 +46,7 @@ fn departs(told: &mut Told, rt: &(impl Abort + AllocGlobal), p: usize) -> Result
     let Answer::Came(message) = make(told, rt.alloc(), p, Take, NONE)? else {
         return Err(Refused::NotYet);
     };
-    assert!(rt; is_stamp(rt.alloc(), message.time(), &[1; 16]));
+    assert!(rt; message.time().entries() == [1; 16].as_slice());
     assert!(rt; are_others(message.notices(), p));
     Ok(())
 }
