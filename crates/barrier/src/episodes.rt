@@ -71,7 +71,8 @@ impl Barrier {
         requires away { slice_get self.old.stages processor ≡ Some Stage.Away }
         requires long { length time.now ≡ length self.old.stages }
         ensures barrier { self.new ≡ arrived self.old processor time.now }
-        ensures complete { IsTrue result ↔ (count_by is_here self.old.stages + 1 ≡ length self.old.stages) }
+        ensures complete { IsTrue result ↔
+            (count_by is_here self.old.stages + 1 ≡ length self.old.stages) }
         ensures full { result ≡ is_full (joined self.old processor time.now) }
         ensures same_length { length self.new.stages ≡ length self.old.stages }
 
@@ -95,7 +96,8 @@ impl Barrier {
     /// answer the same, at whatever time.
     pub fn completes(&self, processor: usize) -> bool
         requires { slice_get self.now.stages processor ≡ Some Stage.Away }
-        ensures complete { IsTrue result ↔ (count_by is_here self.now.stages + 1 ≡ length self.now.stages) }
+        ensures complete { IsTrue result ↔
+            (count_by is_here self.now.stages + 1 ≡ length self.now.stages) }
         ensures full { (time : List ℕ) → result ≡ is_full (joined self.now processor time) }
     {
         count_here(self.stages.as_slice()) + 1 == self.stages.len()
@@ -141,7 +143,8 @@ impl Barrier {
     pub fn depart(&mut self, processor: usize)
         requires { slice_get self.old.stages processor ≡ Some Stage.Free }
         ensures barrier { self.new ≡ departed self.old processor }
-        ensures gathers { (times : List (List ℕ)) → HasGathered self.old times → HasGathered self.new times }
+        ensures gathers { (times : List (List ℕ)) → HasGathered self.old times
+            → HasGathered self.new times }
     {
         self.stages[processor] = Stage::Away;
     }

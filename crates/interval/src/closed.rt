@@ -98,7 +98,9 @@ impl Closed {
         requires old_long { length old.now ≡ length self.now.first }
         requires new_long { length new.now ≡ length self.now.first }
         requires none_trimmed { (q : ℕ) → slice_index self.now.first q ≤ slice_index old.now q }
-        ensures each { EachIndex counts.new (λ n. slice_index counts.new n ≡ count_by (is_of_page n) (between self.now old.now new.now)) }
+        ensures each { EachIndex counts.new
+            (λ n. slice_index counts.new n ≡ count_by (is_of_page n)
+            (between self.now old.now new.now)) }
         ensures same_length { length counts.new ≡ length counts.old }
     {
         self.count_pages(0, old, new, counts);
@@ -122,7 +124,9 @@ impl Closed {
         requires old_long { length old.now ≡ length self.now.first }
         requires new_long { length new.now ≡ length self.now.first }
         requires none_trimmed { (q : ℕ) → slice_index self.now.first q ≤ slice_index old.now q }
-        ensures each { EachIndex counts.new (λ i. slice_index counts.new i ≡ count_by (is_of_page (base + i)) (between self.now old.now new.now)) }
+        ensures each { EachIndex counts.new
+            (λ i. slice_index counts.new i ≡ count_by (is_of_page (base + i))
+            (between self.now old.now new.now)) }
         ensures same_length { length counts.new ≡ length counts.old }
     {
         // No count passes the number of intervals that were ever closed.
@@ -146,7 +150,8 @@ impl Closed {
         requires old_long { length old.now ≡ length self.now.first }
         requires new_long { length new.now ≡ length self.now.first }
         requires none_trimmed { (q : ℕ) → slice_index self.now.first q ≤ slice_index old.now q }
-        ensures value { IfOk result (λ sent. sent.items ≡ between (pushed self.now interval.now) old.now new.now) }
+        ensures value { IfOk result (λ sent. sent.items
+            ≡ between (pushed self.now interval.now) old.now new.now) }
         ensures in_order { IfOk result (λ sent. IsInClosingOrder sent.items) }
     {
         let mut sent = self.between(old, new)?;
@@ -162,7 +167,8 @@ impl Closed {
         requires old_long { length old.now ≡ length self.now.first }
         requires new_long { length new.now ≡ length self.now.first }
         requires none_trimmed { (q : ℕ) → slice_index self.now.first q ≤ slice_index old.now q }
-        ensures { IfOk result (λ news. AreAll (filter (is_news old.now new.now) self.now.kept) (map (λ k. k.now) news.items)) }
+        ensures { IfOk result (λ news. AreAll (filter (is_news old.now new.now) self.now.kept)
+            (map (λ k. k.now) news.items)) }
     {
         let mut news = Vec::new(*self.queues.allocator());
         for (owner, queue) in self.queues.iter().enumerate() {
@@ -198,7 +204,8 @@ impl Closed {
         ensures value { self.new ≡ trimmed self.old owner to }
 
         // Who has performed the intervals that are dropped is sent what was sent before.
-        ensures same_news { (old new : List ℕ) → to ≤ slice_index old owner → between self.new old new ≡ between self.old old new }
+        ensures same_news { (old new : List ℕ) → to ≤ slice_index old owner
+            → between self.new old new ≡ between self.old old new }
     {
         self.queues[owner].trim(to);
     }

@@ -30,7 +30,12 @@ impl Model for Interval {
 
     ghost Value = { ClosedInterval };
 
-    ghost view = { λ i. record { owner = i.owner; number = i.number; records = map arc_value i.records.items } };
+    ghost view = { λ i. record {
+      owner = i.owner;
+      number = i.number;
+      records = map arc_value
+          i.records.items;
+    } };
 }
 
 impl Interval {
@@ -63,7 +68,8 @@ impl Interval {
 
     /// Adds each record, under its notice, to what is sent of the interval with this closing number.
     pub(crate) fn send(&self, place: u64, sent: &mut Vec<Sent>) -> Result<(), AllocError>
-        ensures { OnOk result (sent.new.items ≡ sent.old.items ++ sent_interval (record { place = place; interval = self.now })) }
+        ensures { OnOk result (sent.new.items
+            ≡ sent.old.items ++ sent_interval (record { place = place; interval = self.now })) }
     {
         for record in self.shared_records() {
             sent.push(self.announced(place, record)?)?;
@@ -73,7 +79,8 @@ impl Interval {
 
     /// A record of its own, under its notice.
     fn announced(&self, place: u64, shared: &Arc<Record>) -> Result<Sent, AllocError>
-        ensures { IfOk result (λ sent. sent ≡ sent_record (record { place = place; interval = self.now }) (arc_value shared.now)) }
+        ensures { IfOk result (λ sent. sent
+            ≡ sent_record (record { place = place; interval = self.now }) (arc_value shared.now)) }
     {
         Ok(Sent {
             notice: Notice {

@@ -31,5 +31,10 @@ impl Model for Sent {
 
     ghost Value = { SentRecord };
 
-    ghost view = { λ sent. record { notice = sent.notice; place = sent.place; content = sent.content.value } };
+    ghost view = { λ sent. record {
+      notice = sent.notice;
+      place = sent.place;
+      content =
+          sent.content.value;
+    } };
 }

@@ -45,7 +45,8 @@ impl Queue {
 
     /// Adds the owner's next interval.
     pub(crate) fn push(&mut self, kept: Kept) -> Result<(), AllocError>
-        ensures ok { OnOk result (self.new ≡ record { first = self.old.first; kept = self.old.kept ++ kept ∷ [] }) }
+        ensures ok { OnOk result (self.new
+            ≡ record { first = self.old.first; kept = self.old.kept ++ kept ∷ [] }) }
         ensures err { OnErr result (self.new ≡ self.old) }
     {
         self.kept.push_back(kept)?;
@@ -68,7 +69,8 @@ impl Queue {
         news: &mut Vec<&'q Kept>,
     ) -> Result<(), AllocError>
         requires { self.now.first ≤ from }
-        ensures { OnOk result (map (λ k. k.now) news.new.items ≡ map (λ k. k.now) news.old.items ++ within self.now from to) }
+        ensures { OnOk result (map (λ k. k.now) news.new.items
+            ≡ map (λ k. k.now) news.old.items ++ within self.now from to) }
     {
         let start = (from - self.first) as usize;
         let end = to.saturating_sub(self.first).min(self.kept.len() as u64) as usize;

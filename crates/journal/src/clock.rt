@@ -12,7 +12,8 @@ pub(crate) type Clock = [u32; 16];
 
 /// Raises each entry to the other timestamp's, where that is greater.
 pub(crate) fn join(clock: &mut Clock, other: &Clock)
-    ensures { (q : ℕ) → slice_index clock.new q ≡ max (slice_index clock.old q) (slice_index other.now q) }
+    ensures { (q : ℕ) → slice_index clock.new q
+        ≡ max (slice_index clock.old q) (slice_index other.now q) }
 {
     for q in 0..16 {
         clock[q] = clock[q].max(other[q]);
@@ -23,7 +24,8 @@ pub(crate) fn join(clock: &mut Clock, other: &Clock)
 pub(crate) fn tick(clock: &mut Clock, processor: usize)
     requires processor { processor < 16 }
     requires room { slice_index clock.old processor < 2 ^ 22 }
-    ensures { (q : ℕ) → slice_index clock.new q ≡ slice_index clock.old q + cond (processor == q) 1 0 }
+    ensures { (q : ℕ) → slice_index clock.new q
+        ≡ slice_index clock.old q + cond (processor == q) 1 0 }
 {
     // Entry by entry, so that the whole timestamp can be read at once right after.
     for q in 0..16 {
@@ -33,7 +35,8 @@ pub(crate) fn tick(clock: &mut Clock, processor: usize)
 
 /// Whether each entry but the processor's own is at most the other timestamp's.
 pub(crate) fn others_are_within(clock: &Clock, other: &Clock, processor: usize) -> bool
-    ensures { IsTrue result ↔ ((q : ℕ) → q ≢ processor → slice_index clock.now q ≤ slice_index other.now q) }
+    ensures { IsTrue result ↔ ((q : ℕ) → q ≢ processor
+        → slice_index clock.now q ≤ slice_index other.now q) }
 {
     let mut within = true;
     for q in 0..16 {
@@ -55,7 +58,8 @@ pub(crate) fn join_at(
     number: usize,
     clock: &Clock,
 ) -> Result<(), AllocError>
-    ensures { OnOk result (IsJoinedAt (map_entry clocks.old) (map_entry clocks.new) number (slice_index clock.now)) }
+    ensures { OnOk result (IsJoinedAt (map_entry clocks.old) (map_entry clocks.new) number
+        (slice_index clock.now)) }
 {
     let mut kept = clock_at(clocks, number);
     join(&mut kept, clock);
@@ -91,7 +95,8 @@ pub(crate) fn join_in(
     place: usize,
     clock: &Clock,
 ) -> Result<(), AllocError>
-    ensures { OnOk result (IsJoinedAt (entry clocks.old.items) (entry clocks.new.items) place (slice_index clock.now)) }
+    ensures { OnOk result (IsJoinedAt (entry clocks.old.items) (entry clocks.new.items) place
+        (slice_index clock.now)) }
 {
     grow_in(clocks, place)?;
     let mut kept = clocks[place];

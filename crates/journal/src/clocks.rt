@@ -68,7 +68,8 @@ impl Clocks {
     fn brought(&self, event: Event) -> Clock
         requires processor { event.processor < 16 }
         requires left { self.now.gone ≤ slice_index self.now.departures event.processor }
-        ensures { (q : ℕ) → slice_index result q ≡ brought_entry self.now event.processor event.kind q }
+        ensures { (q : ℕ) → slice_index result q
+            ≡ brought_entry self.now event.processor event.kind q }
     {
         match event.kind {
             Kind::Acquire(lock) => self.locks.at(lock),
@@ -86,8 +87,12 @@ impl Clocks {
         requires processor { event.processor < 16 }
         requires long { vec_len self.now.processors ≡ 16 }
         requires left { self.now.gone ≤ slice_index self.now.departures event.processor }
-        requires room { max (entry self.now.processors.items event.processor event.processor) (brought_entry self.now event.processor event.kind event.processor) < 2 ^ 22 }
-        ensures { (q : ℕ) → slice_index result q ≡ max (entry self.now.processors.items event.processor q) (brought_entry self.now event.processor event.kind q) + cond ((event.processor == q) && is_closing event.kind) 1 0 }
+        requires room { max (entry self.now.processors.items event.processor event.processor)
+            (brought_entry self.now event.processor event.kind event.processor) < 2 ^ 22 }
+        ensures { (q : ℕ) → slice_index result q
+            ≡ max (entry self.now.processors.items event.processor q)
+            (brought_entry self.now event.processor event.kind q) + cond
+            ((event.processor == q) && is_closing event.kind) 1 0 }
     {
         let mut own = self.processors[event.processor];
         let brought = self.brought(event);
@@ -106,7 +111,8 @@ impl Clocks {
         ensures departures { self.new.departures ≡ self.old.departures }
         ensures present { self.new.present ≡ self.old.present }
         ensures gone { self.new.gone ≡ self.old.gone }
-        ensures keeps { OnOk result (Keeps self.old self.new.locks self.new.flags self.new.episodes.items event.processor (slice_index own.now) event.kind) }
+        ensures keeps { OnOk result (Keeps self.old self.new.locks self.new.flags
+            self.new.episodes.items event.processor (slice_index own.now) event.kind) }
     {
         match event.kind {
             Kind::Release(lock) => self.locks.join(lock, own),
@@ -134,8 +140,12 @@ impl Clocks {
         ensures episodes { self.new.episodes ≡ self.old.episodes }
         ensures present { self.new.present ≡ self.old.present }
         ensures gone { self.new.gone ≡ self.old.gone }
-        ensures arrivals { (q : ℕ) → slice_index self.new.arrivals q ≡ slice_index self.old.arrivals q + cond ((event.processor == q) && is_arrive event.kind) 1 0 }
-        ensures departures { (q : ℕ) → slice_index self.new.departures q ≡ slice_index self.old.departures q + cond ((event.processor == q) && is_depart event.kind) 1 0 }
+        ensures arrivals { (q : ℕ) → slice_index self.new.arrivals q
+            ≡ slice_index self.old.arrivals q + cond
+            ((event.processor == q) && is_arrive event.kind) 1 0 }
+        ensures departures { (q : ℕ) → slice_index self.new.departures q
+            ≡ slice_index self.old.departures q + cond
+            ((event.processor == q) && is_depart event.kind) 1 0 }
     {
         match event.kind {
             Kind::Arrive => self.arrivals[event.processor] += 1,
@@ -154,9 +164,15 @@ impl Clocks {
         ensures arrivals { self.new.arrivals ≡ self.old.arrivals }
         ensures departures { self.new.departures ≡ self.old.departures }
         ensures present { self.new.present ≡ self.old.present }
-        ensures goes { is_depart event.kind ≡ true → ((p : ℕ) → p < self.old.present → self.old.gone < slice_index self.old.departures p) → self.new.gone ≡ self.old.gone + 1 }
-        ensures left { (p : ℕ) → p < self.old.present → self.old.gone ≤ slice_index self.old.departures p → self.new.gone ≤ slice_index self.old.departures p }
-        ensures episodes { (n q : ℕ) → self.new.gone ≤ n → (self.old.gone ≤ n) × (entry self.new.episodes.items (n - self.new.gone) q ≡ entry self.old.episodes.items (n - self.old.gone) q) }
+        ensures goes { is_depart event.kind ≡ true
+            → ((p : ℕ) → p < self.old.present → self.old.gone < slice_index self.old.departures p)
+            → self.new.gone ≡ self.old.gone + 1 }
+        ensures left { (p : ℕ) → p < self.old.present
+            → self.old.gone ≤ slice_index self.old.departures p
+            → self.new.gone ≤ slice_index self.old.departures p }
+        ensures episodes { (n q : ℕ) → self.new.gone ≤ n → (self.old.gone ≤ n)
+            × (entry self.new.episodes.items (n - self.new.gone) q
+            ≡ entry self.old.episodes.items (n - self.old.gone) q) }
     {
         if departs(event.kind) && are_past(&self.departures[..self.present], self.gone) {
             let _ = self.episodes.pop_front();

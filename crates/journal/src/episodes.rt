@@ -22,8 +22,11 @@ fn ends_episode(arrivals: &mut [u32; 16], processors: usize, event: Event) -> bo
     requires few { processors ≤ most_processors }
     requires processor { event.processor < processors }
     requires room { slice_index arrivals.old event.processor < 2 ^ 22 }
-    ensures counts { (q : ℕ) → slice_index arrivals.new q ≡ slice_index arrivals.old q + cond ((event.processor == q) && is_arrive event.kind) 1 0 }
-    ensures ends { IsTrue result ↔ (IsTrue (is_arrive event.kind) × ((q : ℕ) → q < processors → slice_index arrivals.new event.processor ≤ slice_index arrivals.new q)) }
+    ensures counts { (q : ℕ) → slice_index arrivals.new q
+        ≡ slice_index arrivals.old q + cond ((event.processor == q) && is_arrive event.kind) 1 0 }
+    ensures ends { IsTrue result ↔ (IsTrue (is_arrive event.kind)
+        × ((q : ℕ) → q < processors → slice_index arrivals.new event.processor
+        ≤ slice_index arrivals.new q)) }
 {
     if !arrives(event.kind) {
         return false;

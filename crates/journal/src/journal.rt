@@ -63,7 +63,8 @@ fn opening(alloc: Global, processors: usize) -> Result<Vec<Event>, AllocError>
 /// Takes `count` events out from this place on.
 fn take_out(events: &mut Vec<Event>, place: usize, count: usize)
     requires { place + count ≤ vec_len events.old }
-    ensures items { events.new.items ≡ take place events.old.items ++ drop (place + count) events.old.items }
+    ensures items { events.new.items ≡ take place events.old.items
+        ++ drop (place + count) events.old.items }
     ensures len { vec_len events.new + count ≡ vec_len events.old }
     ensures capacity { vec_capacity events.new ≡ vec_capacity events.old }
 {
@@ -142,7 +143,8 @@ impl Journal {
     /// Makes room for `additional` more events. Where memory is refused, all is as before; it never is
     /// where there is room already.
     pub fn reserve(&mut self, additional: usize) -> Result<(), AllocError>
-        ensures ok { OnOk result (self.new ≡ record self.old { room = max self.old.room additional }) }
+        ensures ok { OnOk result (self.new
+            ≡ record self.old { room = max self.old.room additional }) }
         ensures err { OnErr result (self.new ≡ self.old) }
         ensures refused { OnErr result (self.old.room < additional) }
     {
@@ -159,7 +161,8 @@ impl Journal {
         requires limit { length self.old.events < most_held }
         requires processor { event.processor < self.old.processors }
         requires address { AddressInRange self.old.addresses event.kind }
-        ensures { self.new ≡ record self.old { events = self.old.events ++ event ∷ []; room = self.old.room - 1 } }
+        ensures { self.new ≡ record self.old
+            { events = self.old.events ++ event ∷ []; room = self.old.room - 1 } }
     {
         let Ok(()) = self.events.push(event) else {
             unreachable!("room is reserved")
@@ -199,8 +202,10 @@ impl Journal {
     /// reply isn't its word at that place, else the words at the end. The only error is want of memory.
     pub fn replay(&self) -> Result<Option<Vec<u32>>, AllocError>
         ensures replays { IfOk result (λ o. IsSome o ↔ Replays self.now.base.memory self.now.events) }
-        ensures memory { IfOk result (λ o. IfSome o (λ v. v.items ≡ memory_after self.now.base.memory self.now.events)) }
-        ensures flat { IfOk result (λ o. ExplainedFrom self.now.base self.now.events → RaceFreeFrom self.now.base self.now.events → IsSome o) }
+        ensures memory { IfOk result (λ o. IfSome o
+            (λ v. v.items ≡ memory_after self.now.base.memory self.now.events)) }
+        ensures flat { IfOk result (λ o. ExplainedFrom self.now.base self.now.events
+            → RaceFreeFrom self.now.base self.now.events → IsSome o) }
     {
         replay_of(*self.events.allocator(), self.base(), self.events())
     }
@@ -208,7 +213,9 @@ impl Journal {
     /// The first race of the first `count` events.
     fn race_before(&self, count: usize) -> Result<Option<(usize, usize)>, AllocError>
         requires { count ≤ length self.now.events }
-        ensures race { IfOk result (λ o. MatchOption o (RaceFreeFrom self.now.base (take count self.now.events)) (λ r. IsFirstRaceFrom self.now.base (take count self.now.events) r.0 r.1)) }
+        ensures race { IfOk result (λ o. MatchOption o
+            (RaceFreeFrom self.now.base (take count self.now.events))
+            (λ r. IsFirstRaceFrom self.now.base (take count self.now.events) r.0 r.1)) }
         ensures in_range { AddressesInRange (length self.now.base.memory) self.now.events }
     {
         // Where nothing was cut off, nobody has arrived before.
@@ -236,15 +243,19 @@ impl Journal {
     /// Two accesses of one address race where one of them is a store, two processors make them, and
     /// neither happens before the other (Adve and Hill 1990).
     pub fn first_race(&self) -> Result<Option<(usize, usize)>, AllocError>
-        ensures first { IfOk result (λ o. MatchOption o (RaceFreeFrom self.now.base self.now.events) (λ r. IsFirstRaceFrom self.now.base self.now.events r.0 r.1)) }
-        ensures flat { IfOk result (λ o. IfSome o (λ r. ExplainedFrom self.now.base self.now.events → Replays self.now.base.memory (take r.1 self.now.events))) }
+        ensures first { IfOk result (λ o. MatchOption o (RaceFreeFrom self.now.base self.now.events)
+            (λ r. IsFirstRaceFrom self.now.base self.now.events r.0 r.1)) }
+        ensures flat { IfOk result (λ o. IfSome o
+            (λ r. ExplainedFrom self.now.base self.now.events
+            → Replays self.now.base.memory (take r.1 self.now.events))) }
     {
         self.race_before(self.len())
     }
 
     /// What all events cost, those cut off too. It takes no memory.
     pub fn traffic(&self) -> Traffic
-        ensures messages { result.messages ≡ self.now.base.spent.messages + messages self.now.events }
+        ensures messages { result.messages
+            ≡ self.now.base.spent.messages + messages self.now.events }
         ensures records { result.records ≡ self.now.base.spent.records + records self.now.events }
         ensures words { result.words ≡ self.now.base.spent.words + words self.now.events }
     {

@@ -45,7 +45,8 @@ fn let_go(holders: &mut Vec<(usize, usize)>, processor: usize, lock: usize)
 
 /// Takes note of who acquires or releases a lock. The only error is want of memory.
 fn hold(holders: &mut Vec<(usize, usize)>, event: Event) -> Result<(), AllocError>
-    ensures { OnOk result (holders.new.items ≡ held_after holders.old.items event.processor event.kind) }
+    ensures { OnOk result (holders.new.items
+        ≡ held_after holders.old.items event.processor event.kind) }
 {
     match event.kind {
         Kind::Acquire(lock) => holders.push((event.processor, lock))?,

@@ -66,7 +66,8 @@ struct Access {
 impl Access {
     /// Whether the loads are the processor's own, or the timestamp counts their intervals.
     fn loads_are_within(&self, several: &Clock, time: &Clock, processor: usize) -> bool
-        ensures { IsTrue result ↔ AreWithin (loads_entry self.now.loads several.now) (slice_index time.now) processor }
+        ensures { IsTrue result ↔ AreWithin (loads_entry self.now.loads several.now)
+            (slice_index time.now) processor }
     {
         match self.loads {
             Loads::Last(load) => load.is_within(time, processor),
@@ -79,7 +80,8 @@ impl Access {
         requires processor { processor < 16 }
         requires interval { slice_index time.now processor < 2 ^ 22 }
         ensures store { self.new.store ≡ self.old.store }
-        ensures loads { AreLoadsAfter (loads_entry self.old.loads several.old) (loads_entry self.new.loads several.new) (slice_index time.now) processor }
+        ensures loads { AreLoadsAfter (loads_entry self.old.loads several.old)
+            (loads_entry self.new.loads several.new) (slice_index time.now) processor }
     {
         let number = time[processor] + 1;
         match self.loads {
@@ -143,7 +145,8 @@ impl Accesses {
     fn are_counted(&self, event: Event, time: &Clock) -> bool
         requires last { AddressInRange (vec_len self.now.last) event.kind }
         requires loads { AddressInRange (vec_len self.now.loads) event.kind }
-        ensures { IsTrue result ↔ ConflictsAreCounted self.now event.processor (slice_index time.now) event.kind }
+        ensures { IsTrue result ↔ ConflictsAreCounted self.now event.processor
+            (slice_index time.now) event.kind }
     {
         let processor = event.processor;
         match event.kind {
@@ -196,7 +199,8 @@ fn first_racing(events: &[Event], place: usize, event: Event, time: &Clock) -> O
     requires few { length events.now ≤ most_held + most_processors }
     requires processors { ProcessorsInRange 16 events.now }
     requires time { IsTimeOf (take place events.now) event.processor (slice_index time.now) }
-    ensures { MatchOption result ((i : ℕ) → ¬ Race events.now i place) (λ i. Race events.now i place × ((m : ℕ) → Race events.now m place → i ≤ m)) }
+    ensures { MatchOption result ((i : ℕ) → ¬ Race events.now i place)
+        (λ i. Race events.now i place × ((m : ℕ) → Race events.now m place → i ≤ m)) }
 {
     let mut closings: Clock = [0; 16];
     for i in 0..place {
@@ -222,7 +226,8 @@ impl Accesses {
         requires loads { AddressInRange (vec_len self.now.loads) event.kind }
         requires time { IsTimeOf (take place events.now) event.processor (slice_index time.now) }
         requires kept { AreAccesses (take place events.now) (vec_len self.now.last) self.now }
-        ensures { MatchOption result ((i : ℕ) → ¬ Race events.now i place) (λ i. Race events.now i place × ((m : ℕ) → Race events.now m place → i ≤ m)) }
+        ensures { MatchOption result ((i : ℕ) → ¬ Race events.now i place)
+            (λ i. Race events.now i place × ((m : ℕ) → Race events.now m place → i ≤ m)) }
     {
         if self.are_counted(event, time) {
             None
@@ -255,7 +260,8 @@ pub(crate) fn first_race_of(
     requires few_processors { processors ≤ most_processors }
     requires addresses { AddressesInRange addresses events.now }
     requires processors { ProcessorsInRange processors events.now }
-    ensures { IfOk result (λ o. MatchOption o (RaceFree events.now) (λ r. IsFirstRace events.now r.0 r.1)) }
+    ensures { IfOk result (λ o. MatchOption o (RaceFree events.now)
+        (λ r. IsFirstRace events.now r.0 r.1)) }
 {
     let mut clocks = Clocks::new(alloc, processors)?;
     let mut accesses = Accesses::new(alloc, addresses)?;

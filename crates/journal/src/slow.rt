@@ -66,7 +66,9 @@ fn is_edge(events: &[Event], first: usize, second: usize) -> bool
 /// Marks in the row what is marked in the other, and the place of that one's event.
 fn mark_source(row: &mut [bool], other: &[bool], source: usize)
     requires { length other.now ≡ length row.old }
-    ensures { (i : ℕ) → i < length row.old → slice_index_or row.new i false ≡ (slice_index_or row.old i false || (slice_index_or other.now i false || (i == source))) }
+    ensures { (i : ℕ) → i < length row.old
+        → slice_index_or row.new i false ≡
+        (slice_index_or row.old i false || (slice_index_or other.now i false || (i == source))) }
 {
     for i in 0..row.len() {
         row[i] = row[i] || other[i] || i == source;
@@ -121,7 +123,8 @@ impl ReachTable {
     /// Whether the event at the first place happens before the one at the second; false where there is
     /// no such place.
     pub fn happens_before(&self, first: usize, second: usize) -> bool
-        ensures { (j : List Event) → IsTable j self.now → IsTrue result ↔ HappensBefore j first second }
+        ensures { (j : List Event) → IsTable j self.now → IsTrue result
+            ↔ HappensBefore j first second }
     {
         match self.rows.get(second) {
             Some(row) => first < row.len() && row[first],

@@ -98,7 +98,8 @@ impl Model for Locks {
 
     ghost view = { λ s. record { processors = s.processors; locks = s.locks.items } };
 
-    ghost invariant = { λ s. (l : ℕ) (k : State) → slice_get s.locks.items l ≡ Some k → length k.time ≡ s.processors };
+    ghost invariant = { λ s. (l : ℕ) (k : State) → slice_get s.locks.items l ≡ Some k
+        → length k.time ≡ s.processors };
 }
 
 impl Locks {

@@ -25,7 +25,8 @@ fn write_word<W: Write>(
     address: usize,
     word: u32,
 ) -> Result<(), OutFault>
-    ensures { Takes (W.contents out.old) (W.contents out.new) pending.old pending.new (word_line (address, word)) result }
+    ensures { Takes (W.contents out.old) (W.contents out.new) pending.old pending.new
+        (word_line (address, word)) result }
 {
     let mut line = Line::new();
     line.put(b" ", u64::from(word));
@@ -39,7 +40,8 @@ fn write_words<W: Write>(
     pending: &mut Pending,
     shown: &[(usize, u32)],
 ) -> Result<(), OutFault>
-    ensures { Takes (W.contents out.old) (W.contents out.new) pending.old pending.new (flat_map word_line shown.now) result }
+    ensures { Takes (W.contents out.old) (W.contents out.new) pending.old pending.new
+        (flat_map word_line shown.now) result }
 {
     for (address, word) in shown {
         write_word(out, pending, *address, *word)?;
@@ -49,7 +51,8 @@ fn write_words<W: Write>(
 
 /// Writes the line of the verdict.
 fn write_verdict<W: Write>(out: &mut W, pending: &mut Pending, racy: bool) -> Result<(), OutFault>
-    ensures { Takes (W.contents out.old) (W.contents out.new) pending.old pending.new (verdict_line racy) result }
+    ensures { Takes (W.contents out.old) (W.contents out.new) pending.old pending.new
+        (verdict_line racy) result }
 {
     if racy {
         pending.take(out, b"verdict racy\n")
@@ -64,7 +67,8 @@ fn write_traffic<W: Write>(
     pending: &mut Pending,
     traffic: Traffic,
 ) -> Result<(), OutFault>
-    ensures { Takes (W.contents out.old) (W.contents out.new) pending.old pending.new (traffic_line traffic) result }
+    ensures { Takes (W.contents out.old) (W.contents out.new) pending.old pending.new
+        (traffic_line traffic) result }
 {
     let mut line = Line::new();
     line.put(b" ", traffic.words);
@@ -78,7 +82,8 @@ fn write_traffic<W: Write>(
 fn put_access(line: &mut Line, name: &[u8], address: usize, word: u32)
     requires begun { line.old ≡ codes "\n" }
     requires name { length name.now ≤ 9 }
-    ensures text { line.new ≡ name.now ++ decimal address ++ codes " " ++ decimal word ++ codes "\n" }
+    ensures text { line.new ≡ name.now ++ decimal address ++ codes " " ++ decimal word
+        ++ codes "\n" }
     ensures length { length line.new ≤ most_kind }
 {
     line.put(b" ", u64::from(word));
@@ -99,7 +104,8 @@ fn put_numbered(line: &mut Line, name: &[u8], number: usize)
 /// Puts what is said of a fetch: the page, and how many writers, records and words.
 fn put_fetch(line: &mut Line, page: usize, writers: u32, records: u32, words: u32)
     requires { line.old ≡ codes "\n" }
-    ensures text { line.new ≡ codes " fetch " ++ decimal page ++ codes " " ++ decimal writers ++ codes " " ++ decimal records ++ codes " " ++ decimal words ++ codes "\n" }
+    ensures text { line.new ≡ codes " fetch " ++ decimal page ++ codes " " ++ decimal writers
+        ++ codes " " ++ decimal records ++ codes " " ++ decimal words ++ codes "\n" }
     ensures length { length line.new ≤ most_kind }
 {
     line.put(b" ", u64::from(words));
@@ -165,7 +171,8 @@ pub fn write_events<W: Write>(
     events: &[Event],
 ) -> Result<(), OutFault>
     requires { first + length events.now < 2 ^ 64 }
-    ensures { Takes (W.contents out.old) (W.contents out.new) pending.old pending.new (event_lines first events.now) result }
+    ensures { Takes (W.contents out.old) (W.contents out.new) pending.old pending.new
+        (event_lines first events.now) result }
 {
     let mut line = Line::new();
     for (index, event) in events.iter().enumerate() {
@@ -177,7 +184,8 @@ pub fn write_events<W: Write>(
 
 /// Writes how many events were cut off, where any was.
 fn write_cut<W: Write>(out: &mut W, pending: &mut Pending, cut: u64) -> Result<(), OutFault>
-    ensures { Takes (W.contents out.old) (W.contents out.new) pending.old pending.new (cut_line cut) result }
+    ensures { Takes (W.contents out.old) (W.contents out.new) pending.old pending.new (cut_line cut)
+        result }
 {
     if cut == 0 {
         return Ok(());
@@ -193,7 +201,8 @@ fn write_summary<W: Write>(
     pending: &mut Pending,
     report: &Report,
 ) -> Result<(), OutFault>
-    ensures { Takes (W.contents out.old) (W.contents out.new) pending.old pending.new (summary_text report.now) result }
+    ensures { Takes (W.contents out.old) (W.contents out.new) pending.old pending.new
+        (summary_text report.now) result }
 {
     write_words(out, pending, &report.shown)?;
     write_verdict(out, pending, report.racy)?;
@@ -206,7 +215,8 @@ fn write_left<W: Write>(
     pending: &mut Pending,
     journal: &Journal,
 ) -> Result<(), OutFault>
-    ensures { Takes (W.contents out.old) (W.contents out.new) pending.old pending.new (left_text journal.now) result }
+    ensures { Takes (W.contents out.old) (W.contents out.new) pending.old pending.new
+        (left_text journal.now) result }
 {
     let cut = journal.cut_events();
     write_cut(out, pending, cut)?;
@@ -221,7 +231,8 @@ fn write_journal<W: Write>(
     report: &Report,
     journal: bool,
 ) -> Result<(), OutFault>
-    ensures { Takes (W.contents out.old) (W.contents out.new) pending.old pending.new (journal_text report.now journal) result }
+    ensures { Takes (W.contents out.old) (W.contents out.new) pending.old pending.new
+        (journal_text report.now journal) result }
 {
     if journal {
         write_left(out, pending, &report.journal)
@@ -238,7 +249,8 @@ fn write_journal<W: Write>(
 ///
 /// OutFault where a write fails or takes no byte; a beginning of the text was written then.
 pub fn render<W: Write>(report: &Report, journal: bool, out: &mut W) -> Result<(), OutFault>
-    ensures { Writes (W.contents out.old) (W.contents out.new) (report_text report.now journal) result }
+    ensures { Writes (W.contents out.old) (W.contents out.new) (report_text report.now journal)
+        result }
 {
     let mut pending = Pending::new();
     write_summary(out, &mut pending, report)?;

@@ -43,7 +43,8 @@ fn report<T: Turn<Book, Rule>>(
     shown: Vec<(usize, u32)>,
 ) -> Result<Report, AllocError>
     requires { AreAllOf cluster processors.items }
-    ensures { (s : Plan) → HaveFollowed s cluster processors.items shown.items → IfOk result (IsReportOf s) }
+    ensures { (s : Plan) → HaveFollowed s cluster processors.items shown.items
+        → IfOk result (IsReportOf s) }
 {
     let journal = cluster.finish(processors);
     let racy = journal.first_race()?.is_some();

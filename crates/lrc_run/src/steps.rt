@@ -180,8 +180,10 @@ fn round<T: Turn<Book, Rule>, R: Wait>(
     requires lawful { IsLawful (plan_of script.now) }
     requires sizes { cluster.now.sizes ≡ sizes_of (plan_of script.now) }
     requires list { AreBelow (vec_len processors.old) list.now }
-    requires way { AreOnTheirWay cluster.now (plan_of script.now).sections processors.old.items all.old.items }
-    ensures { IfOk result (λ _. AreOnTheirWay cluster.now (plan_of script.now).sections processors.new.items all.new.items) }
+    requires way { AreOnTheirWay cluster.now (plan_of script.now).sections processors.old.items
+        all.old.items }
+    ensures { IfOk result (λ _. AreOnTheirWay cluster.now (plan_of script.now).sections
+        processors.new.items all.new.items) }
 {
     let mut moved = false;
     for p in list {
@@ -204,9 +206,11 @@ fn turn_at<T: Turn<Book, Rule>, R: Wait>(
     requires lawful { IsLawful (plan_of script.now) }
     requires sizes { cluster.now.sizes ≡ sizes_of (plan_of script.now) }
     requires within { p < vec_len processors.old }
-    requires way { AreOnTheirWay cluster.now (plan_of script.now).sections processors.old.items all.old.items }
+    requires way { AreOnTheirWay cluster.now (plan_of script.now).sections processors.old.items
+        all.old.items }
     ensures long { vec_len processors.new ≡ vec_len processors.old }
-    ensures way { IfOk result (λ _. AreOnTheirWay cluster.now (plan_of script.now).sections processors.new.items all.new.items) }
+    ensures way { IfOk result (λ _. AreOnTheirWay cluster.now (plan_of script.now).sections
+        processors.new.items all.new.items) }
 {
     let section = &script.sections[p];
     match take_turn(rt, cluster, &mut processors[p], section, all[p]) {

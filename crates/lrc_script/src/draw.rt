@@ -106,7 +106,8 @@ fn piece(
     section: &mut Vec<Instruction>,
 ) -> Result<(), AllocError>
     requires { IsShape shape }
-    ensures items { OnOk result (section.new.items ≡ section.old.items ++ (piece style shape rng.old).0) }
+    ensures items { OnOk result (section.new.items
+        ≡ section.old.items ++ (piece style shape rng.old).0) }
     ensures state { OnOk result (rng.new ≡ (piece style shape rng.old).1) }
 {
     match style {
@@ -131,7 +132,8 @@ fn phase(
     section: &mut Vec<Instruction>,
 ) -> Result<(), AllocError>
     requires { IsShape shape }
-    ensures items { OnOk result (section.new.items ≡ section.old.items ++ (phase style shape rng.old).0) }
+    ensures items { OnOk result (section.new.items
+        ≡ section.old.items ++ (phase style shape rng.old).0) }
     ensures state { OnOk result (rng.new ≡ (phase style shape rng.old).1) }
 {
     let count = below(rng, most_pieces(style));
@@ -167,7 +169,8 @@ fn sections(
     shape: Shape,
 ) -> Result<Vec<Vec<Instruction>>, AllocError>
     requires { IsShape shape }
-    ensures { IfOk result (λ v. items_of v.items ≡ (drawn_sections shape.processors style shape rng.old).0) }
+    ensures { IfOk result (λ v. items_of v.items
+        ≡ (drawn_sections shape.processors style shape rng.old).0) }
 {
     let mut sections = Vec::new(alloc);
     for _ in 0..shape.processors {

@@ -139,8 +139,10 @@ impl Few {
 
 /// The numbers that the words are, where they are numbers and two at most.
 pub fn few_numbers(words: Option<&[u8]>) -> Option<Few>
-    ensures numbers { IfSome result (λ few. numbers_after [] (parts_left 32 words.entry) ≡ Ok (few_items few)) }
-    ensures others { IfNone result ((ns : List ℕ) → numbers_after [] (parts_left 32 words.entry) ≡ Ok ns → 2 < length ns) }
+    ensures numbers { IfSome result (λ few. numbers_after [] (parts_left 32 words.entry)
+        ≡ Ok (few_items few)) }
+    ensures others { IfNone result ((ns : List ℕ)
+        → numbers_after [] (parts_left 32 words.entry) ≡ Ok ns → 2 < length ns) }
 {
     let Some(line) = words else {
         return Some(Few::Zero);

@@ -144,7 +144,8 @@ fn next_section(
     section: Section,
     numbers: &[u32],
 ) -> Result<Progress, ScriptFault>
-    ensures { Gives front_of result (next_section (plan_of script) section.instructions.items numbers.now) }
+    ensures { Gives front_of result (next_section (plan_of script) section.instructions.items
+        numbers.now) }
 {
     match numbers {
         [k] if *k as usize == script.sections.len() + 1 && (*k as usize) < script.processors => {
@@ -240,7 +241,8 @@ impl Progress {
     fn go_on(&mut self, alloc: Global, keyword: Keyword, numbers: &[u32]) -> Result<(), ScriptFault>
         requires begun { IsBegun (front_of self.old) }
         requires other { IsOther (front_of self.old) keyword numbers.now }
-        ensures ok { OnOk result (Goes (front_of self.new) (step (front_of self.old) keyword numbers.now)) }
+        ensures ok { OnOk result (Goes (front_of self.new)
+            (step (front_of self.old) keyword numbers.now)) }
         ensures err { IfErr result (λ e. Fails e (step (front_of self.old) keyword numbers.now)) }
     {
         *self = mem::replace(self, Progress::Start).next(alloc, keyword, numbers)?;
@@ -250,7 +252,8 @@ impl Progress {
     /// Goes on by a line of this keyword and these numbers. An instruction is added where it belongs.
     fn step(&mut self, alloc: Global, keyword: Keyword, numbers: &[u32]) -> Result<(), ScriptFault>
         requires { IsBegun (front_of self.old) }
-        ensures ok { OnOk result (Goes (front_of self.new) (step (front_of self.old) keyword numbers.now)) }
+        ensures ok { OnOk result (Goes (front_of self.new)
+            (step (front_of self.old) keyword numbers.now)) }
         ensures err { IfErr result (λ e. Fails e (step (front_of self.old) keyword numbers.now)) }
     {
         match self {
@@ -271,8 +274,10 @@ impl Progress {
         numbers: &[u32],
     ) -> Result<(), ScriptFault>
         requires { IsBegun (front_of self.old) }
-        ensures ok { OnOk result (Goes (front_of self.new) (after_numbers (front_of self.old) keyword numbers.now)) }
-        ensures err { IfErr result (λ e. Fails e (after_numbers (front_of self.old) keyword numbers.now)) }
+        ensures ok { OnOk result (Goes (front_of self.new)
+            (after_numbers (front_of self.old) keyword numbers.now)) }
+        ensures err { IfErr result (λ e. Fails e
+            (after_numbers (front_of self.old) keyword numbers.now)) }
     {
         match keyword {
             Some(keyword) if self.is_due(keyword, numbers.len()) => {

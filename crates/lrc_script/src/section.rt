@@ -38,7 +38,8 @@ impl Section {
 
     /// Adds an instruction.
     pub fn push(&mut self, instruction: Instruction) -> Result<(), ScriptFault>
-        ensures ok { OnOk result (self.new.instructions.items ≡ self.old.instructions.items ++ instruction ∷ []) }
+        ensures ok { OnOk result (self.new.instructions.items
+            ≡ self.old.instructions.items ++ instruction ∷ []) }
         ensures err { IfErr result (λ e. e ≡ NoMemory) }
     {
         self.instructions.push(instruction)?;

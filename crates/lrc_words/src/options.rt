@@ -26,7 +26,14 @@ pub struct Options {
 impl Options {
     /// What is asked for where nothing is given but the command: `step`, or `run`.
     pub fn plain(step: bool) -> Options
-        ensures { result ≡ record { step = step; file = None; tries = default_tries; seed = None; ticket = false; journal = false } }
+        ensures { result ≡ record {
+          step = step;
+          file = None;
+          tries = default_tries;
+          seed = None;
+          ticket = false;
+          journal = false;
+        } }
     {
         Options {
             step,

@@ -91,7 +91,8 @@ fn script_command<'a>(
     locks: &'a [&'a str],
 ) -> Result<Command<'a>, AllocError>
     requires { own.global ≡ false }
-    ensures app { IfOk result (λ c. app_of c ≡ script_app name.entry.now (rule_of own.entry) (vp.Names locks.entry)) }
+    ensures app { IfOk result (λ c. app_of c
+        ≡ script_app name.entry.now (rule_of own.entry) (vp.Names locks.entry)) }
     ensures globals { IfOk result (λ c. (out-Command c).has_globals ≡ false) }
 {
     let file = Arg::new(alloc, "FILE").help("the script; standard input where it isn't given");
@@ -142,7 +143,8 @@ fn number_of(matches: &ArgMatches<'_>, id: &str) -> Option<u64>
 
 /// The number given for `--tries`, or the default.
 fn tries_of(matches: &ArgMatches<'_>) -> u64
-    ensures { IsNumberGiven 1 most_tries default_tries (one_of (codes "tries") (rows_of (found_of matches.now))) result }
+    ensures { IsNumberGiven 1 most_tries default_tries
+        (one_of (codes "tries") (rows_of (found_of matches.now))) result }
 {
     match number_of(matches, "tries") {
         Some(tries) if 1 <= tries && tries <= MOST_TRIES => tries,
@@ -162,7 +164,8 @@ fn seed_of(matches: &ArgMatches<'_>) -> Option<u64>
 
 /// Whether the ticket lock is asked for.
 fn is_ticket(matches: &ArgMatches<'_>) -> bool
-    ensures { result ≡ option_map_or (λ t. bytes_eq t (codes "ticket")) (first_of (codes "lock") (rows_of (found_of matches.now))) false }
+    ensures { result ≡ option_map_or (λ t. bytes_eq t (codes "ticket"))
+        (first_of (codes "lock") (rows_of (found_of matches.now))) false }
 {
     match matches.get_str("lock") {
         Some(lock) => lock == "ticket",
@@ -179,7 +182,8 @@ fn wants_journal(matches: &ArgMatches<'_>) -> bool
 
 /// The file that is named.
 fn file_of(alloc: Global, matches: &ArgMatches<'_>) -> Result<Option<String>, AllocError>
-    ensures { IfOk result (λ f. option_map (λ s. string_bytes s) f ≡ first_of (codes "FILE") (rows_of (found_of matches.now))) }
+    ensures { IfOk result (λ f. option_map (λ s. string_bytes s) f
+        ≡ first_of (codes "FILE") (rows_of (found_of matches.now))) }
 {
     match matches.get_str("FILE") {
         Some(file) => Ok(Some(String::from_str(alloc, file)?)),

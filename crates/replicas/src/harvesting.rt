@@ -20,7 +20,8 @@ pub fn harvest(
     stored: &Marks,
 ) -> Result<Vec<Arc<Record>>, AllocError>
     requires { DirtyAreMarked replicas.now stored.now }
-    ensures harvests { IfOk result (λ records. AreHarvests replicas.now (map arc_value records.items)) }
+    ensures harvests { IfOk result (λ records. AreHarvests replicas.now
+        (map arc_value records.items)) }
     ensures unmarked { stored.now ≡ replicate 64 false → IsOk result }
 {
     let mut records = Vec::new(alloc);

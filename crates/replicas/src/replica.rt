@@ -77,7 +77,8 @@ impl Replica {
 
     /// Its words, where it lacks nothing.
     pub fn words(&self) -> Option<&[u32]>
-        ensures { option_map (λ words. words.now) result ≡ words_if (may_use self.now.page.access) self.now }
+        ensures { option_map (λ words. words.now) result
+            ≡ words_if (may_use self.now.page.access) self.now }
     {
         if !self.is_valid() {
             return None;
@@ -172,7 +173,8 @@ impl Replica {
 fn apply_all(page: &mut Page, missing: &[Sent])
     requires invalid { page.old.access ≡ Invalid }
     requires fit { AllFit (length page.old.words) missing.now }
-    ensures { page.new ≡ record page.old { words = records_applied page.old.words (map words_of missing.now) } }
+    ensures { page.new ≡ record page.old
+        { words = records_applied page.old.words (map words_of missing.now) } }
 {
     for sent in missing {
         let content: &Record = &sent.content;

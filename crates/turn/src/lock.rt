@@ -228,10 +228,15 @@ impl<B, K: Keeper<B>, W: Board, const ENTRIES: u64> Lock<B, K, W, ENTRIES> {
     // Gives each place of the lock to a chair of its own.
     fn deal(&self, mut rest: LockSeat<B, K::View>, mut chairs: Vec<Chair<B, K>>) -> Vec<Chair<B, K>>
         requires own { rest.table_id ≡ self.now.table.shared.table_id }
-        requires whole { rest.me ≡ (fresh_run (K.first self.now.table.shared.key.book.value) 0 self.now.layout.seats, []) }
+        requires whole { rest.me ≡ (
+          fresh_run (K.first self.now.table.shared.key.book.value) 0
+              self.now.layout.seats,
+          [],
+        ) }
         requires room { (chairs.items ≡ []) × (self.now.layout.seats ≤ vec_capacity chairs) }
         ensures all { length result.items ≡ self.now.layout.seats }
-        ensures fresh { AreFresh (lock_id self.now.table.shared.table_id ENTRIES) (K.first self.now.table.shared.key.book.value) result.items }
+        ensures fresh { AreFresh (lock_id self.now.table.shared.table_id ENTRIES)
+            (K.first self.now.table.shared.key.book.value) result.items }
     {
         for _ in 0..self.layout.seats {
             let seat = self.table.shared.split_seat::<Deal>(&mut rest);
@@ -312,7 +317,8 @@ impl<B: Send, K: Keeper<B>, W: Board + Sync, const ENTRIES: u64> Turn<B, K>
     }
 
     fn close(self, chairs: Vec<Chair<B, K>>) -> B
-        requires { AreAll (lock_id self.table.shared.table_id ENTRIES) self.layout.seats chairs.items }
+        requires { AreAll (lock_id self.table.shared.table_id ENTRIES) self.layout.seats
+            chairs.items }
         ensures { K.fact result (map view chairs.items) }
     {
         let whole = self.gather(chairs);

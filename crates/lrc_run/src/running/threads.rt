@@ -176,7 +176,8 @@ pub(super) fn walk_all<
 ) -> Result<Vec<Outcome<T>>, AllocError>
     requires new { AreNew cluster.now processors.items }
     requires sections { length sections.now ≡ vec_len processors }
-    ensures { IfOk result (λ outcomes. AreOutcomes cluster.now (items_of sections.now) outcomes.items) }
+    ensures { IfOk result (λ outcomes. AreOutcomes cluster.now (items_of sections.now)
+        outcomes.items) }
 {
     let threads = Vec::with_capacity(alloc, processors.len())?;
     let outcomes = Vec::with_capacity(alloc, processors.len())?;
@@ -188,7 +189,8 @@ pub(super) fn walk_all<
             requires new { AreNew cluster.now processors.items }
             requires sections { length sections.now ≡ vec_len processors }
             requires threads { (threads.items ≡ []) × (vec_len processors ≤ vec_capacity threads) }
-            requires outcomes { (outcomes.items ≡ []) × (vec_len processors ≤ vec_capacity outcomes) }
+            requires outcomes { (outcomes.items ≡ [])
+                × (vec_len processors ≤ vec_capacity outcomes) }
             ensures { AreOutcomes cluster.entry.now (items_of sections.entry.now) result.items }
         {
             let threads = start_all(

@@ -172,8 +172,10 @@ fn open_two<W: Board + Sync>(
     ),
     AllocError,
 >
-    ensures first { IfOk result (λ r. (lock r.1 ≡ lock_id r.0.table.shared.table_id 3) × IsOutside r.1) }
-    ensures second { IfOk result (λ r. (lock r.2 ≡ lock_id r.0.table.shared.table_id 3) × IsOutside r.2) }
+    ensures first { IfOk result (λ r. (lock r.1 ≡ lock_id r.0.table.shared.table_id 3)
+        × IsOutside r.1) }
+    ensures second { IfOk result (λ r. (lock r.2 ≡ lock_id r.0.table.shared.table_id 3)
+        × IsOutside r.2) }
 {
     let (turn, mut chairs) = Lock::<u64, Anything, W, 3>::new(alloc, 7, 2)?;
     let Some(second) = chairs.pop() else {
@@ -240,7 +242,8 @@ fn in_turn<W: Board + Sync, R: Threads + Wait + Clock + Sync>(
             requires { (lock first ≡ lock_id shared.now.table.shared.table_id 3) × IsOutside first }
         { leaves_late(rt, shared, first) },
         move || -> Result<u64, Spent>
-            requires { (lock second ≡ lock_id shared.now.table.shared.table_id 3) × IsOutside second }
+            requires { (lock second ≡ lock_id shared.now.table.shared.table_id 3)
+                × IsOutside second }
         { enters_second(rt, shared, second) },
     ))
 }
