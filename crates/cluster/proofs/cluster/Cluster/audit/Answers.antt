@@ -1,3 +1,4 @@
+-- The goals are those of each call that enters, over records of this one's steps: proofs/Visiting has what they share.
 use Rattle.std.proofs.Common.{refl, arith}
 use Rattle.cluster.specs.Seats.{local}
 use Rattle.cluster.proofs.Finding.{may_flush}

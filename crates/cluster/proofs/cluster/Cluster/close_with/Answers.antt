@@ -1,3 +1,4 @@
+-- The goals are those of each call that enters, over records of this one's steps: proofs/Visiting has what they share.
 use Rattle.std.proofs.Common.{map, refl, sym, subst, arith}
 use Rattle.std.specs.Arc.{arc_value}
 use Rattle.replicas.specs.Records.{AreHarvests}

@@ -1,3 +1,4 @@
+-- The goals are those of each call that enters, over records of this one's steps: proofs/Visiting has what they share.
 use Rattle.std.proofs.Common.{refl}
 use Rattle.cluster.proofs.Visiting.{may_give_back, visited, left_as}
 use Rattle.cluster.proofs.Made.{alike_all, refused_with, unchanged_sound}
