@@ -142,7 +142,8 @@ impl<T: Turn<Book, Rule>> Cluster<T> {
 fn parts_of(alloc: Global, shape: Shape) -> Result<Vec<Parts>, AllocError>
     requires { AreSizes shape }
     ensures long { IfOk result (λ all. vec_len all ≡ shape.processors) }
-    ensures each { IfOk result (λ all. (p : ℕ) (x : Parts) → slice_get all.items p ≡ Some x → AreParts shape x) }
+    ensures each { IfOk result (λ all. (p : ℕ) (x : Parts) → slice_get all.items p ≡ Some x
+        → AreParts shape x) }
 {
     let mut all = Vec::with_capacity(alloc, shape.processors)?;
     for _ in 0..shape.processors {

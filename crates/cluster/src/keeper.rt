@@ -26,7 +26,8 @@ impl Keeper<Book> for Rule {
 
     ghost first = { λ b. nothing_seen (sizes_of b) };
 
-    ghost nobody = { nothing_seen (record { processors = 0; pages = 0; words = 0; locks = 0; flags = 0 }) };
+    ghost nobody = { nothing_seen (record
+        { processors = 0; pages = 0; words = 0; locks = 0; flags = 0 }) };
 }
 
 /// Of each call that enters: the processor has seen what it found, and the events of its own that it leaves there.

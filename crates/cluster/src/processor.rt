@@ -87,7 +87,8 @@ impl<T: Turn<Book, Rule>> Model for Processor<T> {
 
     ghost Value = { Local };
 
-    ghost view = { λ m. local m.chair m.number m.shape m.block.items m.replicas.items m.stored m.time m.held.items m.awaits };
+    ghost view = { λ m. local m.chair m.number m.shape m.block.items m.replicas.items m.stored
+        m.time m.held.items m.awaits };
 
     ghost invariant = { λ m.
         IsSound (local m.chair m.number m.shape m.block.items m.replicas.items m.stored m.time m.held.items m.awaits)
@@ -396,7 +397,8 @@ impl<T: Turn<Book, Rule>> Processor<T> {
     /// Where the word at the address is, if a load or a store may use it: its page and its offset there.
     fn admit(&self, address: usize) -> Result<(usize, usize), Refused>
         ensures refused { result_err result ≡ access_refusal self.now address }
-        ensures place { IfOk result (λ r. (r.0 ≡ address / self.now.sizes.words) × (r.1 ≡ address % self.now.sizes.words)) }
+        ensures place { IfOk result (λ r. (r.0 ≡ address / self.now.sizes.words)
+            × (r.1 ≡ address % self.now.sizes.words)) }
     {
         let words = self.shape.words;
         let (page, offset) = (address / words, address % words);
