@@ -1,15 +1,18 @@
 -- What the getters of clap's matches read, by the rows.
-use Rattle.std.proofs.Common.{◌≡◌, ◌∙◌, ◌<◌, ◌≤◌, ◌^◌, ℕ, Bool, true, false, List, Option, Some, None, Result, Ok, Err, [], refl, sym, ap, ap₂, codes, arith}
+use Rattle.std.proofs.Common.{◌≡◌, ◌∙◌, ◌<◌, ◌≤◌, ◌^◌, ℕ, Bool, true, false, List, Option, Some, None, Result, Ok, Err, [], ◌∷◌, inl, refl, sym, ap, ap₂, codes, arith}
 use Rattle.std.specs.Prelude.{◌||◌, option_map}
 use Rattle.std.specs.Option.{option_map_or}
 use Rattle.std.specs.Str.{bytes_eq}
 use Rattle.std.specs.Str.Parse.{IsNumeral, ParsesUnsigned, without_leading_plus}
 use Rattle.std.proofs.lemmas.Option.{same_Some}
-use Rattle.clap.specs.Words.{FailsBy, Kinds, Row, Text, ReadsOne, first_of, first_value, one_of, one_text, rows_of}
+use Rattle.clap.specs.Words.{FailsBy, HasKind, Kinds, Row, Text, ReadsOne, first_of, first_value, one_of, one_text, rows_of}
 use Rattle.clap.specs.declared.parser.matches.Found.{Found}
 use Rattle.clap.specs.declared.error.Error.{Error}
 use Rattle.clap.proofs.WalkLemmas.{first_value-rows, one_text-rows}
-use Rattle.lrc_words.specs.Words.{IsNumberRead, IsNumberGiven, IsSeedGiven, IsFlagGiven, number_of, most_tries, default_tries, most_seed}
+use Rattle.clap.specs.Values.{kind_of}
+use Rattle.clap.specs.declared.builder.value_parser.ValueParser.{ValueParser}
+use Rattle.clap.specs.declared.error.kind.ErrorKind.TheVariants.{OutOfMemory}
+use Rattle.lrc_words.specs.Words.{IsNumberRead, IsNumberGiven, IsSeedGiven, IsFlagGiven, IsRefusedBy, TakesNames, number_of, most_tries, default_tries, most_seed}
 
 -- a text that is a number is read as that
 number_reads : {E : Type 0} (t : Text) (G : List ℕ → Result ℕ E → Type 0) (r : Option ℕ) → ReadsOne G t r
@@ -125,3 +128,13 @@ named_rows f g (Some b) name rows named found =
 -- where the words were taken there is no fault
 pub no_fault : {T : Type 0} (kinds : Kinds) (r : Result T Error) (x : T) → r ≡ Ok x → FailsBy kinds r → kinds ≡ []
 no_fault kinds r x was fails = rw was at fails
+
+-- an error has one of the kinds
+pub is_fault : {T : Type 0} (kinds : Kinds) (r : Result T Error) (e : Error) → r ≡ Err e → FailsBy kinds r
+    → HasKind kinds e
+is_fault kinds r e was fails = rw was at fails
+
+-- want of memory refuses any words
+pub out_of_memory : (locks : ValueParser) (words : List Text) (e : Error)
+    → TakesNames (codes "array" ∷ codes "ticket" ∷ []) locks → kind_of e ≡ OutOfMemory → IsRefusedBy words e
+out_of_memory locks words e are is = record { locks = locks; locks_are = are; kind = inl is }

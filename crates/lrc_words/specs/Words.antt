@@ -3,12 +3,13 @@ use Rattle.std.specs.Prelude.{ℕ, ◌≡◌, ◌<◌, ◌≤◌, ◌-◌, ◌^�
 use Rattle.std.specs.Option.{option_map_or}
 use Rattle.std.specs.Str.{bytes_eq}
 use Rattle.std.specs.Str.Parse.{IsNumeral, digits_value, without_leading_plus}
-use Rattle.clap.specs.Words.{App, Row, Rule, Text, new_app, new_rule, with_rule, with_subcommand, subcommand_of, first_of, one_of, fault_of}
+use Rattle.clap.specs.Words.{App, HasKind, Row, Rule, Text, new_app, new_rule, with_rule, with_subcommand, subcommand_of, first_of, one_of, fault_of}
 use Rattle.clap.specs.Simple.{on_top}
 use Rattle.clap.specs.Values.{IsUnsignedIn}
 use Rattle.clap.specs.declared.builder.action.ArgAction.TheVariants.{SetTrue}
 use Rattle.clap.specs.declared.builder.value_parser.ValueParser.{ValueParser}
 use Rattle.clap.specs.declared.builder.value_parser.ValueParser.TheVariants as vp
+use Rattle.clap.specs.declared.error.Error.{Error}
 use Rattle.lrc_words.specs.declared.options.Options.{Options}
 
 -- the limits and the default of `--tries`, and the limit of `--seed`
@@ -102,3 +103,9 @@ pub record AreGiven (words : List Text) (o : Options) : Type 0 where
   pub rows : List Row
   pub command : subcommand_of (lrc_app locks) words ≡ Some (name, rows)
   pub options : AreOptionsOf name rows o
+
+-- memory ran out, or the matches of that command find a fault of this kind in the words
+pub record IsRefusedBy (words : List Text) (e : Error) : Type 0 where
+  pub locks : ValueParser
+  pub locks_are : TakesNames (codes "array" ∷ codes "ticket" ∷ []) locks
+  pub kind : HasKind (fault_of (lrc_app locks) words) e

@@ -3,9 +3,10 @@
 //! **What contracts see.** `Options` as they are; `AreGiven` says what options the words give, by the matches that clap
 //! states for a simple command.
 //!
-//! **What is proved.** Where `options` answers options, the words give them.
+//! **What is proved.** Where `options` answers options, the words give them; where it answers a fault, they have one of
+//! that kind, or memory ran out.
 //!
-//! **What is only tested.** Which words are refused, and the texts of faults and help.
+//! **What is only tested.** The texts of faults and help.
 #![tactic(auto)]
 
 pub mod options;

@@ -1,12 +1,12 @@
 //! Reads the program's words.
 
-ghost use Rattle.std.specs.Prelude.{◌≡◌, IfOk, false, true, map, option_map, string_bytes, codes};
+ghost use Rattle.std.specs.Prelude.{◌≡◌, IfOk, IfErr, false, true, map, option_map, string_bytes, codes};
 ghost use Rattle.std.specs.Option.{option_map_or};
 ghost use Rattle.std.specs.Str.{bytes_eq};
 ghost use Rattle.clap.specs.Words.{app_of, rule_of, first_of, one_of, rows_of, found_of};
 ghost use Rattle.clap.specs.declared.builder.command.Command.TheViews.{out-Command};
 ghost use Rattle.clap.specs.declared.builder.value_parser.ValueParser.TheVariants as vp;
-ghost use Rattle.lrc_words.specs.Words.{tries_rule, seed_rule, lock_rule, journal_rule, script_app, lrc_app, IsNumberRead, IsNumberGiven, IsSeedGiven, IsFlagGiven, AreOptionsOf, AreGiven, most_tries, default_tries};
+ghost use Rattle.lrc_words.specs.Words.{tries_rule, seed_rule, lock_rule, journal_rule, script_app, lrc_app, IsNumberRead, IsNumberGiven, IsSeedGiven, IsFlagGiven, AreOptionsOf, AreGiven, IsRefusedBy, most_tries, default_tries};
 
 use crate::options::{DEFAULT_TRIES, Options};
 use clap::builder::ValueParser;
@@ -211,9 +211,11 @@ fn options_of(alloc: Global, name: &str, matches: &ArgMatches<'_>) -> Result<Opt
 ///
 /// # Errors
 ///
-/// clap's: words that give no such command, a question for help, or want of memory.
+/// clap's, of just the kind that its own function of the command finds in the words: words that give no such command,
+/// a question for help; or want of memory.
 pub fn options<'a>(alloc: Global, words: &'a [&'a str]) -> Result<Options, Error>
-    ensures { IfOk result (AreGiven (map (λ w. w.now) words.entry.now)) }
+    ensures given { IfOk result (AreGiven (map (λ w. w.now) words.entry.now)) }
+    ensures refused { IfErr result (IsRefusedBy (map (λ w. w.now) words.entry.now)) }
 {
     let matches = command(alloc, LOCKS.as_slice())?.try_get_matches_from(words)?;
     match matches.subcommand() {

@@ -1,12 +1,13 @@
-use Rattle.std.proofs.Common.{◌≡◌, ◌∙◌, [], ◌∷◌, sym, ap, codes, map, rules}
-use Rattle.clap.specs.Words.{App, fault_of, found_of, is_simple, is_simple_and_free, rows_of, subcommand_of, subcommand_rows_of}
+use Rattle.std.proofs.Common.{◌≡◌, ◌∙◌, [], ◌∷◌, sym, ap, subst, codes, map, rules}
+use Rattle.clap.specs.Words.{App, HasKind, fault_of, found_of, is_simple, is_simple_and_free, rows_of, subcommand_of, subcommand_rows_of}
 use Rattle.clap.specs.declared.builder.value_parser.ValueParser.TheVariants as vp
 use Rattle.lrc_words.specs.Words.{lrc_app}
-use Rattle.lrc_words.proofs.Wording.{named_rows, no_fault}
+use Rattle.std.proofs.lemmas.Result.{err_from_is_err_and}
+use Rattle.lrc_words.proofs.Wording.{named_rows, no_fault, is_fault, out_of_memory}
 use Rattle.lrc_words.proofs.words.options.Goals as goal
 
-pub returns : goal.returns
-returns c =
+pub returns-clause-given : goal.returns-clause-given
+returns-clause-given c =
     let app = c.in_ok-command.ensures.app in
     let words = map (λ w. w.now) c.args.words.now in
     let locks_are : map (λ s. s.now) c.as_slice.result.now ≡ codes "array" ∷ codes "ticket" ∷ [] = search rules in
@@ -24,3 +25,30 @@ returns c =
       command = sym entered ∙ named_rows _ _ _ _ _ c.in-Some.ensures.name c.in-Some.ensures.rows;
       options = c.in_ok-options_of-in-Some.ensures;
     }
+
+pub returns-in_err-command-clause-refused : goal.returns-in_err-command-clause-refused
+returns-in_err-command-clause-refused c =
+    let answer = err_from_is_err_and c.from_residual.result c.from_residual.ensures.1 in
+    rw answer.1 (out_of_memory (vp.Names c.as_slice.result) _ _ (search rules) answer.2)
+
+pub returns-in_err-matches-clause-refused : goal.returns-in_err-matches-clause-refused
+returns-in_err-matches-clause-refused c =
+    let words = map (λ w. w.now) c.args.words.now in
+    let app = c.in_ok-command.ensures.app in
+    let fault = c.in_err-matches.field-0.0 in
+    let answer =
+    err_from_is_err_and c.from_residual-in_err-matches.result c.from_residual-in_err-matches.ensures.1 in
+    let fails =
+    is_fault _ _ fault c.in_err-matches.was (c.try_get_matches_from.ensures.kinds (ap is_simple_and_free app)) in
+    rw (answer.1, answer.2) (record {
+      locks = vp.Names c.as_slice.result;
+      locks_are = search rules;
+      kind = subst (λ (a : App). HasKind (fault_of a words) fault) app fails;
+    })
+
+pub returns-in_err-options_of-in-Some-clause-refused : goal.returns-in_err-options_of-in-Some-clause-refused
+returns-in_err-options_of-in-Some-clause-refused c =
+    let answer =
+    err_from_is_err_and c.from_residual-in_err-options_of-in-Some.result
+    c.from_residual-in_err-options_of-in-Some.ensures.1 in
+    rw answer.1 (out_of_memory (vp.Names c.as_slice.result) _ _ (search rules) answer.2)
