@@ -1,8 +1,8 @@
 -- The transitions of the book, as functions of its value.
--- Names: a value after something is a past participle, as in the crates below (`asked` is a lock's). Where a crate below
--- has the participle, the whole book's has `book_` before it; what a transition makes of one part has that part's name
--- before it (`mail_`, `barrier_`, `flag_`). A message is its kind and `_to`, of the closed intervals, the message's time
--- and the receiver's timestamp.
+-- Names: a value after something is a past participle, as in the crates below (`asked` is a lock's). Where a crate
+-- below has the participle, the whole book's has `book_` before it; what a transition makes of one part has that
+-- part's name before it (`mail_`, `barrier_`, `flag_`). A message is its kind and `_to`, of the closed intervals, the
+-- message's time and the receiver's timestamp.
 use Rattle.std.specs.Prelude.{ℕ, zero, suc, ◌≡◌, ◌-◌, ◌*◌, min, Bool, true, false, cond, Option, Some, None, List, [], ◌∷◌, ◌++◌, map, length, slice_get, slice_index, slice_index_or, slice_set, replicate, fold}
 use Rattle.journal.specs.declared.event.Event.{Event}
 use Rattle.journal.specs.declared.event.Kind.{Kind}

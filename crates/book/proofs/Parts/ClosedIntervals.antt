@@ -261,6 +261,17 @@ stays_from c owner to k le from = elim (cases_eq k.interval.owner owner) [
   | inr isnt ↦ not_from_false (is_trimmed owner to k) (and_left _ _ (ne_eqb k.interval.owner owner isnt))
 ]
 
+-- the first kept interval after a trim, of its owner and of others
+pub first_own : (c : Closings) (owner to : ℕ) → owner < length c.first
+    → slice_index (trimmed c owner to).first owner ≡ max (slice_index c.first owner) (min to (slice_index c.next owner))
+first_own c owner to lt =
+    get_or-set_same c.first owner (max (slice_index c.first owner) (min to (slice_index c.next owner))) 0 lt
+
+pub first_other : (c : Closings) (owner to q : ℕ) → q ≢ owner
+    → slice_index (trimmed c owner to).first q ≡ slice_index c.first q
+first_other c owner to q isnt =
+    get_or-set_other c.first owner q (max (slice_index c.first owner) (min to (slice_index c.next owner))) 0 isnt
+
 -- a trim leaves nothing below what it says is dropped
 pub from_trimmed : (c : Closings) (owner to : ℕ) → owner < length c.first → AreFromFirst c
     → AreFromFirst (trimmed c owner to)
@@ -269,13 +280,9 @@ from_trimmed c owner to lt from k has =
     let old = from k was.0 in
     elim (cases_eq k.interval.owner owner) [
       | inl is ↦ (
-          let P : ℕ → Type 0 =
-          λ q. slice_index
-          (slice_set c.first owner (max (slice_index c.first owner) (min to (slice_index c.next owner)))) q
-          ≤ k.interval.number in
+          let P : ℕ → Type 0 = λ q. slice_index (trimmed c owner to).first q ≤ k.interval.number in
           let Q : ℕ → Type 0 = λ q. slice_index c.first q ≤ k.interval.number in
-          let here = get_or-set_same c.first owner
-          (max (slice_index c.first owner) (min to (slice_index c.next owner))) 0 lt in
+          let here = first_own c owner to lt in
           let from_here = subst Q is old in
           let stays : to ≤ k.interval.number = elim (cases_lt k.interval.number to) [
             | inl less ↦ absurd
@@ -285,10 +292,7 @@ from_trimmed c owner to lt from k has =
             | inr most ↦ most
           ] in
           subst P (sym is) (omega arith))
-      | inr isnt ↦ (
-          let same = get_or-set_other c.first owner k.interval.owner
-          (max (slice_index c.first owner) (min to (slice_index c.next owner))) 0 isnt in
-          omega arith)
+      | inr isnt ↦ (let same = first_other c owner to k.interval.owner isnt in omega arith)
     ]
 
 -- a trim keeps what the intervals are
@@ -314,20 +318,14 @@ closed_trimmed s h c owner to lt x = record {
         → Has (filter (λ k. not (is_trimmed owner to k)) c.kept) k
     stays k has not_trimmed = (has-filter (λ k. not (is_trimmed owner to k)) c.kept k).1 (has, not_trimmed)
 
-    all : (q i : ℕ) → ClosesAt h q i
-        → slice_index (slice_set c.first owner (max (slice_index c.first owner) (min to (slice_index c.next owner))))
-        q ≤ interval_at h q i
+    all : (q i : ℕ) → ClosesAt h q i → slice_index (trimmed c owner to).first q ≤ interval_at h q i
         → (k : Kept) × Has (filter (λ k. not (is_trimmed owner to k)) c.kept) k × (k.interval.owner ≡ q)
         × (k.interval.number ≡ interval_at h q i)
     all q i closes from = elim (cases_eq q owner) [
       | inl is ↦ (
-          let P : ℕ → Type 0 =
-          λ r. slice_index
-          (slice_set c.first owner (max (slice_index c.first owner) (min to (slice_index c.next owner)))) r
-          ≤ interval_at h q i in
+          let P : ℕ → Type 0 = λ r. slice_index (trimmed c owner to).first r ≤ interval_at h q i in
           let long = x.first_long in
-          let here = get_or-set_same c.first owner
-          (max (slice_index c.first owner) (min to (slice_index c.next owner))) 0 (omega arith) in
+          let here = first_own c owner to (omega arith) in
           let from_here = subst P is from in
           let Q : ℕ → Type 0 = λ r. slice_index c.first r ≤ interval_at h q i in
           let k = x.all q i closes (subst Q (sym is) (omega arith)) in
@@ -344,8 +342,7 @@ closed_trimmed s h c owner to lt x = record {
             k.3,
           ))
       | inr isnt ↦ (
-          let same = get_or-set_other c.first owner q
-          (max (slice_index c.first owner) (min to (slice_index c.next owner))) 0 isnt in
+          let same = first_other c owner to q isnt in
           let k = x.all q i closes (omega arith) in (
             k.0,
             stays k.0 k.1
@@ -361,18 +358,13 @@ pub within_trimmed : (c : Closings) (owner to : ℕ) (times : List (List ℕ))
     → IsWithin c.first times → IsWithin (trimmed c owner to).first times
 within_trimmed c owner to times covered lt within p q t at = elim (cases_eq q owner) [
   | inl is ↦ (
-      let P : ℕ → Type 0 =
-      λ r. slice_index
-      (slice_set c.first owner (max (slice_index c.first owner) (min to (slice_index c.next owner)))) r
-      ≤ slice_index t r in
-      let here = get_or-set_same c.first owner (max (slice_index c.first owner) (min to (slice_index c.next owner)))
-      0 lt in
+      let P : ℕ → Type 0 = λ r. slice_index (trimmed c owner to).first r ≤ slice_index t r in
+      let here = first_own c owner to lt in
       let one = covered p t at in
       let was = within p owner t at in
       subst P (sym is) (omega arith))
   | inr isnt ↦ (
-      let same = get_or-set_other c.first owner q
-      (max (slice_index c.first owner) (min to (slice_index c.next owner))) 0 isnt in
+      let same = first_other c owner to q isnt in
       let was = within p q t at in
       omega arith)
 ]

@@ -7,7 +7,7 @@ use Rattle.lists.proofs.Picked.{has-filter, in_order-filter}
 use Rattle.journal.specs.declared.event.Event.{Event}
 use Rattle.journal.specs.declared.event.Kind.{Kind}
 use Rattle.journal.specs.Sizes.{Sizes}
-use Rattle.journal.specs.Events.{is_closing}
+use Rattle.journal.specs.Events.{interval_at, is_closing}
 use Rattle.journal.specs.Brings.{Brings}
 use Rattle.journal.specs.Groups.{StoresIn, IsContent}
 use Rattle.journal.specs.Missing.{IsPlaced, Missing, InClosingOrder, AreNews}
@@ -190,9 +190,9 @@ news_are s h b p n k u told lt brings = record {
         let at = numbered is_closing h q m (omega (arith, covered, within)) in
         let first = told.within p q own (item_at s.processors _ b.times p [] told.times lt) in
         let number = at.number in
-        let k = told.closed.all q at.place (record { kind = at.kind; does = at.does; closes = at.counts })
-        (omega (arith, number, first, x.3)) in
-        found k.0 k.1 k.2 (k.3 ∙ number) x.0 x.1 x.3 covered
+        reached (interval_at h q at.place)
+        (told.closed.all q at.place (record { kind = at.kind; does = at.does; closes = at.counts })
+        (omega (arith, number, first, x.3))) number x.0 x.1 x.3 covered
       where
         sends : (k : Kept) → Has b.closed.kept k → k.interval.owner ≡ q → k.interval.number ≡ m
             → is_news own u k ≡ true → (r : Changes) → Has k.interval.records r → r.page ≡ n
@@ -211,3 +211,9 @@ news_are s h b p n k u told lt brings = record {
             let range = subst Q (sym owner) (from, below) in
             let news = fresh k (omega (arith, range.0, number)) (omega (arith, range.1, number)) in
             sends k kept owner number news r.0 r.1 r.2
+
+        reached : (c : ℕ)
+            → (k : Kept) × Has b.closed.kept k × (k.interval.owner ≡ q) × (k.interval.number ≡ c) → c ≡ m → (i : ℕ)
+            → StoresIn s h q m n i → slice_index own q ≤ m → m < slice_index u q
+            → (x : Missing) × Has (missing_in n (between b.closed own u)) x × (x.owner ≡ q) × (x.number ≡ m)
+        reached c k number = found k.0 k.1 k.2 (k.3 ∙ number)

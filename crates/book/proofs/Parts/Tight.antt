@@ -1,15 +1,15 @@
 -- What is trimmed: after a trim by everyone's timestamps nothing is left to trim, until a timestamp rises.
-use Rattle.std.proofs.Common.{◌≡◌, ◌≢◌, ◌⊎◌, ℕ, zero, suc, ◌<◌, ◌≤◌, min, max, inl, inr, List, [], ◌∷◌, length, filter, not, true, Bool, Some, slice_get, slice_set, slice_index, slice_index_or, fold, subst, sym, refl, ap, ◌∙◌, arith}
+use Rattle.std.proofs.Common.{◌≡◌, ◌⊎◌, ℕ, zero, suc, ◌<◌, ◌≤◌, min, max, inl, inr, List, [], ◌∷◌, length, filter, not, true, Bool, Some, slice_get, slice_set, slice_index, slice_index_or, fold, subst, sym, refl, ap, ◌∙◌, arith}
 use Rattle.std.proofs.lemmas.Bool.{cases_eq, cases_lt, cond-true}
 use Rattle.std.proofs.lemmas.Option.{slice_get-get_or}
-use Rattle.std.proofs.lemmas.List.{get_or-set_same, get_or-set_other, set-get_or}
+use Rattle.std.proofs.lemmas.List.{set-get_or}
 use Rattle.lists.specs.Places.{Has}
 use Rattle.lists.proofs.Sets.{slice_get-set_found, slice_get-set_other}
 use Rattle.interval.specs.declared.kept.Kept.{Kept}
 use Rattle.interval.specs.Closings.{Closings, trimmed, is_trimmed}
 use Rattle.book.specs.ClosedIntervals.{AreFromFirst, IsTight}
 use Rattle.book.specs.Transitions.{lesser, least, trimmed_by}
-use Rattle.book.proofs.Parts.ClosedIntervals.{least_le, from_trimmed, stays_from, length-trimmed_by}
+use Rattle.book.proofs.Parts.ClosedIntervals.{first_own, first_other, least_le, from_trimmed, stays_from, length-trimmed_by}
 
 -- where all pass, all are picked
 filter_all : {A : Type 0} (p : A → Bool) (xs : List A) → ((x : A) → Has xs x → p x ≡ true) → filter p xs ≡ xs
@@ -41,10 +41,7 @@ first_left : (c : Closings) (times : List (List ℕ)) (n q : ℕ) → n ≤ q
     → slice_index (trimmed_by c times n).first q ≡ slice_index c.first q
 first_left c times zero q le = refl
 first_left c times (suc n) q le =
-    let old = trimmed_by c times n in
-    let apart : q ≢ n = omega arith in
-    get_or-set_other old.first n q (max (slice_index old.first n) (min (least times n) (slice_index old.next n)))
-    0 apart ∙ first_left c times n q (omega arith)
+    first_other (trimmed_by c times n) n (least times n) q (omega arith) ∙ first_left c times n q (omega arith)
 
 next_left : (c : Closings) (times : List (List ℕ)) (n : ℕ) → (trimmed_by c times n).next ≡ c.next
 next_left c times zero = refl
@@ -59,20 +56,14 @@ first_trimmed c times (suc n) q lt le few =
     let long = length-trimmed_by c times n in
     elim (cases_eq q n) [
       | inl is ↦ (
-          let P : ℕ → Type 0 =
-          λ x. least times x
-          ≤ slice_index
-          (slice_set old.first n (max (slice_index old.first n) (min (least times n) (slice_index old.next n))))
-          x in
+          let P : ℕ → Type 0 = λ x. least times x ≤ slice_index (trimmed old n (least times n)).first x in
           let Q : ℕ → Type 0 = λ x. least times x ≤ slice_index c.next x in
-          let here = get_or-set_same old.first n
-          (max (slice_index old.first n) (min (least times n) (slice_index old.next n))) 0 (omega arith) in
+          let here = first_own old n (least times n) (omega arith) in
           let next = ap (λ ns. slice_index ns n) (next_left c times n) in
           let few_here = subst Q is few in
           subst P (sym is) (omega arith))
       | inr isnt ↦ (
-          let same = get_or-set_other old.first n q
-          (max (slice_index old.first n) (min (least times n) (slice_index old.next n))) 0 isnt in
+          let same = first_other old n (least times n) q isnt in
           let rest = first_trimmed c times n q (omega arith) (omega arith) few in
           omega arith)
     ]
