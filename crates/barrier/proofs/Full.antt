@@ -1,5 +1,5 @@
 -- An episode is full exactly where as many are here as there are processors.
-use Rattle.std.proofs.Common.{ℕ, ◌≡◌, ◌+◌, ◌↔◌, true, cond, nat_eq, inl, inr, Some, List, [], ◌∷◌, ◌++◌, length, set, drop, replicate, count_by, slice_get, refl, sym, ap, ◌∙◌, arith}
+use Rattle.std.proofs.Common.{ℕ, Bool, ◌≡◌, ◌+◌, ◌↔◌, true, cond, nat_eq, inl, inr, Some, List, [], ◌∷◌, ◌++◌, length, set, drop, replicate, count_by, slice_get, refl, sym, ap, ◌∙◌, arith}
 use Rattle.std.specs.List.{list_all, refill}
 use Rattle.std.proofs.lemmas.Bool.{false≢true, cases_Bool, both_ways, eq-eqb, ne_eqb}
 use Rattle.std.proofs.lemmas.List.{length-set, length_push, take_at}
@@ -60,6 +60,15 @@ read_set p stage stages read old same is =
     take_at (set read p stage) (drop (length (set read p stage)) stages) (length stages)
     (length-set read p stage ∙ ap (λ (ss : List Stage). length ss) same)
     ∙ ap (λ (ss : List Stage). set ss p stage) (same ∙ is)
+
+-- whether one who was away comes last, by the test of what is read once it is here
+pub comes_last : (old stages read now : List Stage) (p : ℕ) (full : Bool) → slice_get old p ≡ Some Away → read ≡ stages
+    → stages ≡ old → now ≡ refill (length stages) stages (set read p Here) → full ≡ list_all is_here now
+    → (full ≡ true) ↔ (count_by is_here old + 1 ≡ length old)
+comes_last old stages read now p full away same is written test =
+    let law = last_arrival old p away in
+    let all = test ∙ ap (λ (ss : List Stage). list_all is_here ss) (written ∙ read_set p Here stages read old same is) in
+    (λ e. law.0 (sym all ∙ e), λ e. all ∙ law.1 e)
 
 -- an arrival is gathered
 pub gathered-more : (b : Episodes) (p : ℕ) (time : List ℕ) (times : List (List ℕ)) → slice_get b.stages p ≡ Some Away

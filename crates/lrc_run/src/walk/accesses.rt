@@ -1,5 +1,8 @@
 //! Loads and stores of a script. A copy that lacks records is fetched, and a block that is full is handed in;
 //! else nothing is fetched or handed in.
+//!
+//! `fetch`, `load_roomy` and `store_roomy` have one form, and stand apart since a closure's contract would have to say
+//! again what each call does.
 ghost use Rattle.std.specs.Prelude.{◌≡◌, ◌+◌, ◌%◌, ◌^◌, OnOk, ℕ, [], ◌∷◌};
 ghost use Rattle.journal.specs.declared.event.Kind.TheVariants as kind;
 ghost use Rattle.cluster.specs.Calls.{IsSameProcessor};

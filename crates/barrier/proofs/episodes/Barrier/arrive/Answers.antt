@@ -1,35 +1,23 @@
-use Rattle.std.proofs.Common.{ℕ, ◌≡◌, Bool, Some, List, [], ◌∷◌, ◌++◌, length, set, slice_get, refl, ap, sym, ◌∙◌, subst}
-use Rattle.std.specs.List.{list_all, refill}
+use Rattle.std.proofs.Common.{ℕ, ◌≡◌, Bool, Some, List, [], ◌∷◌, ◌++◌, length, set, slice_get, refl, ap, sym, subst}
+use Rattle.std.specs.List.{refill}
 use Rattle.barrier.specs.declared.episodes.Stage.{Stage}
 use Rattle.barrier.specs.declared.episodes.Stage.TheVariants.{Away, Here}
 use Rattle.vtime.specs.Times.{join}
-use Rattle.barrier.specs.Episodes.{Episodes, is_here, HasGathered, Gathers}
-use Rattle.barrier.proofs.Full.{last_arrival, read_set, gathered-more}
+use Rattle.barrier.specs.Episodes.{Episodes, HasGathered, Gathers}
+use Rattle.barrier.proofs.Full.{comes_last, read_set, gathered-more}
 use Rattle.barrier.proofs.episodes.Barrier.arrive.Goals as goal
 
 pub returns-then-full-clause-complete : goal.returns-then-full-clause-complete
 returns-then-full-clause-complete c =
-    let old = c.args.self.now.stages in
-    let stages = c.self.inside.stages.items in
-    let now : c.as_slice.result.now ≡ set old c.args.processor Here =
-    c.as_slice.ensures
-    ∙ read_set c.args.processor Here stages c.deref_mut.result.now old c.deref_mut.ensures.value
-    (ap (λ (b : Episodes). b.stages) c.self.view_is) in
-    let full = c.all_here-full.ensures ∙ ap (λ (ss : List Stage). list_all is_here ss) now in
-    let law = last_arrival old c.args.processor c.requires.away in
-    (λ e. law.0 (sym full ∙ e), λ e. full ∙ law.1 e)
+    comes_last c.args.self.now.stages c.self.inside.stages.items c.deref_mut.result.now c.as_slice.result.now
+    c.args.processor _ c.requires.away c.deref_mut.ensures.value (ap (λ (b : Episodes). b.stages) c.self.view_is)
+    c.as_slice.ensures c.all_here-full.ensures
 
 pub returns-else-full-clause-complete : goal.returns-else-full-clause-complete
 returns-else-full-clause-complete c =
-    let old = c.args.self.now.stages in
-    let stages = c.self.inside.stages.items in
-    let now : c.as_slice.result.now ≡ set old c.args.processor Here =
-    c.as_slice.ensures
-    ∙ read_set c.args.processor Here stages c.deref_mut.result.now old c.deref_mut.ensures.value
-    (ap (λ (b : Episodes). b.stages) c.self.view_is) in
-    let full = c.all_here-full.ensures ∙ ap (λ (ss : List Stage). list_all is_here ss) now in
-    let law = last_arrival old c.args.processor c.requires.away in
-    (λ e. law.0 (sym full ∙ e), λ e. full ∙ law.1 e)
+    comes_last c.args.self.now.stages c.self.inside.stages.items c.deref_mut.result.now c.as_slice.result.now
+    c.args.processor _ c.requires.away c.deref_mut.ensures.value (ap (λ (b : Episodes). b.stages) c.self.view_is)
+    c.as_slice.ensures c.all_here-full.ensures
 
 pub returns-else-full-clause-gathers : goal.returns-else-full-clause-gathers
 returns-else-full-clause-gathers c times has =
