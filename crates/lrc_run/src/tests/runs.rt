@@ -1,8 +1,9 @@
 //! Scripts with each processor on a thread of its own.
-ghost use Rattle.std.specs.Prelude.{◌<◌};
+ghost use Rattle.std.specs.Prelude.{◌<◌, ◌≤◌, ◌^◌};
 
 use crate::{Cause, Gate, Open, RunFault, Stopped, run, run_with};
-use cluster::TicketBookLock;
+use book::{Book, Refused};
+use cluster::{Rule, TicketBookLock};
 use lrc_report::Report;
 use lrc_script::script::parse;
 use std::alloc::Global;
@@ -12,6 +13,7 @@ use std::sync::atomic::AtomicUsize;
 use std::sync::atomic::Ordering::SeqCst;
 use std::test::Fail;
 use std::thread::{Threads, yield_now};
+use turn::{ArrayLock, Turn};
 
 /// What the script's run answers, under the array lock and under the ticket lock.
 fn both<R: Threads + Wait + Sync, G: Gate + Sync>(
@@ -125,6 +127,31 @@ fn stuck_at_a_lock(rt: HostRuntime) -> Result<(), Fail> {
 fn stuck_at_a_flag_after_one_try(rt: HostRuntime) -> Result<(), Fail> {
     let text = b"cluster 1 1 1 0 1\np 0\nawait 0\nshow 0\n";
     fails(&rt, rt.alloc(), text, &Open, 1, 0, Cause::Stuck)
+}
+
+/// What comes of a processor that tries three times, where the lock lets it enter so often.
+fn fault_of_three<T: Turn<Book, Rule> + Drop, R: Threads + Wait + Sync>(
+    rt: &R,
+    alloc: Global,
+) -> Result<Option<RunFault>, Fail>
+    requires { T.ENTRIES ≤ 2 ^ 40 }
+{
+    let script = parse(alloc, b"cluster 1 1 1 0 1\np 0\nawait 0\nshow 0\n")?;
+    Ok(run_with::<T, R, Open>(rt, alloc, &script, &Open, 3).err())
+}
+
+/// One entry to watch the flag, and one for each try: neither a try more nor one less.
+#[test]
+fn just_so_many_tries(rt: HostRuntime) -> Result<(), Fail> {
+    let fault = |cause| Some(RunFault {
+        processor: 0,
+        cause,
+    });
+    let enough = fault_of_three::<ArrayLock<Book, Rule, 4>, _>(&rt, rt.alloc())?;
+    assert_eq!(&rt; enough, fault(Cause::Stuck));
+    let short = fault_of_three::<ArrayLock<Book, Rule, 3>, _>(&rt, rt.alloc())?;
+    assert_eq!(&rt; short, fault(Cause::Refused(Refused::SeatSpent)));
+    Ok(())
 }
 
 /// Stops the processors from one number on at the instruction with this number.
