@@ -130,7 +130,7 @@ fn stuck_at_a_flag_after_one_try(rt: HostRuntime) -> Result<(), Fail> {
 }
 
 /// What comes of a processor that tries three times, where the lock lets it enter so often.
-fn fault_of_three<T: Turn<Book, Rule> + Drop, R: Threads + Wait + Sync>(
+fn fault_of_three<T: Turn<Book, Rule> + Drop + Send + Sync, R: Threads + Wait + Sync>(
     rt: &R,
     alloc: Global,
 ) -> Result<Option<RunFault>, Fail>
