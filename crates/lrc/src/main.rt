@@ -3,10 +3,10 @@
 //! **What contracts see.** A run's `Report` is one of a script's plan (`IsReportOf` of `lrc_run`). What its text is, and
 //! what options the words give, `lrc_report` and `lrc_words` say.
 //!
-//! **What is proved.** The report that is written is one of the script that was read.
+//! **What is proved.** Each report is one of the script that was run.
 //!
-//! **What is only tested.** The texts of faults, help and usage, the exit statuses, and that memory isn't wanted
-//! needlessly.
+//! **What is only tested.** That the script that was read is run and its report written; the texts of faults, help and
+//! usage, the exit statuses, and that memory isn't wanted needlessly.
 #![tactic(auto)]
 
 ghost use Rattle.std.specs.Prelude.{◌<◌};
