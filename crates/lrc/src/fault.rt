@@ -1,5 +1,9 @@
 //! Why the program ends without a report.
 
+ghost use Rattle.std.specs.Prelude.{◌≡◌, ◌≢◌};
+ghost use Rattle.lrc_script.specs.declared.fault.ScriptFault.TheVariants.{NoMemory};
+ghost use Rattle.lrc.specs.Served.{IsScripts};
+
 use book::Refused;
 use lrc_report::render::OutFault;
 use lrc_run::{Cause, RunFault};
@@ -32,7 +36,10 @@ pub enum ProgramFault {
 impl ProgramFault {
     /// The exit status: 5 for a file that can't be read, 2 for a script that is refused, 3 for a run without
     /// progress, else 4.
-    pub fn status(self) -> u8 {
+    pub fn status(self) -> u8
+        ensures fault { result ≢ 0 }
+        ensures script { result ≡ 2 → IsScripts self }
+    {
         match self {
             ProgramFault::Unreadable => 5,
             ProgramFault::Script(..) => 2,
@@ -48,6 +55,8 @@ impl ProgramFault {
 }
 
 impl From<io::Error> for ProgramFault {
+    ghost from_gives = { λ _ fault. IsScripts fault → ⊥ };
+
     fn from(error: io::Error) -> ProgramFault {
         if error.kind() == ErrorKind::OutOfMemory {
             ProgramFault::NoMemory
@@ -58,12 +67,16 @@ impl From<io::Error> for ProgramFault {
 }
 
 impl From<AllocError> for ProgramFault {
+    ghost from_gives = { λ _ fault. IsScripts fault → ⊥ };
+
     fn from(_error: AllocError) -> ProgramFault {
         ProgramFault::NoMemory
     }
 }
 
 impl From<(usize, ScriptFault)> for ProgramFault {
+    ghost from_gives = { λ given fault. IsScripts fault → given.1 ≢ NoMemory };
+
     fn from((line, fault): (usize, ScriptFault)) -> ProgramFault {
         match fault {
             ScriptFault::NoMemory => ProgramFault::NoMemory,
@@ -73,6 +86,8 @@ impl From<(usize, ScriptFault)> for ProgramFault {
 }
 
 impl From<RunFault> for ProgramFault {
+    ghost from_gives = { λ _ fault. IsScripts fault → ⊥ };
+
     fn from(fault: RunFault) -> ProgramFault {
         match fault.cause {
             Cause::Refused(Refused::NoMemory) => ProgramFault::NoMemory,
@@ -82,6 +97,8 @@ impl From<RunFault> for ProgramFault {
 }
 
 impl From<OutFault> for ProgramFault {
+    ghost from_gives = { λ _ fault. IsScripts fault → ⊥ };
+
     fn from(_fault: OutFault) -> ProgramFault {
         ProgramFault::Output
     }

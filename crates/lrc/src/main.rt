@@ -1,12 +1,16 @@
 //! `lrc`: runs scripts of a shared memory and prints the final words, a race verdict and the traffic.
 //!
-//! **What contracts see.** A run's `Report` is one of a script's plan (`IsReportOf` of `lrc_run`). What its text is, and
-//! what options the words give, `lrc_report` and `lrc_words` say.
+//! **What contracts see.** A reader by the bytes that it has left (`remaining`), a writer by those that it was given
+//! (`contents`). A run's `Report` is one of a script's plan (`IsReportOf` of `lrc_run`). What its text is, and what options
+//! the words give, `lrc_report` and `lrc_words` say.
 //!
-//! **What is proved.** Each report is one of the script that was run.
+//! **What is proved.** `program` answers 0 only where all that it could read is a script's text, that script was run and
+//! the text of its report was written, and nothing else (`IsServed`); and 2 only where it is no script's text
+//! (`IsNoScript`).
 //!
-//! **What is only tested.** That the script that was read is run and its report written; the texts of faults, help and
-//! usage, the exit statuses, and that memory isn't wanted needlessly.
+//! **What is only tested.** The texts of faults, help and usage, the other exit statuses, that the lock and the seed that
+//! the words ask for are used, and that memory isn't wanted needlessly. No contract sees what a file or a standard stream
+//! has.
 #![tactic(auto)]
 
 ghost use Rattle.std.specs.Prelude.{◌<◌};

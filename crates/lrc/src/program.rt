@@ -1,9 +1,10 @@
 //! The program over its reader and its writers.
 
-ghost use Rattle.std.specs.Prelude.{◌<◌, IfOk};
+ghost use Rattle.std.specs.Prelude.{◌≡◌, ◌≢◌, ◌<◌, IfErr, IfOk, OnOk};
 ghost use Rattle.lrc_script.specs.Lawful.{IsLawful};
 ghost use Rattle.lrc_script.specs.Plan.{plan_of};
 ghost use Rattle.lrc_run.specs.Runs.{IsReportOf};
+ghost use Rattle.lrc.specs.Served.{IsNoScript, IsRead, IsScripts, IsServed};
 
 use crate::fault::ProgramFault;
 use cluster::{BookLock, TicketBookLock};
@@ -55,6 +56,34 @@ fn run_report<R: Threads + Wait + Sync>(
     }
 }
 
+/// Runs the script as the options say.
+fn report_of<R: Threads + Wait + Sync>(
+    rt: &R,
+    alloc: Global,
+    options: &Options,
+    script: &Script,
+) -> Result<Report, RunFault>
+    requires tries { 0 < options.now.tries }
+    requires lawful { IsLawful (plan_of script.now) }
+    ensures { IfOk result (IsReportOf (plan_of script.now)) }
+{
+    if options.step {
+        step_report(rt, alloc, options, script)
+    } else {
+        run_report(rt, alloc, options, script)
+    }
+}
+
+/// Reads a script: all that the source has.
+fn read_script<S: Read>(alloc: Global, source: &mut S) -> Result<Script, ProgramFault>
+    ensures read { IfOk result (λ s. IsRead (S.remaining source.old) (plan_of s)) }
+    ensures refused { IfErr result (λ fault. IsScripts fault → IsNoScript (S.remaining source.old)) }
+{
+    let mut bytes = Vec::new(alloc);
+    source.take(MOST_READ).read_to_end(&mut bytes)?;
+    Ok(parse(alloc, &bytes)?)
+}
+
 /// Reads a script, runs it and writes its report.
 fn run_script<R: Threads + Wait + Sync, S: Read, W: Write>(
     rt: &R,
@@ -64,22 +93,22 @@ fn run_script<R: Threads + Wait + Sync, S: Read, W: Write>(
     out: &mut W,
 ) -> Result<(), ProgramFault>
     requires { 0 < options.now.tries }
+    ensures served { OnOk result (IsServed options.now.journal (S.remaining source.old)
+        (W.contents out.old) (W.contents out.new)) }
+    ensures refused { IfErr result (λ fault. IsScripts fault → IsNoScript (S.remaining source.old)) }
 {
-    let mut bytes = Vec::new(alloc);
-    source.by_ref().take(MOST_READ).read_to_end(&mut bytes)?;
-    let script = parse(alloc, &bytes)?;
-    let report = if options.step {
-        step_report(rt, alloc, options, &script)?
-    } else {
-        run_report(rt, alloc, options, &script)?
-    };
+    let script = read_script(alloc, source)?;
+    let report = report_of(rt, alloc, options, &script)?;
     render(&report, options.journal, out)?;
     out.flush().map_err(|_| ProgramFault::Output)
 }
 
 /// Says on `err` in one write why the program ends without a report, and answers the exit status. Where there
 /// is no memory for the line, it says that.
-pub fn say<E: Write>(alloc: Global, fault: ProgramFault, err: &mut E) -> u8 {
+pub fn say<E: Write>(alloc: Global, fault: ProgramFault, err: &mut E) -> u8
+    ensures fault { result ≢ 0 }
+    ensures script { result ≡ 2 → IsScripts fault }
+{
     // Where standard error takes nothing, the status still tells.
     match format!(in alloc; "lrc: {fault}\n") {
         Ok(line) => {
@@ -104,6 +133,11 @@ pub fn program<R: Threads + Wait + Sync, S: Read, W: Write, E: Write>(
     err: &mut E,
 ) -> u8
     requires { 0 < options.now.tries }
+    // The script that was read was run, and the report of a run of it was written, whole.
+    ensures served { result ≡ 0 → IsServed options.now.journal (S.remaining source.old)
+        (W.contents out.old) (W.contents out.new) }
+    // No script was refused.
+    ensures refused { result ≡ 2 → IsNoScript (S.remaining source.old) }
 {
     match run_script(rt, alloc, options, source, out) {
         Ok(()) => 0,

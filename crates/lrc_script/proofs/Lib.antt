@@ -4,3 +4,4 @@ pub mod Text
 pub mod Front
 pub mod Faults
 pub mod Drawn
+pub mod Longest

@@ -5,3 +5,4 @@ pub mod Front
 pub mod Faults
 pub mod Draw
 pub mod Reading
+pub mod Laws

@@ -5,8 +5,8 @@
 //! `IsFault` says what a fault says of the bytes, `drawn` which plan the draws give.
 //!
 //! **What is proved.** `script::parse` answers a script only where it is lawful and the bytes are its text,
-//! and a fault only where they are no lawful script's, with its line; `Display` writes the text;
-//! `draw::guarded` and `draw::free` give lawful scripts by the stated draws.
+//! and a fault only where they are no lawful script's, with its line; `Display` writes the text, of at most
+//! `MOST_BYTES` bytes (module `laws`); `draw::guarded` and `draw::free` give lawful scripts by the stated draws.
 //!
 //! **What is only tested.** Which fault is answered among several on one line, the texts of the faults, and
 //! that memory isn't wanted needlessly: at the limits of a script, for long lines and for each number.
@@ -16,6 +16,7 @@ mod display;
 pub mod draw;
 mod evenness;
 pub mod fault;
+pub mod laws;
 mod line;
 mod progress;
 pub mod script;

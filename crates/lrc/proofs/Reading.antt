@@ -1,0 +1,36 @@
+-- What was read is all that the source had: one byte more than the longest script has was asked for.
+use Rattle.std.proofs.Common.{◌≡◌, ◌≢◌, ◌∙◌, ◌≤◌, ℕ, List, Option, Some, None, length, take, sym, ap, arith}
+use Rattle.std.specs.Prelude.{IfSome, option_map}
+use Rattle.std.proofs.lemmas.List.{length-take, take_all}
+use Rattle.lrc_script.specs.Lawful.{IsLawful}
+use Rattle.lrc_script.specs.Plan.{Plan}
+use Rattle.lrc_script.specs.Text.{text}
+use Rattle.lrc_script.proofs.Longest.{text_most}
+use Rattle.lrc.specs.Served.{IsNoScript, IsRead}
+
+-- what was asked for
+abbrev pub most_read : ℕ
+most_read = 3520419
+
+-- a list of which that many items are a script's text has no more
+all_of : (xs : List ℕ) (s : Plan) → IsLawful s → take most_read xs ≡ text s → xs ≡ text s
+all_of xs s lawful same =
+    let few : length xs ≤ most_read = omega (arith, ap length same, length-take most_read xs, text_most s lawful) in
+    sym (take_all most_read xs few) ∙ same
+
+-- a script was read
+pub read_whole : (source : Option (List ℕ)) (bytes : List ℕ) (s : Plan)
+    → IfSome (option_map (take most_read) source) (λ xs. bytes ≡ xs) → IsLawful s → bytes ≡ text s → IsRead source s
+read_whole None bytes s had lawful same = record { lawful = lawful; text_is = tt }
+read_whole (Some xs) bytes s had lawful same =
+    record { lawful = lawful; text_is = all_of xs s lawful (sym had ∙ same) }
+
+-- none was
+pub none_read : (source : Option (List ℕ)) (bytes : List ℕ)
+    → IfSome (option_map (take most_read) source) (λ xs. bytes ≡ xs)
+    → ((s : Plan) → IsLawful s → bytes ≢ text s) → IsNoScript source
+none_read None bytes had none = tt
+none_read (Some xs) bytes had none =
+    λ s lawful same.
+    let few : length xs ≤ most_read = omega (arith, ap length same, text_most s lawful) in
+    none s lawful (had ∙ take_all most_read xs few ∙ same)
