@@ -1,5 +1,5 @@
 -- What the program does with a script.
-use Rattle.std.specs.Prelude.{ℕ, ◌≡◌, ◌≢◌, ⊤, Bool, List, Option, IfSome}
+use Rattle.std.specs.Prelude.{ℕ, ◌≡◌, ◌≢◌, Bool, List, Option, IfSome}
 use Rattle.std.specs.Io.KnownBytes.{Appends}
 use Rattle.lrc_script.specs.Lawful.{IsLawful}
 use Rattle.lrc_script.specs.Plan.{Plan}
@@ -7,8 +7,6 @@ use Rattle.lrc_script.specs.Text.{text}
 use Rattle.lrc_report.specs.declared.report.Report.{Report}
 use Rattle.lrc_report.specs.ReportText.{report_text}
 use Rattle.lrc_run.specs.Runs.{IsReportOf}
-use Rattle.lrc.specs.declared.fault.ProgramFault.{ProgramFault}
-use Rattle.lrc.specs.declared.fault.ProgramFault.TheVariants.{Script}
 
 -- the script that was read is lawful, and its text is all that the source had
 pub record IsRead (source : Option (List ℕ)) (s : Plan) : Type 0 where
@@ -26,8 +24,3 @@ pub record IsServed (journal : Bool) (source old new : Option (List ℕ)) : Type
 -- what the source had is no script
 abbrev pub IsNoScript : Option (List ℕ) → Type 0
 IsNoScript source = IfSome source (λ xs. (s : Plan) → IsLawful s → xs ≢ text s)
-
--- the fault is the script's
-abbrev pub IsScripts : ProgramFault → Type 0
-IsScripts (Script line fault) = ⊤
-IsScripts _ = ⊥

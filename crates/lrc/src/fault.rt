@@ -2,7 +2,8 @@
 
 ghost use Rattle.std.specs.Prelude.{◌≡◌, ◌≢◌};
 ghost use Rattle.lrc_script.specs.declared.fault.ScriptFault.TheVariants.{NoMemory};
-ghost use Rattle.lrc.specs.Served.{IsScripts};
+ghost use Rattle.lrc.specs.declared.fault.ProgramFault.TheVariants.{Output};
+ghost use Rattle.lrc.specs.Statuses.{IsScripts, status_of};
 
 use book::Refused;
 use lrc_report::render::OutFault;
@@ -37,8 +38,7 @@ impl ProgramFault {
     /// The exit status: 5 for a file that can't be read, 2 for a script that is refused, 3 for a run without
     /// progress, else 4.
     pub fn status(self) -> u8
-        ensures fault { result ≢ 0 }
-        ensures script { result ≡ 2 → IsScripts self }
+        ensures { result ≡ status_of self }
     {
         match self {
             ProgramFault::Unreadable => 5,
@@ -97,7 +97,7 @@ impl From<RunFault> for ProgramFault {
 }
 
 impl From<OutFault> for ProgramFault {
-    ghost from_gives = { λ _ fault. IsScripts fault → ⊥ };
+    ghost from_gives = { λ _ fault. fault ≡ Output };
 
     fn from(_fault: OutFault) -> ProgramFault {
         ProgramFault::Output

@@ -5,12 +5,11 @@
 //! the words give, `lrc_report` and `lrc_words` say.
 //!
 //! **What is proved.** `program` answers 0 only where all that it could read is a script's text, that script was run and
-//! the text of its report was written, and nothing else (`IsServed`); and 2 only where it is no script's text
-//! (`IsNoScript`).
+//! the text of its report was written, and nothing else (`IsServed`); 2 only where it is no script's text (`IsNoScript`);
+//! and but for 4 a report is written whole or not at all. Each fault has its status (`status_of`).
 //!
-//! **What is only tested.** The texts of faults, help and usage, the other exit statuses, that the lock and the seed that
-//! the words ask for are used, and that memory isn't wanted needlessly. No contract sees what a file or a standard stream
-//! has.
+//! **What is only tested.** The texts of faults, help and usage, which fault is met, that the lock and the seed that the
+//! words ask for are used, and that memory isn't wanted needlessly. No contract sees what a file or a standard stream has.
 #![tactic(auto)]
 
 ghost use Rattle.std.specs.Prelude.{◌<◌};

@@ -1,10 +1,12 @@
 //! The program over its reader and its writers.
 
 ghost use Rattle.std.specs.Prelude.{◌≡◌, ◌≢◌, ◌<◌, IfErr, IfOk, OnOk};
+ghost use Rattle.std.specs.Io.KnownBytes.{Keeps};
 ghost use Rattle.lrc_script.specs.Lawful.{IsLawful};
 ghost use Rattle.lrc_script.specs.Plan.{plan_of};
 ghost use Rattle.lrc_run.specs.Runs.{IsReportOf};
-ghost use Rattle.lrc.specs.Served.{IsNoScript, IsRead, IsScripts, IsServed};
+ghost use Rattle.lrc.specs.Served.{IsNoScript, IsRead, IsServed};
+ghost use Rattle.lrc.specs.Statuses.{IsBeforeOutput, IsScripts, IsTold};
 
 use crate::fault::ProgramFault;
 use cluster::{BookLock, TicketBookLock};
@@ -96,18 +98,22 @@ fn run_script<R: Threads + Wait + Sync, S: Read, W: Write>(
     ensures served { OnOk result (IsServed options.now.journal (S.remaining source.old)
         (W.contents out.old) (W.contents out.new)) }
     ensures refused { IfErr result (λ fault. IsScripts fault → IsNoScript (S.remaining source.old)) }
+    ensures early { IfErr result
+        (λ fault. IsBeforeOutput fault → Keeps (W.contents out.old) (W.contents out.new)) }
 {
     let script = read_script(alloc, source)?;
     let report = report_of(rt, alloc, options, &script)?;
     render(&report, options.journal, out)?;
-    out.flush().map_err(|_| ProgramFault::Output)
+    match out.flush() {
+        Ok(()) => Ok(()),
+        Err(_) => Err(ProgramFault::Output),
+    }
 }
 
 /// Says on `err` in one write why the program ends without a report, and answers the exit status. Where there
 /// is no memory for the line, it says that.
 pub fn say<E: Write>(alloc: Global, fault: ProgramFault, err: &mut E) -> u8
-    ensures fault { result ≢ 0 }
-    ensures script { result ≡ 2 → IsScripts fault }
+    ensures { IsTold fault result }
 {
     // Where standard error takes nothing, the status still tells.
     match format!(in alloc; "lrc: {fault}\n") {
@@ -138,6 +144,10 @@ pub fn program<R: Threads + Wait + Sync, S: Read, W: Write, E: Write>(
         (W.contents out.old) (W.contents out.new) }
     // No script was refused.
     ensures refused { result ≡ 2 → IsNoScript (S.remaining source.old) }
+    // But for status 4, a report is written whole or not at all.
+    ensures early { result ≢ 0 → result ≢ 4 → Keeps (W.contents out.old) (W.contents out.new) }
+    // Where it was written, nothing is said of a fault.
+    ensures quiet { result ≡ 0 → Keeps (E.contents err.old) (E.contents err.new) }
 {
     match run_script(rt, alloc, options, source, out) {
         Ok(()) => 0,

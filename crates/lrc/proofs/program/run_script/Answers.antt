@@ -1,9 +1,9 @@
 use Rattle.lrc_script.specs.Plan.{plan_of}
-use Rattle.lrc.proofs.Writing.{appends_kept, on_ok}
+use Rattle.lrc.proofs.Writing.{appends_kept}
 use Rattle.lrc.proofs.program.run_script.Goals as goal
 
-pub returns-clause-served : goal.returns-clause-served
-returns-clause-served g c = on_ok c.map_err.result _ record {
+pub returns-in-Ok-clause-served : goal.returns-in-Ok-clause-served
+returns-in-Ok-clause-served g c = record {
   script = plan_of c.in_ok-script.script;
   read = c.in_ok-script.ensures.read;
   report = c.in_ok-report.report;

@@ -1,0 +1,32 @@
+-- The exit statuses.
+use Rattle.std.specs.Prelude.{ℕ, ◌≡◌, ◌⊎◌, ⊤}
+use Rattle.lrc_run.specs.declared.cause.Cause.{Cause}
+use Rattle.lrc_run.specs.declared.cause.Cause.TheVariants.{Stuck}
+use Rattle.lrc.specs.declared.fault.ProgramFault.{ProgramFault}
+use Rattle.lrc.specs.declared.fault.ProgramFault.TheVariants.{Unreadable, Script, Run, Output, NoMemory}
+
+-- a run without progress has a status of its own
+abbrev pub status_of_cause : Cause → ℕ
+status_of_cause Stuck = 3
+status_of_cause _ = 4
+
+-- the status of a fault
+abbrev pub status_of : ProgramFault → ℕ
+status_of Unreadable = 5
+status_of (Script line fault) = 2
+status_of (Run fault) = status_of_cause fault.cause
+status_of _ = 4
+
+-- what is told of a fault: it, or that there was no memory to say it
+abbrev pub IsTold : ProgramFault → ℕ → Type 0
+IsTold fault status = (status ≡ status_of fault) ⊎ (status ≡ status_of NoMemory)
+
+-- the fault is the script's
+abbrev pub IsScripts : ProgramFault → Type 0
+IsScripts (Script line fault) = ⊤
+IsScripts _ = ⊥
+
+-- the fault came before anything was written
+abbrev pub IsBeforeOutput : ProgramFault → Type 0
+IsBeforeOutput Output = ⊥
+IsBeforeOutput _ = ⊤
