@@ -110,8 +110,8 @@ fn run_script<R: Threads + Wait + Sync, S: Read, W: Write>(
     }
 }
 
-/// Says on `err` in one write why the program ends without a report, and answers the exit status. Where there
-/// is no memory for the line, it says that.
+/// Says on `err` in one write why the program ends without a report, and answers the fault's exit status. Where
+/// there is no memory for the line, it says that, with the status of that.
 pub fn say<E: Write>(alloc: Global, fault: ProgramFault, err: &mut E) -> u8
     ensures { IsTold fault result }
 {
@@ -142,11 +142,11 @@ pub fn program<R: Threads + Wait + Sync, S: Read, W: Write, E: Write>(
     // The script that was read was run, and the report of a run of it was written, whole.
     ensures served { result ≡ 0 → IsServed options.now.journal (S.remaining source.old)
         (W.contents out.old) (W.contents out.new) }
-    // No script was refused.
+    // What is refused as a script is none.
     ensures refused { result ≡ 2 → IsNoScript (S.remaining source.old) }
     // But for status 4, a report is written whole or not at all.
     ensures early { result ≢ 0 → result ≢ 4 → Keeps (W.contents out.old) (W.contents out.new) }
-    // Where it was written, nothing is said of a fault.
+    // Where it was written, no line goes to the error output.
     ensures quiet { result ≡ 0 → Keeps (E.contents err.old) (E.contents err.new) }
 {
     match run_script(rt, alloc, options, source, out) {
