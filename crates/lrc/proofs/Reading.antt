@@ -1,16 +1,17 @@
 -- What was read is all that the source had: one byte more than the longest script has was asked for.
-use Rattle.std.proofs.Common.{◌≡◌, ◌≢◌, ◌∙◌, ◌≤◌, ℕ, List, Option, Some, None, length, take, sym, ap, arith}
+use Rattle.std.proofs.Common.{◌≡◌, ◌≢◌, ◌∙◌, ◌+◌, ◌≤◌, ℕ, List, Option, Some, None, length, take, sym, ap, arith}
 use Rattle.std.specs.Prelude.{IfSome, option_map}
 use Rattle.std.proofs.lemmas.List.{length-take, take_all}
 use Rattle.lrc_script.specs.Lawful.{IsLawful}
 use Rattle.lrc_script.specs.Plan.{Plan}
+use Rattle.lrc_script.specs.Laws.{most_bytes}
 use Rattle.lrc_script.specs.Text.{text}
 use Rattle.lrc_script.proofs.Longest.{text_most}
 use Rattle.lrc.specs.Served.{IsNoScript, IsRead}
 
 -- what was asked for
 abbrev pub most_read : ℕ
-most_read = 3520419
+most_read = most_bytes + 1
 
 -- a list of which that many items are a script's text has no more
 all_of : (xs : List ℕ) (s : Plan) → IsLawful s → take most_read xs ≡ text s → xs ≡ text s

@@ -4,7 +4,7 @@ use Rattle.lrc_run.specs.declared.cause.Cause.{Cause}
 use Rattle.lrc_run.specs.declared.cause.Cause.TheVariants.{Stuck, Gate, Thread, Refused}
 use Rattle.lrc.specs.declared.fault.ProgramFault.{ProgramFault}
 use Rattle.lrc.specs.declared.fault.ProgramFault.TheVariants.{Unreadable, Script, Run, Output, NoMemory}
-use Rattle.lrc.specs.Statuses.{status_of_cause, status_of, IsTold, IsScripts, IsBeforeOutput}
+use Rattle.lrc.specs.Statuses.{status_of_cause, status_of, IsStatusOf, IsScripts, IsBeforeOutput}
 
 -- a run's fault has status 3 or 4
 cause_some : (cause : Cause) → status_of_cause cause ≢ 0
@@ -13,6 +13,7 @@ cause_some Gate is = absurd (omega (arith, is))
 cause_some Thread is = absurd (omega (arith, is))
 cause_some (Refused refused) is = absurd (omega (arith, is))
 
+-- and not that of a script's
 cause_others : (cause : Cause) → status_of_cause cause ≢ 2
 cause_others Stuck is = absurd (omega (arith, is))
 cause_others Gate is = absurd (omega (arith, is))
@@ -44,16 +45,16 @@ before Output isnt = absurd (isnt refl)
 before NoMemory isnt = tt
 
 -- what is told isn't 0
-pub told_some : (fault : ProgramFault) (status : ℕ) → IsTold fault status → status ≢ 0
+pub told_some : (fault : ProgramFault) (status : ℕ) → IsStatusOf fault status → status ≢ 0
 told_some fault status (inl its) is = some fault (sym its ∙ is)
 told_some fault status (inr none) is = absurd (omega (arith, none, is))
 
 -- 2 is told of the script alone
-pub told_script : (fault : ProgramFault) (status : ℕ) → IsTold fault status → status ≡ 2 → IsScripts fault
+pub told_script : (fault : ProgramFault) (status : ℕ) → IsStatusOf fault status → status ≡ 2 → IsScripts fault
 told_script fault status (inl its) is = scripts fault (sym its ∙ is)
 told_script fault status (inr none) is = absurd (omega (arith, none, is))
 
 -- all but 4 came before the output
-pub told_before : (fault : ProgramFault) (status : ℕ) → IsTold fault status → status ≢ 4 → IsBeforeOutput fault
+pub told_before : (fault : ProgramFault) (status : ℕ) → IsStatusOf fault status → status ≢ 4 → IsBeforeOutput fault
 told_before fault status (inl its) isnt = before fault (λ is. isnt (its ∙ is))
 told_before fault status (inr none) isnt = absurd (isnt none)

@@ -17,9 +17,9 @@ status_of (Script line fault) = 2
 status_of (Run fault) = status_of_cause fault.cause
 status_of _ = 4
 
--- what is told of a fault: it, or that there was no memory to say it
-abbrev pub IsTold : ProgramFault → ℕ → Type 0
-IsTold fault status = (status ≡ status_of fault) ⊎ (status ≡ status_of NoMemory)
+-- the status of a fault, or that of want of memory where there was none to say it
+abbrev pub IsStatusOf : ProgramFault → ℕ → Type 0
+IsStatusOf fault status = (status ≡ status_of fault) ⊎ (status ≡ status_of NoMemory)
 
 -- the fault is the script's
 abbrev pub IsScripts : ProgramFault → Type 0

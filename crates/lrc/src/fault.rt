@@ -2,7 +2,7 @@
 
 ghost use Rattle.std.specs.Prelude.{◌≡◌, ◌≢◌};
 ghost use Rattle.lrc_script.specs.declared.fault.ScriptFault.TheVariants.{NoMemory};
-ghost use Rattle.lrc.specs.declared.fault.ProgramFault.TheVariants.{Output};
+ghost use Rattle.lrc.specs.declared.fault.ProgramFault.TheVariants as program;
 ghost use Rattle.lrc.specs.Statuses.{IsScripts, status_of};
 
 use book::Refused;
@@ -67,7 +67,7 @@ impl From<io::Error> for ProgramFault {
 }
 
 impl From<AllocError> for ProgramFault {
-    ghost from_gives = { λ _ fault. IsScripts fault → ⊥ };
+    ghost from_gives = { λ _ fault. fault ≡ program.NoMemory };
 
     fn from(_error: AllocError) -> ProgramFault {
         ProgramFault::NoMemory
@@ -97,7 +97,7 @@ impl From<RunFault> for ProgramFault {
 }
 
 impl From<OutFault> for ProgramFault {
-    ghost from_gives = { λ _ fault. fault ≡ Output };
+    ghost from_gives = { λ _ fault. fault ≡ program.Output };
 
     fn from(_fault: OutFault) -> ProgramFault {
         ProgramFault::Output

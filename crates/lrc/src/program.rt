@@ -6,7 +6,7 @@ ghost use Rattle.lrc_script.specs.Lawful.{IsLawful};
 ghost use Rattle.lrc_script.specs.Plan.{plan_of};
 ghost use Rattle.lrc_run.specs.Runs.{IsReportOf};
 ghost use Rattle.lrc.specs.Served.{IsNoScript, IsRead, IsServed};
-ghost use Rattle.lrc.specs.Statuses.{IsBeforeOutput, IsScripts, IsTold};
+ghost use Rattle.lrc.specs.Statuses.{IsBeforeOutput, IsScripts, IsStatusOf};
 
 use crate::fault::ProgramFault;
 use cluster::{BookLock, TicketBookLock};
@@ -113,7 +113,7 @@ fn run_script<R: Threads + Wait + Sync, S: Read, W: Write>(
 /// Says on `err` in one write why the program ends without a report, and answers the fault's exit status. Where
 /// there is no memory for the line, it says that, with the status of that.
 pub fn say<E: Write>(alloc: Global, fault: ProgramFault, err: &mut E) -> u8
-    ensures { IsTold fault result }
+    ensures { IsStatusOf fault result }
 {
     // Where standard error takes nothing, the status still tells.
     match format!(in alloc; "lrc: {fault}\n") {

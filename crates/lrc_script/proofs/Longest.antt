@@ -123,6 +123,7 @@ sizes_length none p n w l f pl nl wl ll fl =
           omega (arith, short_length p pl, short_length n nl, short_length w wl, short_length l ll, short_length f fl)
     ]
 
+-- the line of the sizes
 cluster_length : (s : Plan) → AreSmall s → length (line_text (cluster_line s)) ≤ 23
 cluster_length s small =
     omega (

@@ -5,7 +5,8 @@ pub returns-in-Err-clause-served : goal.returns-in-Err-clause-served
 returns-in-Err-clause-served g c = λ is. absurd (told_some _ _ c.say.ensures is)
 
 pub returns-in-Err-clause-refused : goal.returns-in-Err-clause-refused
-returns-in-Err-clause-refused g c = λ is. (rw c.in-Err.is at c.run_script.ensures.refused) (told_script _ _ c.say.ensures is)
+returns-in-Err-clause-refused g c =
+    λ is. (rw c.in-Err.is at c.run_script.ensures.refused) (told_script _ _ c.say.ensures is)
 
 pub returns-in-Err-clause-early : goal.returns-in-Err-clause-early
 returns-in-Err-clause-early g c =
