@@ -11,8 +11,7 @@
 //! that a book which a history tells is told after each call by that history with the call's events, and
 //! after a cut by the same history: the journal then holds what is left of it.
 //!
-//! **What is only tested**: the texts of [`Refused`]. The rows of the book's calls stand in crate
-//! `book_uses`.
+//! **What is only tested**: (in `book_uses`): the texts of [`Refused`], the rows of the book's calls.
 #![tactic(auto)]
 
 mod awaited;

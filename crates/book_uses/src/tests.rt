@@ -4,6 +4,7 @@ ghost use Rattle.std.specs.Prelude.{◌≡◌, ◌<◌, ◌≤◌, length};
 mod cuts;
 mod limits;
 mod rows;
+mod texts;
 
 use crate::Told;
 use Call::{Arrive, Ask, Audit, HandIn, Last, Release, Set, Take, Watch};

@@ -10,7 +10,7 @@
 //! `Covers`: what holds of the processor in every journal that the lock allows; `allowed_law` and `allowed`: there is one.
 //! `audit` and `finish`: faithful histories with each processor's calls.
 //!
-//! **What is only tested** (here and in `cluster_uses`): that no call is refused needlessly, and that threads get on.
+//! **What is only tested** (in `cluster_uses`): that no call is refused needlessly, and that threads get on.
 #![tactic(auto)]
 
 mod cluster;
@@ -18,8 +18,6 @@ mod keeper;
 pub mod laws;
 mod processor;
 mod shape;
-#[cfg(test)]
-mod tests;
 
 pub use cluster::Cluster;
 pub use keeper::{BookLock, Rule, TicketBookLock, View};

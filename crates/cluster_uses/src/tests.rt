@@ -1,6 +1,7 @@
 //! Tests of the cluster, as lists of steps.
 ghost use Rattle.std.specs.Prelude.{◌≡◌, ◌<◌, ◌≤◌, ◌^◌, length};
 
+mod blocks;
 mod cuts;
 mod full;
 mod growths;

@@ -9,7 +9,7 @@
 //! define, and up to its first race an explained journal replays. Lemmas for the crates above lie in
 //! proofs/, a folder a topic. `ReachTable` is the slow program by the definition.
 //!
-//! **What is only tested.** That memory isn't refused needlessly, and that a journal of 2^20 events is
+//! **What is only tested** (in `journal_uses`): that memory isn't refused needlessly, and that a journal of 2^20 events is
 //! checked in a test's time.
 #![tactic(auto)]
 
@@ -27,8 +27,6 @@ mod numbered;
 mod race;
 mod replay;
 mod slow;
-#[cfg(test)]
-mod tests;
 mod traffic;
 
 pub use cut::CutFault;

@@ -9,7 +9,7 @@
 //! verdict is race-free and the history replays (module `laws`). Which fault a run tells, of those that its processors met;
 //! and the order that a round's generator draws.
 //!
-//! **What is only tested.** That no run is refused needlessly, and that its threads get on side by side; that the gate is
+//! **What is only tested** (in `lrc_run_uses`): that no run is refused needlessly, and that its threads get on side by side; that the gate is
 //! asked before each instruction; the schedule of `step`, and which processor it tells as stuck.
 #![tactic(auto)]
 
@@ -22,8 +22,6 @@ mod orders;
 mod running;
 mod shown;
 mod steps;
-#[cfg(test)]
-mod tests;
 mod walk;
 
 pub use cause::{Cause, RunFault};

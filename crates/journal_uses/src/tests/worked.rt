@@ -1,7 +1,7 @@
 //! Worked journals that several tests look at.
 
 use crate::tests::by;
-use crate::{Event, Kind};
+use journal::{Event, Kind};
 
 /// A store, and then another processor's load of its address that answers what was there before.
 pub(crate) fn stale_load() -> [Event; 2] {

@@ -2,7 +2,7 @@
 
 use crate::tests::worked::{load_before_store, stale_load};
 use crate::tests::{by, journal_of};
-use crate::{Event, Kind};
+use journal::{Event, Kind};
 use std::alloc::Global;
 use std::process::Abort;
 use std::test::Fail;

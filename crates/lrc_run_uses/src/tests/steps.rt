@@ -1,6 +1,6 @@
 //! Scripts by turns on one thread.
 
-use crate::{Cause, RunFault, order, step, step_with};
+use lrc_run::{Cause, RunFault, order, step, step_with};
 use cluster::{BookLock, TicketBookLock};
 use journal::{Event, Kind};
 use lrc_report::Report;

@@ -1,7 +1,7 @@
 //! Scripts with each processor on a thread of its own.
 ghost use Rattle.std.specs.Prelude.{◌<◌, ◌≤◌, ◌^◌};
 
-use crate::{Cause, Gate, Open, RunFault, Stopped, run, run_with};
+use lrc_run::{Cause, Gate, Open, RunFault, Stopped, run, run_with};
 use book::{Book, Refused};
 use cluster::{Rule, TicketBookLock};
 use lrc_report::Report;

@@ -1,6 +1,6 @@
 //! Scripts that cut the journal.
 
-use crate::{Open, run, step, step_with};
+use lrc_run::{Open, run, step, step_with};
 use cluster::TicketBookLock;
 use journal::{Event, Kind};
 use lrc_report::Report;

@@ -9,7 +9,7 @@ mod reach;
 mod worked;
 
 use crate::tests::worked::{load_before_store, stale_load};
-use crate::{Event, Journal, Kind, MOST_HELD, MOST_PROCESSORS, Traffic};
+use journal::{Event, Journal, Kind, MOST_HELD, MOST_PROCESSORS, Traffic};
 use std::alloc::Global;
 use std::process::Abort;
 use std::test::Fail;

@@ -1,12 +1,12 @@
 //! Each fault, with its line and its text.
 
 use super::bytes_of;
-use crate::fault::ScriptFault;
-use crate::fault::ScriptFault::{
+use lrc_script::fault::ScriptFault;
+use lrc_script::fault::ScriptFault::{
     AlreadyHeld, BadFlag, BadLine, BadLock, BadNumber, BadSize, NotHeld, OutOfRange, Truncated,
     Uneven,
 };
-use crate::script::parse;
+use lrc_script::script::parse;
 use std::alloc::{AllocError, Global};
 use std::test::Fail;
 

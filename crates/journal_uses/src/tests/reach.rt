@@ -3,7 +3,7 @@
 ghost use Rattle.std.specs.Prelude.{◌≡◌, ◌<◌, ◌≤◌, ◌+◌, ◌^◌, vec_len};
 
 use crate::tests::{by, journal_of};
-use crate::{Event, Kind, ReachTable};
+use journal::{Event, Kind, ReachTable};
 use std::alloc::{AllocError, Global};
 use std::process::Abort;
 use std::test::Fail;

@@ -1,8 +1,8 @@
 //! Drawn scripts.
 
 use super::bytes_of;
-use crate::draw::{free, guarded};
-use crate::script::parse;
+use lrc_script::draw::{free, guarded};
+use lrc_script::script::parse;
 use std::alloc::Global;
 use std::process::Abort;
 use std::test::Fail;

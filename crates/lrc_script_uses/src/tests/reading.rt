@@ -1,8 +1,8 @@
 //! Scripts that are read and printed.
 
 use super::bytes_of;
-use crate::fault::ScriptFault::{self, Truncated};
-use crate::script::{Instruction, Script, parse};
+use lrc_script::fault::ScriptFault::{self, Truncated};
+use lrc_script::script::{Instruction, Script, parse};
 use std::alloc::{AllocError, Global};
 use std::test::Fail;
 

@@ -1,12 +1,14 @@
-use crate::{BookLock, Cluster, Processor, TicketBookLock};
+//! Processors by themselves: what each call needs of the open block.
+
 use book::{Book, Refused};
+use cluster::{BookLock, Cluster, Processor, Rule, TicketBookLock};
 use std::alloc::Global;
 use std::process::Abort;
 use std::test::Fail;
 use turn::Turn;
 
 /// Stores and loads until the block is full; then every access is refused, the least reason first.
-fn fills_a_block<T: Turn<Book, crate::Rule>>(rt: &impl Abort, p: &mut Processor<T>) {
+fn fills_a_block<T: Turn<Book, Rule>>(rt: &impl Abort, p: &mut Processor<T>) {
     for _ in 0..255 {
         assert_eq!(rt; p.store(0, 1), Ok(()));
     }

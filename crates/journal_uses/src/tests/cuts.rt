@@ -3,7 +3,7 @@
 ghost use Rattle.std.specs.Prelude.{◌≡◌, IfOk};
 
 use crate::tests::{by, go_on, journal_of};
-use crate::{CutFault, Event, Journal, Kind, Traffic};
+use journal::{CutFault, Event, Journal, Kind, Traffic};
 use std::process::Abort;
 use std::test::Fail;
 

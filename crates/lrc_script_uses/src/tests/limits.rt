@@ -2,9 +2,9 @@
 //! fault. No clause says that memory isn't wanted needlessly: `NoMemory` is proved wherever it is answered.
 
 use super::bytes_of;
-use crate::fault::ScriptFault;
-use crate::fault::ScriptFault::{BadLine, BadNumber, OutOfRange, TooLong};
-use crate::script::{Instruction, MOST_BYTES, Script, parse};
+use lrc_script::fault::ScriptFault;
+use lrc_script::fault::ScriptFault::{BadLine, BadNumber, OutOfRange, TooLong};
+use lrc_script::script::{Instruction, MOST_BYTES, Script, parse};
 use std::alloc::{AllocError, Global};
 use std::test::Fail;
 

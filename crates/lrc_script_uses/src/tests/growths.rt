@@ -2,9 +2,9 @@
 //! of memory is told with its line.
 
 use super::bytes_of;
-use crate::draw::{free, guarded};
-use crate::fault::ScriptFault;
-use crate::script::{Script, parse};
+use lrc_script::draw::{free, guarded};
+use lrc_script::fault::ScriptFault;
+use lrc_script::script::{Script, parse};
 use std::alloc::{AllocError, Global};
 use std::process::Abort;
 use std::test::Fail;
