@@ -23,12 +23,16 @@ use Rattle.journal.specs.Did.{event}
 use Rattle.book.specs.State.{State, time_of}
 use Rattle.book.specs.Brought.{message_for}
 
+-- no closed interval of n processors
+abbrev pub no_closings : ℕ → Closings
+no_closings n = record { kept = []; first = replicate n 0; next = replicate n 0; pushed = 0 }
+
 -- an empty book, with room for 256 last events of each processor
 abbrev pub new_book : Sizes → State
 new_book s = record {
   words = s.words;
   journal = record (new_log s.processors (addresses s)) { room = 256 * s.processors };
-  closed = record { kept = []; first = replicate s.processors 0; next = replicate s.processors 0; pushed = 0 };
+  closed = no_closings s.processors;
   times = replicate s.processors (replicate s.processors 0);
   locks = record { processors = s.processors; locks = replicate s.locks (unheld s.processors) };
   barrier = unmet s.processors;

@@ -23,8 +23,10 @@ ghost use Rattle.lockq.specs.Lock.{lock_at};
 ghost use Rattle.transit.specs.Letters.{letter};
 ghost use Rattle.transit.specs.Letters.Kind.{grant};
 
+mod opening;
 mod pending;
 
+use self::opening::{empty_history, idle, unused};
 use crate::awaited::Awaited;
 use crate::messages::{departures, grant_to, has_come, post_all, receive};
 use crate::refused::Refused;
@@ -91,25 +93,20 @@ impl Protocol {
         })) }
     {
         let owing = 256 * processors;
-        let mut journal = Journal::new(alloc, processors, pages * words)?;
-        journal.reserve(owing)?;
-        let mut times = Vec::with_capacity(alloc, processors)?;
-        let mut awaits = Vec::with_capacity(alloc, processors)?;
-        for _ in 0..processors {
-            times.push(VTime::zero(alloc, processors))?;
-            awaits.push(None)?;
-        }
+        let (journal, closed) = empty_history(alloc, processors, pages * words, owing)?;
+        let (times, awaits) = idle(alloc, processors)?;
+        let (locks, flags, transit) = unused(alloc, processors, locks, flags)?;
         Ok(Protocol {
             words,
             journal,
             owing,
-            closed: Closed::new(alloc, processors)?,
+            closed,
             times,
-            locks: Locks::new(alloc, locks, processors)?,
+            locks,
             barrier: Barrier::new(alloc, processors),
-            flags: unset(alloc, flags)?,
+            flags,
             awaits,
-            transit: Transit::new(alloc, processors)?,
+            transit,
         })
     }
 
@@ -467,17 +464,6 @@ fn with_set(kept: &Option<VTime>, time: &VTime) -> VTime
         }
         None => time.copy(),
     }
-}
-
-/// So many flags that are not set.
-fn unset(alloc: Global, flags: usize) -> Result<Vec<Option<VTime>>, AllocError>
-    ensures { IfOk result (λ all. all.items ≡ replicate flags None) }
-{
-    let mut all = Vec::with_capacity(alloc, flags)?;
-    for _ in 0..flags {
-        all.push(None)?;
-    }
-    Ok(all)
 }
 
 /// The barrier's part of a take.

@@ -255,14 +255,16 @@ fn long_journal(rt: HostRuntime) -> Result<(), Fail> {
         let processor = round % 8;
         let lock = round / 8 % 32;
         let address = lock * 128 + round / 256 % 128;
-        events.push(by(processor, Kind::Ask(lock)))?;
-        events.push(by(processor, Kind::Acquire(lock)))?;
-        events.push(by(processor, Kind::Load(address, 0)))?;
-        events.push(by(processor, Kind::Store(address, 0)))?;
-        events.push(by(processor, Kind::Store(address, 0)))?;
-        events.push(by(processor, Kind::Load(address, 0)))?;
-        events.push(by(processor, Kind::Load(address, 0)))?;
-        events.push(by(processor, Kind::Release(lock)))?;
+        events.extend_from_slice(&[
+            by(processor, Kind::Ask(lock)),
+            by(processor, Kind::Acquire(lock)),
+            by(processor, Kind::Load(address, 0)),
+            by(processor, Kind::Store(address, 0)),
+            by(processor, Kind::Store(address, 0)),
+            by(processor, Kind::Load(address, 0)),
+            by(processor, Kind::Load(address, 0)),
+            by(processor, Kind::Release(lock)),
+        ])?;
     }
     let journal = journal_of(&rt, rt.alloc(), 8, 4096, &events)?;
     assert_eq!(rt; journal.len(), 1048576);

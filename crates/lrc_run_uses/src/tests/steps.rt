@@ -147,10 +147,16 @@ fn orders_of_two(rt: HostRuntime) -> Result<(), Fail> {
         let report = step(&rt, rt.alloc(), &script, Some(seed))?;
         assert_eq!(rt; report.shown.as_slice(), [(0, last)].as_slice());
         let again = step(&rt, rt.alloc(), &script, Some(seed))?;
-        assert!(rt; report.journal.events() == again.journal.events());
-        assert!(rt; report.shown == again.shown && report.racy == again.racy);
+        assert!(rt; are_equal(&report, &again));
     }
     Ok(())
+}
+
+/// Whether two reports say the same of the events, the shown words and the races.
+fn are_equal(one: &Report, other: &Report) -> bool {
+    one.journal.events() == other.journal.events()
+        && one.shown == other.shown
+        && one.racy == other.racy
 }
 
 /// A script in which processor 0 adds 129 times, and processor 1 asks for a lock in the round in which the block
