@@ -2,6 +2,7 @@
 pub mod Replaying
 pub mod Spending
 pub mod Entries
+pub mod FirstClocks
 pub mod ClockSteps
 pub mod RaceSteps
 pub mod Reaching

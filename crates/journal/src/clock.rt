@@ -1,14 +1,22 @@
 //! Vector timestamps of sixteen processors, for the race checker.
 
-ghost use Rattle.std.specs.Prelude.{◌≡◌, ℕ, ◌+◌, ◌<◌, ◌≤◌, ◌^◌, ◌≢◌, ◌↔◌, ◌==◌, IsTrue, IfOk, OnOk, cond, max, length, slice_index, slice_index_or};
+ghost use Rattle.std.specs.Prelude.{◌≡◌, ℕ, ◌+◌, ◌<◌, ◌≤◌, ◌^◌, ◌≢◌, ◌↔◌, ◌==◌, IsTrue, IfOk, OnOk, cond, max, length, slice_index, slice_index_or, vec_len};
 ghost use Rattle.std.specs.VecDeque.{deque_len};
 ghost use Rattle.journal.specs.Entries.{entry, map_entry, IsJoinedAt};
 
-use std::alloc::AllocError;
+use std::alloc::{AllocError, Global};
 use std::collections::{BTreeMap, VecDeque};
 
 /// A vector timestamp: of each processor, how many of its closing events are counted.
 pub(crate) type Clock = [u32; 16];
+
+/// As many timestamps, all zeros. The only error is want of memory.
+pub(crate) fn zeros(alloc: Global, count: usize) -> Result<Vec<Clock>, AllocError>
+    ensures long { IfOk result (λ v. vec_len v ≡ count) }
+    ensures zeros { IfOk result (λ v. (n q : ℕ) → entry v.items n q ≡ 0) }
+{
+    vec![in alloc; [0; 16]; count]
+}
 
 /// Raises each entry to the other timestamp's, where that is greater.
 pub(crate) fn join(clock: &mut Clock, other: &Clock)

@@ -7,7 +7,7 @@ ghost use Rattle.journal.specs.InRange.{ProcessorsInRange};
 ghost use Rattle.journal.specs.Entries.{entry};
 ghost use Rattle.journal.specs.Clocks.{brought_entry, Keeps, AreClocks};
 
-use crate::clock::{Clock, clock_in, join, join_in, tick};
+use crate::clock::{Clock, clock_in, join, join_in, tick, zeros};
 use crate::event::{Event, Kind};
 use crate::kinds::{closes, departs, is_plain};
 use crate::numbered::Numbered;
@@ -45,7 +45,7 @@ impl Clocks {
         ensures present { IfOk result (λ c. c.present ≡ processors) }
     {
         Ok(Clocks {
-            processors: vec![in alloc; [0; 16]; 16]?,
+            processors: zeros(alloc, 16)?,
             locks: Numbered::new(alloc),
             flags: Numbered::new(alloc),
             episodes: VecDeque::new(alloc),

@@ -10,7 +10,7 @@ ghost use Rattle.journal.specs.InRange.{AddressInRange, AddressesInRange, Proces
 ghost use Rattle.journal.specs.Entries.{entry};
 ghost use Rattle.journal.specs.Accesses.{epoch_entry, loads_entry, AreWithin, AreLoadsAfter, AreAccesses, ConflictsAreCounted, IsNoted};
 
-use crate::clock::{Clock, others_are_within, tick};
+use crate::clock::{Clock, others_are_within, tick, zeros};
 use crate::clocks::Clocks;
 use crate::event::{Event, Kind};
 use crate::kinds::closes;
@@ -137,7 +137,7 @@ impl Accesses {
         };
         Ok(Accesses {
             last: vec![in alloc; none; addresses]?,
-            loads: vec![in alloc; [0; 16]; addresses]?,
+            loads: zeros(alloc, addresses)?,
         })
     }
 

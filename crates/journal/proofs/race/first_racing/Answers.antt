@@ -1,12 +1,16 @@
-use Rattle.std.proofs.Common.{◌≡◌, ℕ, ◌+◌, ◌<◌, inl, inr, length, take, List, slice_index, slice_index_or, ◌==◌, sym, refl, ap, ◌∙◌, arith}
+use Rattle.std.proofs.Common.{◌≡◌, ℕ, ◌+◌, ◌<◌, inl, inr, length, take, List, slice_index, slice_index_or, ◌==◌, ◌≤◌, ◌&&◌, sym, refl, ap, ◌∙◌, arith}
 use borrow.Author.Count.{below_more}
 use Rattle.std.proofs.lemmas.Option.{slice_get-get_or, slice_get_within}
 use Rattle.std.proofs.lemmas.Bool.{cases_lt}
+use Rattle.std.proofs.lemmas.List.{length-take-le}
+use Rattle.std.proofs.lemmas.List.Sums.{count_by-le-length}
 use Rattle.journal.specs.declared.event.Event.{Event}
 use Rattle.journal.specs.declared.event.Kind.TheVariants.{Load}
 use Rattle.journal.specs.Did.{event}
-use Rattle.journal.specs.Events.{count_of, is_closing}
+use Rattle.journal.specs.Events.{At, count_of, is_closing}
+use Rattle.journal.specs.InRange.{ProcessorsInRange}
 use Rattle.journal.specs.Races.{Race}
+use Rattle.journal.proofs.Passes.Entries.{zeros_at}
 use Rattle.journal.proofs.Passes.RaceSteps.{race_by_time, race_events, count_next, cond-and_true, cond-and_false}
 use Rattle.journal.proofs.race.first_racing.Goals as goal
 use Rattle.journal.proofs.race.first_racing.Goals.{else-is_conflict-via-then-is_conflict+else-time-earlier, else-is_conflict-via-else-is_conflict, then-closes, else-closes}
@@ -14,6 +18,57 @@ use Rattle.journal.proofs.race.first_racing.Goals.{else-is_conflict-via-then-is_
 -- the event at this place
 abbrev here : List Event → ℕ → Event
 here events place = slice_index_or events place (event 0 (Load 0 0))
+
+-- a place before an event's is one of the list
+place_within : (events : List Event) (place i : ℕ) (e : Event) → At events place e → i < place → i < length events
+place_within events place i e at lt = (let within = slice_get_within events place e at in omega arith)
+
+-- and the processor of its event is in range
+processor_within : (events : List Event) (place i : ℕ) (e : Event) → At events place e → i < place
+    → ProcessorsInRange 16 events → (here events i).processor < 16
+processor_within events place i e at lt range =
+    range i (here events i) (slice_get-get_or events i (event 0 (Load 0 0)) (place_within events place i e at lt))
+
+-- no count of a journal's front is past its place
+count_within : (events : List Event) (i p : ℕ) → i < length events → count_of is_closing (take i events) p ≤ i
+count_within events i p lt =
+    let all = count_by-le-length (λ (e : Event). (e.processor == p) && is_closing e.kind) (take i events) in
+    let long = length-take-le i events (omega arith) in
+    omega arith
+
+pub bounds-events-i : goal.bounds-events-i
+bounds-events-i c =
+    place_within c.args.events.now c.args.place c.loop-i.i c.args.event c.requires.at c.loop-i-test.true
+
+pub bounds-time-earlier : goal.bounds-time-earlier
+bounds-time-earlier c =
+    processor_within c.args.events.now c.args.place c.loop-i.i c.args.event c.requires.at c.loop-i-test.true
+    c.requires.processors
+
+pub bounds-closings-earlier : goal.bounds-closings-earlier
+bounds-closings-earlier c =
+    processor_within c.args.events.now c.args.place c.loop-i.i c.args.event c.requires.at c.loop-i-test.true
+    c.requires.processors
+
+pub tick-requires-clause-processor : goal.tick-requires-clause-processor
+tick-requires-clause-processor c =
+    processor_within c.args.events.now c.args.place c.loop-i.i c.args.event c.requires.at c.loop-i-test.true
+    c.requires.processors
+
+pub tick-requires-clause-room : goal.tick-requires-clause-room
+tick-requires-clause-room c =
+    let e = here c.args.events.now c.loop-i.i in
+    let lt =
+    processor_within c.args.events.now c.args.place c.loop-i.i c.args.event c.requires.at c.loop-i-test.true
+    c.requires.processors in
+    let within =
+    place_within c.args.events.now c.args.place c.loop-i.i c.args.event c.requires.at c.loop-i-test.true in
+    let count = c.loop-i.invariant.1 e.processor lt in
+    let small = count_within c.args.events.now c.loop-i.i e.processor within in
+    omega (arith, c.requires.few)
+
+pub loop-i-init : goal.loop-i-init
+loop-i-init c = (refl, λ q h. zeros_at 16 q, λ m h. absurd (omega arith))
 
 pub returns-then-time-earlier : goal.returns-then-time-earlier
 returns-then-time-earlier c =

@@ -1,0 +1,10 @@
+use Rattle.std.proofs.Common.{refl, ap}
+use Rattle.journal.specs.Entries.{entry}
+use Rattle.journal.proofs.Passes.Entries.{zeros_at}
+use Rattle.journal.proofs.Passes.FirstClocks.{clocks_first}
+use Rattle.journal.proofs.clocks.Clocks.new.Goals as goal
+
+pub returns-clause-clocks : goal.returns-clause-clocks
+returns-clause-clocks c =
+    clocks_first _ c.in_ok-zeros.ensures.long c.requires refl c.in_ok-zeros.ensures.zeros c.new.ensures
+    c.new-2.ensures (λ n q. ap (λ xs. entry xs n q) c.new-3.ensures.items) (zeros_at 16) (zeros_at 16)
