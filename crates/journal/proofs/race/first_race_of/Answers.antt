@@ -8,7 +8,7 @@ use Rattle.journal.specs.Did.{event}
 use Rattle.journal.specs.Pasts.{InPast}
 use Rattle.journal.specs.Times.{IsTimeOf}
 use Rattle.journal.specs.Races.{Race}
-use Rattle.journal.specs.InRange.{AddressInRange}
+use Rattle.journal.specs.InRange.{AddressInRange, ProcessorsInRange}
 use Rattle.journal.specs.Entries.{entry}
 use Rattle.journal.specs.Accesses.{AreAccesses}
 use Rattle.journal.proofs.Times.Times.{time_equal}
@@ -134,3 +134,39 @@ pub returns : goal.returns
 returns c =
     λ i k r. (let within = slice_get_within c.args.events.now k r.second r.second_at in
     let over = c.loop-place-test.false in c.loop-place.invariant.2 i k (omega arith) r)
+
+pub loop-place-init : goal.loop-place-init
+loop-place-init c = (
+  c.in_ok-clocks.ensures.clocks,
+  c.in_ok-accesses.ensures,
+  λ m n h r. absurd (omega arith),
+  c.in_ok-clocks.ensures.present,
+)
+
+pub bounds-events-place : goal.bounds-events-place
+bounds-events-place c = c.loop-place-test.true
+
+pub race_at-requires-clause-few : goal.race_at-requires-clause-few
+race_at-requires-clause-few c = c.requires.few
+
+pub race_at-requires-clause-kept : goal.race_at-requires-clause-kept
+race_at-requires-clause-kept c =
+    subst (λ n. AreAccesses (take c.loop-place.place c.args.events.now) n c.loop-place.accesses)
+    (sym c.loop-place.invariant.1.last_long) c.loop-place.invariant.1
+
+pub race_at-requires-clause-processors : goal.race_at-requires-clause-processors
+race_at-requires-clause-processors c =
+    λ i e at. (let present = c.requires.processors i e at in omega (arith, c.requires.few_processors))
+
+pub note-requires-in-loop-place-clause-processors : goal.note-requires-in-loop-place-clause-processors
+note-requires-in-loop-place-clause-processors c =
+    subst (λ n. ProcessorsInRange n c.args.events.now) (sym c.loop-place.invariant.3) c.requires.processors
+
+pub note-requires-in-loop-place-clause-so_far : goal.note-requires-in-loop-place-clause-so_far
+note-requires-in-loop-place-clause-so_far c = c.loop-place.invariant.0
+
+pub note-requires-in-loop-place-clause-place : goal.note-requires-in-loop-place-clause-place
+note-requires-in-loop-place-clause-place c = c.loop-place-test.true
+
+pub note-requires-in-loop-place-clause-few : goal.note-requires-in-loop-place-clause-few
+note-requires-in-loop-place-clause-few c = c.requires.few
