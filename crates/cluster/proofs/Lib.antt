@@ -1,4 +1,5 @@
 pub mod Refusing
+pub mod Accessing
 pub mod Newest
 pub mod Noting
 pub mod Stored
