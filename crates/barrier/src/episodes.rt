@@ -1,7 +1,7 @@
 //! Episodes of the barrier.
 ghost use Rattle.std.specs.Prelude.{ℕ, ◌≡◌, ◌≤◌, ◌<◌, ◌+◌, ◌↔◌, IsTrue, Some, List, [], length, replicate, slice_get, count_by};
 ghost use Rattle.std.specs.List.{list_all};
-ghost use Rattle.lists.specs.Limits.{most_processors};
+ghost use Rattle.lists.specs.Prelude.{most_processors};
 ghost use Rattle.vtime.specs.Times.{join};
 ghost use Rattle.barrier.specs.Episodes.{unmet, is_here, is_full, joined, arrived, departed, HasGathered, Gathers};
 

@@ -4,9 +4,8 @@
 //! lock; each of the 64 locks guards the page of its number. The holder fetches the page where others
 //! stored to it since its last fetch, and loads and stores two neighbouring words of it, which the next
 //! turns of the lock leave alone until all of the page had theirs.
-
 ghost use Rattle.std.specs.Prelude.{◌≡◌, ◌^◌, ◌≤◌, ◌<◌, IfOk, length};
-ghost use Rattle.journal.specs.InRange.{AddressInRange};
+ghost use Rattle.journal.specs.Prelude.{AddressInRange};
 
 use journal::{Event, Journal, Kind};
 use std::alloc::{AllocError, Global};

@@ -1,5 +1,4 @@
 //! What is measured.
-
 ghost use Rattle.std.specs.Prelude.{◌≡◌, IfOk, IfSome};
 ghost use Rattle.bench.specs.Answers.{IsAnswerOf, name_of};
 

@@ -15,3 +15,4 @@ pub mod Laws
 pub mod Holding
 pub mod Refusals
 pub mod Calls
+pub mod Prelude

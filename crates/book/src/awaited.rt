@@ -1,8 +1,8 @@
 //! What a processor waits for.
 ghost use Rattle.std.specs.Prelude.{◌≡◌};
 ghost use Rattle.std.specs.Option.{option_map};
-ghost use Rattle.journal.specs.Waits.{awaited};
-ghost use Rattle.book.specs.Awaiting.{kind_of};
+ghost use Rattle.journal.specs.Prelude.{awaited};
+ghost use Rattle.book.specs.Prelude.{kind_of};
 
 use journal::Kind;
 

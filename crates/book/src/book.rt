@@ -1,20 +1,12 @@
 //! The book: everything that the processors share.
 ghost use Rattle.std.specs.Prelude.{◌≡◌, ◌≢◌, ℕ, ◌+◌, ◌*◌, ◌^◌, ◌<◌, ◌≤◌, ◌↔◌, ◌⊎◌, EachIndex, IsTrue, Some, Err, OnOk, OnErr, IfErr, IfOk, List, map, length, count_by, slice_get, slice_index};
 ghost use Rattle.std.specs.Arc.{arc_value};
-ghost use Rattle.lists.specs.Limits.{most_events, most_in_block, most_processors};
+ghost use Rattle.lists.specs.Prelude.{most_events, most_in_block, most_processors};
+ghost use Rattle.journal.specs.Prelude.{Sizes, Ready, IsCutFault};
 ghost use Rattle.journal.specs.declared.event.Event.{Event as AnEvent};
-ghost use Rattle.journal.specs.Sizes.{Sizes};
-ghost use Rattle.journal.specs.WellFormed.{Ready};
-ghost use Rattle.journal.specs.Cutting.{IsCutFault};
-ghost use Rattle.interval.specs.Intervals.{HasRisingPages};
-ghost use Rattle.interval.specs.Closings.{is_of_page};
-ghost use Rattle.transit.specs.Letters.{letter};
-ghost use Rattle.book.specs.Brought.{brought};
-ghost use Rattle.book.specs.Cutting.{WasBookCut};
-ghost use Rattle.book.specs.Calls.{MayFlush, MayCall, MayAsk, MayRelease, MayTakeSome, MayLook};
-ghost use Rattle.book.specs.Transitions.{new_book, handed_in, handed_last, book_watched, book_set, book_asked, book_released, book_arrived, Takes};
-ghost use Rattle.book.specs.Refusals.{IsFullAt, IsWantOfRoom};
-ghost use Rattle.book.specs.Told.{IsTold};
+ghost use Rattle.interval.specs.Prelude.{HasRisingPages, is_of_page};
+ghost use Rattle.transit.specs.Prelude.{letter};
+ghost use Rattle.book.specs.Prelude.{brought, WasBookCut, MayFlush, MayCall, MayAsk, MayRelease, MayTakeSome, MayLook, new_book, handed_in, handed_last, book_watched, book_set, book_asked, book_released, book_arrived, Takes, IsFullAt, IsWantOfRoom, IsTold};
 
 use crate::protocol::Protocol;
 use crate::refused::Refused;

@@ -1,13 +1,9 @@
 //! Messages that are made before the interval is closed with which they come.
 ghost use Rattle.std.specs.Prelude.{◌≡◌, ◌≢◌, ℕ, ◌<◌, ◌≤◌, IfOk, IfSome, IsSome, List, OnOk, OnErr, None, Some, true, length, map, replicate, slice_index, slice_set};
 ghost use Rattle.std.specs.Option.{option_map};
-ghost use Rattle.interval.specs.Intervals.{HasRisingPages};
-ghost use Rattle.interval.specs.Closings.{pushed};
-ghost use Rattle.transit.specs.Letters.{letter};
-ghost use Rattle.book.specs.Transitions.{addressed, addressed_grant, departure_to};
-ghost use Rattle.book.specs.Awaiting.{kind_of};
-ghost use Rattle.book.specs.Brought.{has_come, message_among, signal_to};
-ghost use Rattle.book.specs.Calls.{MayBeSent, MaySignal};
+ghost use Rattle.interval.specs.Prelude.{HasRisingPages, pushed};
+ghost use Rattle.transit.specs.Prelude.{letter};
+ghost use Rattle.book.specs.Prelude.{addressed, addressed_grant, departure_to, kind_of, has_come, message_among, signal_to, MayBeSent, MaySignal};
 
 use crate::awaited::Awaited;
 use interval::{Closed, Interval};

@@ -1,27 +1,15 @@
 //! What the book does, in place: a `Book` keeps one of these behind a pointer.
 ghost use Rattle.std.specs.Prelude.{List, ◌≡◌, ◌≢◌, ℕ, ◌+◌, ◌-◌, ◌*◌, None, replicate, ◌^◌, ◌<◌, ◌≤◌, ◌++◌, ◌↔◌, ◌⊎◌, true, map, OnOk, OnErr, IfErr, IfOk, IfSome, slice_index, slice_index_or, Err, IsTrue, length, slice_get, slice_set, Some};
-ghost use Rattle.lists.specs.Limits.{most_events, most_in_block, most_processors};
 ghost use Rattle.std.specs.Arc.{arc_value};
-ghost use Rattle.journal.specs.Events.{is_closing};
-ghost use Rattle.book.specs.Awaiting.{kind_of};
-ghost use Rattle.journal.specs.Cutting.{IsCutFault};
-ghost use Rattle.interval.specs.Intervals.{HasRisingPages};
-ghost use Rattle.book.specs.Brought.{brought};
-ghost use Rattle.book.specs.Cutting.{WasBookCut};
-ghost use Rattle.book.specs.Calls.{MayFlush, MayCall, MayAsk, MayRelease, IsOpen, MayBeSent, MayTakeSome};
-ghost use Rattle.book.specs.Transitions.{new_book, handed_in, handed_last, open_interval, closed_by, if_free, grant_from, barrier_left, flag_joined, book_watched, book_set, book_asked, book_released, book_arrived, departures_to, Takes};
-ghost use Rattle.book.specs.Refusals.{IsFullAt, IsWantOfRoom};
-ghost use Rattle.book.specs.State.{time_of};
-ghost use Rattle.book.specs.Told.{IsTold};
-ghost use Rattle.journal.specs.Sizes.{Sizes};
-ghost use Rattle.journal.specs.WellFormed.{Ready};
-ghost use Rattle.journal.specs.declared.event.Event.{Event as AnEvent};
 ghost use Rattle.std.specs.Option.{option_map};
+ghost use Rattle.lists.specs.Prelude.{most_events, most_in_block, most_processors};
+ghost use Rattle.journal.specs.Prelude.{is_closing, IsCutFault, Sizes, Ready};
+ghost use Rattle.journal.specs.declared.event.Event.{Event as AnEvent};
 ghost use Rattle.vtime.specs.Times.{tick};
-ghost use Rattle.interval.specs.Closings.{between, pushed};
+ghost use Rattle.interval.specs.Prelude.{HasRisingPages, between, pushed};
 ghost use Rattle.lockq.specs.Lock.{lock_at};
-ghost use Rattle.transit.specs.Letters.{letter};
-ghost use Rattle.transit.specs.Letters.Kind.{grant};
+ghost use Rattle.transit.specs.Prelude.{letter, grant};
+ghost use Rattle.book.specs.Prelude.{kind_of, brought, WasBookCut, MayFlush, MayCall, MayAsk, MayRelease, IsOpen, MayBeSent, MayTakeSome, new_book, handed_in, handed_last, open_interval, closed_by, if_free, grant_from, barrier_left, flag_joined, book_watched, book_set, book_asked, book_released, book_arrived, departures_to, Takes, IsFullAt, IsWantOfRoom, time_of, IsTold};
 
 mod opening;
 mod pending;

@@ -1,4 +1,8 @@
 //! Why a call is refused.
+ghost use Rattle.std.specs.Prelude.{◌≡◌};
+ghost use Rattle.book.specs.Prelude.{refused_by};
+ghost use Rattle.book.specs.declared.refused.Refused.TheVariants.{NoMemory};
+
 use journal::CutFault;
 use std::alloc::AllocError;
 use thiserror::Error;
@@ -64,9 +68,6 @@ pub enum Refused {
 }
 
 impl From<CutFault> for Refused {
-    ghost use Rattle.std.specs.Prelude.{◌≡◌};
-    ghost use Rattle.book.specs.Cutting.{refused_by};
-
     ghost from_gives = { λ f r. r ≡ refused_by f };
 
     fn from(fault: CutFault) -> Refused {
@@ -80,9 +81,6 @@ impl From<CutFault> for Refused {
 }
 
 impl From<AllocError> for Refused {
-    ghost use Rattle.std.specs.Prelude.{◌≡◌};
-    ghost use Rattle.book.specs.declared.refused.Refused.TheVariants.{NoMemory};
-
     ghost from_gives = { λ _ r. r ≡ NoMemory };
 
     fn from(_error: AllocError) -> Refused {

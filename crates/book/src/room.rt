@@ -1,8 +1,8 @@
 //! Room in the journal.
 ghost use Rattle.std.specs.Prelude.{◌≡◌, ◌+◌, ◌-◌, ◌^◌, ◌≤◌, ◌<◌, ◌++◌, All, IfErr, OnOk, length, Err};
-ghost use Rattle.lists.specs.Limits.{most_events};
-ghost use Rattle.journal.specs.InRange.{AddressInRange};
-ghost use Rattle.book.specs.Refusals.{IsFullAt, IsWantOfRoom};
+ghost use Rattle.lists.specs.Prelude.{most_events};
+ghost use Rattle.journal.specs.Prelude.{AddressInRange};
+ghost use Rattle.book.specs.Prelude.{IsFullAt, IsWantOfRoom};
 
 use crate::refused::Refused;
 use journal::{Event, Journal};

@@ -1,7 +1,6 @@
 //! Trims of the closed intervals.
 ghost use Rattle.std.specs.Prelude.{◌≡◌, ℕ, ◌<◌, List, Some, length, slice_get};
-ghost use Rattle.book.specs.Transitions.{least, trimmed_by};
-ghost use Rattle.book.specs.Calls.{MayTrim};
+ghost use Rattle.book.specs.Prelude.{least, trimmed_by, MayTrim};
 
 use interval::Closed;
 use vtime::VTime;

@@ -1,12 +1,8 @@
 //! What a history says of one processor.
 ghost use Rattle.std.specs.Prelude.{◌≡◌, ◌↔◌, ◌+◌, ◌≤◌, ◌++◌, IfOk, IsTrue, length, vec_len, vec_capacity};
-ghost use Rattle.journal.specs.Events.{is_closing};
-ghost use Rattle.journal.specs.Groups.{since};
-ghost use Rattle.journal.specs.Waits.{awaited};
-ghost use Rattle.journal.specs.Did.{did};
-ghost use Rattle.journal.specs.WellFormed.{Holds};
-ghost use Rattle.book.specs.Stamps.{IsAwaited};
-ghost use Rattle.book_uses.specs.Reading.{IsHeldAfter};
+ghost use Rattle.journal.specs.Prelude.{is_closing, since, awaited, did, Holds};
+ghost use Rattle.book.specs.Prelude.{IsAwaited};
+ghost use Rattle.book_uses.specs.Prelude.{IsHeldAfter};
 
 use journal::{Event, Kind};
 use std::alloc::{AllocError, Global};

@@ -1,13 +1,10 @@
 //! The records of an interval, made of its events.
 ghost use Rattle.std.specs.Prelude.{◌≡◌, ◌<◌, ◌≤◌, ℕ, List, IfOk, length, map};
 ghost use Rattle.std.specs.Arc.{arc_value};
-ghost use Rattle.journal.specs.Sizes.{Sizes};
-ghost use Rattle.journal.specs.Blocks.{write_in};
-ghost use Rattle.lists.specs.Writes.{wrote};
-ghost use Rattle.lists.specs.Records.{mark};
+ghost use Rattle.lists.specs.Prelude.{wrote, mark};
+ghost use Rattle.journal.specs.Prelude.{Sizes, write_in, since};
 ghost use Rattle.journal.specs.declared.event.Event.{Event as AnEvent};
-ghost use Rattle.journal.specs.Groups.{since};
-ghost use Rattle.book_uses.specs.Records.{IsOpenIn, AreOpenBelow};
+ghost use Rattle.book_uses.specs.Prelude.{IsOpenIn, AreOpenBelow};
 
 use crate::told::Told;
 use journal::{Event, Kind};

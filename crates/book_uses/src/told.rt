@@ -1,16 +1,11 @@
 //! A book with the history that tells it.
 ghost use Rattle.std.specs.Prelude.{◌≡◌, ◌<◌, ◌≤◌, ◌*◌, ◌^◌, ◌++◌, ◌∷◌, [], ◌↔◌, IfErr, IfOk, IfSome, OnOk, OnErr, IsTrue, Some, None, length, map, count_by, slice_get};
 ghost use Rattle.std.specs.Arc.{arc_value};
+ghost use Rattle.journal.specs.Prelude.{event, did, WasCut, IsCutFault};
 ghost use Rattle.journal.specs.declared.event.Kind.{Kind as AKind};
-ghost use Rattle.journal.specs.Did.{event, did};
-ghost use Rattle.interval.specs.Intervals.{HasRisingPages};
-ghost use Rattle.interval.specs.Closings.{is_of_page};
-ghost use Rattle.book.specs.Calls.{IsInner, MayHandIn, MayGive};
-ghost use Rattle.book.specs.Laws.{AreOpenRecords};
-ghost use Rattle.book.specs.Brought.{brought};
-ghost use Rattle.book.specs.Told.{HoldsSome};
-ghost use Rattle.journal.specs.Cutting.{WasCut, IsCutFault};
-ghost use Rattle.book_uses.specs.Telling.{GoesOn, MayClose};
+ghost use Rattle.interval.specs.Prelude.{HasRisingPages, is_of_page};
+ghost use Rattle.book.specs.Prelude.{IsInner, MayHandIn, MayGive, AreOpenRecords, brought, HoldsSome};
+ghost use Rattle.book_uses.specs.Prelude.{GoesOn, MayClose};
 
 use crate::history::{awaited_by, holds, note, note_closing, open_of};
 use book::{Book, Refused};

@@ -12,3 +12,4 @@ pub mod Histories
 pub mod Clusters
 pub mod Finishing
 pub mod Laws
+pub mod Prelude

@@ -1,7 +1,7 @@
 //! Clusters.
 ghost use Rattle.std.specs.Prelude.{◌≡◌, ◌≢◌, ◌⊎◌, ◌↔◌, ◌^◌, ◌≤◌, ◌<◌, Err, IfErr, IfOk, IsTrue, ℕ, List, [], length, vec_len, vec_capacity, slice_get, Some};
-ghost use Rattle.replicas.specs.Sound.{AreSizes};
-ghost use Rattle.cluster.specs.Clusters.{AreParts, AreNewChairs, AreSeated, AreNew, AreCovered};
+ghost use Rattle.replicas.specs.Prelude.{AreSizes};
+ghost use Rattle.cluster.specs.Prelude.{AreParts, AreNewChairs, AreSeated, AreNew, AreCovered};
 
 mod calls;
 mod closing;

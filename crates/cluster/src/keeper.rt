@@ -1,5 +1,5 @@
 //! What the book's lock keeps.
-ghost use Rattle.cluster.specs.Kept.{Kept, nothing_seen, sizes_of, Sees};
+ghost use Rattle.cluster.specs.Prelude.{Kept, nothing_seen, sizes_of, Sees};
 
 use crate::shape::Shape;
 use book::Book;
@@ -20,6 +20,8 @@ pub struct View {
 pub struct Rule;
 
 impl Keeper<Book> for Rule {
+    ghost use Rattle.cluster.specs.Kept.{Kept, nothing_seen, sizes_of};
+
     type View = View;
 
     ghost fact = { Kept };
@@ -34,6 +36,8 @@ impl Keeper<Book> for Rule {
 pub(crate) struct Looking;
 
 impl Outcome<Book, View> for Looking {
+    ghost use Rattle.cluster.specs.Kept.{Sees};
+
     ghost then = { Sees };
 }
 

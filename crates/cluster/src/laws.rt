@@ -1,5 +1,5 @@
 //! Laws, as contracts of functions that do nothing: the check proves each by its name.
-ghost use Rattle.cluster.specs.Laws.{AllowedLaw, FromBaseLaw, LeftLaw, SeenLaw};
+ghost use Rattle.cluster.specs.Prelude.{AllowedLaw, FromBaseLaw, LeftLaw, SeenLaw};
 
 /// Whenever the lock is free, the longest that a processor has seen is the whole history, all events cut off and then
 /// the journal's, and what each other has seen is a beginning of it.

@@ -1,11 +1,13 @@
 //! Processors.
 ghost use Rattle.std.specs.Prelude.{◌≡◌, ◌<◌, ◌+◌, ◌/◌, ◌%◌, ◌++◌, ◌∷◌, [], OnErr, OnOk, IfOk, Some, false, true, length, map, replicate, slice_index_or};
+ghost use Rattle.std.specs.Arc.{arc_value};
 ghost use Rattle.std.specs.Option.{option_map};
 ghost use Rattle.std.specs.Result.{result_err};
-ghost use Rattle.replicas.specs.Local.{blank};
-ghost use Rattle.replicas.specs.Records.{DirtyAreMarked};
-ghost use Rattle.replicas.specs.Steps.{cleaned};
-ghost use Rattle.replicas.specs.Sound.{AreSizes};
+ghost use Rattle.lists.specs.Prelude.{most_in_block};
+ghost use Rattle.turn.specs.Prelude.{lock};
+ghost use Rattle.journal.specs.Prelude.{event, is_closing};
+ghost use Rattle.replicas.specs.Prelude.{blank, DirtyAreMarked, cleaned, AreSizes, calls, noted, new_local, AreHarvests};
+ghost use Rattle.cluster.specs.Prelude.{AreParts, IsNewChair, page_of, has_valid, is_waiting, access_refusal, fetch_refusal, event_refusal, arrive_test, ask_test, release_test, flag_test, take_test, closing_test, HasWord, IsStored, IsFetched, Covers, IsApart};
 
 use crate::keeper::Rule;
 use crate::shape::Shape;
@@ -32,8 +34,6 @@ pub(crate) struct Parts {
 }
 
 impl Parts {
-    ghost use Rattle.cluster.specs.Clusters.{AreParts};
-
     /// An open block with room, a zero copy of each page, and a zero timestamp.
     pub(crate) fn new(alloc: Global, shape: Shape) -> Result<Parts, AllocError>
         requires { AreSizes shape }
@@ -97,19 +97,6 @@ impl<T: Turn<Book, Rule>> Model for Processor<T> {
 }
 
 impl<T: Turn<Book, Rule>> Processor<T> {
-    ghost use Rattle.journal.specs.Did.{event};
-    ghost use Rattle.journal.specs.Events.{is_closing};
-    ghost use Rattle.lists.specs.Limits.{most_in_block};
-    ghost use Rattle.turn.specs.Chairs.{lock};
-    ghost use Rattle.cluster.specs.Clusters.{AreParts, IsNewChair};
-    ghost use Rattle.replicas.specs.Local.{calls, noted, new_local};
-    ghost use Rattle.cluster.specs.Refusals.{page_of, has_valid, is_waiting, access_refusal, fetch_refusal, event_refusal, arrive_test, ask_test, release_test, flag_test, take_test, closing_test};
-    ghost use Rattle.cluster.specs.Accesses.{HasWord, IsStored, IsFetched};
-    ghost use Rattle.cluster.specs.Covers.{Covers};
-    ghost use Rattle.cluster.specs.Finishing.{IsApart};
-    ghost use Rattle.replicas.specs.Records.{AreHarvests};
-    ghost use Rattle.std.specs.Arc.{arc_value};
-
     /// The processor with this number and chair, before its first call.
     pub(crate) fn seated(
         number: usize,

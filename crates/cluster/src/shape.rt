@@ -1,5 +1,6 @@
 //! The sizes of a cluster.
 ghost use Rattle.std.specs.Prelude.{◌↔◌, IsTrue};
+ghost use Rattle.replicas.specs.Prelude.{AreSizes};
 
 use std::marker::Model;
 
@@ -37,8 +38,6 @@ impl Model for Shape {
 }
 
 impl Shape {
-    ghost use Rattle.replicas.specs.Sound.{AreSizes};
-
     /// Whether the sizes are within the product's.
     pub(crate) fn is_lawful(&self) -> bool
         ensures { IsTrue result ↔ AreSizes self.now }

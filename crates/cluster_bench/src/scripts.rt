@@ -1,7 +1,6 @@
 //! Works on the script of a file: it is read, or run.
 ghost use Rattle.std.specs.Prelude.{IfOk};
-ghost use Rattle.lrc_script.specs.Lawful.{IsLawful};
-ghost use Rattle.lrc_script.specs.Plan.{plan_of};
+ghost use Rattle.lrc_script.specs.Prelude.{IsLawful, plan_of};
 
 use anyhow::{Result, bail};
 use lrc_run::{Open, run, step};

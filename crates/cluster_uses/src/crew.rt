@@ -1,8 +1,7 @@
 //! A cluster with its processors.
 ghost use Rattle.std.specs.Prelude.{◌≡◌, ◌^◌, ◌≤◌, IfOk, OnErr, length, slice_get, slice_index};
 ghost use Rattle.std.specs.Option.{option_map};
-ghost use Rattle.cluster.specs.Clusters.{AreNew};
-ghost use Rattle.cluster.specs.Finishing.{IsFinished};
+ghost use Rattle.cluster.specs.Prelude.{AreNew, IsFinished};
 ghost use Rattle.cluster_uses.specs.Crews.{IsTurnOf, HaveSameCalls};
 
 use crate::calls::{Answer, Call, make};

@@ -3,3 +3,4 @@ pub mod Follows
 pub mod Like
 pub mod Recomputed
 pub mod Laws
+pub mod Prelude

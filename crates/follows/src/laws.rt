@@ -1,5 +1,5 @@
 //! Laws, as contracts of functions that do nothing: the check proves each by its name.
-ghost use Rattle.follows.specs.Laws.{RecomputedLaw, OnlyLaw, RaceFreeLaw};
+ghost use Rattle.follows.specs.Prelude.{RecomputedLaw, OnlyLaw, RaceFreeLaw};
 
 /// A history that is well formed and follows a script, with the replies of its loads and the values that its adds store
 /// computed again on one flat memory, is well formed, follows the script, replays, and has the same races. For a lawful

@@ -2,9 +2,7 @@
 ghost use Rattle.std.specs.Prelude.{◌≡◌, ℕ, ◌+◌, ◌-◌, ◌^◌, ◌<◌, ◌≤◌, ◌==◌, MatchOption, OnOk, OnErr, IfOk, List, replicate, [], ◌∷◌, length, find, filter, count_by, slice_get, slice_index, EachIndex, map};
 ghost use Rattle.std.specs.Option.{option_copied};
 ghost use Rattle.vtime.specs.Times.{tick};
-ghost use Rattle.interval.specs.Intervals.{HasRisingPages, IsInClosingOrder};
-ghost use Rattle.interval.specs.Closings.{pushed, trimmed, is_news, between, is_of_page, record_of};
-ghost use Rattle.interval.specs.Queues.{AreAll};
+ghost use Rattle.interval.specs.Prelude.{HasRisingPages, IsInClosingOrder, pushed, trimmed, is_news, between, is_of_page, record_of, AreAll};
 
 use crate::kept::{Interval, Kept};
 use crate::notice::{Notice, Sent};

@@ -2,8 +2,7 @@
 ghost use Rattle.std.specs.Prelude.{◌≡◌, ◌==◌, ◌++◌, IfOk, OnOk, find, map};
 ghost use Rattle.std.specs.Arc.{arc_value};
 ghost use Rattle.std.specs.Option.{option_copied};
-ghost use Rattle.interval.specs.Closings.{sent_interval, sent_record};
-ghost use Rattle.interval.specs.Counts.{pages_of_records, AreCounted, HasRoom};
+ghost use Rattle.interval.specs.Prelude.{sent_interval, sent_record, pages_of_records, AreCounted, HasRoom};
 
 use crate::notice::{Notice, Sent};
 use page::Record;

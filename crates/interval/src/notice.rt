@@ -1,4 +1,5 @@
 //! Write notices, and the records that travel with them.
+
 use page::Record;
 use std::marker::Model;
 use std::sync::Arc;

@@ -1,8 +1,7 @@
 //! The kept intervals of one owner.
 ghost use Rattle.std.specs.Prelude.{◌≡◌, ◌-◌, ◌≤◌, [], ◌∷◌, ◌++◌, map, slice_get, OnOk, OnErr};
 ghost use Rattle.std.specs.Option.{option_copied};
-ghost use Rattle.interval.specs.Queues.{within, without};
-ghost use Rattle.interval.specs.Counts.{pages_of, AreCounted, HasRoom};
+ghost use Rattle.interval.specs.Prelude.{within, without, pages_of, AreCounted, HasRoom};
 
 use crate::kept::Kept;
 use std::alloc::{AllocError, Global};

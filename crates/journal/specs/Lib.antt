@@ -40,3 +40,4 @@ pub mod Kept
 pub mod Opening
 pub mod Cutting
 pub mod HistoryLaws
+pub mod Prelude

@@ -1,8 +1,7 @@
 //! Vector timestamps of sixteen processors, for the race checker.
-
 ghost use Rattle.std.specs.Prelude.{◌≡◌, ℕ, ◌+◌, ◌<◌, ◌≤◌, ◌^◌, ◌≢◌, ◌↔◌, ◌==◌, IsTrue, IfOk, OnOk, cond, max, length, slice_index, slice_index_or, vec_len};
 ghost use Rattle.std.specs.VecDeque.{deque_len};
-ghost use Rattle.journal.specs.Entries.{entry, map_entry, IsJoinedAt};
+ghost use Rattle.journal.specs.Prelude.{entry, map_entry, IsJoinedAt};
 
 use std::alloc::{AllocError, Global};
 use std::collections::{BTreeMap, VecDeque};

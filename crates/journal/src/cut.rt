@@ -1,4 +1,6 @@
 //! Why a journal is not cut.
+ghost use Rattle.std.specs.Prelude.{◌≡◌};
+ghost use Rattle.journal.specs.declared.cut.CutFault.TheVariants.{NoMemory};
 
 use std::alloc::AllocError;
 use thiserror::Error;
@@ -21,9 +23,6 @@ pub enum CutFault {
 }
 
 impl From<AllocError> for CutFault {
-    ghost use Rattle.std.specs.Prelude.{◌≡◌};
-    ghost use Rattle.journal.specs.declared.cut.CutFault.TheVariants.{NoMemory};
-
     ghost from_gives = { λ _ r. r ≡ NoMemory };
 
     fn from(_error: AllocError) -> CutFault {

@@ -1,10 +1,7 @@
 //! Where a journal is cut: at the last arrival of its last complete episode.
-
 ghost use Rattle.std.specs.Prelude.{◌≡◌, ◌↔◌, ℕ, ◌+◌, ◌<◌, ◌≤◌, ◌^◌, ◌==◌, ◌&&◌, IsTrue, EachIndex, MatchOption, cond, length, slice_index};
-ghost use Rattle.lists.specs.Limits.{most_held, most_processors};
-ghost use Rattle.journal.specs.Events.{is_arrive};
-ghost use Rattle.journal.specs.InRange.{ProcessorsInRange};
-ghost use Rattle.journal.specs.Cuts.{IsCut, NoCut};
+ghost use Rattle.lists.specs.Prelude.{most_held, most_processors};
+ghost use Rattle.journal.specs.Prelude.{is_arrive, ProcessorsInRange, IsCut, NoCut};
 
 use crate::event::Event;
 use crate::kinds::arrives;

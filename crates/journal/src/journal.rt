@@ -1,15 +1,7 @@
 //! The journal: a list of events with room for more.
-
 ghost use Rattle.std.specs.Prelude.{drop, vec_len, vec_capacity, ◌+◌, ◌≡◌, ◌-◌, ◌^◌, ◌<◌, ◌≤◌, ◌++◌, ◌∷◌, [], ◌↔◌, IfOk, IfErr, OnOk, OnErr, IfSome, IsSome, IsTrue, MatchOption, length, replicate, max, option_copied, slice_get, take};
-ghost use Rattle.lists.specs.Limits.{most_held, most_processors, most_cut};
-ghost use Rattle.journal.specs.InRange.{AddressInRange, AddressesInRange};
-ghost use Rattle.journal.specs.Log.{new_log};
-ghost use Rattle.journal.specs.LoadsFrom.{ExplainedFrom};
-ghost use Rattle.journal.specs.Flat.{Replays, memory_after};
-ghost use Rattle.journal.specs.RacesFrom.{RaceFreeFrom, IsFirstRaceFrom};
-ghost use Rattle.journal.specs.Cutting.{WasCut, IsCutFault};
-ghost use Rattle.journal.specs.Traffic.{messages, records, words};
-ghost use Rattle.journal.specs.Opening.{IsOpening};
+ghost use Rattle.lists.specs.Prelude.{most_held, most_processors, most_cut};
+ghost use Rattle.journal.specs.Prelude.{AddressInRange, AddressesInRange, new_log, ExplainedFrom, Replays, memory_after, RaceFreeFrom, IsFirstRaceFrom, WasCut, IsCutFault, messages, records, words, IsOpening};
 
 use crate::cut::CutFault;
 use crate::episodes::last_episode;

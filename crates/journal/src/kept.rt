@@ -1,14 +1,7 @@
 //! What a journal keeps of the events that were cut off.
-
 ghost use Rattle.std.specs.Prelude.{◌≡◌, ◌+◌, ◌*◌, ◌^◌, ◌<◌, ◌≤◌, [], IfOk, OnOk, length, vec_len};
-ghost use Rattle.lists.specs.Limits.{most_cut};
-ghost use Rattle.lists.specs.Writes.{wrote};
-ghost use Rattle.journal.specs.Flat.{flat_write};
-ghost use Rattle.journal.specs.InRange.{AddressInRange, AddressesInRange};
-ghost use Rattle.journal.specs.Traffic.{messages_of, records_of, words_of};
-ghost use Rattle.journal.specs.Base.{no_base};
-ghost use Rattle.journal.specs.Cuts.{IsBaseAfter};
-ghost use Rattle.journal.specs.Kept.{base_of, AreCosts, IsKept, without, held_after, set_after, IsKeptAfter};
+ghost use Rattle.lists.specs.Prelude.{most_cut, wrote};
+ghost use Rattle.journal.specs.Prelude.{flat_write, AddressInRange, AddressesInRange, messages_of, records_of, words_of, no_base, IsBaseAfter, base_of, AreCosts, IsKept, without, held_after, set_after, IsKeptAfter};
 
 use crate::event::{Event, Kind};
 use crate::traffic::{Traffic, cost_of};

@@ -1,7 +1,6 @@
 //! What kinds of events do.
-
 ghost use Rattle.std.specs.Prelude.{◌≡◌, IsTrue, false};
-ghost use Rattle.journal.specs.Events.{is_closing, is_taking, is_arrive, is_depart};
+ghost use Rattle.journal.specs.Prelude.{is_closing, is_taking, is_arrive, is_depart};
 
 use crate::event::Kind;
 

@@ -1,8 +1,6 @@
 //! The timestamps of locks or flags, by their numbers.
-
 ghost use Rattle.std.specs.Prelude.{◌≡◌, ℕ, IfOk, OnOk, slice_index};
-ghost use Rattle.journal.specs.Numbered.{kept_entry};
-ghost use Rattle.journal.specs.Entries.{IsJoinedAt};
+ghost use Rattle.journal.specs.Prelude.{kept_entry, IsJoinedAt};
 
 use crate::clock::{Clock, clock_at, clock_in, join_at, join_in};
 use std::alloc::{AllocError, Global};

@@ -1,9 +1,7 @@
 //! Replay on one flat memory.
-
 ghost use Rattle.std.specs.Prelude.{◌≡◌, ◌↔◌, IfOk, IfSome, IsSome, IsTrue, length};
-ghost use Rattle.journal.specs.Flat.{Replays, memory_after, flat_write, AnswersWord};
-ghost use Rattle.journal.specs.InRange.{AddressInRange, AddressesInRange};
-ghost use Rattle.lists.specs.Writes.{wrote};
+ghost use Rattle.lists.specs.Prelude.{wrote};
+ghost use Rattle.journal.specs.Prelude.{Replays, memory_after, flat_write, AnswersWord, AddressInRange, AddressesInRange};
 
 use crate::event::{Event, Kind};
 use std::alloc::{AllocError, Global};

@@ -1,11 +1,7 @@
 //! Happens-before and races straight from their definitions: small, plain and slow. What faster
 //! programs answer is compared with it, of whole journals too.
-
 ghost use Rattle.std.specs.Prelude.{◌||◌, ◌==◌, List, false, slice_index_or, ◌≡◌, ◌↔◌, ℕ, ◌+◌, ◌<◌, ◌≤◌, IsTrue, IfOk, Some, true, length, take, slice_get, vec_len};
-ghost use Rattle.journal.specs.Events.{is_arrive, is_depart, count_of};
-ghost use Rattle.journal.specs.Order.{LetsThrough, Edge, HappensBefore};
-ghost use Rattle.journal.specs.Races.{Conflict, Race};
-ghost use Rattle.journal.specs.Reach.{IsRow, AreRows, IsTable};
+ghost use Rattle.journal.specs.Prelude.{is_arrive, is_depart, count_of, LetsThrough, Edge, HappensBefore, Conflict, Race, IsRow, AreRows, IsTable};
 
 use crate::event::{Event, Kind};
 use crate::kinds::{arrives, departs};

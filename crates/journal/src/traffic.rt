@@ -1,9 +1,7 @@
 //! What a journal's events cost in messages, records and words.
-
 ghost use Rattle.std.specs.Prelude.{◌≡◌, ◌^◌, ◌<◌, ◌≤◌, length};
-ghost use Rattle.lists.specs.Limits.{most_held};
-ghost use Rattle.journal.specs.Kept.{AreCosts};
-ghost use Rattle.journal.specs.Traffic.{messages, records, words, messages_of, records_of, words_of};
+ghost use Rattle.lists.specs.Prelude.{most_held};
+ghost use Rattle.journal.specs.Prelude.{AreCosts, messages, records, words, messages_of, records_of, words_of};
 
 use crate::event::{Event, Kind};
 

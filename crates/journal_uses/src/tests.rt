@@ -1,7 +1,6 @@
 //! Worked journals, with the answers that were worked out by hand.
-
 ghost use Rattle.std.specs.Prelude.{◌≡◌, ◌<◌, ◌≤◌, ◌-◌, ◌+◌, ◌^◌, length, IsTrue, OnOk, IfOk};
-ghost use Rattle.journal.specs.InRange.{AddressInRange};
+ghost use Rattle.journal.specs.Prelude.{AddressInRange};
 
 mod cuts;
 mod races;

@@ -1,9 +1,8 @@
 //! Why the program ends without a report.
-
 ghost use Rattle.std.specs.Prelude.{◌≡◌, ◌≢◌};
 ghost use Rattle.lrc_script.specs.declared.fault.ScriptFault.TheVariants.{NoMemory};
+ghost use Rattle.lrc.specs.Prelude.{IsScripts, status_of};
 ghost use Rattle.lrc.specs.declared.fault.ProgramFault.TheVariants as program;
-ghost use Rattle.lrc.specs.Statuses.{IsScripts, status_of};
 
 use book::Refused;
 use lrc_report::render::OutFault;

@@ -1,12 +1,9 @@
 //! The program over its reader and its writers.
-
 ghost use Rattle.std.specs.Prelude.{◌≡◌, ◌≢◌, ◌<◌, IfErr, IfOk, OnOk};
 ghost use Rattle.std.specs.Io.KnownBytes.{Keeps};
-ghost use Rattle.lrc_script.specs.Lawful.{IsLawful};
-ghost use Rattle.lrc_script.specs.Plan.{plan_of};
-ghost use Rattle.lrc_run.specs.Runs.{IsReportOf};
-ghost use Rattle.lrc.specs.Served.{IsNoScript, IsRead, IsServed};
-ghost use Rattle.lrc.specs.Statuses.{IsBeforeOutput, IsScripts, IsStatusOf};
+ghost use Rattle.lrc_script.specs.Prelude.{IsLawful, plan_of};
+ghost use Rattle.lrc_run.specs.Prelude.{IsReportOf};
+ghost use Rattle.lrc.specs.Prelude.{IsNoScript, IsRead, IsServed, IsBeforeOutput, IsScripts, IsStatusOf};
 
 use crate::fault::ProgramFault;
 use cluster::{BookLock, TicketBookLock};

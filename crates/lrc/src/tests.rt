@@ -1,5 +1,4 @@
 //! Scripts from their bytes to what is printed, and the faults on the way.
-
 ghost use Rattle.std.specs.Prelude.{◌<◌};
 
 mod endings;

@@ -1,9 +1,8 @@
 //! A line of a report, made from its end to its beginning: digits come last one first, so they are written
 //! where they stay.
-
 ghost use Rattle.std.specs.Prelude.{ℕ, ◌≡◌, ◌≤◌, ◌+◌, ◌++◌, List, codes, drop, length};
 ghost use Rattle.std.specs.Fmt.{decimal};
-ghost use Rattle.lrc_report.specs.Writing.{most_digits, most_line};
+ghost use Rattle.lrc_report.specs.Prelude.{most_digits, most_line};
 
 use itoa::write_digits;
 use std::marker::Model;
@@ -19,6 +18,9 @@ pub struct Line {
 }
 
 impl Model for Line {
+    ghost use Rattle.std.specs.Prelude.{ℕ, ◌≡◌, ◌≤◌, List, drop, length};
+    ghost use Rattle.lrc_report.specs.Writing.{most_line};
+
     ghost Value = { List ℕ };
 
     ghost view = { λ l. drop l.start l.bytes };

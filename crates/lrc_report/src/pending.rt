@@ -1,7 +1,6 @@
 //! Bytes that wait to be written, so that many pieces of text are one write.
-
 ghost use Rattle.std.specs.Prelude.{ℕ, ◌≡◌, ◌≤◌, ◌++◌, ◌-◌, [], List, length, take, OnOk};
-ghost use Rattle.lrc_report.specs.Writing.{Writes, Takes, most_pending};
+ghost use Rattle.lrc_report.specs.Prelude.{Writes, Takes, most_pending};
 
 use crate::render::OutFault;
 use std::io::Write;
@@ -18,6 +17,9 @@ pub struct Pending {
 }
 
 impl Model for Pending {
+    ghost use Rattle.std.specs.Prelude.{ℕ, ◌≡◌, ◌≤◌, List, length, take};
+    ghost use Rattle.lrc_report.specs.Writing.{most_pending};
+
     ghost Value = { List ℕ };
 
     ghost view = { λ p. take p.count p.bytes };

@@ -1,10 +1,8 @@
 //! Prints a report.
-
 ghost use Rattle.std.specs.Prelude.{◌≡◌, ◌≤◌, ◌<◌, ◌+◌, ◌^◌, ◌++◌, codes, length};
-ghost use Rattle.std.specs.List.{flat_map};
 ghost use Rattle.std.specs.Fmt.{decimal};
-ghost use Rattle.lrc_report.specs.ReportText.{word_line, verdict_line, traffic_line, cut_line, kind_text, event_line, event_lines, summary_text, left_text, journal_text, report_text};
-ghost use Rattle.lrc_report.specs.Writing.{Writes, Takes, most_kind};
+ghost use Rattle.std.specs.List.{flat_map};
+ghost use Rattle.lrc_report.specs.Prelude.{word_line, verdict_line, traffic_line, cut_line, kind_text, event_line, event_lines, summary_text, left_text, journal_text, report_text, Writes, Takes, most_kind};
 
 use crate::line::Line;
 use crate::pending::Pending;

@@ -6,3 +6,4 @@ pub mod Runs
 pub mod Laws
 pub mod Faults
 pub mod Threads
+pub mod Prelude

@@ -1,4 +1,5 @@
 //! How a run of a script ends without a report.
+ghost use Rattle.std.specs.Prelude.{◌≡◌};
 
 use crate::gate::Stopped;
 use book::Refused;
@@ -23,7 +24,6 @@ pub enum Cause {
 }
 
 impl From<Stopped> for Cause {
-    ghost use Rattle.std.specs.Prelude.{◌≡◌};
     ghost use Rattle.lrc_run.specs.declared.cause.Cause.TheVariants as cause;
 
     ghost from_gives = { λ _ r. r ≡ cause.Gate };
@@ -34,7 +34,6 @@ impl From<Stopped> for Cause {
 }
 
 impl From<Refused> for Cause {
-    ghost use Rattle.std.specs.Prelude.{◌≡◌};
     ghost use Rattle.lrc_run.specs.declared.cause.Cause.TheVariants as cause;
 
     ghost from_gives = { λ e r. r ≡ cause.Refused e };
@@ -45,7 +44,6 @@ impl From<Refused> for Cause {
 }
 
 impl From<AllocError> for Cause {
-    ghost use Rattle.std.specs.Prelude.{◌≡◌};
     ghost use Rattle.lrc_run.specs.declared.cause.Cause.TheVariants as cause;
     ghost use Rattle.book.specs.declared.refused.Refused.TheVariants as refused;
 

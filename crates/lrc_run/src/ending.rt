@@ -1,12 +1,9 @@
 //! The end of a run: the shown loads, the journal and what the report says of it.
 ghost use Rattle.std.specs.Prelude.{◌≡◌, IfOk, ℕ, List, slice_set, slice_get, Some};
-ghost use Rattle.cluster.specs.Finishing.{AreAllOf};
-ghost use Rattle.follows.specs.Follows.{sizes_of};
-ghost use Rattle.lrc_script.specs.Lawful.{IsLawful};
-ghost use Rattle.lrc_script.specs.Plan.{Plan, plan_of};
-ghost use Rattle.lrc_run.specs.Endings.{HaveFollowed};
-ghost use Rattle.lrc_run.specs.Runs.{IsReportOf};
-ghost use Rattle.lrc_run.specs.Walks.{AreWalked};
+ghost use Rattle.lrc_script.specs.Prelude.{IsLawful, Plan, plan_of};
+ghost use Rattle.follows.specs.Prelude.{sizes_of};
+ghost use Rattle.cluster.specs.Prelude.{AreAllOf};
+ghost use Rattle.lrc_run.specs.Prelude.{HaveFollowed, IsReportOf, AreWalked};
 
 use crate::cause::Cause;
 use crate::shown::show;

@@ -1,6 +1,6 @@
 //! What came of all processors of a run.
 ghost use Rattle.std.specs.Prelude.{◌≡◌, ◌⊎◌, IfErr, IfNone, IfOk, IfSome, Ok, map};
-ghost use Rattle.lrc_run.specs.Faults.{is_stuck, IsFaultOf, IsFirstSo, NoneFailed, NoneFailedSo};
+ghost use Rattle.lrc_run.specs.Prelude.{is_stuck, IsFaultOf, IsFirstSo, NoneFailed, NoneFailedSo};
 
 use crate::cause::{Cause, RunFault};
 use std::alloc::{AllocError, Global};

@@ -1,7 +1,7 @@
 //! The order of a round.
 ghost use Rattle.std.specs.Prelude.{◌≡◌, length};
 ghost use Rattle.std.specs.List.Sorted.{IsPermutation};
-ghost use Rattle.lrc_run.specs.Orders.{ordered};
+ghost use Rattle.lrc_run.specs.Prelude.{ordered};
 
 use rand_core::utils::NextWord;
 use rand_pcg::Pcg32;

@@ -1,10 +1,8 @@
 //! Runs of scripts with each processor on a thread of its own.
 ghost use Rattle.std.specs.Prelude.{◌≡◌, ◌^◌, ◌<◌, ◌≤◌, IfOk};
-ghost use Rattle.follows.specs.Follows.{sizes_of};
-ghost use Rattle.lrc_script.specs.Lawful.{IsLawful};
-ghost use Rattle.lrc_script.specs.Plan.{plan_of};
-ghost use Rattle.lrc_run.specs.Runs.{IsReportOf};
-ghost use Rattle.lrc_run.specs.Threads.{AreOutcomes};
+ghost use Rattle.lrc_script.specs.Prelude.{IsLawful, plan_of};
+ghost use Rattle.follows.specs.Prelude.{sizes_of};
+ghost use Rattle.lrc_run.specs.Prelude.{IsReportOf, AreOutcomes};
 
 mod threads;
 

@@ -1,7 +1,7 @@
 //! The loads of the addresses that a script shows.
 ghost use Rattle.std.specs.Prelude.{◌≡◌, IfOk, map};
-ghost use Rattle.cluster.specs.Calls.{IsSameProcessor};
-ghost use Rattle.lrc_run.specs.Walks.{Loads};
+ghost use Rattle.cluster.specs.Prelude.{IsSameProcessor};
+ghost use Rattle.lrc_run.specs.Prelude.{Loads};
 
 use crate::walk::load;
 use book::{Book, Refused};

@@ -1,13 +1,9 @@
 //! All processors by turns on one thread.
 ghost use Rattle.std.specs.Prelude.{◌≡◌, ◌≤◌, ◌<◌, ◌^◌, ◌↔◌, All, IfOk, IsTrue, OnOk, length, replicate, vec_len};
-ghost use Rattle.cluster.specs.Clusters.{AreNew};
-ghost use Rattle.follows.specs.Follows.{sizes_of};
-ghost use Rattle.lrc_script.specs.Lawful.{IsLawful};
-ghost use Rattle.lrc_script.specs.Plan.{plan_of};
-ghost use Rattle.lrc_run.specs.Orders.{AreBelow};
-ghost use Rattle.lrc_run.specs.Runs.{IsReportOf};
-ghost use Rattle.lrc_run.specs.Steps.{AreOnTheirWay};
-ghost use Rattle.lrc_run.specs.Walks.{AreWalked};
+ghost use Rattle.lrc_script.specs.Prelude.{IsLawful, plan_of};
+ghost use Rattle.follows.specs.Prelude.{sizes_of};
+ghost use Rattle.cluster.specs.Prelude.{AreNew};
+ghost use Rattle.lrc_run.specs.Prelude.{AreBelow, IsReportOf, AreOnTheirWay, AreWalked};
 
 mod turns;
 

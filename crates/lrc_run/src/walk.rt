@@ -1,7 +1,7 @@
 //! A processor's way through its section.
 ghost use Rattle.std.specs.Prelude.{◌≡◌, OnOk};
-ghost use Rattle.cluster.specs.Calls.{IsSameProcessor};
-ghost use Rattle.lrc_run.specs.Walks.{Does, Walks};
+ghost use Rattle.cluster.specs.Prelude.{IsSameProcessor};
+ghost use Rattle.lrc_run.specs.Prelude.{Does, Walks};
 
 mod accesses;
 mod instructions;

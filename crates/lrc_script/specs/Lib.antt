@@ -6,3 +6,4 @@ pub mod Faults
 pub mod Draw
 pub mod Reading
 pub mod Laws
+pub mod Prelude

@@ -1,11 +1,8 @@
 //! Scripts drawn from a generator, to run under many schedules.
-
 ghost use Rattle.std.specs.Prelude.{◌≡◌, ◌+◌, ◌*◌, ◌<◌, ◌≤◌, ◌++◌, IfOk, OnOk};
 ghost use Rattle.std.specs.List.{range_with_len};
-ghost use Rattle.lrc_script.specs.Plan.{items_of, plan_of};
-ghost use Rattle.lrc_script.specs.Lawful.{IsLawful};
+ghost use Rattle.lrc_script.specs.Prelude.{items_of, plan_of, IsLawful, below, shape, group, access, item, piece, pieces, most_pieces, phase, more_phases, section, drawn_sections, drawn, seeded, IsShape};
 ghost use Rattle.lrc_script.specs.declared.draw.Style.TheVariants as style;
-ghost use Rattle.lrc_script.specs.Draw.{below, shape, group, access, item, piece, pieces, most_pieces, phase, more_phases, section, drawn_sections, drawn, seeded, IsShape};
 
 use crate::script::{Instruction, Script};
 use rand_core::SeedableRng;

@@ -1,9 +1,6 @@
 //! Whether the sections of a script have as many barriers.
-
 ghost use Rattle.std.specs.Prelude.{◌≤◌, ◌≡◌, length, All, IfSome, IfNone};
-ghost use Rattle.lrc_script.specs.Plan.{plan_of};
-ghost use Rattle.lrc_script.specs.Lawful.{barriers, is_barrier, IsEven};
-ghost use Rattle.lrc_script.specs.Faults.{IsUneven};
+ghost use Rattle.lrc_script.specs.Prelude.{plan_of, barriers, is_barrier, IsEven, IsUneven};
 
 use crate::script::{Instruction, Script};
 

@@ -1,5 +1,4 @@
 //! What the reader of scripts finds wrong.
-
 ghost use Rattle.std.specs.Prelude.{◌≡◌};
 ghost use Rattle.lrc_script.specs.declared.fault.ScriptFault.TheVariants.{NoMemory};
 

@@ -1,5 +1,5 @@
 //! Laws, as contracts of functions that do nothing: the check proves each by its name.
-ghost use Rattle.lrc_script.specs.Laws.{MostBytesLaw};
+ghost use Rattle.lrc_script.specs.Prelude.{MostBytesLaw};
 
 /// The text of a lawful script has at most `MOST_BYTES` bytes: whoever reads one more knows that it is none.
 pub fn most_bytes_law()

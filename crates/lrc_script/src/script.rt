@@ -1,11 +1,7 @@
 //! A script: the sizes of a cluster, what each processor does, and the addresses to show.
-
 ghost use Rattle.std.specs.Prelude.{◌≡◌, ◌≢◌, IfOk, IfErr};
+ghost use Rattle.lrc_script.specs.Prelude.{Plan, plan_of, IsLawful, text, IsFault, address_of, lock_of, flag_of};
 ghost use Rattle.lrc_script.specs.declared.fault.ScriptFault.TheVariants.{NoMemory};
-ghost use Rattle.lrc_script.specs.Plan.{Plan, plan_of};
-ghost use Rattle.lrc_script.specs.Lawful.{IsLawful};
-ghost use Rattle.lrc_script.specs.Text.{text};
-ghost use Rattle.lrc_script.specs.Faults.{IsFault};
 
 use crate::evenness::uneven_line;
 use crate::fault::ScriptFault;
@@ -40,9 +36,6 @@ pub enum Instruction {
 }
 
 impl Instruction {
-    ghost use Rattle.std.specs.Prelude.{◌≡◌};
-    ghost use Rattle.lrc_script.specs.Lawful.{address_of, lock_of, flag_of};
-
     /// The address that the instruction reads or writes.
     pub fn address(self) -> Option<usize>
         ensures { result ≡ address_of self }

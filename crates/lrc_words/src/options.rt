@@ -1,5 +1,4 @@
 //! What the program is to do.
-
 ghost use Rattle.std.specs.Prelude.{◌≡◌, None, false};
 ghost use Rattle.lrc_words.specs.Words.{default_tries};
 

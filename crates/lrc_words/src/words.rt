@@ -1,12 +1,11 @@
 //! Reads the program's words.
-
 ghost use Rattle.std.specs.Prelude.{◌≡◌, IfOk, IfErr, false, true, map, option_map, string_bytes, codes};
 ghost use Rattle.std.specs.Option.{option_map_or};
 ghost use Rattle.std.specs.Str.{bytes_eq};
 ghost use Rattle.clap.specs.Words.{app_of, rule_of, first_of, one_of, rows_of, found_of};
 ghost use Rattle.clap.specs.declared.builder.command.Command.TheViews.{out-Command};
-ghost use Rattle.clap.specs.declared.builder.value_parser.ValueParser.TheVariants as vp;
 ghost use Rattle.lrc_words.specs.Words.{tries_rule, seed_rule, lock_rule, journal_rule, script_app, lrc_app, IsNumberRead, IsNumberGiven, IsSeedGiven, IsFlagGiven, AreOptionsOf, AreGiven, IsRefusedBy, most_tries, default_tries};
+ghost use Rattle.clap.specs.declared.builder.value_parser.ValueParser.TheVariants as vp;
 
 use crate::options::{DEFAULT_TRIES, Options};
 use clap::builder::ValueParser;

@@ -1,7 +1,7 @@
 //! A processor's copy of a page: its words, and a dirty bit for each.
 ghost use Rattle.std.specs.Prelude.{◌≡◌, ◌≤◌, ◌<◌, ◌^◌, ◌↔◌, IsTrue, IfOk, IfSome, IfNone, Some, None, Ok, true, length, replicate, slice_get, slice_set};
-ghost use Rattle.lists.specs.Records.{record_applied, harvest};
-ghost use Rattle.page.specs.Marks.{marks_of, IsBelow};
+ghost use Rattle.lists.specs.Prelude.{record_applied, harvest};
+ghost use Rattle.page.specs.Prelude.{marks_of, IsBelow, IsClean, FitsIn, IsHarvest, CarriesStores};
 
 use crate::records::Record;
 use std::alloc::{AllocError, Global};
@@ -45,9 +45,6 @@ impl Model for Page {
 }
 
 impl Page {
-    ghost use Rattle.page.specs.Contents.{IsClean};
-    ghost use Rattle.page.specs.Carries.{FitsIn, IsHarvest, CarriesStores};
-
     /// A page of `words` words (1 to 64), valid and zero. Answers `AllocError` where memory for them
     /// is refused.
     pub fn zero(alloc: Global, words: usize) -> Result<Self, AllocError>

@@ -1,6 +1,6 @@
 //! What the stores of an interval come to in one page.
 ghost use Rattle.std.specs.Prelude.{◌≡◌, ◌↔◌, IsTrue, IsSome, IfSome};
-ghost use Rattle.page.specs.Changes.{IsRising};
+ghost use Rattle.page.specs.Prelude.{IsRising};
 
 use std::marker::Model;
 

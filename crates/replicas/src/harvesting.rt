@@ -1,8 +1,7 @@
 //! What a closing call does to the copies: their dirty words become records, and no word is dirty any more.
 ghost use Rattle.std.specs.Prelude.{◌≡◌, IfOk, IsOk, false, map, replicate};
 ghost use Rattle.std.specs.Arc.{arc_value};
-ghost use Rattle.replicas.specs.Records.{AreHarvests, DirtyAreMarked};
-ghost use Rattle.replicas.specs.Steps.{cleaned};
+ghost use Rattle.replicas.specs.Prelude.{AreHarvests, DirtyAreMarked, cleaned};
 
 use crate::marks::Marks;
 use crate::replica::Replica;

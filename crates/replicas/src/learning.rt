@@ -1,6 +1,6 @@
 //! What a call that takes does to the copies: the records that come are missing in them from then on.
 ghost use Rattle.std.specs.Prelude.{◌≡◌, ◌≤◌, IsOk, OnOk, length};
-ghost use Rattle.replicas.specs.Steps.{AreAfterNews, AreSameCopies, AreZeros, HaveRoom, MayLearn};
+ghost use Rattle.replicas.specs.Prelude.{AreAfterNews, AreSameCopies, AreZeros, HaveRoom, MayLearn};
 
 use crate::replica::Replica;
 use interval::Sent;

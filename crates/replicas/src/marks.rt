@@ -1,7 +1,7 @@
 //! Sets of small numbers.
 ghost use Rattle.std.specs.Prelude.{◌≡◌, ◌<◌, ◌↔◌, IsTrue, IfSome, IfNone, Some, true, false, replicate, slice_get, slice_set};
-ghost use Rattle.page.specs.Marks.{marks_of};
-ghost use Rattle.replicas.specs.Records.{IsFirstMark, HasNoMark};
+ghost use Rattle.page.specs.Prelude.{marks_of};
+ghost use Rattle.replicas.specs.Prelude.{IsFirstMark, HasNoMark};
 
 use std::marker::Model;
 

@@ -1,15 +1,13 @@
 //! A processor's copy of a page, with the records that it lacks.
 ghost use Rattle.std.specs.Prelude.{◌≡◌, ◌<◌, ◌≤◌, ◌^◌, Some, None, Ok, IfOk, IfSome, IfNone, OnOk, [], ◌∷◌, ◌+◌, length, map, slice_get, sum_by};
-ghost use Rattle.page.specs.declared.pages.Access.TheVariants.{Valid, Invalid};
-ghost use Rattle.journal.specs.Copies.{HasCount};
-ghost use Rattle.journal.specs.Missing.{InClosingOrder};
-ghost use Rattle.book.specs.News.{missing_of};
-ghost use Rattle.lists.specs.Records.{records_applied};
-ghost use Rattle.interval.specs.Intervals.{SentRecord};
-ghost use Rattle.lists.specs.Places.{Has};
-ghost use Rattle.replicas.specs.Copies.{AllFit, IsOwner, IsPlaceAmong, may_use, words_if, words_of};
 ghost use Rattle.std.specs.Option.{option_map};
-ghost use Rattle.replicas.specs.Counts.{AreCountable};
+ghost use Rattle.lists.specs.Prelude.{records_applied, Has};
+ghost use Rattle.journal.specs.Prelude.{HasCount, InClosingOrder};
+ghost use Rattle.page.specs.Prelude.{IsHarvest, IsClean};
+ghost use Rattle.page.specs.declared.pages.Access.TheVariants.{Valid, Invalid};
+ghost use Rattle.interval.specs.Prelude.{SentRecord};
+ghost use Rattle.book.specs.Prelude.{missing_of};
+ghost use Rattle.replicas.specs.Prelude.{AllFit, IsOwner, IsPlaceAmong, may_use, words_if, words_of, AreCountable, fetched, written_at, zeros, IsAfterNews, IsSameCopy, MayLack, cleaned, AreCounts};
 
 use crate::marks::Marks;
 use interval::Sent;
@@ -50,12 +48,6 @@ impl Model for Replica {
 }
 
 impl Replica {
-    ghost use Rattle.page.specs.Carries.{IsHarvest};
-    ghost use Rattle.page.specs.Contents.{IsClean};
-    ghost use Rattle.replicas.specs.Copies.{fetched, written_at, zeros};
-    ghost use Rattle.replicas.specs.Steps.{IsAfterNews, IsSameCopy, MayLack, cleaned};
-    ghost use Rattle.replicas.specs.Counts.{AreCounts};
-
     /// A valid copy of `words` zeros (1 to 64). Answers `AllocError` where memory for them is refused.
     pub fn zero(alloc: Global, words: usize) -> Result<Replica, AllocError>
         requires some { 0 < words }

@@ -1,6 +1,5 @@
 ghost use Rattle.std.specs.Prelude.{◌≡◌, ◌<◌, ◌≤◌, IfOk, OnOk, length, replicate};
-ghost use Rattle.replicas.specs.Copies.{zeros};
-ghost use Rattle.replicas.specs.Testing.{AreNotices, AreOpen, IsNotice, IsStale};
+ghost use Rattle.replicas.specs.Prelude.{zeros, AreNotices, AreOpen, IsNotice, IsStale};
 
 use super::*;
 use interval::{Notice, Sent};

@@ -1,7 +1,6 @@
 //! A journal of given events.
-
 ghost use Rattle.std.specs.Prelude.{◌<◌, IsTrue};
-ghost use Rattle.journal.specs.InRange.{AddressInRange};
+ghost use Rattle.journal.specs.Prelude.{AddressInRange};
 
 use journal::{Event, Journal, Kind, MOST_HELD, MOST_PROCESSORS};
 use std::alloc::{AllocError, Global};

@@ -1,8 +1,6 @@
 //! Runs of a script, by schedule and lock.
-
 ghost use Rattle.std.specs.Prelude.{IfOk};
-ghost use Rattle.lrc_script.specs.Lawful.{IsLawful};
-ghost use Rattle.lrc_script.specs.Plan.{plan_of};
+ghost use Rattle.lrc_script.specs.Prelude.{IsLawful, plan_of};
 
 use crate::flaw::Flaw;
 use cluster::{BookLock, TicketBookLock};

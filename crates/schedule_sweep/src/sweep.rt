@@ -1,8 +1,6 @@
 //! Drawn scripts under many schedules.
-
 ghost use Rattle.std.specs.Prelude.{IfOk};
-ghost use Rattle.lrc_script.specs.Lawful.{IsLawful};
-ghost use Rattle.lrc_script.specs.Plan.{plan_of};
+ghost use Rattle.lrc_script.specs.Prelude.{IsLawful, plan_of};
 
 use crate::checks::{are_same, check_cuts, check_guarded, check_report};
 use crate::cuts::{with_cuts, with_loads};

@@ -1,5 +1,4 @@
 //! The reader and the slow reader over edited scripts.
-
 ghost use Rattle.std.specs.Prelude.{IfOk, IfSome};
 ghost use Rattle.script_sweep.specs.Answers.{IsTrueOf};
 

@@ -1,6 +1,6 @@
 //! What is sent to a processor that waits.
 ghost use Rattle.std.specs.Prelude.{◌≡◌};
-ghost use Rattle.transit.specs.Letters.{letter};
+ghost use Rattle.transit.specs.Prelude.{letter};
 
 use interval::Sent;
 use vtime::VTime;

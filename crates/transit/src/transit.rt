@@ -1,8 +1,7 @@
 //! The messages that were posted and not yet taken.
 ghost use Rattle.std.specs.Prelude.{◌≡◌, ◌<◌, Some, None, IsTrue, IsSome, IfOk, ◌↔◌, length, replicate, slice_get, slice_set};
 ghost use Rattle.std.specs.Option.{option_map};
-ghost use Rattle.transit.specs.Letters.{Letter, letter};
-ghost use Rattle.transit.specs.Mail.{mail};
+ghost use Rattle.transit.specs.Prelude.{Letter, letter, mail};
 
 use crate::message::Message;
 use std::alloc::{AllocError, Global};

@@ -5,3 +5,4 @@ pub mod Tickets
 pub mod Boards
 pub mod Moves
 pub mod Laws
+pub mod Prelude

@@ -1,6 +1,6 @@
 //! The contract of the lock round the book.
 ghost use Rattle.std.specs.Prelude.{◌≡◌, ℕ, List, ◌+◌, ◌*◌, ◌^◌, ◌<◌, ◌≤◌, length, map, replicate, IfOk, IfErr};
-ghost use Rattle.turn.specs.Chairs.{LockId, lock, place, view, entries, IsOutside, IsInside, IsSameChair, AreFresh, AreAll, Stands, MayHandIn};
+ghost use Rattle.turn.specs.Prelude.{LockId, lock, place, view, entries, IsOutside, IsInside, IsSameChair, AreFresh, AreAll, Stands, MayHandIn};
 
 use crate::chair::{Chair, Held, Spent};
 use std::alloc::{AllocError, Global};
@@ -8,6 +8,9 @@ use std::sync::Wait;
 
 /// What the lock keeps. A view is plain data of one chair, which exists in proofs alone.
 pub trait Keeper<B> {
+    ghost use Rattle.std.specs.Prelude.{List, ◌<◌};
+    ghost use Rattle.turn.specs.Chairs.{lock, place, view};
+
     type View;
 
     // The fact over the book and all chairs' views, in the order of their places, that holds whenever the lock is free.
@@ -23,6 +26,8 @@ pub trait Keeper<B> {
 /// What one call does: the relation between the book that it found, the one that it hands in, its chair's place, the
 /// chair's old view and its new one.
 pub trait Outcome<B, V> {
+    ghost use Rattle.std.specs.Prelude.{ℕ, ◌<◌};
+
     ghost then: { B → B → ℕ → V → V → Type 0 };
 }
 
@@ -33,6 +38,9 @@ pub trait Outcome<B, V> {
 /// Chairs are made in this crate alone. So a lock of another crate can meet the contract only by handing its calls on to
 /// one of this crate's locks.
 pub trait Turn<B, K: Keeper<B>>: Sized + Sync {
+    ghost use Rattle.std.specs.Prelude.{◌≡◌, ℕ, ◌+◌, ◌*◌, ◌^◌, ◌<◌, ◌≤◌, length, map, replicate, IfOk, IfErr};
+    ghost use Rattle.turn.specs.Chairs.{LockId, lock, place, view, entries, IsOutside, IsInside, IsSameChair, AreFresh, AreAll, Stands, MayHandIn};
+
     /// How often a chair may enter.
     const ENTRIES: u64;
 

@@ -2,7 +2,7 @@
 //!
 //! It has no body that an edit could turn: what it says of the rule is proved, and each step keeps the rule by its own
 //! contract.
-ghost use Rattle.turn.specs.Laws.{TurnsLaw};
+ghost use Rattle.turn.specs.Prelude.{TurnsLaw};
 
 use crate::board::Board;
 use crate::contract::Keeper;

@@ -8,6 +8,8 @@ use turn::{Keeper, Outcome};
 pub struct Tally;
 
 impl Keeper<u64> for Tally {
+    ghost use Rattle.turn_uses.specs.Tallies.{IsTallied};
+
     type View = u64;
 
     ghost fact = { IsTallied };
@@ -21,5 +23,7 @@ impl Keeper<u64> for Tally {
 pub struct AddsOne;
 
 impl Outcome<u64, u64> for AddsOne {
+    ghost use Rattle.std.specs.Prelude.{◌≡◌, ◌+◌};
+
     ghost then = { λ _ _ _ added now. now ≡ added + 1 };
 }

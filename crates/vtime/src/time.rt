@@ -1,6 +1,8 @@
 //! `VTime`, the vector timestamp of a processor, a lock, a flag or a message.
-ghost use Rattle.std.specs.Prelude.{◌≡◌, ℕ, ◌-◌, ◌^◌, ◌<◌, ◌≤◌, ◌↔◌, max, length, replicate, IsTrue, slice_get, slice_index};
-ghost use Rattle.lists.specs.Limits.{most_processors};
+ghost use Rattle.std.specs.Prelude.{◌≡◌, ℕ, ◌-◌, ◌^◌, ◌<◌, ◌≤◌, ◌↔◌, max, length, replicate, IsTrue, slice_get, slice_index, nat_eq};
+ghost use Rattle.std.specs.Cmp.{partial_equiv_from_equiv};
+ghost use Rattle.std.specs.Cmp.Lexicographic.{pointwise, nat_list_eq_equiv};
+ghost use Rattle.lists.specs.Prelude.{most_processors};
 ghost use Rattle.vtime.specs.Times.{tick, join, Covers};
 
 use smallvec::SmallVec;
@@ -99,10 +101,6 @@ impl VTime {
 }
 
 impl PartialEq for VTime {
-    ghost use Rattle.std.specs.Prelude.{◌≡◌, ◌↔◌, IsTrue, nat_eq};
-    ghost use Rattle.std.specs.Cmp.{partial_equiv_from_equiv};
-    ghost use Rattle.std.specs.Cmp.Lexicographic.{pointwise, nat_list_eq_equiv};
-
     ghost eq = { pointwise nat_eq };
 
     ghost laws = { partial_equiv_from_equiv nat_list_eq_equiv };
@@ -116,8 +114,6 @@ impl PartialEq for VTime {
 }
 
 impl Eq for VTime {
-    ghost use Rattle.std.specs.Cmp.Lexicographic.{nat_list_eq_equiv};
-
     ghost laws = { nat_list_eq_equiv };
 }
 

@@ -1,12 +1,11 @@
 //! What a book is made of before the first call.
 ghost use Rattle.std.specs.Prelude.{◌≡◌, ◌≤◌, IfOk, None, map, replicate};
 ghost use Rattle.std.specs.Option.{option_map};
-ghost use Rattle.lists.specs.Limits.{most_processors};
-ghost use Rattle.journal.specs.Log.{new_log};
-ghost use Rattle.interval.specs.Closings.{Closings};
+ghost use Rattle.lists.specs.Prelude.{most_processors};
+ghost use Rattle.journal.specs.Prelude.{new_log};
+ghost use Rattle.interval.specs.Prelude.{Closings};
 ghost use Rattle.lockq.specs.Lock.{unheld};
-ghost use Rattle.book.specs.Awaiting.{kind_of};
-ghost use Rattle.book.specs.Transitions.{no_closings};
+ghost use Rattle.book.specs.Prelude.{kind_of, no_closings};
 
 use crate::awaited::Awaited;
 use interval::Closed;

@@ -1,9 +1,8 @@
 //! How much a take would bring.
 ghost use Rattle.std.specs.Prelude.{◌≡◌, ◌<◌, EachIndex, IfSome, None, count_by, length, slice_index, slice_index_or};
 ghost use Rattle.journal.specs.declared.event.Kind.TheVariants.{Await};
-ghost use Rattle.interval.specs.Closings.{is_of_page};
-ghost use Rattle.book.specs.Brought.{brought, message_for, sent_with};
-ghost use Rattle.book.specs.Calls.{IsSignalled, MayLook, MayTake};
+ghost use Rattle.interval.specs.Prelude.{is_of_page};
+ghost use Rattle.book.specs.Prelude.{brought, message_for, sent_with, IsSignalled, MayLook, MayTake};
 
 use super::Protocol;
 use crate::awaited::Awaited;

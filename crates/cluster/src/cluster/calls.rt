@@ -2,8 +2,7 @@
 //! with reasons of refusal of its own.
 ghost use Rattle.std.specs.Prelude.{◌≡◌};
 ghost use Rattle.std.specs.Result.{result_err};
-ghost use Rattle.cluster.specs.Refusals.{arrive_test, ask_test, release_test, flag_test};
-ghost use Rattle.cluster.specs.Closing.{IsClosingCall};
+ghost use Rattle.cluster.specs.Prelude.{arrive_test, ask_test, release_test, flag_test, IsClosingCall};
 
 use super::Cluster;
 use crate::keeper::Rule;

@@ -2,15 +2,12 @@
 ghost use Rattle.std.specs.Prelude.{◌≡◌, ◌↔◌, ◌⊎◌, ◌<◌, ◌≤◌, ◌+◌, None, true, Err, IfErr, IfOk, OnOk, OnErr, length, map};
 ghost use Rattle.std.specs.Arc.{arc_value};
 ghost use Rattle.std.specs.Result.{result_err};
-ghost use Rattle.journal.specs.Events.{is_closing};
-ghost use Rattle.journal.specs.Waits.{awaited};
-ghost use Rattle.lists.specs.Limits.{most_events, most_in_block};
-ghost use Rattle.interval.specs.Intervals.{HasRisingPages};
-ghost use Rattle.book.specs.Transitions.{handed_in};
-ghost use Rattle.replicas.specs.Records.{AreHarvests};
-ghost use Rattle.replicas.specs.Steps.{held_after};
-ghost use Rattle.cluster.specs.Refusals.{closing_test};
-ghost use Rattle.cluster.specs.Closing.{MayClose, MayMake, MayHold, IsClosingCall, book_closed};
+ghost use Rattle.lists.specs.Prelude.{most_events, most_in_block};
+ghost use Rattle.journal.specs.Prelude.{is_closing, awaited};
+ghost use Rattle.interval.specs.Prelude.{HasRisingPages};
+ghost use Rattle.book.specs.Prelude.{handed_in};
+ghost use Rattle.replicas.specs.Prelude.{AreHarvests, held_after};
+ghost use Rattle.cluster.specs.Prelude.{closing_test, MayClose, MayMake, MayHold, IsClosingCall, book_closed};
 
 use super::Cluster;
 use crate::keeper::Rule;

@@ -1,8 +1,8 @@
 //! Cuts.
 ghost use Rattle.std.specs.Prelude.{◌≡◌, IfErr, OnErr, OnOk};
 ghost use Rattle.std.specs.Result.{result_err};
-ghost use Rattle.book.specs.Cutting.{WasBookCut};
-ghost use Rattle.cluster.specs.Cutting.{IsCuttingCall, IsNoCut};
+ghost use Rattle.book.specs.Prelude.{WasBookCut};
+ghost use Rattle.cluster.specs.Prelude.{IsCuttingCall, IsNoCut};
 
 use super::Cluster;
 use crate::keeper::Rule;

@@ -1,10 +1,10 @@
 //! How a call enters the book, and leaves it.
 ghost use Rattle.std.specs.Prelude.{◌≡◌, ◌+◌, ◌<◌, IfOk, IfErr, List};
-ghost use Rattle.turn.specs.Chairs.{lock, entries, IsOutside, IsInside};
+ghost use Rattle.turn.specs.Prelude.{lock, entries, IsOutside, IsInside};
 ghost use Rattle.journal.specs.declared.event.Event.{Event};
-ghost use Rattle.replicas.specs.Local.{Local};
-ghost use Rattle.book.specs.State.{State};
-ghost use Rattle.cluster.specs.Entering.{IsChairOf, IsCallOf, FindsBook, HasEntered, HasLeft};
+ghost use Rattle.book.specs.Prelude.{State};
+ghost use Rattle.replicas.specs.Prelude.{Local};
+ghost use Rattle.cluster.specs.Prelude.{IsChairOf, IsCallOf, FindsBook, HasEntered, HasLeft};
 
 use super::Cluster;
 use crate::keeper::{Looking, Rule};

@@ -1,8 +1,7 @@
 //! Calls that hand the open block in, and do no more.
 ghost use Rattle.std.specs.Prelude.{◌≡◌, IfOk};
 ghost use Rattle.std.specs.Result.{result_err};
-ghost use Rattle.cluster.specs.Calls.{IsHandingCall};
-ghost use Rattle.cluster.specs.Histories.{IsAudit};
+ghost use Rattle.cluster.specs.Prelude.{IsHandingCall, IsAudit};
 
 use super::Cluster;
 use crate::keeper::Rule;

@@ -1,18 +1,13 @@
 //! Calls that take what a processor waits for.
 ghost use Rattle.std.specs.Prelude.{◌≡◌, ◌≢◌, ◌↔◌, ◌⊎◌, ◌<◌, ◌≤◌, ◌+◌, Err, IfErr, EachIndex, IfOk, IsOk, OnOk, OnErr, List, [], length, slice_index, vec_len, true};
 ghost use Rattle.std.specs.Result.{result_err};
+ghost use Rattle.lists.specs.Prelude.{most_events};
+ghost use Rattle.journal.specs.Prelude.{is_taking, Sizes, Ready};
 ghost use Rattle.journal.specs.declared.event.Event.{Event};
-ghost use Rattle.journal.specs.Events.{is_taking};
-ghost use Rattle.journal.specs.Sizes.{Sizes};
-ghost use Rattle.journal.specs.WellFormed.{Ready};
-ghost use Rattle.lists.specs.Limits.{most_events};
-ghost use Rattle.transit.specs.Letters.{letter};
-ghost use Rattle.book.specs.Brought.{brought};
-ghost use Rattle.book.specs.Calls.{MayLook, MayTakeSome};
-ghost use Rattle.book.specs.Transitions.{Takes};
-ghost use Rattle.book.specs.Told.{IsTold};
-ghost use Rattle.replicas.specs.Steps.{AreAfterNews, AreSameCopies, HaveRoom, MayLearn, held_after};
-ghost use Rattle.cluster.specs.Taking.{IsTakingCall, MayHoldOne, HasRoomFor};
+ghost use Rattle.transit.specs.Prelude.{letter};
+ghost use Rattle.book.specs.Prelude.{brought, MayLook, MayTakeSome, Takes, IsTold};
+ghost use Rattle.replicas.specs.Prelude.{AreAfterNews, AreSameCopies, HaveRoom, MayLearn, held_after};
+ghost use Rattle.cluster.specs.Prelude.{IsTakingCall, MayHoldOne, HasRoomFor};
 
 use super::Cluster;
 use crate::keeper::Rule;

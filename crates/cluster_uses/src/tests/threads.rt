@@ -1,6 +1,6 @@
 //! Processors on threads of their own.
 ghost use Rattle.std.specs.Prelude.{◌≡◌, ◌^◌, ◌≤◌, length};
-ghost use Rattle.journal.specs.Reach.{IsTable};
+ghost use Rattle.journal.specs.Prelude.{IsTable};
 
 use super::*;
 use crate::{Task, run};

@@ -1,6 +1,6 @@
 ghost use Rattle.std.specs.Prelude.{◌≡◌, ◌+◌, ◌<◌, ◌≤◌, Some, IfOk, OnOk, OnErr, length, map, slice_get, slice_set};
 ghost use Rattle.std.specs.Arc.{arc_value};
-ghost use Rattle.interval.specs.Intervals.{HasRisingPages};
+ghost use Rattle.interval.specs.Prelude.{HasRisingPages};
 
 use super::*;
 use std::process::Abort;

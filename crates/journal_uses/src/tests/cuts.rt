@@ -1,5 +1,4 @@
 //! Cuts, with what they leave worked out by hand.
-
 ghost use Rattle.std.specs.Prelude.{◌≡◌, IfOk};
 
 use crate::tests::{by, go_on, journal_of};

@@ -1,5 +1,4 @@
 //! What happens before what in tiny journals, and the first races of random ones.
-
 ghost use Rattle.std.specs.Prelude.{◌≡◌, ◌<◌, ◌≤◌, ◌+◌, ◌^◌, vec_len};
 
 use crate::tests::{by, journal_of};

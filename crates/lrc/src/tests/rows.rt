@@ -1,5 +1,4 @@
 //! Scripts of several processors, by turns and on threads, with both locks.
-
 ghost use Rattle.std.specs.Prelude.{◌<◌, ◌≡◌};
 
 use super::check_with;

@@ -1,10 +1,9 @@
 //! Processors on threads.
 ghost use Rattle.std.specs.Prelude.{◌≡◌, ◌≤◌, [], IfOk, IfSome, length, vec_len, vec_capacity};
 ghost use Rattle.std.specs.Thread.{IsSend, IsSync};
-ghost use Rattle.lrc_script.specs.Plan.{items_of};
-ghost use Rattle.cluster.specs.Clusters.{AreNew};
-ghost use Rattle.lrc_run.specs.Threads.{AreOutcomes, AreOutcomesOf, AreStarted, IsOutcomeOf};
-ghost use Rattle.lrc_run.specs.Walks.{Walks};
+ghost use Rattle.lrc_script.specs.Prelude.{items_of};
+ghost use Rattle.cluster.specs.Prelude.{AreNew};
+ghost use Rattle.lrc_run.specs.Prelude.{AreOutcomes, AreOutcomesOf, AreStarted, IsOutcomeOf, Walks};
 
 use crate::cause::Cause;
 use crate::gate::Gate;

@@ -1,8 +1,7 @@
 //! A processor's turn.
 ghost use Rattle.std.specs.Prelude.{◌≡◌, ◌≤◌, IfOk, length, All, IsTrue, ◌↔◌};
-ghost use Rattle.replicas.specs.Local.{Local};
-ghost use Rattle.lrc_run.specs.Steps.{IsAt, instruction_at, progress_after};
-ghost use Rattle.lrc_run.specs.Walks.{IsOnItsWay};
+ghost use Rattle.replicas.specs.Prelude.{Local};
+ghost use Rattle.lrc_run.specs.Prelude.{IsAt, instruction_at, progress_after, IsOnItsWay};
 
 use crate::cause::Cause;
 use crate::walk::{begin, end};

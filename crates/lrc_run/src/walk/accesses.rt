@@ -4,9 +4,9 @@
 //! `fetch`, `load_roomy` and `store_roomy` have one form, and stand apart since a closure's contract would have to say
 //! again what each call does.
 ghost use Rattle.std.specs.Prelude.{◌≡◌, ◌+◌, ◌%◌, ◌^◌, OnOk, ℕ, [], ◌∷◌};
+ghost use Rattle.cluster.specs.Prelude.{IsSameProcessor};
+ghost use Rattle.lrc_run.specs.Prelude.{Makes, Tries};
 ghost use Rattle.journal.specs.declared.event.Kind.TheVariants as kind;
-ghost use Rattle.cluster.specs.Calls.{IsSameProcessor};
-ghost use Rattle.lrc_run.specs.Walks.{Makes, Tries};
 
 use book::{Book, Refused};
 use cluster::{Cluster, Processor, Rule};

@@ -1,8 +1,8 @@
 //! The instructions of a script. One that waits is begun by one call, and ended by a take that finds what it
 //! waits for.
 ghost use Rattle.std.specs.Prelude.{◌≡◌, IfOk, []};
-ghost use Rattle.cluster.specs.Calls.{IsSameProcessor};
-ghost use Rattle.lrc_run.specs.Walks.{IsOnItsWay, Takes, Tries};
+ghost use Rattle.cluster.specs.Prelude.{IsSameProcessor};
+ghost use Rattle.lrc_run.specs.Prelude.{IsOnItsWay, Takes, Tries};
 
 use super::accesses::{add, load, store};
 use crate::cause::Cause;

@@ -1,9 +1,9 @@
 //! Scripts that cut the journal.
 
-use lrc_run::{Open, run, step, step_with};
 use cluster::TicketBookLock;
 use journal::{Event, Kind};
 use lrc_report::Report;
+use lrc_run::{Open, run, step, step_with};
 use lrc_script::script::parse;
 use std::alloc::Global;
 use std::process::Abort;

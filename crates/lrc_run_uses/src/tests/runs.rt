@@ -1,10 +1,10 @@
 //! Scripts with each processor on a thread of its own.
 ghost use Rattle.std.specs.Prelude.{◌<◌, ◌≤◌, ◌^◌};
 
-use lrc_run::{Cause, Gate, Open, RunFault, Stopped, run, run_with};
 use book::{Book, Refused};
 use cluster::{Rule, TicketBookLock};
 use lrc_report::Report;
+use lrc_run::{Cause, Gate, Open, RunFault, Stopped, run, run_with};
 use lrc_script::script::parse;
 use std::alloc::Global;
 use std::process::Abort;

@@ -1,9 +1,9 @@
 //! Scripts by turns on one thread.
 
-use lrc_run::{Cause, RunFault, order, step, step_with};
 use cluster::{BookLock, TicketBookLock};
 use journal::{Event, Kind};
 use lrc_report::Report;
+use lrc_run::{Cause, RunFault, order, step, step_with};
 use lrc_script::script::parse;
 use rand_core::SeedableRng;
 use rand_pcg::Pcg32;

@@ -1,5 +1,5 @@
 ghost use Rattle.std.specs.Prelude.{◌≡◌, ◌*◌, ◌^◌, ◌<◌, IfOk};
-ghost use Rattle.turn.specs.Chairs.{lock, lock_id, IsOutside, IsSameChair, AreAll};
+ghost use Rattle.turn.specs.Prelude.{lock, lock_id, IsOutside, IsSameChair, AreAll};
 
 use super::{ArrayLock, Lock, NEXT, TicketLock};
 use crate::board::{Board, Counter, Row};
@@ -16,6 +16,8 @@ use std::time::{Clock, Duration};
 struct Anything;
 
 impl<B> Keeper<B> for Anything {
+    ghost use Rattle.std.specs.Prelude.{◌<◌};
+
     type View = ();
 
     ghost fact = { λ _ _. Unit {0} };
@@ -26,6 +28,8 @@ impl<B> Keeper<B> for Anything {
 }
 
 impl<B> Outcome<B, ()> for Anything {
+    ghost use Rattle.std.specs.Prelude.{◌<◌};
+
     ghost then = { λ _ _ _ _ _. Unit {0} };
 }
 

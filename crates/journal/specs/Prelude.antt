@@ -1,0 +1,33 @@
+-- The words that contracts name, passed on from one place. Declares nothing.
+pub use Rattle.journal.specs.Sizes.{Sizes}
+pub use Rattle.journal.specs.Events.{address_of, count_of, is_arrive, is_closing, is_depart, is_taking}
+pub use Rattle.journal.specs.Did.{did, event}
+pub use Rattle.journal.specs.Order.{Edge, HappensBefore, LetsThrough}
+pub use Rattle.journal.specs.WellFormed.{Holds, Ready}
+pub use Rattle.journal.specs.Times.{IsTimeOf}
+pub use Rattle.journal.specs.Races.{Conflict, IsFirstRace, Race, RaceFree}
+pub use Rattle.journal.specs.Flat.{AnswersWord, Replays, flat_write, memory_after}
+pub use Rattle.journal.specs.Traffic.{messages, messages_of, records, records_of, words, words_of}
+pub use Rattle.journal.specs.Copies.{HasCount}
+pub use Rattle.journal.specs.Blocks.{write_in}
+pub use Rattle.journal.specs.Log.{Log, new_log}
+pub use Rattle.journal.specs.InRange.{AddressInRange, AddressesInRange, ProcessorsInRange}
+pub use Rattle.journal.specs.Holding.{IsHeld, log_of}
+pub use Rattle.journal.specs.Waits.{awaited}
+pub use Rattle.journal.specs.Entries.{IsJoinedAt, entry, map_entry}
+pub use Rattle.journal.specs.Clocks.{AreClocks, Keeps, brought_entry}
+pub use Rattle.journal.specs.Accesses.{AreAccesses, AreLoadsAfter, AreWithin, ConflictsAreCounted, IsNoted}
+pub use Rattle.journal.specs.Accesses.{epoch_entry, loads_entry}
+pub use Rattle.journal.specs.Groups.{since}
+pub use Rattle.journal.specs.Missing.{InClosingOrder}
+pub use Rattle.journal.specs.Numbered.{kept_entry}
+pub use Rattle.journal.specs.Reach.{AreRows, IsRow, IsTable}
+pub use Rattle.journal.specs.Base.{no_base}
+pub use Rattle.journal.specs.LoadsFrom.{ExplainedFrom}
+pub use Rattle.journal.specs.RacesFrom.{IsFirstRaceFrom, RaceFreeFrom}
+pub use Rattle.journal.specs.Cuts.{IsBaseAfter, IsCut, NoCut}
+pub use Rattle.journal.specs.BaseLaws.{CopyLaw, CutLaw, FlatLaw, SameLaw, UncutLaw, WellFormedLaw}
+pub use Rattle.journal.specs.Kept.{AreCosts, IsKept, IsKeptAfter, base_of, held_after, set_after, without}
+pub use Rattle.journal.specs.Opening.{IsOpening}
+pub use Rattle.journal.specs.Cutting.{IsCutFault, WasCut}
+pub use Rattle.journal.specs.HistoryLaws.{HistoryLaw, WholeLaw}
