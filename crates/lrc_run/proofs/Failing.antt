@@ -1,6 +1,8 @@
--- Faults among outcomes, found one by one.
-use Rattle.std.proofs.Common.{ℕ, ◌≡◌, ◌≢◌, ◌+◌, ◌<◌, ◌≤◌, ◌⊎◌, inl, inr, Bool, true, false, Some, List, Result, Err, slice_get, refl, subst, arith}
+-- Faults among outcomes, found one by one; and what is taken of outcomes that are none.
+use Rattle.std.proofs.Common.{ℕ, ◌≡◌, ◌≢◌, ◌+◌, ◌<◌, ◌≤◌, ◌⊎◌, inl, inr, Bool, true, false, Some, List, [], ◌∷◌, ◌++◌, Result, Ok, Err, length, map, slice_get, refl, sym, ap, subst, ◌∙◌, arith}
+use Rattle.std.specs.Result.{IfErr, IfOk, MatchResult, is_ok}
 use Rattle.std.proofs.lemmas.Bool.{cases_lt}
+use Rattle.std.proofs.lemmas.List.{map-append}
 use Rattle.lrc_run.specs.declared.cause.Cause.{Cause}
 use Rattle.lrc_run.specs.declared.cause.RunFault.{RunFault}
 use Rattle.lrc_run.specs.Faults.{is_stuck, Failed, NoneFailed, NoneFailedSo, IsFirstSo}
@@ -25,3 +27,26 @@ first_so outcomes stuck k cause below failed so = record {
   least = λ p other fails is. elim (cases_lt p k)
       [ inl lower ↦ absurd (below p other lower fails is) | inr not ↦ not ];
 }
+
+-- one outcome more that is no fault
+pub taken_more : {X : Type 0} (all : List X) (outcomes : List (Result X Cause)) (x : X) (outcome : Result X Cause)
+    → map Ok all ≡ outcomes → outcome ≡ Ok x → map Ok (all ++ x ∷ []) ≡ outcomes ++ outcome ∷ []
+taken_more all outcomes x outcome same is = map-append Ok all (x ∷ []) ∙ ap (λ os. os ++ Ok x ∷ []) same
+    ∙ ap (λ o. outcomes ++ o ∷ []) (sym is)
+
+-- nothing is left of a list without a length
+pub none_left : {A : Type 0} (xs : List A) → length xs ≡ 0 → xs ≡ []
+none_left [] none = refl
+none_left (x ∷ xs) none = absurd (omega arith)
+
+-- a result whose error is told in another way
+pub told_ok : {A E F : Type 0} (r : Result A E) (told : Result A F) (P : A → Type 0) (Q : E → Type 0)
+    → MatchResult r (λ x. told ≡ Ok x) Q → is_ok told ≡ is_ok r → IfOk r P → IfOk told P
+told_ok (Ok x) told P Q is same holds = subst (λ t. IfOk t P) (sym is) holds
+told_ok (Err e) (Ok x) P Q is same holds = absurd (cc)
+told_ok (Err e) (Err f) P Q is same holds = tt
+
+-- what holds whatever the error is
+pub each_error : {A E : Type 0} (r : Result A E) (Q : E → Type 0) → ((e : E) → Q e) → IfErr r Q
+each_error (Ok x) Q all = tt
+each_error (Err e) Q all = all e

@@ -16,6 +16,9 @@ loop-init g c =
       long = omega (arith, c.in-Ok.ensures.list, many, c.requires.new.all);
     }
 
+pub loop-preserved : goal.loop-preserved
+loop-preserved g c = record { way = c.in_ok-round.ensures; long = c.loop.invariant.long }
+
 pub returns-then-have_passed : goal.returns-then-have_passed
 returns-then-have_passed g c =
     let P : List Progress → Type 0 = λ xs. All (λ x. x ≡ Passed) xs in
