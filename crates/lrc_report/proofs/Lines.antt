@@ -1,5 +1,5 @@
 -- The lines of a journal's events, one after another.
-use Rattle.std.proofs.Common.{◌≡◌, ◌∙◌, ◌+◌, ◌<◌, ◌≤◌, ℕ, zero, suc, List, [], ◌∷◌, ◌++◌, add-one, length, take, drop, refl, sym, ap, append_assoc, append-nil, take-append-drop, arith}
+use Rattle.std.proofs.Common.{◌≡◌, ◌∙◌, ◌+◌, ℕ, zero, suc, List, [], ◌∷◌, ◌++◌, add-one, length, take, drop, refl, sym, ap, append_assoc, append-nil, take-append-drop, arith}
 use Rattle.std.specs.Prelude.{Option, Some, slice_get}
 use Rattle.lists.proofs.Places.{take-suc_at}
 use Rattle.journal.specs.declared.event.Event.{Event}
