@@ -1,5 +1,5 @@
 -- What the processors of a cluster have made at the end of a run, and what the report says of it.
-use Rattle.std.proofs.Common.{ℕ, ◌≡◌, ◌≢◌, ◌<◌, ◌↔◌, Bool, true, false, cond, Option, Some, None, List, [], ◌∷◌, ◌++◌, length, map, slice_get, slice_set, get_or, zero-add, ◌+◌, refl, sym, ap, subst, subst₂, ◌∙◌, inl, inr, append_assoc, ne_eqb, arith}
+use Rattle.std.proofs.Common.{ℕ, ◌≡◌, ◌<◌, ◌↔◌, Bool, true, false, cond, Option, Some, None, List, [], ◌∷◌, ◌++◌, length, map, slice_get, slice_set, get_or, zero-add, ◌+◌, refl, sym, ap, subst, subst₂, ◌∙◌, inl, inr, append_assoc, ne_eqb, arith}
 use Rattle.std.specs.Prelude.{◌==◌, IsTrue, is_some, MatchOption}
 use Rattle.std.specs.List.{sum_by}
 use Rattle.std.proofs.lemmas.Bool.{cases_eq, cond-false}
@@ -23,16 +23,16 @@ use Rattle.journal.proofs.Bases.Whole.{same_law}
 use Rattle.lrc_script.specs.declared.script.Instruction.{Instruction}
 use Rattle.lrc_script.specs.Lawful.{IsLawful}
 use Rattle.lrc_script.specs.Plan.{Plan}
-use Rattle.follows.specs.Follows.{Follows, FollowsSection, calls_of, kinds_of, load_of, sizes_of}
+use Rattle.follows.specs.Follows.{Follows, calls_of, kinds_of, load_of, sizes_of}
 use Rattle.follows.proofs.Recomputing.Recomputed.{recomputed_law, race_free_law}
-use Rattle.replicas.specs.Local.{Local, calls}
+use Rattle.replicas.specs.Local.{Local}
 use Rattle.cluster.specs.Clusters.{Shared}
-use Rattle.cluster.specs.Finishing.{AreAllOf, HasCallsOf, IsFinished, IsProcessorOf}
+use Rattle.cluster.specs.Finishing.{HasCallsOf, IsFinished, IsProcessorOf}
 use Rattle.lrc_report.specs.declared.report.Report.{Report}
 use Rattle.lrc_run.specs.Endings.{HasFollowed, HaveFollowed}
 use Rattle.lrc_run.specs.Laws.{RaceFreeReportLaw}
 use Rattle.lrc_run.specs.Runs.{HasRace, IsReportOf}
-use Rattle.lrc_run.specs.Walks.{AreWalked, Loads, Walks, made, new_at}
+use Rattle.lrc_run.specs.Walks.{AreWalked, Loads, Walks, new_at}
 
 -- one that walked is its cluster's
 pub walked_of : (c : Shared) (p : ℕ) (m : Local) (section : List Instruction) → Walks (new_at c p) m section

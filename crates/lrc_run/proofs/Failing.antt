@@ -1,11 +1,10 @@
 -- Faults among outcomes, found one by one; and what is taken of outcomes that are none.
-use Rattle.std.proofs.Common.{ℕ, ◌≡◌, ◌≢◌, ◌+◌, ◌<◌, ◌≤◌, ◌⊎◌, inl, inr, Bool, true, false, Some, List, [], ◌∷◌, ◌++◌, Result, Ok, Err, length, map, slice_get, refl, sym, ap, subst, ◌∙◌, arith}
+use Rattle.std.proofs.Common.{ℕ, ◌≡◌, ◌≢◌, ◌+◌, ◌<◌, inl, inr, Bool, List, [], ◌∷◌, ◌++◌, Result, Ok, Err, length, map, refl, sym, ap, subst, ◌∙◌, arith}
 use Rattle.std.specs.Result.{IfErr, IfOk, MatchResult, is_ok}
 use Rattle.std.proofs.lemmas.Bool.{cases_lt}
 use Rattle.std.proofs.lemmas.List.{map-append}
 use Rattle.lrc_run.specs.declared.cause.Cause.{Cause}
-use Rattle.lrc_run.specs.declared.cause.RunFault.{RunFault}
-use Rattle.lrc_run.specs.Faults.{is_stuck, Failed, NoneFailed, NoneFailedSo, IsFirstSo}
+use Rattle.lrc_run.specs.Faults.{is_stuck, Failed, IsFirstSo}
 
 -- none below a place failed so
 abbrev pub NoneBelow : {X : Type 0} → List (Result X Cause) → Bool → ℕ → Type 0

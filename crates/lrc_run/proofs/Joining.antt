@@ -1,5 +1,5 @@
 -- Threads that are started and joined one by one.
-use Rattle.std.proofs.Common.{ℕ, IfSome, zero, suc, map, ◌≡◌, ◌⊎◌, inl, inr, Option, Some, None, List, [], ◌∷◌, ◌++◌, Result, Ok, Err, length, slice_get, refl, sym, ap, subst, subst₂, ◌∙◌, arith}
+use Rattle.std.proofs.Common.{ℕ, IfSome, zero, suc, map, ◌≡◌, inl, inr, Option, Some, None, List, [], ◌∷◌, ◌++◌, Result, Ok, length, slice_get, refl, sym, ap, subst, subst₂, ◌∙◌, arith}
 use Rattle.std.proofs.lemmas.List.{length_push}
 use Rattle.std.proofs.lemmas.Option.{none-some, slice_get_cases, slice_get_within, same_Some}
 use Rattle.lists.proofs.Places.{push_cases, slice_get-append_left, slice_get-last}

@@ -1,8 +1,7 @@
-use Rattle.std.proofs.Common.{rules, ◌≡◌, ◌<◌, Some, List, [], ◌∷◌, ◌++◌, length, slice_get, append_assoc, refl, subst, sym, ap, ◌∙◌, arith}
+use Rattle.std.proofs.Common.{rules, ◌≡◌, ◌<◌, Some, [], ◌∷◌, ◌++◌, length, slice_get, append_assoc, refl, subst, sym, ap, ◌∙◌, arith}
 use Rattle.std.proofs.lemmas.Option.{slice_get_read, slice_get_within}
 use Rattle.std.specs.Vec.Iter.{into_iter_items}
 use Rattle.cluster.proofs.FinishingCalls.{mapped_at}
-use Rattle.lrc_script.specs.declared.script.Instruction.{Instruction}
 use Rattle.lrc_script.specs.Plan.{items_of}
 use Rattle.lrc_run.proofs.Joining.{behind, started_more}
 use Rattle.lrc_run.proofs.running.threads.start_all.Goals as goal
