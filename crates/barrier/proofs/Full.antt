@@ -67,7 +67,8 @@ pub comes_last : (old stages read now : List Stage) (p : ℕ) (full : Bool) → 
     → (full ≡ true) ↔ (count_by is_here old + 1 ≡ length old)
 comes_last old stages read now p full away same is written test =
     let law = last_arrival old p away in
-    let all = test ∙ ap (λ (ss : List Stage). list_all is_here ss) (written ∙ read_set p Here stages read old same is) in
+    let all = test
+    ∙ ap (λ (ss : List Stage). list_all is_here ss) (written ∙ read_set p Here stages read old same is) in
     (λ e. law.0 (sym all ∙ e), λ e. all ∙ law.1 e)
 
 -- an arrival is gathered

@@ -11,9 +11,13 @@ use Rattle.bench.specs.declared.work.Answer.TheVariants.{Events, FirstRace, Repl
 
 -- the answer is of this work on the journal
 abbrev pub IsAnswerOf : Work → Log → Answer → Type 0
-IsAnswerOf work.FirstRace j (FirstRace o) = MatchOption o (RaceFreeFrom j.base j.events) (λ r. IsFirstRaceFrom j.base j.events r.0 r.1)
+IsAnswerOf work.FirstRace j (FirstRace o) =
+    MatchOption o (RaceFreeFrom j.base j.events) (λ r. IsFirstRaceFrom j.base j.events r.0 r.1)
 IsAnswerOf work.Replay j (Replays r) = IsTrue r ↔ replays j.base.memory j.events
-IsAnswerOf work.Traffic j (Traffic t) = (t.messages ≡ j.base.spent.messages + messages j.events) × (t.records ≡ j.base.spent.records + records j.events) × (t.words ≡ j.base.spent.words + words j.events)
+IsAnswerOf work.Traffic j (Traffic t) =
+    (t.messages ≡ j.base.spent.messages + messages j.events)
+    × (t.records ≡ j.base.spent.records + records j.events)
+    × (t.words ≡ j.base.spent.words + words j.events)
 IsAnswerOf work.Build j (Events n) = n ≡ length j.events
 IsAnswerOf work.Append j (Events n) = n ≡ length j.events
 IsAnswerOf work.Copy j (Events n) = n ≡ length j.events

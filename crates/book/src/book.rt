@@ -1,12 +1,15 @@
 //! The book: everything that the processors share.
-ghost use Rattle.std.specs.Prelude.{◌≡◌, ◌≢◌, ℕ, ◌+◌, ◌*◌, ◌^◌, ◌<◌, ◌≤◌, ◌↔◌, ◌⊎◌, EachIndex, IsTrue, Some, Err, OnOk, OnErr, IfErr, IfOk, List, map, length, count_by, slice_get, slice_index};
+ghost use Rattle.std.specs.Prelude.{◌≡◌, ◌≢◌, ℕ, ◌+◌, ◌*◌, ◌^◌, ◌<◌, ◌≤◌, ◌↔◌, ◌⊎◌, EachIndex, IsTrue, Some, Err};
+ghost use Rattle.std.specs.Prelude.{OnOk, OnErr, IfErr, IfOk, List, map, length, count_by, slice_get, slice_index};
 ghost use Rattle.std.specs.Arc.{arc_value};
 ghost use Rattle.lists.specs.Prelude.{most_events, most_in_block, most_processors};
 ghost use Rattle.journal.specs.Prelude.{Sizes, Ready, IsCutFault};
 ghost use Rattle.journal.specs.declared.event.Event.{Event as AnEvent};
 ghost use Rattle.interval.specs.Prelude.{HasRisingPages, is_of_page};
 ghost use Rattle.transit.specs.Prelude.{letter};
-ghost use Rattle.book.specs.Prelude.{brought, WasBookCut, MayFlush, MayCall, MayAsk, MayRelease, MayTakeSome, MayLook, new_book, handed_in, handed_last, book_watched, book_set, book_asked, book_released, book_arrived, Takes, IsFullAt, IsWantOfRoom, IsTold};
+ghost use Rattle.book.specs.Prelude.{brought, WasBookCut, MayFlush, MayCall, MayAsk, MayRelease, MayTakeSome};
+ghost use Rattle.book.specs.Prelude.{MayLook, new_book, handed_in, handed_last, book_watched, book_set, book_asked};
+ghost use Rattle.book.specs.Prelude.{book_released, book_arrived, Takes, IsFullAt, IsWantOfRoom, IsTold};
 
 use crate::protocol::Protocol;
 use crate::refused::Refused;

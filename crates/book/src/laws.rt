@@ -1,6 +1,7 @@
 //! The laws of the transitions, as contracts of functions that do nothing: the check proves each by
 //! its name.
-ghost use Rattle.book.specs.Prelude.{NewLaw, HandInLaw, LastLaw, AskLaw, ReleaseLaw, ArriveLaw, SetLaw, WatchLaw, TakeLaw, CutLaw, MessageLaw, NewsLaw, NewsOrderLaw};
+ghost use Rattle.book.specs.Prelude.{NewLaw, HandInLaw, LastLaw, AskLaw, ReleaseLaw, ArriveLaw, SetLaw, WatchLaw};
+ghost use Rattle.book.specs.Prelude.{TakeLaw, CutLaw, MessageLaw, NewsLaw, NewsOrderLaw};
 
 /// An empty book is told by the empty history.
 pub fn new_law()

@@ -1,9 +1,11 @@
 //! Messages that are made before the interval is closed with which they come.
-ghost use Rattle.std.specs.Prelude.{◌≡◌, ◌≢◌, ℕ, ◌<◌, ◌≤◌, IfOk, IfSome, IsSome, List, OnOk, OnErr, None, Some, true, length, map, replicate, slice_index, slice_set};
+ghost use Rattle.std.specs.Prelude.{◌≡◌, ◌≢◌, ℕ, ◌<◌, ◌≤◌, IfOk, IfSome, IsSome, List, OnOk, OnErr, None, Some, true};
+ghost use Rattle.std.specs.Prelude.{length, map, replicate, slice_index, slice_set};
 ghost use Rattle.std.specs.Option.{option_map};
 ghost use Rattle.interval.specs.Prelude.{HasRisingPages, pushed};
 ghost use Rattle.transit.specs.Prelude.{letter};
-ghost use Rattle.book.specs.Prelude.{addressed, addressed_grant, departure_to, kind_of, has_come, message_among, signal_to, MayBeSent, MaySignal};
+ghost use Rattle.book.specs.Prelude.{addressed, addressed_grant, departure_to, kind_of, has_come, message_among};
+ghost use Rattle.book.specs.Prelude.{signal_to, MayBeSent, MaySignal};
 
 use crate::awaited::Awaited;
 use interval::{Closed, Interval};
@@ -52,7 +54,8 @@ pub(crate) fn departures(
     requires all { (r : ℕ) → r < length times.now
         → MayBeSent closed.now (slice_set times.now interval.now.owner own.now) r }
     ensures { IfOk result (λ ms. map letter ms.items
-        ≡ map (departure_to (pushed closed.now interval.now) time.now) (slice_set times.now interval.now.owner own.now)) }
+        ≡ map (departure_to (pushed closed.now interval.now) time.now)
+        (slice_set times.now interval.now.owner own.now)) }
 {
     let mut departures = Vec::with_capacity(alloc, times.len())?;
     for (q, old) in times.iter().enumerate() {

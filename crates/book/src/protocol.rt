@@ -1,5 +1,7 @@
 //! What the book does, in place: a `Book` keeps one of these behind a pointer.
-ghost use Rattle.std.specs.Prelude.{List, ◌≡◌, ◌≢◌, ℕ, ◌+◌, ◌-◌, ◌*◌, None, replicate, ◌^◌, ◌<◌, ◌≤◌, ◌++◌, ◌↔◌, ◌⊎◌, true, map, OnOk, OnErr, IfErr, IfOk, IfSome, slice_index, slice_index_or, Err, IsTrue, length, slice_get, slice_set, Some};
+ghost use Rattle.std.specs.Prelude.{List, ◌≡◌, ◌≢◌, ℕ, ◌+◌, ◌-◌, ◌*◌, None, replicate, ◌^◌, ◌<◌, ◌≤◌, ◌++◌, ◌↔◌, ◌⊎◌};
+ghost use Rattle.std.specs.Prelude.{true, map, OnOk, OnErr, IfErr, IfOk, IfSome, slice_index, slice_index_or, Err};
+ghost use Rattle.std.specs.Prelude.{IsTrue, length, slice_get, slice_set, Some};
 ghost use Rattle.std.specs.Arc.{arc_value};
 ghost use Rattle.std.specs.Option.{option_map};
 ghost use Rattle.lists.specs.Prelude.{most_events, most_in_block, most_processors};
@@ -9,7 +11,11 @@ ghost use Rattle.vtime.specs.Times.{tick};
 ghost use Rattle.interval.specs.Prelude.{HasRisingPages, between, pushed};
 ghost use Rattle.lockq.specs.Lock.{lock_at};
 ghost use Rattle.transit.specs.Prelude.{letter, grant};
-ghost use Rattle.book.specs.Prelude.{kind_of, brought, WasBookCut, MayFlush, MayCall, MayAsk, MayRelease, IsOpen, MayBeSent, MayTakeSome, new_book, handed_in, handed_last, open_interval, closed_by, if_free, grant_from, barrier_left, flag_joined, book_watched, book_set, book_asked, book_released, book_arrived, departures_to, Takes, IsFullAt, IsWantOfRoom, time_of, IsTold};
+ghost use Rattle.book.specs.Prelude.{kind_of, brought, WasBookCut, MayFlush, MayCall, MayAsk, MayRelease, IsOpen};
+ghost use Rattle.book.specs.Prelude.{MayBeSent, MayTakeSome, new_book, handed_in, handed_last, open_interval};
+ghost use Rattle.book.specs.Prelude.{closed_by, if_free, grant_from, barrier_left, flag_joined, book_watched};
+ghost use Rattle.book.specs.Prelude.{book_set, book_asked, book_released, book_arrived, departures_to, Takes};
+ghost use Rattle.book.specs.Prelude.{IsFullAt, IsWantOfRoom, time_of, IsTold};
 
 mod opening;
 mod pending;
@@ -278,7 +284,8 @@ impl Protocol {
         requires all { (r : ℕ) → r < length self.now.times
             → MayBeSent self.now.closed (slice_set self.now.times interval.now.owner own.now) r }
         ensures { IfOk result (λ o. option_map (λ ms. map letter ms.items) o ≡ departures_to
-            (pushed self.now.closed interval.now) self.now.barrier (slice_set self.now.times interval.now.owner own.now) interval.now.owner own.now) }
+            (pushed self.now.closed interval.now) self.now.barrier
+            (slice_set self.now.times interval.now.owner own.now) interval.now.owner own.now) }
     {
         let barrier = &self.barrier;
         let is_last = barrier.completes(interval.owner);

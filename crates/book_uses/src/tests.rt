@@ -227,6 +227,17 @@ fn copy_of(told: &mut Told, alloc: Global, p: usize, loads: usize) -> Result<Jou
     }
 }
 
+/// Whether an audit of `p` answers a journal with these events left.
+fn audit_has(
+    told: &mut Told,
+    alloc: Global,
+    p: usize,
+    loads: usize,
+    wanted: &[Event],
+) -> Result<bool, Refused> {
+    Ok(has_events(&copy_of(told, alloc, p, loads)?, wanted))
+}
+
 fn name_of(message: &Message) -> &'static str {
     match message {
         Message::Grant { .. } => "grant",

@@ -1,5 +1,6 @@
 //! A book with the history that tells it.
-ghost use Rattle.std.specs.Prelude.{◌≡◌, ◌<◌, ◌≤◌, ◌*◌, ◌^◌, ◌++◌, ◌∷◌, [], ◌↔◌, IfErr, IfOk, IfSome, OnOk, OnErr, IsTrue, Some, None, length, map, count_by, slice_get};
+ghost use Rattle.std.specs.Prelude.{◌≡◌, ◌<◌, ◌≤◌, ◌*◌, ◌^◌, ◌++◌, ◌∷◌, [], ◌↔◌, IfErr, IfOk, IfSome, OnOk, OnErr};
+ghost use Rattle.std.specs.Prelude.{IsTrue, Some, None, length, map, count_by, slice_get};
 ghost use Rattle.std.specs.Arc.{arc_value};
 ghost use Rattle.journal.specs.Prelude.{event, did, WasCut, IsCutFault};
 ghost use Rattle.journal.specs.declared.event.Kind.{Kind as AKind};

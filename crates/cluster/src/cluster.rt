@@ -1,5 +1,6 @@
 //! Clusters.
-ghost use Rattle.std.specs.Prelude.{◌≡◌, ◌≢◌, ◌⊎◌, ◌↔◌, ◌^◌, ◌≤◌, ◌<◌, Err, IfErr, IfOk, IsTrue, ℕ, List, [], length, vec_len, vec_capacity, slice_get, Some};
+ghost use Rattle.std.specs.Prelude.{◌≡◌, ◌≢◌, ◌⊎◌, ◌↔◌, ◌^◌, ◌≤◌, ◌<◌, Err, IfErr, IfOk, IsTrue, ℕ, List, [], length};
+ghost use Rattle.std.specs.Prelude.{vec_len, vec_capacity, slice_get, Some};
 ghost use Rattle.replicas.specs.Prelude.{AreSizes};
 ghost use Rattle.cluster.specs.Prelude.{AreParts, AreNewChairs, AreSeated, AreNew, AreCovered};
 

@@ -1,13 +1,17 @@
 //! Processors.
-ghost use Rattle.std.specs.Prelude.{◌≡◌, ◌<◌, ◌+◌, ◌/◌, ◌%◌, ◌++◌, ◌∷◌, [], OnErr, OnOk, IfOk, Some, false, true, length, map, replicate, slice_index_or};
+ghost use Rattle.std.specs.Prelude.{◌≡◌, ◌<◌, ◌+◌, ◌/◌, ◌%◌, ◌++◌, ◌∷◌, [], OnErr, OnOk, IfOk, Some, false, true};
+ghost use Rattle.std.specs.Prelude.{length, map, replicate, slice_index_or};
 ghost use Rattle.std.specs.Arc.{arc_value};
 ghost use Rattle.std.specs.Option.{option_map};
 ghost use Rattle.std.specs.Result.{result_err};
 ghost use Rattle.lists.specs.Prelude.{most_in_block};
 ghost use Rattle.turn.specs.Prelude.{lock};
 ghost use Rattle.journal.specs.Prelude.{event, is_closing};
-ghost use Rattle.replicas.specs.Prelude.{blank, DirtyAreMarked, cleaned, AreSizes, calls, noted, new_local, AreHarvests};
-ghost use Rattle.cluster.specs.Prelude.{AreParts, IsNewChair, page_of, has_valid, is_waiting, access_refusal, fetch_refusal, event_refusal, arrive_test, ask_test, release_test, flag_test, take_test, closing_test, HasWord, IsStored, IsFetched, Covers, IsApart};
+ghost use Rattle.replicas.specs.Prelude.{blank, DirtyAreMarked, cleaned, AreSizes, calls, noted, new_local};
+ghost use Rattle.replicas.specs.Prelude.{AreHarvests};
+ghost use Rattle.cluster.specs.Prelude.{AreParts, IsNewChair, page_of, has_valid, is_waiting, access_refusal};
+ghost use Rattle.cluster.specs.Prelude.{fetch_refusal, event_refusal, arrive_test, ask_test, release_test, flag_test};
+ghost use Rattle.cluster.specs.Prelude.{take_test, closing_test, HasWord, IsStored, IsFetched, Covers, IsApart};
 
 use crate::keeper::Rule;
 use crate::shape::Shape;

@@ -8,7 +8,9 @@ use Rattle.cluster.specs.Clusters.{Shared}
 use Rattle.book.specs.declared.refused.Refused.{Refused}
 use Rattle.cluster_bench.specs.Owned.{AreOf}
 
-pub own_set : (c : Shared) (ms : List Local) (p : ℕ) (m : Local) → AreOf c ms → m.lock ≡ c.lock → AreOf c (slice_set ms p m)
+-- the processors of a cluster, where one of them is another of it
+pub own_set : (c : Shared) (ms : List Local) (p : ℕ) (m : Local) → AreOf c ms → m.lock ≡ c.lock
+    → AreOf c (slice_set ms p m)
 own_set c ms p m all own q n at = elim (cases_eq q p) [
   | inl is ↦ (let P : ℕ → Type 0 = λ k. slice_get (slice_set ms p m) k ≡ Some n in
       let here = slice_get-set_found ms p m n (subst P is at) in
@@ -17,7 +19,7 @@ own_set c ms p m all own q n at = elim (cases_eq q p) [
 ]
 
 -- a store, refused or not, leaves the chair
-pub stored_lock : {A : Type 0} (old new : Local) (a v : ℕ) (r : Result A Refused) → OnOk r (IsStored old a v new) → OnErr r (new ≡ old)
-    → new.lock ≡ old.lock
+pub stored_lock : {A : Type 0} (old new : Local) (a v : ℕ) (r : Result A Refused)
+    → OnOk r (IsStored old a v new) → OnErr r (new ≡ old) → new.lock ≡ old.lock
 stored_lock old new a v (Ok x) stored same = ap (λ (m : Local). m.lock) stored.after
 stored_lock old new a v (Err e) stored same = ap (λ (m : Local). m.lock) same

@@ -12,18 +12,23 @@ use Rattle.cluster.specs.Clusters.{Shared}
 use Rattle.cluster.specs.Finishing.{AreAllOf}
 use Rattle.cluster_uses.specs.Crews.{IsOf, IsMember, AreMembers, HaveSameCalls}
 
-pub members_set : (c : Shared) (ms : List Local) (p : ℕ) (m : Local) → AreMembers c ms → IsMember c p m → AreMembers c (slice_set ms p m)
+-- the processors, where one of them is another
+pub members_set : (c : Shared) (ms : List Local) (p : ℕ) (m : Local) → AreMembers c ms → IsMember c p m
+    → AreMembers c (slice_set ms p m)
 members_set c ms p m all own = record { all = length-set ms p m ∙ all.all; each = each }
   where
     each : (q : ℕ) (n : Local) → slice_get (slice_set ms p m) q ≡ Some n → IsMember c q n
     each q n at = elim (cases_eq q p) [
-      | inl is ↦ (let P : ℕ → Type 0 = λ k. slice_get (slice_set ms p m) k ≡ Some n in let here = slice_get-set_found ms p m n (subst P is at) in let Q : ℕ → Type 0 = λ k. IsMember c k n in subst Q (sym is) (subst (λ x. IsMember c p x) here own))
+      | inl is ↦ (let P : ℕ → Type 0 = λ k. slice_get (slice_set ms p m) k ≡ Some n in
+          let here = slice_get-set_found ms p m n (subst P is at) in
+          let Q : ℕ → Type 0 = λ k. IsMember c k n in
+          subst Q (sym is) (subst (λ x. IsMember c p x) here own))
       | inr isnt ↦ all.each q n (sym (slice_get-set_other ms p q m isnt) ∙ at)
     ]
 
 -- where a call on p is refused, all calls are as they were
-pub same_calls : {A : Type 0} (r : Result A Refused) (ms : List Local) (p : ℕ) (old new : Local) → slice_get ms p ≡ Some old
-    → (result_err r ≢ None → calls new ≡ calls old) → OnErr r (HaveSameCalls ms (slice_set ms p new))
+pub same_calls : {A : Type 0} (r : Result A Refused) (ms : List Local) (p : ℕ) (old new : Local)
+    → slice_get ms p ≡ Some old → (result_err r ≢ None → calls new ≡ calls old) → OnErr r (HaveSameCalls ms (slice_set ms p new))
 same_calls (Ok x) ms p old new found same = tt
 same_calls (Err e) ms p old new found same = each
   where
@@ -41,8 +46,10 @@ same_calls (Err e) ms p old new found same = each
     ]
 
 -- the same of results and jobs that are read by their places
-pub all_back : {A : Type 0} (c : Shared) (jobs : List Local) (results : List (Local × A)) → AreMembers c jobs → length results ≡ length jobs
-    → ((k : ℕ) (r : Local × A) → k < length jobs → (job : Local) × (job ≡ get_or jobs k job) × IsOf c (get_or results k r).0 × ((get_or results k r).0.number ≡ job.number))
+pub all_back : {A : Type 0} (c : Shared) (jobs : List Local) (results : List (Local × A))
+    → AreMembers c jobs → length results ≡ length jobs
+    → ((k : ℕ) (r : Local × A) → k < length jobs → (job : Local) × (job ≡ get_or jobs k job)
+    × IsOf c (get_or results k r).0 × ((get_or results k r).0.number ≡ job.number))
     → AreMembers c (map (λ r. r.0) results)
 all_back {A} c jobs results all long gives = record {
   all = length-map results (λ r. r.0) ∙ (long ∙ all.all);
@@ -57,8 +64,11 @@ all_back {A} c jobs results all long gives = record {
       subst (λ (n : Local). IsMember c p n) r.2 (subst (λ (x : Local × A). IsMember c p x.0) same here);
 }
 
+-- what finishing asks of them
 pub all_of : (c : Shared) (ms : List Local) → AreMembers c ms → AreAllOf c ms
 all_of c ms all = record {
   all = all.all;
-  each = λ p m at. let own = all.each p m at in record { lock = own.of.lock_is; number = own.number_is; sizes = own.of.sizes_are };
+  each = λ p m at.
+      let own = all.each p m at in
+      record { lock = own.of.lock_is; number = own.number_is; sizes = own.of.sizes_are };
 }

@@ -1,8 +1,11 @@
 //! The closed intervals of all owners.
-ghost use Rattle.std.specs.Prelude.{◌≡◌, ℕ, ◌+◌, ◌-◌, ◌^◌, ◌<◌, ◌≤◌, ◌==◌, MatchOption, OnOk, OnErr, IfOk, List, replicate, [], ◌∷◌, length, find, filter, count_by, slice_get, slice_index, EachIndex, map};
+ghost use Rattle.std.specs.Prelude.{◌≡◌, ℕ, ◌+◌, ◌-◌, ◌^◌, ◌<◌, ◌≤◌, ◌==◌, MatchOption, OnOk, OnErr, IfOk, List};
+ghost use Rattle.std.specs.Prelude.{replicate, [], ◌∷◌, length, find, filter, count_by, slice_get, slice_index};
+ghost use Rattle.std.specs.Prelude.{EachIndex, map};
 ghost use Rattle.std.specs.Option.{option_copied};
 ghost use Rattle.vtime.specs.Times.{tick};
-ghost use Rattle.interval.specs.Prelude.{HasRisingPages, IsInClosingOrder, pushed, trimmed, is_news, between, is_of_page, record_of, AreAll};
+ghost use Rattle.interval.specs.Prelude.{HasRisingPages, IsInClosingOrder, pushed, trimmed, is_news, between};
+ghost use Rattle.interval.specs.Prelude.{is_of_page, record_of, AreAll};
 
 use crate::kept::{Interval, Kept};
 use crate::notice::{Notice, Sent};
@@ -208,6 +211,3 @@ impl Closed {
         self.queues[owner].trim(to);
     }
 }
-
-#[cfg(test)]
-mod tests;

@@ -1,7 +1,9 @@
 //! The timestamps that a journal's events give, an event at a time.
-ghost use Rattle.std.specs.Prelude.{◌≡◌, ◌↔◌, ℕ, ◌+◌, ◌-◌, ◌<◌, ◌≤◌, ◌^◌, ◌==◌, ◌&&◌, [], IsTrue, EachIndex, IfOk, OnOk, cond, max, length, take, slice_get, slice_index, vec_len, true};
+ghost use Rattle.std.specs.Prelude.{◌≡◌, ◌↔◌, ℕ, ◌+◌, ◌-◌, ◌<◌, ◌≤◌, ◌^◌, ◌==◌, ◌&&◌, [], IsTrue, EachIndex, IfOk};
+ghost use Rattle.std.specs.Prelude.{OnOk, cond, max, length, take, slice_get, slice_index, vec_len, true};
 ghost use Rattle.lists.specs.Prelude.{most_held, most_processors};
-ghost use Rattle.journal.specs.Prelude.{is_closing, is_taking, is_arrive, is_depart, ProcessorsInRange, entry, brought_entry, Keeps, AreClocks};
+ghost use Rattle.journal.specs.Prelude.{is_closing, is_taking, is_arrive, is_depart, ProcessorsInRange, entry};
+ghost use Rattle.journal.specs.Prelude.{brought_entry, Keeps, AreClocks};
 
 use crate::clock::{Clock, clock_in, join, join_in, tick, zeros};
 use crate::event::{Event, Kind};

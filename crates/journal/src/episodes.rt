@@ -1,5 +1,6 @@
 //! Where a journal is cut: at the last arrival of its last complete episode.
-ghost use Rattle.std.specs.Prelude.{◌≡◌, ◌↔◌, ℕ, ◌+◌, ◌<◌, ◌≤◌, ◌^◌, ◌==◌, ◌&&◌, IsTrue, EachIndex, MatchOption, cond, length, slice_index};
+ghost use Rattle.std.specs.Prelude.{◌≡◌, ◌↔◌, ℕ, ◌+◌, ◌<◌, ◌≤◌, ◌^◌, ◌==◌, ◌&&◌, IsTrue, EachIndex, MatchOption};
+ghost use Rattle.std.specs.Prelude.{cond, length, slice_index};
 ghost use Rattle.lists.specs.Prelude.{most_held, most_processors};
 ghost use Rattle.journal.specs.Prelude.{is_arrive, ProcessorsInRange, IsCut, NoCut};
 

@@ -1,7 +1,11 @@
 //! The journal: a list of events with room for more.
-ghost use Rattle.std.specs.Prelude.{drop, vec_len, vec_capacity, ◌+◌, ◌≡◌, ◌-◌, ◌^◌, ◌<◌, ◌≤◌, ◌++◌, ◌∷◌, [], ◌↔◌, IfOk, IfErr, OnOk, OnErr, IfSome, IsSome, IsTrue, MatchOption, length, replicate, max, option_copied, slice_get, take};
+ghost use Rattle.std.specs.Prelude.{drop, vec_len, vec_capacity, ◌+◌, ◌≡◌, ◌-◌, ◌^◌, ◌<◌, ◌≤◌, ◌++◌, ◌∷◌, [], ◌↔◌};
+ghost use Rattle.std.specs.Prelude.{IfOk, IfErr, OnOk, OnErr, IfSome, IsSome, IsTrue, MatchOption, length, replicate};
+ghost use Rattle.std.specs.Prelude.{max, option_copied, slice_get, take};
 ghost use Rattle.lists.specs.Prelude.{most_held, most_processors, most_cut};
-ghost use Rattle.journal.specs.Prelude.{AddressInRange, AddressesInRange, new_log, ExplainedFrom, Replays, memory_after, RaceFreeFrom, IsFirstRaceFrom, WasCut, IsCutFault, messages, records, words, IsOpening};
+ghost use Rattle.journal.specs.Prelude.{AddressInRange, AddressesInRange, new_log, ExplainedFrom, Replays};
+ghost use Rattle.journal.specs.Prelude.{memory_after, RaceFreeFrom, IsFirstRaceFrom, WasCut, IsCutFault, messages};
+ghost use Rattle.journal.specs.Prelude.{records, words, IsOpening};
 
 use crate::cut::CutFault;
 use crate::episodes::last_episode;

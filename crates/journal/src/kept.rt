@@ -1,7 +1,9 @@
 //! What a journal keeps of the events that were cut off.
 ghost use Rattle.std.specs.Prelude.{◌≡◌, ◌+◌, ◌*◌, ◌^◌, ◌<◌, ◌≤◌, [], IfOk, OnOk, length, vec_len};
 ghost use Rattle.lists.specs.Prelude.{most_cut, wrote};
-ghost use Rattle.journal.specs.Prelude.{flat_write, AddressInRange, AddressesInRange, messages_of, records_of, words_of, no_base, IsBaseAfter, base_of, AreCosts, IsKept, without, held_after, set_after, IsKeptAfter};
+ghost use Rattle.journal.specs.Prelude.{flat_write, AddressInRange, AddressesInRange, messages_of, records_of};
+ghost use Rattle.journal.specs.Prelude.{words_of, no_base, IsBaseAfter, base_of, AreCosts, IsKept, without};
+ghost use Rattle.journal.specs.Prelude.{held_after, set_after, IsKeptAfter};
 
 use crate::event::{Event, Kind};
 use crate::traffic::{Traffic, cost_of};

@@ -1,6 +1,7 @@
 //! The laws of what is left after a cut, as contracts of functions that do nothing: the check proves
 //! each by its name.
-ghost use Rattle.journal.specs.Prelude.{SameLaw, WellFormedLaw, FlatLaw, CopyLaw, CutLaw, UncutLaw, WholeLaw, HistoryLaw};
+ghost use Rattle.journal.specs.Prelude.{SameLaw, WellFormedLaw, FlatLaw, CopyLaw, CutLaw, UncutLaw, WholeLaw};
+ghost use Rattle.journal.specs.Prelude.{HistoryLaw};
 
 /// What was cut off happens before all that is left, of which order, pasts, races and explained loads are
 /// the same, read from the history or from the base.

@@ -1,8 +1,12 @@
 //! The first race of a journal, by vector timestamps (Mattern 1989; Fidge 1988) and by the last accesses of
 //! each address (FastTrack: Flanagan and Freund 2009).
-ghost use Rattle.std.specs.Prelude.{◌≡◌, ◌≢◌, ◌↔◌, ◌==◌, ℕ, ◌+◌, ◌<◌, ◌≤◌, ◌^◌, ◌%◌, [], IsTrue, IfOk, MatchOption, cond, Some, length, take, slice_get, slice_index, vec_len};
+ghost use Rattle.std.specs.Prelude.{◌≡◌, ◌≢◌, ◌↔◌, ◌==◌, ℕ, ◌+◌, ◌<◌, ◌≤◌, ◌^◌, ◌%◌, [], IsTrue, IfOk, MatchOption};
+ghost use Rattle.std.specs.Prelude.{cond, Some, length, take, slice_get, slice_index, vec_len};
 ghost use Rattle.lists.specs.Prelude.{most_held, most_processors};
-ghost use Rattle.journal.specs.Prelude.{address_of, is_closing, IsTimeOf, Conflict, Race, IsFirstRace, RaceFree, AddressInRange, AddressesInRange, ProcessorsInRange, entry, epoch_entry, loads_entry, AreWithin, AreLoadsAfter, AreAccesses, ConflictsAreCounted, IsNoted};
+ghost use Rattle.journal.specs.Prelude.{address_of, is_closing, IsTimeOf, Conflict, Race, IsFirstRace, RaceFree};
+ghost use Rattle.journal.specs.Prelude.{AddressInRange, AddressesInRange, ProcessorsInRange, entry, epoch_entry};
+ghost use Rattle.journal.specs.Prelude.{loads_entry, AreWithin, AreLoadsAfter, AreAccesses, ConflictsAreCounted};
+ghost use Rattle.journal.specs.Prelude.{IsNoted};
 
 use crate::clock::{Clock, others_are_within, tick, zeros};
 use crate::clocks::Clocks;

@@ -1,7 +1,8 @@
 //! Replay on one flat memory.
 ghost use Rattle.std.specs.Prelude.{◌≡◌, ◌↔◌, IfOk, IfSome, IsSome, IsTrue, length};
 ghost use Rattle.lists.specs.Prelude.{wrote};
-ghost use Rattle.journal.specs.Prelude.{Replays, memory_after, flat_write, AnswersWord, AddressInRange, AddressesInRange};
+ghost use Rattle.journal.specs.Prelude.{Replays, memory_after, flat_write, AnswersWord, AddressInRange};
+ghost use Rattle.journal.specs.Prelude.{AddressesInRange};
 
 use crate::event::{Event, Kind};
 use std::alloc::{AllocError, Global};

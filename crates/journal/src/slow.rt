@@ -1,7 +1,9 @@
 //! Happens-before and races straight from their definitions: small, plain and slow. What faster
 //! programs answer is compared with it, of whole journals too.
-ghost use Rattle.std.specs.Prelude.{◌||◌, ◌==◌, List, false, slice_index_or, ◌≡◌, ◌↔◌, ℕ, ◌+◌, ◌<◌, ◌≤◌, IsTrue, IfOk, Some, true, length, take, slice_get, vec_len};
-ghost use Rattle.journal.specs.Prelude.{is_arrive, is_depart, count_of, LetsThrough, Edge, HappensBefore, Conflict, Race, IsRow, AreRows, IsTable};
+ghost use Rattle.std.specs.Prelude.{◌||◌, ◌==◌, List, false, slice_index_or, ◌≡◌, ◌↔◌, ℕ, ◌+◌, ◌<◌, ◌≤◌, IsTrue};
+ghost use Rattle.std.specs.Prelude.{IfOk, Some, true, length, take, slice_get, vec_len};
+ghost use Rattle.journal.specs.Prelude.{is_arrive, is_depart, count_of, LetsThrough, Edge, HappensBefore, Conflict};
+ghost use Rattle.journal.specs.Prelude.{Race, IsRow, AreRows, IsTable};
 
 use crate::event::{Event, Kind};
 use crate::kinds::{arrives, departs};

@@ -3,6 +3,7 @@ ghost use Rattle.std.specs.Prelude.{◌<◌};
 
 mod endings;
 mod rows;
+mod words;
 
 use crate::program::program;
 use lrc_words::options::Options;

@@ -2,7 +2,9 @@
 ghost use Rattle.std.specs.Prelude.{◌≡◌, ◌≤◌, ◌<◌, ◌+◌, ◌^◌, ◌++◌, codes, length};
 ghost use Rattle.std.specs.Fmt.{decimal};
 ghost use Rattle.std.specs.List.{flat_map};
-ghost use Rattle.lrc_report.specs.Prelude.{word_line, verdict_line, traffic_line, cut_line, kind_text, event_line, event_lines, summary_text, left_text, journal_text, report_text, Writes, Takes, most_kind};
+ghost use Rattle.lrc_report.specs.Prelude.{word_line, verdict_line, traffic_line, cut_line, kind_text, event_line};
+ghost use Rattle.lrc_report.specs.Prelude.{event_lines, summary_text, left_text, journal_text, report_text, Writes};
+ghost use Rattle.lrc_report.specs.Prelude.{Takes, most_kind};
 
 use crate::line::Line;
 use crate::pending::Pending;

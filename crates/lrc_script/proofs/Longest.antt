@@ -107,7 +107,8 @@ sections_length s small k (is ∷ sections) few each =
       length-append (line_text (section_line k))
           (flat_map line_text (map instruction_line is ++ section_lines (suc k) sections)),
       ap length (flat_map-append line_text (map instruction_line is) (section_lines (suc k) sections)),
-      length-append (flat_map line_text (map instruction_line is)) (flat_map line_text (section_lines (suc k) sections)),
+      length-append (flat_map line_text (map instruction_line is))
+          (flat_map line_text (section_lines (suc k) sections)),
       head_length k (omega (arith, few)),
       instructions_length s small is each.0,
       sections_length s small (suc k) sections (omega (arith, few)) each.1,

@@ -1,7 +1,8 @@
 //! The text of a script.
 ghost use Rattle.std.specs.Prelude.{Some, ◌++◌, ◌∷◌, [], map};
 ghost use Rattle.std.specs.List.{flat_map};
-ghost use Rattle.lrc_script.specs.Prelude.{plan_of, spaced, line_bytes, line_text, cluster_line, section_line, instruction_line, section_lines, show_line, text};
+ghost use Rattle.lrc_script.specs.Prelude.{plan_of, spaced, line_bytes, line_text, cluster_line, section_line};
+ghost use Rattle.lrc_script.specs.Prelude.{instruction_line, section_lines, show_line, text};
 
 use crate::script::{Instruction, Script};
 use std::fmt;

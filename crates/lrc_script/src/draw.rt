@@ -1,7 +1,9 @@
 //! Scripts drawn from a generator, to run under many schedules.
 ghost use Rattle.std.specs.Prelude.{◌≡◌, ◌+◌, ◌*◌, ◌<◌, ◌≤◌, ◌++◌, IfOk, OnOk};
 ghost use Rattle.std.specs.List.{range_with_len};
-ghost use Rattle.lrc_script.specs.Prelude.{items_of, plan_of, IsLawful, below, shape, group, access, item, piece, pieces, most_pieces, phase, more_phases, section, drawn_sections, drawn, seeded, IsShape};
+ghost use Rattle.lrc_script.specs.Prelude.{items_of, plan_of, IsLawful, below, shape, group, access, item, piece};
+ghost use Rattle.lrc_script.specs.Prelude.{pieces, most_pieces, phase, more_phases, section, drawn_sections, drawn};
+ghost use Rattle.lrc_script.specs.Prelude.{seeded, IsShape};
 ghost use Rattle.lrc_script.specs.declared.draw.Style.TheVariants as style;
 
 use crate::script::{Instruction, Script};

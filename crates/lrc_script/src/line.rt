@@ -1,7 +1,8 @@
 //! One line of a script: a keyword, and numbers with one space before each.
 ghost use Rattle.std.specs.Prelude.{◌≡◌, ℕ, ◌<◌, List, ◌∷◌, [], length, IfSome, IfNone, MatchOption};
 ghost use Rattle.std.specs.List.{list_all};
-ghost use Rattle.lrc_script.specs.Prelude.{HasNoLineFeed, Gives, IsCut, parts_of, parts_left, has_bytes, keyword_of, sum_of_digits, number_of, few_items, numbers_after};
+ghost use Rattle.lrc_script.specs.Prelude.{HasNoLineFeed, Gives, IsCut, parts_of, parts_left, has_bytes, keyword_of};
+ghost use Rattle.lrc_script.specs.Prelude.{sum_of_digits, number_of, few_items, numbers_after};
 
 use crate::fault::ScriptFault;
 use smallvec::SmallVec;

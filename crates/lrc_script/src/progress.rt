@@ -1,7 +1,10 @@
 //! How far a script is read, and what each line adds.
 ghost use Rattle.std.specs.Prelude.{◌≡◌, ℕ, ◌≤◌, ◌<◌, nat_le, [], length, Some, IfOk, IfErr, OnOk, IfSome, IfNone};
 ghost use Rattle.std.specs.List.{list_any};
-ghost use Rattle.lrc_script.specs.Prelude.{Plan, plan_of, IsBegun, Headed, Within, Whole, addresses, Gives, Fails, Goes, IsOther, front_of, is_due, takes, are_sizes, headed, first_section, next_section, ended, instruction_of, is_past, refusal, with_instruction, step, after_numbers, after};
+ghost use Rattle.lrc_script.specs.Prelude.{Plan, plan_of, IsBegun, Headed, Within, Whole, addresses, Gives, Fails};
+ghost use Rattle.lrc_script.specs.Prelude.{Goes, IsOther, front_of, is_due, takes, are_sizes, headed, first_section};
+ghost use Rattle.lrc_script.specs.Prelude.{next_section, ended, instruction_of, is_past, refusal, with_instruction};
+ghost use Rattle.lrc_script.specs.Prelude.{step, after_numbers, after};
 
 use crate::fault::ScriptFault;
 use crate::line::{Keyword, few_numbers, is_separated, number_count, read_numbers, split_at_byte};

@@ -6,10 +6,8 @@
 //! **What is proved.** Where `options` answers options, the words give them; where it answers a fault, they have one of
 //! that kind, or memory ran out.
 //!
-//! **What is only tested.** The texts of faults and help.
+//! **What is only tested**, in `lrc`. The texts of faults and help.
 #![tactic(auto)]
 
 pub mod options;
-#[cfg(test)]
-mod tests;
 pub mod words;

@@ -4,7 +4,9 @@ ghost use Rattle.std.specs.Option.{option_map_or};
 ghost use Rattle.std.specs.Str.{bytes_eq};
 ghost use Rattle.clap.specs.Words.{app_of, rule_of, first_of, one_of, rows_of, found_of};
 ghost use Rattle.clap.specs.declared.builder.command.Command.TheViews.{out-Command};
-ghost use Rattle.lrc_words.specs.Words.{tries_rule, seed_rule, lock_rule, journal_rule, script_app, lrc_app, IsNumberRead, IsNumberGiven, IsSeedGiven, IsFlagGiven, AreOptionsOf, AreGiven, IsRefusedBy, most_tries, default_tries};
+ghost use Rattle.lrc_words.specs.Words.{tries_rule, seed_rule, lock_rule, journal_rule, script_app, lrc_app};
+ghost use Rattle.lrc_words.specs.Words.{IsNumberRead, IsNumberGiven, IsSeedGiven, IsFlagGiven, AreOptionsOf};
+ghost use Rattle.lrc_words.specs.Words.{AreGiven, IsRefusedBy, most_tries, default_tries};
 ghost use Rattle.clap.specs.declared.builder.value_parser.ValueParser.TheVariants as vp;
 
 use crate::options::{DEFAULT_TRIES, Options};

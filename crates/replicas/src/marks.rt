@@ -1,5 +1,6 @@
 //! Sets of small numbers.
-ghost use Rattle.std.specs.Prelude.{◌≡◌, ◌<◌, ◌↔◌, IsTrue, IfSome, IfNone, Some, true, false, replicate, slice_get, slice_set};
+ghost use Rattle.std.specs.Prelude.{◌≡◌, ◌<◌, ◌↔◌, IsTrue, IfSome, IfNone, Some, true, false, replicate, slice_get};
+ghost use Rattle.std.specs.Prelude.{slice_set};
 ghost use Rattle.page.specs.Prelude.{marks_of};
 ghost use Rattle.replicas.specs.Prelude.{IsFirstMark, HasNoMark};
 

@@ -1,5 +1,6 @@
 //! A processor's copy of a page, with the records that it lacks.
-ghost use Rattle.std.specs.Prelude.{◌≡◌, ◌<◌, ◌≤◌, ◌^◌, Some, None, Ok, IfOk, IfSome, IfNone, OnOk, [], ◌∷◌, ◌+◌, length, map, slice_get, sum_by};
+ghost use Rattle.std.specs.Prelude.{◌≡◌, ◌<◌, ◌≤◌, ◌^◌, Some, None, Ok, IfOk, IfSome, IfNone, OnOk, [], ◌∷◌, ◌+◌};
+ghost use Rattle.std.specs.Prelude.{length, map, slice_get, sum_by};
 ghost use Rattle.std.specs.Option.{option_map};
 ghost use Rattle.lists.specs.Prelude.{records_applied, Has};
 ghost use Rattle.journal.specs.Prelude.{HasCount, InClosingOrder};
@@ -7,7 +8,9 @@ ghost use Rattle.page.specs.Prelude.{IsHarvest, IsClean};
 ghost use Rattle.page.specs.declared.pages.Access.TheVariants.{Valid, Invalid};
 ghost use Rattle.interval.specs.Prelude.{SentRecord};
 ghost use Rattle.book.specs.Prelude.{missing_of};
-ghost use Rattle.replicas.specs.Prelude.{AllFit, IsOwner, IsPlaceAmong, may_use, words_if, words_of, AreCountable, fetched, written_at, zeros, IsAfterNews, IsSameCopy, MayLack, cleaned, AreCounts};
+ghost use Rattle.replicas.specs.Prelude.{AllFit, IsOwner, IsPlaceAmong, may_use, words_if, words_of, AreCountable};
+ghost use Rattle.replicas.specs.Prelude.{fetched, written_at, zeros, IsAfterNews, IsSameCopy, MayLack, cleaned};
+ghost use Rattle.replicas.specs.Prelude.{AreCounts};
 
 use crate::marks::Marks;
 use interval::Sent;

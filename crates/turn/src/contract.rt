@@ -1,6 +1,7 @@
 //! The contract of the lock round the book.
 ghost use Rattle.std.specs.Prelude.{◌≡◌, ℕ, List, ◌+◌, ◌*◌, ◌^◌, ◌<◌, ◌≤◌, length, map, replicate, IfOk, IfErr};
-ghost use Rattle.turn.specs.Prelude.{LockId, lock, place, view, entries, IsOutside, IsInside, IsSameChair, AreFresh, AreAll, Stands, MayHandIn};
+ghost use Rattle.turn.specs.Prelude.{LockId, lock, place, view, entries, IsOutside, IsInside, IsSameChair, AreFresh};
+ghost use Rattle.turn.specs.Prelude.{AreAll, Stands, MayHandIn};
 
 use crate::chair::{Chair, Held, Spent};
 use std::alloc::{AllocError, Global};
@@ -39,7 +40,8 @@ pub trait Outcome<B, V> {
 /// one of this crate's locks.
 pub trait Turn<B, K: Keeper<B>>: Sized + Sync {
     ghost use Rattle.std.specs.Prelude.{◌≡◌, ℕ, ◌+◌, ◌*◌, ◌^◌, ◌<◌, ◌≤◌, length, map, replicate, IfOk, IfErr};
-    ghost use Rattle.turn.specs.Chairs.{LockId, lock, place, view, entries, IsOutside, IsInside, IsSameChair, AreFresh, AreAll, Stands, MayHandIn};
+    ghost use Rattle.turn.specs.Chairs.{LockId, lock, place, view, entries, IsOutside, IsInside, IsSameChair};
+    ghost use Rattle.turn.specs.Chairs.{AreFresh, AreAll, Stands, MayHandIn};
 
     /// How often a chair may enter.
     const ENTRIES: u64;

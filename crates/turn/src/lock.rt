@@ -1,5 +1,6 @@
 //! The lock: one text for both boards.
-ghost use Rattle.std.specs.Prelude.{◌≡◌, ℕ, ◌+◌, ◌^◌, ◌<◌, ◌≤◌, true, [], ◌∷◌, map, length, vec_capacity, None, Some, refl};
+ghost use Rattle.std.specs.Prelude.{◌≡◌, ℕ, ◌+◌, ◌^◌, ◌<◌, ◌≤◌, true, [], ◌∷◌, map, length, vec_capacity, None, Some};
+ghost use Rattle.std.specs.Prelude.{refl};
 ghost use Rattle.std.specs.Bool.{OnTrue, OnFalse};
 ghost use Rattle.turn.specs.declared.chair.Stage.TheVariants.{Outside, Waiting, Inside};
 

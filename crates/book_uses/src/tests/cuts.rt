@@ -6,6 +6,20 @@ fn has_base(journal: &Journal, count: u64, words: &[u32]) -> bool {
     journal.cut_events() == count && journal.base() == words
 }
 
+/// Whether an audit of processor 0 answers a journal of which so many events were cut off, with these words and
+/// events left.
+fn audit_left(
+    told: &mut Told,
+    alloc: Global,
+    loads: usize,
+    count: u64,
+    words: &[u32],
+    left: &[Event],
+) -> Result<bool, Refused> {
+    let copy = copy_of(told, alloc, 0, loads)?;
+    Ok(has_events(&copy, left) && has_base(&copy, count, words))
+}
+
 #[test]
 fn a_cut_leaves_what_follows_the_episode(rt: HostRuntime) -> Result<(), Fail> {
     let mut told = opened(rt.alloc(), 2, 1, 2, 0, 0)?;
@@ -33,8 +47,7 @@ fn a_cut_leaves_what_follows_the_episode(rt: HostRuntime) -> Result<(), Fail> {
         did(1, Kind::Arrive),
         did(0, Kind::Load(0, 0)),
     ];
-    let copy = copy_of(&mut told, rt.alloc(), 0, 1)?;
-    assert!(rt; has_events(&copy, &left) && has_base(&copy, 3, &[5, 0]));
+    assert!(rt; audit_left(&mut told, rt.alloc(), 1, 3, &[5, 0], &left)?);
     go(
         &mut told,
         &rt,
@@ -112,8 +125,7 @@ fn what_waits_goes_on_after_a_cut(rt: HostRuntime) -> Result<(), Fail> {
         did(2, Kind::Depart),
         did(2, Kind::Watch(1)),
     ];
-    let copy = copy_of(&mut told, rt.alloc(), 0, 0)?;
-    assert!(rt; has_events(&copy, &left) && has_base(&copy, 8, &[5, 6]));
+    assert!(rt; audit_left(&mut told, rt.alloc(), 0, 8, &[5, 6], &left)?);
     after_cut(&mut told, &rt)?;
     go(
         &mut told,

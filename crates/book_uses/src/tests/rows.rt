@@ -202,9 +202,9 @@ fn an_audit_copies_the_journal(rt: HostRuntime) -> Result<(), Fail> {
         did(0, Kind::Load(0, 0)),
         did(1, Kind::Load(0, 0)),
     ];
-    assert!(rt; has_events(&copy_of(&mut told, rt.alloc(), 0, 2)?, &wanted[..5]));
+    assert!(rt; audit_has(&mut told, rt.alloc(), 0, 2, &wanted[..5])?);
     does(&mut told, rt.alloc(), 1, Last(1), NONE)?;
-    assert!(rt; has_events(&copy_of(&mut told, rt.alloc(), 0, 0)?, &wanted));
+    assert!(rt; audit_has(&mut told, rt.alloc(), 0, 0, &wanted)?);
     assert!(rt; has_events(&told.into_journal(), &wanted));
     Ok(())
 }

@@ -1,5 +1,6 @@
 //! Calls that take what a processor waits for.
-ghost use Rattle.std.specs.Prelude.{◌≡◌, ◌≢◌, ◌↔◌, ◌⊎◌, ◌<◌, ◌≤◌, ◌+◌, Err, IfErr, EachIndex, IfOk, IsOk, OnOk, OnErr, List, [], length, slice_index, vec_len, true};
+ghost use Rattle.std.specs.Prelude.{◌≡◌, ◌≢◌, ◌↔◌, ◌⊎◌, ◌<◌, ◌≤◌, ◌+◌, Err, IfErr, EachIndex, IfOk, IsOk, OnOk};
+ghost use Rattle.std.specs.Prelude.{OnErr, List, [], length, slice_index, vec_len, true};
 ghost use Rattle.std.specs.Result.{result_err};
 ghost use Rattle.lists.specs.Prelude.{most_events};
 ghost use Rattle.journal.specs.Prelude.{is_taking, Sizes, Ready};

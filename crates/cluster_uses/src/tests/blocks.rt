@@ -1,55 +1,82 @@
 //! Processors by themselves: what each call needs of the open block.
+ghost use Rattle.std.specs.Prelude.{◌^◌, ◌≤◌};
 
 use book::{Book, Refused};
 use cluster::{BookLock, Cluster, Processor, Rule, TicketBookLock};
 use std::alloc::Global;
-use std::process::Abort;
 use std::test::Fail;
 use turn::Turn;
 
-/// Stores and loads until the block is full; then every access is refused, the least reason first.
-fn fills_a_block<T: Turn<Book, Rule>>(rt: &impl Abort, p: &mut Processor<T>) {
+/// The last processor of a cluster with so many processors, pages, words, locks and flags.
+fn last_of<T: Turn<Book, Rule> + Drop>(
+    alloc: Global,
+    sizes: [usize; 5],
+) -> Result<Processor<T>, Fail>
+    requires { T.ENTRIES ≤ 2 ^ 40 }
+{
+    let [processors, pages, words, locks, flags] = sizes;
+    let (_cluster, mut all) = Cluster::<T>::new(alloc, processors, pages, words, locks, flags)?;
+    Ok(all.pop().ok_or("there is one")?)
+}
+
+/// Whether 255 stores and a load fill a block.
+fn fills_a_block<T: Turn<Book, Rule>>(p: &mut Processor<T>) -> bool {
     for _ in 0..255 {
-        assert_eq!(rt; p.store(0, 1), Ok(()));
+        if p.store(0, 1) != Ok(()) {
+            return false;
+        }
     }
-    assert_eq!(rt; p.room(), 1);
-    assert_eq!(rt; p.load(0), Ok(1));
-    assert_eq!(rt; p.room(), 0);
-    assert_eq!(rt; p.store(0, 9), Err(Refused::BlockFull));
-    assert_eq!(rt; p.load(0), Err(Refused::BlockFull));
-    assert_eq!(rt; p.fetch(0), Err(Refused::BlockFull));
-    assert_eq!(rt; p.load(1), Err(Refused::OutOfRange));
-    assert_eq!(rt; p.store(1, 1), Err(Refused::OutOfRange));
-    assert_eq!(rt; p.fetch(1), Err(Refused::OutOfRange));
-    assert!(rt; p.is_valid(0) && !p.is_valid(1));
+    p.room() == 1 && p.load(0) == Ok(1) && p.room() == 0
+}
+
+/// Whether it refuses every access where the block is full, the least reason first.
+fn refuses_every_access<T: Turn<Book, Rule>>(p: &mut Processor<T>) -> bool {
+    p.store(0, 9) == Err(Refused::BlockFull)
+        && p.load(0) == Err(Refused::BlockFull)
+        && p.fetch(0) == Err(Refused::BlockFull)
+        && p.load(1) == Err(Refused::OutOfRange)
+        && p.store(1, 1) == Err(Refused::OutOfRange)
+        && p.fetch(1) == Err(Refused::OutOfRange)
+        && p.is_valid(0)
+        && !p.is_valid(1)
 }
 
 #[test]
 fn a_block_has_256_events(rt: HostRuntime) -> Result<(), Fail> {
-    let (_cluster, mut all) = Cluster::<BookLock>::new(rt.alloc(), 1, 1, 1, 0, 0)?;
-    let mut p = all.pop().ok_or("there is one")?;
-    fills_a_block(&rt, &mut p);
-    let (_cluster, mut all) = Cluster::<TicketBookLock>::new(rt.alloc(), 1, 1, 1, 0, 0)?;
-    let mut p = all.pop().ok_or("there is one")?;
-    fills_a_block(&rt, &mut p);
+    let mut p = last_of::<BookLock>(rt.alloc(), [1, 1, 1, 0, 0])?;
+    assert!(rt; fills_a_block(&mut p) && refuses_every_access(&mut p));
+    let mut p = last_of::<TicketBookLock>(rt.alloc(), [1, 1, 1, 0, 0])?;
+    assert!(rt; fills_a_block(&mut p) && refuses_every_access(&mut p));
     Ok(())
+}
+
+/// Whether the third processor of a cluster with two pages has done nothing yet.
+fn is_fresh<T: Turn<Book, Rule>>(p: &Processor<T>) -> bool {
+    p.number() == 2
+        && p.is_valid(0)
+        && p.is_valid(1)
+        && !p.is_valid(2)
+        && !p.holds(0)
+        && !p.holds(1)
+        && !p.waiting()
+        && p.timestamp().entries() == [0, 0, 0].as_slice()
+        && p.page(2).is_none()
+}
+
+/// Whether a store to the last of two pages of four words is seen in that page alone.
+fn stores_in_its_page<T: Turn<Book, Rule>>(p: &mut Processor<T>) -> bool {
+    p.load(7) == Ok(0)
+        && p.store(7, 5) == Ok(())
+        && p.load(7) == Ok(5)
+        && p.page(0) == Some([0, 0, 0, 0].as_slice())
+        && p.page(1) == Some([0, 0, 0, 5].as_slice())
 }
 
 #[test]
 fn a_fresh_processor(rt: HostRuntime) -> Result<(), Fail> {
-    let (_cluster, mut all) = Cluster::<BookLock>::new(rt.alloc(), 3, 2, 4, 1, 0)?;
-    assert_eq!(rt; all.len(), 3);
-    let mut p = all.pop().ok_or("there are three")?;
-    assert_eq!(rt; p.number(), 2);
-    assert!(rt; p.is_valid(0) && p.is_valid(1) && !p.is_valid(2));
-    assert!(rt; !p.holds(0) && !p.holds(1) && !p.waiting());
-    assert!(rt; !p.timestamp().covers(2, 0));
-    assert_eq!(rt; p.page(2), None);
-    assert_eq!(rt; p.load(7), Ok(0));
-    assert_eq!(rt; p.store(7, 5), Ok(()));
-    assert_eq!(rt; p.load(7), Ok(5));
-    assert_eq!(rt; p.page(0), Some([0, 0, 0, 0].as_slice()));
-    assert_eq!(rt; p.page(1), Some([0, 0, 0, 5].as_slice()));
+    let mut p = last_of::<BookLock>(rt.alloc(), [3, 2, 4, 1, 0])?;
+    assert!(rt; is_fresh(&p));
+    assert!(rt; stores_in_its_page(&mut p));
     assert_eq!(rt; p.load(8), Err(Refused::OutOfRange));
     assert_eq!(rt; p.fetch(1), Err(Refused::AlreadyValid));
     assert_eq!(rt; p.fetch(2), Err(Refused::OutOfRange));
@@ -77,12 +104,10 @@ fn sizes_at_their_limits(rt: HostRuntime) {
 
 #[test]
 fn the_largest_cluster(rt: HostRuntime) -> Result<(), Fail> {
-    let (_cluster, mut all) = Cluster::<BookLock>::new(rt.alloc(), 16, 64, 64, 32, 32)?;
-    let mut p = all.pop().ok_or("there are sixteen")?;
-    assert_eq!(rt; p.number(), 15);
+    let mut p = last_of::<BookLock>(rt.alloc(), [16, 64, 64, 32, 32])?;
+    assert!(rt; p.number() == 15 && !p.holds(31));
     assert_eq!(rt; p.store(4095, 7), Ok(()));
     assert_eq!(rt; p.load(4095), Ok(7));
     assert_eq!(rt; p.load(4096), Err(Refused::OutOfRange));
-    assert!(rt; !p.holds(31));
     Ok(())
 }

@@ -28,5 +28,6 @@ entry-zeros xs count is n q = ap (λ ys. entry ys n q) is ∙ elim (cases_lt n c
   | inl lt ↦
       ap (λ (ys : List ℕ). slice_index ys q) (get_or-replicate count n (replicate 16 0) [] lt) ∙ zeros_at 16 q
   | inr le ↦ ap (λ (ys : List ℕ). slice_index ys q)
-      (get_or_past (replicate count (replicate 16 0)) n [] (rw (length-replicate {A = List ℕ} count (replicate 16 0)) le))
+      (get_or_past (replicate count (replicate 16 0)) n []
+      (rw (length-replicate {A = List ℕ} count (replicate 16 0)) le))
 ]

@@ -8,6 +8,10 @@ invariant_of-self c =
     let all = c.args.self.now.all.items in
     let p = c.args.p in
     let old = c.index_mut.result.now in
-    let at : slice_get all p ≡ Some old = slice_get_read all (length all) p old refl (omega arith) c.index_mut.ensures.value in
-    let same = stored_lock old c.store.new.self c.args.address c.args.value c.store.result c.store.ensures.ok c.store.ensures.err in
-    record { own = own_set c.args.self.now.cluster all p c.store.new.self c.args.self.now.own (same ∙ c.args.self.now.own p old at) }
+    let new = c.store.new.self in
+    let at : slice_get all p ≡ Some old =
+    slice_get_read all (length all) p old refl (omega arith) c.index_mut.ensures.value in
+    let same = stored_lock old new c.args.address c.args.value
+    c.store.result c.store.ensures.ok c.store.ensures.err in
+    let own = c.args.self.now.own in
+    record { own = own_set c.args.self.now.cluster all p new own (same ∙ own p old at) }

@@ -1,4 +1,4 @@
-use Rattle.std.proofs.Common.{◌<◌, ◌∙◌, arith}
+use Rattle.std.proofs.Common.{◌∙◌, arith}
 use Rattle.turn.proofs.lock.tests.leaves_late.Goals as goal
 
 pub leave-requires : goal.leave-requires
