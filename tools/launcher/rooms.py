@@ -7,10 +7,13 @@ a death between loses nothing, and a room that a death left is taken up by the n
 """
 import os
 import shutil
+import subprocess
 
 from .crates import PARTS
 from .places import ROOMS
 
+# The removals that go on.
+removals = []
 # What of a crate's folder out/ a room begins with, and gives back.
 KEPT = ("incremental", "rlib")
 
@@ -65,8 +68,17 @@ def leave(crate):
             if os.path.lexists(own):
                 os.rename(own, f"{room}/{part}.old")
             os.rename(kept, own)
-    shutil.rmtree(room, ignore_errors=True)
-    shutil.rmtree(room, ignore_errors=True)
+    drop(room)
+
+
+def drop(folder):
+    """Removes a folder, which the build needn't wait for: it has thousands of links."""
+    away = f"{ROOMS}/scratch/{os.path.basename(folder)}.{len(removals)}"
+    try:
+        os.rename(folder, away)
+        removals.append(subprocess.Popen(["rm", "-rf", away], stderr=subprocess.DEVNULL))
+    except OSError:
+        shutil.rmtree(folder, ignore_errors=True)
 
 
 def age_of(out):
@@ -105,6 +117,8 @@ def begin(crates):
 def end(crates):
     """Leaves all rooms, and removes their folder where all could be left."""
     leave_all(crates)
+    for removal in removals:
+        removal.wait()
     shutil.rmtree(f"{ROOMS}/scratch", ignore_errors=True)
     if not any(os.path.isdir(room_of(crate)) for crate in crates):
         shutil.rmtree(ROOMS, ignore_errors=True)
