@@ -8,7 +8,7 @@ import time
 
 from . import plan, rooms
 from .look import Look
-from .places import HOME, ROOMS, SIGNALS, Failed, say
+from .places import HOME, ROOMS, SIGNALS, Failed, Stopped, say
 from .progress import Progress
 from .runs import Run
 
@@ -45,7 +45,8 @@ class Build:
 
     def begin(self, crate, words, folder, nice=0):
         """Starts a run of the toolchain for a crate."""
-        self.jobs[crate] = plan.jobs(crate, self.waiting, self.cores)
+        behind = [it for it, run in self.running.items() if run.nice]
+        self.jobs[crate] = plan.jobs(crate, self.waiting, behind, self.cores)
         words = [it if it != "JOBS" else str(self.jobs[crate]) for it in words]
         self.running[crate] = Run(crate.name, [self.rt, *words], folder, nice)
 
@@ -105,6 +106,8 @@ class Build:
         for run in self.running.values():
             run.wait()
         rooms.end(self.crates)
+        with contextlib.suppress(Stopped):
+            self.progress.clear()
 
 
 def build(rt, crates, words):

@@ -6,7 +6,7 @@ MEMORY_OF_A_RUN = 3_000_000_000
 # How much a run gives way that nothing urgent waits for.
 NICE = 19
 # What each core more brings the crate that has it, as a part of the first.
-GAIN = 0.5
+GAIN = 0.3
 # The program's own crate gains nothing from more jobs than this.
 MOST_JOBS_OF_PROGRAM = 2
 
@@ -40,12 +40,13 @@ def urgent(waiting):
     return [crate for crate in waiting if crate in below or crate.way >= 0.8 * top.way]
 
 
-def jobs(crate, waiting, cores):
-    """All idle cores for the crate that the longest way leads through, and one for what is proved beside it, since each
-    job more reads the libraries again."""
+def jobs(crate, waiting, behind, cores):
+    """All cores that nothing else urgent needs for the crate that the longest way leads through, and one for what is
+    proved beside it, since each job more reads the libraries again. `behind`: the crates whose runs give way."""
     if crate is not leader(waiting):
         return 1
-    beside = sum(it is not crate and is_ready(it, waiting) for it in urgent(waiting))
+    others = [it for it in urgent(waiting) if it is not crate and it not in behind]
+    beside = sum(is_ready(it, waiting) for it in others)
     most = cores if len(waiting) > 1 else MOST_JOBS_OF_PROGRAM
     return max(1, min(most, cores - beside))
 

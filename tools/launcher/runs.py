@@ -36,7 +36,7 @@ class Run:
     and its commands end with it."""
 
     def __init__(self, name, words, folder, nice=0, stdin=subprocess.DEVNULL, is_look=False):
-        self.name, self.began, me = name, time.monotonic(), os.getpid()
+        self.nice, self.began, me = nice, time.monotonic(), os.getpid()
         self.log = open(f"{ROOMS}/scratch/{name}.log", "w+b")
         self.errors = open(f"{ROOMS}/scratch/{name}.errors", "w+b") if is_look else self.log
         # A paused run hears of nothing less than SIGKILL; a first look has to be told, since it ends its program itself.
