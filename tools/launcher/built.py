@@ -16,6 +16,7 @@ class Stamp:
     """What the program was built from, as its file says: empty where there is none."""
 
     def __init__(self):
+        """Reads the file."""
         self.toolchain = self.version = self.sum = self.sources = ""
         try:
             with open(STAMP, encoding="utf-8", errors="surrogateescape") as file:

@@ -4,7 +4,7 @@ import re
 import signal
 import stat
 
-from .places import HOME, PROGRAM, write
+from .places import HOME, PROGRAM, say, write
 from .runs import Run, family, tell
 
 # The options that take the word after them.
@@ -14,6 +14,8 @@ HELP = ("help", "--help", "-h")
 NAME = "script.lrc"
 HEAD = "first look, checked and not proved:"
 ENDED = re.compile(r"^run=ended status=(\d+)\b.*proved=no$", re.M)
+# Where the toolchain's own lines begin, after what the program wrote to standard error.
+OWN = re.compile(r"^(interpreter: |checked: |races: |run=|rt: )", re.M)
 
 
 def file_at(words):
@@ -76,9 +78,9 @@ class Look:
         self.run, ended = None, ENDED.search(said)
         if ended:
             progress.clear()
-            write(f"{HEAD}\n{Run.text(run.log)}")
+            write(f"{HEAD}\n{Run.text(run.log)}{OWN.split(said, 1)[0]}")
             if ended[1] != "0":
-                write(f"status {ended[1]}\n")
+                say(f"the first look ended with status {ended[1]}")
         run.wait()
 
     def pause(self):

@@ -19,6 +19,7 @@ class Progress:
     """How far a build is, by the crates' weights."""
 
     def __init__(self, crates, cores):
+        """A build that begins now."""
         self.crates, self.cores = crates, cores
         self.whole = sum(crate.weight for crate in crates)
         self.start = self.told = time.monotonic()
@@ -42,9 +43,10 @@ class Progress:
         return f"{self.most} %, {in_words(pace * seconds_left(waiting, spent, self.cores))} left"
 
     def begin(self):
+        """Says what is done, and how long it takes."""
         time_of_all = in_words(seconds_left(self.crates, {}, self.cores))
-        say(f"proving {len(self.crates)} crates on {self.cores} cores, and building: {time_of_all} on such a machine where"
-            " nothing was kept; once built, it starts at once")
+        say(f"proving {len(self.crates)} crates on {self.cores} cores, and building: {time_of_all} on such a machine"
+            " where nothing was kept; once built, it starts at once")
 
     def show(self, waiting, running):
         """Rewrites the line on a terminal, once a second."""
@@ -59,7 +61,8 @@ class Progress:
         """Says that a crate is proved, where there is no line to be rewritten."""
         if not self.is_terminal:
             done = len(self.crates) - len(waiting)
-            say(f"{self.so_far()} {crate.name} is proved, {done} of {len(self.crates)}: {self.figures(waiting, running)}")
+            figures = self.figures(waiting, running)
+            say(f"{self.so_far()} {crate.name} is proved, {done} of {len(self.crates)}: {figures}")
 
     def clear(self):
         """Takes the line away, so that something else can be said."""
@@ -68,6 +71,7 @@ class Progress:
             write("\r\x1b[K")
 
     def say(self, words):
+        """Says a line in the place of the one that is rewritten."""
         self.clear()
         say(words)
 

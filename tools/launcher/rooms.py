@@ -38,9 +38,14 @@ def folder_in(room, crate):
 
 def bring(crate, room, parts):
     """Brings these folders of a crate into a room."""
-    for part in parts:
-        if os.path.isdir(f"{crate.folder}/{part}"):
-            shutil.copytree(f"{crate.folder}/{part}", f"{folder_in(room, crate)}/{part}", copy_function=link_or_copy)
+    try:
+        for part in parts:
+            if os.path.isdir(f"{crate.folder}/{part}"):
+                to = f"{folder_in(room, crate)}/{part}"
+                shutil.copytree(f"{crate.folder}/{part}", to, copy_function=link_or_copy)
+    except shutil.Error as errors:
+        # Of thousands of files that it couldn't bring, the first one tells why.
+        raise OSError(f"{room}: {errors.args[0][0][2]}") from None
 
 
 def enter(crate):

@@ -32,14 +32,15 @@ def tell(pids, number):
 
 
 class Run:
-    """A run of the toolchain, in a process group of its own, which Ctrl-C doesn't reach. It ends when the launcher dies,
-    and its commands end with it."""
+    """A run of the toolchain, in a process group of its own, which Ctrl-C doesn't reach. It ends when the launcher
+    dies, and its commands end with it."""
 
     def __init__(self, name, words, folder, nice=0, stdin=subprocess.DEVNULL, is_look=False):
+        """Starts it, with what it says in a file; a first look's errors in a file of their own."""
         self.nice, self.began, me = nice, time.monotonic(), os.getpid()
         self.log = open(f"{ROOMS}/scratch/{name}.log", "w+b")
         self.errors = open(f"{ROOMS}/scratch/{name}.errors", "w+b") if is_look else self.log
-        # A paused run hears of nothing less than SIGKILL; a first look has to be told, since it ends its program itself.
+        # A paused run hears of nothing less than SIGKILL; a first look has to be told, since it ends its own program.
         at_death = signal.SIGTERM if is_look else signal.SIGKILL
 
         def prepare():
@@ -77,8 +78,8 @@ class Run:
         return (errors or lines[-1:] or [f"its run ended with status {status}"])[0][:300]
 
     def pause(self):
-        """Stops the run. The toolchain's command stops what it proves by itself, so that this ends too where the command
-        is killed meanwhile."""
+        """Stops the run. The toolchain's command stops what it proves by itself, so that this ends too where the
+        command is killed meanwhile."""
         tell([self.process.pid], signal.SIGTSTP)
 
     def go_on(self):
