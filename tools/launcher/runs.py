@@ -47,7 +47,7 @@ class Run:
             os.setpgrp()
             LIBC.prctl(PR_SET_PDEATHSIG, at_death)
             # In this session, in which alone giving way means anything.
-            os.setpriority(os.PRIO_PROCESS, 0, nice)
+            os.nice(nice)
             if os.getppid() != me:
                 os._exit(1)
 
