@@ -1,0 +1,126 @@
+"""The build: the libraries are proved in rooms, several at once, and then the program, which is built with it."""
+import contextlib
+import errno
+import os
+import shutil
+import signal
+import time
+
+from . import plan, rooms
+from .look import Look
+from .places import HOME, ROOMS, SIGNALS, Failed, Stopped, say
+from .progress import Progress
+from .runs import Run
+
+# Where no more bytes than this are free, a run that fails does so for that.
+FULL = 1_000_000
+
+
+@contextlib.contextmanager
+def undisturbed():
+    """Has signals wait until the build has ended in order."""
+    signal.pthread_sigmask(signal.SIG_BLOCK, SIGNALS)
+    try:
+        yield
+    finally:
+        signal.pthread_sigmask(signal.SIG_UNBLOCK, SIGNALS)
+
+
+def failure(crate, run):
+    """Why a crate's run failed."""
+    if shutil.disk_usage(ROOMS).free < FULL:
+        return OSError(errno.ENOSPC, os.strerror(errno.ENOSPC), ROOMS)
+    return Failed(f"{crate.name} is not proved: {run.why()}")
+
+
+class Build:
+    """A build: the crates that are not proved yet, and the runs that go on, by their crate."""
+
+    def __init__(self, rt, crates):
+        self.rt, self.crates, self.waiting = rt, crates, list(crates)
+        self.running, self.jobs, self.look = {}, {}, Look()
+        self.cores = plan.cores_at_hand()
+        self.most = plan.most_at_once(self.cores)
+        self.progress = Progress(crates, self.cores)
+
+    def begin(self, crate, words, folder, nice=0):
+        """Starts a run of the toolchain for a crate."""
+        behind = [it for it, run in self.running.items() if run.nice]
+        self.jobs[crate] = plan.jobs(crate, self.waiting, behind, self.cores)
+        words = [it if it != "JOBS" else str(self.jobs[crate]) for it in words]
+        self.running[crate] = Run(crate.name, [self.rt, *words], folder, nice)
+
+    def begin_ready(self):
+        """Starts the libraries that may start now, the longest way first; what isn't urgent only beside one that is."""
+        urgent = plan.urgent(self.waiting)
+        ready = [crate for crate in self.waiting[:-1] if crate not in self.running]
+        ready = [crate for crate in ready if plan.is_ready(crate, self.waiting)]
+        for crate in sorted(ready, key=lambda crate: -crate.way)[: max(0, self.most - len(self.running))]:
+            is_urgent = crate in urgent
+            if is_urgent or sum(it in urgent for it in self.running) <= 1:
+                self.begin(crate, ["lib", "--jobs", "JOBS"], rooms.enter(crate), 0 if is_urgent else plan.NICE)
+
+    def end_one(self):
+        """Waits until a run ends that proved its crate, and returns the crate. Says how far the build is meanwhile."""
+        while True:
+            for crate, run in self.running.items():
+                if run.has_ended():
+                    if run.process.returncode:
+                        raise failure(crate, run)
+                    self.running.pop(crate).wait()
+                    self.progress.note(crate, run.seconds(), self.jobs[crate])
+                    return crate
+            self.look.show(self.progress)
+            self.progress.show(self.waiting, self.spent())
+            time.sleep(0.05)
+
+    def spent(self):
+        return {crate: (run.seconds(), self.jobs[crate]) for crate, run in self.running.items()}
+
+    def prove(self):
+        """Proves the libraries, and then the program, which is built with it."""
+        while len(self.waiting) > 1:
+            self.begin_ready()
+            crate = self.end_one()
+            rooms.leave(crate)
+            self.waiting.remove(crate)
+            self.progress.proved(crate, self.waiting, self.spent())
+        self.begin(self.crates[-1], ["run", "--jobs", "JOBS", "--", "--help"], HOME)
+        self.end_one()
+        self.progress.say(f"{self.progress.so_far()} proved and built")
+
+    def pause(self, *_):
+        """Ctrl-Z: stops the runs and then the launcher; both go on together."""
+        runs = [*self.running.values(), self.look]
+        for run in runs:
+            run.pause()
+        os.kill(os.getpid(), signal.SIGSTOP)
+        for run in runs:
+            run.go_on()
+
+    def end_all(self):
+        """Ends the runs, whose commands end with them, and keeps what they have proved."""
+        for run in self.running.values():
+            run.stop()
+        self.look.end()
+        for run in self.running.values():
+            run.wait()
+        rooms.end(self.crates)
+        with contextlib.suppress(Stopped):
+            self.progress.clear()
+
+
+def build(rt, crates, words):
+    """Proves and builds, and leaves nothing behind but what was proved, whatever comes between."""
+    made = Build(rt, crates)
+    try:
+        if rooms.begin(crates):
+            say("taking up what a build that died has proved")
+        made.progress.begin()
+        made.look.begin(rt, words)
+        if signal.getsignal(signal.SIGTSTP) == signal.SIG_DFL:
+            signal.signal(signal.SIGTSTP, made.pause)
+        made.prove()
+    finally:
+        with undisturbed():
+            made.end_all()
