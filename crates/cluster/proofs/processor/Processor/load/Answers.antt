@@ -1,6 +1,8 @@
-use Rattle.std.proofs.Common.{◌≡◌, ◌/◌, ◌%◌, Some, slice_get, sym, subst, arith}
+use Rattle.std.proofs.Common.{◌≡◌, ◌/◌, ◌%◌, ◌∷◌, [], ◌∙◌, Some, append_assoc, slice_get, sym, ap, subst, arith}
 use Rattle.journal.specs.declared.event.Kind.TheVariants.{Load}
-use Rattle.replicas.specs.Local.{Local, noted}
+use Rattle.journal.specs.Did.{event}
+use Rattle.journal.specs.Events.{part}
+use Rattle.replicas.specs.Local.{Local, calls, noted}
 use Rattle.page.specs.declared.pages.Access.TheVariants.{Valid}
 use Rattle.replicas.specs.Sound.{IsSound}
 use Rattle.cluster.proofs.Covering.{covers}
@@ -51,6 +53,17 @@ returns-clause-word g c = record {
   at = (read g (goal.at.returns-clause-word g c).After-index).0;
   word = rw (← c.in_ok-page.ensures.place.1) c.load-value.ensures;
 }
+
+pub returns-clause-ok : goal.returns-clause-ok
+returns-clause-ok g c =
+    rw (c.push_reserved.ensures.items) (ap (λ (x : Local). noted x (Load c.args.address c.load-value.result))
+    c.self.view_is)
+
+pub returns-clause-calls : goal.returns-clause-calls
+returns-clause-calls g c =
+    let m = c.args.self.now in
+    ap calls (returns-clause-ok g c)
+    ∙ sym (append_assoc (part m.seen m.number) m.block (event m.number (Load c.args.address c.load-value.result) ∷ []))
 
 pub invariant_of-self : goal.invariant_of-self
 invariant_of-self g c =
