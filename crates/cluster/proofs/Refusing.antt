@@ -1,6 +1,6 @@
 -- What it means that a call is not refused.
-use Rattle.std.proofs.Common.{ℕ, ◌≡◌, ◌<◌, ◌/◌, Bool, true, false, not, nat_le, cond, Option, Some, None, List, refl, sym, ap, ◌∙◌, length, slice_get, get_or, subst₂, is_some}
-use Rattle.std.proofs.lemmas.Option.{none-some, get_or_from_slice_get}
+use Rattle.std.proofs.Common.{ℕ, ◌≡◌, ◌<◌, ◌/◌, Bool, true, false, not, nat_le, cond, Option, Some, None, List, refl, sym, ap, ◌∙◌, length, slice_get, get_or, subst, subst₂, is_some}
+use Rattle.std.proofs.lemmas.Option.{none-some, get_or_from_slice_get, slice_get_within}
 use Rattle.std.proofs.lemmas.Bool.{leb-false, not-false}
 use Rattle.page.specs.declared.pages.Access.{Access}
 use Rattle.page.specs.declared.pages.Access.TheVariants.{Valid, Invalid}
@@ -67,6 +67,19 @@ copy_read was m a page x same free place read =
     subst₂ P (ap (λ (l : Local). l.copies) same) place read
     ∙ get_or_from_slice_get m.copies (a / m.sizes.words) may.copy x may.at in
     (may.at ∙ ap (λ (c : Copied). Some c) (sym is), ap (λ (c : Copied). c.page.access) is ∙ may.valid)
+
+-- it has a place among the copies, and among the marks
+pub place_within : (was m : Local) (a page : ℕ) → was ≡ m → access_refusal m a ≡ None → page ≡ a / m.sizes.words
+    → page < length was.copies
+place_within was m a page same free place =
+    let may = may_access m a free in
+    subst₂ (λ (l : Local) (k : ℕ). k < length l.copies) (sym same) (sym place)
+    (slice_get_within m.copies (a / m.sizes.words) may.copy may.at)
+
+-- and the open block has room for the event
+pub room_within : (was m : Local) (a : ℕ) → was ≡ m → access_refusal m a ≡ None → length was.block < most_in_block
+room_within was m a same free =
+    subst (λ (l : Local). length l.block < most_in_block) (sym same) (may_access m a free).room
 
 -- a fetch of this page is not refused
 pub record MayFetch (m : Local) (n : ℕ) : Type 0 where

@@ -6,7 +6,7 @@ use std::marker::Model;
 
 /// The sizes of a cluster: 1 to 16 processors, 1 to 64 pages of 1 to 64 words, and 0 to 32 locks and
 /// flags.
-#[derive(Clone, Copy, Debug)]
+#[derive(Clone, Copy)]
 pub struct Shape {
     pub(crate) processors: usize,
     pub(crate) pages: usize,

@@ -5,6 +5,7 @@ ghost use Rattle.std.specs.Result.{result_err};
 ghost use Rattle.lists.specs.Prelude.{most_events};
 ghost use Rattle.journal.specs.Prelude.{is_taking, Sizes, Ready};
 ghost use Rattle.journal.specs.declared.event.Event.{Event};
+ghost use Rattle.vtime.specs.Times.{join};
 ghost use Rattle.transit.specs.Prelude.{letter};
 ghost use Rattle.book.specs.Prelude.{brought, MayLook, MayTakeSome, Takes, IsTold};
 ghost use Rattle.replicas.specs.Prelude.{AreAfterNews, AreSameCopies, HaveRoom, MayLearn, held_after};
@@ -21,6 +22,7 @@ use std::alloc::AllocError;
 use std::sync::Wait;
 use transit::Message;
 use turn::Turn;
+use vtime::VTime;
 
 /// Pages of a cluster at most.
 const MOST_PAGES: usize = 64;
@@ -43,9 +45,7 @@ impl<T: Turn<Book, Rule>> Cluster<T> {
         let (held, mut book) = self.take_book(rt, &mut processor.chair)?;
         let received = receive(&mut book, processor.number, &mut processor.replicas);
         self.give_book(&mut processor.chair, held, book);
-        let (time, notices) = received?.into_parts();
-        learn(&mut processor.replicas, notices);
-        processor.time.join(&time);
+        accept(received?, &mut processor.replicas, &mut processor.time);
         mark_held(&mut processor.held, kind);
         processor.awaits = None;
         Ok(())
@@ -98,6 +98,18 @@ fn make_room(replicas: &mut Vec<Replica>, counts: &[usize]) -> Result<(), AllocE
     ensures zeros { EachIndex counts.now (λ n. slice_index counts.now n ≡ 0) → IsOk result }
 {
     replicas::make_room(replicas.as_mut_slice(), counts)
+}
+
+/// Takes over what came: the records that the copies lack from then on, and the sender's timestamp.
+fn accept(message: Message, replicas: &mut Vec<Replica>, time: &mut VTime)
+    requires news { MayLearn replicas.old.items (letter message).notices }
+    requires times { length (letter message).time ≡ length time.old }
+    ensures news { AreAfterNews replicas.old.items (letter message).notices replicas.new.items }
+    ensures time { time.new ≡ join time.old (letter message).time }
+{
+    let (other, notices) = message.into_parts();
+    learn(replicas, notices);
+    time.join(&other);
 }
 
 /// Puts what came among the records that the copies lack.

@@ -4,7 +4,7 @@ use Rattle.std.specs.Arc.{arc_value}
 use Rattle.replicas.specs.Records.{AreHarvests}
 use Rattle.replicas.specs.Local.{Local}
 use Rattle.cluster.specs.Seats.{local}
-use Rattle.cluster.specs.Closing.{MayMake}
+use Rattle.cluster.specs.Closing.{MayHold, MayMake}
 use Rattle.cluster.proofs.ClosingCalls.{marked_well, may_close, call_of_close, Closed, closed_visit, closed_good, closed_done}
 use Rattle.cluster.proofs.Visiting.{book_found, may_give_back, visited, left_as}
 use Rattle.cluster.proofs.Made.{alike_all, refused_with, call_spent, call_refused, unchanged_sound}
@@ -95,3 +95,25 @@ returns g c =
 
 pub clean-requires : goal.clean-requires
 clean-requires g c = marked_well _ c.processor.invariant.0
+
+pub close_in-closed-requires-clause-closes : goal.close_in-closed-requires-clause-closes
+close_in-closed-requires-clause-closes g c = c.requires.may.closes
+
+pub close_in-closed-requires-clause-short : goal.close_in-closed-requires-clause-short
+close_in-closed-requires-clause-short g c = rw (c.as_slice-block.ensures.value) c.processor.invariant.0.short
+
+pub close_in-closed-requires-clause-rising : goal.close_in-closed-requires-clause-rising
+close_in-closed-requires-clause-rising g c = c.requires.records.rising
+
+pub tick-requires-clause-in_range : goal.tick-requires-clause-in_range
+tick-requires-clause-in_range g c =
+    let long = c.processor.invariant.0.time.long in
+    let mine = c.processor.invariant.0.mine in
+    omega arith
+
+pub mark_held-requires-clause-closes : goal.mark_held-requires-clause-closes
+mark_held-requires-clause-closes g c = c.requires.may.closes
+
+pub mark_held-requires-clause-may : goal.mark_held-requires-clause-may
+mark_held-requires-clause-may g c =
+    subst (λ (l : Local). MayHold l.held c.args.kind) (sym c.processor.view_is) c.requires.may.held

@@ -1,12 +1,26 @@
-use Rattle.std.proofs.Common.{ℕ, ◌≡◌, [], replicate, refl, sym, subst₂, ap, ◌∙◌, arith}
+use Rattle.std.proofs.Common.{ℕ, ◌≡◌, ◌^◌, [], replicate, refl, sym, subst, subst₂, ap, ◌∙◌, arith}
+use Rattle.std.proofs.lemmas.Nat.{mul-le}
 use Rattle.journal.specs.Sizes.{Sizes}
 use Rattle.turn.specs.Chairs.{LockId}
 use Rattle.book.specs.State.{State}
 use Rattle.book.specs.Transitions.{new_book}
 use Rattle.replicas.specs.Local.{new_local}
+use Rattle.replicas.specs.Sound.{AreSizes}
 use Rattle.cluster.specs.Kept.{IsKept, nothing_seen, sizes_of}
 use Rattle.cluster.proofs.Starting.{new_sizes, start_kept, new_covered}
 use Rattle.cluster.proofs.cluster.Cluster.lawful.Goals as goal
+
+pub new-requires-2-clause-addresses : goal.new-requires-2-clause-addresses
+new-requires-2-clause-addresses g c =
+    let s = subst AreSizes (sym c.shape.view_is) c.requires.sizes in
+    let few = mul-le c.shape.inside.pages c.shape.inside.words 64 64 s.pages s.words in
+    omega arith
+
+pub new-requires-3-clause-room : goal.new-requires-3-clause-room
+new-requires-3-clause-room g c =
+    let s = subst AreSizes (sym c.shape.view_is) c.requires.sizes in
+    let few = mul-le c.shape.inside.processors g.T.Turn.ENTRIES 16 (2 ^ 40) s.processors c.requires.entries in
+    omega arith
 
 pub new-requires-3-clause-fact : goal.new-requires-3-clause-fact
 new-requires-3-clause-fact g c =

@@ -1,4 +1,4 @@
-use Rattle.std.proofs.Common.{length, refl, ap, ◌∙◌}
+use Rattle.std.proofs.Common.{refl, ap, ◌∙◌}
 use Rattle.transit.specs.Letters.{letter}
 use Rattle.replicas.specs.Local.{Local}
 use Rattle.replicas.proofs.Calls.{waits_to_take}
@@ -9,10 +9,10 @@ use Rattle.cluster.proofs.Made.{refused_with, call_outside, call_spent, unchange
 use Rattle.cluster.proofs.TakingCalls.{Took, took_visit, may_take, call_of_receive, take_refused, may_learn_taken, taken_long, may_hold_taken, taken_good, taken_done}
 use Rattle.cluster.proofs.cluster.Cluster.take.Given as given
 use Rattle.cluster.proofs.cluster.Cluster.take.Goals as goal
-use Rattle.cluster.proofs.cluster.Cluster.take.Goals.{After-into_parts-time}
+use Rattle.cluster.proofs.cluster.Cluster.take.Goals.{In_ok-received}
 
 -- the processor took what it waits for
-took : (g : given.Over) (c : After-into_parts-time g)
+took : (g : given.Over) (c : In_ok-received g)
     → let x = c.processor.inside in
     Took (local x.chair x.number x.shape x.block.items x.replicas.items x.stored x.time x.held.items x.awaits)
     c.in_ok-held.book c.in_ok-kind.kind (letter c.in_ok-received.field-0) c.give_book.new.chair
@@ -72,15 +72,13 @@ returns-in_err-received g c =
       ← c.processor.view_is,
     ) (take_refused (left_as visit bad.err) _ bad.same _ bad.absent bad.full bad.only)
 
-pub learn-requires : goal.learn-requires
-learn-requires g c =
-    let t = took g (goal.at.learn-requires g c).After-into_parts-time in
+pub accept-requires-clause-news : goal.accept-requires-clause-news
+accept-requires-clause-news g c =
     let ok = c.in_ok-received.ensures in
-    rw (c.into_parts-time.ensures.notices) (may_learn_taken t _ ok.same ok.room)
+    may_learn_taken (took g (goal.at.accept-requires-clause-news g c).In_ok-received) _ ok.same ok.room
 
-pub join-requires : goal.join-requires
-join-requires g c =
-    ap length c.into_parts-time.ensures.time ∙ taken_long (took g (goal.at.join-requires g c).After-into_parts-time)
+pub accept-requires-clause-times : goal.accept-requires-clause-times
+accept-requires-clause-times g c = taken_long (took g (goal.at.accept-requires-clause-times g c).In_ok-received)
 
 pub mark_held-requires-clause-takes : goal.mark_held-requires-clause-takes
 mark_held-requires-clause-takes g c =
@@ -89,26 +87,23 @@ mark_held-requires-clause-takes g c =
 
 pub mark_held-requires-clause-lock : goal.mark_held-requires-clause-lock
 mark_held-requires-clause-lock g c =
-    may_hold_taken (took g (goal.at.mark_held-requires-clause-lock g c).After-into_parts-time)
+    may_hold_taken (took g (goal.at.mark_held-requires-clause-lock g c).In_ok-received)
 
 pub invariant_of-processor-2 : goal.invariant_of-processor-2
 invariant_of-processor-2 g c =
-    let t = took g (goal.at.invariant_of-processor-2 g c).After-into_parts-time in
-    let learned = rw c.into_parts-time.ensures.notices at c.learn.ensures in
-    let told = after_same _ _ _ _ c.in_ok-received.ensures.same learned in (
-      rw (c.join.ensures.value, c.into_parts-time.ensures.time, c.mark_held.ensures) (taken_good t _ told),
+    let t = took g (goal.at.invariant_of-processor-2 g c).In_ok-received in
+    let told = after_same _ _ _ _ c.in_ok-received.ensures.same c.accept.ensures.news in (
+      rw (c.accept.ensures.time, c.mark_held.ensures) (taken_good t _ told),
       t.visit.seated,
       c.processor.invariant.2,
     )
 
 pub returns : goal.returns
 returns g c =
-    let t = took g (goal.at.returns g c).After-into_parts-time in
-    let learned = rw c.into_parts-time.ensures.notices at c.learn.ensures in
-    let told = after_same _ _ _ _ c.in_ok-received.ensures.same learned in
+    let t = took g (goal.at.returns g c).In_ok-received in
+    let told = after_same _ _ _ _ c.in_ok-received.ensures.same c.accept.ensures.news in
     rw (
-      c.join.ensures.value,
-      c.into_parts-time.ensures.time,
+      c.accept.ensures.time,
       c.mark_held.ensures,
       ← c.in_ok-kind.ensures.test,
       ← c.processor.view_is,

@@ -1,10 +1,12 @@
-use Rattle.std.proofs.Common.{◌≡◌, ◌/◌, ◌%◌, Some, slice_get, sym, subst, arith}
+use Rattle.std.proofs.Common.{◌≡◌, ◌/◌, ◌%◌, ◌∷◌, [], ◌∙◌, Some, append_assoc, slice_get, sym, ap, subst, arith}
 use Rattle.journal.specs.declared.event.Kind.TheVariants.{Load}
-use Rattle.replicas.specs.Local.{Local, noted}
+use Rattle.journal.specs.Did.{event}
+use Rattle.journal.specs.Events.{part}
+use Rattle.replicas.specs.Local.{Local, calls, noted}
 use Rattle.page.specs.declared.pages.Access.TheVariants.{Valid}
 use Rattle.replicas.specs.Sound.{IsSound}
 use Rattle.cluster.proofs.Covering.{covers}
-use Rattle.cluster.proofs.Refusing.{copy_read}
+use Rattle.cluster.proofs.Refusing.{copy_read, place_within, room_within}
 use Rattle.cluster.proofs.Noting.{offset_within, loaded}
 use Rattle.cluster.proofs.processor.Processor.load.Given as given
 use Rattle.cluster.proofs.processor.Processor.load.Goals as goal
@@ -18,6 +20,20 @@ read : (g : given.Over) (c : After-index g)
 read g c =
     copy_read _ _ _ _ _ c.self.view_is (sym c.in_ok-page.ensures.refused) c.in_ok-page.ensures.place.0
     c.index.ensures
+
+pub index-requires : goal.index-requires
+index-requires g c =
+    let place = c.in_ok-page.ensures.place.0 in
+    let within = place_within _ _ c.args.address _ c.self.view_is (sym c.in_ok-page.ensures.refused) place in
+    let long = c.self.inside.replicas.ok.0 in
+    omega arith
+
+pub push_reserved-requires : goal.push_reserved-requires
+push_reserved-requires g c =
+    let room = room_within _ _ c.args.address c.self.view_is (sym c.in_ok-page.ensures.refused) in
+    let kept = c.self.invariant.2 in
+    let long = c.self.inside.block.ok.0 in
+    omega arith
 
 pub load-value-requires-clause-in_range : goal.load-value-requires-clause-in_range
 load-value-requires-clause-in_range g c =
@@ -37,6 +53,17 @@ returns-clause-word g c = record {
   at = (read g (goal.at.returns-clause-word g c).After-index).0;
   word = rw (← c.in_ok-page.ensures.place.1) c.load-value.ensures;
 }
+
+pub returns-clause-ok : goal.returns-clause-ok
+returns-clause-ok g c =
+    rw (c.push_reserved.ensures.items) (ap (λ (x : Local). noted x (Load c.args.address c.load-value.result))
+    c.self.view_is)
+
+pub returns-clause-calls : goal.returns-clause-calls
+returns-clause-calls g c =
+    let m = c.args.self.now in
+    ap calls (returns-clause-ok g c)
+    ∙ sym (append_assoc (part m.seen m.number) m.block (event m.number (Load c.args.address c.load-value.result) ∷ []))
 
 pub invariant_of-self : goal.invariant_of-self
 invariant_of-self g c =

@@ -2,7 +2,7 @@ use Rattle.std.proofs.Common.{◌≡◌, ◌/◌, Some, slice_get, sym, subst, a
 use Rattle.page.specs.declared.pages.Access.TheVariants.{Valid}
 use Rattle.replicas.specs.Sound.{IsSound}
 use Rattle.cluster.proofs.Covering.{covers}
-use Rattle.cluster.proofs.Refusing.{copy_read}
+use Rattle.cluster.proofs.Refusing.{copy_read, place_within, room_within}
 use Rattle.cluster.proofs.Noting.{offset_within, stored, store_done}
 use Rattle.cluster.proofs.processor.Processor.store.Given as given
 use Rattle.cluster.proofs.processor.Processor.store.Goals as goal
@@ -16,6 +16,28 @@ read : (g : given.Over) (c : After-index_mut g)
 read g c =
     copy_read _ _ _ _ _ c.self.view_is (sym c.in_ok-page.ensures.refused) c.in_ok-page.ensures.place.0
     c.index_mut.ensures.value
+
+pub index_mut-requires : goal.index_mut-requires
+index_mut-requires g c =
+    let place = c.in_ok-page.ensures.place.0 in
+    let within = place_within _ _ c.args.address _ c.self.view_is (sym c.in_ok-page.ensures.refused) place in
+    let long = c.self.inside.replicas.ok.0 in
+    omega arith
+
+pub add-requires : goal.add-requires
+add-requires g c =
+    let place = c.in_ok-page.ensures.place.0 in
+    let within = place_within _ _ c.args.address _ c.self.view_is (sym c.in_ok-page.ensures.refused) place in
+    let long = c.self.invariant.0.copies.long in
+    let few = c.self.invariant.0.sizes.pages in
+    omega arith
+
+pub push_reserved-requires : goal.push_reserved-requires
+push_reserved-requires g c =
+    let room = room_within _ _ c.args.address c.self.view_is (sym c.in_ok-page.ensures.refused) in
+    let kept = c.self.invariant.2 in
+    let long = c.self.inside.block.ok.0 in
+    omega arith
 
 pub store-requires-clause-in_range : goal.store-requires-clause-in_range
 store-requires-clause-in_range g c =

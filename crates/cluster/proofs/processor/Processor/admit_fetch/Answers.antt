@@ -1,0 +1,9 @@
+use Rattle.std.proofs.lemmas.Grind.{common_steps}
+use Rattle.std.proofs.Common.{arith}
+use Rattle.cluster.proofs.processor.Processor.admit_fetch.Goals as goal
+
+pub returns-in_default : goal.returns-in_default
+returns-in_default g c = grind (arith, common_steps)
+
+pub returns-in_err-admit_event : goal.returns-in_err-admit_event
+returns-in_err-admit_event g c = grind (arith, common_steps)
