@@ -1,4 +1,4 @@
-use Rattle.std.proofs.Common.{◌≡◌, ◌↔◌, ◌<◌, ℕ, List, [], ◌∷◌, ◌++◌, length, map, inl, inr, Some, None, true, refl, slice_get, slice_set, slice_index_or, ap, ◌∙◌, sym, subst, arith, true≢false}
+use Rattle.std.proofs.Common.{◌≡◌, ◌↔◌, ◌<◌, ℕ, List, [], ◌∷◌, ◌++◌, length, map, inl, inr, Some, None, true, refl, slice_get, slice_set, slice_index_or, ap, ◌∙◌, sym, subst, arith, rules, true≢false}
 use Rattle.std.proofs.lemmas.List.{length-append, length-map, map-set}
 use Rattle.std.specs.Option.{option_map}
 use Rattle.journal.specs.Did.{event}
@@ -91,6 +91,12 @@ returns-in_err-make_room-clause-absent c s h told =
       λ isnt. absurd (isnt (is.0 c.if-not-has_come.false)),
     )
 
+pub returns-in_err-make_room-clause-err : goal.returns-in_err-make_room-clause-err
+returns-in_err-make_room-clause-err c = search rules
+
+pub returns-in_err-make_room-clause-full : goal.returns-in_err-make_room-clause-full
+returns-in_err-make_room-clause-full c = search rules
+
 pub index-requires-2 : goal.index-requires-2
 index-requires-2 c = omega (arith, (waits (goal.at.index-requires-2 c).In-Some).times, c.self.inside.times.ok.0)
 
@@ -116,6 +122,12 @@ returns-in_err-message-clause-absent c s h told =
       λ e ready. (let x : NotYet ≡ NoMemory = rw e at c.from_residual-in_err-message.ensures.1 in absurd (cc (x))),
       λ isnt. absurd (isnt (is.0 c.if-not-has_come.false)),
     )
+
+pub returns-in_err-message-clause-err : goal.returns-in_err-message-clause-err
+returns-in_err-message-clause-err c = search rules
+
+pub returns-in_err-message-clause-full : goal.returns-in_err-message-clause-full
+returns-in_err-message-clause-full c = search rules
 
 pub append-requires-clause-processor : goal.append-requires-clause-processor
 append-requires-clause-processor c =
