@@ -33,9 +33,6 @@ unreachable-requires c =
     not_idle (state_of c.self.inside) c.args.self.now c.self.inside.awaits.items c.args.p c.index.result.now refl
     c.self.view_is c.requires.call c.index.ensures c.in_default.is
 
-pub unreachable-unreachable : goal.unreachable-unreachable
-unreachable-unreachable c = c.unreachable.result
-
 -- what p waits for
 waits : (c : In-Some) → IsReceiving (state_of c.self.inside) c.args.p (kind_of c.in-Some.awaited)
 waits c =
