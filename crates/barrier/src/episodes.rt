@@ -29,7 +29,7 @@ pub enum Stage {
 /// An episode is complete when every processor has arrived. Then each may depart with the join of
 /// the arrivals' timestamps (Keleher, Cox and Zwaenepoel 1992, section 3), and may arrive for the
 /// next episode while others are still to depart. No call takes memory.
-#[derive(Debug, Drop)]
+#[derive(Drop)]
 pub struct Barrier {
     stages: SmallVec<Stage, MOST_PROCESSORS>,
     gathered: VTime,

@@ -7,7 +7,7 @@ ghost use Rattle.book.specs.Prelude.{kind_of};
 use journal::Kind;
 
 /// What a processor waits for after an ask, an arrival or a watch. Locks and flags are numbers from 0.
-#[derive(Clone, Copy, Debug, PartialEq, Eq)]
+#[derive(Clone, Copy, PartialEq, Eq)]
 pub enum Awaited {
     /// The grant of this lock.
     Grant(usize),

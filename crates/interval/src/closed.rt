@@ -16,7 +16,7 @@ use std::marker::Model;
 use vtime::VTime;
 
 /// The closed intervals that some processor may still have to learn of, in closing order.
-#[derive(Debug, Drop)]
+#[derive(Drop)]
 pub struct Closed {
     queues: Vec<Queue>,
     pushed: u64,

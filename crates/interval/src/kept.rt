@@ -12,7 +12,7 @@ use std::sync::Arc;
 
 /// A closed interval of a processor (Keleher, Cox and Zwaenepoel 1992, section 3.1): what its stores
 /// left, one record a page. Records are shared and never written.
-#[derive(Debug, Drop)]
+#[derive(Drop)]
 pub struct Interval {
     /// The processor whose interval it is.
     pub owner: usize,
@@ -100,7 +100,7 @@ impl Interval {
 }
 
 /// A closed interval with its closing number.
-#[derive(Debug, Drop)]
+#[derive(Drop)]
 pub struct Kept {
     /// How many intervals, of all owners, were closed before it.
     pub place: u64,

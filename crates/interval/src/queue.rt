@@ -9,7 +9,7 @@ use std::collections::VecDeque;
 use std::marker::Model;
 
 /// The kept intervals of one owner in the order of their numbers, the first of which is `first`.
-#[derive(Debug, Drop)]
+#[derive(Drop)]
 pub(crate) struct Queue {
     first: u64,
     kept: VecDeque<Kept>,

@@ -9,7 +9,7 @@ use std::marker::Model;
 use vtime::VTime;
 
 /// One lock. The queue has room for every processor.
-#[derive(Debug, Drop)]
+#[derive(Drop)]
 struct Lock {
     holder: Option<usize>,
     queue: VecDeque<usize>,
@@ -83,7 +83,7 @@ impl Lock {
 /// from the moment when its grant is due. With each lock stands the timestamp of its last release,
 /// which its next grant carries (Keleher, Cox and Zwaenepoel 1992, section 3). Only `new` takes
 /// memory.
-#[derive(Debug, Drop)]
+#[derive(Drop)]
 pub struct Locks {
     processors: usize,
     locks: Vec<Lock>,

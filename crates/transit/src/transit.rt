@@ -9,7 +9,7 @@ use std::alloc::{AllocError, Global};
 use std::marker::Model;
 
 /// The messages on their way, at most one for each processor.
-#[derive(Debug, Drop)]
+#[derive(Drop)]
 pub struct Transit {
     messages: Vec<Option<Message>>,
 }

@@ -19,7 +19,7 @@ pub const MOST_PROCESSORS: usize = 16;
 /// `covers` and `join` are about is that of Mattern (Virtual Time and Global States of Distributed
 /// Systems, 1989); its use for intervals is that of Keleher, Cox and Zwaenepoel (Lazy Release
 /// Consistency for Software Distributed Shared Memory, ISCA 1992, section 3).
-#[derive(Debug, Drop)]
+#[derive(Drop)]
 pub struct VTime {
     entries: SmallVec<u64, MOST_PROCESSORS>,
 }

@@ -135,6 +135,12 @@ passed_some c (q ∷ queue) t times r m same made =
     ap (λ (x : ℕ × Letter). slice_set c.transit x.0 (Some x.1)) is
     ∙ ap (λ (own : List ℕ). slice_set c.transit q (Some (grant_to c.closed t own))) (same q refl)
 
+-- and where nobody is next there is no mail
+passed_none : (c : State) (queue t : List ℕ) (times : List (List ℕ))
+    → None ≡ option_map (addressed_grant c.closed times t) (slice_get queue 0) → c.transit ≡ mail_passed_on c queue t
+passed_none c [] t times made = refl
+passed_none c (q ∷ queue) t times made = absurd (none-some (addressed_grant c.closed times t q) made)
+
 -- after p's closing event the others' timestamps are as before
 others_time : (b : State) (p r : ℕ) (u : List ℕ) → r ≢ p
     → slice_index_or b.times r [] ≡ slice_index_or (slice_set b.times p u) r []
@@ -173,6 +179,16 @@ module _ (old b : State) (p l : ℕ) (block : List Event) (records : List Change
       let grant = grant_made (Some (r, m)) may made in
       released_is locks transit line
       (post ∙ passed_some b (lock_at b.locks l).queue t old.times r m grant.1 grant.0)
+
+  -- a release that nobody waits for
+  pub released_alone : (locks : Locks) → MayRelease old p l block
+      → locks ≡ with_lock b.locks l (released (lock_at b.locks l) t)
+      → None ≡ option_map (addressed_grant (pushed old.closed (open_interval old p records)) old.times t)
+      (slice_get (lock_at old.locks l).queue 0)
+      → record b { locks = locks } ≡ book_released (handed_in old block) p l records
+  released_alone locks may line made =
+      let grant = grant_made None may made in
+      released_is locks b.transit line (passed_none b (lock_at b.locks l).queue t old.times grant.0)
 
 pub next_sent : (b : State) (p l : ℕ) (o : Option ℕ) → IsReleasing b p l → o ≡ slice_get (lock_at b.locks l).queue 0
     → IfSome o (λ r. MayBeSent b.closed b.times r)

@@ -122,16 +122,32 @@ receiving_by s h b p k told waits =
 pub receiving : (b : State) (p : ℕ) (k : Kind) → MayTake b p k → IsReceiving b p k
 receiving b p k may = receiving_by may.by.sizes may.by.history b p k may.by.told may.waits
 
--- what was read is what p waits for
+-- what was read is the kind that p waits for
+pub read_waits : (b now : State) (all : List (Option Awaited)) (p : ℕ) (o : Option Awaited)
+    → b.awaits ≡ map (option_map kind_of) all → b ≡ now → (may : MayTakeSome now p) → o ≡ slice_index_or all p o
+    → option_map kind_of o ≡ Some may.kind
+read_waits b now all p o kept same may is =
+    ap (option_map kind_of) is ∙ sym (get_or-map (option_map kind_of) all p o)
+    ∙ ap (λ (ks : List (Option Kind)). slice_index_or ks p (option_map kind_of o)) (sym kept)
+    ∙ get_or_from_slice_get b.awaits p (Some may.kind) (option_map kind_of o)
+    (ap (λ (x : State). slice_get x.awaits p) same ∙ (receiving now p may.kind may.take).waits)
+
+-- so there was something to read
+pub not_idle : (b now : State) (all : List (Option Awaited)) (p : ℕ) (o : Option Awaited)
+    → b.awaits ≡ map (option_map kind_of) all → b ≡ now → MayTakeSome now p → o ≡ slice_index_or all p o → o ≡ None
+    → ⊥
+not_idle b now all p o kept same may is none =
+    let read = read_waits b now all p o kept same may is in
+    let idle : option_map kind_of o ≡ None = ap (option_map kind_of) none in
+    absurd cc
+
+-- and p receives it
 pub reading : (b now : State) (all : List (Option Awaited)) (p : ℕ) (o : Option Awaited)
     → b.awaits ≡ map (option_map kind_of) all → b ≡ now → MayTakeSome now p → o ≡ slice_index_or all p o
     → (a : Awaited) → o ≡ Some a → IsReceiving b p (kind_of a)
 reading b now all p o kept same may is a some =
     let r = receiving now p may.kind may.take in
-    let read = ap (option_map kind_of) is ∙ sym (get_or-map (option_map kind_of) all p o)
-    ∙ ap (λ (ks : List (Option Kind)). slice_index_or ks p (option_map kind_of o)) (sym kept)
-    ∙ get_or_from_slice_get b.awaits p (Some may.kind) (option_map kind_of o)
-    (ap (λ (x : State). slice_get x.awaits p) same ∙ r.waits) in
+    let read = read_waits b now all p o kept same may is in
     let P : Kind → Type 0 = λ k. IsReceiving b p k in
     subst P (same_Some may.kind (kind_of a) (sym read ∙ ap (option_map kind_of) some))
     (subst (λ x. IsReceiving x p may.kind) (sym same) r)

@@ -14,7 +14,7 @@ use Rattle.book.specs.Calls.{MayBeSent}
 use Rattle.book.specs.Holding.{state_of}
 use Rattle.book.proofs.Parts.History.{happened_fits}
 use Rattle.book.proofs.Calling.Calls.{stands, still_open, opens_roomy, closed_roomy}
-use Rattle.book.proofs.Calling.Releases.{IsReleasing, releases, releasing, next_sent, grant_read, grant_to_whom, released_granted}
+use Rattle.book.proofs.Calling.Releases.{IsReleasing, releases, releasing, next_sent, grant_read, grant_to_whom, released_granted, released_alone}
 use Rattle.book.proofs.protocol.Protocol.release.Goals.{After-closing_time-time, After-self-2, In_ok-grant, In-Some}
 use Rattle.book.proofs.protocol.Protocol.release.Goals as goal
 
@@ -113,3 +113,16 @@ returns-in-Some-clause-ok c =
     (c.closing_time-time.ensures ∙ ap (λ (b : State). tick (time_of b c.args.p) c.args.p) c.self.view_is)
     c.release.new.self c.post.new.self c.in-Some.next (letter c.in-Some.message) c.requires.call
     c.release.ensures.locks c.post.ensures (made at.In-Some)
+
+pub returns-in_default-clause-ok : goal.returns-in_default-clause-ok
+returns-in_default-clause-ok c =
+    let made = sym (ap (λ (g : Option (ℕ × Message)). option_map addressed g) c.in_default.is)
+    ∙ grant_read c.args.self.now (state_of c.self.inside) c.args.p c.args.l (map arc_value c.args.records.items)
+    c.open_interval-interval.result c.deref.result.now c.closing_time-time.result c.next.result
+    (option_map addressed c.in_ok-grant.grant)
+    c.self.view_is c.deref.ensures.value c.open_interval-interval.ensures c.next.ensures c.in_ok-grant.ensures in
+    released_alone c.args.self.now (state_of c.self-2.inside) c.args.p c.args.l c.args.block.now
+    (map arc_value c.args.records.items) c.closing_time-time.result
+    (closed (goal.at.returns-in_default-clause-ok c).After-self-2)
+    (c.closing_time-time.ensures ∙ ap (λ (b : State). tick (time_of b c.args.p) c.args.p) c.self.view_is)
+    c.release.new.self c.requires.call c.release.ensures.locks made

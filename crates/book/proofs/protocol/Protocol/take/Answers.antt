@@ -1,5 +1,5 @@
-use Rattle.std.proofs.Common.{◌≡◌, ◌↔◌, ◌<◌, ℕ, List, [], ◌∷◌, ◌++◌, length, map, inl, inr, Some, None, true, refl, slice_get, slice_set, slice_index_or, ap, ◌∙◌, sym, subst, arith, true≢false}
-use Rattle.std.proofs.lemmas.List.{length-map, map-set}
+use Rattle.std.proofs.Common.{◌≡◌, ◌↔◌, ◌<◌, ℕ, List, [], ◌∷◌, ◌++◌, length, map, inl, inr, Some, None, true, refl, slice_get, slice_set, slice_index_or, ap, ◌∙◌, sym, subst, arith, rules, true≢false}
+use Rattle.std.proofs.lemmas.List.{length-append, length-map, map-set}
 use Rattle.std.specs.Option.{option_map}
 use Rattle.journal.specs.Did.{event}
 use Rattle.journal.specs.declared.event.Event.{Event}
@@ -18,9 +18,20 @@ use Rattle.book.specs.State.{State, time_of}
 use Rattle.book.specs.Transitions.{trimmed_by, book_taken}
 use Rattle.book.specs.Told.{IsTold}
 use Rattle.book.proofs.Calling.Calls.{own_read}
-use Rattle.book.proofs.Calling.Takes.{IsReceiving, reading, may_trim, log_is, taking_address, took_is, comes, received_is, brings_is}
+use Rattle.book.proofs.Calling.Takes.{IsReceiving, reading, may_trim, log_is, taking_address, took_is, comes, received_is, brings_is, receiving, not_idle}
 use Rattle.book.proofs.protocol.Protocol.take.Goals.{In-Some, After-has_come, After-index-2, In_ok-message, After-index_mut}
 use Rattle.book.proofs.protocol.Protocol.take.Goals as goal
+
+pub index-requires : goal.index-requires
+index-requires c =
+    let r = receiving c.args.self.now c.args.p c.requires.call.kind c.requires.call.take in
+    let e = ap (λ (b : State). length b.awaits) c.self.view_is in
+    omega (arith, r.awaits, e, length-map c.self.inside.awaits.items (option_map kind_of), c.self.inside.awaits.ok.0)
+
+pub unreachable-requires : goal.unreachable-requires
+unreachable-requires c =
+    not_idle (state_of c.self.inside) c.args.self.now c.self.inside.awaits.items c.args.p c.index.result.now refl
+    c.self.view_is c.requires.call c.index.ensures c.in_default.is
 
 -- what p waits for
 waits : (c : In-Some) → IsReceiving (state_of c.self.inside) c.args.p (kind_of c.in-Some.awaited)
@@ -54,6 +65,9 @@ received c is =
     c.deref-2.result.now c.index-2.result.now (letter c.in_ok-message.message) refl c.deref-2.ensures.value is
     c.in_ok-message.ensures.ok
 
+pub has_come-requires-clause-processor : goal.has_come-requires-clause-processor
+has_come-requires-clause-processor c = (waits (goal.at.has_come-requires-clause-processor c).In-Some).transit
+
 pub has_come-requires-clause-flag : goal.has_come-requires-clause-flag
 has_come-requires-clause-flag c f is =
     subst (λ fs. f < length fs) (sym c.deref.ensures.value)
@@ -73,6 +87,12 @@ returns-in_err-make_room-clause-absent c s h told =
           elim c.in_err-make_room.ensures.only [ inl full ↦ absurd (cc (full)) | inr none ↦ absurd (cc (none)) ]),
       λ isnt. absurd (isnt (is.0 c.if-not-has_come.false)),
     )
+
+pub returns-in_err-make_room-clause-err : goal.returns-in_err-make_room-clause-err
+returns-in_err-make_room-clause-err c = search rules
+
+pub returns-in_err-make_room-clause-full : goal.returns-in_err-make_room-clause-full
+returns-in_err-make_room-clause-full c = search rules
 
 pub index-requires-2 : goal.index-requires-2
 index-requires-2 c = omega (arith, (waits (goal.at.index-requires-2 c).In-Some).times, c.self.inside.times.ok.0)
@@ -100,6 +120,12 @@ returns-in_err-message-clause-absent c s h told =
       λ isnt. absurd (isnt (is.0 c.if-not-has_come.false)),
     )
 
+pub returns-in_err-message-clause-err : goal.returns-in_err-message-clause-err
+returns-in_err-message-clause-err c = search rules
+
+pub returns-in_err-message-clause-full : goal.returns-in_err-message-clause-full
+returns-in_err-message-clause-full c = search rules
+
 pub append-requires-clause-processor : goal.append-requires-clause-processor
 append-requires-clause-processor c =
     let lt = (waits (goal.at.append-requires-clause-processor c).In-Some).journal in
@@ -114,6 +140,9 @@ append-requires-clause-address c =
 
 pub index_mut-requires : goal.index_mut-requires
 index_mut-requires c = omega (arith, (waits (goal.at.index_mut-requires c).In-Some).times, c.self.inside.times.ok.0)
+
+pub index-requires-3 : goal.index-requires-3
+index-requires-3 c = omega (arith, (waits (goal.at.index-requires-3 c).In-Some).times, c.self.inside.times.ok.0)
 
 pub join-requires : goal.join-requires
 join-requires c =
@@ -143,6 +172,18 @@ trim-requires c =
     (c.join.ensures.same_length ∙ ap length (written at.After-index_mut w) ∙ w.own_long)
     (c.copy-before.ensures
     ∙ own_read c.self.inside.times.items c.args.p c.index-3.result.now w.times c.index-3.ensures)
+
+pub invariant_of-self-2 : goal.invariant_of-self-2
+invariant_of-self-2 c =
+    let room = ap (λ (l : Log). l.room) c.append.ensures in
+    let events = ap (λ (l : Log). length l.events) c.append.ensures in
+    let before = ap (λ (l : Log). length l.events) c.in_ok-make_room.ensures.same in
+    let more = length-append c.make_room.new.journal.events (event c.args.p c.kind-kind.result ∷ []) in
+    record {
+      room = omega (arith, room, c.in_ok-make_room.ensures.ok.0);
+      owing = omega arith;
+      few = omega (arith, events, before, more, c.in_ok-make_room.ensures.ok.1);
+    }
 
 -- the message is what p waited for
 was_due : (c : In_ok-message) → c.index-2.result.now ≡ time_of (state_of c.self.inside) c.args.p
