@@ -13,7 +13,7 @@ use rand_pcg::Pcg32;
 use std::alloc::{AllocError, Global};
 
 /// What a phase is drawn of.
-#[derive(Clone, Copy, PartialEq, Eq)]
+#[derive(Clone, Copy)]
 pub enum Style {
     /// Additions, each under the lock of its address.
     Guarded,

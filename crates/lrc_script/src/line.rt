@@ -9,7 +9,7 @@ use smallvec::SmallVec;
 use std::alloc::Global;
 
 /// The first word of a line.
-#[derive(Clone, Copy, Debug, PartialEq, Eq)]
+#[derive(Clone, Copy)]
 pub enum Keyword {
     Cluster,
     Section,
@@ -30,20 +30,32 @@ impl Keyword {
     pub fn of(word: &[u8]) -> Option<Keyword>
         ensures { result ≡ keyword_of word.now }
     {
-        match word {
-            b"cluster" => Some(Keyword::Cluster),
-            b"p" => Some(Keyword::Section),
-            b"load" => Some(Keyword::Load),
-            b"store" => Some(Keyword::Store),
-            b"add" => Some(Keyword::Add),
-            b"acquire" => Some(Keyword::Acquire),
-            b"release" => Some(Keyword::Release),
-            b"barrier" => Some(Keyword::Barrier),
-            b"set" => Some(Keyword::Set),
-            b"await" => Some(Keyword::Await),
-            b"cut" => Some(Keyword::Cut),
-            b"show" => Some(Keyword::Show),
-            _ => None,
+        if word == b"cluster".as_slice() {
+            Some(Keyword::Cluster)
+        } else if word == b"p".as_slice() {
+            Some(Keyword::Section)
+        } else if word == b"load".as_slice() {
+            Some(Keyword::Load)
+        } else if word == b"store".as_slice() {
+            Some(Keyword::Store)
+        } else if word == b"add".as_slice() {
+            Some(Keyword::Add)
+        } else if word == b"acquire".as_slice() {
+            Some(Keyword::Acquire)
+        } else if word == b"release".as_slice() {
+            Some(Keyword::Release)
+        } else if word == b"barrier".as_slice() {
+            Some(Keyword::Barrier)
+        } else if word == b"set".as_slice() {
+            Some(Keyword::Set)
+        } else if word == b"await".as_slice() {
+            Some(Keyword::Await)
+        } else if word == b"cut".as_slice() {
+            Some(Keyword::Cut)
+        } else if word == b"show".as_slice() {
+            Some(Keyword::Show)
+        } else {
+            None
         }
     }
 }

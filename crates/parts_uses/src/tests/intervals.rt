@@ -1,5 +1,6 @@
 //! Closed intervals, sent and trimmed.
-ghost use Rattle.std.specs.Prelude.{◌≡◌, ◌+◌, ◌<◌, ◌≤◌, Some, IfOk, OnOk, OnErr, length, map, slice_get, slice_set};
+ghost use Rattle.std.specs.Prelude.{◌≡◌, ℕ, ◌+◌, ◌<◌, ◌≤◌, Some, IfOk, OnOk, OnErr, length, map};
+ghost use Rattle.std.specs.Prelude.{slice_get, slice_index, slice_set};
 ghost use Rattle.std.specs.Arc.{arc_value};
 ghost use Rattle.interval.specs.Prelude.{HasRisingPages};
 
@@ -109,6 +110,25 @@ fn are_kept(closed: &Closed, wanted: &[(Notice, u64)]) -> bool {
     true
 }
 
+/// The timestamps with these entries, of which the first covers what was trimmed.
+fn times(
+    rt: &(impl Abort + AllocGlobal),
+    closed: &Closed,
+    old: [u64; 2],
+    new: [u64; 2],
+) -> (VTime, VTime)
+    requires { length closed.now.first ≡ 2 }
+    ensures old_long { length result.0 ≡ 2 }
+    ensures new_long { length result.1 ≡ 2 }
+    ensures none_trimmed { (q : ℕ) → slice_index closed.now.first q ≤ slice_index result.0 q }
+{
+    let old = stamp(rt.alloc(), old);
+    let new = stamp(rt.alloc(), new);
+    assert!(rt; closed.first(0) <= old.entry(0));
+    assert!(rt; closed.first(1) <= old.entry(1));
+    (old, new)
+}
+
 /// Whether these notices lie between the timestamps.
 fn has_between(
     rt: &(impl Abort + AllocGlobal),
@@ -119,10 +139,7 @@ fn has_between(
 ) -> Result<bool, AllocError>
     requires { length closed.now.first ≡ 2 }
 {
-    let old = stamp(rt.alloc(), old);
-    let new = stamp(rt.alloc(), new);
-    assert!(rt; closed.first(0) <= old.entry(0));
-    assert!(rt; closed.first(1) <= old.entry(1));
+    let (old, new) = times(rt, closed, old, new);
     let sent = closed.between(&old, &new)?;
     Ok(is_sent(&sent, wanted) && are_kept(closed, wanted))
 }
@@ -173,89 +190,55 @@ fn sends_in_closing_order(rt: HostRuntime) -> Result<(), Fail> {
     Ok(())
 }
 
-/// How many notices of the page lie between the timestamps.
-fn count_between(
-    rt: &(impl Abort + AllocGlobal),
-    closed: &Closed,
-    page: usize,
-    old: [u64; 2],
-    new: [u64; 2],
-) -> usize
-    requires { length closed.now.first ≡ 2 }
+/// Two timestamps, and how many notices of pages 0 and on lie between them.
+type Counts<'a> = ([u64; 2], [u64; 2], &'a [usize]);
+
+/// Whether so many notices of each page lie between the timestamps, counted page by page.
+fn has_each(closed: &Closed, old: &VTime, new: &VTime, counts: &[usize]) -> bool
+    requires old_long { length old.now ≡ length closed.now.first }
+    requires new_long { length new.now ≡ length closed.now.first }
+    requires none_trimmed { (q : ℕ) → slice_index closed.now.first q ≤ slice_index old.now q }
 {
-    let old = stamp(rt.alloc(), old);
-    let new = stamp(rt.alloc(), new);
-    assert!(rt; closed.first(0) <= old.entry(0));
-    assert!(rt; closed.first(1) <= old.entry(1));
-    closed.news_of(page, &old, &new)
+    for (page, count) in counts.iter().enumerate() {
+        if closed.news_of(page, old, new) != *count {
+            return false;
+        }
+    }
+    true
 }
 
-/// Counts the notices of each page between the timestamps into the slice, whatever stood there.
-fn count_into(
-    rt: &(impl Abort + AllocGlobal),
-    closed: &Closed,
-    old: [u64; 2],
-    new: [u64; 2],
-    counts: &mut [usize],
-)
+/// Whether so many notices lie between the row's timestamps, counted at once, whatever stood there, and page by page.
+fn has_counts(rt: &(impl Abort + AllocGlobal), closed: &Closed, row: &Counts) -> bool
     requires { length closed.now.first ≡ 2 }
 {
-    let old = stamp(rt.alloc(), old);
-    let new = stamp(rt.alloc(), new);
-    assert!(rt; closed.first(0) <= old.entry(0));
-    assert!(rt; closed.first(1) <= old.entry(1));
-    closed.count_news(&old, &new, counts);
-}
-
-/// How many notices of pages 0 to 3 lie between the timestamps, counted at once.
-fn counts_between(
-    rt: &(impl Abort + AllocGlobal),
-    closed: &Closed,
-    old: [u64; 2],
-    new: [u64; 2],
-) -> [usize; 4]
-    requires { length closed.now.first ≡ 2 }
-{
-    let mut counts = [9; 4];
-    count_into(rt, closed, old, new, &mut counts);
-    counts
+    let (old, new, counts) = *row;
+    let (old, new) = times(rt, closed, old, new);
+    let mut all = [9; 4];
+    let Some(found) = all.get_mut(..counts.len()) else {
+        return false;
+    };
+    closed.count_news(&old, &new, found);
+    *found == *counts && has_each(closed, &old, &new, counts)
 }
 
 #[test]
-fn counts_the_news_of_all_pages(rt: HostRuntime) -> Result<(), Fail> {
+fn counts_the_news(rt: HostRuntime) -> Result<(), Fail> {
     let mut closed = four_intervals(rt.alloc())?;
-    let rows = [
-        ([0, 0], [2, 2], [1, 0, 1, 2]),
-        ([1, 0], [2, 2], [1, 0, 1, 1]),
-        ([0, 0], [9, 0], [0, 0, 0, 1]),
-        ([2, 2], [2, 2], [0; 4]),
+    let rows: [Counts; 6] = [
+        ([0, 0], [2, 2], &[1, 0, 1, 2]),
+        ([1, 0], [2, 2], &[1, 0, 1, 1]),
+        ([0, 0], [2, 1], &[1, 0, 1, 1]),
+        ([0, 0], [9, 0], &[0, 0, 0, 1]),
+        ([1, 0], [2, 2], &[1]),
+        ([2, 2], [2, 2], &[0; 4]),
     ];
-    for (old, new, counts) in rows {
-        assert_eq!(rt; counts_between(&rt, &closed, old, new), counts);
+    for row in &rows {
+        assert!(rt; has_counts(&rt, &closed, row));
     }
     closed.trim(0, 1);
-    assert_eq!(rt; counts_between(&rt, &closed, [1, 1], [2, 2]), [0, 0, 0, 1]);
-    assert_eq!(rt; counts_between(&rt, &closed, [9, 0], [0, 1]), [1, 0, 1, 0]);
-    let mut one = [5];
-    count_into(&rt, &closed, [1, 0], [2, 2], &mut one);
-    assert_eq!(rt; one, [1]);
-    Ok(())
-}
-
-#[test]
-fn counts_the_news_of_a_page(rt: HostRuntime) -> Result<(), Fail> {
-    let closed = four_intervals(rt.alloc())?;
-    let rows = [
-        (3, [0, 0], [2, 2], 2),
-        (3, [1, 0], [2, 2], 1),
-        (3, [0, 0], [2, 1], 1),
-        (2, [0, 0], [2, 2], 1),
-        (1, [0, 0], [2, 2], 0),
-        (3, [2, 2], [2, 2], 0),
-    ];
-    for (page, old, new, count) in rows {
-        assert_eq!(rt; count_between(&rt, &closed, page, old, new), count);
-    }
+    assert!(rt; has_counts(&rt, &closed, &([1, 1], [2, 2], &[0, 0, 0, 1])));
+    assert!(rt; has_counts(&rt, &closed, &([9, 0], [0, 1], &[1, 0, 1, 0])));
+    assert!(rt; has_counts(&rt, &closed, &([1, 0], [2, 2], &[1])));
     Ok(())
 }
 
@@ -416,9 +399,8 @@ fn keeps_more_than_a_thousand_intervals(rt: HostRuntime) -> Result<(), Fail> {
     keep_many(rt.alloc(), &mut closed, 1_025)?;
     let last = [(notice(3, 0, 1_023), 1_023), (notice(3, 0, 1_024), 1_024)];
     assert!(rt; has_between(&rt, &closed, [1_023, 0], [1_025, 0], &last)?);
-    assert_eq!(rt; count_between(&rt, &closed, 3, [0, 0], [1_025, 0]), 1_025);
-    let counts = counts_between(&rt, &closed, [1_000, 0], [1_024, 0]);
-    assert_eq!(rt; counts, [0, 0, 0, 24]);
+    assert!(rt; has_counts(&rt, &closed, &([0, 0], [1_025, 0], &[0, 0, 0, 1_025])));
+    assert!(rt; has_counts(&rt, &closed, &([1_000, 0], [1_024, 0], &[0, 0, 0, 24])));
     closed.trim(0, 1_024);
     assert!(rt; begins_at(&closed, 1_024, 0));
     assert!(rt; closed.record_of(&notice(3, 0, 1_023)).is_none());

@@ -23,26 +23,27 @@ fn grants_in_the_order_of_asks(rt: HostRuntime) -> Result<(), Fail> {
             Ok(locks) => locks,
             Err(_) => Locks::new(rt.alloc(), 1, 3)?,
         };
-        assert_eq!(rt; locks.holder(0), None);
+        assert!(rt; locks.holder(0).is_none());
         assert!(rt; locks.ask(0, holder));
         assert!(rt; !locks.ask(0, first));
         assert!(rt; !locks.ask(0, second));
-        assert_eq!(rt; locks.holder(0), Some(holder));
-        assert_eq!(rt; locks.next(0), Some(first));
+        assert!(rt; locks.holder(0) == Some(holder));
+        assert!(rt; locks.next(0) == Some(first));
 
         let mut time = VTime::zero(rt.alloc(), 3);
         time.tick(holder);
-        assert_eq!(rt; locks.release(0, holder, time), Some(first));
-        assert_eq!(rt; locks.time(0).entry(holder), 1);
-        assert_eq!(rt; locks.holder(0), Some(first));
-        assert_eq!(rt;
-            locks.release(0, first, VTime::zero(rt.alloc(), 3)),
-            Some(second)
+        assert!(rt; locks.release(0, holder, time) == Some(first));
+        assert!(rt; locks.time(0).entry(holder) == 1);
+        assert!(rt; locks.holder(0) == Some(first));
+        assert!(rt; locks.release(0, first, VTime::zero(rt.alloc(), 3)) == Some(second));
+        assert!(rt; locks.next(0).is_none());
+        assert!(rt;
+            locks
+                .release(0, second, VTime::zero(rt.alloc(), 3))
+                .is_none()
         );
-        assert_eq!(rt; locks.next(0), None);
-        assert_eq!(rt; locks.release(0, second, VTime::zero(rt.alloc(), 3)), None);
-        assert_eq!(rt; locks.holder(0), None);
-        assert_eq!(rt; locks.time(0).entry(holder), 0);
+        assert!(rt; locks.holder(0).is_none());
+        assert!(rt; locks.time(0).entry(holder) == 0);
     }
     Ok(())
 }
@@ -67,16 +68,16 @@ fn holds_several_locks(rt: HostRuntime) -> Result<(), Fail> {
     assert!(rt; locks.ask(31, 0));
     assert!(rt; locks.ask(4, 0));
     assert!(rt; locks.ask(5, 9));
-    assert_eq!(rt; locks.holder(31), Some(0));
-    assert_eq!(rt; locks.holder(4), Some(0));
+    assert!(rt; locks.holder(31) == Some(0));
+    assert!(rt; locks.holder(4) == Some(0));
     ask_all(&mut locks, 31);
-    assert_eq!(rt; locks.holder(31), Some(0));
+    assert!(rt; locks.holder(31) == Some(0));
     for processor in 0..15 {
-        assert_eq!(rt; locks.holder(31), Some(processor));
-        assert_eq!(rt; locks.next(31), Some(processor + 1));
+        assert!(rt; locks.holder(31) == Some(processor));
+        assert!(rt; locks.next(31) == Some(processor + 1));
         locks.release(31, processor, VTime::zero(rt.alloc(), 16));
     }
-    assert_eq!(rt; locks.next(31), None);
+    assert!(rt; locks.next(31).is_none());
     Ok(())
 }
 
@@ -85,12 +86,12 @@ fn takes_more_than_a_thousand_locks(rt: HostRuntime) -> Result<(), Fail> {
     let mut locks = Locks::new(rt.alloc(), 1_025, MOST_PROCESSORS)?;
     assert!(rt; locks.ask(1_024, 15));
     assert!(rt; !locks.ask(1_024, 0));
-    assert_eq!(rt; locks.holder(1_023), None);
-    assert_eq!(rt; locks.holder(1_024), Some(15));
+    assert!(rt; locks.holder(1_023).is_none());
+    assert!(rt; locks.holder(1_024) == Some(15));
     let mut time = VTime::zero(rt.alloc(), MOST_PROCESSORS);
     time.tick(15);
-    assert_eq!(rt; locks.release(1_024, 15, time), Some(0));
-    assert_eq!(rt; locks.time(1_024).entry(15), 1);
-    assert_eq!(rt; locks.time(1_023).entry(15), 0);
+    assert!(rt; locks.release(1_024, 15, time) == Some(0));
+    assert!(rt; locks.time(1_024).entry(15) == 1);
+    assert!(rt; locks.time(1_023).entry(15) == 0);
     Ok(())
 }

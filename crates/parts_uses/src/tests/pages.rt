@@ -13,12 +13,12 @@ fn expect_harvest(rt: &impl Abort, page: &Page, wanted: &[(usize, u32)]) {
     };
     match answer {
         Some(record) => {
-            assert_eq!(rt; record.page(), 3);
-            assert_eq!(rt; record.words(), wanted);
+            assert!(rt; record.page() == 3);
+            assert!(rt; record.words() == wanted);
         }
-        None => assert_eq!(rt; wanted.len(), 0),
+        None => assert!(rt; wanted.is_empty()),
     }
-    assert_eq!(rt; page.is_clean(), wanted.is_empty());
+    assert!(rt; page.is_clean() == wanted.is_empty());
 }
 
 /// Passes also where one growth, any of them, is refused.
@@ -33,12 +33,12 @@ fn harvests_what_is_dirty(rt: HostRuntime) -> Result<(), Fail> {
     page.store(0, 5);
     page.store(2, 7);
     expect_harvest(&rt, &page, &[(0, 5), (2, 7)]);
-    assert_eq!(rt; page.load(2), 7);
+    assert!(rt; page.load(2) == 7);
     page.clean();
     expect_harvest(&rt, &page, &[]);
     page.store(1, 0);
     expect_harvest(&rt, &page, &[(1, 0)]);
-    assert_eq!(rt; page.words(), [5, 0, 7, 0].as_slice());
+    assert!(rt; page.words() == [5, 0, 7, 0].as_slice());
     Ok(())
 }
 
@@ -79,24 +79,24 @@ fn carries_stores_to_another_copy(rt: HostRuntime) -> Result<(), Fail> {
     other.store(1, 9);
     other.clean();
     other.set_invalid();
-    assert_eq!(rt; other.access(), Access::Invalid);
+    assert!(rt; other.access() == Access::Invalid);
 
     mine.store(1, 4);
     mine.store(1, 0);
     mine.store(2, 6);
     let record = mine.harvest(0)?.ok_or("two words are dirty")?;
-    assert_eq!(rt; record.words(), [(1, 0), (2, 6)].as_slice());
-    assert_eq!(rt; record.words().len(), 2);
+    assert!(rt; record.words() == [(1, 0), (2, 6)].as_slice());
+    assert!(rt; record.words().len() == 2);
     let words = vec![in rt.alloc(); (1, 0), (2, 6)]?;
     let copy = Record::from_words(0, words).ok_or("these rise")?;
     other.set_valid();
     other.set_invalid();
-    assert_eq!(rt; copy.words(), record.words());
+    assert!(rt; copy.words() == record.words());
     other.apply(&record);
-    assert_eq!(rt; other.words(), [8, 0, 6].as_slice());
+    assert!(rt; other.words() == [8, 0, 6].as_slice());
     assert!(rt; other.is_clean());
     other.set_valid();
-    assert_eq!(rt; other.access(), Access::Valid);
-    assert_eq!(rt; other.load(0), 8);
+    assert!(rt; other.access() == Access::Valid);
+    assert!(rt; other.load(0) == 8);
     Ok(())
 }

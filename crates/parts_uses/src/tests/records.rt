@@ -11,15 +11,15 @@ fn shared<T: Send + Sync + Drop>(value: T) -> T {
 fn takes_rising_words_alone(rt: HostRuntime) -> Result<(), Fail> {
     let words = vec![in rt.alloc(); (0, 5), (2, 7)]?;
     let record = Record::from_words(3, words).ok_or("these rise")?;
-    assert_eq!(rt; record.page(), 3);
-    assert_eq!(rt; record.words(), [(0, 5), (2, 7)].as_slice());
+    assert!(rt; record.page() == 3);
+    assert!(rt; record.words() == [(0, 5), (2, 7)].as_slice());
 
     let twice = vec![in rt.alloc(); (2, 5), (2, 7)]?;
     assert!(rt; Record::from_words(3, twice).is_none());
     let falling = vec![in rt.alloc(); (2, 5), (0, 7)]?;
     assert!(rt; Record::from_words(3, falling).is_none());
     let empty = Record::new(1, Vec::new(rt.alloc()));
-    assert_eq!(rt; empty.words().len(), 0);
+    assert!(rt; empty.words().is_empty());
     Ok(())
 }
 
@@ -28,6 +28,6 @@ fn is_shared_among_threads(rt: HostRuntime) -> Result<(), Fail> {
     let words = vec![in rt.alloc(); (0, 5)]?;
     let record = Record::from_words(3, words).ok_or("one word rises")?;
     let record = shared(Arc::new(rt.alloc(), record)?);
-    assert_eq!(rt; record.words(), [(0, 5)].as_slice());
+    assert!(rt; record.words() == [(0, 5)].as_slice());
     Ok(())
 }

@@ -1,4 +1,4 @@
-ghost use Rattle.std.specs.Prelude.{◌≡◌, ◌*◌, ◌^◌, ◌<◌, IfOk};
+ghost use Rattle.std.specs.Prelude.{◌≡◌, ◌*◌, ◌^◌, ◌<◌, ◌≤◌, IfOk};
 ghost use Rattle.turn.specs.Prelude.{lock, lock_id, IsOutside, IsSameChair, AreAll};
 
 use super::{ArrayLock, Lock, NEXT, TicketLock};
@@ -78,67 +78,80 @@ fn enter_at<B, T: Turn<B, Anything>, R: Wait>(
     pass_through(rt, turn, &mut chairs[place])
 }
 
-#[test]
-fn the_words_of_the_row(rt: HostRuntime) -> Result<(), Fail> {
-    let (turn, mut chairs) = ArrayLock::<u64, Anything, 3>::new(rt.alloc(), 7, 2)?;
+/// A chair's place, whether it may still enter, and then the words after the next number.
+type Step = (usize, bool, [u64; 2]);
+
+// Whether the step goes so: a spent chair doesn't enter, and leaves the words as they are.
+fn goes<W: Board + Sync, R: Wait>(
+    rt: &R,
+    turn: &Lock<u64, Anything, W, 3>,
+    chairs: &mut Vec<Chair<u64, Anything>>,
+    step: &Step,
+) -> bool
+    requires { AreAll (lock_id turn.now.table.shared.table_id 3) turn.now.layout.seats
+        chairs.old.items }
+    ensures { AreAll (lock_id turn.now.table.shared.table_id 3) turn.now.layout.seats
+        chairs.new.items }
+{
+    let (place, enters, words) = *step;
+    place < turn.layout.seats
+        && enter_at(rt, turn, chairs, place).is_ok() == enters
+        && shown(turn) == words
+}
+
+// Opens a lock over 7 with so many chairs, each of which may enter three times, makes the steps, and closes it.
+fn makes<W: Board + Sync, R: Wait + Abort>(
+    rt: &R,
+    alloc: Global,
+    seats: usize,
+    steps: &[Step],
+) -> Result<(), AllocError>
+    requires { (1 ≤ seats) × (seats ≤ 2) }
+{
+    let (turn, mut chairs) = Lock::<u64, Anything, W, 3>::new(alloc, 7, seats)?;
     assert!(rt; shown(&turn) == [0, 0]);
-    enter_at(&rt, &turn, &mut chairs, 0)?;
-    assert!(rt; shown(&turn) == [0, 1]);
-    enter_at(&rt, &turn, &mut chairs, 1)?;
-    assert!(rt; shown(&turn) == [2, 1]);
-    enter_at(&rt, &turn, &mut chairs, 0)?;
-    assert!(rt; shown(&turn) == [2, 3]);
+    for step in steps {
+        assert!(rt; goes(rt, &turn, &mut chairs, step));
+    }
     assert!(rt; turn.close(chairs) == 7);
     Ok(())
 }
 
 #[test]
-fn the_words_of_the_row_with_one_chair(rt: HostRuntime) -> Result<(), Fail> {
-    let (turn, mut chairs) = ArrayLock::<u64, Anything, 10>::new(rt.alloc(), 7, 1)?;
-    enter_at(&rt, &turn, &mut chairs, 0)?;
-    assert!(rt; shown(&turn) == [1, 0]);
-    enter_at(&rt, &turn, &mut chairs, 0)?;
-    assert!(rt; shown(&turn) == [2, 0]);
-    assert!(rt; turn.close(chairs) == 7);
+fn the_words_of_the_row(rt: HostRuntime) -> Result<(), Fail> {
+    let steps = [(0, true, [0, 1]), (1, true, [2, 1]), (0, true, [2, 3])];
+    makes::<Row, _>(&rt, rt.alloc(), 2, &steps)?;
+    makes::<Row, _>(&rt, rt.alloc(), 1, &[(0, true, [1, 0]), (0, true, [2, 0])])?;
     Ok(())
 }
 
 #[test]
 fn the_word_of_the_counter(rt: HostRuntime) -> Result<(), Fail> {
-    let (turn, mut chairs) = TicketLock::<u64, Anything, 3>::new(rt.alloc(), 7, 2)?;
-    assert!(rt; shown(&turn) == [0, 0]);
-    enter_at(&rt, &turn, &mut chairs, 0)?;
-    assert!(rt; shown(&turn) == [1, 0]);
-    enter_at(&rt, &turn, &mut chairs, 1)?;
-    assert!(rt; shown(&turn) == [2, 0]);
-    assert!(rt; turn.close(chairs) == 7);
+    makes::<Counter, _>(&rt, rt.alloc(), 2, &[(0, true, [1, 0]), (1, true, [2, 0])])?;
     Ok(())
 }
 
-// Enters three times with one chair of two; then it is spent, the words stay, and the other chair enters.
-fn spends<T: Turn<u64, Anything>, R: Wait + Abort>(
-    rt: &R,
-    turn: T,
-    mut chairs: Vec<Chair<u64, Anything>>,
-)
-    requires all { AreAll (T.id turn) (T.size turn) chairs.items }
-    requires two { T.size turn ≡ 2 }
-{
-    assert!(rt; enter_at(rt, &turn, &mut chairs, 0).is_ok());
-    assert!(rt; enter_at(rt, &turn, &mut chairs, 0).is_ok());
-    assert!(rt; enter_at(rt, &turn, &mut chairs, 0).is_ok());
-    assert!(rt; enter_at(rt, &turn, &mut chairs, 0) == Err(Spent));
-    assert!(rt; enter_at(rt, &turn, &mut chairs, 1).is_ok());
-    assert!(rt; enter_at(rt, &turn, &mut chairs, 0) == Err(Spent));
-    assert!(rt; turn.close(chairs) == 7);
-}
-
+// One chair of two enters three times; then it is spent, the words stay, and the other chair enters.
 #[test]
 fn a_chair_is_spent_after_its_entries(rt: HostRuntime) -> Result<(), Fail> {
-    let (turn, chairs) = TicketLock::<u64, Anything, 3>::new(rt.alloc(), 7, 2)?;
-    spends(&rt, turn, chairs);
-    let (turn, chairs) = ArrayLock::<u64, Anything, 3>::new(rt.alloc(), 7, 2)?;
-    spends(&rt, turn, chairs);
+    let steps = [
+        (0, true, [1, 0]),
+        (0, true, [2, 0]),
+        (0, true, [3, 0]),
+        (0, false, [3, 0]),
+        (1, true, [4, 0]),
+        (0, false, [4, 0]),
+    ];
+    makes::<Counter, _>(&rt, rt.alloc(), 2, &steps)?;
+    let steps = [
+        (0, true, [0, 1]),
+        (0, true, [2, 1]),
+        (0, true, [2, 3]),
+        (0, false, [2, 3]),
+        (1, true, [4, 3]),
+        (0, false, [4, 3]),
+    ];
+    makes::<Row, _>(&rt, rt.alloc(), 2, &steps)?;
     Ok(())
 }
 
@@ -255,8 +268,8 @@ fn in_turn<W: Board + Sync, R: Threads + Wait + Clock + Sync>(
 #[test]
 fn a_chair_waits_for_the_one_inside(rt: HostRuntime) -> Result<(), Fail> {
     for _ in 0..10 {
-        assert_eq!(rt; in_turn::<Counter, _>(&rt, rt.alloc())?, (Ok(7), Ok(8)));
-        assert_eq!(rt; in_turn::<Row, _>(&rt, rt.alloc())?, (Ok(7), Ok(8)));
+        assert!(rt; in_turn::<Counter, _>(&rt, rt.alloc())? == (Ok(7), Ok(8)));
+        assert!(rt; in_turn::<Row, _>(&rt, rt.alloc())? == (Ok(7), Ok(8)));
     }
     Ok(())
 }
@@ -268,20 +281,15 @@ fn the_text_of_a_spent_chair(rt: HostRuntime) -> Result<(), Fail> {
     Ok(())
 }
 
-fn crosses<T: Send + Drop>(_it: &T) {}
+fn crosses<T: Send + Drop>() {}
 
-fn is_shared<T: Sync>(_it: &T) {}
+fn is_shared<T: Sync>() {}
 
 #[test]
-fn locks_and_chairs_cross_threads(rt: HostRuntime) -> Result<(), Fail> {
-    let (tickets, chairs) = TicketLock::<u64, Anything, 3>::new(rt.alloc(), 7, 2)?;
-    let (row, others) = ArrayLock::<u64, Anything, 3>::new(rt.alloc(), 7, 2)?;
-    crosses(&tickets);
-    crosses(&row);
-    is_shared(&tickets);
-    is_shared(&row);
-    crosses(&chairs);
-    crosses(&others);
-    assert!(rt; tickets.close(chairs) == row.close(others));
-    Ok(())
+fn locks_and_chairs_cross_threads(_rt: HostRuntime) {
+    crosses::<TicketLock<u64, Anything, 3>>();
+    crosses::<ArrayLock<u64, Anything, 3>>();
+    is_shared::<TicketLock<u64, Anything, 3>>();
+    is_shared::<ArrayLock<u64, Anything, 3>>();
+    crosses::<Vec<Chair<u64, Anything>>>();
 }

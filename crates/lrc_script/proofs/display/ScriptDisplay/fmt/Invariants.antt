@@ -8,5 +8,5 @@ abbrev pub invariant-loop-k : goal.invariant-loop-k
 invariant-loop-k g l =
     IsPlainFormatter l.initial.f
     → HasWritten g.W.Write.write_str_gives l.initial.f
-    (flat_map line_text (section_lines 0 (map (λ section. section.items) (take l.k-counter l.section-items))))
+    (flat_map line_text (section_lines 0 (map (λ section. section.items) (take l.k l.section-items))))
     l.f
