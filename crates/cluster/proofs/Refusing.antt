@@ -68,7 +68,7 @@ copy_read was m a page x same free place read =
     ∙ get_or_from_slice_get m.copies (a / m.sizes.words) may.copy x may.at in
     (may.at ∙ ap (λ (c : Copied). Some c) (sym is), ap (λ (c : Copied). c.page.access) is ∙ may.valid)
 
--- it has a place among the copies, and among the marks
+-- it has a place among the copies,
 pub place_within : (was m : Local) (a page : ℕ) → was ≡ m → access_refusal m a ≡ None → page ≡ a / m.sizes.words
     → page < length was.copies
 place_within was m a page same free place =
