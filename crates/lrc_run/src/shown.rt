@@ -1,5 +1,5 @@
 //! The loads of the addresses that a script shows.
-ghost use Rattle.std.specs.Prelude.{◌≡◌, [], IfOk, OnOk, map};
+ghost use Rattle.std.specs.Prelude.{◌≡◌, IfOk, map};
 ghost use Rattle.cluster.specs.Prelude.{IsSameProcessor};
 ghost use Rattle.lrc_run.specs.Prelude.{Loads};
 
@@ -24,27 +24,9 @@ pub(crate) fn show<T: Turn<Book, Rule>, R: Wait>(
     ensures addresses { IfOk result (λ words. map (λ x. x.0) words.items ≡ addresses.now) }
 {
     let mut words = Vec::with_capacity(alloc, addresses.len())?;
-    load_all(rt, cluster, processor, addresses, &mut words)?;
-    Ok(words)
-}
-
-/// Loads the addresses in their order, and puts each behind the others with its word. It stands apart since nothing is
-/// to be dropped where a load is refused.
-fn load_all<T: Turn<Book, Rule>, R: Wait>(
-    rt: &R,
-    cluster: &Cluster<T>,
-    processor: &mut Processor<T>,
-    addresses: &[usize],
-    words: &mut Vec<(usize, u32)>,
-) -> Result<(), Refused>
-    requires own { processor.old.lock ≡ cluster.now.lock }
-    requires none { words.old.items ≡ [] }
-    ensures ok { OnOk result (Loads processor.old processor.new words.new.items) }
-    ensures addresses { OnOk result (map (λ x. x.0) words.new.items ≡ addresses.now) }
-{
     for address in addresses {
         let word = load(rt, cluster, processor, *address)?;
         words.push((*address, word)).map_err(AllocError::from)?;
     }
-    Ok(())
+    Ok(words)
 }

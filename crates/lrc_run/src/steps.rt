@@ -98,48 +98,18 @@ fn go_round<T: Turn<Book, Rule>, R: Wait>(
     requires new { AreNew cluster.now processors.old.items }
     ensures { OnOk result (AreWalked cluster.now (plan_of script.now).sections processors.new.items) }
 {
+    let (mut all, mut list) = match beginnings(alloc, processors.len()) {
+        Ok(beginnings) => beginnings,
+        Err(error) => return Err(outside(Cause::from(error))),
+    };
     let mut generator = generator_of(seed);
-    match beginnings(alloc, processors.len()) {
-        Ok(beginnings) => {
-            let (mut all, mut list) = beginnings;
-            rounds(
-                rt,
-                cluster,
-                processors,
-                script,
-                &mut generator,
-                &mut all,
-                &mut list,
-            )
-        }
-        Err(error) => Err(outside(Cause::from(error))),
-    }
-}
-
-/// The rounds, with memory for their orders. They stand apart since nothing is to be dropped where a turn is refused.
-fn rounds<T: Turn<Book, Rule>, R: Wait>(
-    rt: &R,
-    cluster: &Cluster<T>,
-    processors: &mut Vec<Processor<T>>,
-    script: &Script,
-    generator: &mut Option<Pcg32>,
-    all: &mut Vec<Progress>,
-    list: &mut Vec<usize>,
-) -> Result<(), RunFault>
-    requires lawful { IsLawful (plan_of script.now) }
-    requires sizes { cluster.now.sizes ≡ sizes_of (plan_of script.now) }
-    requires long { vec_len list.old ≡ cluster.now.sizes.processors }
-    requires way { AreOnTheirWay cluster.now (plan_of script.now).sections processors.old.items
-        all.old.items }
-    ensures { OnOk result (AreWalked cluster.now (plan_of script.now).sections processors.new.items) }
-{
     for _ in rt.forever() {
-        if have_passed(all) {
+        if have_passed(&all) {
             return Ok(());
         }
-        draw(generator, list);
-        if !round(rt, cluster, processors, all, script, list)? {
-            return Err(stuck(all));
+        draw(&mut generator, &mut list);
+        if !round(rt, cluster, processors, &mut all, script, &list)? {
+            return Err(stuck(&all));
         }
     }
     unreachable!()

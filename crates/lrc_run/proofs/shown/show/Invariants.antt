@@ -1,6 +1,6 @@
 use Rattle.std.proofs.Common.{◌≡◌, ℕ, take, map}
 use Rattle.lrc_run.specs.Walks.{Loads}
-use Rattle.lrc_run.proofs.shown.load_all.Given as goal
+use Rattle.lrc_run.proofs.shown.show.Given as goal
 
 abbrev pub invariant-loop-address : goal.invariant-loop-address
 invariant-loop-address g l = record {
