@@ -3,7 +3,6 @@ ghost use Rattle.std.specs.Prelude.{◌≡◌, IfOk, IfErr, false, true, map, op
 ghost use Rattle.std.specs.Option.{option_map_or};
 ghost use Rattle.std.specs.Str.{bytes_eq};
 ghost use Rattle.clap.specs.Words.{app_of, rule_of, first_of, one_of, rows_of, found_of};
-ghost use Rattle.clap.specs.Words.{new_app, new_rule, with_rule, with_subcommand};
 ghost use Rattle.clap.specs.declared.builder.command.Command.TheViews.{out-Command};
 ghost use Rattle.lrc_words.specs.Words.{tries_rule, seed_rule, lock_rule, journal_rule, script_app, lrc_app};
 ghost use Rattle.lrc_words.specs.Words.{IsNumberRead, IsNumberGiven, IsSeedGiven, IsFlagGiven, AreOptionsOf};
@@ -84,17 +83,6 @@ fn journal_arg<'a>(alloc: Global) -> Arg<'a>
         .help("prints a line for each event too")
 }
 
-/// A command on a script's file, without an option yet.
-fn with_file<'a>(alloc: Global, name: &'a str, about: &'a str) -> Result<Command<'a>, AllocError>
-    ensures app { IfOk result (λ c. app_of c
-        ≡ with_rule (new_app name.entry.now) (new_rule (codes "FILE"))) }
-    ensures globals { IfOk result (λ c. (out-Command c).has_globals ≡ false) }
-{
-    let file = Arg::new(alloc, "FILE").help("the script; standard input where it isn't given");
-    let command = Command::new(alloc, name).about(about).arg(file)?;
-    Ok(command)
-}
-
 /// A command on a script's file, with an option of its own.
 fn script_command<'a>(
     alloc: Global,
@@ -108,32 +96,14 @@ fn script_command<'a>(
         ≡ script_app name.entry.now (rule_of own.entry) (vp.Names locks.entry)) }
     ensures globals { IfOk result (λ c. (out-Command c).has_globals ≡ false) }
 {
-    let command = with_file(alloc, name, about)?
+    let file = Arg::new(alloc, "FILE").help("the script; standard input where it isn't given");
+    let command = Command::new(alloc, name)
+        .about(about)
+        .arg(file)?
         .arg(own)?
         .arg(lock_arg(alloc, locks))?
         .arg(journal_arg(alloc))?;
     Ok(command)
-}
-
-/// `lrc` with its command `run` alone.
-fn with_run<'a>(alloc: Global, locks: &'a [&'a str]) -> Result<Command<'a>, AllocError>
-    ensures app { IfOk result (λ c. app_of c
-        ≡ with_subcommand (new_app (codes "lrc"))
-        (script_app (codes "run") tries_rule (vp.Names locks.entry)).top) }
-    ensures globals { IfOk result (λ c. (out-Command c).has_globals ≡ false) }
-{
-    let run = script_command(
-        alloc,
-        "run",
-        "Runs each processor on a thread of its own",
-        tries_arg(alloc),
-        locks,
-    )?;
-    let lrc = Command::new(alloc, "lrc")
-        .about(ABOUT)
-        .after_help(AFTER)
-        .subcommand(run)?;
-    Ok(lrc)
 }
 
 /// The command that the words are read by.
@@ -142,6 +112,13 @@ fn command<'a>(alloc: Global, locks: &'a [&'a str]) -> Result<Command<'a>, Alloc
     ensures globals { IfOk result (λ c. (out-Command c).has_globals ≡ false) }
     ensures wants { IfOk result (λ c. (out-Command c).subcommand_required ≡ true) }
 {
+    let run = script_command(
+        alloc,
+        "run",
+        "Runs each processor on a thread of its own",
+        tries_arg(alloc),
+        locks,
+    )?;
     let step = script_command(
         alloc,
         "step",
@@ -149,7 +126,10 @@ fn command<'a>(alloc: Global, locks: &'a [&'a str]) -> Result<Command<'a>, Alloc
         seed_arg(alloc),
         locks,
     )?;
-    let lrc = with_run(alloc, locks)?
+    let lrc = Command::new(alloc, "lrc")
+        .about(ABOUT)
+        .after_help(AFTER)
+        .subcommand(run)?
         .subcommand(step)?
         .subcommand_required(true);
     Ok(lrc)

@@ -1,25 +1,37 @@
-use Rattle.std.proofs.Common.{◌≡◌, ◌∙◌, ap, ap₂, codes, true}
+use Rattle.std.proofs.Common.{◌≡◌, ◌∙◌, ap, ap₂, codes, true, false}
 use Rattle.clap.specs.Words.{App, Rule, app_of, with_subcommand}
 use Rattle.clap.specs.Simple.{app_of_fields, on_top}
 use Rattle.clap.specs.declared.builder.command.Command.{Command}
 use Rattle.clap.specs.declared.builder.command.Command.TheOpen.{Command-F}
+use Rattle.clap.specs.declared.builder.command.Command.TheViews.{out-Command}
 use Rattle.clap.specs.declared.builder.value_parser.ValueParser.TheVariants as vp
-use Rattle.lrc_words.specs.Words.{script_app, seed_rule}
+use Rattle.lrc_words.specs.Words.{script_app, seed_rule, tries_rule}
 use Rattle.lrc_words.proofs.Wording.{still_local}
 use Rattle.lrc_words.proofs.words.command.Goals as goal
 
 pub returns : goal.returns
 returns c =
     let locks = vp.Names c.args.locks in
+    let about : app_of c.about.result ≡ app_of c.new.result = ap app_of_fields c.about.ensures in
+    let start : app_of c.after_help.result ≡ app_of c.about.result = ap app_of_fields c.after_help.ensures in
+    let about_local : (out-Command c.about.result).has_globals ≡ false =
+    ap (λ (f : Command-F Command). f.has_globals) c.about.ensures ∙ c.new.ensures.local in
+    let start_local : (out-Command c.after_help.result).has_globals ≡ false =
+    ap (λ (f : Command-F Command). f.has_globals) c.after_help.ensures ∙ about_local in
+    let run_is : app_of c.in_ok-run.run' ≡ script_app (codes "run") tries_rule locks =
+    c.in_ok-run.ensures.app ∙ ap (λ (r : Rule). script_app (codes "run") r locks) c.tries_arg.ensures.rule in
     let step_is : app_of c.in_ok-step.step ≡ script_app (codes "step") seed_rule locks =
     c.in_ok-step.ensures.app ∙ ap (λ (r : Rule). script_app (codes "step") r locks) c.seed_arg.ensures.rule in
-    let with_step = c.in_ok-subcommand.ensures.shape c.in_ok-step.ensures.globals
-    ∙ ap₂ with_subcommand c.in_ok-with_run.ensures.app (ap (λ (a : App). a.top) step_is) in
+    let with_run = c.in_ok-subcommand.ensures.shape c.in_ok-run.ensures.globals
+    ∙ ap₂ with_subcommand (start ∙ about ∙ c.new.ensures.app) (ap (λ (a : App). a.top) run_is) in
+    let with_step = c.in_ok-subcommand-2.ensures.shape c.in_ok-step.ensures.globals
+    ∙ ap₂ with_subcommand with_run (ap (λ (a : App). a.top) step_is) in
     record {
       app = ap app_of_fields c.subcommand_required-lrc.ensures
           ∙ ap (on_top (λ s. record s { subcommand_required = true })) with_step;
       globals = ap (λ (f : Command-F Command). f.has_globals) c.subcommand_required-lrc.ensures
-          ∙ still_local _ _ _ c.in_ok-subcommand.ensures.globals c.in_ok-with_run.ensures.globals
+          ∙ still_local _ _ _ c.in_ok-subcommand-2.ensures.globals
+          (still_local _ _ _ c.in_ok-subcommand.ensures.globals start_local c.in_ok-run.ensures.globals)
           c.in_ok-step.ensures.globals;
       wants = ap (λ (f : Command-F Command). f.subcommand_required) c.subcommand_required-lrc.ensures;
     }
