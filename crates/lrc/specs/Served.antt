@@ -13,6 +13,12 @@ pub record IsRead (source : Option (List ℕ)) (s : Plan) : Type 0 where
   pub lawful : IsLawful s
   pub text_is : IfSome source (λ xs. xs ≡ text s)
 
+-- the script was run, and the text of a report of it was written
+pub record IsPrinted (journal : Bool) (script : Plan) (old new : Option (List ℕ)) : Type 0 where
+  pub report : Report
+  pub tells : IsReportOf script report
+  pub written : Appends old new (report_text report journal)
+
 -- the script that the source had was run, and the text of a report of it was written
 pub record IsServed (journal : Bool) (source old new : Option (List ℕ)) : Type 0 where
   pub script : Plan

@@ -9,28 +9,35 @@ use lrc_report::render::OutFault;
 use lrc_run::{Cause, RunFault};
 use lrc_script::fault::ScriptFault;
 use std::alloc::AllocError;
-use std::io;
 use std::io::ErrorKind;
-use thiserror::Error;
+use std::{fmt, io};
 
-/// What the program says on standard error after `lrc: `.
-#[derive(Clone, Copy, Debug, PartialEq, Eq, Error)]
+/// Why the program ends without a report.
+#[derive(Clone, Copy)]
 pub enum ProgramFault {
     /// The file or standard input can't be read.
-    #[error("file cannot be read")]
     Unreadable,
     /// The script has a fault, in this line.
-    #[error("line {0}: {1}")]
     Script(usize, ScriptFault),
     /// A processor went no further.
-    #[error("{0}")]
     Run(RunFault),
     /// A write failed.
-    #[error("output failed")]
     Output,
     /// A growth was refused.
-    #[error("out of memory")]
     NoMemory,
+}
+
+/// What the program says on standard error after `lrc: `.
+impl fmt::Display for ProgramFault {
+    fn fmt<W: fmt::Write>(&self, f: &mut fmt::Formatter<W>) -> fmt::Result {
+        match self {
+            ProgramFault::Unreadable => write!(f, "file cannot be read"),
+            ProgramFault::Script(line, fault) => write!(f, "line {line}: {fault}"),
+            ProgramFault::Run(fault) => write!(f, "{fault}"),
+            ProgramFault::Output => write!(f, "output failed"),
+            ProgramFault::NoMemory => write!(f, "out of memory"),
+        }
+    }
 }
 
 impl ProgramFault {

@@ -8,16 +8,15 @@
 //! the text of its report was written, and nothing else (`IsServed`); 2 only where it is no script's text (`IsNoScript`);
 //! and but for 4 a report is written whole or not at all. Each fault has its status (`status_of`).
 //!
-//! **What is only tested.** The texts of faults, help and usage, which fault is met, that the lock and the seed that the
-//! words ask for are used, and that memory isn't wanted needlessly. No contract sees what a file or a standard stream has.
+//! **What is only tested**, by whole runs of the program. The texts of faults, help and usage, which fault is met, that
+//! the lock and the seed that the words ask for are used, and that memory isn't wanted needlessly. No contract sees what a
+//! file or a standard stream has.
 #![tactic(auto)]
 
 ghost use Rattle.std.specs.Prelude.{◌<◌};
 
 mod fault;
 mod program;
-#[cfg(test)]
-mod tests;
 
 use crate::fault::ProgramFault;
 use crate::program::{program, say};
@@ -72,12 +71,20 @@ fn start<R: Threads + Wait + Sync>(rt: &HostRuntime, handle: &R, words: &[&str])
     }
 }
 
+/// Does what the words ask for, each as text. It stands apart since one list alone is to be dropped where memory is short.
+fn start_with<R: Threads + Wait + Sync>(
+    rt: &HostRuntime,
+    handle: &R,
+    words: &[String],
+) -> Result<u8, ProgramFault> {
+    let words: Vec<&str> = words.iter().map(|word| word.as_str()).collect(rt.alloc())?;
+    Ok(start(rt, handle, &words))
+}
+
 /// Reads the program's words and does what they ask for.
 fn read_words<R: Threads + Wait + Sync>(rt: &HostRuntime, handle: &R) -> Result<u8, ProgramFault> {
-    let alloc = rt.alloc();
-    let words: Vec<String> = std::env::args(rt)?.collect(alloc)?;
-    let words: Vec<&str> = words.iter().map(|word| word.as_str()).collect(alloc)?;
-    Ok(start(rt, handle, &words))
+    let words: Vec<String> = std::env::args(rt)?.collect(rt.alloc())?;
+    start_with(rt, handle, &words)
 }
 
 fn main(rt: HostRuntime) -> ExitCode {

@@ -3,7 +3,7 @@ ghost use Rattle.std.specs.Prelude.{◌≡◌, ◌≢◌, ◌<◌, IfErr, IfOk, 
 ghost use Rattle.std.specs.Io.KnownBytes.{Keeps};
 ghost use Rattle.lrc_script.specs.Prelude.{IsLawful, plan_of};
 ghost use Rattle.lrc_run.specs.Prelude.{IsReportOf};
-ghost use Rattle.lrc.specs.Prelude.{IsNoScript, IsRead, IsServed, IsBeforeOutput, IsScripts, IsStatusOf};
+ghost use Rattle.lrc.specs.Prelude.{IsNoScript, IsPrinted, IsRead, IsServed, IsBeforeOutput, IsScripts, IsStatusOf};
 
 use crate::fault::ProgramFault;
 use cluster::{BookLock, TicketBookLock};
@@ -83,6 +83,28 @@ fn read_script<S: Read>(alloc: Global, source: &mut S) -> Result<Script, Program
     Ok(parse(alloc, &bytes)?)
 }
 
+/// Runs a script and writes its report. It stands apart from the reading since nothing is to be dropped where the run
+/// ends with a fault.
+fn print_report<R: Threads + Wait + Sync, W: Write>(
+    rt: &R,
+    alloc: Global,
+    options: &Options,
+    script: &Script,
+    out: &mut W,
+) -> Result<(), ProgramFault>
+    requires tries { 0 < options.now.tries }
+    requires lawful { IsLawful (plan_of script.now) }
+    ensures printed { OnOk result (IsPrinted options.now.journal (plan_of script.now)
+        (W.contents out.old) (W.contents out.new)) }
+    ensures early { IfErr result
+        (λ fault. IsBeforeOutput fault → Keeps (W.contents out.old) (W.contents out.new)) }
+    ensures runs { IfErr result (λ fault. IsScripts fault → ⊥) }
+{
+    let report = report_of(rt, alloc, options, script)?;
+    render(&report, options.journal, out)?;
+    Ok(())
+}
+
 /// Reads a script, runs it and writes its report.
 fn run_script<R: Threads + Wait + Sync, S: Read, W: Write>(
     rt: &R,
@@ -99,12 +121,7 @@ fn run_script<R: Threads + Wait + Sync, S: Read, W: Write>(
         (λ fault. IsBeforeOutput fault → Keeps (W.contents out.old) (W.contents out.new)) }
 {
     let script = read_script(alloc, source)?;
-    let report = report_of(rt, alloc, options, &script)?;
-    render(&report, options.journal, out)?;
-    match out.flush() {
-        Ok(()) => Ok(()),
-        Err(_) => Err(ProgramFault::Output),
-    }
+    print_report(rt, alloc, options, &script, out)
 }
 
 /// Says on `err` in one write why the program ends without a report, and answers the fault's exit status. Where

@@ -1,11 +1,11 @@
 -- Texts and beginnings of texts, one after another.
 use Rattle.std.proofs.Common.{◌≡◌, ◌∙◌, ◌-◌, ◌+◌, ℕ, suc, List, [], ◌∷◌, ◌++◌, add-one, length, take, drop, refl, sym, ap, append_assoc, append-nil, take-append-drop}
-use Rattle.std.specs.Prelude.{Option, Some, slice_get}
+use Rattle.std.specs.Prelude.{Option, None, Some, slice_get}
 use Rattle.std.proofs.lemmas.List.{take_rest}
 use Rattle.std.specs.List.{flat_map}
 use Rattle.std.proofs.lemmas.Grind.{flat_map-append}
 use Rattle.lists.proofs.Places.{take-suc_at}
-use Rattle.std.specs.Io.KnownBytes.{Appends}
+use Rattle.std.specs.Io.KnownBytes.{Appends, Keeps}
 use Rattle.std.proofs.KnownBytes.{Appends-nil, Appends-trans}
 use Rattle.lrc_report.specs.Writing.{AppendsFront, Passes}
 
@@ -138,3 +138,15 @@ pub passes_some : (a b c : Option (List ℕ)) (k l text : List ℕ) → k ≡ []
 passes_some a b c k l text none first last =
     let whole : text ≡ first.done ++ l = rw none at first.whole in
     rw whole (front_then a b c first.done l first.appends last)
+
+-- what was appended, after a step that keeps it
+pub appends_kept : (old mid new : Option (List ℕ)) (text : List ℕ) → Appends old mid text → Keeps mid new
+    → Appends old new text
+appends_kept None mid new text written kept = tt
+appends_kept (Some xs) None new text written kept = absurd written
+appends_kept (Some xs) (Some ys) None text written kept = absurd kept
+appends_kept (Some xs) (Some ys) (Some zs) text written kept = kept ∙ written
+
+-- the whole text is a beginning of it
+pub front_whole : (old new : Option (List ℕ)) (text : List ℕ) → Appends old new text → AppendsFront old new text
+front_whole old new text written = (text, [], sym (append-nil text), written)

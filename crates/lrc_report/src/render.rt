@@ -241,13 +241,25 @@ fn write_journal<W: Write>(
     }
 }
 
+/// Writes the bytes that wait, and has the writer pass on what it still keeps.
+fn finish<W: Write>(out: &mut W, pending: &mut Pending) -> Result<(), OutFault>
+    ensures { Writes (W.contents out.old) (W.contents out.new) pending.old result }
+{
+    pending.flush(out)?;
+    match out.flush() {
+        Ok(()) => Ok(()),
+        Err(_) => Err(OutFault),
+    }
+}
+
 /// Writes the report: a line `word ADDRESS VALUE` for each shown address, the verdict, the traffic, and where
 /// the journal is asked for a line `cut NUMBER` where events were cut off, and a line for each event that is
-/// left, numbered from that number. It writes some thousand bytes at a time, and takes no memory.
+/// left, numbered from that number. It writes some thousand bytes at a time, then flushes the writer, and takes no
+/// memory.
 ///
 /// # Errors
 ///
-/// OutFault where a write fails or takes no byte; a beginning of the text was written then.
+/// OutFault where a write fails or takes no byte, or the flush fails; a beginning of the text was written then.
 pub fn render<W: Write>(report: &Report, journal: bool, out: &mut W) -> Result<(), OutFault>
     ensures { Writes (W.contents out.old) (W.contents out.new) (report_text report.now journal)
         result }
@@ -255,5 +267,5 @@ pub fn render<W: Write>(report: &Report, journal: bool, out: &mut W) -> Result<(
     let mut pending = Pending::new();
     write_summary(out, &mut pending, report)?;
     write_journal(out, &mut pending, report, journal)?;
-    pending.flush(out)
+    finish(out, &mut pending)
 }

@@ -2,7 +2,7 @@
 
 mod events;
 
-use crate::render::{OutFault, render};
+use crate::render::render;
 use crate::report::Report;
 use journal::{Event, Journal, Kind};
 use std::alloc::Global;
@@ -38,8 +38,8 @@ fn report_of(alloc: Global, racy: bool, journal: Journal) -> Result<Report, Fail
 /// Checks the text of a report.
 fn check<R: Abort>(rt: &R, alloc: Global, report: &Report, journal: bool, text: &[u8]) {
     let mut out = Vec::new(alloc);
-    assert_eq!(rt; render(report, journal, &mut out), Ok(()));
-    assert_eq!(rt; out.as_slice(), text);
+    assert!(rt; render(report, journal, &mut out).is_ok());
+    assert!(rt; out.as_slice() == text);
 }
 
 /// With the journal and without, and both verdicts.
@@ -88,46 +88,61 @@ fn empty_report(rt: HostRuntime) -> Result<(), Fail> {
 const TEXT: &[u8] =
     b"word 0 7\nverdict race-free\ntraffic 2 0 0\nevent 0 0 store 0 7\nevent 1 0 arrive\nevent 2 0 depart\nevent 3 0 load 0 7\n";
 
-/// A writer that takes so many bytes, three at a time, and then fails.
+/// A writer that takes so many bytes, at most `most` in one write, and then none.
 #[derive(Drop)]
-struct Narrow {
+struct Slow {
     left: usize,
+    most: usize,
+    writes: usize,
+    flushes: bool,
     taken: Vec<u8>,
 }
 
-impl Write for Narrow {
+impl Write for Slow {
     fn write(&mut self, bytes: &[u8]) -> io::Result<usize> {
-        let count = bytes.len().min(self.left).min(3);
-        if count == 0 {
-            return Err(io::Error::from(ErrorKind::BrokenPipe));
-        }
+        let count = bytes.len().min(self.left).min(self.most);
         self.taken.extend_from_slice(&bytes[..count])?;
         self.left -= count;
+        self.writes = self.writes.saturating_add(1);
         Ok(count)
     }
 
     fn flush(&mut self) -> io::Result<()> {
-        Ok(())
+        if self.flushes {
+            Ok(())
+        } else {
+            Err(io::Error::from(ErrorKind::StorageFull))
+        }
     }
 }
 
-/// Of a text that doesn't fit, just the bytes that fit are written.
+fn slow_writer(alloc: Global, left: usize, most: usize, flushes: bool) -> Slow {
+    Slow {
+        left,
+        most,
+        writes: 0,
+        flushes,
+        taken: Vec::new(alloc),
+    }
+}
+
+/// Checks that just this beginning of the report is written to a writer that takes so many bytes, and whether a fault
+/// is told.
+fn check_slow<R: Abort>(rt: &R, alloc: Global, report: &Report, front: &[u8], flushes: bool) {
+    let mut out = slow_writer(alloc, front.len(), 3, flushes);
+    let told = render(report, true, &mut out).is_err();
+    assert!(rt; told == (front.len() < TEXT.len() || !flushes));
+    assert!(rt; out.taken.as_slice() == front);
+}
+
+/// Of a text that doesn't fit, just the bytes that fit are written; and a last flush that fails is told.
 #[test]
 fn failed_writes(rt: HostRuntime) -> Result<(), Fail> {
     let report = report_of(rt.alloc(), false, journal_of(rt.alloc())?)?;
     for left in 0..TEXT.len() {
-        let mut out = Narrow {
-            left,
-            taken: Vec::new(rt.alloc()),
-        };
-        assert_eq!(rt; render(&report, true, &mut out), Err(OutFault));
-        assert_eq!(rt; out.taken.as_slice(), &TEXT[..left]);
+        check_slow(&rt, rt.alloc(), &report, &TEXT[..left], true);
     }
-    let mut out = Narrow {
-        left: TEXT.len(),
-        taken: Vec::new(rt.alloc()),
-    };
-    assert_eq!(rt; render(&report, true, &mut out), Ok(()));
-    assert_eq!(rt; out.taken.as_slice(), TEXT);
+    check_slow(&rt, rt.alloc(), &report, TEXT, true);
+    check_slow(&rt, rt.alloc(), &report, TEXT, false);
     Ok(())
 }

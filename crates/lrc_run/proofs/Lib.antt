@@ -1,4 +1,5 @@
 pub mod Making
+pub mod Calling
 pub mod Stepping
 pub mod Exchanging
 pub mod Concluding

@@ -1,4 +1,5 @@
 pub mod Walks
+pub mod Waiting
 pub mod Steps
 pub mod Orders
 pub mod Endings

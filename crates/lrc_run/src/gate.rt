@@ -1,7 +1,7 @@
 //! A gate that each instruction of a script passes before it is done.
 
 /// The gate's answer that a processor is to go no further.
-#[derive(Clone, Copy, Debug, PartialEq, Eq)]
+#[derive(Clone, Copy)]
 pub struct Stopped;
 
 /// Is asked before each instruction of a section, and may stop its processor there.
@@ -11,7 +11,7 @@ pub trait Gate {
 }
 
 /// The gate that never stops.
-#[derive(Clone, Copy, Debug)]
+#[derive(Clone, Copy)]
 pub struct Open;
 
 impl Gate for Open {

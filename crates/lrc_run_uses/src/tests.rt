@@ -1,5 +1,6 @@
 //! Runs of whole scripts.
 
 mod cuts;
+mod faults;
 mod runs;
 mod steps;

@@ -6,7 +6,7 @@
 //! **What is proved.** Where `options` answers options, the words give them; where it answers a fault, they have one of
 //! that kind, or memory ran out.
 //!
-//! **What is only tested**, in `lrc`. The texts of faults and help.
+//! **What is only tested**, by whole runs of the program `lrc`. The texts of faults and help.
 #![tactic(auto)]
 
 pub mod options;

@@ -1,12 +1,10 @@
 //! What the program is to do.
-ghost use Rattle.std.specs.Prelude.{◌≡◌, None, false};
-ghost use Rattle.lrc_words.specs.Words.{default_tries};
 
 /// The tries where none are given.
 pub(crate) const DEFAULT_TRIES: u64 = 1_000_000;
 
 /// What the words ask for.
-#[derive(Debug, PartialEq, Eq, Drop)]
+#[derive(Drop)]
 pub struct Options {
     /// Whether the script is run by turns on one thread, by `step`, and not on threads, by `run`.
     pub step: bool,
@@ -20,27 +18,4 @@ pub struct Options {
     pub ticket: bool,
     /// Whether the journal's lines are printed too.
     pub journal: bool,
-}
-
-impl Options {
-    /// What is asked for where nothing is given but the command: `step`, or `run`.
-    pub fn plain(step: bool) -> Options
-        ensures { result ≡ record {
-          step = step;
-          file = None;
-          tries = default_tries;
-          seed = None;
-          ticket = false;
-          journal = false;
-        } }
-    {
-        Options {
-            step,
-            file: None,
-            tries: DEFAULT_TRIES,
-            seed: None,
-            ticket: false,
-            journal: false,
-        }
-    }
 }

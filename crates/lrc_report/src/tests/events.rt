@@ -1,10 +1,10 @@
 //! The journal's lines, and writers that fail under them.
 
+use super::slow_writer;
 use crate::pending::Pending;
 use crate::render::{OutFault, write_events};
 use journal::{Event, Kind};
 use std::alloc::Global;
-use std::io;
 use std::io::Write;
 use std::process::Abort;
 use std::test::Fail;
@@ -55,44 +55,12 @@ fn write_all<W: Write>(out: &mut W, events: &[Event]) -> Result<(), OutFault> {
     pending.flush(out)
 }
 
-/// A writer that takes so many bytes, at most `most` in one write, and then none.
-#[derive(Drop)]
-struct Slow {
-    left: usize,
-    most: usize,
-    writes: usize,
-    taken: Vec<u8>,
-}
-
-impl Write for Slow {
-    fn write(&mut self, bytes: &[u8]) -> io::Result<usize> {
-        let count = bytes.len().min(self.left).min(self.most);
-        self.taken.extend_from_slice(&bytes[..count])?;
-        self.left -= count;
-        self.writes = self.writes.saturating_add(1);
-        Ok(count)
-    }
-
-    fn flush(&mut self) -> io::Result<()> {
-        Ok(())
-    }
-}
-
-fn slow_writer(alloc: Global, left: usize, most: usize) -> Slow {
-    Slow {
-        left,
-        most,
-        writes: 0,
-        taken: Vec::new(alloc),
-    }
-}
-
 #[test]
 fn a_line_of_each_kind(rt: HostRuntime) -> Result<(), Fail> {
     let (events, text) = all_events(rt.alloc())?;
     let mut out = Vec::new(rt.alloc());
-    assert_eq!(rt; write_all(&mut out, &events), Ok(()));
-    assert_eq!(rt; out.as_slice(), text.as_slice());
+    assert!(rt; write_all(&mut out, &events).is_ok());
+    assert!(rt; out.as_slice() == text.as_slice());
     Ok(())
 }
 
@@ -106,27 +74,21 @@ fn places_after_a_cut(rt: HostRuntime) -> Result<(), Fail> {
     let mut out = Vec::new(rt.alloc());
     let mut pending = Pending::new();
     let first = u64::MAX - 2;
-    assert_eq!(rt;
-        write_events(&mut out, &mut pending, first, &[event, event]),
-        Ok(())
-    );
-    assert_eq!(rt; pending.flush(&mut out), Ok(()));
+    write_events(&mut out, &mut pending, first, &[event, event]).map_err(|_| "not written")?;
+    pending.flush(&mut out).map_err(|_| "not flushed")?;
     let text = b"event 18446744073709551613 1 arrive\nevent 18446744073709551614 1 arrive\n";
-    assert_eq!(rt; out.as_slice(), text.as_slice());
+    assert!(rt; out.as_slice() == text.as_slice());
     Ok(())
 }
 
 /// Of a text that doesn't fit, just the bytes that fit are written, whatever a write takes.
 fn check_cut<R: Abort>(rt: &R, alloc: Global, most: usize) -> Result<(), Fail> {
     let (events, text) = all_events(alloc)?;
-    for left in 0..text.len() {
-        let mut out = slow_writer(alloc, left, most);
-        assert_eq!(rt; write_all(&mut out, &events), Err(OutFault));
-        assert_eq!(rt; out.taken.as_slice(), &text[..left]);
+    for left in 0..text.len() + 1 {
+        let mut out = slow_writer(alloc, left, most, true);
+        assert!(rt; write_all(&mut out, &events).is_ok() == (left == text.len()));
+        assert!(rt; out.taken.as_slice() == &text[..left]);
     }
-    let mut out = slow_writer(alloc, text.len(), most);
-    assert_eq!(rt; write_all(&mut out, &events), Ok(()));
-    assert_eq!(rt; out.taken.as_slice(), text.as_slice());
     Ok(())
 }
 
@@ -145,14 +107,14 @@ fn few_writes(rt: HostRuntime) -> Result<(), Fail> {
         kind: Kind::Store(1, 2),
     };
     let events = vec![in rt.alloc(); event; 10_000]?;
-    let mut out = slow_writer(rt.alloc(), usize::MAX, usize::MAX);
-    assert_eq!(rt; write_all(&mut out, &events), Ok(()));
+    let mut out = slow_writer(rt.alloc(), usize::MAX, usize::MAX, true);
+    assert!(rt; write_all(&mut out, &events).is_ok());
     assert!(rt; out.writes < 40);
     let mut wanted = Vec::new(rt.alloc());
     for place in 0..10_000 {
         let line = format!(in rt.alloc(); "event {place} 3 store 1 2\n")?;
         wanted.extend_from_slice(line.as_bytes())?;
     }
-    assert_eq!(rt; out.taken.as_slice(), wanted.as_slice());
+    assert!(rt; out.taken.as_slice() == wanted.as_slice());
     Ok(())
 }

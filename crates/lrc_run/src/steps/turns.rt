@@ -12,7 +12,7 @@ use std::sync::Wait;
 use turn::Turn;
 
 /// How far a processor is in its section.
-#[derive(Clone, Copy, Debug, PartialEq, Eq)]
+#[derive(Clone, Copy, PartialEq)]
 pub(crate) enum Progress {
     /// Its next instruction is this one, or the closing barrier after the last.
     Next(usize),

@@ -1,8 +1,9 @@
 //! The instructions of a script. One that waits is begun by one call, and ended by a take that finds what it
 //! waits for.
-ghost use Rattle.std.specs.Prelude.{◌≡◌, IfOk, []};
+ghost use Rattle.std.specs.Prelude.{◌≡◌, IfOk, OnOk, [], not};
 ghost use Rattle.cluster.specs.Prelude.{IsSameProcessor};
 ghost use Rattle.lrc_run.specs.Prelude.{IsOnItsWay, Takes, Tries};
+ghost use Rattle.lrc_run.specs.Waiting.{waits};
 
 use super::accesses::{add, load, store};
 use crate::cause::Cause;
@@ -25,43 +26,46 @@ pub(crate) fn begin<T: Turn<Book, Rule>, R: Wait>(
     ensures same { IsSameProcessor processor.old processor.new }
     ensures ok { IfOk result (λ done. IsOnItsWay processor.old processor.new instruction done) }
 {
+    call(rt, cluster, processor, instruction)?;
+    Ok(!waits(instruction))
+}
+
+/// Whether the instruction waits for something.
+fn waits(instruction: Instruction) -> bool
+    ensures { result ≡ waits instruction }
+{
+    matches!(
+        instruction,
+        Instruction::Acquire(_) | Instruction::Barrier | Instruction::Await(_)
+    )
+}
+
+/// Makes the calls that do the instruction, or the one that begins it where it waits for something. Refused as its
+/// calls are.
+fn call<T: Turn<Book, Rule>, R: Wait>(
+    rt: &R,
+    cluster: &Cluster<T>,
+    processor: &mut Processor<T>,
+    instruction: Instruction,
+) -> Result<(), Refused>
+    requires own { processor.old.lock ≡ cluster.now.lock }
+    ensures same { IsSameProcessor processor.old processor.new }
+    ensures ok { OnOk result (IsOnItsWay processor.old processor.new instruction
+        (not (waits instruction))) }
+{
     match instruction {
-        Instruction::Load(address) => {
-            load(rt, cluster, processor, address)?;
-            Ok(true)
-        }
-        Instruction::Store(address, value) => {
-            store(rt, cluster, processor, address, value)?;
-            Ok(true)
-        }
-        Instruction::Add(address, value) => {
-            add(rt, cluster, processor, address, value)?;
-            Ok(true)
-        }
-        Instruction::Acquire(lock) => {
-            cluster.ask(rt, processor, lock)?;
-            Ok(false)
-        }
-        Instruction::Release(lock) => {
-            cluster.release(rt, processor, lock)?;
-            Ok(true)
-        }
-        Instruction::Barrier => {
-            cluster.arrive(rt, processor)?;
-            Ok(false)
-        }
-        Instruction::Set(flag) => {
-            cluster.set(rt, processor, flag)?;
-            Ok(true)
-        }
-        Instruction::Await(flag) => {
-            cluster.watch(rt, processor, flag)?;
-            Ok(false)
-        }
-        Instruction::Cut => {
-            cut(rt, cluster, processor)?;
-            Ok(true)
-        }
+        Instruction::Load(address) => match load(rt, cluster, processor, address) {
+            Ok(_) => Ok(()),
+            Err(refused) => Err(refused),
+        },
+        Instruction::Store(address, value) => store(rt, cluster, processor, address, value),
+        Instruction::Add(address, value) => add(rt, cluster, processor, address, value),
+        Instruction::Acquire(lock) => cluster.ask(rt, processor, lock),
+        Instruction::Release(lock) => cluster.release(rt, processor, lock),
+        Instruction::Barrier => cluster.arrive(rt, processor),
+        Instruction::Set(flag) => cluster.set(rt, processor, flag),
+        Instruction::Await(flag) => cluster.watch(rt, processor, flag),
+        Instruction::Cut => cut(rt, cluster, processor),
     }
 }
 

@@ -1,12 +1,11 @@
 use Rattle.lrc_script.specs.Plan.{plan_of}
-use Rattle.lrc.proofs.Writing.{appends_kept}
+use Rattle.lrc.proofs.Serving.{not_scripts, served_by}
 use Rattle.lrc.proofs.program.run_script.Goals as goal
 
-pub returns-in-Ok-clause-served : goal.returns-in-Ok-clause-served
-returns-in-Ok-clause-served g c = record {
-  script = plan_of c.in_ok-script.script;
-  read = c.in_ok-script.ensures.read;
-  report = c.in_ok-report.report;
-  tells = c.in_ok-report.ensures;
-  written = appends_kept _ (g.W.Write.contents c.render.new.out) _ _ c.in_ok-render.ensures c.flush.ensures.bytes;
-}
+pub returns-clause-served : goal.returns-clause-served
+returns-clause-served g c =
+    served_by _ (plan_of c.in_ok-script.script) _ _ _ c.print_report.result c.in_ok-script.ensures.read
+    c.print_report.ensures.printed
+
+pub returns-clause-refused : goal.returns-clause-refused
+returns-clause-refused g c = not_scripts _ c.print_report.result c.print_report.ensures.runs

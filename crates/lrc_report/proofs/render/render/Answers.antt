@@ -21,7 +21,7 @@ pub returns : goal.returns
 returns g c =
     let both = passes_then _ (g.W.Write.contents c.write_summary.new.out) _ _ c.write_summary.new.pending
     _ _ _ c.in_ok-write_summary.ensures c.in_ok-write_journal.ensures in
-    MatchResult-weaker c.flush.result c.flush.ensures.writes
+    MatchResult-weaker c.finish.result c.finish.ensures
     (λ _ last. passes_all _ (g.W.Write.contents c.write_journal.new.out) _ _ c.write_journal.new.pending
     _ c.new-pending.ensures both last)
     (λ _ last. passes_some _ (g.W.Write.contents c.write_journal.new.out) _ _ c.write_journal.new.pending

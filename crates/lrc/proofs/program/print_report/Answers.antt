@@ -1,0 +1,8 @@
+use Rattle.lrc.proofs.program.print_report.Goals as goal
+
+pub returns-clause-printed : goal.returns-clause-printed
+returns-clause-printed g c = record {
+  report = c.in_ok-report.report;
+  tells = c.in_ok-report.ensures;
+  written = c.in_ok-render.ensures;
+}
