@@ -62,6 +62,21 @@ fn number(words: &mut Words) -> Option<usize> {
     words.next()?.parse::<usize>().ok()
 }
 
+/// The next two words, as numbers.
+fn pair(words: &mut Words) -> Option<(usize, usize)> {
+    let first = number(words)?;
+    let second = number(words)?;
+    Some((first, second))
+}
+
+/// The next word, as a number; 0 where there is none.
+fn number_or_zero(words: &mut Words) -> Option<usize> {
+    match words.next() {
+        Some(word) => word.parse::<usize>().ok(),
+        None => Some(0),
+    }
+}
+
 /// The next word, as what a page has at an address.
 fn word(words: &mut Words) -> Option<u32> {
     words.next()?.parse::<u32>().ok()
@@ -145,31 +160,36 @@ fn of_processor(p: usize, words: &mut Words) -> Option<Action> {
     Some(Action::Make(p, call_of(name, words)?))
 }
 
+/// The call whose name is the next word.
+fn next_call(words: &mut Words) -> Option<Call> {
+    let name = words.next()?;
+    call_of(name, words)
+}
+
+/// The processor whose name is the next word.
+fn next_processor(words: &mut Words) -> Option<usize> {
+    processor_of(words.next()?)
+}
+
 /// A repeated call.
 fn repeat(words: &mut Words) -> Option<Action> {
     let times = number(words)?;
-    let p = processor_of(words.next()?)?;
-    let name = words.next()?;
-    Some(Action::Repeat(times, p, call_of(name, words)?))
+    let p = next_processor(words)?;
+    Some(Action::Repeat(times, p, next_call(words)?))
 }
 
 /// A cluster's sizes; without flags where no fifth number follows.
 fn open(words: &mut Words) -> Option<Action> {
-    let processors = number(words)?;
-    let pages = number(words)?;
-    let page_words = number(words)?;
-    let locks = number(words)?;
-    let flags = match words.next() {
-        Some(word) => word.parse::<usize>().ok()?,
-        None => 0,
-    };
+    let (processors, pages) = pair(words)?;
+    let (page_words, locks) = pair(words)?;
+    let flags = number_or_zero(words)?;
     Some(Action::Open([processors, pages, page_words, locks, flags]))
 }
 
 /// A journal's sizes.
 fn begin(words: &mut Words) -> Option<Action> {
-    let processors = number(words)?;
-    Some(Action::Begin(processors, number(words)?))
+    let (processors, addresses) = pair(words)?;
+    Some(Action::Begin(processors, addresses))
 }
 
 /// The kind of event with one number that has this name.
