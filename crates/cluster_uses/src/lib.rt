@@ -3,8 +3,8 @@
 //!
 //! **What contracts see**: the cluster and its processors (`Crewed`), each of which is covered at any time.
 //!
-//! **What is only tested**: the rows of the cluster's calls, its limits, each refusal of each call in its order, and
-//! that what was seen of a processor is the same after it.
+//! **What is only tested**: processors on threads. The rows of the cluster's calls, its limits, and each refusal of each
+//! call in its order are lists of tests/calls, which the program `calls` makes.
 #![tactic(auto)]
 
 mod calls;

@@ -1,317 +1,201 @@
-//! Tests of the cluster, as lists of steps.
-ghost use Rattle.std.specs.Prelude.{◌≡◌, ◌<◌, ◌≤◌, ◌^◌, length};
+//! Tests of processors on threads of their own. What calls answer on one thread is in the lists of tests/calls, at the
+//! repository's top.
+ghost use Rattle.std.specs.Prelude.{◌≡◌, ◌≤◌, ◌^◌, length};
+ghost use Rattle.journal.specs.Prelude.{IsTable};
 
-mod blocks;
-mod cuts;
-mod full;
-mod growths;
-mod limits;
-mod refusals;
-mod rows;
-mod threads;
-
-use crate::{Answer, Call, Crew};
-use Call::{Arrive, Ask, Audit, Cut, Fetch, Flush, Load, Release, Set, Store, Take, Watch};
-use Step::{Does, HasPage, HasTime, Holds, IsStale, Loads, Refuses};
+use crate::{Answer, Call, Crew, Task, run};
 use book::{Book, Refused};
-use cluster::{BookLock, Processor, Rule, TicketBookLock};
-use journal::{Event, Journal, Kind};
-use std::alloc::{AllocError, Global};
+use cluster::{BookLock, Rule, TicketBookLock};
+use journal::{Event, Journal, Kind, ReachTable};
 use std::process::Abort;
 use std::sync::Wait;
 use std::test::Fail;
+use std::thread::Threads;
 use turn::Turn;
-use vtime::VTime;
 
-/// A step of a test. Each begins with the processor.
-#[derive(Clone, Copy)]
-enum Step<'a> {
-    /// The call succeeds.
-    Does(usize, Call),
-    /// A load at this address answers this word.
-    Loads(usize, usize, u32),
-    /// The call is refused.
-    Refuses(usize, Call, Refused),
-    /// The copy of the page is valid, and has these words.
-    HasPage(usize, usize, &'a [u32]),
-    /// The copy of the page lacks records.
-    IsStale(usize, usize),
-    /// The timestamp has these entries.
-    HasTime(usize, &'a [u64]),
-    /// It holds this lock, or doesn't.
-    Holds(usize, usize, bool),
-}
-
-/// Steps on a crew of these sizes, and what its journal has after them.
-struct Row {
-    sizes: [usize; 5],
-    steps: &'static [Step<'static>],
-    /// Who audits after the steps; where nobody does, the crew ends.
-    auditor: Option<usize>,
-    /// How many events were cut off.
-    cut: u64,
-    /// The words that the cuts left.
-    base: &'static [u32],
-    /// The events that are left, with their processors.
-    events: &'static [(usize, Kind)],
-}
-
-/// What can be seen of a processor.
-#[derive(PartialEq, Drop)]
-struct Look {
-    words: Vec<u32>,
-    valid: Vec<bool>,
-    held: Vec<bool>,
-    time: VTime,
-    waiting: bool,
-    room: usize,
-}
-
-/// A crew of these sizes, also where one growth is refused.
-fn opened<T: Turn<Book, Rule> + Drop>(alloc: Global, sizes: [usize; 5]) -> Result<Crew<T>, Refused>
-    requires { T.ENTRIES ≤ 2 ^ 40 }
-{
-    match Crew::new(alloc, sizes) {
-        Err(Refused::NoMemory) => Crew::new(alloc, sizes),
-        outcome => outcome,
-    }
-}
-
-/// Goes through the row with each lock.
-fn with_both<R: Abort + Wait + AllocGlobal>(rt: &R, row: &Row) -> Result<(), Refused> {
-    go_by::<BookLock, R>(rt, row)?;
-    go_by::<TicketBookLock, R>(rt, row)
-}
-
-/// Goes through the row.
-fn go_by<T: Turn<Book, Rule> + Drop, R: Abort + Wait + AllocGlobal>(
+/// The word at the address, of a copy that is fetched where it is stale.
+fn loads_fresh<T: Turn<Book, Rule>, R: Wait>(
+    crew: &mut Crew<T>,
     rt: &R,
-    row: &Row,
-) -> Result<(), Refused>
-    requires { T.ENTRIES ≤ 2 ^ 40 }
-{
-    let mut crew = opened::<T>(rt.alloc(), row.sizes)?;
-    go(&mut crew, rt, row.steps)?;
-    let journal = match row.auditor {
-        Some(p) => audits(&mut crew, rt, p)?,
-        None => crew.finish(),
-    };
-    assert!(rt; is_left(&journal, row));
-    Ok(())
-}
-
-/// Whether the journal is the row's.
-fn is_left(journal: &Journal, row: &Row) -> bool {
-    if journal.len() != row.events.len() || journal.cut_events() != row.cut {
-        return false;
-    }
-    for (event, (processor, kind)) in journal.events().iter().zip(row.events) {
-        if event.processor != *processor || event.kind != *kind {
-            return false;
-        }
-    }
-    journal.base() == row.base
-}
-
-/// Goes through the steps.
-fn go<T: Turn<Book, Rule>>(
-    crew: &mut Crew<T>,
-    rt: &(impl Abort + Wait + AllocGlobal),
-    steps: &[Step],
-) -> Result<(), Refused> {
-    for step in steps {
-        go_on(crew, rt, *step)?;
-    }
-    Ok(())
-}
-
-fn go_on<T: Turn<Book, Rule>>(
-    crew: &mut Crew<T>,
-    rt: &(impl Abort + Wait + AllocGlobal),
-    step: Step,
-) -> Result<(), Refused> {
-    match step {
-        Does(p, call) => does(crew, rt, p, call)?,
-        Loads(p, address, word) => assert!(rt; loads(crew, rt, p, address)? == word),
-        Refuses(p, call, why) => assert!(rt; does(crew, rt, p, call) == Err(why)),
-        HasPage(p, page, words) => assert!(rt; has_page(crew, p, page, words)),
-        IsStale(p, page) => assert!(rt; is_stale(crew, p, page)),
-        HasTime(p, entries) => assert!(rt; has_time(crew, p, entries)),
-        Holds(p, lock, held) => assert!(rt; holds(crew, p, lock) == held),
-    }
-    Ok(())
-}
-
-fn does<T: Turn<Book, Rule>>(
-    crew: &mut Crew<T>,
-    rt: &(impl Abort + Wait + AllocGlobal),
-    p: usize,
-    call: Call,
-) -> Result<(), Refused> {
-    attempt(crew, rt, p, call)?;
-    Ok(())
-}
-
-fn loads<T: Turn<Book, Rule>>(
-    crew: &mut Crew<T>,
-    rt: &(impl Abort + Wait + AllocGlobal),
     p: usize,
     address: usize,
 ) -> Result<u32, Refused> {
-    match attempt(crew, rt, p, Load(address))? {
+    if let Err(Refused::Invalid(page)) = crew.call(rt, p, Call::Load(address)) {
+        crew.call(rt, p, Call::Fetch(page))?;
+    }
+    match crew.call(rt, p, Call::Load(address))? {
         Answer::Word(word) => Ok(word),
         _ => Err(Refused::NotYet),
     }
 }
 
-/// The journal that an audit answers.
-fn audits<T: Turn<Book, Rule>>(
-    crew: &mut Crew<T>,
-    rt: &(impl Abort + Wait + AllocGlobal),
-    p: usize,
-) -> Result<Journal, Refused> {
-    match attempt(crew, rt, p, Audit)? {
+/// What processor 0 finds at address 0 under the lock.
+fn finds<T: Turn<Book, Rule>, R: Wait>(crew: &mut Crew<T>, rt: &R) -> Result<u32, Refused> {
+    crew.call(rt, 0, Call::Ask(0))?;
+    crew.call(rt, 0, Call::Take)?;
+    let word = loads_fresh(crew, rt, 0, 0)?;
+    crew.call(rt, 0, Call::Release(0))?;
+    Ok(word)
+}
+
+/// The journal that an audit of processor 0 answers.
+fn audited<T: Turn<Book, Rule>, R: Wait>(crew: &mut Crew<T>, rt: &R) -> Result<Journal, Refused> {
+    match crew.call(rt, 0, Call::Audit)? {
         Answer::Copy(journal) => Ok(journal),
         _ => Err(Refused::NotYet),
     }
 }
 
-/// Makes the call, and once more where a growth was refused. After a refusal all that can be seen of the processor
-/// is as before.
-fn attempt<T: Turn<Book, Rule>>(
+/// Whether the journal replays, with these words at its end.
+fn replays_to(journal: &Journal, wanted: &[u32]) -> Result<bool, Refused> {
+    match journal.replay()? {
+        Some(words) => Ok(words.as_slice() == wanted),
+        None => Ok(false),
+    }
+}
+
+/// Each of two threads adds one a hundred times, under a lock.
+fn counts<T: Turn<Book, Rule> + Send + Drop, R: Abort + Threads + Wait + Sync + AllocGlobal>(
+    rt: &R,
+) -> Result<(), Refused>
+    requires { T.ENTRIES ≤ 2 ^ 40 }
+{
+    let crew = Crew::<T>::new(rt.alloc(), [2, 1, 1, 1, 0])?;
+    let tasks = [Task::Add {
+        lock: 0,
+        address: 0,
+    }; 100];
+    let (mut crew, outcome) = run(rt, rt.alloc(), crew, &tasks)?;
+    outcome?;
+    assert!(rt; finds(&mut crew, rt)? == 200);
+    assert!(rt; replays_to(&audited(&mut crew, rt)?, &[200])?);
+    Ok(())
+}
+
+#[test]
+fn two_threads_count_with_a_row(rt: HostRuntime) -> Result<(), Fail> {
+    counts::<BookLock, _>(&rt)?;
+    Ok(())
+}
+
+#[test]
+fn two_threads_count_with_tickets(rt: HostRuntime) -> Result<(), Fail> {
+    counts::<TicketBookLock, _>(&rt)?;
+    Ok(())
+}
+
+/// Adds one to the words of four pages, each under its own lock.
+const ADDS: [Task; 4] = [
+    Task::Add {
+        lock: 0,
+        address: 1,
+    },
+    Task::Add {
+        lock: 1,
+        address: 6,
+    },
+    Task::Add {
+        lock: 2,
+        address: 11,
+    },
+    Task::Add {
+        lock: 3,
+        address: 12,
+    },
+];
+
+/// The words after each of sixteen has added one to each twice.
+const SUMS: [u32; 16] = [0, 32, 0, 0, 0, 0, 32, 0, 0, 0, 0, 32, 32, 0, 0, 0];
+
+/// Sixteen threads add under four locks in turn, and meet, twice.
+fn meets_twice<T: Turn<Book, Rule> + Send + Drop, R: Abort + Threads + Wait + Sync + AllocGlobal>(
+    rt: &R,
+) -> Result<(), Refused>
+    requires { T.ENTRIES ≤ 2 ^ 40 }
+{
+    let [first, second, third, fourth] = ADDS;
+    let crew = Crew::<T>::new(rt.alloc(), [16, 4, 4, 4, 0])?;
+    let round = [first, second, third, fourth, Task::Meet];
+    let (crew, outcome) = run(rt, rt.alloc(), crew, &round)?;
+    outcome?;
+    let round = [fourth, third, second, first, Task::Meet];
+    let (mut crew, outcome) = run(rt, rt.alloc(), crew, &round)?;
+    outcome?;
+    for p in 0..16 {
+        sees_all(&mut crew, rt, p)?;
+    }
+    is_in_order(rt, &crew.finish())
+}
+
+/// The processor loads all words.
+fn sees_all<T: Turn<Book, Rule>, R: Abort + Wait>(
     crew: &mut Crew<T>,
-    rt: &(impl Abort + Wait + AllocGlobal),
+    rt: &R,
     p: usize,
-    call: Call,
-) -> Result<Answer, Refused> {
-    let before = seen_of(crew, rt.alloc(), p)?;
-    let answer = crew.call(rt, p, call);
-    if answer.is_err() {
-        assert!(rt; seen_of(crew, rt.alloc(), p)? == before);
+) -> Result<(), Refused> {
+    for (address, word) in SUMS.iter().enumerate() {
+        assert!(rt; loads_fresh(crew, rt, p, address)? == *word);
     }
-    match answer {
-        Err(Refused::NoMemory) => crew.call(rt, p, call),
-        _ => answer,
-    }
+    Ok(())
 }
 
-/// What can be seen of the processor, also where one growth is refused.
-fn seen_of<T: Turn<Book, Rule>>(crew: &Crew<T>, alloc: Global, p: usize) -> Result<Look, Refused> {
-    let Some(processor) = crew.processor(p) else {
-        return Err(Refused::OutOfRange);
-    };
-    match seen_once(processor, alloc) {
-        Ok(look) => Ok(look),
-        Err(_) => Ok(seen_once(processor, alloc)?),
-    }
+/// The journal has no race, and it replays; the first events agree with the slow program.
+fn is_in_order(rt: &(impl Abort + AllocGlobal), journal: &Journal) -> Result<(), Refused> {
+    assert!(rt; journal.first_race()?.is_none());
+    assert!(rt; replays_to(journal, &SUMS)?);
+    let events = journal.events();
+    let events = &events[..events.len().min(400)];
+    let table = ReachTable::new(rt.alloc(), events)?;
+    assert!(rt; agrees(&table, events));
+    Ok(())
 }
 
-fn seen_once<T: Turn<Book, Rule>>(
-    processor: &Processor<T>,
-    alloc: Global,
-) -> Result<Look, AllocError> {
-    let mut words = Vec::with_capacity(alloc, 4096)?;
-    let mut valid = Vec::with_capacity(alloc, 64)?;
-    for page in 0..64 {
-        valid.push(processor.is_valid(page))?;
-        if let Some(copy) = processor.page(page) {
-            words.extend_from_slice(copy)?;
+/// Whether no two of the events race, and each load answers the last store that happens before it.
+fn agrees(table: &ReachTable, events: &[Event]) -> bool
+    requires { IsTable events.now table.now }
+{
+    for place in 0..events.len() {
+        if races_before(table, events, place) || !is_explained(table, events, place) {
+            return false;
         }
     }
-    Ok(Look {
-        words,
-        valid,
-        held: locks_of(processor, alloc)?,
-        time: processor.timestamp().copy(),
-        waiting: processor.waiting(),
-        room: processor.room(),
-    })
+    true
 }
 
-fn locks_of<T: Turn<Book, Rule>>(
-    processor: &Processor<T>,
-    alloc: Global,
-) -> Result<Vec<bool>, AllocError> {
-    let mut held = Vec::with_capacity(alloc, 32)?;
-    for lock in 0..32 {
-        held.push(processor.holds(lock))?;
+/// Whether an earlier event races with the one at this place.
+fn races_before(table: &ReachTable, events: &[Event], place: usize) -> bool
+    requires { IsTable events.now table.now }
+{
+    (0..place).any(|earlier| table.is_race(events, earlier, place))
+}
+
+/// Whether the event at this place is no load, or answers the last store that happens before it.
+fn is_explained(table: &ReachTable, events: &[Event], place: usize) -> bool {
+    let Some(event) = events.get(place) else {
+        return false;
+    };
+    let Kind::Load(address, word) = event.kind else {
+        return true;
+    };
+    let mut last = 0;
+    for (earlier, event) in events.iter().enumerate() {
+        if let Kind::Store(stored, value) = event.kind {
+            if stored == address && table.happens_before(earlier, place) {
+                last = value;
+            }
+        }
     }
-    Ok(held)
+    word == last
 }
 
-fn has_page<T: Turn<Book, Rule>>(crew: &Crew<T>, p: usize, page: usize, words: &[u32]) -> bool {
-    match crew.processor(p) {
-        Some(processor) => processor.is_valid(page) && processor.page(page) == Some(words),
-        None => false,
-    }
+#[test]
+fn sixteen_threads_meet_with_a_row(rt: HostRuntime) -> Result<(), Fail> {
+    meets_twice::<BookLock, _>(&rt)?;
+    Ok(())
 }
 
-fn is_stale<T: Turn<Book, Rule>>(crew: &Crew<T>, p: usize, page: usize) -> bool {
-    match crew.processor(p) {
-        Some(processor) => !processor.is_valid(page) && processor.page(page).is_none(),
-        None => false,
-    }
-}
-
-fn holds<T: Turn<Book, Rule>>(crew: &Crew<T>, p: usize, lock: usize) -> bool {
-    match crew.processor(p) {
-        Some(processor) => processor.holds(lock),
-        None => false,
-    }
-}
-
-fn has_time<T: Turn<Book, Rule>>(crew: &Crew<T>, p: usize, entries: &[u64]) -> bool {
-    match crew.processor(p) {
-        Some(processor) => processor.timestamp().entries() == entries,
-        None => false,
-    }
-}
-
-fn did(processor: usize, kind: Kind) -> Event {
-    Event { processor, kind }
-}
-
-/// A fetch's event.
-fn fetched(processor: usize, page: usize, writers: u32, records: u32, words: u32) -> Event {
-    did(
-        processor,
-        Kind::Fetch {
-            page,
-            writers,
-            records,
-            words,
-        },
-    )
-}
-
-fn has_events(journal: &Journal, wanted: &[Event]) -> bool {
-    journal.events() == wanted
-}
-
-/// Whether the journal has this event at this place.
-fn has_event(journal: &Journal, place: usize, wanted: Event) -> bool {
-    match journal.at(place) {
-        Some(found) => *found == wanted,
-        None => false,
-    }
-}
-
-/// The words at the journal's end where it replays, also where one growth is refused.
-fn replay_of(journal: &Journal) -> Option<Vec<u32>> {
-    match journal.replay() {
-        Ok(words) => words,
-        Err(_) => journal.replay().unwrap_or(None),
-    }
-}
-
-fn replays(journal: &Journal) -> bool {
-    replay_of(journal).is_some()
-}
-
-/// Whether the journal replays, with these words at its end.
-fn replays_to(journal: &Journal, wanted: &[u32]) -> bool {
-    match replay_of(journal) {
-        Some(words) => words.as_slice() == wanted,
-        None => false,
-    }
+#[test]
+fn sixteen_threads_meet_with_tickets(rt: HostRuntime) -> Result<(), Fail> {
+    meets_twice::<TicketBookLock, _>(&rt)?;
+    Ok(())
 }

@@ -1,14 +1,10 @@
-//! Worked journals, with the answers that were worked out by hand.
+//! What lists of calls can't show of journals; their answers are in the lists of tests/calls, at the repository's top.
 ghost use Rattle.std.specs.Prelude.{◌≡◌, ◌<◌, ◌≤◌, ◌-◌, ◌+◌, ◌^◌, length, IsTrue, OnOk, IfOk};
 ghost use Rattle.journal.specs.Prelude.{AddressInRange};
 
-mod cuts;
-mod races;
 mod reach;
-mod worked;
 
-use crate::tests::worked::{load_before_store, stale_load};
-use journal::{Event, Journal, Kind, MOST_HELD, MOST_PROCESSORS, Traffic};
+use journal::{Event, Journal, Kind, MOST_HELD, MOST_PROCESSORS};
 use std::alloc::Global;
 use std::process::Abort;
 use std::test::Fail;
@@ -71,105 +67,6 @@ pub(crate) fn journal_of<R: Abort>(
     Ok(journal)
 }
 
-/// One processor stores, passes a barrier and loads.
-#[test]
-fn one_processor(rt: HostRuntime) -> Result<(), Fail> {
-    let events = [
-        by(0, Kind::Store(0, 7)),
-        by(0, Kind::Arrive),
-        by(0, Kind::Depart),
-        by(0, Kind::Load(0, 7)),
-    ];
-    let journal = journal_of(&rt, rt.alloc(), 1, 1, &events)?;
-    assert!(rt; journal.len() == 4 && !journal.is_empty());
-    assert!(rt; journal.at(0) == Some(&events[0]) && journal.at(4).is_none());
-    let memory = journal.replay()?.ok_or("does not replay")?;
-    assert_eq!(rt; memory.as_slice(), [7].as_slice());
-    let traffic = Traffic {
-        messages: 2,
-        records: 0,
-        words: 0,
-    };
-    assert_eq!(rt; journal.traffic(), traffic);
-    Ok(())
-}
-
-/// Two processors meet at a barrier, and the second fetches what the first has stored.
-#[test]
-fn barrier(rt: HostRuntime) -> Result<(), Fail> {
-    let fetch = Kind::Fetch {
-        page: 0,
-        writers: 1,
-        records: 1,
-        words: 1,
-    };
-    let events = [
-        by(0, Kind::Store(0, 5)),
-        by(0, Kind::Arrive),
-        by(1, Kind::Arrive),
-        by(1, Kind::Depart),
-        by(0, Kind::Depart),
-        by(0, Kind::Load(0, 5)),
-        by(1, fetch),
-        by(1, Kind::Load(0, 5)),
-    ];
-    let journal = journal_of(&rt, rt.alloc(), 2, 2, &events)?;
-    let memory = journal.replay()?.ok_or("does not replay")?;
-    assert_eq!(rt; memory.as_slice(), [5, 0].as_slice());
-    let traffic = Traffic {
-        messages: 6,
-        records: 1,
-        words: 1,
-    };
-    assert_eq!(rt; journal.traffic(), traffic);
-    Ok(())
-}
-
-/// A load's reply from before a store that stands before it.
-#[test]
-fn stale_load_does_not_replay(rt: HostRuntime) -> Result<(), Fail> {
-    let journal = journal_of(&rt, rt.alloc(), 2, 1, &stale_load())?;
-    assert_eq!(rt; journal.replay()?.is_none(), true);
-    Ok(())
-}
-
-/// A race whose load stands before the store replays.
-#[test]
-fn race_replays(rt: HostRuntime) -> Result<(), Fail> {
-    let journal = journal_of(&rt, rt.alloc(), 2, 1, &load_before_store())?;
-    let memory = journal.replay()?.ok_or("does not replay")?;
-    assert_eq!(rt; memory.as_slice(), [4].as_slice());
-    Ok(())
-}
-
-/// A lock is handed over, a flag awaited: two messages each, none for an ask, a release or a set.
-#[test]
-fn hand_overs(rt: HostRuntime) -> Result<(), Fail> {
-    let fetch = Kind::Fetch {
-        page: 1,
-        writers: 2,
-        records: 3,
-        words: 4,
-    };
-    let events = [
-        by(0, Kind::Ask(0)),
-        by(0, Kind::Acquire(0)),
-        by(0, Kind::Release(0)),
-        by(0, Kind::Set(0)),
-        by(1, Kind::Watch(0)),
-        by(1, Kind::Await(0)),
-        by(1, fetch),
-    ];
-    let journal = journal_of(&rt, rt.alloc(), 2, 4, &events)?;
-    let traffic = Traffic {
-        messages: 8,
-        records: 3,
-        words: 4,
-    };
-    assert_eq!(rt; journal.traffic(), traffic);
-    Ok(())
-}
-
 /// A copy has the same events; room once reserved is not asked for again.
 #[test]
 fn copies(rt: HostRuntime) -> Result<(), Fail> {
@@ -179,6 +76,18 @@ fn copies(rt: HostRuntime) -> Result<(), Fail> {
     assert_eq!(rt; copied.events(), journal.events());
     journal.reserve(1)?;
     assert_eq!(rt; copied.len(), 1);
+    Ok(())
+}
+
+/// A copy of a journal that was cut has what the cut left.
+#[test]
+fn copies_what_a_cut_left(rt: HostRuntime) -> Result<(), Fail> {
+    let events = [by(0, Kind::Store(0, 2)), by(0, Kind::Arrive)];
+    let mut journal = journal_of(&rt, rt.alloc(), 1, 1, &events)?;
+    assert_eq!(rt; journal.cut(), Ok(()));
+    let copied = journal.copy()?;
+    assert_eq!(rt; copied.base(), [2].as_slice());
+    assert_eq!(rt; copied.cut_events(), 2);
     Ok(())
 }
 
@@ -193,5 +102,34 @@ fn copies_with_room(rt: HostRuntime) -> Result<(), Fail> {
     longer.append(by(0, Kind::Load(0, 0)));
     assert_eq!(rt; longer.at(2).copied(), Some(by(0, Kind::Load(0, 0))));
     assert_eq!(rt; journal.len(), 1);
+    Ok(())
+}
+
+/// A journal of 2^20 events of eight processors under locks is checked within a test's time, and copied
+/// whole.
+#[test]
+fn long_journal(rt: HostRuntime) -> Result<(), Fail> {
+    let mut events = Vec::new(rt.alloc());
+    for round in 0..131072usize {
+        let processor = round % 8;
+        let lock = round / 8 % 32;
+        let address = lock * 128 + round / 256 % 128;
+        events.extend_from_slice(&[
+            by(processor, Kind::Ask(lock)),
+            by(processor, Kind::Acquire(lock)),
+            by(processor, Kind::Load(address, 0)),
+            by(processor, Kind::Store(address, 0)),
+            by(processor, Kind::Store(address, 0)),
+            by(processor, Kind::Load(address, 0)),
+            by(processor, Kind::Load(address, 0)),
+            by(processor, Kind::Release(lock)),
+        ])?;
+    }
+    let journal = journal_of(&rt, rt.alloc(), 8, 4096, &events)?;
+    assert_eq!(rt; journal.len(), 1048576);
+    assert_eq!(rt; journal.first_race()?, None);
+    let copied = journal.copy_with_room(4096)?;
+    assert_eq!(rt; copied.len(), 1048576);
+    assert_eq!(rt; copied.at(1048575).copied(), Some(by(7, Kind::Release(31))));
     Ok(())
 }

@@ -1,0 +1,74 @@
+//! What can be seen of a processor.
+
+use book::{Book, Refused};
+use cluster::{Processor, Rule};
+use cluster_uses::Crew;
+use std::alloc::{AllocError, Global};
+use turn::Turn;
+use vtime::VTime;
+
+/// What can be seen of a processor.
+#[derive(PartialEq, Drop)]
+pub struct Look {
+    words: Vec<u32>,
+    marks: Vec<bool>,
+    time: VTime,
+    waiting: bool,
+    room: usize,
+}
+
+/// The words of its valid copies.
+fn words_of<T: Turn<Book, Rule>>(
+    processor: &Processor<T>,
+    alloc: Global,
+) -> Result<Vec<u32>, AllocError> {
+    let mut words = Vec::with_capacity(alloc, 4096)?;
+    for page in 0..64 {
+        if let Some(copy) = processor.page(page) {
+            words.extend_from_slice(copy)?;
+        }
+    }
+    Ok(words)
+}
+
+/// Which pages are valid, and which locks are held.
+fn marks_of<T: Turn<Book, Rule>>(
+    processor: &Processor<T>,
+    alloc: Global,
+) -> Result<Vec<bool>, AllocError> {
+    let mut marks = Vec::with_capacity(alloc, 128)?;
+    for number in 0..64 {
+        marks.push(processor.is_valid(number))?;
+        marks.push(processor.holds(number))?;
+    }
+    Ok(marks)
+}
+
+/// What can be seen of it.
+fn seen_once<T: Turn<Book, Rule>>(
+    processor: &Processor<T>,
+    alloc: Global,
+) -> Result<Look, AllocError> {
+    Ok(Look {
+        words: words_of(processor, alloc)?,
+        marks: marks_of(processor, alloc)?,
+        time: processor.timestamp().copy(),
+        waiting: processor.waiting(),
+        room: processor.room(),
+    })
+}
+
+/// The same of this processor of the crew, also where one growth is refused; None where there is no such processor.
+pub fn seen_of<T: Turn<Book, Rule>>(
+    crew: &Crew<T>,
+    alloc: Global,
+    p: usize,
+) -> Result<Option<Look>, AllocError> {
+    let Some(processor) = crew.processor(p) else {
+        return Ok(None);
+    };
+    if let Ok(look) = seen_once(processor, alloc) {
+        return Ok(Some(look));
+    }
+    Ok(Some(seen_once(processor, alloc)?))
+}

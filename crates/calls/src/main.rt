@@ -1,0 +1,180 @@
+//! `calls [--ticket] [--few] [--again] [FILE]`: makes the calls of a list, a line each, and prints what each answers.
+//!
+//! The list is a file's, or standard input's. A line is one of these:
+//!
+//!   `cluster P N W L [G]`  opens a cluster of P processors, N pages of W words, L locks and G flags
+//!   `p0 CALL`              a call of processor 0: `ask 0`, `take`, `release 0`, `arrive`, `set 0`, `watch 0`, `flush`,
+//!                          `load 3`, `store 3 7`, `fetch 1`, `cut`, `audit`
+//!   `p0 QUESTION`          what is seen of it: `page 0`, `valid 0`, `holds 0`, `time`, `waiting`, `room`, `number`
+//!   `repeat N p0 CALL`     the call, N times
+//!   `finish`               ends the cluster
+//!   `journal P A`          begins a journal of P processors and A addresses
+//!   `event N P KIND ..`    puts an event at its end, at place N, as the journal of `lrc` is printed
+//!   `cut`                  cuts that journal
+//!   `events`, `count`, `at N`, `replay`, `race`, `traffic`, `base`, `gone`
+//!                          what is read of the journal at hand: the one begun last, or answered last by `audit` or `finish`
+//!
+//! An answer is `ok`, what is asked for, or the name of the refusal. `repeat` answers how often in turn each came, as
+//! `ok x256, BlockFull x1`; after `events` there is a line for each event, behind four spaces. A refused call leaves what
+//! is seen of its processor as it was; where it doesn't, its answer says so.
+//!
+//! `--ticket` takes the ticket lock in place of the array lock, and `--few` one with 4096 entries a processor. With
+//! `--again` a call that is refused memory is made once more, and only the second answer is printed.
+//!
+//! The status is 0; 2 at a line that is no call; 4 where memory or the output fails; 5 at wrong words or no such file.
+#![tactic(auto)]
+
+ghost use Rattle.std.specs.Prelude.{◌≤◌, ◌^◌};
+
+mod answer;
+mod desk;
+mod fault;
+mod line;
+mod look;
+mod options;
+mod print;
+mod written;
+
+use crate::desk::Desk;
+use crate::fault::Fault;
+use crate::line::action_of;
+use crate::options::{Options, options_of};
+use book::Book;
+use cluster::{BookLock, Rule, TicketBookLock};
+use std::io::{BufWriter, Stdout, Write};
+use std::process::ExitCode;
+use std::sync::Wait;
+use std::{fs, io};
+use turn::{ArrayLock, TicketLock, Turn};
+
+/// An array lock that each processor may enter so often only.
+type FewArray = ArrayLock<Book, Rule, 4096>;
+
+/// The same with tickets.
+type FewTickets = TicketLock<Book, Rule, 4096>;
+
+/// Does a line, which may have nothing in it.
+fn follow<T: Turn<Book, Rule> + Drop, R: Wait, W: Write>(
+    desk: &mut Desk<T>,
+    rt: &R,
+    out: &mut W,
+    line: &str,
+) -> Result<(), Fault>
+    requires { T.ENTRIES ≤ 2 ^ 40 }
+{
+    match action_of(line) {
+        Some(action) => desk.perform(rt, out, action),
+        None => Err(Fault::NoCall),
+    }
+}
+
+/// Does each line; where one fails, answers its number too.
+fn follow_all<T: Turn<Book, Rule> + Drop, R: Wait, W: Write>(
+    desk: &mut Desk<T>,
+    rt: &R,
+    out: &mut W,
+    text: &str,
+) -> Result<(), (usize, Fault)>
+    requires { T.ENTRIES ≤ 2 ^ 40 }
+{
+    for (index, line) in text.lines().enumerate() {
+        if let Err(fault) = follow(desk, rt, out, line) {
+            return Err((index, fault));
+        }
+    }
+    Ok(())
+}
+
+/// Says why the program ends early, and answers the status.
+fn refuse(rt: &HostRuntime, line: usize, fault: Fault) -> u8 {
+    let number = line.saturating_add(1);
+    let text = fault.text();
+    let mut err = rt.stderr();
+    let _ = match fault {
+        Fault::NoMemory | Fault::Output => writeln!(err, "calls: {text}"),
+        _ => writeln!(err, "calls: line {number}: {text}"),
+    };
+    fault.status()
+}
+
+/// Does the list with a lock of this type. The handle is what waits for a lock.
+fn serve<T: Turn<Book, Rule> + Drop, R: Wait>(
+    rt: &HostRuntime,
+    handle: &R,
+    out: &mut BufWriter<Stdout>,
+    again: bool,
+    text: &str,
+) -> u8
+    requires { T.ENTRIES ≤ 2 ^ 40 }
+{
+    let mut desk = Desk::<T>::new(rt.alloc(), again);
+    let outcome = follow_all(&mut desk, handle, out, text);
+    let flushed = out.flush();
+    match outcome {
+        Err((line, fault)) => refuse(rt, line, fault),
+        Ok(()) if flushed.is_err() => refuse(rt, 0, Fault::Output),
+        Ok(()) => 0,
+    }
+}
+
+/// Does the list with the lock that is asked for.
+fn serve_by<R: Wait>(
+    rt: &HostRuntime,
+    handle: &R,
+    options: &Options,
+    out: &mut BufWriter<Stdout>,
+    text: &str,
+) -> u8 {
+    let again = options.again;
+    match (options.few, options.ticket) {
+        (false, false) => serve::<BookLock, R>(rt, handle, out, again, text),
+        (false, true) => serve::<TicketBookLock, R>(rt, handle, out, again, text),
+        (true, false) => serve::<FewArray, R>(rt, handle, out, again, text),
+        (true, true) => serve::<FewTickets, R>(rt, handle, out, again, text),
+    }
+}
+
+/// The list's text.
+fn text_of(rt: &HostRuntime, file: Option<&str>) -> io::Result<String> {
+    match file {
+        Some(path) => fs::read_to_string(rt, path),
+        None => io::read_to_string(rt.alloc(), rt.stdin()),
+    }
+}
+
+/// Reads the list and does it.
+fn start<R: Wait>(rt: &HostRuntime, handle: &R, words: &[String]) -> io::Result<u8> {
+    let Some(options) = options_of(words) else {
+        writeln!(
+            rt.stderr(),
+            "usage: calls [--ticket] [--few] [--again] [FILE]"
+        )?;
+        return Ok(5);
+    };
+    let text = text_of(rt, options.file)?;
+    let mut out = BufWriter::new(rt.alloc(), rt.stdout())?;
+    Ok(serve_by(rt, handle, &options, &mut out, &text))
+}
+
+/// Reads the program's words, and does what they ask for.
+fn read_words<R: Wait>(rt: &HostRuntime, handle: &R) -> io::Result<u8> {
+    let words: Vec<String> = std::env::args(rt)?.collect(rt.alloc())?;
+    start(rt, handle, &words)
+}
+
+/// The status where nothing was done.
+fn status_of(rt: &HostRuntime, error: &io::Error) -> u8 {
+    if error.kind() == io::ErrorKind::OutOfMemory {
+        return refuse(rt, 0, Fault::NoMemory);
+    }
+    let _ = writeln!(rt.stderr(), "calls: the list cannot be read");
+    5
+}
+
+fn main(rt: HostRuntime) -> ExitCode {
+    let status = match read_words(&rt, &rt) {
+        Ok(status) => status,
+        Err(error) => status_of(&rt, &error),
+    };
+    ExitCode::from(status)
+}

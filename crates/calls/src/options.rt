@@ -1,0 +1,41 @@
+//! What the program's words ask for.
+
+/// What the program's words ask for.
+#[derive(Clone, Copy)]
+pub struct Options<'w> {
+    /// The ticket lock, in place of the array lock.
+    pub ticket: bool,
+    /// A lock with few entries.
+    pub few: bool,
+    /// A call that is refused memory is made once more.
+    pub again: bool,
+    /// The file that the list stands in.
+    pub file: Option<&'w str>,
+}
+
+/// The options with one word more; None where it is none.
+fn with<'w>(options: Options<'w>, word: &'w str) -> Option<Options<'w>> {
+    let mut options = options;
+    match word {
+        "--ticket" => options.ticket = true,
+        "--few" => options.few = true,
+        "--again" => options.again = true,
+        _ if word.starts_with('-') || options.file.is_some() => return None,
+        _ => options.file = Some(word),
+    }
+    Some(options)
+}
+
+/// Reads the program's words, its name first; None where they ask for nothing that it does.
+pub fn options_of<'w>(words: &'w [String]) -> Option<Options<'w>> {
+    let mut options = Options {
+        ticket: false,
+        few: false,
+        again: false,
+        file: None,
+    };
+    for word in words.iter().skip(1) {
+        options = with(options, word.as_str())?;
+    }
+    Some(options)
+}
