@@ -21,6 +21,7 @@ struct Plan {
     processors: usize,
     addresses: usize,
     locks: usize,
+    phases: usize,
     /// Of each flag the phase in which it is first set, and the processor that sets it then.
     setters: Vec<(usize, usize)>,
     /// Whether each address is accessed only by who holds its lock or has awaited its flag.
@@ -32,6 +33,8 @@ struct Plan {
 struct Section {
     instructions: Vec<Instruction>,
     held: Vec<usize>,
+    /// Whether memory was refused. Then the section is used no more.
+    has_failed: bool,
 }
 
 /// Whose section goes on, in which phase.
@@ -42,172 +45,138 @@ struct Turn {
 }
 
 impl Plan {
-    /// The address that the flag guards, if there is such an address.
-    fn address_of_flag(&self, flag: usize) -> Option<usize> {
-        if flag < self.addresses {
-            Some(flag)
-        } else {
-            None
-        }
-    }
-
     /// Whether who holds these locks may access the address.
     fn allows(&self, held: &[usize], address: usize) -> bool {
         let lock = address % self.locks.max(1);
         !self.is_guarded || address >= self.setters.len() && held.contains(&lock)
     }
+
+    /// Whether somebody sets the flag in this phase or before it.
+    fn is_set_by(&self, flag: usize, phase: usize) -> bool {
+        match self.setters.get(flag) {
+            Some((first, _)) => *first <= phase,
+            None => false,
+        }
+    }
 }
 
 impl Section {
-    fn push(&mut self, instruction: Instruction) -> Result<(), AllocError> {
-        self.instructions.push(instruction)?;
-        Ok(())
+    fn push(&mut self, instruction: Instruction) {
+        if self.instructions.push(instruction).is_err() {
+            self.has_failed = true;
+        }
     }
 
-    fn acquire(&mut self, lock: usize) -> Result<(), AllocError> {
-        self.held.push(lock)?;
-        self.push(Instruction::Acquire(lock))
+    fn acquire(&mut self, lock: usize) {
+        if self.held.push(lock).is_err() {
+            self.has_failed = true;
+        }
+        self.push(Instruction::Acquire(lock));
     }
 
     /// Gives all locks back, in a drawn order.
-    fn release_all(&mut self, rng: &mut Pcg32) -> Result<(), AllocError> {
+    fn release_all(&mut self, rng: &mut Pcg32) {
         for _ in 0..self.held.len() {
             let place = below(rng, self.held.len());
             if place < self.held.len() {
                 let lock = self.held.remove(place);
-                self.push(Instruction::Release(lock))?;
+                self.push(Instruction::Release(lock));
             }
         }
-        Ok(())
+    }
+
+    /// Whether all locks that it holds have lesser numbers.
+    fn is_below(&self, lock: usize) -> bool {
+        match self.held.last() {
+            Some(last) => *last < lock,
+            None => true,
+        }
     }
 }
 
-/// An access to a drawn address, if it may be accessed here.
-fn access(rng: &mut Pcg32, plan: &Plan, section: &mut Section) -> Result<(), AllocError> {
-    let address = below(rng, plan.addresses);
-    let value = rng.next_word() % 8;
-    let kind = below(rng, 4);
-    if !plan.allows(&section.held, address) {
-        return Ok(());
-    }
-    section.push(match kind {
-        0 => Instruction::Load(address),
-        1 if !plan.is_guarded => Instruction::Store(address, value),
-        _ => Instruction::Add(address, value),
-    })
-}
-
-/// Some accesses, fewer than this.
-fn accesses(
-    rng: &mut Pcg32,
-    plan: &Plan,
-    section: &mut Section,
-    bound: usize,
-) -> Result<(), AllocError> {
+/// Some accesses to drawn addresses, fewer than this, where they may be accessed.
+fn accesses(rng: &mut Pcg32, plan: &Plan, section: &mut Section, bound: usize) {
     for _ in 0..below(rng, bound) {
-        access(rng, plan, section)?;
+        let address = below(rng, plan.addresses);
+        let value = rng.next_word() % 8;
+        let kind = below(rng, 4);
+        if plan.allows(&section.held, address) {
+            section.push(match kind {
+                0 => Instruction::Load(address),
+                1 if !plan.is_guarded => Instruction::Store(address, value),
+                _ => Instruction::Add(address, value),
+            });
+        }
     }
-    Ok(())
 }
 
-/// Awaits the flag, and loads the address that it guards.
-fn await_flag(plan: &Plan, section: &mut Section, flag: usize) -> Result<(), AllocError> {
-    section.push(Instruction::Await(flag))?;
-    match plan.address_of_flag(flag) {
-        Some(address) => section.push(Instruction::Load(address)),
-        None => Ok(()),
+/// Awaits the flag, and loads the address that it guards, if there is such an address.
+fn await_flag(plan: &Plan, section: &mut Section, flag: usize) {
+    section.push(Instruction::Await(flag));
+    if flag < plan.addresses {
+        section.push(Instruction::Load(flag));
     }
 }
 
-/// Adds to the address that the flag guards, and sets the flag.
-fn set_first(
-    rng: &mut Pcg32,
-    plan: &Plan,
-    section: &mut Section,
-    flag: usize,
-) -> Result<(), AllocError> {
-    if let Some(address) = plan.address_of_flag(flag) {
-        section.push(Instruction::Add(address, rng.next_word() % 8))?;
+/// Adds to the address that the flag guards, if there is such an address, and sets the flag.
+fn set_first(rng: &mut Pcg32, plan: &Plan, section: &mut Section, flag: usize) {
+    if flag < plan.addresses {
+        section.push(Instruction::Add(flag, rng.next_word() % 8));
     }
-    section.push(Instruction::Set(flag))
+    section.push(Instruction::Set(flag));
 }
 
 /// What a processor does with the flags in a phase, before it asks for locks.
-fn flags(
-    rng: &mut Pcg32,
-    plan: &Plan,
-    turn: Turn,
-    section: &mut Section,
-) -> Result<(), AllocError> {
+fn flags(rng: &mut Pcg32, plan: &Plan, turn: Turn, section: &mut Section) {
     for (flag, (phase, setter)) in plan.setters.iter().enumerate() {
         if turn.phase == *phase && turn.processor == *setter {
-            set_first(rng, plan, section, flag)?;
+            set_first(rng, plan, section, flag);
         } else if turn.phase > *phase && one_in(rng, 6) {
-            section.push(Instruction::Set(flag))?;
+            section.push(Instruction::Set(flag));
         } else if turn.phase >= *phase && one_in(rng, 3) {
-            await_flag(plan, section, flag)?;
+            await_flag(plan, section, flag);
         }
-        accesses(rng, plan, section, 2)?;
+        accesses(rng, plan, section, 2);
     }
-    Ok(())
 }
 
-/// Asks by rising number for some locks that nobody keeps over the phase's end, with accesses between, awaits a
-/// flag that is set by then, and gives all locks back.
-fn nest(
-    rng: &mut Pcg32,
-    plan: &Plan,
-    keepers: &[Option<usize>],
-    turn: Turn,
-    section: &mut Section,
-) -> Result<(), AllocError> {
+/// Asks by rising number for some locks that nobody keeps over the phase's end, with accesses between.
+fn nest(rng: &mut Pcg32, plan: &Plan, keepers: &[Option<usize>], section: &mut Section) {
     for (lock, keeper) in keepers.iter().enumerate() {
-        let rises = section.held.iter().all(|held| *held < lock);
-        if keeper.is_none() && rises && one_in(rng, 2) {
-            section.acquire(lock)?;
-            accesses(rng, plan, section, 3)?;
+        if keeper.is_none() && section.is_below(lock) && one_in(rng, 2) {
+            section.acquire(lock);
+            accesses(rng, plan, section, 3);
         }
     }
-    let flag = below(rng, plan.setters.len());
-    if plan
-        .setters
-        .get(flag)
-        .is_some_and(|(phase, _)| *phase <= turn.phase)
-        && one_in(rng, 3)
-    {
-        await_flag(plan, section, flag)?;
-    }
-    section.release_all(rng)
 }
 
 /// Asks by rising number for the locks that the processor keeps over the phase's end.
-fn keep(
-    rng: &mut Pcg32,
-    plan: &Plan,
-    keepers: &[Option<usize>],
-    turn: Turn,
-    section: &mut Section,
-) -> Result<(), AllocError> {
+fn keep(section: &mut Section, keepers: &[Option<usize>], processor: usize) {
     for (lock, keeper) in keepers.iter().enumerate() {
-        if *keeper == Some(turn.processor) {
-            section.acquire(lock)?;
+        if *keeper == Some(processor) {
+            section.acquire(lock);
         }
     }
-    accesses(rng, plan, section, 3)
 }
 
-/// What a processor does in a phase.
+/// What a processor does in a phase. Under locks it awaits a flag at most that is set by then.
 fn phase(
     rng: &mut Pcg32,
     plan: &Plan,
     keepers: &[Option<usize>],
     turn: Turn,
     section: &mut Section,
-) -> Result<(), AllocError> {
-    accesses(rng, plan, section, 2)?;
-    flags(rng, plan, turn, section)?;
-    nest(rng, plan, keepers, turn, section)?;
-    keep(rng, plan, keepers, turn, section)
+) {
+    accesses(rng, plan, section, 2);
+    flags(rng, plan, turn, section);
+    nest(rng, plan, keepers, section);
+    let flag = below(rng, plan.setters.len());
+    if plan.is_set_by(flag, turn.phase) && one_in(rng, 3) {
+        await_flag(plan, section, flag);
+    }
+    section.release_all(rng);
+    keep(section, keepers, turn.processor);
+    accesses(rng, plan, section, 3);
 }
 
 /// Of each lock who keeps it over the end of a phase, if anybody does.
@@ -226,25 +195,23 @@ fn draw_keepers(
 
 /// A phase of all sections; it begins with a barrier, if it isn't the first.
 fn draw_phase(
-    alloc: Global,
     rng: &mut Pcg32,
     plan: &Plan,
+    keepers: &[Option<usize>],
     number: usize,
     sections: &mut [Section],
-) -> Result<(), AllocError> {
-    let keepers = draw_keepers(alloc, rng, plan)?;
+) {
     for processor in 0..sections.len() {
         let section = &mut sections[processor];
         if number > 0 {
-            section.push(Instruction::Barrier)?;
+            section.push(Instruction::Barrier);
         }
         let turn = Turn {
             processor,
             phase: number,
         };
-        phase(rng, plan, &keepers, turn, section)?;
+        phase(rng, plan, keepers, turn, section);
     }
-    Ok(())
 }
 
 /// A section for each processor, with nothing in it.
@@ -254,27 +221,39 @@ fn no_sections(alloc: Global, count: usize) -> Result<Vec<Section>, AllocError> 
         sections.push(Section {
             instructions: Vec::new(alloc),
             held: Vec::new(alloc),
+            has_failed: false,
         })?;
     }
     Ok(sections)
 }
 
-/// The sections of a plan with so many phases.
+/// The instructions of the sections.
+fn instructions_of(
+    alloc: Global,
+    sections: Vec<Section>,
+) -> Result<Vec<Vec<Instruction>>, AllocError> {
+    let mut all = Vec::new(alloc);
+    for section in sections {
+        if section.has_failed {
+            return Err(AllocError);
+        }
+        all.push(section.instructions)?;
+    }
+    Ok(all)
+}
+
+/// The sections of a plan.
 fn draw_sections(
     alloc: Global,
     rng: &mut Pcg32,
     plan: &Plan,
-    phases: usize,
 ) -> Result<Vec<Vec<Instruction>>, AllocError> {
     let mut sections = no_sections(alloc, plan.processors)?;
-    for number in 0..phases {
-        draw_phase(alloc, rng, plan, number, &mut sections)?;
+    for number in 0..plan.phases {
+        let keepers = draw_keepers(alloc, rng, plan)?;
+        draw_phase(rng, plan, &keepers, number, &mut sections);
     }
-    let mut all = Vec::new(alloc);
-    for section in sections {
-        all.push(section.instructions)?;
-    }
-    Ok(all)
+    instructions_of(alloc, sections)
 }
 
 /// Of each flag the phase in which it is first set, and the processor that sets it then.
@@ -311,17 +290,17 @@ pub fn mixed(alloc: Global, number: u64) -> Result<Script, AllocError> {
         processors,
         addresses: pages.saturating_mul(words),
         locks: size(&mut rng, 4),
+        phases,
         setters: draw_setters(alloc, &mut rng, phases, processors)?,
         is_guarded: number % 2 == 0,
     };
-    let sections = draw_sections(alloc, &mut rng, &plan, phases)?;
     Ok(Script {
         processors,
         pages,
         words,
         locks: plan.locks,
         flags: plan.setters.len(),
-        sections,
+        sections: draw_sections(alloc, &mut rng, &plan)?,
         shown: (0..plan.addresses).collect(alloc)?,
     })
 }

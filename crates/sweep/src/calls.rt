@@ -1,9 +1,13 @@
 //! What a script's sections make of events, and the same events with the replies of one flat memory.
 
 use crate::flat::write;
+use crate::flaw::Flaw;
 use journal::{Event, Kind};
 use lrc_script::script::{Instruction, Script};
 use std::alloc::{AllocError, Global};
+
+/// What the events of a section are.
+const IS_NEXT: &str = "the event is what its section does next";
 
 /// An event that a section makes, fetches aside.
 #[derive(Clone, Copy)]
@@ -86,57 +90,83 @@ fn count_calls(events: &[Event], processor: usize) -> usize {
         .count()
 }
 
-/// Each processor's way, of which these events are the last part; None where it has fewer steps.
-fn ways(alloc: Global, script: &Script, events: &[Event]) -> Result<Option<Vec<Way>>, AllocError> {
-    let mut ways = Vec::new(alloc);
-    for (processor, section) in script.sections.iter().enumerate() {
-        let shown: &[usize] = if processor == 0 { &script.shown } else { &[] };
-        let steps = steps_of_section(alloc, section, shown)?;
-        let Some(next) = steps.len().checked_sub(count_calls(events, processor)) else {
-            return Ok(None);
-        };
-        ways.push(Way {
+/// The processor's way, of which its events of these are the last part.
+fn way_of(
+    alloc: Global,
+    script: &Script,
+    events: &[Event],
+    (processor, section): (usize, &[Instruction]),
+) -> Result<Way, Flaw> {
+    let shown: &[usize] = if processor == 0 { &script.shown } else { &[] };
+    let steps = steps_of_section(alloc, section, shown)?;
+    match steps.len().checked_sub(count_calls(events, processor)) {
+        Some(next) => Ok(Way {
             steps,
             next,
             reply: 0,
             flat_reply: 0,
-        })?;
+        }),
+        None => Err(Flaw::NotAt(events.len(), IS_NEXT)),
     }
-    Ok(Some(ways))
+}
+
+/// Each processor's way, of which these events are the last part.
+fn ways(alloc: Global, script: &Script, events: &[Event]) -> Result<Vec<Way>, Flaw> {
+    let mut ways = Vec::new(alloc);
+    for (processor, section) in script.sections.iter().enumerate() {
+        let way = way_of(alloc, script, events, (processor, section))?;
+        ways.push(way)?;
+    }
+    Ok(ways)
 }
 
 impl Way {
     /// Goes one step on, if the event's kind is that step's: then answers it with what it would read or write on
     /// this memory.
     fn advance(&mut self, memory: &mut [u32], kind: Kind) -> Option<Kind> {
-        if matches!(kind, Kind::Fetch { .. }) {
+        if let Kind::Fetch { .. } = kind {
             return Some(kind);
         }
         let step = *self.steps.get(self.next)?;
         self.next = self.next.saturating_add(1);
-        match (step, kind) {
-            (Step::Load(address), Kind::Load(other, reply)) if address == other => {
-                self.reply = reply;
-                self.flat_reply = *memory.get(address)?;
-                Some(Kind::Load(address, self.flat_reply))
-            }
-            (Step::Store(address, value), Kind::Store(..)) => {
-                write(memory, address, value)?;
-                keep_if(kind == Kind::Store(address, value), kind)
-            }
-            (Step::StoreSum(address, value), Kind::Store(..)) => {
-                let flat_sum = self.flat_reply.wrapping_add(value);
-                write(memory, address, flat_sum)?;
+        match step {
+            Step::Load(address) => self.load(memory, address, kind),
+            Step::Store(address, value) => store(memory, address, (value, value), kind),
+            Step::StoreSum(address, value) => {
                 let sum = self.reply.wrapping_add(value);
-                keep_if(
-                    kind == Kind::Store(address, sum),
-                    Kind::Store(address, flat_sum),
-                )
+                let flat_sum = self.flat_reply.wrapping_add(value);
+                store(memory, address, (sum, flat_sum), kind)
             }
-            (Step::Other(wanted), _) => keep_if(wanted == kind, kind),
+            Step::Other(wanted) => keep_if(wanted == kind, kind),
+        }
+    }
+
+    /// The load that it would be on this memory, if the event's kind is a load of the address.
+    fn load(&mut self, memory: &[u32], address: usize, kind: Kind) -> Option<Kind> {
+        let word = *memory.get(address)?;
+        match kind {
+            Kind::Load(other, reply) if other == address => {
+                self.reply = reply;
+                self.flat_reply = word;
+                Some(Kind::Load(address, word))
+            }
             _ => None,
         }
     }
+}
+
+/// The store that it would be on this memory, if the event's kind is a store of the first value to the address.
+fn store(
+    memory: &mut [u32],
+    address: usize,
+    (value, flat_value): (u32, u32),
+    kind: Kind,
+) -> Option<Kind> {
+    write(memory, address, flat_value)?;
+    keep_if(
+        kind == Kind::Store(address, value),
+        Kind::Store(address, flat_value),
+    )
 }
 
 /// The kind, if that holds.
@@ -144,42 +174,44 @@ fn keep_if(holds: bool, kind: Kind) -> Option<Kind> {
     if holds { Some(kind) } else { None }
 }
 
+/// The event with what it would have read or written on this memory; None where it isn't what its section does next.
+fn replayed(ways: &mut [Way], memory: &mut [u32], event: &Event) -> Option<Event> {
+    let processor = event.processor;
+    let kind = ways.get_mut(processor)?.advance(memory, event.kind)?;
+    Some(Event { processor, kind })
+}
+
 /// The events with the replies and added values that they would have on one flat memory that begins with the
-/// base's words. An error is the place of the first event that isn't what its section does next; past the end
-/// where a section isn't gone through.
+/// base's words. Refused where an event isn't what its section does next, or a section isn't gone through.
 pub fn recomputed(
     alloc: Global,
     script: &Script,
     base: &[u32],
     events: &[Event],
-) -> Result<Result<Vec<Event>, usize>, AllocError> {
-    let Some(mut ways) = ways(alloc, script, events)? else {
-        return Ok(Err(events.len()));
-    };
+) -> Result<Vec<Event>, Flaw> {
+    let mut ways = ways(alloc, script, events)?;
     let mut memory: Vec<u32> = base.iter().copied().collect(alloc)?;
     let mut all = Vec::new(alloc);
     for (place, event) in events.iter().enumerate() {
-        let processor = event.processor;
-        let way = ways.get_mut(processor);
-        let Some(kind) = way.and_then(|way| way.advance(&mut memory, event.kind)) else {
-            return Ok(Err(place));
-        };
-        all.push(Event { processor, kind })?;
+        match replayed(&mut ways, &mut memory, event) {
+            Some(other) => all.push(other)?,
+            None => return Err(Flaw::NotAt(place, IS_NEXT)),
+        }
     }
-    Ok(Ok(all))
+    Ok(all)
 }
 
 /// Whether these are the addresses and replies of processor 0's last loads.
-pub fn are_last_replies(
-    alloc: Global,
-    events: &[Event],
-    shown: &[(usize, u32)],
-) -> Result<bool, AllocError> {
-    let mut loads = Vec::new(alloc);
-    for event in events {
+pub fn are_last_replies(events: &[Event], shown: &[(usize, u32)]) -> bool {
+    let mut wanted = shown.iter().rev();
+    for event in events.iter().rev() {
         if let (0, Kind::Load(address, reply)) = (event.processor, event.kind) {
-            loads.push((address, reply))?;
+            match wanted.next() {
+                Some(pair) if *pair == (address, reply) => {}
+                Some(_) => return false,
+                None => return true,
+            }
         }
     }
-    Ok(loads.ends_with(shown))
+    wanted.next().is_none()
 }

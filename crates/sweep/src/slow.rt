@@ -186,60 +186,58 @@ fn fault_of(before: &[Line], line: &Line) -> Option<ScriptFault> {
 fn fault_of_words(before: &[Line], line: &Line) -> Option<ScriptFault> {
     let sizes = before.first().and_then(|head| sizes_of(head));
     let processors = sizes.map_or(0, |sizes| sizes.processors);
-    let rows = [
-        (
-            line.iter().any(|word| word.is_empty()),
-            ScriptFault::BadLine,
-        ),
-        (!is_allowed(before, processors, line), ScriptFault::BadLine),
-        (
-            line.iter().skip(1).any(|word| number(word).is_none()),
-            ScriptFault::BadNumber,
-        ),
-        (
-            is_out_of_turn(before, processors, line),
-            ScriptFault::BadLine,
-        ),
-        (
-            before.is_empty() && sizes_of(line).is_none(),
-            ScriptFault::BadSize,
-        ),
-    ];
-    let (_, fault) = rows.iter().find(|(holds, _)| *holds)?;
-    Some(*fault)
+    if line.iter().any(|word| word.is_empty()) || !is_allowed(before, processors, line) {
+        Some(ScriptFault::BadLine)
+    } else if line.iter().skip(1).any(|word| number(word).is_none()) {
+        Some(ScriptFault::BadNumber)
+    } else if is_out_of_turn(before, processors, line) {
+        Some(ScriptFault::BadLine)
+    } else if before.is_empty() && sizes_of(line).is_none() {
+        Some(ScriptFault::BadSize)
+    } else {
+        None
+    }
 }
 
 /// The first of the rows on what its numbers name, and on its length.
 fn fault_of_numbers(before: &[Line], line: &Line) -> Option<ScriptFault> {
     let sizes = before.first().and_then(|head| sizes_of(head));
-    let (words, locks, flags) = sizes.map_or((0, 0, 0), |sizes| {
-        (sizes.addresses, sizes.locks, sizes.flags)
-    });
-    let lock = line.get(1).copied().unwrap_or(b"");
-    let held = holds(before, lock);
-    let rows = [
-        (
-            is_past(line, &[b"load", b"store", b"add"], 1, words)
-                || is_past(line, &[b"show"], line.len(), words),
-            ScriptFault::OutOfRange,
-        ),
-        (
-            is_past(line, &[b"acquire", b"release"], 1, locks),
-            ScriptFault::BadLock,
-        ),
-        (
-            is_past(line, &[b"set", b"await"], 1, flags),
-            ScriptFault::BadFlag,
-        ),
-        (
-            begins_with(line, b"acquire") && held,
-            ScriptFault::AlreadyHeld,
-        ),
-        (begins_with(line, b"release") && !held, ScriptFault::NotHeld),
-        (is_too_long(before, line), ScriptFault::TooLong),
-    ];
-    let (_, fault) = rows.iter().find(|(holds, _)| *holds)?;
-    Some(*fault)
+    let words = sizes.map_or(0, |sizes| sizes.addresses);
+    if is_past(line, &[b"load", b"store", b"add"], 1, words)
+        || is_past(line, &[b"show"], line.len(), words)
+    {
+        Some(ScriptFault::OutOfRange)
+    } else if is_past(
+        line,
+        &[b"acquire", b"release"],
+        1,
+        sizes.map_or(0, |sizes| sizes.locks),
+    ) {
+        Some(ScriptFault::BadLock)
+    } else if is_past(
+        line,
+        &[b"set", b"await"],
+        1,
+        sizes.map_or(0, |sizes| sizes.flags),
+    ) {
+        Some(ScriptFault::BadFlag)
+    } else {
+        fault_of_length(before, line)
+    }
+}
+
+/// The last rows: on the lock that is held or not, and on its length.
+fn fault_of_length(before: &[Line], line: &Line) -> Option<ScriptFault> {
+    let is_held = holds(before, line.get(1).copied().unwrap_or(b""));
+    if begins_with(line, b"acquire") && is_held {
+        Some(ScriptFault::AlreadyHeld)
+    } else if begins_with(line, b"release") && !is_held {
+        Some(ScriptFault::NotHeld)
+    } else if is_too_long(before, line) {
+        Some(ScriptFault::TooLong)
+    } else {
+        None
+    }
 }
 
 /// How many barriers the section has whose head stands first.

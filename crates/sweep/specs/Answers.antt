@@ -3,8 +3,8 @@ use Rattle.std.specs.Prelude.{◌≡◌, ℕ, List}
 use Rattle.lrc_script.specs.Plan.{Plan}
 use Rattle.lrc_script.specs.Lawful.{IsLawful}
 use Rattle.lrc_script.specs.Text.{text}
-use Rattle.script_sweep.specs.declared.slow.Finding.{Finding}
-use Rattle.script_sweep.specs.declared.slow.Finding.TheVariants.{Lawful}
+use Rattle.sweep.specs.declared.slow.Finding.{Finding}
+use Rattle.sweep.specs.declared.slow.Finding.TheVariants.{Lawful}
 
 -- the bytes are the text of a lawful script
 abbrev pub IsLawfulText : List ℕ → Type 0

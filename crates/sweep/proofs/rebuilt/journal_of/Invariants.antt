@@ -1,5 +1,5 @@
 use Rattle.std.proofs.Common.{◌≡◌, ◌≤◌, length, ◌+◌}
-use Rattle.schedule_sweep.proofs.rebuilt.journal_of.Given as goal
+use Rattle.sweep.proofs.rebuilt.journal_of.Given as goal
 
 abbrev pub invariant-loop-place : goal.invariant-loop-place
 invariant-loop-place l = (l.journal.processors ≡ l.processors) × (l.journal.addresses ≡ l.addresses)

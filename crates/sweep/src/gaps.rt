@@ -5,20 +5,7 @@ use journal::{Event, Kind};
 use std::alloc::{AllocError, Global};
 
 /// A word that a copy lacks: the processor that stored it, in which of its intervals, and the address.
-#[derive(Clone, Copy, PartialEq, Eq)]
-struct Missing {
-    processor: usize,
-    interval: usize,
-    address: usize,
-}
-
-/// How many writers, records and words a fetch counts.
-#[derive(Clone, Copy, PartialEq, Eq)]
-struct Counts {
-    writers: u32,
-    records: u32,
-    words: u32,
-}
+type Missing = (usize, usize, usize);
 
 /// Whether an event of this kind closes its processor's interval.
 fn is_closing(kind: Kind) -> bool {
@@ -59,64 +46,73 @@ fn push_new(list: &mut Vec<Missing>, item: Missing) -> Result<(), AllocError> {
     Ok(())
 }
 
+/// The address in a page to which another processor stored at an earlier place, in the past of this one, but not in
+/// the past of the last fetch. Pages have so many words.
+fn lacked_at(
+    table: &Table,
+    (earlier, event): (usize, &Event),
+    (place, processor): (usize, usize),
+    (page, words): (usize, usize),
+    fetch: Option<usize>,
+) -> Option<usize> {
+    let Kind::Store(address, _) = event.kind else {
+        return None;
+    };
+    let is_old = fetch.is_some_and(|fetch| table.is_before(earlier, fetch));
+    let is_other = event.processor != processor && address / words.max(1) == page;
+    if is_other && !is_old && table.is_before(earlier, place) {
+        Some(address)
+    } else {
+        None
+    }
+}
+
 /// The words that the processor's copy of a page lacks just before a place: those that others have stored in its
 /// past, but not in the past of its last fetch of the page.
 fn lacked_by(
     alloc: Global,
     table: &Table,
     events: &[Event],
-    (place, processor): (usize, usize),
-    (page, words): (usize, usize),
+    at: (usize, usize),
+    page: (usize, usize),
 ) -> Result<Vec<Missing>, AllocError> {
-    let fetch = last_fetch(events, place, processor, page);
+    let fetch = last_fetch(events, at.0, at.1, page.0);
     let mut missing = Vec::new(alloc);
-    for (earlier, event) in events.iter().take(place).enumerate() {
-        let Kind::Store(address, _) = event.kind else {
-            continue;
-        };
-        let owner = event.processor;
-        let is_old = fetch.is_some_and(|fetch| table.is_before(earlier, fetch));
-        let is_other = owner != processor && address / words.max(1) == page;
-        if is_other && !is_old && table.is_before(earlier, place) {
-            let item = Missing {
-                processor: owner,
-                interval: interval_of(events, earlier, owner),
-                address,
-            };
-            push_new(&mut missing, item)?;
+    for (earlier, event) in events.iter().take(at.0).enumerate() {
+        if let Some(address) = lacked_at(table, (earlier, event), at, page, fetch) {
+            let owner = event.processor;
+            push_new(
+                &mut missing,
+                (owner, interval_of(events, earlier, owner), address),
+            )?;
         }
     }
     Ok(missing)
 }
 
-/// What a fetch of these words counts; None where there are more than it can.
-fn counts_of(alloc: Global, missing: &[Missing]) -> Result<Option<Counts>, AllocError> {
+/// How many writers and records these words have.
+fn counts_of(alloc: Global, missing: &[Missing]) -> Result<(usize, usize), AllocError> {
     let mut records = Vec::new(alloc);
     let mut writers = Vec::new(alloc);
-    for item in missing {
-        let record = Missing {
-            processor: item.processor,
-            interval: item.interval,
-            address: 0,
-        };
-        push_new(&mut records, record)?;
-        let writer = Missing {
-            processor: item.processor,
-            interval: 0,
-            address: 0,
-        };
-        push_new(&mut writers, writer)?;
+    for (processor, interval, _) in missing {
+        push_new(&mut records, (*processor, *interval, 0))?;
+        push_new(&mut writers, (*processor, 0, 0))?;
     }
-    Ok(fit_counts(writers.len(), records.len(), missing.len()))
+    Ok((writers.len(), records.len()))
 }
 
-/// These counts; None where one of them is too great.
-fn fit_counts(writers: usize, records: usize, words: usize) -> Option<Counts> {
-    Some(Counts {
-        writers: u32::try_from(writers).ok()?,
-        records: u32::try_from(records).ok()?,
-        words: u32::try_from(words).ok()?,
-    })
+/// Whether a fetch that counts so much brings something, and counts just these words.
+fn is_count_of(
+    alloc: Global,
+    missing: &[Missing],
+    (writers, records, words): (u32, u32, u32),
+) -> Result<bool, AllocError> {
+    let counts = counts_of(alloc, missing)?;
+    Ok(
+        words > 0
+            && missing.len() == words as usize
+            && counts == (writers as usize, records as usize),
+    )
 }
 
 /// Whether the event at a place accesses a copy that lacks nothing, or fetches what the copy lacks and counts it,
@@ -128,27 +124,21 @@ fn is_right(
     words: usize,
     (place, event): (usize, &Event),
 ) -> Result<bool, AllocError> {
-    let at = (place, event.processor);
-    match event.kind {
-        Kind::Load(address, _) | Kind::Store(address, _) => {
-            let page = (address / words.max(1), words);
-            Ok(lacked_by(alloc, table, events, at, page)?.is_empty())
-        }
+    let (page, told) = match event.kind {
+        Kind::Load(address, _) | Kind::Store(address, _) => (address / words.max(1), None),
         Kind::Fetch {
             page,
             writers,
             records,
             words: told,
-        } => {
-            let missing = lacked_by(alloc, table, events, at, (page, words))?;
-            let told = Counts {
-                writers,
-                records,
-                words: told,
-            };
-            Ok(!missing.is_empty() && counts_of(alloc, &missing)? == Some(told))
-        }
-        _ => Ok(true),
+        } => (page, Some((writers, records, told))),
+        _ => return Ok(true),
+    };
+    let at = (place, event.processor);
+    let missing = lacked_by(alloc, table, events, at, (page, words))?;
+    match told {
+        Some(counts) => is_count_of(alloc, &missing, counts),
+        None => Ok(missing.is_empty()),
     }
 }
 

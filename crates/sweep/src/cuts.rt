@@ -1,6 +1,10 @@
 //! Scripts with cuts.
+ghost use Rattle.std.specs.Prelude.{IfOk};
+ghost use Rattle.lrc_script.specs.Prelude.{IsLawful, plan_of};
 
+use crate::flaw::Flaw;
 use crate::random::one_in;
+use crate::runs::read_again;
 use lrc_script::script::{Instruction, Script};
 use rand_core::SeedableRng;
 use rand_pcg::Pcg32;
@@ -49,20 +53,32 @@ fn marked(
     })
 }
 
-/// Whether the address lies in the last page, which is the one that [`with_cuts`] and [`with_loads`] add.
+/// Whether the address lies in the last page, which is the one that [`Marks::Cuts`] and [`Marks::Loads`] add.
 pub fn is_idle(script: &Script, address: usize) -> bool {
     address >= script.pages.saturating_sub(1).saturating_mul(script.words)
 }
 
-/// The script with a cut at each of the places that are drawn by the number.
-pub fn with_cuts(alloc: Global, script: &Script, number: u64) -> Result<Script, AllocError> {
-    marked(alloc, script, number, Instruction::Cut)
+/// What stands in a script at the places that are drawn by its number.
+#[derive(Clone, Copy)]
+pub enum Marks {
+    /// Nothing.
+    Nothing,
+    /// A cut at each.
+    Cuts,
+    /// A load at each, of a page that nobody stores to. It takes a turn as a cut does, costs nothing and orders
+    /// nothing: so under each schedule of `step` its journal is the history of the script with the cuts, but for
+    /// these loads.
+    Loads,
 }
 
-/// The same with a load at each of these places, of a page that nobody stores to. It takes a turn as a cut does,
-/// costs nothing and orders nothing: so under each schedule of `step` its journal is the history of the script
-/// with the cuts, but for these loads.
-pub fn with_loads(alloc: Global, script: &Script, number: u64) -> Result<Script, AllocError> {
-    let idle = script.pages.saturating_mul(script.words);
-    marked(alloc, script, number, Instruction::Load(idle))
+/// The script with these marks, read from its text.
+pub fn read_with(alloc: Global, script: &Script, number: u64, marks: Marks) -> Result<Script, Flaw>
+    ensures { IfOk result (λ s. IsLawful (plan_of s)) }
+{
+    let mark = match marks {
+        Marks::Nothing => return read_again(alloc, script),
+        Marks::Cuts => Instruction::Cut,
+        Marks::Loads => Instruction::Load(script.pages.saturating_mul(script.words)),
+    };
+    read_again(alloc, &marked(alloc, script, number, mark)?)
 }

@@ -1,16 +1,12 @@
 //! Lawful scripts, drawn.
 
+use crate::random::below;
 use lrc_script::draw::{free, guarded};
 use lrc_script::script::{Instruction, Script};
 use rand_core::SeedableRng;
 use rand_core::utils::NextWord;
 use rand_pcg::Pcg32;
 use std::alloc::{AllocError, Global};
-
-/// The generator's next word, below the bound. A bound of 0 counts as 1.
-pub fn below(rng: &mut Pcg32, bound: usize) -> usize {
-    rng.next_word() as usize % bound.max(1)
-}
 
 /// A number of the range; the least and the greatest come more often than others.
 fn size(rng: &mut Pcg32, least: usize, greatest: usize) -> usize {

@@ -6,7 +6,7 @@ use lrc_script::script::Script;
 use std::alloc::{AllocError, Global};
 
 /// How a script is drawn by its number.
-#[derive(Clone, Copy, Debug, PartialEq, Eq)]
+#[derive(Clone, Copy)]
 pub enum Drawing {
     /// Additions, each under the lock of its address.
     Guarded,
