@@ -1,7 +1,7 @@
 //! A plain Rust program of the same rules, to measure the product beside. It is no part of the product, nothing is
 //! proved of it, and it has no tests beyond the answers that it prints.
 //!
-//! `plain WORK TIMES [THREADS|FILE]` takes the words of `cluster_bench`, and `plain WORK EVENTS TIMES` those of `bench`.
+//! `plain WORK TIMES [THREADS|FILE]` and `plain WORK EVENTS TIMES` take the words of `bench`.
 //! `plain whole FILE [--journal]` does what `lrc step FILE [--journal]` does, and prints the same.
 //! It uses std alone, events of 16 bytes, and one Mutex round what the processors share.
 

@@ -1,48 +1,25 @@
-//! `bench WORK EVENTS TIMES`: builds a journal and does one work on it many times, so that its time can be
-//! taken from outside.
+//! `bench ORDER [and ORDER ..]`: does the orders in turn, each many times, and prints what each answers, so that a time
+//! can be taken from outside, as the difference of two runs of different length. An order is `WORK EVENTS TIMES` of a
+//! work on a journal, or `WORK TIMES [THREADS|FILE]` of one of the cluster, of its lock or of a script.
 #![tactic(auto)]
 
-ghost use Rattle.std.specs.Prelude.{◌^◌, ◌≤◌, ◌<◌, IfSome};
-
+mod alone;
+mod cluster_work;
 mod journals;
-#[cfg(test)]
-mod tests;
+mod scripts;
+mod threads;
 mod work;
 
-use crate::journals::build;
-use crate::work::{Answer, Work, do_times};
-use journal::MOST_HELD;
+use crate::cluster_work::{order_of, perform};
+use crate::work::{Answer, journal_order_of, measure};
+use anyhow::Result;
 use std::io;
-use std::io::Write;
 use std::process::ExitCode;
+use std::rt::{Clock, Files};
+use std::sync::Wait;
+use std::thread::Threads;
 
-/// What the words ask for.
-#[derive(Clone, Copy, Debug, PartialEq, Eq)]
-struct Order {
-    work: Work,
-    events: usize,
-    times: usize,
-}
-
-/// Reads the program's words, its name first; None where they ask for nothing that it does.
-fn order_of(words: &[String]) -> Option<Order>
-    ensures { IfSome result (λ o. (o.events ≤ 2 ^ 21) × (0 < o.times)) }
-{
-    let work = Work::named(words.get(1)?.as_str())?;
-    let events = words.get(2)?.parse::<usize>().ok()?;
-    let times = words.get(3)?.parse::<usize>().ok()?;
-    if words.len() == 4 && events <= MOST_HELD && times > 0 {
-        Some(Order {
-            work,
-            events,
-            times,
-        })
-    } else {
-        None
-    }
-}
-
-/// Prints the answer.
+/// Prints a journal's answer.
 fn print(rt: &HostRuntime, answer: Answer) -> io::Result<()> {
     match answer {
         Answer::Events(events) => println!(rt; "{events}"),
@@ -58,30 +35,40 @@ fn print(rt: &HostRuntime, answer: Answer) -> io::Result<()> {
     }
 }
 
-/// Builds the journal, does the work and prints the last answer.
-fn measure(rt: &HostRuntime, order: Order) -> io::Result<()>
-    requires few { order.events ≤ 2 ^ 21 }
-    requires some { 0 < order.times }
-{
-    let journal = build(rt.alloc(), order.events)?;
-    let answer = do_times(rt.alloc(), order.work, &journal, order.times - 1)?;
-    print(rt, answer)
+/// Does an order and prints its answer; false where the words are none. The handle is what threads are started by.
+fn obey<R: Files + Clock + AllocGlobal + Threads + Wait + Sync>(
+    rt: &HostRuntime,
+    handle: &R,
+    words: &[String],
+) -> Result<bool> {
+    if let Some(order) = journal_order_of(words) {
+        print(rt, measure(rt.alloc(), order)?)?;
+        return Ok(true);
+    }
+    let Some(order) = order_of(words) else {
+        return Ok(false);
+    };
+    let count = perform(handle, order)?;
+    println!(rt; "{count}")?;
+    Ok(true)
 }
 
-/// Does what the words ask for, and answers the status.
-fn start(rt: &HostRuntime, words: &[String]) -> io::Result<u8> {
-    let Some(order) = order_of(words) else {
-        writeln!(
-            rt.stderr(),
-            "usage: bench build|append|first_race|replay|traffic|copy EVENTS TIMES"
-        )?;
-        return Ok(5);
-    };
-    measure(rt, order)?;
+/// Does the orders in turn, and answers the status.
+fn obey_all<R: Files + Clock + AllocGlobal + Threads + Wait + Sync>(
+    rt: &HostRuntime,
+    handle: &R,
+    words: &[String],
+) -> Result<u8> {
+    for order in words.split(|word| word.as_str() == "and") {
+        if !obey(rt, handle, order)? {
+            eprintln!(rt; "usage: bench WORK EVENTS TIMES | WORK TIMES [THREADS|FILE] [and ..]")?;
+            return Ok(5);
+        }
+    }
     Ok(0)
 }
 
-fn main(rt: HostRuntime) -> io::Result<ExitCode> {
-    let words: Vec<String> = std::env::args(&rt)?.collect(rt.alloc())?;
-    Ok(ExitCode::from(start(&rt, &words)?))
+fn main(rt: HostRuntime) -> Result<ExitCode> {
+    let words: Vec<String> = std::env::args(&rt)?.skip(1).collect(rt.alloc())?;
+    Ok(ExitCode::from(obey_all(&rt, &rt, &words)?))
 }

@@ -1,13 +1,13 @@
-//! What is measured.
-ghost use Rattle.std.specs.Prelude.{◌≡◌, IfOk, IfSome};
+//! What is measured of a journal.
+ghost use Rattle.std.specs.Prelude.{◌≡◌, ◌^◌, ◌≤◌, IfOk, IfSome};
 ghost use Rattle.bench.specs.Answers.{IsAnswerOf, name_of};
 
 use crate::journals::build;
-use journal::{Journal, Traffic};
+use journal::{Journal, MOST_HELD, Traffic};
 use std::alloc::{AllocError, Global};
 
 /// What is done to the journal.
-#[derive(Clone, Copy, Debug, PartialEq, Eq)]
+#[derive(Clone, Copy)]
 pub enum Work {
     Build,
     Append,
@@ -35,7 +35,7 @@ impl Work {
 }
 
 /// What the work gave.
-#[derive(Clone, Copy, Debug, PartialEq, Eq)]
+#[derive(Clone, Copy)]
 pub enum Answer {
     Events(usize),
     FirstRace(Option<(usize, usize)>),
@@ -70,4 +70,34 @@ pub fn do_times(
         do_once(alloc, work, journal)?;
     }
     do_once(alloc, work, journal)
+}
+
+/// A work, on a journal of how many events, and how many times more than once.
+#[derive(Clone, Copy)]
+pub struct JournalOrder {
+    work: Work,
+    events: usize,
+    more: usize,
+    ghost few: { events ≤ 2 ^ 21 },
+}
+
+/// The order that these words are; None where they ask for nothing that is done to a journal.
+pub fn journal_order_of(words: &[String]) -> Option<JournalOrder> {
+    let [work, events, times] = words else {
+        return None;
+    };
+    let work = Work::named(work.as_str())?;
+    let events = events.parse::<usize>().ok()?;
+    let more = times.parse::<usize>().ok()?.checked_sub(1)?;
+    if events <= MOST_HELD {
+        Some(JournalOrder { work, events, more })
+    } else {
+        None
+    }
+}
+
+/// Builds the journal, does the work, and gives the last answer.
+pub fn measure(alloc: Global, order: JournalOrder) -> Result<Answer, AllocError> {
+    let journal = build(alloc, order.events)?;
+    do_times(alloc, order.work, &journal, order.more)
 }

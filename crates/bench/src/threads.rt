@@ -43,10 +43,10 @@ pub fn tasks<R: Threads + Wait + Sync>(
     threads: usize,
     task: Task,
     times: usize,
-) -> Result<usize> {
+) -> Result<u64> {
     let crew = Crew::<BookLock>::new(alloc, [threads, 1, 1, 1, 0])?;
     let tasks = vec![in alloc; task; times]?;
     let (crew, outcome) = run(rt, alloc, crew, &tasks)?;
     outcome?;
-    Ok(crew.finish().len())
+    Ok(crew.finish().len() as u64)
 }
