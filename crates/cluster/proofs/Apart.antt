@@ -1,8 +1,8 @@
 -- The processors at the end, taken apart.
-use Rattle.std.proofs.Common.{append-nil, ℕ, ◌≡◌, ◌⊎◌, ◌<◌, Some, List, [], ◌∷◌, ◌++◌, length, map, slice_get, slice_index_or, inl, inr, sym, subst, subst₂, ◌∙◌, arith}
+use Rattle.std.proofs.Common.{append-nil, ℕ, ◌≡◌, ◌⊎◌, ◌<◌, Some, List, [], ◌∷◌, ◌++◌, length, map, take, sum_by, slice_get, slice_index_or, inl, inr, sym, ap, subst, subst₂, ◌∙◌, arith}
 use Rattle.std.specs.List.{flat_map}
 use Rattle.std.proofs.Math.Seq.{take-length}
-use Rattle.std.proofs.lemmas.List.{length_push}
+use Rattle.std.proofs.lemmas.List.{length_push, length-map}
 use Rattle.std.proofs.lemmas.Option.{slice_get_within, slice_get-get_or}
 use Rattle.journal.specs.declared.event.Event.{Event}
 use Rattle.journal.specs.Sizes.{Sizes}
@@ -14,10 +14,11 @@ use Rattle.book.specs.State.{State}
 use Rattle.replicas.specs.Local.{Local}
 use Rattle.cluster.specs.declared.keeper.View.{View}
 use Rattle.cluster.specs.Clusters.{Shared}
-use Rattle.cluster.specs.Kept.{IsKept, Kept, GoesOn, view_of}
+use Rattle.cluster.specs.Kept.{IsKept, Kept, GoesOn, all_cut, view_of}
 use Rattle.cluster.specs.Finishing.{AreAllOf, IsApart, AreApart, AreBlocksOf, IsFinishing, IsFinished}
 use Rattle.cluster.proofs.FinishingCalls.{mapped_at}
 use Rattle.cluster.proofs.Histories.{faithful, journal_of}
+use Rattle.cluster.proofs.Sums.{same_sums}
 
 -- one more is taken apart
 pub apart_more : (ms : List Local) (cs : List (ChairToken State View)) (bs : List (List Event)) (m : Local)
@@ -109,7 +110,7 @@ module _ (c : Shared) (ms : List Local) (cs : List (ChairToken State View)) (bs 
   }
 
   module _ (b : State) (some : 0 < c.sizes.processors) (kept : Kept b (map view cs)) where
-    goes : (p : ℕ) (m : Local) → slice_get ms p ≡ Some m → GoesOn kept.0 kept.1 p (view_of m.sizes m.seen m.cut)
+    goes : (p : ℕ) (m : Local) → slice_get ms p ≡ Some m → GoesOn kept.0 kept.1 p (view_of m.sizes m.seen m.cut m.own_cut)
     goes p m at =
         let x = parts p m at in
         let a = x.apart x.block x.block_at in
@@ -125,12 +126,26 @@ module _ (c : Shared) (ms : List Local) (cs : List (ChairToken State View)) (bs 
     start : IsKept c.sizes kept.1 b (map view cs)
     start = let P : Sizes → Type 0 = λ s. IsKept s kept.1 b (map view cs) in subst P sizes_are kept.2
 
+    -- what the chairs' own cuts took off, the processors' did
+    own_cuts : all_cut (map view cs) ≡ sum_by (λ (m : Local). m.own_cut) ms
+    own_cuts =
+        same_sums (λ (v : View). v.own_cut) (λ (m : Local). m.own_cut) (map view cs) ms
+        (length-map cs view ∙ are.chairs) own
+      where
+        own : (p : ℕ) (v : View) (m : Local) → slice_get (map view cs) p ≡ Some v → slice_get ms p ≡ Some m
+            → v.own_cut ≡ m.own_cut
+        own p v m here at =
+            let x = parts p m at in
+            let is : view x.chair ≡ v = cc (mapped_at view cs p x.chair x.at, here) in
+            ap (λ (w : View). w.own_cut) (sym is ∙ (x.apart x.block x.block_at).chair.view_is)
+
     -- so all blocks are to come
     pub finishing_start : IsFinishing c.sizes ms 0 kept.1 b
     finishing_start = record {
       told = start.told;
       explained = start.explained;
       counted = start.counted;
+      cuts = sym start.cuts ∙ own_cuts;
       room = let long = all.all in let owing = start.owing in rw (long) (omega arith);
       sound =
           λ p m at. (let x = parts p m at in let a = x.apart x.block x.block_at in let mine = all.each p m at in
@@ -151,6 +166,11 @@ finished s ms h b j fin same = record {
   history = h;
   taken = fin.told.holds.taken;
   journal = journal_of s h b j fin.told same;
+  cuts =
+      (let after = fin.told.holds.rest.base.after.cut in let cuts = fin.cuts in
+      let whole : sum_by (λ (m : Local). m.own_cut) (take (length ms) ms) ≡ sum_by (λ (m : Local). m.own_cut) ms =
+      ap (λ (xs : List Local). sum_by (λ (m : Local). m.own_cut) xs) (take-length ms) in
+      omega arith);
   faithful = faithful s h fin.told.well_formed fin.explained fin.counted;
   each = λ p m at. fin.done p m (slice_get_within ms p m at) at;
   in_turn =

@@ -206,6 +206,7 @@ module _ {m : Local} {b : State} {k : Kind} {records : List Changes} {after : Ch
   same : closed_now ≡ closed (handed then) k
   same =
       now_is v (m.block ++ event m.number k ∷ []) call closed_now refl
+      (journal_closed k (handed_in b m.block) m.number records).1
       ∙ ap (λ (h : List Event). record (closed (handed then) k) { seen = h }) moved
 
   -- it is as it has to be
@@ -220,5 +221,6 @@ module _ {m : Local} {b : State} {k : Kind} {records : List Changes} {after : Ch
   pub closed_done : {many : ℕ}
       → IsCall (flush_refusal m) many Nothing (IsClosedBy k) (event m.number k ∷ []) m closed_now None
   closed_done =
-      call_done v (m.block ++ event m.number k ∷ []) call closed_now refl (not_spent v) closed_good same
+      call_done v (m.block ++ event m.number k ∷ []) call closed_now refl (not_spent v)
+      (journal_closed k (handed_in b m.block) m.number records).1 closed_good same
       (ap calls same ∙ calls_closed then k before)

@@ -113,7 +113,7 @@ module _ (m : Local) (sound : IsSound m) where
     where
       each : (h : List Event) → Allows m h → IsCovered m h
       each h allows =
-          let goes = allows.kept.each m.number (view_of m.sizes m.seen m.cut) allows.mine in
+          let goes = allows.kept.each m.number (view_of m.sizes m.seen m.cut m.own_cut) allows.mine in
           let P : List Event → Type 0 = λ es. WellFormed m.sizes es in
           let Q : List Event → Type 0 = λ es. AreCounted m.sizes es in
           subst (IsCovered m) (sym goes.begins)

@@ -31,11 +31,12 @@ use Rattle.cluster.specs.declared.keeper.View.{View}
 use Rattle.cluster.specs.Cutting.{IsCuttingCall, IsUncut, MayCutOff, WasCutOff}
 use Rattle.cluster.specs.Entering.{IsCallOf, entered}
 use Rattle.cluster.specs.Kept.{view_of}
+use Rattle.replicas.proofs.Entering as entering
 use Rattle.cluster.specs.Refusals.{flush_refusal}
 use Rattle.cluster.proofs.Covering.{covers}
 use Rattle.cluster.proofs.Histories.{taken_is}
 use Rattle.cluster.proofs.Leaving.{call_of_nothing}
-use Rattle.cluster.proofs.Made.{alike_all, calls_entered, entered_sound, free_of, seat_spent, not_spent, now_is, now_same, few_now, now_allowed, unchanged_after, unchanged_is, unchanged_calls, unchanged_allowed, unchanged_sound}
+use Rattle.cluster.proofs.Made.{alike_all, calls_entered, entered_sound, free_of, seat_spent, not_spent, now_by, now_same, few_now, now_allowed, unchanged_after, unchanged_is, unchanged_calls, unchanged_allowed, unchanged_sound}
 use Rattle.cluster.proofs.Visiting.{Visit, on}
 
 -- what is dropped makes a list no longer
@@ -50,6 +51,13 @@ module _ (m : Local) (b new : State) (was : WasBookCut b new) where
   fewer : length new.journal.events ≤ length b.journal.events
   fewer = let le = length-drop_le was.journal.taken b.journal.events in let all = ap length events_left in omega arith
 
+  -- and by so many more are cut off
+  pub grown : new.journal.base.cut ≡ b.journal.base.cut + was.journal.taken
+  grown =
+      let cut = was.journal.base.cut in
+      let within = was.journal.may.place.within in
+      cut ∙ ap (λ (n : ℕ). b.journal.base.cut + n) (length-take-le was.journal.taken b.journal.events within)
+
   -- it is a call of p, which adds nothing
   pub call_of_cut : IsCallOf m b [] new
   call_of_cut = record {
@@ -60,7 +68,8 @@ module _ (m : Local) (b new : State) (was : WasBookCut b new) where
     explained = λ f. rw append-nil f.kept.explained;
     counted = λ f. rw append-nil f.kept.counted;
     few = λ f. (let few = f.kept.few in let less = fewer in omega arith);
-    more = (let cut = was.journal.base.cut in omega arith);
+    taken = was.journal.taken;
+    cuts = grown;
   }
 
 -- whatever the book answers
@@ -138,32 +147,34 @@ module _ {m : Local} {b new : State} {after : ChairToken State View} (v : Visit 
   call : IsCallOf m b [] new
   call = call_of_cut m b new was
 
-  same : on after m ≡ record then { cut = new.journal.base.cut }
+  abbrev own_grown : ℕ
+  own_grown = m.own_cut + was.journal.taken
+
+  same : on after m ≡ record then { cut = new.journal.base.cut; own_cut = own_grown }
   same =
-      now_is v [] call (on after m) refl
-      ∙ ap (λ (h : List Event). record then { seen = h; cut = new.journal.base.cut }) (append-nil history)
+      now_by v [] call (on after m) refl own_grown
+      (let cuts = call.cuts in let more = grown m b new was in omega arith)
+      ∙ ap (λ (h : List Event). record then { seen = h; cut = new.journal.base.cut; own_cut = own_grown })
+      (append-nil history)
 
   pub cut_good : IsSound (on after m)
-  cut_good = subst IsSound (sym same) (entered_sound m b v.sound v.finds new.journal.base.cut)
-
-  grown : new.journal.base.cut ≡ b.journal.base.cut + was.journal.taken
-  grown =
-      let cut = was.journal.base.cut in
-      let within = was.journal.may.place.within in
-      cut ∙ ap (λ (n : ℕ). b.journal.base.cut + n) (length-take-le was.journal.taken b.journal.events within)
+  cut_good =
+      subst IsSound (sym same)
+      (entering.entered_sound then then.entries new.journal.base.cut own_grown
+      (entered_sound m b v.sound v.finds b.journal.base.cut))
 
   race_free : RaceFree (take (b.journal.base.cut + was.journal.taken) history)
   race_free =
       let told = cut_law m.sizes history b new v.finds.kept.told was in
       let P : ℕ → Type 0 = λ n. RaceFree (take n history) in
-      subst P grown (subst RaceFree (taken_is m.sizes history new told) told.holds.rest.base.race_free)
+      subst P (grown m b new was) (subst RaceFree (taken_is m.sizes history new told) told.holds.rest.base.race_free)
 
   cut_off : WasCutOff then (on after m)
   cut_off = record {
     taken = was.journal.taken;
     may = may_cut_off m.sizes history b v.finds.kept.told was.journal.taken was.journal.may;
     race_free = race_free;
-    after = same ∙ ap (λ (n : ℕ). record then { cut = n }) grown;
+    after = same ∙ ap (λ (n : ℕ). record then { cut = n; own_cut = own_grown }) (grown m b new was);
   }
 
   pub cut_done : IsCuttingCall m (on after m) None
@@ -175,7 +186,7 @@ module _ {m : Local} {b new : State} {after : ChairToken State View} (v : Visit 
         rest = v.finds.rest;
         away = v.finds.away;
         cut = b.journal.base.cut;
-        more = v.finds.kept.behind m.number (view_of m.sizes m.seen m.cut) v.finds.at;
+        more = v.finds.kept.behind m.number (view_of m.sizes m.seen m.cut m.own_cut) v.finds.at;
         after = cut_off;
       },
       few_now v [] call (on after m) refl,

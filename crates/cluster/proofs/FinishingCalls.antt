@@ -74,6 +74,7 @@ module _ (s : Sizes) (ms : List Local) (k : ℕ) (b : State) (m : Local) (at : s
     told = last_law s h m.block b m.number fin.told may_give_last;
     explained = covered_last.explained;
     counted = rw (← sizes) covered_last.counted;
+    cuts = fin.cuts;
     room = let short = sound.short in let enough = room_last in let room = fin.room in omega arith;
     sound = fin.sound;
     done = done;

@@ -93,7 +93,7 @@ module _ {m : Local} {b new : State} {after : ChairToken State View} (t : Handed
   told = call.told v.finds
 
   same : handed_now ≡ handed then
-  same = now_is v m.block call handed_now refl
+  same = now_is v m.block call handed_now refl refl
 
   -- it is as it has to be
   pub handed_good : IsSound handed_now
@@ -103,7 +103,7 @@ module _ {m : Local} {b new : State} {after : ChairToken State View} (t : Handed
 
   pub handed_done : {many : ℕ} → IsCall (flush_refusal m) many Nothing IsHanded [] m handed_now None
   handed_done =
-      call_done v m.block call handed_now refl (not_spent v) handed_good same (ap calls same
+      call_done v m.block call handed_now refl (not_spent v) refl handed_good same (ap calls same
       ∙ calls_handed then (entered_sound m b v.sound v.finds b.journal.base.cut) ∙ sym (append-nil (calls then)))
 
   -- and a journal like the book's is what an audit answers

@@ -31,17 +31,18 @@ use Rattle.cluster.specs.Entering.{Finds, IsCallOf}
 use Rattle.cluster.specs.Laws.{SeenLaw}
 use Rattle.cluster.proofs.Covering.{covered_on}
 use Rattle.cluster.proofs.Finding.{may_give}
+use Rattle.cluster.proofs.Sums.{sum_by-set_at}
 
 module _ (s : Sizes) (h : List Event) (b : State) (views : List View) (kept : IsKept s h b views) (p : ℕ)
-    (es : List Event) (mine : (k : ℕ) (e : Event) → At es k e → e.processor ≡ p) (cut : ℕ) where
+    (es : List Event) (mine : (k : ℕ) (e : Event) → At es k e → e.processor ≡ p) (cut own_cut : ℕ) where
   -- p has seen all, and for the others it is one of those that went on
-  goes_on : (q : ℕ) (x : View) → slice_get (slice_set views p (view_of s (h ++ es) cut)) q ≡ Some x
+  goes_on : (q : ℕ) (x : View) → slice_get (slice_set views p (view_of s (h ++ es) cut own_cut)) q ≡ Some x
       → GoesOn s (h ++ es) q x
   goes_on q x found = elim (cases_eq q p) [
     | inl same ↦
-        (let P : ℕ → Type 0 = λ k. slice_get (slice_set views p (view_of s (h ++ es) cut)) k ≡ Some x in
-        let is : view_of s (h ++ es) cut ≡ x =
-        slice_get-set_found views p (view_of s (h ++ es) cut) x (subst P same found) in
+        (let P : ℕ → Type 0 = λ k. slice_get (slice_set views p (view_of s (h ++ es) cut own_cut)) k ≡ Some x in
+        let is : view_of s (h ++ es) cut own_cut ≡ x =
+        slice_get-set_found views p (view_of s (h ++ es) cut own_cut) x (subst P same found) in
         subst (GoesOn s (h ++ es) q) is (record {
           shape = refl;
           rest = [];
@@ -49,7 +50,7 @@ module _ (s : Sizes) (h : List Event) (b : State) (views : List View) (kept : Is
           away = λ k e at. absurd (none-some e at);
         }))
     | inr other ↦
-        (let goes = kept.each q x (sym (slice_get-set_other views p q (view_of s (h ++ es) cut) other) ∙ found) in
+        (let goes = kept.each q x (sym (slice_get-set_other views p q (view_of s (h ++ es) cut own_cut) other) ∙ found) in
         record {
           shape = goes.shape;
           rest = goes.rest ++ es;
@@ -63,43 +64,49 @@ module _ (s : Sizes) (h : List Event) (b : State) (views : List View) (kept : Is
 
   -- nobody knows of more cut off than was
   behind_on : (c : ℕ) → b.journal.base.cut ≤ c → cut ≤ c → (q : ℕ) (x : View)
-      → slice_get (slice_set views p (view_of s (h ++ es) cut)) q ≡ Some x → x.cut ≤ c
+      → slice_get (slice_set views p (view_of s (h ++ es) cut own_cut)) q ≡ Some x → x.cut ≤ c
   behind_on c more mine q x found = elim (cases_eq q p) [
     | inl same ↦
-        (let P : ℕ → Type 0 = λ k. slice_get (slice_set views p (view_of s (h ++ es) cut)) k ≡ Some x in
-        let is : view_of s (h ++ es) cut ≡ x =
-        slice_get-set_found views p (view_of s (h ++ es) cut) x (subst P same found) in
+        (let P : ℕ → Type 0 = λ k. slice_get (slice_set views p (view_of s (h ++ es) cut own_cut)) k ≡ Some x in
+        let is : view_of s (h ++ es) cut own_cut ≡ x =
+        slice_get-set_found views p (view_of s (h ++ es) cut own_cut) x (subst P same found) in
         subst (λ (v : View). v.cut ≤ c) is mine)
     | inr other ↦
-        (let le = kept.behind q x (sym (slice_get-set_other views p q (view_of s (h ++ es) cut) other) ∙ found) in
+        (let le = kept.behind q x (sym (slice_get-set_other views p q (view_of s (h ++ es) cut own_cut) other) ∙ found) in
         omega arith)
   ]
 
   pub kept_on : (x : View) → slice_get views p ≡ Some x → (c : State) → IsTold s (h ++ es) c → Explained (h ++ es)
       → AreCounted s (h ++ es) → length c.journal.events ≤ most_events → c.journal.room ≡ b.journal.room
       → b.journal.base.cut ≤ c.journal.base.cut → cut ≤ c.journal.base.cut
-      → IsKept s (h ++ es) c (slice_set views p (view_of s (h ++ es) cut))
-  kept_on x at c told explained counted few room more mine = record {
+      → own_cut + b.journal.base.cut ≡ x.own_cut + c.journal.base.cut
+      → IsKept s (h ++ es) c (slice_set views p (view_of s (h ++ es) cut own_cut))
+  kept_on x at c told explained counted few room more mine own = record {
     told = told;
     explained = explained;
     counted = counted;
     few = few;
-    all = length-set views p (view_of s (h ++ es) cut) ∙ kept.all;
+    all = length-set views p (view_of s (h ++ es) cut own_cut) ∙ kept.all;
     each = goes_on;
     behind = behind_on c.journal.base.cut more mine;
+    cuts =
+        (let now = view_of s (h ++ es) cut own_cut in
+        let sums = sum_by-set_at (λ (v : View). v.own_cut) views p x now at in
+        let was = kept.cuts in
+        omega arith);
     whole =
-        (let now = view_of s (h ++ es) cut in
+        (let now = view_of s (h ++ es) cut own_cut in
         (p, now, slice_get-set_same views p now (slice_get_within views p x at), refl));
     owing = room ∙ kept.owing;
   }
 
 -- what p finds, where the lock's fact holds with what p has seen
 abbrev pub finds : (m : Local) (b : State) (views : List View)
-    → slice_get views m.number ≡ Some (view_of m.sizes m.seen m.cut) → Kept b views → Finds m b
+    → slice_get views m.number ≡ Some (view_of m.sizes m.seen m.cut m.own_cut) → Kept b views → Finds m b
 finds m b views at fact =
     let s = fact.0 in
     let h = fact.1 in
-    let goes = fact.2.each m.number (view_of m.sizes m.seen m.cut) at in
+    let goes = fact.2.each m.number (view_of m.sizes m.seen m.cut m.own_cut) at in
     let P : Sizes → Type 0 = λ z. IsKept z h b views in
     let Q : List Event → Type 0 = λ xs. IsKept m.sizes xs b views in
     record {
@@ -111,22 +118,24 @@ finds m b views at fact =
     }
 
 -- the call keeps the fact
-pub call_kept : (m : Local) (old : State) (es : List Event) (new : State) → IsCallOf m old es new → (f : Finds m old)
-    → IsKept m.sizes ((m.seen ++ f.rest) ++ es) new
-    (slice_set f.views m.number (view_of m.sizes ((m.seen ++ f.rest) ++ es) new.journal.base.cut))
+pub call_kept : (m : Local) (old : State) (es : List Event) (new : State) (call : IsCallOf m old es new)
+    (f : Finds m old) → IsKept m.sizes ((m.seen ++ f.rest) ++ es) new
+    (slice_set f.views m.number
+    (view_of m.sizes ((m.seen ++ f.rest) ++ es) new.journal.base.cut (m.own_cut + call.taken)))
 call_kept m old es new call f =
+    let cuts = call.cuts in
     kept_on m.sizes (m.seen ++ f.rest) old f.views f.kept m.number es call.mine new.journal.base.cut
-    (view_of m.sizes m.seen m.cut) f.at new (call.told f) (call.explained f) (call.counted f) (call.few f)
-    call.room call.more (omega arith)
+    (m.own_cut + call.taken) (view_of m.sizes m.seen m.cut m.own_cut) f.at new (call.told f) (call.explained f)
+    (call.counted f) (call.few f) call.room (omega arith) (omega arith) (omega arith)
 
 -- so p may leave the new book
 pub may_leave : (m : Local) (old : State) (es : List Event) (new : State) → IsCallOf m old es new
-    → (views : List View) → slice_get views m.number ≡ Some (view_of m.sizes m.seen m.cut) → Kept old views
-    → (w : View) × Sees old new m.number (view_of m.sizes m.seen m.cut) w × Kept new (slice_set views m.number w)
+    → (views : List View) → slice_get views m.number ≡ Some (view_of m.sizes m.seen m.cut m.own_cut) → Kept old views
+    → (w : View) × Sees old new m.number (view_of m.sizes m.seen m.cut m.own_cut) w × Kept new (slice_set views m.number w)
 may_leave m old es new call views at fact =
     let f = finds m old views at fact in
     let h = (m.seen ++ f.rest) ++ es in (
-      view_of m.sizes h new.journal.base.cut,
+      view_of m.sizes h new.journal.base.cut (m.own_cut + call.taken),
       record {
         history = m.seen ++ f.rest;
         views = views;
@@ -135,6 +144,7 @@ may_leave m old es new call views at fact =
         shape = refl;
         seen = ap (λ (xs : List Event). (m.seen ++ f.rest) ++ xs) (sym call.adds);
         cut = refl;
+        own_cut = let cuts = call.cuts in omega arith;
       },
       (m.sizes, h, call_kept m old es new call f),
     )
@@ -168,7 +178,8 @@ call_of_nothing m b = record {
   explained = λ f. rw append-nil f.kept.explained;
   counted = λ f. rw append-nil f.kept.counted;
   few = λ f. f.kept.few;
-  more = omega arith;
+  taken = 0;
+  cuts = omega arith;
 }
 
 module _ (m : Local) (sound : IsSound m) (b : State) where
@@ -192,7 +203,8 @@ module _ (m : Local) (sound : IsSound m) (b : State) where
     explained = λ f. (covered f).explained;
     counted = λ f. (covered f).counted;
     few = λ _. few_then (length m.block) m.block (handed_in b m.block) fits refl refl;
-    more = omega arith;
+    taken = 0;
+    cuts = omega arith;
   }
 
   -- the block, and an event after it that is neither a load nor a fetch
@@ -221,7 +233,8 @@ module _ (m : Local) (sound : IsSound m) (b : State) where
     few =
         λ _. few_then (length m.block + 1) (m.block ++ event m.number k ∷ []) new (omega arith)
         (length-append m.block (event m.number k ∷ [])) goes;
-    more = (let same = cut in omega arith);
+    taken = 0;
+    cuts = (let same = cut in omega arith);
   }
 
   -- an event alone that is neither
@@ -246,5 +259,6 @@ module _ (m : Local) (sound : IsSound m) (b : State) where
         λ f. counted_push m.sizes (m.seen ++ f.rest) (event m.number k) (λ p n w r d is.
         absurd (no_fetch w n r d (ap (λ (x : Event). x.kind) is))) f.kept.counted;
     few = λ _. few_then 1 (event m.number k ∷ []) new fits refl goes;
-    more = (let same = cut in omega arith);
+    taken = 0;
+    cuts = (let same = cut in omega arith);
   }

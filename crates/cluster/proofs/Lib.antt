@@ -6,6 +6,7 @@ pub mod Stored
 pub mod Fetching
 pub mod Covering
 pub mod Finding
+pub mod Sums
 pub mod Leaving
 pub mod Visiting
 pub mod Made

@@ -1,5 +1,5 @@
 -- How a call that enters the book ends.
-use Rattle.std.proofs.Common.{ℕ, ◌≡◌, ◌⊎◌, ◌↔◌, ◌+◌, ◌<◌, ◌≤◌, Result, Ok, Err, Option, Some, None, List, [], ◌++◌, length, inl, inr, refl, sym, ap, subst, ◌∙◌, append-nil, arith}
+use Rattle.std.proofs.Common.{ℕ, ◌≡◌, ◌⊎◌, ◌↔◌, ◌+◌, ◌<◌, ◌≤◌, Result, Ok, Err, Option, Some, None, List, [], ◌++◌, length, inl, inr, refl, sym, ap, ap₂, subst, ◌∙◌, append-nil, arith}
 use Rattle.std.proofs.lemmas.Bool.{lt-leb}
 use Rattle.std.proofs.lemmas.Bool.Decides.{leb_tells}
 use Rattle.std.proofs.lemmas.Option.{none-some}
@@ -18,7 +18,7 @@ use Rattle.replicas.specs.Sound.{IsSound}
 use Rattle.replicas.specs.Steps.{found, IsSameCopy, AreSameCopies}
 use Rattle.replicas.proofs.Entering as entering
 use Rattle.replicas.proofs.Waiting.{roomy_sound}
-use Rattle.cluster.specs.Calls.{IsCall, IsRefusedInside, IsSame, IsSameProcessor, Nothing}
+use Rattle.cluster.specs.Calls.{IsCall, IsRefusedInside, IsSame, IsSameProcessor, IsUnmade, Nothing}
 use Rattle.cluster.specs.declared.keeper.View.{View}
 use Rattle.cluster.specs.Refusals.{flush_refusal}
 use Rattle.cluster.specs.Entering.{Finds, IsCallOf, IsAfter, entered}
@@ -32,7 +32,7 @@ use Rattle.cluster.proofs.Visiting.{Visit, on, local_after, allowed_after}
 
 -- that a lock entry was spent, and events were cut off, changes nothing else
 pub entered_sound : (m : Local) (b : State) → IsSound m → (f : Finds m b) (cut : ℕ) → IsSound (entered m f.rest cut)
-entered_sound m b sound f cut = entering.entered_sound (found m f.rest) (m.entries + 1) cut (here_sound m sound b f)
+entered_sound m b sound f cut = entering.entered_sound (found m f.rest) (m.entries + 1) cut m.own_cut (here_sound m sound b f)
 
 -- copies that are alike
 pub alike_all : (xs : List Copied) → AreSameCopies xs xs
@@ -69,18 +69,21 @@ module _ {first : Option Refused} {many : ℕ} {absent : Local → Type 0} {done
     ok = λ none. absurd (none-some e (sym none));
     err = λ d none _. absurd (none-some e (sym none ∙ is));
     kept = λ _. refl;
+    uncut = refl;
     covers = covers m sound;
     allowed = λ h. h;
   }
 
   -- a call that found no memory before it could enter
-  pub call_unmade : IsSound m → first ≡ None → IsCall first many absent done added m m (Some NoMemory)
-  call_unmade sound free = record {
+  pub call_unmade : IsSound m → first ≡ None → ((l : Local) → ¬ absent l)
+      → IsCall first many absent done added m m (Some NoMemory)
+  call_unmade sound free never = record {
     same = record { lock = refl; number = refl; sizes = refl };
     outside = λ d there. absurd (free_of first d free there);
     ok = λ none. absurd (none-some NoMemory (sym none));
-    err = λ d _ same. (let it : NoMemory ≡ d = cc same in inr (sym it, refl));
+    err = λ d _ same. (let it : NoMemory ≡ d = cc same in inr (sym it, refl, never));
     kept = λ _. refl;
+    uncut = refl;
     covers = covers m sound;
     allowed = λ h. h;
   }
@@ -111,11 +114,14 @@ module _ {m : Local} {b : State} {after : ChairToken State View} (v : Visit m b 
   abbrev cut : ℕ
   cut = b.journal.base.cut
 
+  nothing_more : m.own_cut + (call_of_nothing m b).taken ≡ m.own_cut
+  nothing_more = let cuts = (call_of_nothing m b).cuts in omega arith
+
   pub unchanged_is : unchanged ≡ record (entered m v.finds.rest cut) { copies = cs }
   unchanged_is =
       local_after v [] (call_of_nothing m b) unchanged refl
-      ∙ ap (λ (h : List Event). record (entered m v.finds.rest cut) { seen = h; copies = cs })
-      (append-nil (m.seen ++ v.finds.rest))
+      ∙ ap₂ (λ (h : List Event) (o : ℕ). record (entered m v.finds.rest cut) { seen = h; own_cut = o; copies = cs })
+      (append-nil (m.seen ++ v.finds.rest)) nothing_more
 
   pub unchanged_seen : unchanged.seen ≡ m.seen ++ v.finds.rest
   unchanged_seen = ap (λ (n : Local). n.seen) unchanged_is
@@ -130,7 +136,7 @@ module _ {m : Local} {b : State} {after : ChairToken State View} (v : Visit m b 
     rest = v.finds.rest;
     away = v.finds.away;
     cut = cut;
-    more = v.finds.kept.behind m.number (view_of m.sizes m.seen m.cut) v.finds.at;
+    more = v.finds.kept.behind m.number (view_of m.sizes m.seen m.cut m.own_cut) v.finds.at;
     after = record { copies = alike; same = unchanged_is };
   }
 
@@ -141,6 +147,7 @@ module _ {m : Local} {b : State} {after : ChairToken State View} (v : Visit m b 
   unchanged_allowed =
       allowed_after v [] (call_of_nothing m b) unchanged refl refl
       (unchanged_seen ∙ sym (append-nil (m.seen ++ v.finds.rest))) (ap (λ (n : Local). n.cut) unchanged_is)
+      (ap (λ (n : Local). n.own_cut) unchanged_is ∙ sym nothing_more)
 
   pub call_inside : {first : Option Refused} {many : ℕ} {absent : Local → Type 0} {done : Local → Local → Type 0}
       {added : List Event} (e : Refused) → first ≡ None → (e ≡ NotYet) ⊎ (e ≡ JournalFull) ⊎ (e ≡ NoMemory)
@@ -153,8 +160,9 @@ module _ {m : Local} {b : State} {after : ChairToken State View} (v : Visit m b 
     ok = λ none. absurd (none-some e (sym none));
     err =
         λ d _ is. (let P : Refused → Type 0 = λ x. IsRefusedInside many absent m unchanged x
-        ⊎ ((x ≡ NoMemory) × (unchanged ≡ m)) in let it : e ≡ d = cc is in subst P it (inl inside));
+        ⊎ IsUnmade absent m unchanged x in let it : e ≡ d = cc is in subst P it (inl inside));
     kept = λ _. unchanged_calls;
+    uncut = ap (λ (n : Local). n.own_cut) unchanged_is;
     covers = covers unchanged unchanged_sound;
     allowed = λ _. unchanged_allowed;
   }
@@ -196,46 +204,72 @@ module _ {m : Local} {b new : State} {after : ChairToken State View} (v : Visit 
     abbrev then : Local
     then = entered m v.finds.rest new.journal.base.cut
 
-    pub now_is : n ≡ record n {
+    -- what it knows then, where its own cuts took off so many in all
+    pub now_by : (own_cut : ℕ) → m.own_cut + call.taken ≡ own_cut → n ≡ record n {
       lock = then.lock;
       entries = then.entries;
       number = then.number;
       sizes = then.sizes;
       seen = (m.seen ++ v.finds.rest) ++ es;
       cut = then.cut;
+      own_cut = own_cut;
     }
-    now_is = local_after v es call n own
+    now_by own_cut is =
+        let P : ℕ → Type 0 = λ o. n ≡ record n {
+          lock = then.lock;
+          entries = then.entries;
+          number = then.number;
+          sizes = then.sizes;
+          seen = (m.seen ++ v.finds.rest) ++ es;
+          cut = then.cut;
+          own_cut = o;
+        } in
+        subst P is (local_after v es call n own)
+
+    -- and where the call took off none
+    pub now_is : new.journal.base.cut ≡ b.journal.base.cut → n ≡ record n {
+      lock = then.lock;
+      entries = then.entries;
+      number = then.number;
+      sizes = then.sizes;
+      seen = (m.seen ++ v.finds.rest) ++ es;
+      cut = then.cut;
+      own_cut = then.own_cut;
+    }
+    now_is same = now_by m.own_cut (let cuts = call.cuts in omega arith)
 
     pub more_now : m.cut ≤ then.cut
     more_now =
-        let first = v.finds.kept.behind m.number (view_of m.sizes m.seen m.cut) v.finds.at in
-        let grew = call.more in omega arith
+        let first = v.finds.kept.behind m.number (view_of m.sizes m.seen m.cut m.own_cut) v.finds.at in
+        let grew = call.cuts in omega arith
 
     pub few_now : length n.seen ≤ most_events + n.cut
     few_now =
         let long = told_long m.sizes ((m.seen ++ v.finds.rest) ++ es) new (call.told v.finds) in
-        let seen = ap (λ (x : Local). length x.seen) now_is in
-        let off = ap (λ (x : Local). x.cut) now_is in
+        let is = local_after v es call n own in
+        let seen = ap (λ (x : Local). length x.seen) is in
+        let off = ap (λ (x : Local). x.cut) is in
         let few = call.few v.finds in
         omega arith
 
     pub now_allowed : IsAllowed n
     now_allowed =
-        allowed_after v es call n (ap (λ (x : Local). x.number) now_is) (ap (λ (x : Local). x.sizes) now_is)
-        (ap (λ (x : Local). x.seen) now_is) (ap (λ (x : Local). x.cut) now_is)
+        let is = local_after v es call n own in
+        allowed_after v es call n (ap (λ (x : Local). x.number) is) (ap (λ (x : Local). x.sizes) is)
+        (ap (λ (x : Local). x.seen) is) (ap (λ (x : Local). x.cut) is) (ap (λ (x : Local). x.own_cut) is)
 
     -- it is the same processor
     pub now_same : IsSameProcessor m n
     now_same = record {
-      lock = ap (λ (x : Local). x.lock) now_is;
-      number = ap (λ (x : Local). x.number) now_is;
-      sizes = ap (λ (x : Local). x.sizes) now_is;
+      lock = ap (λ (x : Local). x.lock) (local_after v es call n own);
+      number = ap (λ (x : Local). x.number) (local_after v es call n own);
+      sizes = ap (λ (x : Local). x.sizes) (local_after v es call n own);
     }
 
     pub call_done : {first : Option Refused} {many : ℕ} {absent : Local → Type 0} {done : Local → Local → Type 0}
-        {added : List Event} → first ≡ None → IsSound n → done then n → calls n ≡ calls then ++ added
+        {added : List Event} → first ≡ None → new.journal.base.cut ≡ b.journal.base.cut → IsSound n → done then n → calls n ≡ calls then ++ added
         → IsCall first many absent done added m n None
-    call_done {first} {many} {absent} {done} {added} free good made all = record {
+    call_done {first} {many} {absent} {done} {added} free same good made all = record {
       same = now_same;
       outside = λ d there. absurd (free_of first d free there);
       ok =
@@ -246,6 +280,7 @@ module _ {m : Local} {b new : State} {after : ChairToken State View} (v : Visit 
           );
       err = λ d _ is. absurd (none-some d is);
       kept = λ some. absurd (some refl);
+      uncut = ap (λ (x : Local). x.own_cut) (now_is same);
       covers = covers n good;
       allowed = λ _. now_allowed;
     }

@@ -1,7 +1,8 @@
 -- The start: processors before their first calls, and the book.
-use Rattle.std.proofs.Common.{◌≤◌, ℕ, ◌≡◌, ◌<◌, ◌↔◌, Bool, true, false, true≢false, Option, Some, None, List, [], ◌∷◌, ◌++◌, length, replicate, slice_get, slice_index, inl, inr, refl, sym, ap, subst, subst₂, add-zero, arith}
+use Rattle.std.proofs.Common.{◌≤◌, ℕ, ◌≡◌, ◌<◌, ◌↔◌, Bool, true, false, true≢false, Option, Some, None, List, [], ◌∷◌, ◌++◌, length, replicate, slice_get, slice_index, inl, inr, refl, sym, ap, subst, subst₂, ◌∙◌, add-zero, mul-zero, arith}
 use Rattle.std.proofs.Math.Nat.{mul-div_cancel}
 use Rattle.std.proofs.lemmas.List.{length-replicate}
+use Rattle.std.proofs.lemmas.List.Folds.{sum_by-replicate}
 use Rattle.std.proofs.lemmas.Option.{none-some, slice_get_within}
 use Rattle.journal.specs.declared.event.Event.{Event}
 use Rattle.journal.specs.declared.event.Kind.TheVariants.{Load, Acquire}
@@ -111,6 +112,8 @@ start_kept s some = record {
       λ p v at. subst (λ (x : View). x.cut ≤ 0) (slice_get-replicate_found s.processors (nothing_seen s) v p at)
       (omega arith);
   whole = (0, nothing_seen s, slice_get-replicate s.processors (nothing_seen s) 0 some, refl);
+  cuts =
+      sum_by-replicate (λ (v : View). v.own_cut) s.processors (nothing_seen s) ∙ mul-zero s.processors;
   owing = refl;
 }
 
@@ -144,8 +147,8 @@ made : (l : LockId) (e p : ℕ) (s : Sizes) (v : View) (block : List Event) (cop
       sizes = s;
       seen = v.seen;
       cut = v.cut;
-      block =
-          block;
+      own_cut = v.own_cut;
+      block = block;
       copies = copies;
       stored = stored;
       time = time;

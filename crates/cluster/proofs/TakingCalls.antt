@@ -248,7 +248,7 @@ module _ {m : Local} {b : State} {k : Kind} {x : Letter} {after : ChairToken Sta
     call = call_of_take m sound b k t.waits x t.come t.fits
 
     same : taken_now ≡ took then k x.time cs
-    same = now_is t.visit (event m.number k ∷ []) call taken_now refl
+    same = now_is t.visit (event m.number k ∷ []) call taken_now refl refl
 
     -- it is as it has to be
     pub taken_good : IsSound taken_now
@@ -260,7 +260,7 @@ module _ {m : Local} {b : State} {k : Kind} {x : Letter} {after : ChairToken Sta
     pub taken_done : IsCall (flush_refusal m) 1 IsLate IsTaken (awaited_event m.number m.awaits) m taken_now None
     taken_done =
         let quiet : m.block ≡ [] = sound.quiet (λ none. none-some k (sym none ∙ t.waits)) in
-        call_done t.visit (event m.number k ∷ []) call taken_now refl (not_spent t.visit) taken_good
+        call_done t.visit (event m.number k ∷ []) call taken_now refl (not_spent t.visit) refl taken_good
         (subst (IsTaken then) (sym same) (taken m sound b k t.waits x t.come f cs told b.journal.base.cut))
         (ap calls same ∙ calls_taken then k x.time cs quiet
         ∙ ap (λ (w : Option Kind). calls then ++ awaited_event m.number w) (sym t.waits))

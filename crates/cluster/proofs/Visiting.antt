@@ -1,6 +1,6 @@
 -- A processor's chair before, inside and after a call. The calls that enter have goals of one shape, each over a record
 -- of its own steps, which no lemma can be stated of: what they share is said here and in Made, over plain variables.
-use Rattle.std.proofs.Common.{ℕ, ◌≡◌, ◌<◌, ◌+◌, Some, List, ◌++◌, slice_get, slice_set, refl, sym, ap, ap₂, subst, subst₂, ◌∙◌}
+use Rattle.std.proofs.Common.{ℕ, ◌≡◌, ◌<◌, ◌+◌, Some, List, ◌++◌, slice_get, slice_set, refl, sym, ap, ap₂, subst, subst₂, ◌∙◌, arith}
 use Rattle.journal.specs.declared.event.Event.{Event}
 use Rattle.journal.specs.Sizes.{Sizes}
 use Rattle.lists.proofs.Sets.{slice_get-set_same}
@@ -32,6 +32,7 @@ pub record Visit (m : Local) (b new : State) (after : ChairToken State View) : T
   pub once_more : entries after ≡ m.entries + 1
   pub seen : (view after).seen ≡ (m.seen ++ finds.rest) ++ added b.journal new.journal
   pub cut : (view after).cut ≡ new.journal.base.cut
+  pub own_cut : (view after).own_cut + b.journal.base.cut ≡ m.own_cut + new.journal.base.cut
 
 -- of a book that is left as this one
 pub left_as : {m : Local} {b new last : State} {after : ChairToken State View} → Visit m b new after → new ≡ last
@@ -41,10 +42,12 @@ left_as {m} {b} {new} {last} {after} v is = subst (λ (n : State). Visit m b n a
 module _ {m : Local} {old : ChairToken State View} (sound : IsSound m) (seated : IsSeated old m.number m.sizes)
     (is : m ≡ on old m) where
   -- what the chair has seen is what p has
-  view_is : view old ≡ view_of m.sizes m.seen m.cut
+  view_is : view old ≡ view_of m.sizes m.seen m.cut m.own_cut
   view_is =
-      ap (λ (z : Sizes). view_of z (view old).seen (view old).cut) seated.shape_is
-      ∙ ap₂ (view_of m.sizes) (sym (ap (λ (x : Local). x.seen) is)) (sym (ap (λ (x : Local). x.cut) is))
+      ap (λ (z : Sizes). view_of z (view old).seen (view old).cut (view old).own_cut) seated.shape_is
+      ∙ ap₂ (λ (h : List Event) (n : ℕ). view_of m.sizes h n (view old).own_cut) (sym (ap (λ (x : Local). x.seen) is))
+      (sym (ap (λ (x : Local). x.cut) is))
+      ∙ ap (view_of m.sizes m.seen m.cut) (sym (ap (λ (x : Local). x.own_cut) is))
 
   chair_of : {mid : ChairToken State View} {right : Held} {b : State} → HasEntered old mid right b → IsChairOf m mid
   chair_of into =
@@ -70,7 +73,7 @@ module _ {m : Local} {old : ChairToken State View} (sound : IsSound m) (seated :
       let chair = chair_of into in
       let P : ℕ → View → Type 0 = λ k v. slice_get sees.views k ≡ Some v in
       let at = subst₂ P chair.place_is chair.view_is sees.at in
-      let goes = sees.kept.each m.number (view_of m.sizes m.seen m.cut) at in
+      let goes = sees.kept.each m.number (view_of m.sizes m.seen m.cut m.own_cut) at in
       let times = ap (λ (x : Local). x.entries) is in
       let mine = ap (λ (x : Local). x.lock) is in
       record {
@@ -86,18 +89,29 @@ module _ {m : Local} {old : ChairToken State View} (sound : IsSound m) (seated :
         once_more = left.entries_are ∙ into.once_more ∙ ap (λ (n : ℕ). n + 1) (sym times);
         seen = sees.seen ∙ ap (λ (h : List Event). h ++ added b.journal new.journal) goes.begins;
         cut = sees.cut;
+        own_cut =
+            (let own = sees.own_cut in let same = ap (λ (v : View). v.own_cut) chair.view_is in omega arith);
       }
 
 -- a processor whose chair tells the same
-same_told : (n : Local) (l l' : LockId) (e e' : ℕ) (h h' : List Event) (k k' : ℕ) → l ≡ l' → e ≡ e' → h ≡ h' → k ≡ k'
-    → record n { lock = l; entries = e; seen = h; cut = k } ≡ record n { lock = l'; entries = e'; seen = h'; cut = k' }
-same_told n l l' e e' h h' k k' a b c d = rw (a, b, c, d) refl
+same_told : (n : Local) (l l' : LockId) (e e' : ℕ) (h h' : List Event) (k k' o o' : ℕ) → l ≡ l' → e ≡ e' → h ≡ h'
+    → k ≡ k' → o ≡ o' → record n { lock = l; entries = e; seen = h; cut = k; own_cut = o } ≡ record n {
+      lock = l';
+      entries = e';
+      seen = h';
+      cut = k';
+      own_cut = o';
+    }
+same_told n l l' e e' h h' k k' o o' a b c d f = rw (a, b, c, d, f) refl
 
 module _ {m : Local} {b new : State} {after : ChairToken State View} (v : Visit m b new after) (es : List Event)
     (call : IsCallOf m b es new) where
   -- what it has seen then
   abbrev pub seen_then : List Event
   seen_then = (m.seen ++ v.finds.rest) ++ es
+
+  own_cut_is : (view after).own_cut ≡ m.own_cut + call.taken
+  own_cut_is = let own = v.own_cut in let cuts = call.cuts in omega arith
 
   -- the processor afterwards, whatever else it changed
   pub local_after : (n : Local) → n ≡ record (on after n) { number = m.number; sizes = m.sizes }
@@ -108,26 +122,28 @@ module _ {m : Local} {b new : State} {after : ChairToken State View} (v : Visit 
         sizes = m.sizes;
         seen = seen_then;
         cut = new.journal.base.cut;
+        own_cut = m.own_cut + call.taken;
       }
   local_after n own =
       let seen_is = v.seen ∙ ap (λ (xs : List Event). (m.seen ++ v.finds.rest) ++ xs) call.adds in
       own
       ∙ same_told (record n { number = m.number; sizes = m.sizes }) (lock after) m.lock (entries after) (m.entries + 1)
-      (view after).seen seen_then (view after).cut new.journal.base.cut v.same_lock v.once_more seen_is v.cut
+      (view after).seen seen_then (view after).cut new.journal.base.cut (view after).own_cut (m.own_cut + call.taken)
+      v.same_lock v.once_more seen_is v.cut own_cut_is
 
   -- the lock's fact allows what it has seen
   pub allowed_after : (n : Local) → n.number ≡ m.number → n.sizes ≡ m.sizes → n.seen ≡ seen_then
-      → n.cut ≡ new.journal.base.cut → IsAllowed n
-  allowed_after n number sizes seen cut =
+      → n.cut ≡ new.journal.base.cut → n.own_cut ≡ m.own_cut + call.taken → IsAllowed n
+  allowed_after n number sizes seen cut own_cut =
       let f = v.finds in
-      let now = view_of m.sizes seen_then new.journal.base.cut in (
+      let now = view_of m.sizes seen_then new.journal.base.cut (m.own_cut + call.taken) in (
         seen_then,
         record {
           book = new;
           views = slice_set f.views m.number now;
           mine =
-              rw (number, sizes, seen, cut) (slice_get-set_same f.views m.number now
-              (slice_get_within f.views m.number (view_of m.sizes m.seen m.cut) f.at));
+              rw (number, sizes, seen, cut, own_cut) (slice_get-set_same f.views m.number now
+              (slice_get_within f.views m.number (view_of m.sizes m.seen m.cut m.own_cut) f.at));
           kept = rw sizes (call_kept m b es new call f);
         },
       )

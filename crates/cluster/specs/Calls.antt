@@ -33,6 +33,10 @@ pub record IsSameProcessor (old new : Local) : Type 0 where
   pub number : new.number ≡ old.number
   pub sizes : new.sizes ≡ old.sizes
 
+-- memory was refused before the call could enter, which no call meets that may have to wait
+abbrev pub IsUnmade : (Local → Type 0) → Local → Local → Refused → Type 0
+IsUnmade absent old new e = (e ≡ NoMemory) × (new ≡ old) × ((m : Local) → ¬ absent m)
+
 -- A call that enters the book: it is refused before it enters where there is a reason for it, which the processor
 -- knows by itself; else it enters, and is done or refused, or memory was refused before it could enter.
 pub record IsCall (first : Option Refused) (many : ℕ) (absent : Local → Type 0) (done : Local → Local → Type 0)
@@ -42,8 +46,9 @@ pub record IsCall (first : Option Refused) (many : ℕ) (absent : Local → Type
   pub ok : refused ≡ None
       → IsAfter done old new × (length new.seen ≤ most_events + new.cut) × (calls new ≡ calls old ++ added)
   pub err : (e : Refused) → first ≡ None → refused ≡ Some e
-      → IsRefusedInside many absent old new e ⊎ ((e ≡ NoMemory) × (new ≡ old))
+      → IsRefusedInside many absent old new e ⊎ IsUnmade absent old new e
   pub kept : refused ≢ None → calls new ≡ calls old
+  pub uncut : new.own_cut ≡ old.own_cut
   pub covers : Covers new
   pub allowed : IsAllowed old → IsAllowed new
 

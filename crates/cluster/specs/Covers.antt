@@ -19,7 +19,7 @@ use Rattle.cluster.specs.Kept.{IsKept, view_of}
 pub record Allows (m : Local) (h : List Event) : Type 0 where
   pub book : State
   pub views : List View
-  pub mine : slice_get views m.number ≡ Some (view_of m.sizes m.seen m.cut)
+  pub mine : slice_get views m.number ≡ Some (view_of m.sizes m.seen m.cut m.own_cut)
   pub kept : IsKept m.sizes h book views
 
 -- and there is such a history

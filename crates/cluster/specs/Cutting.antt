@@ -23,12 +23,12 @@ pub record MayCutOff (s : Sizes) (h : List Event) (cut n : ℕ) : Type 0 where
   pub place : IsCut s.processors (drop cut h) n
   pub few : cut + n ≤ most_cut
 
--- they were, and all that is cut off has no race
+-- they were, by this processor, and all that is cut off has no race
 pub record WasCutOff (m n : Local) : Type 0 where
   pub taken : ℕ
   pub may : MayCutOff m.sizes m.seen m.cut taken
   pub race_free : RaceFree (take (m.cut + taken) m.seen)
-  pub after : n ≡ record m { cut = m.cut + taken }
+  pub after : n ≡ record m { cut = m.cut + taken; own_cut = m.own_cut + taken }
 
 -- why no more of such a history is cut off: places are counted from the first event that is left
 abbrev pub IsUncut : Sizes → List Event → ℕ → Refused → Type 0

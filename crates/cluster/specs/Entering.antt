@@ -20,10 +20,10 @@ pub record Finds (m : Local) (b : State) : Type 0 where
   pub rest : List Event
   pub views : List View
   pub away : (k : ℕ) (e : Event) → At rest k e → e.processor ≢ m.number
-  pub at : slice_get views m.number ≡ Some (view_of m.sizes m.seen m.cut)
+  pub at : slice_get views m.number ≡ Some (view_of m.sizes m.seen m.cut m.own_cut)
   pub kept : IsKept m.sizes (m.seen ++ rest) b views
 
--- and leaves the new book, which its events make of the old one
+-- and leaves the new book, which its events make of the old one, and off which it cut so many more
 pub record IsCallOf (m : Local) (old : State) (es : List Event) (new : State) : Type 0 where
   pub mine : (k : ℕ) (e : Event) → At es k e → e.processor ≡ m.number
   pub adds : added old.journal new.journal ≡ es
@@ -32,12 +32,13 @@ pub record IsCallOf (m : Local) (old : State) (es : List Event) (new : State) : 
   pub explained : (f : Finds m old) → Explained ((m.seen ++ f.rest) ++ es)
   pub counted : (f : Finds m old) → AreCounted m.sizes ((m.seen ++ f.rest) ++ es)
   pub few : (f : Finds m old) → length new.journal.events ≤ most_events
-  pub more : old.journal.base.cut ≤ new.journal.base.cut
+  pub taken : ℕ
+  pub cuts : new.journal.base.cut ≡ old.journal.base.cut + taken
 
 -- the chair is that of processor m
 pub record IsChairOf (m : Local) (c : ChairToken State View) : Type 0 where
   pub place_is : place c ≡ m.number
-  pub view_is : view c ≡ view_of m.sizes m.seen m.cut
+  pub view_is : view c ≡ view_of m.sizes m.seen m.cut m.own_cut
 
 -- the chair has entered once more, and is inside with the book
 pub record HasEntered (old new : ChairToken State View) (held : Held) (b : State) : Type 0 where

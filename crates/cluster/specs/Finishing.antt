@@ -1,5 +1,5 @@
 -- The end of a cluster.
-use Rattle.std.specs.Prelude.{ℕ, ◌≡◌, ◌≢◌, ◌*◌, ◌+◌, ◌<◌, ◌≤◌, Some, List, ◌++◌, length, slice_get, take}
+use Rattle.std.specs.Prelude.{ℕ, ◌≡◌, ◌≢◌, ◌*◌, ◌+◌, ◌<◌, ◌≤◌, Some, List, ◌++◌, length, slice_get, sum_by, take}
 use Rattle.std.specs.List.{flat_map}
 use Rattle.journal.specs.declared.event.Event.{Event}
 use Rattle.journal.specs.Sizes.{Sizes}
@@ -35,12 +35,13 @@ pub record HasCallsOf (h : List Event) (m : Local) : Type 0 where
   pub begins : (rest : List Event) × (h ≡ m.seen ++ rest)
   pub calls_are : part h m.number ≡ calls m
 
--- the journal holds what is left, after some of it was cut off, of a faithful history with the calls of all processors,
--- and at its end their open blocks in turn
+-- the journal holds what is left, after their own cuts took off the rest, of a faithful history with the calls of all
+-- processors, and at its end their open blocks in turn
 pub record IsFinished (s : Sizes) (ms : List Local) (j : Log) : Type 0 where
   pub history : List Event
   pub taken : List Event
   pub journal : IsJournalOf s taken history j
+  pub cuts : length taken ≡ sum_by (λ m. m.own_cut) ms
   pub faithful : IsFaithful s history
   pub each : (p : ℕ) (m : Local) → slice_get ms p ≡ Some m → HasCallsOf history m
   pub in_turn : (front : List Event) × (history ≡ front ++ flat_map (λ m. m.block) ms)
@@ -71,6 +72,7 @@ pub record IsFinishing (s : Sizes) (ms : List Local) (k : ℕ) (h : List Event) 
   pub told : IsTold s h b
   pub explained : Explained h
   pub counted : AreCounted s h
+  pub cuts : b.journal.base.cut ≡ sum_by (λ m. m.own_cut) ms
   pub room : most_in_block * length ms ≤ b.journal.room + most_in_block * k
   pub sound : (p : ℕ) (m : Local) → slice_get ms p ≡ Some m → IsSound m × (m.number ≡ p) × (m.sizes ≡ s)
   pub done : (p : ℕ) (m : Local) → p < k → slice_get ms p ≡ Some m → HasCallsOf h m

@@ -1,5 +1,5 @@
 -- What the book's lock keeps.
-use Rattle.std.specs.Prelude.{ℕ, ◌≡◌, ◌≢◌, ◌*◌, ◌/◌, ◌≤◌, Some, List, [], ◌++◌, drop, length, slice_get}
+use Rattle.std.specs.Prelude.{ℕ, ◌≡◌, ◌≢◌, ◌+◌, ◌*◌, ◌/◌, ◌≤◌, Some, List, [], ◌++◌, drop, length, slice_get, sum_by}
 use Rattle.journal.specs.declared.event.Event.{Event}
 use Rattle.journal.specs.Sizes.{Sizes}
 use Rattle.journal.specs.Events.{At}
@@ -11,13 +11,13 @@ use Rattle.book.specs.State.{State}
 use Rattle.book.specs.Told.{IsTold}
 use Rattle.cluster.specs.declared.keeper.View.{View}
 
--- a processor of a cluster of these sizes has seen this, of which so many events were cut off
-abbrev pub view_of : Sizes → List Event → ℕ → View
-view_of s seen cut = record { shape = s; seen = seen; cut = cut }
+-- a processor of a cluster of these sizes has seen this, of which so many events were cut off, so many by itself
+abbrev pub view_of : Sizes → List Event → ℕ → ℕ → View
+view_of s seen cut own_cut = record { shape = s; seen = seen; cut = cut; own_cut = own_cut }
 
 -- and before its first call nothing
 abbrev pub nothing_seen : Sizes → View
-nothing_seen s = view_of s [] 0
+nothing_seen s = view_of s [] 0 0
 
 -- the sizes of the cluster whose book it is
 abbrev pub sizes_of : State → Sizes
@@ -40,8 +40,13 @@ pub record GoesOn (s : Sizes) (h : List Event) (p : ℕ) (v : View) : Type 0 whe
 abbrev pub IsSeen : List View → List Event → Type 0
 IsSeen views h = (p : ℕ) × (v : View) × (slice_get views p ≡ Some v) × (v.seen ≡ h)
 
+-- how many events all of them cut off
+abbrev pub all_cut : List View → ℕ
+all_cut views = sum_by (λ v. v.own_cut) views
+
 -- the history tells the book, its loads are explained and its fetches count their gaps, and it goes on from
--- what each processor has seen, who knows of no more cut off than was; and somebody has seen all of it
+-- what each processor has seen, who knows of no more cut off than was; somebody has seen all of it; and what was cut
+-- off is what the processors' own cuts took
 pub record IsKept (s : Sizes) (h : List Event) (b : State) (views : List View) : Type 0 where
   pub told : IsTold s h b
   pub explained : Explained h
@@ -50,6 +55,7 @@ pub record IsKept (s : Sizes) (h : List Event) (b : State) (views : List View) :
   pub all : length views ≡ s.processors
   pub each : (p : ℕ) (v : View) → slice_get views p ≡ Some v → GoesOn s h p v
   pub behind : (p : ℕ) (v : View) → slice_get views p ≡ Some v → v.cut ≤ b.journal.base.cut
+  pub cuts : all_cut views ≡ b.journal.base.cut
   pub whole : IsSeen views h
   pub owing : b.journal.room ≡ most_in_block * s.processors
 
@@ -62,7 +68,7 @@ abbrev pub added : Log → Log → List Event
 added old new = drop (length old.events) new.events
 
 -- who found this book, with its view at place p, and leaves the new one, has seen a history that was kept there, and
--- the events that the new book has beyond it
+-- the events that the new book has beyond it; and what is cut off now and wasn't, it cut off itself
 pub record Sees (found left : State) (p : ℕ) (old new : View) : Type 0 where
   pub history : List Event
   pub views : List View
@@ -71,3 +77,4 @@ pub record Sees (found left : State) (p : ℕ) (old new : View) : Type 0 where
   pub shape : new.shape ≡ old.shape
   pub seen : new.seen ≡ history ++ added found.journal left.journal
   pub cut : new.cut ≡ left.journal.base.cut
+  pub own_cut : new.own_cut + found.journal.base.cut ≡ old.own_cut + left.journal.base.cut

@@ -28,7 +28,7 @@ SeenLaw = (b : State) (views : List View) → Kept b views → (h : List Event) 
 -- what a processor does by itself, without entering, leaves the histories that the book's lock allows it
 abbrev pub AllowedLaw : Type 0
 AllowedLaw = (m n : Local) → n.number ≡ m.number → n.sizes ≡ m.sizes → n.seen ≡ m.seen → n.cut ≡ m.cut
-    → IsAllowed m → IsAllowed n
+    → n.own_cut ≡ m.own_cut → IsAllowed m → IsAllowed n
 
 -- a valid copy of one who has done something in the journal or its block is the base's page after the stores to it in
 -- the past within these, whatever book the lock has

@@ -20,6 +20,7 @@ local chair p s block copies stored time held awaits = record {
   sizes = s;
   seen = (view chair).seen;
   cut = (view chair).cut;
+  own_cut = (view chair).own_cut;
   block = block;
   copies = copies;
   stored = stored;

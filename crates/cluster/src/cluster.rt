@@ -73,6 +73,7 @@ impl<T: Turn<Book, Rule>> Cluster<T> {
           locks = locks;
           flags = flags;
         }) }
+        ensures limit { IfOk result (λ r. r.0.lock.limit ≡ T.ENTRIES) }
         ensures new { IfOk result (λ r. AreNew r.0 r.1.items) }
         ensures covers { IfOk result (λ r. AreCovered r.1.items) }
     {
@@ -95,6 +96,7 @@ impl<T: Turn<Book, Rule>> Cluster<T> {
         requires entries { T.ENTRIES ≤ 2 ^ 40 }
         requires sizes { AreSizes shape }
         ensures sizes { IfOk result (λ r. r.0.sizes ≡ shape) }
+        ensures limit { IfOk result (λ r. r.0.lock.limit ≡ T.ENTRIES) }
         ensures new { IfOk result (λ r. AreNew r.0 r.1.items) }
         ensures covers { IfOk result (λ r. AreCovered r.1.items) }
     {

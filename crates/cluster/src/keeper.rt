@@ -8,11 +8,13 @@ use std::collections::LinkedList;
 use turn::{ArrayLock, Keeper, Outcome, TicketLock};
 
 /// What one processor knows of the book while it is outside: the sizes of its cluster, the history as its last call
-/// that entered left it, and how many of its first events were cut off then. No value of it is made.
+/// that entered left it, how many of its first events were cut off then, and how many its own cuts took off in all. No
+/// value of it is made: it exists only in proofs.
 pub struct View {
     pub shape: Shape,
     pub seen: LinkedList<Event>,
     pub cut: u64,
+    pub own_cut: u64,
 }
 
 /// The keeper of the book: the journal holds what is left of some history, which tells everything in the book, each of

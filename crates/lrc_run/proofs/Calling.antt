@@ -1,20 +1,21 @@
 -- Calls that do an instruction, or begin it, whatever they answer.
-use Rattle.std.proofs.Common.{ℕ, ◌≡◌, ◌+◌, ◌%◌, ◌^◌, Option, Some, Result, Ok, Err, OnOk, List, [], ◌∷◌, false, refl}
+use Rattle.std.proofs.Common.{ℕ, ◌≡◌, ◌+◌, ◌%◌, ◌^◌, Option, Some, Result, Ok, Err, OnOk, List, [], ◌∷◌, false, refl, sym, ap, ◌∙◌, append-nil}
 use Rattle.std.specs.Result.{result_err}
 use Rattle.journal.specs.declared.event.Kind.{Kind}
 use Rattle.journal.specs.declared.event.Kind.TheVariants.{Load, Store}
 use Rattle.journal.specs.Did.{event}
 use Rattle.journal.specs.Waits.{awaited}
 use Rattle.lrc_script.specs.declared.script.Instruction.{Instruction}
-use Rattle.lrc_script.specs.declared.script.Instruction.TheVariants.{Add}
+use Rattle.lrc_script.specs.declared.script.Instruction.TheVariants.{Add, Cut}
 use Rattle.follows.specs.Instructions.{AreEventsOf}
-use Rattle.follows.specs.Follows.{is_fetch}
+use Rattle.follows.specs.Follows.{is_fetch, kinds_of}
 use Rattle.book.specs.declared.refused.Refused.{Refused}
 use Rattle.replicas.specs.Local.{Local}
 use Rattle.cluster.specs.Calls.{IsCall}
 use Rattle.cluster.specs.Closing.{IsClosedBy}
-use Rattle.lrc_run.specs.Walks.{Makes, Tries, Does, Begins}
-use Rattle.lrc_run.proofs.Making.{begins_by, closes, does_by}
+use Rattle.cluster.specs.Cutting.{IsCuttingCall}
+use Rattle.lrc_run.specs.Walks.{made, Makes, Tries, Does, Begins}
+use Rattle.lrc_run.proofs.Making.{begins_by, closes, does_by, makes_but}
 
 -- a call that begins an instruction
 pub begun_call : {A : Type 0} {first : Option Refused} {many : ℕ} {absent : Local → Type 0} (k last : Kind)
@@ -35,12 +36,28 @@ done_call k i m n (Err e) plain are call = tt
 -- a call that makes just the instruction's events does it
 pub done_tries : {A : Type 0} (kinds : List Kind) (i : Instruction) (m n : Local) (r : Result A Refused)
     → AreEventsOf i kinds → Tries m n r (λ _. kinds) → OnOk r (Does m n i)
-done_tries kinds i m n (Ok x) are tries = record { kinds = kinds; are = are; makes = tries }
+done_tries kinds i m n (Ok x) are tries = record { kinds = kinds; are = are; makes = makes_but tries }
 done_tries kinds i m n (Err e) are tries = tt
+
+-- a cut is done, whatever it answers
+pub done_cut : {refused : Option Refused} (m n : Local) → IsCuttingCall m n refused → Does m n Cut
+done_cut m n call = record {
+  kinds = [];
+  are = refl;
+  makes = record {
+    same = call.same;
+    more = ap kinds_of call.calls_are ∙ sym (append-nil (made m));
+    uncut = λ none. absurd (none refl);
+  };
+}
 
 -- a load and the store of a sum do an addition
 pub done_add : {A : Type 0} (a v : ℕ) (m n : Local) (r : Result A Refused)
     → OnOk r ((reply : ℕ) × Makes m n (Load a reply ∷ Store a ((reply + v) % 2 ^ 32) ∷ [])) → OnOk r (Does m n (Add a v))
 done_add a v m n (Ok x) made =
-    record { kinds = Load a made.0 ∷ Store a ((made.0 + v) % 2 ^ 32) ∷ []; are = (made.0, refl); makes = made.1 }
+    record {
+      kinds = Load a made.0 ∷ Store a ((made.0 + v) % 2 ^ 32) ∷ [];
+      are = (made.0, refl);
+      makes = makes_but made.1;
+    }
 done_add a v m n (Err e) made = tt

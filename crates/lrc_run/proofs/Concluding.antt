@@ -1,10 +1,10 @@
 -- What the processors of a cluster have made at the end of a run, and what the report says of it.
-use Rattle.std.proofs.Common.{ℕ, ◌≡◌, ◌<◌, ◌↔◌, Bool, true, false, cond, Option, Some, None, List, [], ◌∷◌, ◌++◌, length, map, slice_get, slice_set, get_or, zero-add, ◌+◌, refl, sym, ap, subst, subst₂, ◌∙◌, inl, inr, append_assoc, ne_eqb, arith}
+use Rattle.std.proofs.Common.{ℕ, suc, ◌≡◌, ◌<◌, ◌↔◌, Bool, true, false, cond, Option, Some, None, List, [], ◌∷◌, ◌++◌, length, map, slice_get, slice_set, get_or, zero-add, ◌+◌, refl, sym, ap, subst, subst₂, ◌∙◌, inl, inr, append_assoc, ne_eqb, arith}
 use Rattle.std.specs.Prelude.{◌==◌, IsTrue, is_some, MatchOption}
 use Rattle.std.specs.List.{sum_by}
 use Rattle.std.proofs.lemmas.Bool.{cases_eq, cond-false}
 use Rattle.std.proofs.lemmas.List.{length-set}
-use Rattle.std.proofs.lemmas.List.Sums.{sum_by-append}
+use Rattle.std.proofs.lemmas.List.Sums.{sum_by-append, sum_by-cons}
 use Rattle.std.proofs.lemmas.Option.{slice_get_within, slice_get-get_or, slice_get_read}
 use Rattle.lists.proofs.Sets.{slice_get-set_found, slice_get-set_other}
 use Rattle.journal.specs.declared.event.Event.{Event}
@@ -29,6 +29,7 @@ use Rattle.replicas.specs.Local.{Local}
 use Rattle.cluster.specs.Clusters.{Shared}
 use Rattle.cluster.specs.Finishing.{HasCallsOf, IsFinished, IsProcessorOf}
 use Rattle.lrc_report.specs.declared.report.Report.{Report}
+use Rattle.lrc_run.specs.Cuts.{HasNoCut}
 use Rattle.lrc_run.specs.Endings.{HasFollowed, HaveFollowed}
 use Rattle.lrc_run.specs.Laws.{RaceFreeReportLaw}
 use Rattle.lrc_run.specs.Runs.{HasRace, IsReportOf}
@@ -46,7 +47,8 @@ walked_of c p m section walks = record {
 -- it made its section and the closing barrier
 pub walked_made : (c : Shared) (p : ℕ) (m : Local) (section : List Instruction) → Walks (new_at c p) m section
     → HasFollowed section [] m
-walked_made c p m section walks = record { own = walks.kinds; are = walks.are; made_is = walks.makes.more }
+walked_made c p m section walks =
+    record { own = walks.kinds; are = walks.are; made_is = walks.makes.more; uncut = walks.makes.uncut }
 
 -- and then these loads
 pub loads_made : (section : List Instruction) (m n : Local) (shown : List (ℕ × ℕ)) → HasFollowed section [] m
@@ -57,6 +59,7 @@ loads_made section m n shown walked loads = record {
   are = walked.are;
   made_is = loads.more ∙ ap (λ ks. ks ++ map load_of shown) walked.made_is
       ∙ append_assoc walked.own (Arrive ∷ Depart ∷ []) (map load_of shown);
+  uncut = λ none. loads.uncut ∙ walked.uncut none;
 }
 
 -- a script's processor has a section
@@ -189,6 +192,36 @@ counts f c j told spent is before =
     let both = sum_by-append f c j in
     is ∙ ap (λ n. n + sum_by f j) (before ∙ zero-add (sum_by f c)) ∙ sym both
 
+-- a list of no items
+nothing_of : (xs : List Event) → length xs ≡ 0 → xs ≡ []
+nothing_of [] none = refl
+nothing_of (x ∷ xs) none = absurd (omega arith)
+
+-- processors of which each cut nothing off cut nothing off together
+no_sum : (ms : List Local) → ((p : ℕ) (m : Local) → slice_get ms p ≡ Some m → m.own_cut ≡ 0)
+    → sum_by (λ (m : Local). m.own_cut) ms ≡ 0
+no_sum [] each = refl
+no_sum (m ∷ ms) each =
+    let rest = no_sum ms (λ p n at. each (suc p) n at) in
+    let first = each 0 m refl in
+    sum_by-cons (λ (n : Local). n.own_cut) m ms ∙ omega arith
+
+-- and so it is where no section has a cut
+uncut_all : (s : Plan) (c : Shared) (ms : List Local) (shown : List (ℕ × ℕ)) → HaveFollowed s c ms shown → HasNoCut s
+    → sum_by (λ (m : Local). m.own_cut) ms ≡ 0
+uncut_all s c ms shown all none = no_sum ms each
+  where
+    each : (p : ℕ) (m : Local) → slice_get ms p ≡ Some m → m.own_cut ≡ 0
+    each p m here =
+        let within = slice_get_within ms p m here in
+        let one_each = all.lawful.but_uneven.one_each in
+        let same = ap (λ (x : Sizes). x.processors) all.sizes in
+        let many = all.all.all in
+        let below : p < length s.sections = omega arith in
+        let section = get_or s.sections p [] in
+        let its = slice_get-get_or s.sections p [] below in
+        (all.each p section m its here).uncut (none p section its)
+
 -- the report of a finished cluster whose processors followed the script
 pub report_is : (s : Plan) (c : Shared) (ms : List Local) (r : Report) (o : Option (ℕ × ℕ))
     → HaveFollowed s c ms r.shown.items → IsFinished c.sizes ms r.journal
@@ -205,6 +238,7 @@ report_is s c ms r o all finished race racy messages_are records_are words_are =
   history = h;
   taken = taken;
   holds = finished.journal.holds;
+  uncut = λ none. nothing_of taken (finished.cuts ∙ uncut_all s c ms r.shown.items all none);
   tells = record {
     well_formed = well_formed;
     explained = finished.faithful.explained;

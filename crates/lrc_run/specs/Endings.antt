@@ -10,13 +10,16 @@ use Rattle.follows.specs.Instructions.{AreEventsOfAll}
 use Rattle.replicas.specs.Local.{Local}
 use Rattle.cluster.specs.Clusters.{Shared}
 use Rattle.cluster.specs.Finishing.{AreAllOf}
+use Rattle.lrc_run.specs.Cuts.{HasCut}
 use Rattle.lrc_run.specs.Walks.{made}
 
--- all that a processor made is its section, the closing barrier and these loads
+-- all that a processor made is its section, the closing barrier and these loads, and it cut nothing off but by a cut of
+-- its section
 pub record HasFollowed (section : List Instruction) (loads : List (ℕ × ℕ)) (m : Local) : Type 0 where
   pub own : List Kind
   pub are : AreEventsOfAll section own
   pub made_is : made m ≡ own ++ Arrive ∷ Depart ∷ map load_of loads
+  pub uncut : ¬ HasCut section → m.own_cut ≡ 0
 
 -- all processors of the script's cluster, and processor 0 has loaded what is shown
 pub record HaveFollowed (s : Plan) (c : Shared) (ms : List Local) (shown : List (ℕ × ℕ)) : Type 0 where

@@ -1,5 +1,5 @@
 -- What a report says of a script's run.
-use Rattle.std.specs.Prelude.{ℕ, ◌≡◌, ◌↔◌, IsTrue, List, ◌++◌, map}
+use Rattle.std.specs.Prelude.{ℕ, ◌≡◌, ◌↔◌, IsTrue, List, [], ◌++◌, map}
 use Rattle.journal.specs.declared.event.Event.{Event}
 use Rattle.journal.specs.declared.event.Kind.{Kind}
 use Rattle.journal.specs.WellFormed.{WellFormed}
@@ -13,6 +13,7 @@ use Rattle.lrc_script.specs.Plan.{Plan}
 use Rattle.lrc_report.specs.declared.report.Report.{Report}
 use Rattle.follows.specs.Follows.{sizes_of, Follows, calls_of, load_of}
 use Rattle.follows.specs.Recomputed.{IsRecomputed}
+use Rattle.lrc_run.specs.Cuts.{HasNoCut}
 
 -- some two accesses race
 abbrev pub HasRace : List Event → Type 0
@@ -39,11 +40,12 @@ pub record Tells (s : Plan) (r : Report) (h : List Event) : Type 0 where
   pub words_are : r.traffic.words ≡ words h
 
 -- the journal has the script's sizes and holds what is left, after some of it was cut off, of a history of which the
--- report tells
+-- report tells; and nothing is cut off where the script has no cut
 pub record IsReportOf (s : Plan) (r : Report) : Type 0 where
   pub processors : r.journal.processors ≡ s.processors
   pub addresses_are : r.journal.addresses ≡ addresses s
   pub history : List Event
   pub taken : List Event
   pub holds : HoldsRest r.journal taken history
+  pub uncut : HasNoCut s → taken ≡ []
   pub tells : Tells s r history

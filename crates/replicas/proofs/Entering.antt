@@ -65,8 +65,9 @@ found_sound m rest sound away well few = record {
         (λ is. on.1 (old.0 is), λ holds. old.1 (on.0 holds))
 
 -- how often a processor has entered, and what was cut off, is no matter
-pub entered_sound : (m : Local) (entries cut : ℕ) → IsSound m → IsSound (record m { entries = entries; cut = cut })
-entered_sound m entries cut sound = record {
+pub entered_sound : (m : Local) (entries cut own_cut : ℕ) → IsSound m
+    → IsSound (record m { entries = entries; cut = cut; own_cut = own_cut })
+entered_sound m entries cut own_cut sound = record {
   sizes = sound.sizes;
   mine = sound.mine;
   few = sound.few;

@@ -8,8 +8,8 @@ use Rattle.journal.specs.Did.{event}
 use Rattle.turn.specs.Chairs.{LockId}
 use Rattle.replicas.specs.Copies.{Copied, zeros}
 
--- its lock and how often it has entered; its number and the cluster's sizes; the history as it left it last, and how
--- many of its first events were cut off then; its open block; its copy of each page, and to which pages it may have
+-- its lock and how often it has entered; its number and the cluster's sizes; the history as it left it last, how many
+-- of its first events were cut off then, and how many its own cuts took off in all; its open block; its copy of each page, and to which pages it may have
 -- stored since its last closing event;
 -- its timestamp; which locks it holds; and what it waits for
 pub record Local : Type 0 where
@@ -19,6 +19,7 @@ pub record Local : Type 0 where
   pub sizes : Sizes
   pub seen : List Event
   pub cut : ℕ
+  pub own_cut : ℕ
   pub block : List Event
   pub copies : List Copied
   pub stored : List Bool
@@ -47,6 +48,7 @@ new_local l p s = record {
   sizes = s;
   seen = [];
   cut = 0;
+  own_cut = 0;
   block = [];
   copies = replicate s.pages (blank s);
   stored = replicate 64 false;

@@ -2,7 +2,8 @@
 //! waits for.
 ghost use Rattle.std.specs.Prelude.{◌≡◌, IfOk, OnOk, [], not};
 ghost use Rattle.cluster.specs.Prelude.{IsSameProcessor};
-ghost use Rattle.lrc_run.specs.Prelude.{IsOnItsWay, Takes, Tries};
+ghost use Rattle.lrc_run.specs.Prelude.{Does, IsOnItsWay, Takes};
+ghost use Rattle.lrc_script.specs.declared.script.Instruction.TheVariants as instruction;
 ghost use Rattle.lrc_run.specs.Waiting.{waits};
 
 use super::accesses::{add, load, store};
@@ -77,7 +78,8 @@ fn cut<T: Turn<Book, Rule>, R: Wait>(
     processor: &mut Processor<T>,
 ) -> Result<(), Refused>
     requires own { processor.old.lock ≡ cluster.now.lock }
-    ensures { Tries processor.old processor.new result (λ _. []) }
+    ensures same { IsSameProcessor processor.old processor.new }
+    ensures ok { OnOk result (Does processor.old processor.new instruction.Cut) }
 {
     match cluster.cut(rt, processor) {
         Err(Refused::NoEpisode | Refused::Racy(_, _)) => Ok(()),

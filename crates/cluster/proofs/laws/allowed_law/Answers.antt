@@ -1,7 +1,7 @@
 use Rattle.cluster.proofs.laws.allowed_law.Goals as goal
 
 pub returns : goal.returns
-returns c = λ m n number sizes seen cut allowed. rw (number, sizes, seen, cut) (
+returns c = λ m n number sizes seen cut own_cut allowed. rw (number, sizes, seen, cut, own_cut) (
   allowed.0,
   record {
     book = allowed.1.book;

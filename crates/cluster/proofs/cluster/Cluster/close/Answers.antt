@@ -20,7 +20,7 @@ returns-in_err-records g c =
       refused_with _ NoMemory c.from_residual-in_err-records.ensures.1,
       ← c.in_ok-admit_closing.ensures,
       ← c.processor.view_is,
-    ) (call_unmade c.processor.invariant.0 (rw (← c.is_spent.ensures, c.if-is_spent.false) refl))
+    ) (call_unmade c.processor.invariant.0 (rw (← c.is_spent.ensures, c.if-is_spent.false) refl) (λ l late. late))
 
 pub close_with-requires-clause-may : goal.close_with-requires-clause-may
 close_with-requires-clause-may g c κs within =

@@ -22,13 +22,10 @@ returns-in-Add-clause-ok g c =
     c.add.ensures.ok)
 
 pub returns-in-Cut-clause-same : goal.returns-in-Cut-clause-same
-returns-in-Cut-clause-same g c =
-    tries_same c.args.processor.now c.cut.new.processor c.cut.result _ c.cut.ensures
+returns-in-Cut-clause-same g c = c.cut.ensures.same
 
 pub returns-in-Cut-clause-ok : goal.returns-in-Cut-clause-ok
-returns-in-Cut-clause-ok g c =
-    rw c.in-Cut.is (done_tries [] instruction.Cut c.args.processor.now c.cut.new.processor c.cut.result refl
-    c.cut.ensures)
+returns-in-Cut-clause-ok g c = rw c.in-Cut.is c.cut.ensures.ok
 
 pub returns-in-Acquire-clause-ok : goal.returns-in-Acquire-clause-ok
 returns-in-Acquire-clause-ok g c =
