@@ -40,8 +40,8 @@ done_tries kinds i m n (Ok x) are tries = record { kinds = kinds; are = are; mak
 done_tries kinds i m n (Err e) are tries = tt
 
 -- a cut is done, whatever it answers
-pub done_cut : {refused : Option Refused} (m n : Local) → IsCuttingCall m n refused → Does m n Cut
-done_cut m n call = record {
+cut_does : {refused : Option Refused} (m n : Local) → IsCuttingCall m n refused → Does m n Cut
+cut_does m n call = record {
   kinds = [];
   are = refl;
   makes = record {
@@ -50,6 +50,11 @@ done_cut m n call = record {
     uncut = λ none. absurd (none refl);
   };
 }
+
+pub done_cut : {A : Type 0} (m n : Local) (r : Result A Refused) → IsCuttingCall m n (result_err r)
+    → OnOk r (Does m n Cut)
+done_cut m n (Ok x) call = cut_does m n call
+done_cut m n (Err e) call = tt
 
 -- a load and the store of a sum do an addition
 pub done_add : {A : Type 0} (a v : ℕ) (m n : Local) (r : Result A Refused)

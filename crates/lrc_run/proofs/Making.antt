@@ -267,3 +267,8 @@ walks_by l m n section all last = record {
       let last_cut : Barrier ≡ Cut → HasCut section = λ is. absurd (cc) in
       subst P last.are (but_then l m n all.kinds last.kinds (λ has. has) last_cut all.makes last.makes);
 }
+
+pub walks_where : {A E : Type 0} (l m n : Local) (section : List Instruction) (r : Result A E) → DoesAll l m section
+    → OnOk r (Does m n Barrier) → OnOk r (Walks l n section)
+walks_where l m n section (Ok x) all last = walks_by l m n section all last
+walks_where l m n section (Err e) all last = tt

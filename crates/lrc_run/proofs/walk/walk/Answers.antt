@@ -1,7 +1,10 @@
-use Rattle.std.proofs.Common.{add-one, ◌∙◌}
+use Rattle.std.proofs.Common.{◌≡◌, add-one, ap, subst, take, length, List, ◌∙◌, arith}
+use Rattle.std.proofs.Math.Seq.{take-length}
 use Rattle.std.proofs.lemmas.Option.{slice_get-get_or}
 use Rattle.lists.proofs.Places.{take-suc_at}
-use Rattle.lrc_run.proofs.Making.{does_more}
+use Rattle.lrc_script.specs.declared.script.Instruction.{Instruction}
+use Rattle.lrc_run.specs.Walks.{DoesAll}
+use Rattle.lrc_run.proofs.Making.{does_more, walks_where}
 use Rattle.lrc_run.proofs.walk.walk.Goals as goal
 
 pub loop-index-preserved : goal.loop-index-preserved
@@ -13,3 +16,14 @@ loop-index-preserved g c =
           (does_more c.args.processor.now c.loop-index.processor c.perform.new.processor
           _ _ c.loop-index.invariant.all c.in_ok-perform.ensures.ok);
     }
+
+pub returns-clause-ok : goal.returns-clause-ok
+returns-clause-ok g c =
+    let start = c.args.processor.now in
+    let m = c.loop-index.processor in
+    let section = c.args.section.now in
+    let end = c.loop-index.auto.index-end in
+    let last : c.loop-index.index ≡ length section = omega (arith, c.loop-index-test.false) in
+    let whole = ap (λ n. take n section) last ∙ take-length section in
+    let all = subst (λ (is : List Instruction). DoesAll start m is) whole c.loop-index.invariant.all in
+    walks_where start m c.perform-2.new.processor section c.perform-2.result all c.perform-2.ensures.ok
