@@ -154,6 +154,29 @@ fn just_so_many_tries(rt: HostRuntime) -> Result<(), Fail> {
     Ok(())
 }
 
+/// Processor 1 enters three times for each pair, and has six entries. Processor 0 is stuck at the closing barrier then,
+/// and isn't the one that is told.
+#[test]
+fn another_has_spent_its_entries(rt: HostRuntime) -> Result<(), Fail> {
+    let text =
+        b"cluster 2 1 1 1\np 0\np 1\nacquire 0\nrelease 0\nacquire 0\nrelease 0\nacquire 0\nrelease 0\nshow 0\n";
+    let script = parse(rt.alloc(), text)?;
+    let fault = run_with::<ArrayLock<Book, Rule, 6>, HostRuntime, Open>(
+        &rt,
+        rt.alloc(),
+        &script,
+        &Open,
+        2,
+    )
+    .err();
+    let spent = RunFault {
+        processor: 1,
+        cause: Cause::Refused(Refused::SeatSpent),
+    };
+    assert_eq!(&rt; fault, Some(spent));
+    Ok(())
+}
+
 /// Stops the processors from one number on at the instruction with this number.
 #[derive(Clone, Copy)]
 struct StopsAt {

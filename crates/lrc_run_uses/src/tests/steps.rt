@@ -1,6 +1,7 @@
 //! Scripts by turns on one thread.
 
-use cluster::{BookLock, TicketBookLock};
+use book::{Book, Refused};
+use cluster::{BookLock, Rule, TicketBookLock};
 use journal::{Event, Kind};
 use lrc_report::Report;
 use lrc_run::{Cause, RunFault, order, step, step_with};
@@ -11,6 +12,7 @@ use std::alloc::Global;
 use std::process::Abort;
 use std::sync::Wait;
 use std::test::Fail;
+use turn::ArrayLock;
 
 /// A script, and what its run answers: the shown words, whether it is racy, and its messages, records and
 /// words.
@@ -133,6 +135,22 @@ fn nobody_gets_on(rt: HostRuntime) -> Result<(), Fail> {
         };
         assert_eq!(rt; fault, Some(stuck));
     }
+    Ok(())
+}
+
+/// Processor 1 has spent its six entries while processor 0 still loads.
+#[test]
+fn another_has_spent_its_entries(rt: HostRuntime) -> Result<(), Fail> {
+    let text =
+        b"cluster 2 1 1 1\np 0\nload 0\nload 0\nload 0\nload 0\nload 0\nload 0\nload 0\nload 0\nload 0\np 1\nacquire 0\nrelease 0\nacquire 0\nrelease 0\nacquire 0\nrelease 0\nshow 0\n";
+    let script = parse(rt.alloc(), text)?;
+    let fault =
+        step_with::<ArrayLock<Book, Rule, 6>, HostRuntime>(&rt, rt.alloc(), &script, None).err();
+    let spent = RunFault {
+        processor: 1,
+        cause: Cause::Refused(Refused::SeatSpent),
+    };
+    assert_eq!(rt; fault, Some(spent));
     Ok(())
 }
 
