@@ -23,3 +23,8 @@ pub use cluster::Cluster;
 pub use keeper::{BookLock, Rule, TicketBookLock, View};
 pub use processor::Processor;
 pub use shape::Shape;
+
+// What a program has to name beside these, so that it lists this crate alone.
+pub use book::{Book, Refused};
+pub use journal::{Event, Journal, Kind};
+pub use turn::Turn;
