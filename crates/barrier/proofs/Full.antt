@@ -5,8 +5,8 @@ use Rattle.std.proofs.lemmas.Bool.{false≢true, cases_Bool, both_ways, eq-eqb, 
 use Rattle.std.proofs.lemmas.List.{length-set, length_push, take_at}
 use Rattle.std.proofs.lemmas.List.Sums.{sum_by-cons, sum_by-set, count_by-le-length, fold_push}
 use Rattle.std.proofs.lemmas.Option.{get_or_from_slice_get, slice_get_within}
-use Rattle.barrier.specs.declared.episodes.Stage.{Stage}
-use Rattle.barrier.specs.declared.episodes.Stage.TheVariants.{Away, Here, Free}
+use Rattle.barrier.specs.declared.barrier.Stage.{Stage}
+use Rattle.barrier.specs.declared.barrier.Stage.TheVariants.{Away, Here, Free}
 use Rattle.vtime.specs.Times.{join}
 use Rattle.barrier.specs.Episodes.{Episodes, is_here, joined, departed, joins, HasGathered}
 

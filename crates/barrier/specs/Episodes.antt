@@ -2,8 +2,8 @@
 use Rattle.std.specs.Prelude.{ℕ, ◌≡◌, Bool, true, false, List, [], ◌∷◌, ◌++◌, length, replicate, slice_set, count_by}
 use Rattle.std.specs.List.{list_all, fold}
 use Rattle.vtime.specs.Times.{join}
-use Rattle.barrier.specs.declared.episodes.Stage.{Stage}
-use Rattle.barrier.specs.declared.episodes.Stage.TheVariants.{Away, Here, Free}
+use Rattle.barrier.specs.declared.barrier.Stage.{Stage}
+use Rattle.barrier.specs.declared.barrier.Stage.TheVariants.{Away, Here, Free}
 
 -- where each processor is, the join of the open episode's arrivals so far, and that of the last
 -- complete episode's

@@ -7,6 +7,6 @@
 //! - Only tested: nothing. That no call takes memory is read off the code.
 #![tactic(auto)]
 
-mod episodes;
+mod barrier;
 
-pub use episodes::{Barrier, Stage};
+pub use barrier::{Barrier, Stage};

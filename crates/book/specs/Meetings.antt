@@ -6,8 +6,8 @@ use Rattle.journal.specs.Events.{count_of, is_arrive, is_depart}
 use Rattle.journal.specs.Pasts.{UpToSome}
 use Rattle.journal.specs.Brings.{SomeArrives}
 use Rattle.barrier.specs.Episodes.{Episodes}
-use Rattle.barrier.specs.declared.episodes.Stage.{Stage}
-use Rattle.barrier.specs.declared.episodes.Stage.TheVariants.{Away, Here, Free}
+use Rattle.barrier.specs.declared.barrier.Stage.{Stage}
+use Rattle.barrier.specs.declared.barrier.Stage.TheVariants.{Away, Here, Free}
 use Rattle.book.specs.Stamps.{AreAll, IsStamp}
 
 -- how often p has arrived and departed when n episodes are complete

@@ -20,8 +20,8 @@ use Rattle.journal.proofs.Copies.OpenBlocks.{explained_block, answers_others}
 use Rattle.journal.proofs.Copies.Pages.{valid_others, valid_lawful, valid_no_gap, stale_others, stale_gap}
 use Rattle.journal.proofs.Missing.Counted.{block_counts_others, counted_block}
 use Rattle.interval.specs.Intervals.{SentRecord}
-use Rattle.page.specs.declared.pages.Access.{Access}
-use Rattle.page.specs.declared.pages.Access.TheVariants.{Valid, Invalid}
+use Rattle.page.specs.declared.page.Access.{Access}
+use Rattle.page.specs.declared.page.Access.TheVariants.{Valid, Invalid}
 use Rattle.book.specs.News.{missing_of}
 use Rattle.replicas.specs.Copies.{Copied, IsReplica}
 use Rattle.replicas.specs.Local.{Local}

@@ -26,7 +26,7 @@ use Rattle.lists.proofs.Places.{count_by-within}
 use Rattle.lists.proofs.Records.{length-records_applied}
 use Rattle.lists.proofs.Sets.{slice_get-set_found, slice_get-set_other}
 use Rattle.interval.specs.Intervals.{SentRecord}
-use Rattle.page.specs.declared.pages.Access.TheVariants.{Invalid}
+use Rattle.page.specs.declared.page.Access.TheVariants.{Invalid}
 use Rattle.page.specs.Contents.{IsClean}
 use Rattle.replicas.specs.declared.replica.Counts.{Counts}
 use Rattle.book.specs.News.{missing_of}

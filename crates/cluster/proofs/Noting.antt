@@ -19,7 +19,7 @@ use Rattle.lists.specs.Writes.{wrote}
 use Rattle.lists.specs.Records.{mark}
 use Rattle.lists.proofs.Places.{push_cases}
 use Rattle.lists.proofs.Sets.{slice_get-set_found, slice_get-set_other}
-use Rattle.page.specs.declared.pages.Access.TheVariants.{Valid, Invalid}
+use Rattle.page.specs.declared.page.Access.TheVariants.{Valid, Invalid}
 use Rattle.page.specs.Contents.{IsClean}
 use Rattle.book.specs.Calls.{IsInner}
 use Rattle.book.specs.Stamps.{AreAll}

@@ -8,7 +8,7 @@ use Rattle.journal.specs.Loads.{Explained}
 use Rattle.journal.specs.Counted.{AreCounted}
 use Rattle.journal.specs.Copies.{Lawful}
 use Rattle.journal.specs.Brought.{NoGap}
-use Rattle.page.specs.declared.pages.Access.TheVariants.{Valid}
+use Rattle.page.specs.declared.page.Access.TheVariants.{Valid}
 use Rattle.book.specs.State.{State}
 use Rattle.cluster.specs.declared.keeper.View.{View}
 use Rattle.replicas.specs.Copies.{Copied}

@@ -5,7 +5,7 @@ use Rattle.journal.specs.CopiesFrom.{LawfulFrom}
 use Rattle.journal.specs.WellFormedFrom.{IsAway}
 use Rattle.book.specs.State.{State}
 use Rattle.book.specs.Told.{HoldsSome}
-use Rattle.page.specs.declared.pages.Access.TheVariants.{Valid}
+use Rattle.page.specs.declared.page.Access.TheVariants.{Valid}
 use Rattle.replicas.specs.Copies.{Copied}
 use Rattle.replicas.specs.Local.{Local}
 use Rattle.cluster.specs.declared.keeper.View.{View}

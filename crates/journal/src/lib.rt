@@ -9,7 +9,7 @@
 //! define, and up to its first race an explained journal replays. Lemmas for the crates above lie in
 //! proofs/, a folder a topic. `ReachTable` is the slow program by the definition.
 //!
-//! **What is only tested** (in `journal_uses`): that memory isn't refused needlessly, and that a journal of 2^20 events is
+//! **What is only tested** (in `journal_tests`): that memory isn't refused needlessly, and that a journal of 2^20 events is
 //! checked in a test's time.
 #![tactic(auto)]
 
@@ -26,7 +26,7 @@ mod limits;
 mod numbered;
 mod race;
 mod replay;
-mod slow;
+mod reach_table;
 mod traffic;
 
 pub use cut::CutFault;
@@ -34,5 +34,5 @@ pub use event::{Event, Kind};
 pub use journal::Journal;
 pub use laws::{copy_law, cut_law, flat_law, history_law, same_law, uncut_law, well_formed_law};
 pub use limits::{MOST_CUT, MOST_EVENTS, MOST_HELD, MOST_IN_BLOCK, MOST_PROCESSORS};
-pub use slow::ReachTable;
+pub use reach_table::ReachTable;
 pub use traffic::Traffic;

@@ -8,6 +8,6 @@
 //! - Only tested: that `new` wants no memory needlessly. That no other call takes any is read off the code.
 #![tactic(auto)]
 
-mod lines;
+mod locks;
 
-pub use lines::Locks;
+pub use locks::Locks;

@@ -9,7 +9,7 @@
 //! verdict is race-free and the history replays (module `laws`). Which fault a run tells, of those that its processors met;
 //! and the order that a round's generator draws.
 //!
-//! **What is only tested** (in `lrc_run_uses`): that no run is refused needlessly, and that its threads get on side by
+//! **What is only tested** (in `lrc_run_tests`): that no run is refused needlessly, and that its threads get on side by
 //! side; that the gate is asked before each instruction; the schedule of `step`, and which processor it tells as stuck.
 #![tactic(auto)]
 
@@ -19,13 +19,13 @@ mod faults;
 mod gate;
 pub mod laws;
 mod orders;
-mod running;
+mod run;
 mod shown;
-mod steps;
+mod step;
 mod walk;
 
 pub use cause::{Cause, RunFault};
 pub use gate::{Gate, Open, Stopped};
 pub use orders::order;
-pub use running::{run, run_with};
-pub use steps::{step, step_with};
+pub use run::{run, run_with};
+pub use step::{step, step_with};

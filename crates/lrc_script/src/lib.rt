@@ -8,7 +8,7 @@
 //! and a fault only where they are no lawful script's, with its line; `Display` writes the text, of at most
 //! `MOST_BYTES` bytes (module `laws`); `draw::guarded` and `draw::free` give lawful scripts by the stated draws.
 //!
-//! **What is only tested** (in `lrc_script_uses`): which fault is answered among several on one line, the texts of the
+//! **What is only tested** (in `lrc_script_tests`): which fault is answered among several on one line, the texts of the
 //! faults, and that memory isn't wanted needlessly: at the limits of a script, for long lines and for each number.
 #![tactic(auto)]
 

@@ -1,6 +1,6 @@
 -- A processor's copy of a page.
 use Rattle.std.specs.Prelude.{ℕ, ◌≡◌, Bool, false, List, length, replicate}
-use Rattle.page.specs.declared.pages.Access.{Access}
+use Rattle.page.specs.declared.page.Access.{Access}
 
 -- the words, for each whether it is dirty, and whether the copy may be used
 pub record Contents : Type 0 where

@@ -8,8 +8,8 @@
 //! - Only tested: that a refused growth changes nothing of a page, and that records cross threads.
 #![tactic(auto)]
 
-mod pages;
-mod records;
+mod page;
+mod record;
 
-pub use pages::{Access, Page};
-pub use records::Record;
+pub use page::{Access, Page};
+pub use record::Record;

@@ -11,7 +11,7 @@ use Rattle.lists.proofs.Places.{slice_get-append_right, slice_get-from_take, sli
 use Rattle.interval.specs.Intervals.{SentRecord}
 use Rattle.book.specs.News.{missing_of}
 use Rattle.page.specs.Contents.{Contents}
-use Rattle.page.specs.declared.pages.Access.TheVariants.{Invalid}
+use Rattle.page.specs.declared.page.Access.TheVariants.{Invalid}
 use Rattle.replicas.specs.Copies.{Copied, IsPlaceAmong}
 use Rattle.replicas.specs.Steps.{IsAfterNews, MayLack}
 

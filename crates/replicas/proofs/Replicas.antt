@@ -17,7 +17,7 @@ use Rattle.lists.specs.Writes.{wrote}
 use Rattle.lists.specs.Records.{mark}
 use Rattle.lists.proofs.LastWrites.{length-written}
 use Rattle.lists.proofs.Places.{push_cases}
-use Rattle.page.specs.declared.pages.Access.TheVariants.{Invalid}
+use Rattle.page.specs.declared.page.Access.TheVariants.{Invalid}
 use Rattle.page.specs.Contents.{IsClean}
 use Rattle.book.specs.News.{missing_of}
 use Rattle.replicas.specs.Copies.{Copied, IsReplica}

@@ -17,8 +17,8 @@ use Rattle.journal.proofs.Intervals.Dirty.{dirty_push}
 use Rattle.journal.proofs.Missing.Keeping.{missing_same}
 use Rattle.lists.specs.Places.{Has}
 use Rattle.lists.proofs.Joined.{has-nil, has-append, has-map}
-use Rattle.page.specs.declared.pages.Access.{Access}
-use Rattle.page.specs.declared.pages.Access.TheVariants.{Valid, Invalid}
+use Rattle.page.specs.declared.page.Access.{Access}
+use Rattle.page.specs.declared.page.Access.TheVariants.{Valid, Invalid}
 use Rattle.page.specs.Contents.{Contents, IsClean}
 use Rattle.interval.specs.Intervals.{SentRecord}
 use Rattle.book.specs.News.{missing_of}

@@ -11,7 +11,7 @@ use Rattle.lists.proofs.Once.{once_le}
 use Rattle.lists.proofs.Picked.{has-filter, in_order-filter}
 use Rattle.lists.proofs.Sets.{slice_get-replicate_found}
 use Rattle.page.specs.Contents.{Contents, IsClean}
-use Rattle.page.specs.declared.pages.Access.TheVariants.{Valid, Invalid}
+use Rattle.page.specs.declared.page.Access.TheVariants.{Valid, Invalid}
 use Rattle.journal.specs.Missing.{Missing}
 use Rattle.interval.specs.Intervals.{SentRecord}
 use Rattle.interval.specs.Closings.{is_of_page}

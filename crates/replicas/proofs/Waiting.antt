@@ -17,8 +17,8 @@ use Rattle.lists.specs.Places.{Has}
 use Rattle.lists.proofs.Joined.{has-nil, has-map}
 use Rattle.lists.proofs.Picked.{has-filter}
 use Rattle.lists.proofs.Places.{count_by-past}
-use Rattle.page.specs.declared.pages.Access.{Access}
-use Rattle.page.specs.declared.pages.Access.TheVariants.{Valid, Invalid}
+use Rattle.page.specs.declared.page.Access.{Access}
+use Rattle.page.specs.declared.page.Access.TheVariants.{Valid, Invalid}
 use Rattle.page.specs.Contents.{IsClean}
 use Rattle.interval.specs.Intervals.{SentRecord}
 use Rattle.interval.specs.Closings.{is_of_page}

@@ -9,8 +9,8 @@ use Rattle.lists.specs.Places.{Has}
 use Rattle.lists.specs.Records.{records_applied}
 use Rattle.page.specs.Carries.{FitsIn}
 use Rattle.page.specs.Contents.{Contents, IsClean}
-use Rattle.page.specs.declared.pages.Access.{Access}
-use Rattle.page.specs.declared.pages.Access.TheVariants.{Valid, Invalid}
+use Rattle.page.specs.declared.page.Access.{Access}
+use Rattle.page.specs.declared.page.Access.TheVariants.{Valid, Invalid}
 use Rattle.interval.specs.Intervals.{SentRecord}
 use Rattle.book.specs.News.{missing_of}
 

@@ -8,7 +8,7 @@ use Rattle.journal.specs.Missing.{InClosingOrder}
 use Rattle.journal.specs.Waits.{awaited}
 use Rattle.lists.specs.Places.{Has}
 use Rattle.vtime.specs.Times.{tick, join}
-use Rattle.page.specs.declared.pages.Access.TheVariants.{Invalid}
+use Rattle.page.specs.declared.page.Access.TheVariants.{Invalid}
 use Rattle.page.specs.Contents.{IsClean}
 use Rattle.interval.specs.Intervals.{SentRecord}
 use Rattle.interval.specs.Closings.{is_of_page}

@@ -2,7 +2,7 @@
 use Rattle.std.specs.Prelude.{ℕ, ◌≡◌, ◌≢◌, Bool, Some, List, [], length, map, slice_get}
 use Rattle.journal.specs.Missing.{InClosingOrder}
 use Rattle.lists.specs.Places.{Has}
-use Rattle.page.specs.declared.pages.Access.TheVariants.{Valid, Invalid}
+use Rattle.page.specs.declared.page.Access.TheVariants.{Valid, Invalid}
 use Rattle.interval.specs.Intervals.{SentRecord}
 use Rattle.book.specs.News.{missing_of}
 use Rattle.replicas.specs.Copies.{Copied, AllFit, FitsPage}

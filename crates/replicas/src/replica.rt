@@ -5,7 +5,7 @@ ghost use Rattle.std.specs.Option.{option_map};
 ghost use Rattle.lists.specs.Prelude.{records_applied, Has};
 ghost use Rattle.journal.specs.Prelude.{HasCount, InClosingOrder};
 ghost use Rattle.page.specs.Prelude.{IsHarvest, IsClean};
-ghost use Rattle.page.specs.declared.pages.Access.TheVariants.{Valid, Invalid};
+ghost use Rattle.page.specs.declared.page.Access.TheVariants.{Valid, Invalid};
 ghost use Rattle.interval.specs.Prelude.{SentRecord};
 ghost use Rattle.book.specs.Prelude.{missing_of};
 ghost use Rattle.replicas.specs.Prelude.{AllFit, IsOwner, IsPlaceAmong, may_use, words_if, words_of, AreCountable};

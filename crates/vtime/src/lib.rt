@@ -6,6 +6,6 @@
 //! - Only tested: nothing. That no call takes memory is read off the code.
 #![tactic(auto)]
 
-mod time;
+mod vtime;
 
-pub use time::{MOST_PROCESSORS, VTime};
+pub use vtime::{MOST_PROCESSORS, VTime};

@@ -19,7 +19,7 @@ use Rattle.vtime.specs.Times.{tick, join}
 use Rattle.interval.specs.Intervals.{ClosedInterval}
 use Rattle.interval.specs.Closings.{Closings, pushed}
 use Rattle.barrier.specs.Episodes.{Episodes, is_full, joined, arrived}
-use Rattle.barrier.specs.declared.episodes.Stage.TheVariants.{Away, Here}
+use Rattle.barrier.specs.declared.barrier.Stage.TheVariants.{Away, Here}
 use Rattle.transit.specs.Letters.{Letter}
 use Rattle.journal.specs.Did.{did}
 use Rattle.book.specs.Stamps.{AreAll}

@@ -19,8 +19,8 @@ use Rattle.journal.proofs.Journals.Balance.{balanced}
 use Rattle.vtime.specs.Times.{join}
 use Rattle.interval.specs.Closings.{Closings, between}
 use Rattle.barrier.specs.Episodes.{Episodes}
-use Rattle.barrier.specs.declared.episodes.Stage.{Stage}
-use Rattle.barrier.specs.declared.episodes.Stage.TheVariants.{Away, Free}
+use Rattle.barrier.specs.declared.barrier.Stage.{Stage}
+use Rattle.barrier.specs.declared.barrier.Stage.TheVariants.{Away, Free}
 use Rattle.transit.specs.Letters.{Letter}
 use Rattle.journal.specs.Did.{event}
 use Rattle.book.specs.declared.awaited.Awaited.{Awaited}

@@ -20,7 +20,7 @@ use Rattle.journal.proofs.Journals.WellFormed.{well_formed_empty}
 use Rattle.interval.specs.declared.kept.Kept.{Kept}
 use Rattle.interval.specs.Closings.{Closings, trimmed}
 use Rattle.lockq.specs.Lock.{unheld}
-use Rattle.barrier.specs.declared.episodes.Stage.TheVariants.{Away}
+use Rattle.barrier.specs.declared.barrier.Stage.TheVariants.{Away}
 use Rattle.book.specs.Meetings.{IsAtStage}
 use Rattle.journal.specs.Did.{event, did}
 use Rattle.book.specs.Stamps.{IsStamp, IsAwaited}

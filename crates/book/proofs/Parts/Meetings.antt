@@ -20,8 +20,8 @@ use Rattle.journal.proofs.Journals.WellFormed.{last_or_none, last_unique}
 use Rattle.journal.proofs.Journals.Balance.{balanced}
 use Rattle.vtime.specs.Times.{join}
 use Rattle.barrier.specs.Episodes.{Episodes, is_here, is_full, joined, completed, departed}
-use Rattle.barrier.specs.declared.episodes.Stage.{Stage}
-use Rattle.barrier.specs.declared.episodes.Stage.TheVariants.{Away, Here, Free}
+use Rattle.barrier.specs.declared.barrier.Stage.{Stage}
+use Rattle.barrier.specs.declared.barrier.Stage.TheVariants.{Away, Here, Free}
 use Rattle.journal.specs.Did.{event, did}
 use Rattle.book.specs.Stamps.{AreAll, IsStamp}
 use Rattle.book.specs.Meetings.{IsAtStage, IsBarrier}

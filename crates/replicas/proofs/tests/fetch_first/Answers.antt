@@ -1,5 +1,5 @@
 use Rattle.std.proofs.Common.{◌≡◌, Some, length, slice_get, subst, arith}
-use Rattle.page.specs.declared.pages.Access.TheVariants.{Invalid}
+use Rattle.page.specs.declared.page.Access.TheVariants.{Invalid}
 use Rattle.replicas.specs.Copies.{AllFit, Copied}
 use Rattle.replicas.specs.Counts.{AreCountable}
 use Rattle.replicas.proofs.Steps.{item_at}

@@ -10,7 +10,7 @@ use Rattle.book.specs.State.{State, time_of}
 use Rattle.book.specs.Transitions.{handed_in, open_interval, closed_by, departures_to}
 use Rattle.interval.specs.Intervals.{ClosedInterval}
 use Rattle.interval.specs.Closings.{pushed}
-use Rattle.barrier.specs.declared.episodes.Stage.TheVariants.{Away}
+use Rattle.barrier.specs.declared.barrier.Stage.TheVariants.{Away}
 use Rattle.book.specs.Calls.{MayBeSent}
 use Rattle.book.specs.Holding.{state_of}
 use Rattle.book.proofs.Parts.History.{happened_fits}

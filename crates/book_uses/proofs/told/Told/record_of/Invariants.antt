@@ -1,5 +1,5 @@
 use Rattle.std.proofs.Common.{◌≡◌, take}
-use Rattle.page.specs.declared.pages.Access.TheVariants.{Valid}
+use Rattle.page.specs.declared.page.Access.TheVariants.{Valid}
 use Rattle.book_uses.proofs.Opened.{IsStoredIn}
 use Rattle.book_uses.proofs.told.Told.record_of.Given as goal
 

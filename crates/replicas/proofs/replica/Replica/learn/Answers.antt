@@ -2,7 +2,7 @@ use Rattle.std.proofs.Common.{ℕ, ◌≡◌, ◌++◌, ◌∷◌, List, map, ta
 use Rattle.journal.specs.Missing.{InClosingOrder}
 use Rattle.book.specs.News.{missing_of}
 use Rattle.interval.specs.Intervals.{SentRecord}
-use Rattle.page.specs.declared.pages.Access.TheVariants.{Invalid}
+use Rattle.page.specs.declared.page.Access.TheVariants.{Invalid}
 use Rattle.replicas.specs.Copies.{Copied, IsPlaceAmong}
 use Rattle.replicas.proofs.Learned.{added_news}
 use Rattle.replicas.proofs.replica.Replica.learn.Goals as goal

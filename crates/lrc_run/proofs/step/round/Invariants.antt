@@ -1,0 +1,10 @@
+use Rattle.std.proofs.Common.{◌≡◌, vec_len}
+use Rattle.lrc_script.specs.Plan.{plan_of}
+use Rattle.lrc_run.specs.Steps.{AreOnTheirWay}
+use Rattle.lrc_run.proofs.step.round.Given as goal
+
+abbrev pub invariant-loop-p : goal.invariant-loop-p
+invariant-loop-p g l = record {
+  way : AreOnTheirWay l.cluster (plan_of l.script).sections l.processors.items l.all.items;
+  long : vec_len l.processors ≡ vec_len l.fn.processors;
+}

@@ -1,0 +1,32 @@
+use Rattle.std.proofs.Common.{◌<◌, length, refl, arith}
+use Rattle.std.proofs.lemmas.Option.{slice_get_read}
+use Rattle.lrc_script.specs.Plan.{plan_of}
+use Rattle.lrc_run.proofs.Stepping.{all_turned, own_at, progress_read, section_read}
+use Rattle.lrc_run.proofs.step.turn_at.Goals as goal
+
+pub take_turn-requires-clause-own : goal.take_turn-requires-clause-own
+take_turn-requires-clause-own g c κs within =
+    let ms = c.args.processors.now.items in
+    let p = c.args.p in
+    let m = c.index_mut.result.now in
+    let inside : p < length ms = omega (arith, c.requires.within) in
+    own_at (plan_of c.args.script.now) c.args.cluster.now ms c.args.all.now.items p m c.requires.lawful c.requires.sizes
+    c.requires.way (slice_get_read ms (length ms) p m refl inside c.index_mut.ensures.value)
+
+pub returns-in-Ok-clause-way : goal.returns-in-Ok-clause-way
+returns-in-Ok-clause-way g c =
+    let s = plan_of c.args.script.now in
+    let ms = c.args.processors.now.items in
+    let all = c.args.all.now.items in
+    let p = c.args.p in
+    let m = c.index_mut.result.now in
+    let section = c.deref.result.now in
+    let at = c.index.result.now in
+    let inside : p < length ms = omega (arith, c.requires.within) in
+    all_turned c.args.cluster.now s.sections ms all p section m c.take_turn.new.processor at c.in-Ok.outcome.0
+    c.requires.way
+    (section_read s c.args.cluster.now ms all c.args.script.now.sections.items p c.index-section.result.now section
+    c.requires.lawful c.requires.sizes refl c.requires.way inside c.index-section.ensures c.deref.ensures.value)
+    (slice_get_read ms (length ms) p m refl inside c.index_mut.ensures.value)
+    (progress_read c.args.cluster.now s.sections ms all p at c.requires.way inside c.index.ensures)
+    c.in-Ok.ensures

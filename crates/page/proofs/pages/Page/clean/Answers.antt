@@ -1,6 +1,0 @@
-use Rattle.std.proofs.Common.{length}
-use Rattle.page.proofs.Marks.{marks_of-zero}
-use Rattle.page.proofs.pages.Page.clean.Goals as goal
-
-pub returns-clause-clean : goal.returns-clause-clean
-returns-clause-clean c = marks_of-zero (length c.self.inside.words.items)
