@@ -120,7 +120,7 @@ fn event_at(place: usize) -> Event
     }
 }
 
-/// The journal of this many events. The only error is want of memory.
+/// The journal of this many events. The only error is running out of memory.
 pub fn build(alloc: Global, events: usize) -> Result<Journal, AllocError>
     requires { events ≤ 2 ^ 21 }
     ensures { IfOk result (λ j. length j.events ≡ events) }

@@ -43,7 +43,7 @@ impl Model for Book {
 
 impl Book {
     /// The empty book of a cluster of these sizes: 1 to 16 processors, up to 32 locks, flags, pages and
-    /// words a page within the cluster's sizes. The only error is want of memory.
+    /// words a page within the cluster's sizes. The only error is running out of memory.
     pub fn new(
         alloc: Global,
         processors: usize,

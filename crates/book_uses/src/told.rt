@@ -46,7 +46,7 @@ impl Model for Told {
 
 impl Told {
     /// A new book of a cluster of these sizes: 1 to 16 processors, up to 64 pages of 1 to 64 words, up to
-    /// 32 locks and flags. The only error is want of memory.
+    /// 32 locks and flags. The only error is running out of memory.
     pub fn new(
         alloc: Global,
         processors: usize,

@@ -12,7 +12,7 @@ pub enum Fault {
     NoCluster,
     /// There is no journal at hand, or none that can be written.
     NoJournal,
-    /// The program's own want of memory.
+    /// The program itself ran out of memory.
     NoMemory,
     /// A write failed.
     Output,

@@ -16,7 +16,7 @@ pub struct Written {
 }
 
 impl Written {
-    /// The empty journal of at most sixteen processors; the error is a bad size or want of memory.
+    /// The empty journal of at most sixteen processors; the error is a bad size or running out of memory.
     pub fn new(alloc: Global, processors: usize, addresses: usize) -> Result<Written, Refused> {
         if processors > 16 {
             return Err(Refused::BadSize);

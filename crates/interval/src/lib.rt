@@ -6,7 +6,7 @@
 //! - Proved: `between` is a filter of that list by two timestamps, and comes in closing order; `push` and
 //!   `trim` change the list as they say, and what is news to nobody concerned stays; `count_news` and
 //!   `news_of` are counts of what `between` would answer.
-//! - Only tested: that memory isn't wanted needlessly. That the counts take none, and what a call costs, is
+//! - Only tested: that no call allocates without need. That the counts take none, and what a call costs, is
 //!   read off the code.
 #![tactic(auto)]
 

@@ -10,7 +10,7 @@ use std::collections::{BTreeMap, VecDeque};
 /// A vector timestamp: of each processor, how many of its closing events are counted.
 pub(crate) type Clock = [u32; 16];
 
-/// As many timestamps, all zeros. The only error is want of memory.
+/// As many timestamps, all zeros. The only error is running out of memory.
 pub(crate) fn zeros(alloc: Global, count: usize) -> Result<Vec<Clock>, AllocError>
     ensures long { IfOk result (λ v. vec_len v ≡ count) }
     ensures zeros { IfOk result (λ v. (n q : ℕ) → entry v.items n q ≡ 0) }

@@ -36,7 +36,7 @@ fn are_past(counts: &[u32], number: usize) -> bool
 }
 
 impl Clocks {
-    /// The timestamps of this many processors before the first event. The only error is want of memory.
+    /// The timestamps of this many processors before the first event. The only error is running out of memory.
     pub(crate) fn new(alloc: Global, processors: usize) -> Result<Clocks, AllocError>
         requires { processors ≤ most_processors }
         ensures clocks { IfOk result (λ c. AreClocks [] c) }

@@ -44,7 +44,7 @@ impl Model for Journal {
     ghost invariant = { IsHeld };
 }
 
-/// An arrival of each processor. The only error is want of memory.
+/// An arrival of each processor. The only error is running out of memory.
 fn opening(alloc: Global, processors: usize) -> Result<Vec<Event>, AllocError>
     ensures { IfOk result (λ v. IsOpening processors v.items) }
 {
@@ -73,7 +73,7 @@ fn take_out(events: &mut Vec<Event>, place: usize, count: usize)
 impl Journal {
     /// An empty journal of a cluster of `processors` processors, at most `MOST_PROCESSORS`, and
     /// `addresses` addresses.
-    /// The only error is want of memory.
+    /// The only error is running out of memory.
     pub fn new(alloc: Global, processors: usize, addresses: usize) -> Result<Journal, AllocError>
         requires { processors ≤ most_processors }
         ensures { IfOk result (λ j. j ≡ new_log processors addresses) }
@@ -167,7 +167,7 @@ impl Journal {
     }
 
     /// The same events in a journal of their own, with no room for more, and with what is kept of those cut
-    /// off. The only error is want of memory.
+    /// off. The only error is running out of memory.
     pub fn copy(&self) -> Result<Journal, AllocError>
         ensures { IfOk result (λ j. j ≡ record self.now { room = 0 }) }
     {
@@ -175,7 +175,7 @@ impl Journal {
     }
 
     /// The same in a journal of its own, with room for `additional` more events, by one allocation for them.
-    /// The only error is want of memory.
+    /// The only error is running out of memory.
     pub fn copy_with_room(&self, additional: usize) -> Result<Journal, AllocError>
         ensures { IfOk result (λ j. j ≡ record self.now { room = additional }) }
     {
@@ -195,7 +195,7 @@ impl Journal {
     }
 
     /// Does the events to one flat memory in the journal's order, from the base: None where some load's
-    /// reply isn't its word at that place, else the words at the end. The only error is want of memory.
+    /// reply isn't its word at that place, else the words at the end. The only error is running out of memory.
     pub fn replay(&self) -> Result<Option<Vec<u32>>, AllocError>
         ensures replays { IfOk result (λ o. IsSome o ↔ Replays self.now.base.memory self.now.events) }
         ensures memory { IfOk result (λ o. IfSome o
@@ -234,7 +234,7 @@ impl Journal {
     }
 
     /// The first race of the events that are left: None where there is none, else the pair with the least
-    /// second place and, among these, the least first one. The only error is want of memory.
+    /// second place and, among these, the least first one. The only error is running out of memory.
     ///
     /// Two accesses of one address race where one of them is a store, two processors make them, and
     /// neither happens before the other (Adve and Hill 1990).

@@ -38,7 +38,7 @@ fn let_go(holders: &mut Vec<(usize, usize)>, processor: usize, lock: usize)
     holders.retain(|held| !(held.0 == processor && held.1 == lock));
 }
 
-/// Takes note of who acquires or releases a lock. The only error is want of memory.
+/// Takes note of who acquires or releases a lock. The only error is running out of memory.
 fn hold(holders: &mut Vec<(usize, usize)>, event: Event) -> Result<(), AllocError>
     ensures { OnOk result (holders.new.items
         ≡ held_after holders.old.items event.processor event.kind) }
@@ -51,7 +51,7 @@ fn hold(holders: &mut Vec<(usize, usize)>, event: Event) -> Result<(), AllocErro
     Ok(())
 }
 
-/// Takes note of a flag that is set. The only error is want of memory.
+/// Takes note of a flag that is set. The only error is running out of memory.
 fn set(flags: &mut Vec<usize>, kind: Kind) -> Result<(), AllocError>
     ensures { OnOk result (flags.new.items ≡ set_after flags.old.items kind) }
 {
@@ -67,7 +67,7 @@ fn set(flags: &mut Vec<usize>, kind: Kind) -> Result<(), AllocError>
 }
 
 impl Kept {
-    /// Where nothing was cut off. The only error is want of memory.
+    /// Where nothing was cut off. The only error is running out of memory.
     pub(crate) fn new(alloc: Global, addresses: usize) -> Result<Kept, AllocError>
         ensures base { IfOk result (λ k. base_of k ≡ no_base addresses) }
         ensures kept { IfOk result (λ k. IsKept addresses k) }
@@ -81,7 +81,7 @@ impl Kept {
         })
     }
 
-    /// The same in memory of its own. The only error is want of memory.
+    /// The same in memory of its own. The only error is running out of memory.
     pub(crate) fn copy(&self) -> Result<Kept, AllocError>
         ensures { IfOk result (λ k. base_of k ≡ base_of self.now) }
     {
@@ -95,7 +95,7 @@ impl Kept {
         })
     }
 
-    /// Takes note of one more event. The only error is want of memory.
+    /// Takes note of one more event. The only error is running out of memory.
     fn note(&mut self, event: Event) -> Result<(), AllocError>
         requires few { self.old.cut < most_cut }
         requires spent { AreCosts self.old.cut self.old.spent }
@@ -114,7 +114,7 @@ impl Kept {
         Ok(())
     }
 
-    /// What is kept after these events too. The only error is want of memory.
+    /// What is kept after these events too. The only error is running out of memory.
     pub(crate) fn after(&self, events: &[Event]) -> Result<Kept, AllocError>
         requires few { self.now.cut + length events.now ≤ most_cut }
         requires spent { AreCosts self.now.cut self.now.spent }

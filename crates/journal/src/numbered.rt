@@ -39,7 +39,7 @@ impl Numbered {
         }
     }
 
-    /// Joins the timestamp into that of this number. The only error is want of memory.
+    /// Joins the timestamp into that of this number. The only error is running out of memory.
     pub(crate) fn join(&mut self, number: usize, clock: &Clock) -> Result<(), AllocError>
         ensures { OnOk result (IsJoinedAt (kept_entry self.old) (kept_entry self.new) number
             (slice_index clock.now)) }

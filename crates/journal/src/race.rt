@@ -125,7 +125,7 @@ struct Accesses {
 }
 
 impl Accesses {
-    /// Before the first event. The only error is want of memory.
+    /// Before the first event. The only error is running out of memory.
     fn new(alloc: Global, addresses: usize) -> Result<Accesses, AllocError>
         ensures { IfOk result (λ x. AreAccesses [] addresses x) }
     {
@@ -236,7 +236,7 @@ impl Accesses {
 }
 
 /// The pair of the first race of these events: the least second place, and with it the least first one;
-/// None where no events race. The only error is want of memory.
+/// None where no events race. The only error is running out of memory.
 ///
 /// Before the first race all stores of an address happen before the last one, or are it. So a timestamp that
 /// counts the last store's interval counts them all, and of the loads since then mostly the last one is enough

@@ -104,7 +104,7 @@ pub struct ReachTable {
 
 impl ReachTable {
     /// The table of these events, by the definition: each row is the union of its sources' rows, and the
-    /// sources. The only error is want of memory.
+    /// sources. The only error is running out of memory.
     ///
     /// Of n events it takes n * n bytes, and time in the order of n * n * n: for hundreds of events.
     pub fn new(alloc: Global, events: &[Event]) -> Result<ReachTable, AllocError>

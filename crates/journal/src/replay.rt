@@ -38,7 +38,7 @@ fn do_events(memory: &mut [u32], events: &[Event]) -> bool
 }
 
 /// The memory after these events are done to it in their order, from the base; None where some load's
-/// reply isn't its word at that place. The only error is want of memory.
+/// reply isn't its word at that place. The only error is running out of memory.
 pub(crate) fn replay_of(
     alloc: Global,
     base: &[u32],

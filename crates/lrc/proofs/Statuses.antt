@@ -1,7 +1,7 @@
 -- What a status tells of the fault.
 use Rattle.std.proofs.Common.{◌≡◌, ◌≢◌, ◌∙◌, ℕ, inl, inr, sym, refl, arith}
-use Rattle.lrc_run.specs.declared.cause.Cause.{Cause}
-use Rattle.lrc_run.specs.declared.cause.Cause.TheVariants.{Stuck, Gate, Thread, Refused}
+use Rattle.runs.specs.declared.cause.Cause.{Cause}
+use Rattle.runs.specs.declared.cause.Cause.TheVariants.{Stuck, Gate, Thread, Refused}
 use Rattle.lrc.specs.declared.fault.ProgramFault.{ProgramFault}
 use Rattle.lrc.specs.declared.fault.ProgramFault.TheVariants.{Unreadable, Script, Run, Output, NoMemory}
 use Rattle.lrc.specs.Statuses.{status_of_cause, status_of, IsStatusOf, IsScripts, IsBeforeOutput}

@@ -6,7 +6,7 @@ use Rattle.lrc_script.specs.Plan.{Plan}
 use Rattle.lrc_script.specs.Text.{text}
 use Rattle.lrc_report.specs.declared.report.Report.{Report}
 use Rattle.lrc_report.specs.ReportText.{report_text}
-use Rattle.lrc_run.specs.Runs.{IsReportOf}
+use Rattle.runs.specs.Reports.{IsReportOf}
 
 -- the script that was read is lawful, and its text is all that the source had
 pub record IsRead (source : Option (List ℕ)) (s : Plan) : Type 0 where

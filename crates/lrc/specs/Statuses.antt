@@ -1,7 +1,7 @@
 -- The exit statuses.
 use Rattle.std.specs.Prelude.{ℕ, ◌≡◌, ◌⊎◌, ⊤}
-use Rattle.lrc_run.specs.declared.cause.Cause.{Cause}
-use Rattle.lrc_run.specs.declared.cause.Cause.TheVariants.{Stuck}
+use Rattle.runs.specs.declared.cause.Cause.{Cause}
+use Rattle.runs.specs.declared.cause.Cause.TheVariants.{Stuck}
 use Rattle.lrc.specs.declared.fault.ProgramFault.{ProgramFault}
 use Rattle.lrc.specs.declared.fault.ProgramFault.TheVariants.{Unreadable, Script, Run, Output, NoMemory}
 
@@ -17,7 +17,7 @@ status_of (Script line fault) = 2
 status_of (Run fault) = status_of_cause fault.cause
 status_of _ = 4
 
--- the status of a fault, or that of want of memory where there was none to say it
+-- the status of a fault, or that of running out of memory where there was none to say it
 abbrev pub IsStatusOf : ProgramFault → ℕ → Type 0
 IsStatusOf fault status = (status ≡ status_of fault) ⊎ (status ≡ status_of NoMemory)
 

@@ -9,7 +9,7 @@
 //! and but for 4 a report is written whole or not at all. Each fault has its status (`status_of`).
 //!
 //! **What is only tested**, by whole runs of the program. The texts of faults, help and usage, which fault is met, that
-//! the lock and the seed that the words ask for are used, and that memory isn't wanted needlessly. No contract sees what a
+//! the lock and the seed that the words ask for are used, and that no call allocates without need. No contract sees what a
 //! file or a standard stream has.
 #![tactic(auto)]
 

@@ -29,10 +29,10 @@ use Rattle.replicas.specs.Local.{Local}
 use Rattle.cluster.specs.Clusters.{Shared}
 use Rattle.cluster.specs.Finishing.{HasCallsOf, IsFinished, IsProcessorOf}
 use Rattle.lrc_report.specs.declared.report.Report.{Report}
-use Rattle.lrc_run.specs.Cuts.{HasNoCut}
+use Rattle.runs.specs.Cuts.{HasNoCut}
 use Rattle.lrc_run.specs.Endings.{HasFollowed, HaveFollowed}
 use Rattle.lrc_run.specs.Laws.{RaceFreeReportLaw}
-use Rattle.lrc_run.specs.Runs.{HasRace, IsReportOf}
+use Rattle.runs.specs.Reports.{HasRace, IsReportOf}
 use Rattle.lrc_run.specs.Walks.{AreWalked, Loads, Walks, new_at}
 
 -- one that walked is its cluster's

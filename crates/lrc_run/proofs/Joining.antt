@@ -6,7 +6,7 @@ use Rattle.lists.proofs.Places.{push_cases, slice_get-append_left, slice_get-las
 use Rattle.lrc_script.specs.declared.script.Instruction.{Instruction}
 use Rattle.replicas.specs.Local.{Local}
 use Rattle.cluster.specs.Clusters.{Shared, AreNew}
-use Rattle.lrc_run.specs.declared.cause.Cause.{Cause}
+use Rattle.runs.specs.declared.cause.Cause.{Cause}
 use Rattle.lrc_run.specs.Threads.{Errand, AreOutcomes, AreOutcomesOf, AreStarted, IsOutcomeOf}
 use Rattle.lrc_run.specs.Walks.{AreWalked, Walks, new_at}
 

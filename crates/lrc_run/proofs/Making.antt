@@ -22,7 +22,7 @@ use Rattle.cluster.specs.Accesses.{IsStored, IsFetched}
 use Rattle.cluster.specs.Calls.{IsSameProcessor, IsCall}
 use Rattle.cluster.specs.Closing.{IsClosedBy}
 use Rattle.cluster.specs.Taking.{awaited_event}
-use Rattle.lrc_run.specs.Cuts.{HasCut}
+use Rattle.runs.specs.Cuts.{HasCut}
 use Rattle.lrc_run.specs.Walks.{made, Makes, MakesBut, Tries, Does, Begins, IsOnItsWay, Takes, DoesAll, Walks}
 
 pub same_then : (l m n : Local) → IsSameProcessor l m → IsSameProcessor m n → IsSameProcessor l n

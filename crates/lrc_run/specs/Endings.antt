@@ -10,7 +10,7 @@ use Rattle.follows.specs.Instructions.{AreEventsOfAll}
 use Rattle.replicas.specs.Local.{Local}
 use Rattle.cluster.specs.Clusters.{Shared}
 use Rattle.cluster.specs.Finishing.{AreAllOf}
-use Rattle.lrc_run.specs.Cuts.{HasCut}
+use Rattle.runs.specs.Cuts.{HasCut}
 use Rattle.lrc_run.specs.Walks.{made}
 
 -- all that a processor made is its section, the closing barrier and these loads, and it cut nothing off but by a cut of

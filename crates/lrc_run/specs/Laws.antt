@@ -5,7 +5,7 @@ use Rattle.lrc_script.specs.Lawful.{addresses}
 use Rattle.lrc_script.specs.Plan.{Plan}
 use Rattle.follows.specs.Recomputed.{NeverRaces}
 use Rattle.lrc_report.specs.declared.report.Report.{Report}
-use Rattle.lrc_run.specs.Runs.{IsReportOf}
+use Rattle.runs.specs.Reports.{IsReportOf}
 
 -- the report of a script that never races on one flat memory tells of no race, and its history replays on one
 abbrev pub RaceFreeReportLaw : Type 0

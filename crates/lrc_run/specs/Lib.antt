@@ -1,10 +1,8 @@
-pub mod Cuts
 pub mod Walks
 pub mod Waiting
 pub mod Steps
 pub mod Orders
 pub mod Endings
-pub mod Runs
 pub mod Laws
 pub mod Faults
 pub mod Threads

@@ -3,7 +3,7 @@ pub use Rattle.lrc_run.specs.Walks.{AreWalked, Does, IsOnItsWay, Loads, Makes, T
 pub use Rattle.lrc_run.specs.Steps.{AreOnTheirWay, IsAt, instruction_at, progress_after}
 pub use Rattle.lrc_run.specs.Orders.{AreBelow, ordered}
 pub use Rattle.lrc_run.specs.Endings.{HaveFollowed}
-pub use Rattle.lrc_run.specs.Runs.{IsReportOf}
+pub use Rattle.runs.specs.Reports.{IsReportOf}
 pub use Rattle.lrc_run.specs.Laws.{RaceFreeReportLaw}
 pub use Rattle.lrc_run.specs.Faults.{IsFaultOf, IsFirstSo, NoneFailed, NoneFailedSo, is_stuck}
 pub use Rattle.lrc_run.specs.Threads.{AreOutcomes, AreOutcomesOf, AreStarted, Errand, IsOutcomeOf}

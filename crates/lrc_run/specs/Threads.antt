@@ -3,8 +3,8 @@ use Rattle.std.specs.Prelude.{ℕ, ◌≡◌, Option, Some, None, List, Result, 
 use Rattle.lrc_script.specs.declared.script.Instruction.{Instruction}
 use Rattle.replicas.specs.Local.{Local}
 use Rattle.cluster.specs.Clusters.{Shared}
-use Rattle.lrc_run.specs.declared.cause.Cause.{Cause}
-use Rattle.lrc_run.specs.declared.cause.Cause.TheVariants.{Thread}
+use Rattle.runs.specs.declared.cause.Cause.{Cause}
+use Rattle.runs.specs.declared.cause.Cause.TheVariants.{Thread}
 use Rattle.lrc_run.specs.Walks.{Walks, new_at}
 
 -- each has, or went no further

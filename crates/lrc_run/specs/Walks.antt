@@ -11,7 +11,7 @@ use Rattle.replicas.specs.Local.{Local, calls, new_local}
 use Rattle.cluster.specs.Calls.{IsSameProcessor}
 use Rattle.cluster.specs.Clusters.{Shared}
 use Rattle.cluster.specs.Taking.{awaited_event}
-use Rattle.lrc_run.specs.Cuts.{HasCut}
+use Rattle.runs.specs.Cuts.{HasCut}
 
 -- a processor's accepted calls, its fetches aside
 abbrev pub made : Local → List Kind

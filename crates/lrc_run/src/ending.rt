@@ -5,7 +5,7 @@ ghost use Rattle.follows.specs.Prelude.{sizes_of};
 ghost use Rattle.cluster.specs.Prelude.{AreAllOf};
 ghost use Rattle.lrc_run.specs.Prelude.{HaveFollowed, IsReportOf, AreWalked};
 
-use crate::cause::Cause;
+use runs::Cause;
 use crate::shown::show;
 use book::Book;
 use cluster::{Cluster, Processor, Rule};

@@ -1,4 +1,7 @@
 //! A gate that each instruction of a script passes before it is done.
+ghost use Rattle.std.specs.Prelude.{◌≡◌};
+
+use runs::Cause;
 
 /// The gate's answer that a processor is to go no further.
 #[derive(Clone, Copy)]
@@ -17,5 +20,15 @@ pub struct Open;
 impl Gate for Open {
     fn pass(&self, _processor: usize, _instruction: usize) -> Result<(), Stopped> {
         Ok(())
+    }
+}
+
+impl From<Stopped> for Cause {
+    ghost use Rattle.runs.specs.declared.cause.Cause.TheVariants as cause;
+
+    ghost from_gives = { λ _ r. r ≡ cause.Gate };
+
+    fn from(_stopped: Stopped) -> Cause {
+        Cause::Gate
     }
 }

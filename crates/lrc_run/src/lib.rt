@@ -13,7 +13,6 @@
 //! side; that the gate is asked before each instruction; the schedule of `step`, and which processor it tells as stuck.
 #![tactic(auto)]
 
-mod cause;
 mod ending;
 mod faults;
 mod gate;
@@ -24,8 +23,8 @@ mod shown;
 mod step;
 mod walk;
 
-pub use cause::{Cause, RunFault};
 pub use gate::{Gate, Open, Stopped};
 pub use orders::order;
 pub use run::{run, run_with};
+pub use runs::{Cause, RunFault};
 pub use step::{step, step_with};

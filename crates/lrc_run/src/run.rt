@@ -7,7 +7,7 @@ ghost use Rattle.lrc_run.specs.Prelude.{IsReportOf, AreOutcomes};
 mod threads;
 
 use self::threads::walk_all;
-use crate::cause::{Cause, RunFault};
+use runs::{Cause, RunFault};
 use crate::ending::conclude;
 use crate::faults::gathered;
 use crate::gate::Gate;

@@ -8,7 +8,7 @@ ghost use Rattle.lrc_run.specs.Prelude.{AreBelow, IsReportOf, AreOnTheirWay, Are
 mod turns;
 
 use self::turns::{Progress, take_turn};
-use crate::cause::{Cause, RunFault};
+use runs::{Cause, RunFault};
 use crate::ending::conclude;
 use crate::orders::order;
 use book::Book;

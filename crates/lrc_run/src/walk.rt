@@ -8,7 +8,7 @@ mod instructions;
 
 pub(crate) use self::accesses::load;
 pub(crate) use self::instructions::{begin, end};
-use crate::cause::Cause;
+use runs::Cause;
 use crate::gate::Gate;
 use book::Book;
 use cluster::{Cluster, Processor, Rule};

@@ -9,7 +9,7 @@
 //! `MOST_BYTES` bytes (module `laws`); `draw::guarded` and `draw::free` give lawful scripts by the stated draws.
 //!
 //! **What is only tested** (in `lrc_script_tests`): which fault is answered among several on one line, the texts of the
-//! faults, and that memory isn't wanted needlessly: at the limits of a script, for long lines and for each number.
+//! faults, and that no call allocates without need: at the limits of a script, for long lines and for each number.
 #![tactic(auto)]
 
 mod display;

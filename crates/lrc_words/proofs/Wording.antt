@@ -134,7 +134,7 @@ pub is_fault : {T : Type 0} (kinds : Kinds) (r : Result T Error) (e : Error) →
     → HasKind kinds e
 is_fault kinds r e was fails = rw was at fails
 
--- want of memory refuses any words
+-- running out of memory refuses any words
 pub out_of_memory : (locks : ValueParser) (words : List Text) (e : Error)
     → TakesNames (codes "array" ∷ codes "ticket" ∷ []) locks → kind_of e ≡ OutOfMemory → IsRefusedBy words e
 out_of_memory locks words e are is = record { locks = locks; locks_are = are; kind = inl is }

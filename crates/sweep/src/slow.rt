@@ -262,7 +262,7 @@ fn uneven_line(lines: &[Line]) -> Option<usize> {
     None
 }
 
-/// What the grammar says of the bytes. The only error is want of memory.
+/// What the grammar says of the bytes. The only error is running out of memory.
 pub fn read_slowly(alloc: Global, bytes: &[u8]) -> Result<Finding, AllocError> {
     let lines = whole_lines(alloc, bytes)?;
     for (place, line) in lines.iter().enumerate() {

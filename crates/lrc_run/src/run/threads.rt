@@ -5,7 +5,7 @@ ghost use Rattle.lrc_script.specs.Prelude.{items_of};
 ghost use Rattle.cluster.specs.Prelude.{AreNew};
 ghost use Rattle.lrc_run.specs.Prelude.{AreOutcomes, AreOutcomesOf, AreStarted, IsOutcomeOf, Walks};
 
-use crate::cause::Cause;
+use runs::Cause;
 use crate::gate::Gate;
 use crate::walk::walk;
 use book::Book;

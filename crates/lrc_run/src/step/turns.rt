@@ -3,7 +3,7 @@ ghost use Rattle.std.specs.Prelude.{◌≡◌, ◌≤◌, IfOk, length, All, IsT
 ghost use Rattle.replicas.specs.Prelude.{Local};
 ghost use Rattle.lrc_run.specs.Prelude.{IsAt, instruction_at, progress_after, IsOnItsWay};
 
-use crate::cause::Cause;
+use runs::Cause;
 use crate::walk::{begin, end};
 use book::Book;
 use cluster::{Cluster, Processor, Rule};

@@ -7,7 +7,7 @@ ghost use Rattle.lrc_script.specs.declared.script.Instruction.TheVariants as ins
 ghost use Rattle.lrc_run.specs.Waiting.{waits};
 
 use super::accesses::{add, load, store};
-use crate::cause::Cause;
+use runs::Cause;
 use book::{Book, Refused};
 use cluster::{Cluster, Processor, Rule};
 use lrc_script::script::Instruction;

@@ -69,7 +69,7 @@ fn scripts_are_read_and_printed(rt: HostRuntime) -> Result<(), Fail> {
     Ok(())
 }
 
-/// A fault is the same one, or want of memory is told with a line up to the fault's.
+/// A fault is the same one, or running out of memory is told with a line up to the fault's.
 #[test]
 fn faults_are_found(rt: HostRuntime) -> Result<(), Fail> {
     let text = "cluster 2 1 1 1/p 0/acquire 0/add 0 1/release 0/release 0/p 1/show 0/";

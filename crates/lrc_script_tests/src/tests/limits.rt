@@ -1,5 +1,5 @@
 //! The limits of a script: what lies within them is read, however large, and a long line has its own
-//! fault. No clause says that memory isn't wanted needlessly: `NoMemory` is proved wherever it is answered.
+//! fault. No clause says that no call allocates without need: `NoMemory` is proved wherever it is answered.
 
 use super::bytes_of;
 use lrc_script::fault::ScriptFault;

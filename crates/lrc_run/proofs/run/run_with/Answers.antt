@@ -1,6 +1,6 @@
 use Rattle.std.proofs.Common.{rules}
 use Rattle.lrc_script.specs.Plan.{items_of, plan_of}
-use Rattle.lrc_run.specs.Runs.{IsReportOf}
+use Rattle.runs.specs.Reports.{IsReportOf}
 use Rattle.lrc_run.specs.Threads.{AreOutcomes}
 use Rattle.lrc_run.proofs.Failing.{told_ok}
 use Rattle.lrc_run.proofs.Joining.{all_walked}

@@ -1,5 +1,5 @@
 use Rattle.lrc_script.specs.Plan.{plan_of}
-use Rattle.lrc_run.specs.Runs.{IsReportOf}
+use Rattle.runs.specs.Reports.{IsReportOf}
 use Rattle.lrc_run.proofs.Failing.{told_ok}
 use Rattle.lrc_run.proofs.step.step_with.Goals as goal
 

@@ -1,7 +1,6 @@
 //! How a run of a script ends without a report.
 ghost use Rattle.std.specs.Prelude.{◌≡◌};
 
-use crate::gate::Stopped;
 use book::Refused;
 use std::alloc::AllocError;
 use thiserror::Error;
@@ -23,18 +22,8 @@ pub enum Cause {
     Refused(Refused),
 }
 
-impl From<Stopped> for Cause {
-    ghost use Rattle.lrc_run.specs.declared.cause.Cause.TheVariants as cause;
-
-    ghost from_gives = { λ _ r. r ≡ cause.Gate };
-
-    fn from(_stopped: Stopped) -> Cause {
-        Cause::Gate
-    }
-}
-
 impl From<Refused> for Cause {
-    ghost use Rattle.lrc_run.specs.declared.cause.Cause.TheVariants as cause;
+    ghost use Rattle.runs.specs.declared.cause.Cause.TheVariants as cause;
 
     ghost from_gives = { λ e r. r ≡ cause.Refused e };
 
@@ -44,7 +33,7 @@ impl From<Refused> for Cause {
 }
 
 impl From<AllocError> for Cause {
-    ghost use Rattle.lrc_run.specs.declared.cause.Cause.TheVariants as cause;
+    ghost use Rattle.runs.specs.declared.cause.Cause.TheVariants as cause;
     ghost use Rattle.book.specs.declared.refused.Refused.TheVariants as refused;
 
     ghost from_gives = { λ _ r. r ≡ cause.Refused refused.NoMemory };

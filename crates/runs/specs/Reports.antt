@@ -13,7 +13,7 @@ use Rattle.lrc_script.specs.Plan.{Plan}
 use Rattle.lrc_report.specs.declared.report.Report.{Report}
 use Rattle.follows.specs.Follows.{sizes_of, Follows, calls_of, load_of}
 use Rattle.follows.specs.Recomputed.{IsRecomputed}
-use Rattle.lrc_run.specs.Cuts.{HasNoCut}
+use Rattle.runs.specs.Cuts.{HasNoCut}
 
 -- some two accesses race
 abbrev pub HasRace : List Event → Type 0

@@ -1,0 +1,14 @@
+//! What a run of a script is: its report, why it ends without one, and the contract of what runs scripts.
+//!
+//! **What contracts see.** A script as its plan. A `Report` (of `lrc_report`) is one of the plan (`IsReportOf`) where its
+//! journal has the plan's sizes and holds what is left, after some of it was cut off, of a history that is well formed and
+//! explained and follows the plan; the verdict, the shown words and the traffic are those of the whole history (`Tells`).
+//!
+//! Crate `lrc_run` runs scripts; the program is proved over `Runs` beside it, and waits for none of its proofs.
+#![tactic(auto)]
+
+mod cause;
+mod runs;
+
+pub use cause::{Cause, RunFault};
+pub use runs::{Lock, Runs};

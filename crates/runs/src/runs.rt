@@ -1,0 +1,44 @@
+//! What runs scripts.
+ghost use Rattle.std.specs.Prelude.{◌<◌, IfOk};
+ghost use Rattle.lrc_script.specs.Prelude.{IsLawful, plan_of};
+ghost use Rattle.runs.specs.Prelude.{IsReportOf};
+
+use crate::cause::RunFault;
+use lrc_report::Report;
+use lrc_script::script::Script;
+use std::alloc::Global;
+
+/// Which lock stands round the book.
+#[derive(Clone, Copy, Debug, PartialEq, Eq)]
+pub enum Lock {
+    /// The array lock.
+    Array,
+    /// The ticket lock.
+    Ticket,
+}
+
+/// Runs lawful scripts. Whatever it answers is a report of the script.
+pub trait Runs {
+    /// Runs the script with a thread for each processor. What a processor waits for is tried for `tries` times in a row.
+    fn run(
+        &self,
+        alloc: Global,
+        script: &Script,
+        lock: Lock,
+        tries: u64,
+    ) -> Result<Report, RunFault>
+        requires tries { 0 < tries }
+        requires lawful { IsLawful (plan_of script.now) }
+        ensures { IfOk result (IsReportOf (plan_of script.now)) };
+
+    /// Runs the script by turns on one thread, in the orders that the seed draws, or by rising number without one.
+    fn step(
+        &self,
+        alloc: Global,
+        script: &Script,
+        lock: Lock,
+        seed: Option<u64>,
+    ) -> Result<Report, RunFault>
+        requires { IsLawful (plan_of script.now) }
+        ensures { IfOk result (IsReportOf (plan_of script.now)) };
+}
