@@ -1,10 +1,15 @@
 -- What a call leaves of a processor.
-use Rattle.std.proofs.Common.{ℕ, Option, List, ◌∙◌}
+use Rattle.std.proofs.Common.{ℕ, ◌≡◌, Bool, Option, Result, Ok, Err, OnErr, OnOk, IfOk, List, refl, sym, ap, subst, ◌∙◌}
+use Rattle.std.specs.Result.{result_err}
 use Rattle.journal.specs.declared.event.Event.{Event}
+use Rattle.journal.specs.declared.event.Kind.TheVariants.{Load}
 use Rattle.book.specs.declared.refused.Refused.{Refused}
-use Rattle.replicas.specs.Local.{Local}
+use Rattle.replicas.specs.Copies.{Copied}
+use Rattle.replicas.specs.Local.{Local, calls, noted}
+use Rattle.cluster.specs.Accesses.{IsFetched}
 use Rattle.cluster.specs.Calls.{IsCall}
 use Rattle.cluster.specs.Clusters.{Shared}
+use Rattle.cluster.specs.Covers.{Covers, IsAllowed}
 use Rattle.cluster.specs.Cutting.{IsCuttingCall}
 use Rattle.cluster_uses.specs.Crews.{IsOf, IsStep}
 
@@ -36,3 +41,51 @@ by_cut c old new refused own call = record {
   number = call.same.number;
   kept = λ _. call.calls_are;
 }
+
+-- what it does by itself leaves which books are allowed
+by_itself : (c : Shared) (old new : Local) (block : List Event) (copies : List Copied) (stored : List Bool)
+    → IsOf c old → new ≡ record old { block = block; copies = copies; stored = stored } → Covers new → IsOf c new
+by_itself c old new block copies stored own is covers = record {
+  lock_is = ap (λ (m : Local). m.lock) is ∙ own.lock_is;
+  sizes_are = ap (λ (m : Local). m.sizes) is ∙ own.sizes_are;
+  allowed =
+      subst IsAllowed (sym is) (
+        own.allowed.0,
+        record {
+          book = own.allowed.1.book;
+          views = own.allowed.1.views;
+          mine = own.allowed.1.mine;
+          kept = own.allowed.1.kept;
+        },
+      );
+  covers = covers;
+}
+
+-- a refused access leaves it as it was
+by_refusal : (c : Shared) (old new : Local) (refused : Option Refused) → IsOf c old → new ≡ old
+    → IsStep c old new refused
+by_refusal c old new refused own is = record {
+  own = subst (IsOf c) (sym is) own;
+  number = ap (λ (m : Local). m.number) is;
+  kept = λ _. ap calls is;
+}
+
+-- a load
+pub by_load : (c : Shared) (old new : Local) (a : ℕ) (r : Result ℕ Refused) → IsOf c old → OnErr r (new ≡ old)
+    → IfOk r (λ v. new ≡ noted old (Load a v)) → Covers new → IsStep c old new (result_err r)
+by_load c old new a (Ok v) own err ok covers = record {
+  own = by_itself c old new (noted old (Load a v)).block old.copies old.stored own ok covers;
+  number = ap (λ (m : Local). m.number) ok;
+  kept = λ some. absurd (some refl);
+}
+by_load c old new a (Err e) own err ok covers = by_refusal c old new (result_err {T = ℕ} (Err e)) own err
+
+-- a fetch
+pub by_fetch : {A : Type 0} (c : Shared) (old new : Local) (n : ℕ) (r : Result A Refused) → IsOf c old
+    → OnErr r (new ≡ old) → OnOk r (IsFetched old n new) → Covers new → IsStep c old new (result_err r)
+by_fetch c old new n (Ok x) own err ok covers = record {
+  own = by_itself c old new _ _ old.stored own ok.after covers;
+  number = ap (λ (m : Local). m.number) ok.after;
+  kept = λ some. absurd (some refl);
+}
+by_fetch {A} c old new n (Err e) own err ok covers = by_refusal c old new (result_err {T = A} (Err e)) own err

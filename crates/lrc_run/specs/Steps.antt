@@ -4,8 +4,8 @@ use Rattle.lrc_script.specs.declared.script.Instruction.{Instruction}
 use Rattle.lrc_script.specs.declared.script.Instruction.TheVariants.{Barrier}
 use Rattle.replicas.specs.Local.{Local}
 use Rattle.cluster.specs.Clusters.{Shared}
-use Rattle.lrc_run.specs.declared.step.turns.Progress.{Progress}
-use Rattle.lrc_run.specs.declared.step.turns.Progress.TheVariants.{Next, Waits, Passed}
+use Rattle.lrc_run.specs.declared.steps.turns.Progress.{Progress}
+use Rattle.lrc_run.specs.declared.steps.turns.Progress.TheVariants.{Next, Waits, Passed}
 use Rattle.lrc_run.specs.Walks.{DoesAll, Begins, Walks, new_at}
 
 -- instruction n of a section; after the last one the closing barrier

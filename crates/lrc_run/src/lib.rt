@@ -18,13 +18,13 @@ mod faults;
 mod gate;
 pub mod laws;
 mod orders;
-mod run;
+mod running;
 mod shown;
-mod step;
+mod steps;
 mod walk;
 
 pub use gate::{Gate, Open, Stopped};
 pub use orders::order;
-pub use run::{run, run_with};
+pub use running::{run, run_with};
 pub use runs::{Cause, RunFault};
-pub use step::{step, step_with};
+pub use steps::{step, step_with};

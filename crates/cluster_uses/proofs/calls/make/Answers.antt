@@ -1,4 +1,4 @@
-use Rattle.cluster_uses.proofs.Stepping.{by_call, by_cut}
+use Rattle.cluster_uses.proofs.Stepping.{by_call, by_cut, by_fetch}
 use Rattle.cluster_uses.proofs.calls.make.Goals as goal
 
 pub returns-in-Ask : goal.returns-in-Ask
@@ -27,3 +27,8 @@ returns-in-Take g c = rw c.done-in-Take.ensures (by_call _ _ _ _ _ _ _ _ _ c.req
 
 pub returns-in-Cut : goal.returns-in-Cut
 returns-in-Cut g c = rw c.done-in-Cut.ensures (by_cut _ _ _ _ c.requires c.cut.ensures)
+
+pub returns-in-Fetch : goal.returns-in-Fetch
+returns-in-Fetch g c =
+    rw c.done-in-Fetch.ensures (by_fetch c.args.cluster.now c.args.processor.now c.fetch.new.self c.in-Fetch.page
+    c.fetch.result c.requires c.fetch.ensures.err c.fetch.ensures.ok c.fetch.ensures.covers)

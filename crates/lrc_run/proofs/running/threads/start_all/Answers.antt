@@ -4,7 +4,7 @@ use Rattle.std.specs.Vec.Iter.{into_iter_items}
 use Rattle.cluster.proofs.FinishingCalls.{mapped_at}
 use Rattle.lrc_script.specs.Plan.{items_of}
 use Rattle.lrc_run.proofs.Joining.{behind, started_more}
-use Rattle.lrc_run.proofs.run.threads.start_all.Goals as goal
+use Rattle.lrc_run.proofs.running.threads.start_all.Goals as goal
 
 pub start-thread-requires : goal.start-thread-requires
 start-thread-requires g c =

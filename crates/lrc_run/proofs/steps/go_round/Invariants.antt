@@ -1,7 +1,7 @@
 use Rattle.std.proofs.Common.{◌≡◌, vec_len}
 use Rattle.lrc_script.specs.Plan.{plan_of}
 use Rattle.lrc_run.specs.Steps.{AreOnTheirWay}
-use Rattle.lrc_run.proofs.step.go_round.Given as goal
+use Rattle.lrc_run.proofs.steps.go_round.Given as goal
 
 abbrev pub invariant-loop : goal.invariant-loop
 invariant-loop g l = record {

@@ -4,7 +4,7 @@ use Rattle.runs.specs.Reports.{IsReportOf}
 use Rattle.lrc_run.specs.Threads.{AreOutcomes}
 use Rattle.lrc_run.proofs.Failing.{told_ok}
 use Rattle.lrc_run.proofs.Joining.{all_walked}
-use Rattle.lrc_run.proofs.run.run_with.Goals as goal
+use Rattle.lrc_run.proofs.running.run_with.Goals as goal
 
 pub conclude-requires-clause-walked : goal.conclude-requires-clause-walked
 conclude-requires-clause-walked g c κs within =

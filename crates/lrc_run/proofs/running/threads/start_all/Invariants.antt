@@ -2,7 +2,7 @@ use Rattle.std.proofs.Common.{◌≡◌, ◌≤◌, ◌++◌, vec_len, vec_capac
 use Rattle.std.specs.Vec.Iter.{into_iter_items}
 use Rattle.lrc_script.specs.Plan.{items_of}
 use Rattle.lrc_run.specs.Threads.{AreStarted}
-use Rattle.lrc_run.proofs.run.threads.start_all.Given as goal
+use Rattle.lrc_run.proofs.running.threads.start_all.Given as goal
 
 abbrev pub invariant-loop-processor : goal.invariant-loop-processor
 invariant-loop-processor g l = record {

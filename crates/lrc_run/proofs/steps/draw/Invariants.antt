@@ -1,6 +1,6 @@
 use Rattle.std.proofs.Common.{ℕ, ◌≡◌, ◌<◌, length}
 use Rattle.std.specs.Prelude.{slice_index}
-use Rattle.lrc_run.proofs.step.draw.Given as goal
+use Rattle.lrc_run.proofs.steps.draw.Given as goal
 
 abbrev pub invariant-loop-place : goal.invariant-loop-place
 invariant-loop-place l = record {

@@ -1,7 +1,7 @@
 use Rattle.std.proofs.Common.{◌≡◌, ◌≤◌, ◌++◌, vec_len, vec_capacity}
 use Rattle.std.specs.Vec.Iter.{into_iter_items}
 use Rattle.lrc_run.specs.Threads.{AreOutcomesOf}
-use Rattle.lrc_run.proofs.run.threads.join_all.Given as goal
+use Rattle.lrc_run.proofs.running.threads.join_all.Given as goal
 
 abbrev pub invariant-loop-thread : goal.invariant-loop-thread
 invariant-loop-thread g l = record {

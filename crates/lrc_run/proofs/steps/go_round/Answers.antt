@@ -1,10 +1,10 @@
 use Rattle.std.proofs.Common.{◌≡◌, List, length, subst, arith}
 use Rattle.std.specs.Prelude.{All}
 use Rattle.lrc_script.specs.Plan.{plan_of}
-use Rattle.lrc_run.specs.declared.step.turns.Progress.{Progress}
-use Rattle.lrc_run.specs.declared.step.turns.Progress.TheVariants.{Passed}
+use Rattle.lrc_run.specs.declared.steps.turns.Progress.{Progress}
+use Rattle.lrc_run.specs.declared.steps.turns.Progress.TheVariants.{Passed}
 use Rattle.lrc_run.proofs.Stepping.{all_begin, all_passed}
-use Rattle.lrc_run.proofs.step.go_round.Goals as goal
+use Rattle.lrc_run.proofs.steps.go_round.Goals as goal
 
 pub loop-init : goal.loop-init
 loop-init g c =

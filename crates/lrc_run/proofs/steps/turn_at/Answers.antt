@@ -2,7 +2,7 @@ use Rattle.std.proofs.Common.{◌<◌, length, refl, arith}
 use Rattle.std.proofs.lemmas.Option.{slice_get_read}
 use Rattle.lrc_script.specs.Plan.{plan_of}
 use Rattle.lrc_run.proofs.Stepping.{all_turned, own_at, progress_read, section_read}
-use Rattle.lrc_run.proofs.step.turn_at.Goals as goal
+use Rattle.lrc_run.proofs.steps.turn_at.Goals as goal
 
 pub take_turn-requires-clause-own : goal.take_turn-requires-clause-own
 take_turn-requires-clause-own g c κs within =

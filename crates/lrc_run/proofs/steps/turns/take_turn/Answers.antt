@@ -1,10 +1,10 @@
 use Rattle.std.proofs.Common.{subst, sym}
 use Rattle.lrc_script.specs.declared.script.Instruction.{Instruction}
-use Rattle.lrc_run.specs.declared.step.turns.Progress.{Progress}
+use Rattle.lrc_run.specs.declared.steps.turns.Progress.{Progress}
 use Rattle.lrc_run.specs.Steps.{IsAt}
 use Rattle.lrc_run.specs.Walks.{IsOnItsWay}
 use Rattle.lrc_run.proofs.Stepping.{after_instruction, after_look}
-use Rattle.lrc_run.proofs.step.turns.take_turn.Goals as goal
+use Rattle.lrc_run.proofs.steps.turns.take_turn.Goals as goal
 
 pub returns-in_ok-done-in-Next : goal.returns-in_ok-done-in-Next
 returns-in_ok-done-in-Next g c = λ start at.

@@ -1,7 +1,7 @@
 use Rattle.std.proofs.Common.{◌∷◌, ◌++◌, [], append_assoc, sym, ap, ◌∙◌, arith}
 use Rattle.std.specs.Vec.Iter.{into_iter_items}
 use Rattle.lrc_run.proofs.Joining.{outcomes_more}
-use Rattle.lrc_run.proofs.run.threads.join_all.Goals as goal
+use Rattle.lrc_run.proofs.running.threads.join_all.Goals as goal
 
 pub loop-thread-preserved : goal.loop-thread-preserved
 loop-thread-preserved g c =

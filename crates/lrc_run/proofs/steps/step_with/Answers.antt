@@ -1,7 +1,7 @@
 use Rattle.lrc_script.specs.Plan.{plan_of}
 use Rattle.runs.specs.Reports.{IsReportOf}
 use Rattle.lrc_run.proofs.Failing.{told_ok}
-use Rattle.lrc_run.proofs.step.step_with.Goals as goal
+use Rattle.lrc_run.proofs.steps.step_with.Goals as goal
 
 pub returns : goal.returns
 returns g c =

@@ -1,6 +1,6 @@
 use Rattle.lrc_script.specs.Plan.{items_of}
 use Rattle.lrc_run.proofs.Joining.{outcomes_of}
-use Rattle.lrc_run.proofs.run.threads.fn.walk_all.scope.Goals as goal
+use Rattle.lrc_run.proofs.running.threads.fn.walk_all.scope.Goals as goal
 
 pub returns : goal.returns
 returns g c =
