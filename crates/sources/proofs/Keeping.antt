@@ -1,0 +1,167 @@
+-- What is kept of stores and timestamps, as the journal goes on.
+use Rattle.std.proofs.Common.{◌≡◌, ◌≢◌, ℕ, ◌+◌, ◌-◌, ◌<◌, ◌≤◌, inl, inr, List, [], ◌∷◌, ◌++◌, length, take, Some, slice_get, slice_index, subst, sym, refl, ap, ◌∙◌, false, arith, length-append}
+use Rattle.std.proofs.lemmas.Bool.{cases_eq, cases_lt}
+use Rattle.std.proofs.lemmas.Option.{slice_get_within}
+use Rattle.std.proofs.lemmas.List.{take-append-le}
+use Rattle.std.proofs.Math.Seq.{take-append_seam}
+use Rattle.lists.specs.Places.{Has, InOrder}
+use Rattle.lists.proofs.Places.{push_cases, slice_get-append_left, slice_get-last}
+use Rattle.journal.specs.declared.event.Event.{Event}
+use Rattle.journal.specs.declared.event.Kind.{Kind}
+use Rattle.journal.specs.declared.event.Kind.TheVariants.{Store}
+use Rattle.journal.specs.Did.{did, event}
+use Rattle.journal.specs.Events.{At, count_of, interval_at, is_closing, is_taking}
+use Rattle.journal.specs.WellFormed.{Does}
+use Rattle.journal.specs.Pasts.{InPast}
+use Rattle.journal.specs.Times.{IsTimeOf}
+use Rattle.journal.specs.Entries.{entry}
+use Rattle.journal.proofs.Order.Places.{at_within, at_longer, at_last, count_of-front, does_same}
+use Rattle.journal.proofs.Times.Times.{time_equal}
+use Rattle.journal.proofs.Times.Pushes.{others_keep, own_entry, own_quiet}
+use Rattle.sources.specs.declared.stored.Stored.{Stored}
+use Rattle.sources.specs.Stored.{IsStored, AreStored, IsRecent}
+
+-- more timestamps, and those that there were as before
+pub record AreMore (old new : List (List ℕ)) : Type 0 where
+  pub more : length old ≤ length new
+  pub same : (n q : ℕ) → n < length old → entry new n q ≡ entry old n q
+
+-- one event and no other
+one_away : (e : Event) (p : ℕ) → e.processor ≢ p → (m : ℕ) (f : Event) → At (e ∷ []) m f → f.processor ≢ p
+one_away e p isnt m f at is = elim (push_cases [] e m f at) [
+  | inl none ↦ absurd (omega (arith, none.0))
+  | inr same ↦ isnt (ap (λ (x : Event). x.processor) same.1 ∙ is)
+]
+
+-- a timestamp of another processor is its still
+pub recent_other : (j : List Event) (e : Event) (times : List (List ℕ)) (p n : ℕ) → e.processor ≢ p
+    → IsRecent j times p n → IsRecent (j ++ e ∷ []) times p n
+recent_other j e times p n isnt is there =
+    let old = is there in (old.0, others_keep j (e ∷ []) p (entry times (n - 1)) (one_away e p isnt) old.1)
+
+-- and its own, where the event neither takes nor closes
+pub recent_quiet : (j : List Event) (e : Event) (times : List (List ℕ)) (p n : ℕ) → is_taking e.kind ≡ false
+    → is_closing e.kind ≡ false → IsRecent j times p n → IsRecent (j ++ e ∷ []) times p n
+recent_quiet j e times p n quiet inner is = elim (cases_eq e.processor p) [
+  | inl same ↦ subst (λ x. IsRecent (j ++ e ∷ []) times x n) same (own (subst (λ x. IsRecent j times x n) (sym same) is))
+  | inr isnt ↦ recent_other j e times p n isnt is
+]
+  where
+    own : IsRecent j times e.processor n → IsRecent (j ++ e ∷ []) times e.processor n
+    own old there = let o = old there in (o.0, own_quiet j e (entry times (n - 1)) quiet inner o.1)
+
+-- with more timestamps it stands where it stood
+pub recent_more : (j : List Event) (old new : List (List ℕ)) (p n : ℕ) → AreMore old new → IsRecent j old p n
+    → IsRecent j new p n
+recent_more j old new p n more is there =
+    let was = is there in
+    let m = more.more in
+    let le : n ≤ length old = was.0 in (
+      omega arith,
+      time_equal j (InPast j p) (entry old (n - 1)) (entry new (n - 1))
+          (λ q. sym (more.same (n - 1) q (omega (arith, there)))) was.1,
+    )
+
+pub stored_more : (j : List Event) (old new : List (List ℕ)) (a q : ℕ) (s : Stored) → AreMore old new
+    → IsStored j old a q s → IsStored j new a q s
+stored_more j old new a q s more is = record {
+  value = is.value;
+  does = is.does;
+  interval = is.interval;
+  within = (let m = more.more in let w = is.within in omega arith);
+  time =
+      time_equal (take s.place j) (InPast (take s.place j) q) (entry old s.time) (entry new s.time)
+      (λ r. sym (more.same s.time r is.within)) is.time;
+}
+
+-- a store stays as the journal goes on
+pub stored_longer : (j : List Event) (e : Event) (times : List (List ℕ)) (a q : ℕ) (s : Stored)
+    → IsStored j times a q s → IsStored (j ++ e ∷ []) times a q s
+stored_longer j e times a q s is = record {
+  value = is.value;
+  does = at_longer j (e ∷ []) s.place (event q (Store a is.value)) is.does;
+  interval = (let i = is.interval in let front = count_of-front is_closing j (e ∷ []) s.place q le in omega arith);
+  within = is.within;
+  time = subst (λ xs. IsTimeOf xs q (entry times s.time)) (sym (take-append-le s.place j (e ∷ []) le)) is.time;
+}
+  where
+    le : s.place ≤ length j
+    le = let lt = at_within j s.place (event q (Store a is.value)) is.does in omega arith
+
+-- the stores of an address by a processor stay under more timestamps
+pub are_stored_more : (j : List Event) (old new : List (List ℕ)) (a q : ℕ) (stores : List Stored) → AreMore old new
+    → AreStored j old a q stores → AreStored j new a q stores
+are_stored_more j old new a q stores more are = record {
+  each = λ n s at. stored_more j old new a q s more (are.each n s at);
+  rising = are.rising;
+  all = are.all;
+}
+
+-- and under any event but one more
+pub are_stored_other : (j : List Event) (e : Event) (times : List (List ℕ)) (a q : ℕ) (stores : List Stored)
+    → ((v : ℕ) → e ≢ event q (Store a v)) → AreStored j times a q stores → AreStored (j ++ e ∷ []) times a q stores
+are_stored_other j e times a q stores away are = record {
+  each = λ n s at. stored_longer j e times a q s (are.each n s at);
+  rising = are.rising;
+  all = λ i v does. elim (push_cases j e i (event q (Store a v)) does) [
+    | inl old ↦ are.all i v old.1
+    | inr new ↦ absurd (away v new.1)
+  ];
+}
+
+-- a store that comes next is one more
+pub are_stored_next : (j : List Event) (times : List (List ℕ)) (a q v : ℕ) (stores : List Stored) (s : Stored)
+    → s.place ≡ length j → s.interval ≡ count_of is_closing j q → s.time < length times
+    → IsTimeOf j q (entry times s.time) → AreStored j times a q stores
+    → AreStored (did j q (Store a v)) times a q (stores ++ s ∷ [])
+are_stored_next j times a q v stores s place interval within time are =
+    record { each = each; rising = rising; all = all }
+  where
+    e : Event
+    e = event q (Store a v)
+
+    front : take s.place (did j q (Store a v)) ≡ j
+    front = ap (λ n. take n (did j q (Store a v))) place ∙ take-append_seam j (event q (Store a v) ∷ [])
+
+    last : IsStored (did j q (Store a v)) times a q s
+    last = record {
+      value = v;
+      does = subst (λ n. Does (did j q (Store a v)) n q (Store a v)) (sym place) (at_last j (event q (Store a v)));
+      interval = interval ∙ sym (ap (λ (xs : List Event). count_of is_closing xs q) front);
+      within = within;
+      time = subst (λ xs. IsTimeOf xs q (entry times s.time)) (sym front) time;
+    }
+
+    each : (n : ℕ) (t : Stored) → slice_get (stores ++ s ∷ []) n ≡ Some t → IsStored (did j q (Store a v)) times a q t
+    each n t at = elim (push_cases stores s n t at) [
+      | inl old ↦ stored_longer j (event q (Store a v)) times a q t (are.each n t old.1)
+      | inr new ↦ subst (IsStored (did j q (Store a v)) times a q) new.1 last
+    ]
+
+    rising : InOrder (λ (x y : Stored). x.place < y.place) (stores ++ s ∷ [])
+    rising m n x y lt at to = elim (push_cases stores s n y to) [
+      | inl old ↦ elim (push_cases stores s m x at) [
+        | inl first ↦ are.rising m n x y lt first.1 old.1
+        | inr new ↦ absurd (omega (arith, old.0, new.0, lt))
+      ]
+      | inr new ↦ elim (push_cases stores s m x at) [
+        | inl first ↦
+            (let is = are.each m x first.1 in
+            let within = at_within j x.place (event q (Store a is.value)) is.does in
+            let same = ap (λ (z : Stored). z.place) new.1 in
+            omega arith)
+        | inr later ↦ absurd (omega (arith, later.0, new.0, lt))
+      ]
+    ]
+
+    all : (i w : ℕ) → Does (did j q (Store a v)) i q (Store a w)
+        → (t : Stored) × Has (stores ++ s ∷ []) t × (t.place ≡ i)
+    all i w does = elim (push_cases j (event q (Store a v)) i (event q (Store a w)) does) [
+      | inl old ↦
+          (let t = are.all i w old.1 in
+          (t.0, (t.1.0, older t.0 t.1.0 t.1.1), t.2))
+      | inr new ↦ (s, (length stores, slice_get-last stores s), place ∙ sym new.0)
+    ]
+      where
+        older : (t : Stored) (n : ℕ) → slice_get stores n ≡ Some t → slice_get (stores ++ s ∷ []) n ≡ Some t
+        older t n at = slice_get-append_left stores (s ∷ []) n (slice_get_within stores n t at) ∙ at

@@ -1,0 +1,16 @@
+-- What a load may answer, by its latest stores.
+use Rattle.std.specs.Prelude.{ℕ, ◌≡◌, ◌⊎◌, ◌↔◌, List}
+use Rattle.journal.specs.declared.event.Event.{Event}
+use Rattle.journal.specs.declared.event.Kind.TheVariants.{Store}
+use Rattle.journal.specs.WellFormed.{Does}
+use Rattle.journal.specs.Loads.{IsAnswer}
+use Rattle.sources.specs.Latest.{IsLatest}
+
+-- v is 0 and there is no latest store, or v is the value of one
+abbrev pub IsValue : List Event → ℕ → ℕ → ℕ → Type 0
+IsValue j k a v =
+    ((v ≡ 0) × ((q i : ℕ) → ¬ IsLatest j k a q i)) ⊎ ((q i : ℕ) × IsLatest j k a q i × Does j i q (Store a v))
+
+-- these are what a load may answer
+abbrev pub AnswersLaw : Type 0
+AnswersLaw = (j : List Event) (k a v : ℕ) → IsAnswer j k a v ↔ IsValue j k a v
