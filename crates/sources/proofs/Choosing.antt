@@ -1,9 +1,10 @@
 -- Which of the last stores a load may answer.
-use Rattle.std.proofs.Common.{◌≡◌, ◌≢◌, ℕ, ◌+◌, ◌<◌, ◌≤◌, ◌⊎◌, inl, inr, ◌↔◌, List, [], ◌∷◌, ◌++◌, length, take, Option, Some, slice_get, slice_index_or, subst, sym, refl, ap, ◌∙◌, false, arith}
+use Rattle.std.proofs.Common.{◌≡◌, ◌≢◌, ℕ, ◌+◌, ◌<◌, ◌≤◌, ◌⊎◌, inl, inr, ◌↔◌, List, [], ◌∷◌, ◌++◌, length, take, Option, Some, slice_get, slice_set, slice_index_or, subst, sym, refl, ap, ◌∙◌, false, arith}
 use Rattle.std.specs.Prelude.{None}
 use Rattle.std.proofs.lemmas.Bool.{cases_eq, cases_lt}
 use Rattle.std.proofs.lemmas.Option.{same_Some, slice_get-get_or}
 use Rattle.lists.proofs.Places.{push_cases}
+use Rattle.lists.proofs.Sets.{slice_get-set_found, slice_get-set_other, slice_get-set_same}
 use Rattle.journal.specs.declared.event.Event.{Event}
 use Rattle.journal.specs.declared.event.Kind.{Kind}
 use Rattle.journal.specs.declared.event.Kind.TheVariants.{Load, Store}
@@ -210,3 +211,19 @@ latest_unfollowed j times p a v q i last given x =
         let order = (last_order j times p a q f.by last up.store f.store given up.at f.at).1 f.counts in
         none f.store.place f.by theirs.stored.value theirs.stored.does theirs.past
         (subst (λ n. HappensBefore j n f.store.place) place order)
+
+-- one processor more
+pub marks_next : (times : List (List ℕ)) (last : List (Option Stored)) (latest : List (Option ℕ)) (i : ℕ)
+    (o : Option ℕ) → i < length latest
+    → ((q n : ℕ) → q < i → (slice_get latest q ≡ Some (Some n)) ↔ IsUnfollowed times last q n)
+    → ((n : ℕ) → (o ≡ Some n) ↔ IsUnfollowed times last i n)
+    → (q n : ℕ) → q < i + 1 → (slice_get (slice_set latest i o) q ≡ Some (Some n)) ↔ IsUnfollowed times last q n
+marks_next times last latest i o within old now q n lt = elim (cases_eq q i) [
+  | inl is ↦ subst (λ x. (slice_get (slice_set latest i o) x ≡ Some (Some n)) ↔ IsUnfollowed times last x n) (sym is)
+      ((λ at. (now n).0 (slice_get-set_found latest i o (Some n) at)),
+      (λ u. slice_get-set_same latest i o within ∙ ap (λ (x : Option ℕ). Some x) ((now n).1 u)))
+  | inr isnt ↦
+      (let same = slice_get-set_other latest i q o isnt in
+      let was = old q n (omega arith) in
+      ((λ at. was.0 (sym same ∙ at)), (λ u. same ∙ was.1 u)))
+]

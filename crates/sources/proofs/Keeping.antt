@@ -1,9 +1,9 @@
 -- What is kept of stores and timestamps, as the journal goes on.
-use Rattle.std.proofs.Common.{◌≡◌, ◌≢◌, ℕ, ◌+◌, ◌-◌, ◌<◌, ◌≤◌, inl, inr, List, [], ◌∷◌, ◌++◌, length, take, Some, slice_get, slice_index, subst, sym, refl, ap, ◌∙◌, false, arith, length-append}
+use Rattle.std.proofs.Common.{◌≡◌, ◌≢◌, ℕ, ◌+◌, ◌-◌, ◌<◌, ◌≤◌, inl, inr, List, [], ◌∷◌, ◌++◌, length, take, Some, slice_get, slice_index, slice_set, subst, sym, refl, ap, ◌∙◌, false, arith, length-append}
 use Rattle.std.proofs.lemmas.Bool.{cases_eq, cases_lt}
 use Rattle.std.proofs.lemmas.Option.{slice_get_within}
-use Rattle.std.proofs.lemmas.List.{take-append-le}
-use Rattle.std.proofs.Math.Seq.{take-append_seam}
+use Rattle.std.proofs.lemmas.List.{take-append-le, get_or_append_left, get_or-set_same, get_or-set_other}
+use Rattle.std.proofs.Math.Seq.{take-append_seam, get_or-append_seam}
 use Rattle.lists.specs.Places.{Has, InOrder}
 use Rattle.lists.proofs.Places.{push_cases, slice_get-append_left, slice_get-last}
 use Rattle.journal.specs.declared.event.Event.{Event}
@@ -165,3 +165,37 @@ are_stored_next j times a q v stores s place interval within time are =
       where
         older : (t : Stored) (n : ℕ) → slice_get stores n ≡ Some t → slice_get (stores ++ s ∷ []) n ≡ Some t
         older t n at = slice_get-append_left stores (s ∷ []) n (slice_get_within stores n t at) ∙ at
+
+-- one timestamp more
+pub more_pushed : (times : List (List ℕ)) (t : List ℕ) → AreMore times (times ++ t ∷ [])
+more_pushed times t = record {
+  more = (let long = length-append times (t ∷ []) in omega arith);
+  same = λ n q lt. ap (λ (x : List ℕ). slice_index x q) (get_or_append_left times (t ∷ []) [] n lt);
+}
+
+-- stands last
+pub last_entry : (times : List (List ℕ)) (t : List ℕ) (q : ℕ) → entry (times ++ t ∷ []) (length times) q ≡ slice_index t q
+last_entry times t q = ap (λ (x : List ℕ). slice_index x q) (get_or-append_seam times t [] [])
+
+pub time_pushed : (j : List Event) (times : List (List ℕ)) (t : List ℕ) (p : ℕ) → IsTimeOf j p (slice_index t)
+    → IsTimeOf j p (entry (times ++ t ∷ []) (length times))
+time_pushed j times t p time =
+    time_equal j (InPast j p) (slice_index t) (entry (times ++ t ∷ []) (length times))
+    (λ q. sym (last_entry times t q)) time
+
+-- a processor's timestamp that is kept at the end stands there
+pub recent_pushed : (j : List Event) (times : List (List ℕ)) (recent : List ℕ) (t : List ℕ) (p q : ℕ)
+    → p < length recent → IsRecent j times q (slice_index recent q) → IsTimeOf j p (slice_index t)
+    → IsRecent j (times ++ t ∷ []) q (slice_index (slice_set recent p (length times + 1)) q)
+recent_pushed j times recent t p q within old time = elim (cases_eq q p) [
+  | inl is ↦ subst (λ x. IsRecent j (times ++ t ∷ []) x (slice_index (slice_set recent p (length times + 1)) x)) (sym is)
+      (subst (IsRecent j (times ++ t ∷ []) p) (sym (get_or-set_same recent p (length times + 1) 0 within)) now)
+  | inr isnt ↦ subst (IsRecent j (times ++ t ∷ []) q) (sym (get_or-set_other recent p q (length times + 1) 0 isnt))
+      (recent_more j times (times ++ t ∷ []) q (slice_index recent q) (more_pushed times t) old)
+]
+  where
+    now : IsRecent j (times ++ t ∷ []) p (length times + 1)
+    now some =
+        let long = length-append times (t ∷ []) in
+        let here : (length times + 1) - 1 ≡ length times = omega arith in
+        (omega arith, subst (λ n. IsTimeOf j p (entry (times ++ t ∷ []) n)) (sym here) (time_pushed j times t p time))

@@ -1,14 +1,15 @@
 -- The last store of a processor in a past, by a timestamp.
-use Rattle.std.proofs.Common.{◌≡◌, ◌≢◌, ℕ, ◌+◌, ◌<◌, ◌≤◌, ◌==◌, cond, inl, inr, ◌↔◌, List, Option, Some, slice_get, MatchOption, subst, sym, refl, ap, ◌∙◌, arith, true, false}
+use Rattle.std.proofs.Common.{◌≡◌, ◌≢◌, ℕ, ◌+◌, ◌<◌, ◌≤◌, ◌==◌, cond, inl, inr, ◌↔◌, List, Option, Some, slice_get, slice_set, MatchOption, subst, sym, refl, ap, ◌∙◌, arith, true, false}
 use Rattle.std.specs.Prelude.{None}
 use Rattle.std.proofs.lemmas.Bool.{cases_eq, cases_lt, eq-eqb, ne_eqb}
 use Rattle.std.proofs.lemmas.Option.{same_Some}
 use Rattle.lists.specs.Places.{Has, InOrder}
+use Rattle.lists.proofs.Sets.{slice_get-set_found, slice_get-set_other}
 use Rattle.journal.specs.declared.event.Event.{Event}
 use Rattle.journal.specs.declared.event.Kind.{Kind}
 use Rattle.journal.specs.declared.event.Kind.TheVariants.{Store}
 use Rattle.journal.specs.Did.{event}
-use Rattle.journal.specs.Events.{interval_at, is_closing}
+use Rattle.journal.specs.Events.{count_of, interval_at, is_closing}
 use Rattle.journal.specs.WellFormed.{Does}
 use Rattle.journal.specs.Pasts.{InPast}
 use Rattle.journal.specs.Times.{IsTimeOf}
@@ -26,13 +27,11 @@ in_past j p q i k t time does = elim (cases_eq q p) [ inl is ↦ mine is | inr i
   where
     mine : q ≡ p → InPast j p i ↔ (interval_at j q i < t q + cond (q == p) 1 0)
     mine is =
-        let own : t q ≡ count_of_closing q = subst (λ x. t x ≡ count_of_closing x) (sym is) (own_entry j p t time) in
+        let own : t q ≡ count_of is_closing j q =
+        subst (λ x. t x ≡ count_of is_closing j x) (sym is) (own_entry j p t time) in
         let front = count_of-take-le is_closing j i q in
         let one : cond {A = ℕ} (q == p) 1 0 ≡ 1 = rw (eq-eqb q p is) in
         ((λ x. omega arith), (λ lt. own_in_past j p i (event q k) does is))
-      where
-        count_of_closing : ℕ → ℕ
-        count_of_closing x = count_of is_closing j x
 
     theirs : q ≢ p → InPast j p i ↔ (interval_at j q i < t q + cond (q == p) 1 0)
     theirs isnt =
@@ -96,3 +95,15 @@ last_of j times p a q stores t limit (Some s) time is are found = record {
                 omega arith)
           ]
         ]
+
+-- one processor more
+pub last_next : (j : List Event) (times : List (List ℕ)) (p a i : ℕ) (last : List (Option Stored)) (o : Option Stored)
+    → ((q : ℕ) (u : Option Stored) → q < i → slice_get last q ≡ Some u → IsLastOf j times p a q u)
+    → IsLastOf j times p a i o
+    → (q : ℕ) (u : Option Stored) → q < i + 1 → slice_get (slice_set last i o) q ≡ Some u → IsLastOf j times p a q u
+last_next j times p a i last o old now q u lt at = elim (cases_eq q i) [
+  | inl is ↦
+      (let same = slice_get-set_found last i o u (ap (slice_get (slice_set last i o)) (sym is) ∙ at) in
+      subst (λ n. IsLastOf j times p a n u) (sym is) (subst (IsLastOf j times p a i) same now))
+  | inr isnt ↦ old q u (omega arith) (sym (slice_get-set_other last i q o isnt) ∙ at)
+]

@@ -1,5 +1,5 @@
 pub mod Lasts
 pub mod Choosing
 pub mod Keeping
-pub mod Rows
+pub mod InRows
 pub mod Answering

@@ -41,11 +41,14 @@ impl Known {
             → AreKnown j self.new × (n < vec_len self.new.times)
             × IsTimeOf j processor (entry self.new.times.items n)) }
     {
-        if self.recent[processor] == 0 {
-            self.times.push(*time)?;
-            self.recent[processor] = self.times.len() as u32;
+        let recent = self.recent[processor];
+        if recent > 0 {
+            return Ok(recent - 1);
         }
-        Ok(self.recent[processor] - 1)
+        let place = self.times.len() as u32;
+        self.times.push(*time)?;
+        self.recent[processor] = place + 1;
+        Ok(place)
     }
 
     /// The processor's timestamp changes.

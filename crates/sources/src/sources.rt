@@ -1,6 +1,6 @@
 //! What a load that comes next may answer.
 ghost use Rattle.std.specs.Prelude.{◌≡◌, ◌↔◌, ℕ, ◌+◌, ◌*◌, ◌<◌, ◌≤◌, ◌^◌, [], ◌∷◌, ◌++◌, IsTrue, IfOk, OnOk, List};
-ghost use Rattle.std.specs.Prelude.{Some, length, slice_get, take, vec_len};
+ghost use Rattle.std.specs.Prelude.{Some, cond, length, slice_get, take, vec_len};
 ghost use Rattle.std.specs.Global.{Vec};
 ghost use Rattle.lists.specs.Prelude.{most_held, most_processors};
 ghost use Rattle.journal.specs.declared.event.Event.{Event};
@@ -56,6 +56,14 @@ fn is_store_of(event: Event, value: u32) -> bool
     }
 }
 
+/// How many intervals a past has something of, where it has so many whole ones. Of a processor's own past the open
+/// interval is one more.
+fn intervals(whole: u32, is_own: bool) -> usize
+    ensures { result ≡ whole + cond is_own 1 0 }
+{
+    whole as usize + usize::from(is_own)
+}
+
 impl Sources {
     /// Before the first event, of a history of `processors` processors, at most `MOST_PROCESSORS`, and `addresses`
     /// addresses. The only error is want of memory.
@@ -87,9 +95,7 @@ impl Sources {
         let mut last = [None; 16];
         for by in 0..16 {
             let stores = &self.stores[address * 16 + by];
-            // A processor's own stores are all in its past, those of its open interval too.
-            let limit = time[by] as usize + usize::from(by == processor);
-            last[by] = last_below(stores, limit);
+            last[by] = last_below(stores, intervals(time[by], by == processor));
         }
         last
     }
