@@ -1,11 +1,13 @@
 -- What is kept of stores and timestamps, as the journal goes on.
-use Rattle.std.proofs.Common.{◌≡◌, ◌≢◌, ℕ, ◌+◌, ◌-◌, ◌<◌, ◌≤◌, inl, inr, List, [], ◌∷◌, ◌++◌, length, take, Some, slice_get, slice_index, slice_set, subst, sym, refl, ap, ◌∙◌, false, arith, length-append}
+use Rattle.std.proofs.Common.{◌≡◌, ◌≢◌, ℕ, ◌+◌, ◌*◌, ◌-◌, ◌<◌, ◌≤◌, inl, inr, List, [], ◌∷◌, ◌++◌, length, take, Some, slice_get, slice_index, slice_set, subst, sym, refl, ap, ◌∙◌, false, arith, length-append}
+use Rattle.std.specs.Global.{Vec}
 use Rattle.std.proofs.lemmas.Bool.{cases_eq, cases_lt}
 use Rattle.std.proofs.lemmas.Option.{slice_get_within}
 use Rattle.std.proofs.lemmas.List.{take-append-le, get_or_append_left, get_or-set_same, get_or-set_other}
 use Rattle.std.proofs.Math.Seq.{take-append_seam, get_or-append_seam}
 use Rattle.lists.specs.Places.{Has, InOrder}
 use Rattle.lists.proofs.Places.{push_cases, slice_get-append_left, slice_get-last}
+use Rattle.lists.proofs.Sets.{slice_get-set_found, slice_get-set_other}
 use Rattle.journal.specs.declared.event.Event.{Event}
 use Rattle.journal.specs.declared.event.Kind.{Kind}
 use Rattle.journal.specs.declared.event.Kind.TheVariants.{Store}
@@ -19,7 +21,9 @@ use Rattle.journal.proofs.Order.Places.{at_within, at_longer, at_last, count_of-
 use Rattle.journal.proofs.Times.Times.{time_equal}
 use Rattle.journal.proofs.Times.Pushes.{others_keep, own_entry, own_quiet}
 use Rattle.sources.specs.declared.stored.Stored.{Stored}
-use Rattle.sources.specs.Stored.{IsStored, AreStored, IsRecent}
+use Rattle.sources.specs.declared.known.Known.{Known}
+use Rattle.sources.specs.Stored.{IsStored, AreStored, IsRecent, AreKnown}
+use Rattle.sources.specs.Tells.{row_of}
 
 -- more timestamps, and those that there were as before
 pub record AreMore (old new : List (List ℕ)) : Type 0 where
@@ -199,3 +203,74 @@ recent_pushed j times recent t p q within old time = elim (cases_eq q p) [
         let long = length-append times (t ∷ []) in
         let here : (length times + 1) - 1 ≡ length times = omega arith in
         (omega arith, subst (λ n. IsTimeOf j p (entry (times ++ t ∷ []) n)) (sym here) (time_pushed j times t p time))
+
+-- where processors' timestamps stand, after an event that neither takes nor closes
+pub known_quiet : (j : List Event) (e : Event) (known : Known) → is_taking e.kind ≡ false → is_closing e.kind ≡ false
+    → AreKnown j known → AreKnown (j ++ e ∷ []) known
+known_quiet j e known quiet inner are = record {
+  recent = λ p lt. recent_quiet j e known.times.items p (slice_index known.recent p) quiet inner (are.recent p lt);
+}
+
+-- and after any, where its processor's is forgotten
+pub known_forgot : (j : List Event) (e : Event) (old new : Known) → new.times ≡ old.times
+    → slice_index new.recent e.processor ≡ 0
+    → ((q : ℕ) → q ≢ e.processor → slice_index new.recent q ≡ slice_index old.recent q)
+    → AreKnown j old → AreKnown (j ++ e ∷ []) new
+known_forgot j e old new times gone same are = record { recent = recent }
+  where
+    recent : (p : ℕ) → p < 16 → IsRecent (j ++ e ∷ []) new.times.items p (slice_index new.recent p)
+    recent p lt = elim (cases_eq p e.processor) [
+      | inl is ↦ (λ some. absurd (some (ap (slice_index new.recent) is ∙ gone)))
+      | inr isnt ↦
+          subst (IsRecent (j ++ e ∷ []) new.times.items p) (sym (same p isnt))
+          (subst (λ v. IsRecent (j ++ e ∷ []) v.items p (slice_index old.recent p)) (sym times)
+          (recent_other j e old.times.items p (slice_index old.recent p) (λ is. isnt (sym is)) (are.recent p lt)))
+    ]
+
+-- the rows of stores, of which each has those of a processor to an address
+abbrev pub AreRowsOf : List Event → List (List ℕ) → List (Vec Stored) → Type 0
+AreRowsOf j times rows =
+    (a q : ℕ) (row : Vec Stored) → q < 16 → slice_get rows (row_of a q) ≡ Some row → AreStored j times a q row.items
+
+-- an event that is no store leaves them
+pub rows_other : (j : List Event) (e : Event) (times : List (List ℕ)) (rows : List (Vec Stored))
+    → ((a v : ℕ) → e.kind ≢ Store a v) → AreRowsOf j times rows → AreRowsOf (j ++ e ∷ []) times rows
+rows_other j e times rows away are a q row lt at =
+    are_stored_other j e times a q row.items (λ v is. away a v (ap (λ (x : Event). x.kind) is)) (are a q row lt at)
+
+store_same : (a b v w p q : ℕ) → event p (Store a v) ≡ event q (Store b w) → (a ≡ b) × (p ≡ q)
+store_same a b v w p q is =
+    let kind = ap (λ (x : Event). x.kind) is in (cc, ap (λ (x : Event). x.processor) is)
+
+-- a store that comes next is one more of its row
+pub rows_next : (j : List Event) (old new : List (List ℕ)) (rows : List (Vec Stored)) (a p v : ℕ)
+    (was now : Vec Stored) (s : Stored) → AreMore old new → p < 16 → slice_get rows (row_of a p) ≡ Some was
+    → now.items ≡ was.items ++ s ∷ [] → s.place ≡ length j → s.interval ≡ count_of is_closing j p
+    → s.time < length new → IsTimeOf j p (entry new s.time) → AreRowsOf j old rows
+    → AreRowsOf (did j p (Store a v)) new (slice_set rows (row_of a p) now)
+rows_next j old new rows a p v was now s more few there items place interval within time are b q row lt at =
+    elim (cases_eq (row_of b q) (row_of a p)) [
+      | inl same ↦ here same
+      | inr other ↦ kept other
+    ]
+  where
+    here : row_of b q ≡ row_of a p → AreStored (did j p (Store a v)) new b q row.items
+    here same =
+        let one : a ≡ b = omega arith in
+        let two : p ≡ q = omega arith in
+        let is = slice_get-set_found rows (row_of a p) now row
+        (ap (slice_get (slice_set rows (row_of a p) now)) (sym same) ∙ at) in
+        let next =
+        are_stored_next j new a p v was.items s place interval within time
+        (are_stored_more j old new a p was.items more (are a p was few there)) in
+        subst (λ x. AreStored (did j p (Store a v)) new x q row.items) one
+        (subst (λ x. AreStored (did j p (Store a v)) new a x row.items) two
+        (subst (λ (x : Vec Stored). AreStored (did j p (Store a v)) new a p x.items) is
+        (subst (AreStored (did j p (Store a v)) new a p) (sym items) next)))
+
+    kept : row_of b q ≢ row_of a p → AreStored (did j p (Store a v)) new b q row.items
+    kept other =
+        let there = sym (slice_get-set_other rows (row_of a p) (row_of b q) now other) ∙ at in
+        are_stored_other j (event p (Store a v)) new b q row.items
+        (λ w is. (let same = store_same a b v w p q is in other (rw (same.0, same.1) refl)))
+        (are_stored_more j old new b q row.items more (are b q row lt there))
