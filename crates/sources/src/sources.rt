@@ -171,8 +171,8 @@ impl Sources {
     {
         let places = self.before(processor, address);
         let mut is_free = true;
-        for place in places {
-            if let Some(place) = place {
+        for place in &places {
+            if let Some(place) = *place {
                 if is_store_of(events[place], value) {
                     return true;
                 }
