@@ -1,11 +1,13 @@
 -- The latest stores of a load are what it may answer.
-use Rattle.std.proofs.Common.{◌≡◌, ℕ, zero, suc, ◌+◌, ◌<◌, ◌≤◌, ◌⊎◌, inl, inr, ◌↔◌, List, subst, sym, refl, ap, arith}
+use Rattle.std.proofs.Common.{◌≡◌, ℕ, zero, suc, ◌+◌, ◌<◌, ◌≤◌, ◌⊎◌, inl, inr, ◌↔◌, List, [], ◌∷◌, length, Option, Some, slice_get, subst, sym, refl, ap, ◌∙◌, ◌≢◌, arith}
 use Rattle.journal.specs.declared.event.Event.{Event}
-use Rattle.journal.specs.declared.event.Kind.TheVariants.{Store}
+use Rattle.journal.specs.declared.event.Kind.TheVariants.{Load, Store}
+use Rattle.journal.specs.Did.{did, event}
+use Rattle.journal.specs.Events.{At}
 use Rattle.journal.specs.Order.{HappensBefore}
 use Rattle.journal.specs.WellFormed.{Does}
 use Rattle.journal.specs.Loads.{IsAnswer, LatestStore, Untouched}
-use Rattle.journal.proofs.Order.Places.{does_same}
+use Rattle.journal.proofs.Order.Places.{at_same, at_shorter, does_same}
 use Rattle.journal.proofs.Order.HappensBefore.{goes_forward}
 use Rattle.sources.specs.Latest.{IsLatest}
 use Rattle.sources.specs.Laws.{IsValue}
@@ -33,8 +35,8 @@ none_left j k a none (suc n) i q v near does before =
 pub untouched : (j : List Event) (k a : ℕ) → ((q i : ℕ) → ¬ IsLatest j k a q i) → Untouched j k a
 untouched j k a none i q v does before = none_left j k a none k i q v (omega arith) does before
 
-value_same : (a v w : ℕ) → Store a v ≡ Store a w → v ≡ w
-value_same a v w is = cc
+stored_same : (a v b w : ℕ) → Store a v ≡ Store b w → v ≡ w
+stored_same a v b w is = cc
 
 pub answers_law : (j : List Event) (k a v : ℕ) → IsAnswer j k a v ↔ IsValue j k a v
 answers_law j k a v = (there, back)
@@ -52,4 +54,56 @@ answers_law j k a v = (there, back)
         subst (λ n. Does j n x.0 (Store a l.value)) l.place
         (subst (λ n. Does j l.store.place n (Store a l.value)) l.by l.store.stores) in
         let same = does_same j x.1 x.0 x.0 (Store a l.value) (Store a v) stores x.3 in
-        inr (subst (LatestStore j k a) (value_same a l.value v same.1) l.store)
+        inr (subst (LatestStore j k a) (stored_same a l.value a v same.1) l.store)
+
+-- a latest store of a load that comes next stands in the journal
+pub latest_at : (j : List Event) (p a v q i : ℕ) (x : IsLatest (did j p (Load a v)) (length j) a q i)
+    → Does j i q (Store a x.value)
+latest_at j p a v q i x =
+    let lt = goes_forward (did j p (Load a v)) x.store.before in
+    let is = x.place in
+    at_shorter j (event p (Load a v) ∷ []) i (event q (Store a x.value)) (omega arith)
+    (subst (λ n. Does (did j p (Load a v)) n q (Store a x.value)) x.place
+    (subst (λ n. Does (did j p (Load a v)) x.store.place n (Store a x.value)) x.by x.store.stores))
+
+module _ (j : List Event) (p a v : ℕ) (marks : List (Option ℕ))
+    (tells : (q i : ℕ) → (slice_get marks q ≡ Some (Some i)) ↔ IsLatest (did j p (Load a v)) (length j) a q i) where
+  abbrev IsNext : Type 0
+  IsNext = IsAnswer (did j p (Load a v)) (length j) a v
+
+  -- the value of a marked store may be answered
+  pub marked_answer : (q i b : ℕ) (e : Event) → slice_get marks q ≡ Some (Some i) → At j i e → e.kind ≡ Store b v
+      → IsNext
+  marked_answer q i b e at there is =
+      let x = (tells q i).0 at in
+      let same = at_same j i (event q (Store a x.value)) e (latest_at j p a v q i x) there in
+      let value = stored_same a x.value b v (ap (λ (y : Event). y.kind) same ∙ is) in
+      inr (subst (LatestStore (did j p (Load a v)) (length j) a) value x.store)
+
+  -- where there is a mark, no other value may
+  pub other_answer : (q i : ℕ) → slice_get marks q ≡ Some (Some i)
+      → ((r k : ℕ) (e : Event) → slice_get marks r ≡ Some (Some k) → At j k e → (b : ℕ) → e.kind ≢ Store b v)
+      → ¬ IsNext
+  other_answer q i at others (inl x) =
+      let l = (tells q i).0 at in
+      x.1 l.store.place l.store.by l.value l.store.stores l.store.before
+  other_answer q i at others (inr l) =
+      let x : IsLatest (did j p (Load a v)) (length j) a l.by l.place =
+      record { value = v; store = l; place = refl; by = refl } in
+      others l.by l.place (event l.by (Store a v)) ((tells l.by l.place).1 x) (latest_at j p a v l.by l.place x) a
+      refl
+
+  -- and where there is none, just 0 may
+  pub free_answer : ((q i : ℕ) → slice_get marks q ≢ Some (Some i)) → IsNext ↔ (v ≡ 0)
+  free_answer none = (there, back)
+    where
+      there : IsNext → v ≡ 0
+      there (inl x) = x.0
+      there (inr l) =
+          absurd
+          (none l.by l.place
+          ((tells l.by l.place).1 (record { value = v; store = l; place = refl; by = refl })))
+
+      back : v ≡ 0 → IsNext
+      back is =
+          inl (is, untouched (did j p (Load a v)) (length j) a (λ q i x. none q i ((tells q i).1 x)))
