@@ -1,5 +1,5 @@
 -- The latest stores of a load are what it may answer.
-use Rattle.std.proofs.Common.{◌≡◌, ℕ, zero, suc, ◌+◌, ◌<◌, ◌≤◌, ◌⊎◌, inl, inr, ◌↔◌, List, [], ◌∷◌, length, Option, Some, slice_get, subst, sym, refl, ap, ◌∙◌, ◌≢◌, arith}
+use Rattle.std.proofs.Common.{◌≡◌, ℕ, zero, suc, ◌+◌, ◌<◌, ◌≤◌, ◌⊎◌, inl, inr, ◌↔◌, List, [], ◌∷◌, ◌++◌, length, Option, Some, slice_get, subst, sym, refl, ap, ◌∙◌, ◌≢◌, arith}
 use Rattle.journal.specs.declared.event.Event.{Event}
 use Rattle.journal.specs.declared.event.Kind.TheVariants.{Load, Store}
 use Rattle.journal.specs.Did.{did, event}
@@ -7,10 +7,11 @@ use Rattle.journal.specs.Events.{At}
 use Rattle.journal.specs.Order.{HappensBefore}
 use Rattle.journal.specs.WellFormed.{Does}
 use Rattle.journal.specs.Loads.{IsAnswer, LatestStore, Untouched}
-use Rattle.journal.proofs.Order.Places.{at_same, at_shorter, does_same}
+use Rattle.journal.proofs.Order.Places.{at_longer, at_same, at_within, at_shorter, does_same}
 use Rattle.journal.proofs.Order.HappensBefore.{goes_forward}
 use Rattle.sources.specs.Latest.{IsLatest}
 use Rattle.sources.specs.Laws.{IsValue}
+use Rattle.sources.proofs.InRows.{latest_longer, latest_shorter}
 
 -- a store of the past at most n places before the load, where none is the latest, can't be
 none_left : (j : List Event) (k a : ℕ) → ((q i : ℕ) → ¬ IsLatest j k a q i) → (n i q v : ℕ) → k ≤ i + n
@@ -71,6 +72,12 @@ module _ (j : List Event) (p a v : ℕ) (marks : List (Option ℕ))
   abbrev IsNext : Type 0
   IsNext = IsAnswer (did j p (Load a v)) (length j) a v
 
+  -- a marked place is one of the journal
+  pub marked_within : (q i : ℕ) → slice_get marks q ≡ Some (Some i) → i < length j
+  marked_within q i at =
+      let x = (tells q i).0 at in
+      at_within j i (event q (Store a x.value)) (latest_at j p a v q i x)
+
   -- the value of a marked store may be answered
   pub marked_answer : (q i b : ℕ) (e : Event) → slice_get marks q ≡ Some (Some i) → At j i e → e.kind ≡ Store b v
       → IsNext
@@ -107,3 +114,29 @@ module _ (j : List Event) (p a v : ℕ) (marks : List (Option ℕ))
       back : v ≡ 0 → IsNext
       back is =
           inl (is, untouched (did j p (Load a v)) (length j) a (λ q i x. none q i ((tells q i).1 x)))
+
+-- what a load may answer stays as the journal goes on
+pub stays_law : (j es : List Event) (k a v : ℕ) → k < length j → IsAnswer (j ++ es) k a v ↔ IsAnswer j k a v
+stays_law j es k a v within = (there, back)
+  where
+    there : IsAnswer (j ++ es) k a v → IsAnswer j k a v
+    there h = elim ((answers_law (j ++ es) k a v).0 h) [
+      | inl x ↦ (answers_law j k a v).1 (inl (x.0, λ q i l. x.1 q i (latest_longer j es k a q i within l)))
+      | inr x ↦ (let l = latest_shorter j es k a x.0 x.1 within x.2 in
+          let lt = goes_forward j l.store.before in
+          let is = l.place in
+          (answers_law j k a v).1
+          (inr (x.0, x.1, l, at_shorter j es x.1 (event x.0 (Store a v)) (omega arith) x.3)))
+    ]
+
+    back : IsAnswer j k a v → IsAnswer (j ++ es) k a v
+    back h = elim ((answers_law j k a v).0 h) [
+      | inl x ↦ (answers_law (j ++ es) k a v).1
+          (inl (x.0, λ q i l. x.1 q i (latest_shorter j es k a q i within l)))
+      | inr x ↦ (answers_law (j ++ es) k a v).1 (inr (
+            x.0,
+            x.1,
+            latest_longer j es k a x.0 x.1 within x.2,
+            at_longer j es x.1 (event x.0 (Store a v)) x.3,
+          ))
+    ]

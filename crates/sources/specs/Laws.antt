@@ -1,5 +1,5 @@
 -- What a load may answer, by its latest stores.
-use Rattle.std.specs.Prelude.{ℕ, ◌≡◌, ◌⊎◌, ◌↔◌, List}
+use Rattle.std.specs.Prelude.{ℕ, ◌≡◌, ◌<◌, ◌⊎◌, ◌↔◌, List, ◌++◌, length}
 use Rattle.journal.specs.declared.event.Event.{Event}
 use Rattle.journal.specs.declared.event.Kind.TheVariants.{Store}
 use Rattle.journal.specs.WellFormed.{Does}
@@ -14,3 +14,7 @@ IsValue j k a v =
 -- these are what a load may answer
 abbrev pub AnswersLaw : Type 0
 AnswersLaw = (j : List Event) (k a v : ℕ) → IsAnswer j k a v ↔ IsValue j k a v
+
+-- what a load may answer stays as the history goes on
+abbrev pub StaysLaw : Type 0
+StaysLaw = (j es : List Event) (k a v : ℕ) → k < length j → IsAnswer (j ++ es) k a v ↔ IsAnswer j k a v

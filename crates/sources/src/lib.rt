@@ -16,6 +16,6 @@ mod rows;
 mod sources;
 mod stored;
 
-pub use laws::answers_law;
+pub use laws::{answers_law, stays_law};
 pub use rows::latest;
 pub use sources::Sources;

@@ -6,8 +6,7 @@ use Rattle.journal.specs.declared.event.Event.{Event}
 use Rattle.journal.specs.declared.event.Kind.TheVariants.{Load, Store}
 use Rattle.journal.specs.Did.{event}
 use Rattle.journal.specs.Events.{At}
-use Rattle.journal.proofs.Order.Places.{at_within}
-use Rattle.sources.proofs.Answering.{latest_at, marked_answer, other_answer, free_answer}
+use Rattle.sources.proofs.Answering.{marked_within, marked_answer, other_answer, free_answer}
 use Rattle.sources.proofs.sources.Sources.may_answer.Goals as goal
 use Rattle.sources.proofs.sources.Sources.may_answer.Goals.{in-Some+else-is_store_of, in_default}
 
@@ -25,10 +24,20 @@ bounds-events-place c =
     let marks = c.before-places.result in
     let q = c.loop-place.place-index in
     let within : q < length marks = omega arith in
-    let at = mark_at marks q (Some c.in-Some.place) within c.in-Some.is in
-    let x = (c.before-places.ensures c.args.events.now c.requires.tells c.args.value q c.in-Some.place).0 at in
-    at_within c.args.events.now c.in-Some.place (event q (Store c.args.address x.value))
-    (latest_at c.args.events.now c.args.processor c.args.address c.args.value q c.in-Some.place x)
+    marked_within c.args.events.now c.args.processor c.args.address c.args.value marks
+    (c.before-places.ensures c.args.events.now c.requires.tells c.args.value) q c.in-Some.place
+    (mark_at marks q (Some c.in-Some.place) within c.in-Some.is)
+
+pub offset_bounds-events-place : goal.offset_bounds-events-place
+offset_bounds-events-place c =
+    let marks = c.before-places.result in
+    let q = c.loop-place.place-index in
+    let within : q < length marks = omega arith in
+    let inside =
+    marked_within c.args.events.now c.args.processor c.args.address c.args.value marks
+    (c.before-places.ensures c.args.events.now c.requires.tells c.args.value) q c.in-Some.place
+    (mark_at marks q (Some c.in-Some.place) within c.in-Some.is) in
+    omega arith
 
 pub returns-then-is_store_of : goal.returns-then-is_store_of
 returns-then-is_store_of c =
@@ -39,10 +48,7 @@ returns-then-is_store_of c =
     let within : q < length marks = omega arith in
     let at = mark_at marks q (Some place) within c.in-Some.is in
     let tells = c.before-places.ensures events c.requires.tells c.args.value in
-    let x = (tells q place).0 at in
-    let inside =
-    at_within events place (event q (Store c.args.address x.value))
-    (latest_at events c.args.processor c.args.address c.args.value q place x) in
+    let inside = marked_within events c.args.processor c.args.address c.args.value marks tells q place at in
     let there = slice_get-get_or events place (event 0 (Load 0 0)) inside in
     let stores = c.if-is_store_of.ensures.0 refl in (
       λ _. marked_answer events c.args.processor c.args.address c.args.value marks tells q place stores.0
@@ -117,15 +123,3 @@ returns-else-is_free c =
       λ answer. absurd (other_answer events c.args.processor c.args.address c.args.value marks tells some.0 some.1
           some.2 others answer),
     )
-
-pub offset_bounds-events-place : goal.offset_bounds-events-place
-offset_bounds-events-place c =
-    let marks = c.before-places.result in
-    let q = c.loop-place.place-index in
-    let within : q < length marks = omega arith in
-    let at = mark_at marks q (Some c.in-Some.place) within c.in-Some.is in
-    let x = (c.before-places.ensures c.args.events.now c.requires.tells c.args.value q c.in-Some.place).0 at in
-    let inside =
-    at_within c.args.events.now c.in-Some.place (event q (Store c.args.address x.value))
-    (latest_at c.args.events.now c.args.processor c.args.address c.args.value q c.in-Some.place x) in
-    omega arith
