@@ -1,5 +1,5 @@
 -- The latest stores of a load are what it may answer.
-use Rattle.std.proofs.Common.{◌≡◌, ℕ, zero, suc, ◌+◌, ◌<◌, ◌≤◌, ◌⊎◌, inl, inr, ◌↔◌, List, [], ◌∷◌, ◌++◌, length, Option, Some, slice_get, subst, sym, refl, ap, ◌∙◌, ◌≢◌, arith}
+use Rattle.std.proofs.Common.{◌≡◌, ℕ, zero, suc, ◌+◌, ◌<◌, ◌≤◌, inl, inr, ◌↔◌, List, [], ◌∷◌, ◌++◌, length, Option, Some, slice_get, subst, refl, ap, ◌∙◌, ◌≢◌, arith}
 use Rattle.journal.specs.declared.event.Event.{Event}
 use Rattle.journal.specs.declared.event.Kind.TheVariants.{Load, Store}
 use Rattle.journal.specs.Did.{did, event}
@@ -134,9 +134,9 @@ stays_law j es k a v within = (there, back)
       | inl x ↦ (answers_law (j ++ es) k a v).1
           (inl (x.0, λ q i l. x.1 q i (latest_shorter j es k a q i within l)))
       | inr x ↦ (answers_law (j ++ es) k a v).1 (inr (
-            x.0,
-            x.1,
-            latest_longer j es k a x.0 x.1 within x.2,
-            at_longer j es x.1 (event x.0 (Store a v)) x.3,
-          ))
+        x.0,
+        x.1,
+        latest_longer j es k a x.0 x.1 within x.2,
+        at_longer j es x.1 (event x.0 (Store a v)) x.3,
+      ))
     ]

@@ -1,5 +1,5 @@
 -- Which of the last stores a load may answer.
-use Rattle.std.proofs.Common.{◌≡◌, ◌≢◌, ℕ, ◌+◌, ◌<◌, ◌≤◌, ◌⊎◌, inl, inr, ◌↔◌, List, [], ◌∷◌, ◌++◌, length, take, Option, Some, slice_get, slice_set, slice_index_or, subst, sym, refl, ap, ◌∙◌, false, arith}
+use Rattle.std.proofs.Common.{◌≡◌, ℕ, ◌+◌, ◌<◌, ◌≤◌, inl, inr, ◌↔◌, List, [], ◌∷◌, length, take, Option, Some, slice_get, slice_set, slice_index_or, subst, sym, refl, ap, ◌∙◌, false, arith}
 use Rattle.std.specs.Prelude.{None}
 use Rattle.std.proofs.lemmas.Bool.{cases_eq, cases_lt}
 use Rattle.std.proofs.lemmas.Option.{same_Some, slice_get-get_or}
@@ -15,17 +15,15 @@ use Rattle.journal.specs.WellFormed.{Does}
 use Rattle.journal.specs.Pasts.{InPast}
 use Rattle.journal.specs.Times.{IsTimeOf}
 use Rattle.journal.specs.InRange.{ProcessorsInRange}
-use Rattle.journal.specs.Loads.{LatestStore}
 use Rattle.journal.specs.Entries.{entry}
-use Rattle.journal.proofs.Order.Places.{at_within, at_longer, count_of-mono, does_same}
+use Rattle.journal.proofs.Order.Places.{at_longer, count_of-mono}
 use Rattle.journal.proofs.Order.HappensBefore.{goes_forward, transitive, extension}
 use Rattle.journal.proofs.Order.Pasts.{reaches_new, past_within}
 use Rattle.journal.proofs.Times.Leaving.{own_order}
 use Rattle.journal.proofs.Times.Uses.{ordered_before}
 use Rattle.sources.specs.declared.stored.Stored.{Stored}
 use Rattle.sources.specs.Latest.{IsLatest}
-use Rattle.sources.specs.Stored.{IsStored}
-use Rattle.sources.specs.Last.{IsLast, HasNone, IsLastOf, AreLast, IsFollowed, IsUnfollowed}
+use Rattle.sources.specs.Last.{IsLast, AreLast, IsFollowed, IsUnfollowed}
 
 -- an event happens before one of another processor that takes nothing exactly where its timestamp before that counts
 -- the interval; of one processor the same event is meant
@@ -219,9 +217,10 @@ pub marks_next : (times : List (List ℕ)) (last : List (Option Stored)) (latest
     → ((n : ℕ) → (o ≡ Some n) ↔ IsUnfollowed times last i n)
     → (q n : ℕ) → q < i + 1 → (slice_get (slice_set latest i o) q ≡ Some (Some n)) ↔ IsUnfollowed times last q n
 marks_next times last latest i o within old now q n lt = elim (cases_eq q i) [
-  | inl is ↦ subst (λ x. (slice_get (slice_set latest i o) x ≡ Some (Some n)) ↔ IsUnfollowed times last x n) (sym is)
-      ((λ at. (now n).0 (slice_get-set_found latest i o (Some n) at)),
-      (λ u. slice_get-set_same latest i o within ∙ ap (λ (x : Option ℕ). Some x) ((now n).1 u)))
+  | inl is ↦ subst (λ x. (slice_get (slice_set latest i o) x ≡ Some (Some n)) ↔ IsUnfollowed times last x n) (sym is) (
+    (λ at. (now n).0 (slice_get-set_found latest i o (Some n) at)),
+    (λ u. slice_get-set_same latest i o within ∙ ap (λ (x : Option ℕ). Some x) ((now n).1 u)),
+  )
   | inr isnt ↦
       (let same = slice_get-set_other latest i q o isnt in
       let was = old q n (omega arith) in

@@ -1,12 +1,11 @@
 -- The rows of a history, as it goes on.
-use Rattle.std.proofs.Common.{◌≡◌, ◌≢◌, ℕ, ◌+◌, ◌<◌, ◌≤◌, inl, inr, ◌↔◌, List, [], ◌∷◌, ◌++◌, length, take, drop, Option, Some, slice_get, subst, sym, refl, ap, ◌∙◌, suc, take-append-drop, arith}
+use Rattle.std.proofs.Common.{◌≡◌, ◌≢◌, ℕ, ◌<◌, inl, inr, ◌↔◌, List, [], ◌∷◌, ◌++◌, length, take, drop, Option, Some, slice_get, subst, sym, refl, ap, ◌∙◌, suc, take-append-drop, arith}
 use Rattle.std.specs.Prelude.{None}
 use Rattle.std.proofs.lemmas.Option.{none-some, same_Some, slice_get_within}
 use Rattle.std.proofs.lemmas.List.{length-take-le}
 use Rattle.lists.specs.Places.{Has, InOrder}
 use Rattle.lists.proofs.Places.{push_cases, slice_get-append_left, slice_get-last, take-suc_at}
 use Rattle.journal.specs.declared.event.Event.{Event}
-use Rattle.journal.specs.declared.event.Kind.{Kind}
 use Rattle.journal.specs.declared.event.Kind.TheVariants.{Load, Store}
 use Rattle.journal.specs.Did.{event}
 use Rattle.journal.specs.Events.{At}

@@ -1,7 +1,7 @@
 -- What is kept of stores and timestamps, as the journal goes on.
-use Rattle.std.proofs.Common.{◌≡◌, ◌≢◌, ℕ, ◌+◌, ◌*◌, ◌-◌, ◌<◌, ◌≤◌, inl, inr, List, [], ◌∷◌, ◌++◌, length, take, Some, slice_get, slice_index, slice_set, subst, sym, refl, ap, ◌∙◌, false, arith, length-append}
+use Rattle.std.proofs.Common.{◌≡◌, ◌≢◌, ℕ, ◌+◌, ◌-◌, ◌<◌, ◌≤◌, inl, inr, List, [], ◌∷◌, ◌++◌, length, take, Some, slice_get, slice_index, slice_set, subst, sym, refl, ap, ◌∙◌, false, arith, length-append}
 use Rattle.std.specs.Global.{Vec}
-use Rattle.std.proofs.lemmas.Bool.{cases_eq, cases_lt}
+use Rattle.std.proofs.lemmas.Bool.{cases_eq}
 use Rattle.std.proofs.lemmas.Option.{slice_get_within}
 use Rattle.std.proofs.lemmas.List.{take-append-le, get_or_append_left, get_or-set_same, get_or-set_other}
 use Rattle.std.proofs.Math.Seq.{take-append_seam, get_or-append_seam}
@@ -9,17 +9,16 @@ use Rattle.lists.specs.Places.{Has, InOrder}
 use Rattle.lists.proofs.Places.{push_cases, slice_get-append_left, slice_get-last}
 use Rattle.lists.proofs.Sets.{slice_get-set_found, slice_get-set_other}
 use Rattle.journal.specs.declared.event.Event.{Event}
-use Rattle.journal.specs.declared.event.Kind.{Kind}
 use Rattle.journal.specs.declared.event.Kind.TheVariants.{Store}
 use Rattle.journal.specs.Did.{did, event}
-use Rattle.journal.specs.Events.{At, count_of, interval_at, is_closing, is_taking}
+use Rattle.journal.specs.Events.{At, count_of, is_closing, is_taking}
 use Rattle.journal.specs.WellFormed.{Does}
 use Rattle.journal.specs.Pasts.{InPast}
 use Rattle.journal.specs.Times.{IsTimeOf}
 use Rattle.journal.specs.Entries.{entry}
-use Rattle.journal.proofs.Order.Places.{at_within, at_longer, at_last, count_of-front, does_same}
+use Rattle.journal.proofs.Order.Places.{at_within, at_longer, at_last, count_of-front}
 use Rattle.journal.proofs.Times.Times.{time_equal}
-use Rattle.journal.proofs.Times.Pushes.{others_keep, own_entry, own_quiet}
+use Rattle.journal.proofs.Times.Pushes.{others_keep, own_quiet}
 use Rattle.sources.specs.declared.stored.Stored.{Stored}
 use Rattle.sources.specs.declared.known.Known.{Known}
 use Rattle.sources.specs.Stored.{IsStored, AreStored, IsRecent, AreKnown}

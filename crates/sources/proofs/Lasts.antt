@@ -1,9 +1,9 @@
 -- The last store of a processor in a past, by a timestamp.
-use Rattle.std.proofs.Common.{◌≡◌, ◌≢◌, ℕ, ◌+◌, ◌<◌, ◌≤◌, ◌==◌, cond, inl, inr, ◌↔◌, List, Option, Some, slice_get, slice_set, MatchOption, subst, sym, refl, ap, ◌∙◌, arith, true, false}
+use Rattle.std.proofs.Common.{◌≡◌, ◌≢◌, ℕ, ◌+◌, ◌<◌, ◌≤◌, ◌==◌, cond, inl, inr, ◌↔◌, List, Option, Some, slice_get, slice_set, MatchOption, subst, sym, ap, ◌∙◌, arith}
 use Rattle.std.specs.Prelude.{None}
 use Rattle.std.proofs.lemmas.Bool.{cases_eq, cases_lt, eq-eqb, ne_eqb}
 use Rattle.std.proofs.lemmas.Option.{same_Some}
-use Rattle.lists.specs.Places.{Has, InOrder}
+use Rattle.lists.specs.Places.{InOrder}
 use Rattle.lists.proofs.Sets.{slice_get-set_found, slice_get-set_other}
 use Rattle.journal.specs.declared.event.Event.{Event}
 use Rattle.journal.specs.declared.event.Kind.{Kind}
@@ -18,7 +18,7 @@ use Rattle.journal.proofs.Order.Pasts.{own_in_past}
 use Rattle.journal.proofs.Times.Pushes.{own_entry, covered}
 use Rattle.sources.specs.declared.stored.Stored.{Stored}
 use Rattle.sources.specs.Stored.{IsStored, AreStored, IsLastBelow, NoneBelow}
-use Rattle.sources.specs.Last.{IsLast, HasNone, IsLastOf}
+use Rattle.sources.specs.Last.{IsLastOf}
 
 -- an event is in a processor's past exactly where it is its own, or the timestamp counts its interval
 pub in_past : (j : List Event) (p q i : ℕ) (k : Kind) (t : ℕ → ℕ) → IsTimeOf j p t → Does j i q k

@@ -156,13 +156,7 @@ impl Sources {
 
     /// Whether a load of the address by this processor that comes next, after these events, may answer the value: the
     /// value of one of its latest stores, or 0 where it has none. It takes no memory, and time as `before` does.
-    pub fn may_answer(
-        &self,
-        events: &[Event],
-        processor: usize,
-        address: usize,
-        value: u32,
-    ) -> bool
+    pub fn may_answer(&self, events: &[Event], processor: usize, address: usize, value: u32) -> bool
         requires tells { Tells events.now self.now }
         requires processor { processor < self.now.processors }
         requires address { address < self.now.addresses }

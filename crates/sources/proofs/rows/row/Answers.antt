@@ -1,8 +1,7 @@
-use Rattle.std.proofs.Common.{◌≡◌, ℕ, [], ◌∷◌, ◌++◌, List, length, subst, sym}
+use Rattle.std.proofs.Common.{ℕ, [], ◌∷◌, ◌++◌, List, length, subst, sym}
 use Rattle.std.specs.Global.{Vec}
 use Rattle.std.proofs.lemmas.Result.{IfOk-weaker}
 use Rattle.journal.specs.declared.event.Event.{Event}
-use Rattle.journal.specs.declared.event.Kind.TheVariants.{Load}
 use Rattle.journal.specs.Did.{event}
 use Rattle.sources.specs.Latest.{AreMarked, IsRow}
 use Rattle.sources.specs.Tells.{Tells}

@@ -1,8 +1,6 @@
-use Rattle.std.proofs.Common.{ℕ, ◌≡◌, ◌+◌, ◌<◌, [], ◌∷◌, ◌++◌, List, length, slice_index, slice_set, vec_len, subst, sym, ap, ◌∙◌, arith}
-use Rattle.journal.specs.declared.event.Event.{Event}
+use Rattle.std.proofs.Common.{◌≡◌, ◌+◌, ◌<◌, length, slice_index, slice_set, subst, sym, arith}
 use Rattle.journal.specs.Prelude.{IsTimeOf, entry}
 use Rattle.sources.specs.Stored.{IsRecent}
-use Rattle.sources.specs.Prelude.{AreKnown}
 use Rattle.sources.proofs.Keeping.{recent_pushed, time_pushed}
 use Rattle.sources.proofs.known.Known.place_of.Goals as goal
 

@@ -1,13 +1,8 @@
-use Rattle.std.proofs.Common.{◌≡◌, ◌↔◌, ℕ, ◌+◌, ◌<◌, ◌≤◌, List, Option, Some, length, slice_get, vec_len, subst, sym, ap, ◌∙◌, arith, length-set}
-use Rattle.std.specs.Prelude.{None}
+use Rattle.std.proofs.Common.{List, Some, arith, length-set}
 use Rattle.std.proofs.lemmas.Option.{slice_get_within}
 use Rattle.journal.specs.declared.event.Event.{Event}
-use Rattle.journal.specs.declared.event.Kind.{Kind}
-use Rattle.journal.specs.declared.event.Kind.TheVariants.{Load}
 use Rattle.journal.specs.InRange.{ProcessorsInRange}
-use Rattle.sources.specs.declared.stored.Stored.{Stored}
 use Rattle.sources.specs.declared.sources.Sources.{Sources}
-use Rattle.sources.specs.Last.{AreLast, IsUnfollowed}
 use Rattle.sources.specs.Tells.{Tells}
 use Rattle.sources.proofs.Choosing.{IsGiven, marks_next, unfollowed_latest, latest_unfollowed}
 use Rattle.sources.proofs.sources.Sources.before.Goals as goal

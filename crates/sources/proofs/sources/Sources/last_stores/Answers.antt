@@ -1,13 +1,11 @@
-use Rattle.std.proofs.Common.{◌≡◌, ℕ, ◌+◌, ◌*◌, ◌<◌, ◌≤◌, ◌==◌, cond, List, Option, Some, length, slice_get, slice_set, slice_index, slice_index_or, vec_len, subst, sym, refl, ap, ◌∙◌, arith, length-set}
+use Rattle.std.proofs.Common.{◌≡◌, ℕ, ◌+◌, ◌*◌, ◌<◌, List, length, slice_index_or, subst, sym, refl, arith, length-set}
 use Rattle.std.specs.Global.{Vec}
 use Rattle.std.proofs.lemmas.Option.{slice_get_read, slice_get_within}
-use Rattle.lists.specs.Places.{InOrder}
 use Rattle.journal.specs.declared.event.Event.{Event}
 use Rattle.journal.specs.Entries.{entry}
 use Rattle.sources.specs.declared.stored.Stored.{Stored}
 use Rattle.sources.specs.declared.sources.Sources.{Sources}
 use Rattle.sources.specs.Stored.{AreStored}
-use Rattle.sources.specs.Last.{IsLastOf}
 use Rattle.sources.specs.Tells.{Tells}
 use Rattle.sources.proofs.Lasts.{intervals_rise, last_of, last_next}
 use Rattle.sources.proofs.sources.Sources.last_stores.Goals as goal

@@ -1,9 +1,7 @@
-use Rattle.std.proofs.Common.{◌≡◌, ℕ, ◌+◌, ◌*◌, ◌<◌, ◌≤◌, [], ◌∷◌, ◌++◌, List, Some, length, slice_get, slice_index, slice_index_or, vec_len, subst, sym, refl, ap, ◌∙◌, arith, length-set, length-append}
+use Rattle.std.proofs.Common.{◌<◌, [], ◌∷◌, length, slice_index, sym, refl, arith, length-append}
 use Rattle.std.proofs.lemmas.Option.{slice_get_read}
-use Rattle.journal.specs.declared.event.Event.{Event}
 use Rattle.journal.specs.declared.event.Kind.TheVariants.{Store}
 use Rattle.journal.specs.Did.{event}
-use Rattle.journal.specs.Events.{count_of, is_closing}
 use Rattle.journal.specs.Pasts.{InPast}
 use Rattle.journal.specs.Times.{IsTimeOf}
 use Rattle.journal.specs.Entries.{entry}
