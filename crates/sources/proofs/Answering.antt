@@ -1,5 +1,7 @@
 -- The latest stores of a load are what it may answer.
-use Rattle.std.proofs.Common.{◌≡◌, ℕ, zero, suc, ◌+◌, ◌<◌, ◌≤◌, inl, inr, ◌↔◌, List, [], ◌∷◌, ◌++◌, length, Option, Some, slice_get, subst, refl, ap, ◌∙◌, ◌≢◌, arith}
+use Rattle.std.proofs.Common.{◌≡◌, ℕ, zero, suc, ◌+◌, ◌<◌, ◌≤◌, inl, inr, ◌↔◌, List, [], ◌∷◌, ◌++◌, length, Option, Some, slice_get, subst, refl, ap, ◌∙◌, ◌≢◌, arith, take, drop, take-append-drop, sym}
+use Rattle.std.proofs.lemmas.List.{length-take-le}
+use Rattle.lists.proofs.Places.{take-suc_at}
 use Rattle.journal.specs.declared.event.Event.{Event}
 use Rattle.journal.specs.declared.event.Kind.TheVariants.{Load, Store}
 use Rattle.journal.specs.Did.{did, event}
@@ -7,10 +9,10 @@ use Rattle.journal.specs.Events.{At}
 use Rattle.journal.specs.Order.{HappensBefore}
 use Rattle.journal.specs.WellFormed.{Does}
 use Rattle.journal.specs.Loads.{IsAnswer, LatestStore, Untouched}
-use Rattle.journal.proofs.Order.Places.{at_longer, at_same, at_within, at_shorter, does_same}
+use Rattle.journal.proofs.Order.Places.{at_last, at_longer, at_same, at_within, at_shorter, does_same}
 use Rattle.journal.proofs.Order.HappensBefore.{goes_forward}
 use Rattle.sources.specs.Latest.{IsLatest}
-use Rattle.sources.specs.Laws.{IsValue}
+use Rattle.sources.specs.Answers.{IsValue}
 use Rattle.sources.proofs.InRows.{latest_longer, latest_shorter}
 
 -- a store of the past at most n places before the load, where none is the latest, can't be
@@ -140,3 +142,19 @@ stays_law j es k a v within = (there, back)
         at_longer j es x.1 (event x.0 (Store a v)) x.3,
       ))
     ]
+
+-- what a load may answer at the end of a history's front, it may in the history
+pub answer_in : (events : List Event) (k a v : ℕ) (e : Event) → At events k e
+    → IsAnswer (take k events ++ e ∷ []) (length (take k events)) a v ↔ IsAnswer events k a v
+answer_in events k a v e at =
+    let lt = at_within events k e at in
+    let long : length (take k events) ≡ k = length-take-le k events (omega arith) in
+    let split : (take k events ++ e ∷ []) ++ drop (suc k) events ≡ events =
+    ap (λ xs. xs ++ drop (suc k) events) (sym (take-suc_at events k e at)) ∙ take-append-drop (suc k) events in
+    let within =
+    at_within (take k events ++ e ∷ []) (length (take k events)) e (at_last (take k events) e) in
+    let stays = stays_law (take k events ++ e ∷ []) (drop (suc k) events) (length (take k events)) a v within in
+    let P : List Event → ℕ → Type 0 =
+    λ xs n. IsAnswer (take k events ++ e ∷ []) (length (take k events)) a v ↔ IsAnswer xs n a v in
+    subst (λ n. P events n) long
+    (subst (λ xs. P xs (length (take k events))) split ((λ h. stays.1 h), (λ h. stays.0 h)))

@@ -2,5 +2,5 @@ pub mod Latest
 pub mod Stored
 pub mod Last
 pub mod Tells
-pub mod Laws
+pub mod Answers
 pub mod Prelude
