@@ -4,7 +4,7 @@ ghost use Rattle.lists.specs.Prelude.{most_held, most_processors};
 ghost use Rattle.journal.specs.Prelude.{AddressInRange, AddressesInRange, ProcessorsInRange};
 
 use journal::{Event, Kind, MOST_HELD, MOST_PROCESSORS};
-use sources::latest;
+use sources::{first_unexplained, latest};
 use std::process::Abort;
 use std::test::Fail;
 
@@ -61,7 +61,55 @@ fn tells<R: Abort + AllocGlobal>(
             assert!(rt; row.as_slice() == want[place - first]);
         }
     }
+    assert!(rt; first_unexplained(rt.alloc(), sizes.0, sizes.1, events)? == None);
     Ok(())
+}
+
+/// The first load of a history of so many processors and addresses that answers what it may not stands at this place.
+fn refuses<R: Abort + AllocGlobal>(
+    rt: &R,
+    sizes: (usize, usize),
+    events: &[Event],
+    want: usize,
+) -> Result<(), Fail> {
+    assert!(rt; are_in_range(events, sizes.0, sizes.1));
+    assert!(rt; first_unexplained(rt.alloc(), sizes.0, sizes.1, events)? == Some(want));
+    Ok(())
+}
+
+/// Replies that aren't explained: 0 after a message, an overwritten value, a value that nobody stored, a store that comes
+/// later, and one that is not of the past.
+#[test]
+fn wrong_replies(rt: HostRuntime) -> Result<(), Fail> {
+    let events = [
+        by(0, Kind::Store(0, 7)),
+        by(0, Kind::Store(0, 8)),
+        by(0, Kind::Set(0)),
+        by(1, Kind::Watch(0)),
+        by(1, Kind::Await(0)),
+        by(0, Kind::Store(0, 9)),
+    ];
+    for value in [0, 7, 9, 10] {
+        let told = [
+            events[0],
+            events[1],
+            events[2],
+            events[3],
+            events[4],
+            events[5],
+            by(1, Kind::Load(0, 8)),
+            by(1, Kind::Load(0, value)),
+            by(1, Kind::Load(0, 0)),
+        ];
+        refuses(&rt, (2, 1), &told, 7)?;
+    }
+    refuses(
+        &rt,
+        (2, 2),
+        &[events[0], by(1, Kind::Load(0, 7)), by(0, Kind::Load(1, 7))],
+        1,
+    )?;
+    refuses(&rt, (2, 2), &[by(0, Kind::Load(0, 7)), events[0]], 0)
 }
 
 /// A message by a flag: the store is seen after the await, and not before.
