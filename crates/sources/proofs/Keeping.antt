@@ -2,7 +2,7 @@
 use Rattle.std.proofs.Common.{◌≡◌, ◌≢◌, ℕ, ◌+◌, ◌-◌, ◌<◌, ◌≤◌, inl, inr, List, [], ◌∷◌, ◌++◌, length, take, Some, slice_get, slice_index, slice_set, subst, sym, refl, ap, ◌∙◌, false, arith, length-append}
 use Rattle.std.specs.Global.{Vec}
 use Rattle.std.proofs.lemmas.Bool.{cases_eq}
-use Rattle.std.proofs.lemmas.Option.{slice_get_within}
+use Rattle.std.proofs.lemmas.Option.{none-some, slice_get_within}
 use Rattle.std.proofs.lemmas.List.{take-append-le, get_or_append_left, get_or-set_same, get_or-set_other}
 use Rattle.std.proofs.Math.Seq.{take-append_seam, get_or-append_seam}
 use Rattle.lists.specs.Places.{Has, InOrder}
@@ -273,3 +273,13 @@ rows_next j old new rows a p v was now s more few there items place interval wit
         are_stored_other j (event p (Store a v)) new b q row.items
         (λ w is. (let same = store_same a b v w p q is in other (rw (same.0, same.1) refl)))
         (are_stored_more j old new b q row.items more (are b q row lt there))
+
+-- before the first event there is no store
+pub rows_first : (times : List (List ℕ)) (rows : List (Vec Stored))
+    → ((n : ℕ) (row : Vec Stored) → slice_get rows n ≡ Some row → row.items ≡ []) → AreRowsOf [] times rows
+rows_first times rows empty a q row lt at =
+    subst (AreStored [] times a q) (sym (empty (row_of a q) row at)) (record {
+      each = λ n s at. absurd (none-some s at);
+      rising = λ m n s t lt at to. absurd (none-some s at);
+      all = λ i v does. absurd (none-some (event q (Store a v)) does);
+    })

@@ -1,3 +1,4 @@
+pub mod Reading
 pub mod Lasts
 pub mod Choosing
 pub mod Keeping

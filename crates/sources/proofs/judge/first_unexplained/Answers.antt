@@ -7,7 +7,7 @@ use Rattle.journal.specs.declared.event.Kind.TheVariants.{Load}
 use Rattle.journal.specs.Did.{event}
 use Rattle.journal.specs.Events.{At}
 use Rattle.journal.specs.WellFormed.{Does}
-use Rattle.journal.specs.InRange.{AddressInRange, AddressesInRange}
+use Rattle.journal.specs.InRange.{AddressInRange, AddressesInRange, ProcessorsInRange}
 use Rattle.journal.specs.Loads.{IsAnswer}
 use Rattle.journal.proofs.Order.Places.{at_same, at_within}
 use Rattle.sources.specs.Answers.{IsFirstUnexplained}
@@ -100,3 +100,7 @@ returns c = λ k p a v does.
     let within = at_within c.args.events.now k (event p (Load a v)) does in
     let over = c.loop-place-test.false in
     c.loop-place.invariant.explained k p a v (omega arith) does
+
+pub note-requires-clause-processors : goal.note-requires-clause-processors
+note-requires-clause-processors c =
+    subst (λ n. ProcessorsInRange n c.args.events.now) (sym c.loop-place.invariant.processors) c.requires.processors

@@ -5,7 +5,7 @@ use Rattle.lists.proofs.Places.{push_cases}
 use Rattle.journal.specs.declared.event.Event.{Event}
 use Rattle.journal.specs.declared.event.Kind.TheVariants.{Load}
 use Rattle.journal.specs.Did.{event}
-use Rattle.journal.specs.InRange.{AddressInRange, AddressesInRange}
+use Rattle.journal.specs.InRange.{AddressInRange, AddressesInRange, ProcessorsInRange}
 use Rattle.sources.specs.Latest.{AreRows, IsRow}
 use Rattle.sources.proofs.InRows.{row_in}
 use Rattle.sources.proofs.rows.latest.Goals as goal
@@ -62,3 +62,7 @@ loop-place-preserved c =
           subst (AreRows events) (sym c.in_ok-push.ensures.items)
           (rows_next events rows.items place c.in_ok-row.row long old.rows row);
     }
+
+pub note-requires-clause-processors : goal.note-requires-clause-processors
+note-requires-clause-processors c =
+    subst (λ n. ProcessorsInRange n c.args.events.now) (sym c.loop-place.invariant.processors) c.requires.processors

@@ -6,14 +6,10 @@ use Rattle.journal.specs.declared.event.Event.{Event}
 use Rattle.journal.specs.declared.event.Kind.TheVariants.{Load}
 use Rattle.journal.specs.Did.{event}
 use Rattle.journal.specs.Events.{At}
+use Rattle.sources.proofs.Reading.{option_at}
 use Rattle.sources.proofs.Answering.{marked_within, marked_answer, other_answer, free_answer}
 use Rattle.sources.proofs.sources.Sources.may_answer.Goals as goal
 use Rattle.sources.proofs.sources.Sources.may_answer.Goals.{in-Some+else-is_store_of, in_default}
-
--- the mark that is read
-mark_at : (marks : List (Option ℕ)) (q : ℕ) (o : Option ℕ) → q < length marks → slice_index_or marks q None ≡ o
-    → slice_get marks q ≡ Some o
-mark_at marks q o lt is = slice_get-get_or marks q None lt ∙ ap Some is
 
 -- the event at this place
 abbrev here : List Event → ℕ → Event
@@ -26,7 +22,7 @@ bounds-events-place c =
     let within : q < length marks = omega arith in
     marked_within c.args.events.now c.args.processor c.args.address c.args.value marks
     (c.before-places.ensures c.args.events.now c.requires.tells c.args.value) q c.in-Some.place
-    (mark_at marks q (Some c.in-Some.place) within c.in-Some.is)
+    (option_at marks q (Some c.in-Some.place) within c.in-Some.is)
 
 pub offset_bounds-events-place : goal.offset_bounds-events-place
 offset_bounds-events-place c =
@@ -36,7 +32,7 @@ offset_bounds-events-place c =
     let inside =
     marked_within c.args.events.now c.args.processor c.args.address c.args.value marks
     (c.before-places.ensures c.args.events.now c.requires.tells c.args.value) q c.in-Some.place
-    (mark_at marks q (Some c.in-Some.place) within c.in-Some.is) in
+    (option_at marks q (Some c.in-Some.place) within c.in-Some.is) in
     omega arith
 
 pub returns-then-is_store_of : goal.returns-then-is_store_of
@@ -46,7 +42,7 @@ returns-then-is_store_of c =
     let q = c.loop-place.place-index in
     let place = c.in-Some.place in
     let within : q < length marks = omega arith in
-    let at = mark_at marks q (Some place) within c.in-Some.is in
+    let at = option_at marks q (Some place) within c.in-Some.is in
     let tells = c.before-places.ensures events c.requires.tells c.args.value in
     let inside = marked_within events c.args.processor c.args.address c.args.value marks tells q place at in
     let there = slice_get-get_or events place (event 0 (Load 0 0)) inside in
@@ -65,7 +61,7 @@ loop-place-preserved c =
     let within : n < length marks = omega arith in
     elim c.match-place.branch [
       | in-Some+else-is_store_of w ↦
-          (let at = mark_at marks n (Some w.in-Some.place) within w.in-Some.is in
+          (let at = option_at marks n (Some w.in-Some.place) within w.in-Some.is in
           record {
             none = λ free. absurd (false≢true (sym w.is_free-is ∙ free));
             some = λ taken. (n, w.in-Some.place, at);
@@ -82,7 +78,7 @@ loop-place-preserved c =
             ];
           })
       | in_default w ↦
-          (let at = mark_at marks n None within w.in_default.is in
+          (let at = option_at marks n None within w.in_default.is in
           let no_mark = λ (q i : ℕ) (same : q ≡ n) (to : slice_get marks q ≡ Some (Some i)).
           none-some i (same_Some None (Some i) (sym at ∙ ap (slice_get marks) (sym same) ∙ to)) in
           record {
