@@ -101,7 +101,8 @@ load_past : (j : List Event) (p a v i : ℕ) → HappensBefore (did j p (Load a 
 load_past j p a v i = reaches_new j (event p (Load a v)) i refl
 
 -- up to there the order is the journal's
-load_order : (j : List Event) (p a v i k : ℕ) → k < length j → HappensBefore (did j p (Load a v)) i k ↔ HappensBefore j i k
+load_order : (j : List Event) (p a v i k : ℕ) → k < length j
+    → HappensBefore (did j p (Load a v)) i k ↔ HappensBefore j i k
 load_order j p a v i k lt = extension j (event p (Load a v) ∷ []) i k lt
 
 -- a store up to another one of its processor happens before what that happens before

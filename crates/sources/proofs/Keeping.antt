@@ -177,7 +177,8 @@ more_pushed times t = record {
 }
 
 -- stands last
-pub last_entry : (times : List (List ℕ)) (t : List ℕ) (q : ℕ) → entry (times ++ t ∷ []) (length times) q ≡ slice_index t q
+pub last_entry : (times : List (List ℕ)) (t : List ℕ) (q : ℕ)
+    → entry (times ++ t ∷ []) (length times) q ≡ slice_index t q
 last_entry times t q = ap (λ (x : List ℕ). slice_index x q) (get_or-append_seam times t [] [])
 
 pub time_pushed : (j : List Event) (times : List (List ℕ)) (t : List ℕ) (p : ℕ) → IsTimeOf j p (slice_index t)

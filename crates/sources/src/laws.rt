@@ -6,8 +6,8 @@ pub fn answers_law()
     ensures { AnswersLaw }
 {}
 
-/// What a load may answer stays as the history goes on: what `Sources::may_answer` says of it before it comes, it says
-/// of each history that begins so.
+/// What a load may answer stays as the history goes on: what `Sources::may_answer` says of it before it comes, it
+/// says of each history that begins so.
 pub fn stays_law()
     ensures { StaysLaw }
 {}

@@ -40,9 +40,9 @@ fn row(alloc: Global, sources: &Sources, event: Event) -> Result<Vec<usize>, All
 /// places of the latest stores of its past to its address, by rising processor, where it is a load; no place where
 /// it is none. The only error is want of memory.
 ///
-/// A load that has no place answers 0; any other answers the value of one of its places. It takes time in the order of
-/// the events times the processors times (the processors and the logarithm of the events), and memory as `Sources`
-/// does, besides the answer.
+/// A load that has no place may answer 0, and any other the value of each of its places. It takes time in the order
+/// of the events times the processors times (the processors and the logarithm of the events), and memory as
+/// `Sources` does, besides the answer.
 pub fn latest(
     alloc: Global,
     processors: usize,

@@ -136,8 +136,8 @@ impl Sources {
     /// Of each processor, the place of its store that a load of the address by this processor may answer, if the load
     /// comes next; None where it has no such store. Where all are None, the load answers 0. It takes no memory.
     ///
-    /// It looks at one store of each processor, found by halving among those to the address, and at each two of these:
-    /// of n stores it takes time in the order of the processors times (the processors and the logarithm of n).
+    /// It looks at one store of each processor, found by halving among those to the address, and at each two of
+    /// these: of n stores it takes time in the order of the processors times (the processors and the logarithm of n).
     pub fn before(&self, processor: usize, address: usize) -> [Option<usize>; 16]
         requires tells { (j : List Event) × Tells j self.now }
         requires processor { processor < self.now.processors }

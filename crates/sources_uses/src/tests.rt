@@ -42,8 +42,8 @@ fn are_in_range(events: &[Event], processors: usize, addresses: usize) -> bool
     events.len() <= MOST_HELD && processors <= MOST_PROCESSORS
 }
 
-/// What is wanted of a history of so many processors and addresses: of each load, the places of its latest stores. The
-/// loads stand at its end.
+/// What is wanted of a history of so many processors and addresses: of each of the last events, which are loads, the
+/// places of its latest stores. No other event has any, and each load answers what it may.
 fn tells<R: Abort + AllocGlobal>(
     rt: &R,
     sizes: (usize, usize),
@@ -84,8 +84,8 @@ fn is_refused<R: Abort + AllocGlobal>(
     Ok(())
 }
 
-/// Replies that aren't explained: 0 after a message, an overwritten value, a value that nobody stored, a store that comes
-/// later, and one that is not of the past.
+/// Replies that aren't explained: 0 after a message, an overwritten value, a value that nobody stored, a store that
+/// isn't of the past, and one that comes later.
 #[test]
 fn wrong_replies(rt: HostRuntime) -> Result<(), Fail> {
     let events = [

@@ -1,4 +1,4 @@
-use Rattle.std.proofs.Common.{◌≡◌, ℕ, ◌+◌, inl, inr, [], ◌∷◌, ◌++◌, List, Some, slice_get, subst, sym, ap, ◌∙◌, arith}
+use Rattle.std.proofs.Common.{◌≡◌, ℕ, inl, inr, [], ◌∷◌, ◌++◌, List, Some, slice_get, subst, sym, ap, ◌∙◌, arith}
 use Rattle.std.specs.Global.{Vec}
 use Rattle.lists.proofs.Places.{push_cases}
 use Rattle.sources.specs.declared.stored.Stored.{Stored}
@@ -9,7 +9,8 @@ abbrev AreEmpty : List (Vec Stored) → Type 0
 AreEmpty rows = (n : ℕ) (row : Vec Stored) → slice_get rows n ≡ Some row → row.items ≡ []
 
 -- an empty row more
-empty_next : (rows : List (Vec Stored)) (row : Vec Stored) → AreEmpty rows → row.items ≡ [] → AreEmpty (rows ++ row ∷ [])
+empty_next : (rows : List (Vec Stored)) (row : Vec Stored) → AreEmpty rows → row.items ≡ []
+    → AreEmpty (rows ++ row ∷ [])
 empty_next rows row empty none n other at = elim (push_cases rows row n other at) [
   | inl old ↦ empty n other old.1
   | inr new ↦ ap (λ (x : Vec Stored). x.items) (sym new.1) ∙ none

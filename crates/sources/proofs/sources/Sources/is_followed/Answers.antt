@@ -1,4 +1,4 @@
-use Rattle.std.proofs.Common.{◌≡◌, ℕ, ◌+◌, ◌<◌, ◌≤◌, inl, inr, List, Option, Some, length, slice_get, subst, sym, refl, ap, ◌∙◌, true, false, arith}
+use Rattle.std.proofs.Common.{◌≡◌, ◌<◌, inl, inr, Some, length, slice_get, subst, sym, refl, ap, ◌∙◌, arith}
 use Rattle.std.specs.Prelude.{None}
 use Rattle.std.proofs.lemmas.Bool.{cases_eq, false≢true}
 use Rattle.std.proofs.lemmas.Option.{none-some, same_Some, slice_get_within}

@@ -1,8 +1,7 @@
-use Rattle.std.proofs.Common.{◌≡◌, ℕ, ◌+◌, ◌*◌, ◌<◌, ◌≤◌, [], List, Option, Some, slice_get, subst, sym, ap, ◌∙◌, arith}
+use Rattle.std.proofs.Common.{◌≡◌, ℕ, ◌*◌, Option, Some, sym, ap, ◌∙◌, arith}
 use Rattle.std.specs.Prelude.{None, SomeIff}
 use Rattle.std.specs.Result.{result_ok}
 use Rattle.std.proofs.lemmas.Option.{none-some, same_Some}
-use Rattle.journal.specs.declared.event.Event.{Event}
 use Rattle.sources.proofs.Keeping.{rows_first}
 use Rattle.sources.proofs.sources.Sources.new.Goals as goal
 
