@@ -2,9 +2,11 @@
 ghost use Rattle.std.specs.Prelude.{◌≡◌, ◌<◌, ◌≤◌, ◌+◌, IsTrue, length};
 ghost use Rattle.lists.specs.Prelude.{most_held, most_processors};
 ghost use Rattle.journal.specs.Prelude.{AddressInRange, AddressesInRange, ProcessorsInRange};
+ghost use Rattle.sources.specs.Prelude.{Tells};
 
 use journal::{Event, Kind, MOST_HELD, MOST_PROCESSORS};
-use sources::{first_unexplained, latest};
+use sources::{Sources, first_unexplained, latest};
+use std::alloc::{AllocError, Global};
 use std::process::Abort;
 use std::test::Fail;
 
@@ -119,6 +121,44 @@ fn wrong_replies(rt: HostRuntime) -> Result<(), Fail> {
     is_refused(&rt, (2, 2), &[by(0, Kind::Load(0, 7)), events[0]], Some(0))
 }
 
+/// Whether each load of the history may answer its value and no other one below 10, by sources that take it an event at
+/// a time.
+fn only_these(
+    alloc: Global,
+    processors: usize,
+    addresses: usize,
+    events: &[Event],
+) -> Result<bool, AllocError>
+    requires few { length events.now ≤ most_held }
+    requires few_processors { processors ≤ most_processors }
+    requires processors { ProcessorsInRange processors events.now }
+    requires addresses { AddressesInRange addresses events.now }
+{
+    let mut sources = Sources::new(alloc, processors, addresses)?;
+    for place in 0..events.len() {
+        if !answers_only(&sources, &events[..place], events[place]) {
+            return Ok(false);
+        }
+        sources.note(events, place)?;
+    }
+    Ok(true)
+}
+
+/// Whether the event, which comes next, is no load, or one that may answer its value and no other below 10.
+fn answers_only(sources: &Sources, front: &[Event], event: Event) -> bool
+    requires tells { Tells front.now sources.now }
+    requires processor { event.processor < sources.now.processors }
+    requires address { AddressInRange sources.now.addresses event.kind }
+{
+    let Kind::Load(address, value) = event.kind else {
+        return true;
+    };
+    let by = event.processor;
+    let marks = sources.before(by, address);
+    marks.iter().flatten().all(|place| *place < front.len())
+        && (0..10).all(|other| sources.may_answer(front, by, address, other) == (other == value))
+}
+
 /// A message by a flag: the store is seen after the await, and not before.
 #[test]
 fn message(rt: HostRuntime) -> Result<(), Fail> {
@@ -138,7 +178,14 @@ fn message(rt: HostRuntime) -> Result<(), Fail> {
         by(1, Kind::Load(0, 7)),
         by(0, Kind::Load(0, 8)),
     ];
-    tells(&rt, (2, 1), &late, &[&[0], &[4]])
+    tells(&rt, (2, 1), &late, &[&[0], &[4]])?;
+    assert!(rt; are_in_range(&late, 2, 1));
+    let found = match only_these(rt.alloc(), 2, 1, &late) {
+        Ok(found) => found,
+        Err(_) => only_these(rt.alloc(), 2, 1, &late)?,
+    };
+    assert!(rt; found);
+    Ok(())
 }
 
 /// Independent reads of independent writes: who has taken nothing knows of none; by one lock all know of both.
