@@ -8,7 +8,7 @@ use std::alloc::{AllocError, Global};
 use std::collections::{BTreeMap, VecDeque};
 
 /// A vector timestamp: of each processor, how many of its closing events are counted.
-pub(crate) type Clock = [u32; 16];
+pub type Clock = [u32; 16];
 
 /// As many timestamps, all zeros. The only error is running out of memory.
 pub(crate) fn zeros(alloc: Global, count: usize) -> Result<Vec<Clock>, AllocError>

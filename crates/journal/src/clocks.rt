@@ -15,7 +15,7 @@ use std::collections::VecDeque;
 /// The timestamps after a journal's front: of each processor, and what each lock, each flag and each
 /// episode of the barrier keeps. The journal need not be one that a cluster can make.
 #[derive(Drop)]
-pub(crate) struct Clocks {
+pub struct Clocks {
     processors: Vec<Clock>,
     locks: Numbered,
     flags: Numbered,
@@ -37,7 +37,7 @@ fn are_past(counts: &[u32], number: usize) -> bool
 
 impl Clocks {
     /// The timestamps of this many processors before the first event. The only error is running out of memory.
-    pub(crate) fn new(alloc: Global, processors: usize) -> Result<Clocks, AllocError>
+    pub fn new(alloc: Global, processors: usize) -> Result<Clocks, AllocError>
         requires { processors ≤ most_processors }
         ensures clocks { IfOk result (λ c. AreClocks [] c) }
         ensures present { IfOk result (λ c. c.present ≡ processors) }
@@ -55,7 +55,7 @@ impl Clocks {
     }
 
     /// The processor's timestamp.
-    pub(crate) fn of(&self, processor: usize) -> &Clock
+    pub fn of(&self, processor: usize) -> &Clock
         requires { processor < vec_len self.now.processors }
         ensures { (q : ℕ) → slice_index result.now q ≡ entry self.now.processors.items processor q }
     {
@@ -178,8 +178,9 @@ impl Clocks {
         }
     }
 
-    /// Takes note of the event at this place, the next one.
-    pub(crate) fn note(&mut self, events: &[Event], place: usize) -> Result<(), AllocError>
+    /// Takes note of the event at this place, the next one. The only error is want of memory, after which the
+    /// timestamps may be those of no journal.
+    pub fn note(&mut self, events: &[Event], place: usize) -> Result<(), AllocError>
         requires place { place < length events.now }
         requires few { length events.now ≤ most_held + most_processors }
         requires processors { ProcessorsInRange self.old.present events.now }

@@ -29,6 +29,8 @@ mod replay;
 mod reach_table;
 mod traffic;
 
+pub use clock::Clock;
+pub use clocks::Clocks;
 pub use cut::CutFault;
 pub use event::{Event, Kind};
 pub use journal::Journal;

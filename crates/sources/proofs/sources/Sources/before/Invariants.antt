@@ -1,0 +1,10 @@
+use Rattle.std.proofs.Common.{◌≡◌, ◌↔◌, ℕ, ◌<◌, Some, length, slice_get}
+use Rattle.sources.specs.Last.{IsUnfollowed}
+use Rattle.sources.proofs.sources.Sources.before.Given as goal
+
+abbrev pub invariant-loop-by : goal.invariant-loop-by
+invariant-loop-by l = record {
+  long : length l.latest ≡ 16;
+  marks : (q i : ℕ) → q < l.by
+      → (slice_get l.latest q ≡ Some (Some i)) ↔ IsUnfollowed l.self.known.times.items l.last q i;
+}

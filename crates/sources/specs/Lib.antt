@@ -1,0 +1,6 @@
+pub mod Latest
+pub mod Stored
+pub mod Last
+pub mod Tells
+pub mod Answers
+pub mod Prelude

@@ -1,0 +1,23 @@
+//! Which stores a load may answer: of each load of a history, the latest stores of its past to its address.
+//!
+//! **What contracts see.** A load may answer a store of its past after which no other store to its address happens in
+//! that past (`LatestStore` of journal's specs/Loads; `IsLatest` says it by processor and place). Happens-before is
+//! happens-before-1 of Adve and Hill. The histories need not be ones that a cluster can make.
+//!
+//! **What is proved.** `Sources` takes a history an event at a time, and tells of any load that may come next exactly
+//! the places of the stores that it may answer. `latest` does this of a whole history.
+//!
+//! **What is only tested**: that memory isn't refused needlessly, and that each refusal is answered.
+#![tactic(auto)]
+
+mod judge;
+mod known;
+mod laws;
+mod rows;
+mod sources;
+mod stored;
+
+pub use judge::first_unexplained;
+pub use laws::{answers_law, stays_law};
+pub use rows::latest;
+pub use sources::Sources;
