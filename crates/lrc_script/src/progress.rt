@@ -1,5 +1,6 @@
 //! How far a script is read, and what each line adds.
-ghost use Rattle.std.specs.Prelude.{◌≡◌, ◌≢◌, ℕ, ◌≤◌, ◌<◌, nat_le, [], length, Some, IfOk, IfErr, OnOk, IfSome, IfNone};
+ghost use Rattle.std.specs.Prelude.{◌≡◌, ◌≢◌, ℕ, ◌≤◌, ◌<◌, nat_le, [], length, Some, IfOk, IfErr, OnOk};
+ghost use Rattle.std.specs.Prelude.{IfSome, IfNone};
 ghost use Rattle.std.specs.List.{list_any};
 ghost use Rattle.lrc_script.specs.Prelude.{Plan, plan_of, IsBegun, Headed, Within, Whole, addresses, Gives, Fails};
 ghost use Rattle.lrc_script.specs.Prelude.{Goes, IsOther, front_of, is_due, takes, are_sizes, headed, first_section};

@@ -13,7 +13,7 @@ use Rattle.traces.specs.Lines.{IsCutLine}
 use Rattle.traces.proofs.Lines.{plain_word}
 
 -- such a line, without its line feed
-cut_bytes : (n : ℕ) → 0 < n → cut_line n ≡ (codes "cut " ++ decimal n) ++ 10 ∷ []
+pub cut_bytes : (n : ℕ) → 0 < n → cut_line n ≡ (codes "cut " ++ decimal n) ++ 10 ∷ []
 cut_bytes n some = let test = lt-ltb 0 n some in rw test refl
 
 -- its words

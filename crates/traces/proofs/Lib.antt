@@ -7,3 +7,4 @@ pub mod Texts
 pub mod Never
 pub mod Places
 pub mod Printed
+pub mod CutFaults

@@ -25,7 +25,8 @@ pub no_events : (s : Sizes) → AreSizes (head s) → IsTrace s []
 no_events s h = record { sizes = h; few = omega arith; events = All-nil (IsWithin s) }
 
 -- one event more
-pub added_trace : (s : Sizes) (es fs : List Event) (line : List ℕ) → IsTrace s es → IsAdded s es line fs → IsTrace s fs
+pub added_trace : (s : Sizes) (es fs : List Event) (line : List ℕ) → IsTrace s es → IsAdded s es line fs
+    → IsTrace s fs
 added_trace s es fs line h a =
     subst (IsTrace s) (sym a.after_is) (record {
       sizes = h.sizes;

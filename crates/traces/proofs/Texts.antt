@@ -1,4 +1,4 @@
--- The lines of a trace's text: they are cut apart in one way, so the text has one trace, and each of its lines is due.
+-- The lines of a trace's text are cut apart in one way: so the text has one trace, and each of its lines is due.
 use Rattle.std.proofs.Common.{◌≡◌, ℕ, suc, ◌+◌, ◌<◌, ◌≤◌, eqb, List, [], ◌∷◌, ◌++◌, length, Ok, refl, sym, ap, subst, ◌∙◌, append_assoc, append-nil, arith}
 use Rattle.std.specs.List.{AllByRecursion}
 use Rattle.std.proofs.lemmas.List.{append_cancel_right, length-append}
@@ -33,7 +33,7 @@ use Rattle.traces.proofs.Lines.{AreSmall, event_bytes, event_clean, events_diffe
 abbrev pub head_bytes : Sizes → List ℕ
 head_bytes s = line_bytes (cluster_line (head s))
 
-head_read : (s : Sizes) → AreSizes (head s) → Goes Nothing (cluster_line (head s)) (Headed (head s))
+pub head_read : (s : Sizes) → AreSizes (head s) → Goes Nothing (cluster_line (head s)) (Headed (head s))
 head_read s h = head_goes (head s) (record { sizes = h; no_sections = refl; none_shown = refl })
 
 heads_differ : (s t : Sizes) → AreSizes (head s) → AreSizes (head t) → head_bytes s ≡ head_bytes t → s ≡ t
@@ -124,8 +124,8 @@ text_parts s es h = ap (parts_of 10) (sym (append-nil (text s es))) ∙ trace_pa
 
 -- ---- one text, one trace
 
-lists_differ : (i : ℕ) (es fs : List Event) → AreSmallFrom i es → AreSmallFrom i fs → event_list i es ≡ event_list i fs
-    → es ≡ fs
+lists_differ : (i : ℕ) (es fs : List Event) → AreSmallFrom i es → AreSmallFrom i fs
+    → event_list i es ≡ event_list i fs → es ≡ fs
 lists_differ i [] [] small less e = refl
 lists_differ i [] (f ∷ fs) small less e = absurd cc
 lists_differ i (e ∷ es) [] small less same = absurd cc
@@ -174,6 +174,19 @@ nothing_left : (line : List ℕ) (parts : List (List ℕ)) → 0 < length parts 
 nothing_left line [] some e = omega arith
 nothing_left line (p ∷ parts) some e = absurd cc
 
+among_longer : (i : ℕ) (e f : Event) (es fs : List Event) (line : List ℕ) → IsAmong (i + 1) es fs line
+    → IsAmong i (e ∷ es) (f ∷ fs) line
+among_longer i e f es fs line w =
+    let place : (i + 1) + length es ≡ i + suc (length es) = omega arith in
+    record {
+      event = w.event;
+      front = f ∷ w.front;
+      back = w.back;
+      events_are = ap (λ (xs : List Event). f ∷ xs) w.events_are;
+      as_many = ap suc w.as_many;
+      line_is = w.line_is ∙ ap (λ (n : ℕ). event_bytes n w.event) place;
+    }
+
 walk : (i : ℕ) (es fs : List Event) (line : List ℕ) (parts : List (List ℕ)) → 0 < length parts
     → event_list i fs ++ [] ∷ [] ≡ event_list i es ++ line ∷ parts → IsAmong i es fs line
 walk i [] [] line parts some e = absurd (nothing_left line parts some e)
@@ -190,42 +203,21 @@ walk i [] (f ∷ fs) line parts some e = record {
 }
 walk i (e ∷ es) [] line parts some same = absurd (let none : [] ≡ event_bytes i e = cc in cc)
 walk i (e ∷ es) (f ∷ fs) line parts some same =
-    let others : event_list (i + 1) fs ++ [] ∷ [] ≡ event_list (i + 1) es ++ line ∷ parts = cc in
-    let w = walk (i + 1) es fs line parts some others in
-    let place : (i + 1) + length es ≡ i + suc (length es) = omega arith in
-    record {
-      event = w.event;
-      front = f ∷ w.front;
-      back = w.back;
-      events_are = ap (λ (xs : List Event). f ∷ xs) w.events_are;
-      as_many = ap suc w.as_many;
-      line_is = w.line_is ∙ ap (λ (n : ℕ). event_bytes n w.event) place;
-    }
+    among_longer i e f es fs line
+    (walk (i + 1) es fs line parts some
+    (let others : event_list (i + 1) fs ++ [] ∷ [] ≡ event_list (i + 1) es ++ line ∷ parts = cc in others))
 
 among : (P : Event → Type 0) (front : List Event) (e : Event) (back : List Event)
     → AllByRecursion P (front ++ e ∷ back) → P e
 among P [] e back h = h.0
 among P (f ∷ front) e back h = among P front e back h.1
 
-parts_some : (bytes : List ℕ) → 0 < length (parts_of 10 bytes)
+pub parts_some : (bytes : List ℕ) → 0 < length (parts_of 10 bytes)
 parts_some bytes = omega (arith, length-slice_split (λ b. eqb b 10) bytes)
 
--- where a trace's text goes on by a line, that line is due
-pub next_due : (s : Sizes) (es : List Event) (line : List ℕ) → IsTrace s es → HasNo 10 line
-    → BeginsText (text s es ++ (line ++ 10 ∷ [])) → IsNext s es line
-next_due s es line h clean b =
-    let t = b.0 in let fs = b.1 in let k = b.2 in let more = b.3 in
-    let bytes : text t fs ≡ text s es ++ (line ++ 10 ∷ more) =
-    b.4 ∙ append_assoc (text s es) (line ++ 10 ∷ []) more
-    ∙ ap (λ (x : List ℕ). text s es ++ x) (append_assoc line (10 ∷ []) more) in
-    let lines : (head_bytes t ∷ (event_list 0 fs ++ [] ∷ []))
-    ≡ (head_bytes s ∷ (event_list 0 es ++ line ∷ parts_of 10 more)) =
-    sym (text_parts t fs k) ∙ ap (parts_of 10) bytes ∙ trace_parts s es (line ++ 10 ∷ more) h
-    ∙ ap (λ (x : List (List ℕ)). head_bytes s ∷ (event_list 0 es ++ x)) (parts_first 10 line more clean) in
-    let heads : head_bytes t ≡ head_bytes s = cc in
-    let others : event_list 0 fs ++ [] ∷ [] ≡ event_list 0 es ++ line ∷ parts_of 10 more = cc in
-    let sizes = heads_differ t s k.sizes h.sizes heads in
-    let w = walk 0 es fs line (parts_of 10 more) (parts_some more) others in
+next_from : (s t : Sizes) (es fs : List Event) (line : List ℕ) → IsTrace t fs → t ≡ s → IsAmong 0 es fs line
+    → IsNext s es line
+next_from s t es fs line k sizes w =
     let place : 0 + length es ≡ length es = omega arith in
     let all =
     subst (λ (xs : List Event). AllByRecursion (IsWithin t) xs) w.events_are
@@ -243,6 +235,23 @@ next_due s es line h clean b =
             w.as_many,
           );
     }
+
+-- where a trace's text goes on by a line, that line is due
+pub next_due : (s : Sizes) (es : List Event) (line : List ℕ) → IsTrace s es → HasNo 10 line
+    → BeginsText (text s es ++ (line ++ 10 ∷ [])) → IsNext s es line
+next_due s es line h clean b =
+    let t = b.0 in let fs = b.1 in let k = b.2 in let more = b.3 in
+    let bytes : text t fs ≡ text s es ++ (line ++ 10 ∷ more) =
+    b.4 ∙ append_assoc (text s es) (line ++ 10 ∷ []) more
+    ∙ ap (λ (x : List ℕ). text s es ++ x) (append_assoc line (10 ∷ []) more) in
+    let lines : (head_bytes t ∷ (event_list 0 fs ++ [] ∷ []))
+    ≡ (head_bytes s ∷ (event_list 0 es ++ line ∷ parts_of 10 more)) =
+    sym (text_parts t fs k) ∙ ap (parts_of 10) bytes ∙ trace_parts s es (line ++ 10 ∷ more) h
+    ∙ ap (λ (x : List (List ℕ)). head_bytes s ∷ (event_list 0 es ++ x)) (parts_first 10 line more clean) in
+    let heads : head_bytes t ≡ head_bytes s = cc in
+    let others : event_list 0 fs ++ [] ∷ [] ≡ event_list 0 es ++ line ∷ parts_of 10 more = cc in
+    next_from s t es fs line k (heads_differ t s k.sizes h.sizes heads)
+    (walk 0 es fs line (parts_of 10 more) (parts_some more) others)
 
 -- ---- the first line, and the last
 

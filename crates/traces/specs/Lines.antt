@@ -12,8 +12,8 @@ use Rattle.traces.specs.declared.names.Name.{Name}
 use Rattle.traces.specs.Lawful.{IsWithin}
 use Rattle.traces.specs.Names.{count_of, numbers_of, word_of}
 
--- the line is the word `event` and others, with one space before each: a place, a processor, a name, and as many words
--- as the name has numbers
+-- the line is the word `event` and others, with one space before each: a place, a processor, a name, and as many
+-- words as the name has numbers
 pub record IsShaped (line place processor : List ℕ) (name : Name) (numbers : List (List ℕ)) : Type 0 where
   pub split : IsSplit line (codes "event") (place ∷ processor ∷ word_of name ∷ numbers)
   pub count : length numbers ≡ count_of name

@@ -6,4 +6,4 @@ pub use Rattle.traces.specs.Names.{count_of, kind_from, name_of, numbers_of, wor
 pub use Rattle.traces.specs.Lines.{HasBadNumber, HasNoShape, IsAdded, IsCutLine, IsDue, IsEventLine, IsShaped}
 pub use Rattle.traces.specs.Faults.{EventSays, HeadSays, IsFault, IsFaultAt, IsFaultBehind, IsHeadFault, IsPast}
 pub use Rattle.traces.specs.Faults.{HasNoSizes, HasSizes, IsNoEvent, LineSays, Refuses, fault_from}
-pub use Rattle.traces.specs.Laws.{OneTraceLaw, PrintedLaw, WellFormedLaw}
+pub use Rattle.traces.specs.Laws.{CutLaw, OneTraceLaw, PrintedLaw, WellFormedLaw}

@@ -49,7 +49,8 @@ sizes_alone line f read other =
     let h = headed_alone f a.added a.adds.lines_are in other h.0 h.1
 
 -- why the line of sizes was refused
-pub sizes_fault : (line : List ℕ) (e : ScriptFault) → Fails e (after Nothing line) → e ≢ NoMemory → Says e Nothing line
+pub sizes_fault : (line : List ℕ) (e : ScriptFault) → Fails e (after Nothing line) → e ≢ NoMemory
+    → Says e Nothing line
 sizes_fault line NoMemory read ne = absurd (ne refl)
 sizes_fault line e read ne = line_says Nothing line e read
 

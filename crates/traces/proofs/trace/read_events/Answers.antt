@@ -17,5 +17,6 @@ pub returns-in-Err-clause-fault : goal.returns-in-Err-clause-fault
 returns-in-Err-clause-fault c =
     let s = sizes_of c.args.sizes.now in
     fault_at c.in-Err.fault s c.loop-line.events.items c.args.bytes.now _ _ c.loop-line.invariant.begun
-    c.loop-line.invariant.whole (omega (arith, c.len-number.ensures)) (refused_behind c.in-Err.fault s _ _ c.in-Some.line.now _ c.loop-line.invariant.begun
-    c.in-Some.ensures c.in-Err.ensures.fault)
+    c.loop-line.invariant.whole (omega (arith, c.len-number.ensures))
+    (refused_behind c.in-Err.fault s _ _ c.in-Some.line.now _ c.loop-line.invariant.begun c.in-Some.ensures
+    c.in-Err.ensures.fault)
