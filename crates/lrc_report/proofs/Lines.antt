@@ -8,7 +8,7 @@ use Rattle.lrc_report.specs.Writing.{AppendsFront, Passes}
 use Rattle.lrc_report.proofs.Writing.{passes_then, passes_front, pending_longer}
 
 -- the lines of two lists
-lines_append : (j : ℕ) (xs ys : List Event)
+pub lines_append : (j : ℕ) (xs ys : List Event)
     → event_lines j (xs ++ ys) ≡ event_lines j xs ++ event_lines (j + length xs) ys
 lines_append j [] ys = ap (λ n. event_lines n ys) (omega arith)
 lines_append j (x ∷ xs) ys =

@@ -3,3 +3,4 @@ pub mod Adds
 pub mod Says
 pub mod Places
 pub mod Uneven
+pub mod Sizes

@@ -1,11 +1,11 @@
 -- The words that contracts name, passed on from one place. Declares nothing.
 pub use Rattle.lrc_script.specs.Plan.{Plan, items_of, plan_of}
-pub use Rattle.lrc_script.specs.Lawful.{IsEven, IsLawful, address_of, addresses, barriers, flag_of, is_barrier}
-pub use Rattle.lrc_script.specs.Lawful.{lock_of}
+pub use Rattle.lrc_script.specs.Lawful.{AreSizes, IsEven, IsLawful, address_of, addresses, barriers, flag_of}
+pub use Rattle.lrc_script.specs.Lawful.{is_barrier, lock_of}
 pub use Rattle.lrc_script.specs.Text.{cluster_line, instruction_line, line_bytes, line_text, section_line}
 pub use Rattle.lrc_script.specs.Text.{section_lines, show_line, spaced, text}
-pub use Rattle.lrc_script.specs.Front.{Headed, IsBegun, Whole, Within}
-pub use Rattle.lrc_script.specs.Faults.{HasNoLineFeed, IsFault, IsUneven}
+pub use Rattle.lrc_script.specs.Front.{Headed, IsBegun, IsHeaded, Nothing, Whole, Within}
+pub use Rattle.lrc_script.specs.Faults.{HasNoLineFeed, IsFault, IsUneven, Says}
 pub use Rattle.lrc_script.specs.Draw.{IsShape, access, below, drawn, drawn_sections, group, item, more_phases}
 pub use Rattle.lrc_script.specs.Draw.{most_pieces, phase, piece, pieces, section, seeded, shape}
 pub use Rattle.lrc_script.specs.Reading.{Fails, Gives, Goes, IsCut, IsOther, after, after_numbers, are_sizes, ended}

@@ -17,7 +17,7 @@ pub mod draw;
 mod evenness;
 pub mod fault;
 pub mod laws;
-mod line;
+pub mod line;
 mod progress;
 pub mod script;
 mod section;

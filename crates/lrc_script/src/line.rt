@@ -118,7 +118,7 @@ fn sum_of_digits(word: &[u8]) -> Option<u32>
 }
 
 /// The number that is written so: in decimal, with no leading zero, below 2^32.
-fn number(word: &[u8]) -> Option<u32>
+pub fn number(word: &[u8]) -> Option<u32>
     ensures { result ≡ number_of word.now }
 {
     match word {

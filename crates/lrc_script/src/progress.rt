@@ -1,5 +1,6 @@
 //! How far a script is read, and what each line adds.
-ghost use Rattle.std.specs.Prelude.{◌≡◌, ℕ, ◌≤◌, ◌<◌, nat_le, [], length, Some, IfOk, IfErr, OnOk, IfSome, IfNone};
+ghost use Rattle.std.specs.Prelude.{◌≡◌, ◌≢◌, ℕ, ◌≤◌, ◌<◌, nat_le, [], length, Some, IfOk, IfErr, OnOk};
+ghost use Rattle.std.specs.Prelude.{IfSome, IfNone};
 ghost use Rattle.std.specs.List.{list_any};
 ghost use Rattle.lrc_script.specs.Prelude.{Plan, plan_of, IsBegun, Headed, Within, Whole, addresses, Gives, Fails};
 ghost use Rattle.lrc_script.specs.Prelude.{Goes, IsOther, front_of, is_due, takes, are_sizes, headed, first_section};
@@ -318,6 +319,17 @@ impl Progress {
         match few_numbers(words) {
             Some(numbers) => self.after_numbers(alloc, Keyword::of(word), numbers.as_slice()),
             None => self.after_any(alloc, line),
+        }
+    }
+
+    /// The sizes, if the `cluster` line was read and nothing more.
+    pub fn headed(self) -> Option<Script>
+        ensures found { IfSome result (λ s. front_of self ≡ Headed (plan_of s)) }
+        ensures none { IfNone result ((s : Plan) → front_of self ≢ Headed s) }
+    {
+        match self {
+            Progress::Headed(script) => Some(script),
+            _ => None,
         }
     }
 

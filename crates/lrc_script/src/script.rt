@@ -1,6 +1,7 @@
 //! A script: the sizes of a cluster, what each processor does, and the addresses to show.
 ghost use Rattle.std.specs.Prelude.{◌≡◌, ◌≢◌, IfOk, IfErr};
 ghost use Rattle.lrc_script.specs.Prelude.{Plan, plan_of, IsLawful, text, IsFault, address_of, lock_of, flag_of};
+ghost use Rattle.lrc_script.specs.Prelude.{AreSizes, IsHeaded, Nothing, Says, cluster_line, line_bytes};
 ghost use Rattle.lrc_script.specs.declared.fault.ScriptFault.TheVariants.{NoMemory};
 
 use crate::evenness::uneven_line;
@@ -81,6 +82,33 @@ pub struct Script {
     pub flags: usize,
     pub sections: Vec<Vec<Instruction>>,
     pub shown: Vec<usize>,
+}
+
+/// The sizes that a `cluster` line gives, which is handed in without its line feed: a script that has no section yet.
+///
+/// # Errors
+///
+/// `BadLine`, `BadNumber` and `BadSize` come only where the line gives no sizes that a script may have, and say
+/// what is wrong with it. `NoMemory` comes where a growth was refused.
+pub fn read_sizes(alloc: Global, line: &[u8]) -> Result<Script, ScriptFault>
+    // What is read are sizes that a script may have, and the line is theirs.
+    ensures found { IfOk result (λ s. IsHeaded (plan_of s)
+        × (line.now ≡ line_bytes (cluster_line (plan_of s)))) }
+    // No such sizes are refused, unless memory runs out.
+    ensures only { IfErr result (λ e. e ≢ NoMemory → (s : Plan) → AreSizes s
+        → line.now ≢ line_bytes (cluster_line s)) }
+    // The fault says why.
+    ensures fault { IfErr result (λ e. e ≢ NoMemory → Says e Nothing line.now) }
+{
+    let mut progress = Progress::Start;
+    match progress.after(alloc, line) {
+        Ok(()) => {}
+        Err(fault) => return Err(fault),
+    }
+    match progress.headed() {
+        Some(script) => Ok(script),
+        None => Err(ScriptFault::BadLine),
+    }
 }
 
 /// The script that has these bytes as its text, or the first line with a fault, counted from 1. On one line

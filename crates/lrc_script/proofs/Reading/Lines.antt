@@ -18,7 +18,7 @@ use Rattle.lrc_script.proofs.Reading.Words.{HasNo, HasNo-append, parts_from_spli
 abbrev pub is_plain : List ℕ → Bool
 is_plain w = ltb 0 (length w) && list_all (λ b. not (eqb b 32) && not (eqb b 10)) w
 
-plain_bytes : (w : List ℕ) → list_all (λ b. not (eqb b 32) && not (eqb b 10)) w ≡ true → HasNo 32 w × HasNo 10 w
+pub plain_bytes : (w : List ℕ) → list_all (λ b. not (eqb b 32) && not (eqb b 10)) w ≡ true → HasNo 32 w × HasNo 10 w
 plain_bytes [] h = (tt, tt)
 plain_bytes (b ∷ w) h =
     let both = and_parts (not (eqb b 32) && not (eqb b 10)) (list_all (λ b. not (eqb b 32) && not (eqb b 10)) w) h in

@@ -1,0 +1,10 @@
+pub mod Called
+pub mod Lines
+pub mod Shapes
+pub mod CutLines
+pub mod Heads
+pub mod Texts
+pub mod Never
+pub mod Places
+pub mod Printed
+pub mod CutFaults

@@ -1,0 +1,120 @@
+-- What each fault says of the bytes.
+use Rattle.std.specs.Prelude.{◌≡◌, ◌≢◌, ℕ, ◌+◌, ◌<◌, ◌≤◌, ◌⊎◌, List, [], ◌∷◌, ◌++◌, length}
+use Rattle.lists.specs.Limits.{most_held}
+use Rattle.journal.specs.declared.event.Event.{Event}
+use Rattle.journal.specs.declared.event.Kind.{Kind}
+use Rattle.journal.specs.declared.event.Kind.TheVariants as kind
+use Rattle.journal.specs.Sizes.{Sizes, addresses}
+use Rattle.lrc_script.specs.declared.fault.ScriptFault.{ScriptFault}
+use Rattle.lrc_script.specs.declared.fault.ScriptFault.TheVariants as script
+use Rattle.lrc_script.specs.Lawful.{AreSizes}
+use Rattle.lrc_script.specs.Front.{Nothing}
+use Rattle.lrc_script.specs.Faults.{HasLine, HasNoLineFeed, Says}
+use Rattle.lrc_script.specs.Reading.{IsCut}
+use Rattle.traces.specs.declared.fault.TraceFault.{TraceFault}
+use Rattle.traces.specs.declared.fault.TraceFault.TheVariants.{Truncated, Cut, BadLine, BadNumber, BadSize, BadPlace, BadProcessor, OutOfRange, BadLock, BadFlag, TooLong, NoMemory}
+use Rattle.traces.specs.Sizes.{head}
+use Rattle.traces.specs.Text.{head_line, text}
+use Rattle.traces.specs.Lawful.{IsTrace}
+use Rattle.traces.specs.Lines.{HasBadNumber, HasNoShape, IsCutLine, IsEventLine}
+
+-- a fault of the first line, by what a script's reader calls it
+abbrev pub fault_from : ScriptFault → TraceFault
+fault_from script.BadNumber = BadNumber
+fault_from script.BadSize = BadSize
+fault_from script.NoMemory = NoMemory
+fault_from _ = BadLine
+
+-- what a fault says of the line of the sizes: the same as of a script's first line
+abbrev pub HeadSays : TraceFault → List ℕ → Type 0
+HeadSays BadLine line = Says script.BadLine Nothing line
+HeadSays BadNumber line = Says script.BadNumber Nothing line
+HeadSays BadSize line = Says script.BadSize Nothing line
+HeadSays _ line = ⊥
+
+-- the kind names an address, a page, a lock or a flag past the sizes, and this is its fault
+abbrev pub IsPast : TraceFault → Sizes → Kind → Type 0
+IsPast OutOfRange s (kind.Load a v) = addresses s ≤ a
+IsPast OutOfRange s (kind.Store a v) = addresses s ≤ a
+IsPast OutOfRange s (kind.Fetch w n r d) = s.pages ≤ n
+IsPast BadLock s (kind.Ask l) = s.locks ≤ l
+IsPast BadLock s (kind.Acquire l) = s.locks ≤ l
+IsPast BadLock s (kind.Release l) = s.locks ≤ l
+IsPast BadFlag s (kind.Set f) = s.flags ≤ f
+IsPast BadFlag s (kind.Watch f) = s.flags ≤ f
+IsPast BadFlag s (kind.Await f) = s.flags ≤ f
+IsPast _ s k = ⊥
+
+-- what a fault says of an event of this place behind so many others
+abbrev pub EventSays : TraceFault → Sizes → ℕ → ℕ → Event → Type 0
+EventSays BadPlace s count place e = place ≢ count
+EventSays BadProcessor s count place e = s.processors ≤ e.processor
+EventSays TooLong s count place e = most_held ≤ count
+EventSays fault s count place e = IsPast fault s e.kind
+
+-- what a fault says of a line behind these events
+abbrev pub LineSays : TraceFault → Sizes → List Event → List ℕ → Type 0
+LineSays Cut s es line = (es ≡ []) × IsCutLine line
+LineSays BadLine s es line = HasNoShape line × ((es ≡ []) → ¬ IsCutLine line)
+LineSays BadNumber s es line = HasBadNumber line
+LineSays fault s es line =
+    (place : ℕ) × (e : Event) × IsEventLine line place e × EventSays fault s (length es) place e
+
+-- why a line is no event's, unless memory ran out
+abbrev pub IsNoEvent : TraceFault → List ℕ → Type 0
+IsNoEvent NoMemory line = Unit {0}
+IsNoEvent BadLine line = HasNoShape line
+IsNoEvent BadNumber line = HasBadNumber line
+IsNoEvent _ line = ⊥
+
+-- why a line adds no event to these, unless memory ran out
+abbrev pub Refuses : TraceFault → Sizes → List Event → List ℕ → Type 0
+Refuses NoMemory s es line = Unit {0}
+Refuses fault s es line = LineSays fault s es line
+
+-- the line has sizes that a script may have
+pub record HasSizes (line : List ℕ) (s : Sizes) : Type 0 where
+  pub sizes : AreSizes (head s)
+  pub line_is : line ++ 10 ∷ [] ≡ head_line s
+
+-- why a line has no such sizes, unless memory ran out
+abbrev pub HasNoSizes : TraceFault → List ℕ → Type 0
+HasNoSizes NoMemory line = Unit {0}
+HasNoSizes fault line = HeadSays fault line × ((s : Sizes) → ¬ HasSizes line s)
+
+-- some trace has a text that begins so
+abbrev pub BeginsText : List ℕ → Type 0
+BeginsText bytes = (s : Sizes) × (es : List Event) × IsTrace s es × (more : List ℕ) × (text s es ≡ bytes ++ more)
+
+-- behind these bytes, which are whole lines, stands a line of which this holds, and no trace has it there
+pub record IsBadLine (before rest : List ℕ) (Holds : List ℕ → Type 0) : Type 0 where
+  pub line : List ℕ
+  pub more : List ℕ
+  pub cut : IsCut rest line more
+  pub holds : Holds line
+  pub never : ¬ BeginsText (before ++ (line ++ 10 ∷ []))
+
+-- the fault of the first line
+abbrev pub IsHeadFault : TraceFault → List ℕ → Type 0
+IsHeadFault Truncated bytes = HasNoLineFeed bytes
+IsHeadFault NoMemory bytes = HasLine bytes
+IsHeadFault fault bytes = IsBadLine [] bytes (HeadSays fault)
+
+-- the fault of the line behind these events, where this is left
+abbrev pub IsFaultBehind : TraceFault → Sizes → List Event → List ℕ → Type 0
+IsFaultBehind Truncated s es rest = HasNoLineFeed rest × (0 < length rest)
+IsFaultBehind NoMemory s es rest = HasLine rest
+IsFaultBehind fault s es rest = IsBadLine (text s es) rest (LineSays fault s es)
+
+-- line n is the first that isn't due: the lines before it are the text of a trace, and the fault says what is wrong
+pub record IsFaultAt (s : Sizes) (bytes : List ℕ) (n : ℕ) (fault : TraceFault) : Type 0 where
+  pub events : List Event
+  pub rest : List ℕ
+  pub begun : IsTrace s events
+  pub whole : bytes ≡ text s events ++ rest
+  pub number : n ≡ length events + 2
+  pub behind : IsFaultBehind fault s events rest
+
+-- line 1 has the fault, or a later line
+abbrev pub IsFault : List ℕ → ℕ → TraceFault → Type 0
+IsFault bytes n fault = ((n ≡ 1) × IsHeadFault fault bytes) ⊎ ((s : Sizes) × IsFaultAt s bytes n fault)
