@@ -1,0 +1,5 @@
+pub mod Refusing
+pub mod Noting
+pub mod Asking
+pub mod Fronts
+pub mod Verdicts

@@ -1,0 +1,5 @@
+pub mod Sizes
+pub mod Lax
+pub mod Why
+pub mod Tells
+pub mod Prelude
