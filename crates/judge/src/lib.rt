@@ -17,6 +17,6 @@ mod sizes;
 mod why;
 
 pub use judge::{IllFormed, first_ill_formed};
-pub use laws::{lax_law, why_law};
+pub use laws::{lax_law, range_law, why_law};
 pub use sizes::Sizes;
 pub use why::Why;
