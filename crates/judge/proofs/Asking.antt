@@ -1,0 +1,80 @@
+-- The first open ask of a lock, among the last events of all processors.
+use Rattle.std.proofs.Common.{◌≡◌, ℕ, ◌+◌, ◌<◌, ◌≤◌, inl, inr, List, length, Option, Some, MatchOption, slice_index_or, subst, sym, refl, ap, ◌∙◌, arith}
+use Rattle.std.specs.Prelude.{None}
+use Rattle.std.proofs.lemmas.Bool.{cases_eq, cases_lt}
+use Rattle.std.proofs.lemmas.List.{get_or_past}
+use Rattle.std.proofs.lemmas.Option.{same_Some, none-some}
+use Rattle.journal.specs.declared.event.Event.{Event}
+use Rattle.journal.specs.declared.event.Kind.{Kind}
+use Rattle.journal.specs.declared.event.Kind.TheVariants.{Ask}
+use Rattle.journal.specs.Did.{event}
+use Rattle.journal.specs.WellFormed.{LastIs}
+use Rattle.journal.proofs.Order.Places.{at_within}
+use Rattle.journal.proofs.Journals.WellFormed.{last_unique}
+use Rattle.judge.specs.declared.front.Last.{Last}
+use Rattle.judge.specs.Tells.{IsFirstAsk, IsLastOf, NobodyAsks}
+
+-- q's last event asks for l, at place i
+abbrev pub AsksAt : List (Option Last) → ℕ → ℕ → ℕ → Type 0
+AsksAt last l q i = slice_index_or last q None ≡ Some (record { place = i; kind = Ask l })
+
+-- what is found so far is an ask at the limit, or nothing
+abbrev pub IsFound : List (Option Last) → ℕ → ℕ → Option (ℕ × ℕ) → ℕ → Type 0
+IsFound last end l found limit =
+    MatchOption found (limit ≡ end) (λ (x : ℕ × ℕ). (x.1 ≡ limit) × AsksAt last l x.0 x.1)
+
+-- the asks of the first n processors stand from the limit on
+abbrev pub AreFrom : List (Option Last) → ℕ → ℕ → ℕ → Type 0
+AreFrom last l limit n = (q i : ℕ) → q < n → AsksAt last l q i → limit ≤ i
+
+-- one processor more, whose ask stands before the limit
+pub from_lower : (last : List (Option Last)) (l limit n i : ℕ) → AsksAt last l n i → i < limit
+    → AreFrom last l limit n → AreFrom last l i (n + 1)
+from_lower last l limit n i asks lower from q k lt there = elim (cases_eq q n) [
+  | inl is ↦
+      (let one = same_Some _ _ (sym asks ∙ ap (λ m. slice_index_or last m None) (sym is) ∙ there) in
+      let same = ap (λ (x : Last). x.place) one in
+      omega arith)
+  | inr isnt ↦ (let le = from q k (omega arith) there in omega arith)
+]
+
+-- or none does
+pub from_same : (last : List (Option Last)) (l limit n : ℕ) → ((i : ℕ) → AsksAt last l n i → limit ≤ i)
+    → AreFrom last l limit n → AreFrom last l limit (n + 1)
+from_same last l limit n none from q k lt there = elim (cases_eq q n) [
+  | inl is ↦ none k (ap (λ m. slice_index_or last m None) (sym is) ∙ there)
+  | inr isnt ↦ from q k (omega arith) there
+]
+
+-- what is kept of a processor's last event is that
+pub last_kept : (j : List Event) (p i : ℕ) (a : Kind) (o : Option Last) → IsLastOf j p o → LastIs j p i a
+    → o ≡ Some (record { place = i; kind = a })
+last_kept j p i a None none is = absurd (none i (event p a) is.does refl)
+last_kept j p i a (Some x) last is =
+    let same = last_unique j p x.place i x.kind a last is in
+    ap (λ (y : Last). Some y) (subst (λ n. x ≡ record { place = n; kind = a }) same.0
+    (subst (λ k. x ≡ record { place = x.place; kind = k }) same.1 refl))
+
+-- and stands within the list
+asks_within : (last : List (Option Last)) (l q i : ℕ) → AsksAt last l q i → q < length last
+asks_within last l q i asks = elim (cases_lt q (length last)) [
+  | inl lt ↦ lt
+  | inr le ↦ absurd (none-some _ (sym (get_or_past last q None le) ∙ asks))
+]
+
+module _ (j : List Event) (last : List (Option Last)) (l limit : ℕ)
+    (lasts : (p : ℕ) → IsLastOf j p (slice_index_or last p None)) (from : AreFrom last l limit 16) (long : length last ≡ 16) where
+  all_from : (q k : ℕ) → LastIs j q k (Ask l) → limit ≤ k
+  all_from q k is =
+      let asks = last_kept j q k (Ask l) (slice_index_or last q None) (lasts q) is in
+      let lt = asks_within last l q k asks in
+      from q k (omega arith) asks
+
+  pub first_found : (q : ℕ) → AsksAt last l q limit → IsFirstAsk j l q limit
+  first_found q asks = record { asks = subst (IsLastOf j q) asks (lasts q); first = all_from }
+
+  pub none_found : limit ≡ length j → NobodyAsks j l
+  none_found end q k is =
+      let le = all_from q k is in
+      let within = at_within j k (event q (Ask l)) is.does in
+      omega arith

@@ -1,0 +1,75 @@
+use Rattle.std.proofs.Common.{◌≡◌, ℕ, ◌+◌, ◌≤◌, List, Option, Some, MatchOption, subst, sym, refl, ◌∙◌, arith}
+use Rattle.std.specs.Prelude.{None}
+use Rattle.std.proofs.lemmas.Option.{none-some}
+use Rattle.journal.specs.declared.event.Event.{Event}
+use Rattle.judge.specs.declared.front.Front.{Front}
+use Rattle.judge.specs.declared.front.Last.{Last}
+use Rattle.judge.specs.Tells.{IsFirstAsk, NobodyAsks, Tells}
+use Rattle.judge.proofs.Asking.{AreFrom, AsksAt, IsFound, first_found, from_lower, from_same, none_found}
+use Rattle.judge.proofs.front.Front.first_ask.Goals as goal
+use Rattle.judge.proofs.front.Front.first_ask.Goals.{in-Some+then-place-limit, in-Some+else-place-limit, in_default}
+
+-- what is found by the end is the first ask
+answer : (j : List Event) (x : Front) (l limit : ℕ) (found : Option (ℕ × ℕ)) → Tells j x
+    → IsFound x.last x.place l found limit → AreFrom x.last l limit 16
+    → MatchOption found (NobodyAsks j l) (λ (a : ℕ × ℕ). IsFirstAsk j l a.0 a.1)
+answer j x l limit None tells is from = none_found j x.last l limit tells.lasts from tells.long (is ∙ tells.place)
+answer j x l limit (Some a) tells is from =
+    subst (IsFirstAsk j l a.0) (sym is.0)
+    (first_found j x.last l limit tells.lasts from tells.long a.0 (subst (AsksAt x.last l a.0) is.0 is.1))
+
+pub returns : goal.returns
+returns c = λ j tells.
+    let over = c.loop-processor-test.false in
+    answer j c.args.self.now c.args.lock c.loop-processor.limit c.loop-processor.first tells
+    c.loop-processor.invariant.found
+    (λ q i lt asks. c.loop-processor.invariant.least q i (omega arith) asks)
+
+pub loop-processor-init : goal.loop-processor-init
+loop-processor-init c = record { found = refl; least = λ q i lt asks. absurd (omega arith) }
+
+-- what is kept, by another name
+found_is : (last : List (Option Last)) (end l a b : ℕ) (x y : Option (ℕ × ℕ)) → x ≡ y → a ≡ b
+    → IsFound last end l y b → IsFound last end l x a
+found_is last end l a b x y same equal is =
+    subst (λ o. IsFound last end l o a) (sym same) (subst (IsFound last end l y) (sym equal) is)
+
+from_is : (last : List (Option Last)) (l a b n : ℕ) → a ≡ b → AreFrom last l b n → AreFrom last l a n
+from_is last l a b n equal from q i lt asks = let le = from q i lt asks in omega arith
+
+pub loop-processor-preserved : goal.loop-processor-preserved
+loop-processor-preserved c =
+    let last = c.args.self.now.last in
+    let end = c.args.self.now.place in
+    let l = c.args.lock in
+    let n = c.loop-processor.processor in
+    let old = c.loop-processor.invariant in
+    let limit = c.loop-processor.limit in
+    let now = c.match-asked_at in
+    elim now.branch [
+      | in-Some+then-place-limit w ↦
+          (let asks = (c.asked_at.ensures w.in-Some.place).0 w.in-Some.is in
+          record {
+            found = found_is last end l now.limit w.in-Some.place now.first _ w.first-is w.limit-is (refl, asks);
+            least = from_is last l now.limit w.in-Some.place (n + 1) w.limit-is
+                (from_lower last l limit n w.in-Some.place asks w.if-place-limit.true old.least);
+          })
+      | in-Some+else-place-limit w ↦
+          (record {
+            found = found_is last end l now.limit limit now.first c.loop-processor.first w.first-is w.limit-is old.found;
+            least = from_is last l now.limit limit (n + 1) w.limit-is
+                (from_same last l limit n
+                (λ i asks. at_or_after w.in-Some.place i limit
+                (sym w.in-Some.is ∙ (c.asked_at.ensures i).1 asks) w.if-place-limit.false) old.least);
+          })
+      | in_default w ↦
+          (record {
+            found = found_is last end l now.limit limit now.first c.loop-processor.first w.first-is w.limit-is old.found;
+            least = from_is last l now.limit limit (n + 1) w.limit-is
+                (from_same last l limit n
+                (λ i asks. absurd (none-some i (sym w.in_default.is ∙ (c.asked_at.ensures i).1 asks))) old.least);
+          })
+    ]
+  where
+    at_or_after : (m i limit : ℕ) → Some m ≡ Some i → limit ≤ m → limit ≤ i
+    at_or_after m i limit is le = let same : m ≡ i = cc in omega arith

@@ -1,0 +1,8 @@
+use Rattle.judge.proofs.Asking.{IsFound, AreFrom}
+use Rattle.judge.proofs.front.Front.first_ask.Given as goal
+
+abbrev pub invariant-loop-processor : goal.invariant-loop-processor
+invariant-loop-processor l = record {
+  found : IsFound l.self.last l.self.place l.lock l.first l.limit;
+  least : AreFrom l.self.last l.lock l.limit l.processor;
+}

@@ -1,0 +1,37 @@
+-- Which journals a cluster can make that grants a lock's asks in any order.
+use Rattle.std.specs.Prelude.{ℕ, ◌<◌, Bool, true, false, List, take}
+use Rattle.journal.specs.declared.event.Event.{Event}
+use Rattle.journal.specs.declared.event.Kind.{Kind}
+use Rattle.journal.specs.declared.event.Kind.TheVariants.{Ask, Acquire}
+use Rattle.journal.specs.Sizes.{Sizes}
+use Rattle.journal.specs.Events.{At}
+use Rattle.journal.specs.WellFormed.{Allowed, Answers, Holds, KindInRange, LastIs, MayFollow, WellFormed}
+
+-- what has to hold for p to do this next: of an acquire, that its ask is open, and that nobody holds the lock
+abbrev pub AllowedLax : Sizes → List Event → ℕ → Kind → Type 0
+AllowedLax s j p (Acquire l) = ((i : ℕ) × LastIs j p i (Ask l)) × ((q : ℕ) → ¬ Holds j q l)
+AllowedLax s j p k = Allowed s j p k
+
+-- the event may come next after j
+pub record MayFollowLax (s : Sizes) (j : List Event) (e : Event) : Type 0 where
+  pub processor : e.processor < s.processors
+  pub in_range : KindInRange s e.kind
+  pub answers : (i : ℕ) (k : Kind) → LastIs j e.processor i k → Answers k e.kind
+  pub allowed : AllowedLax s j e.processor e.kind
+
+-- each event may follow what stands before it
+abbrev pub WellFormedLax : Sizes → List Event → Type 0
+WellFormedLax s j = (k : ℕ) (e : Event) → At j k e → MayFollowLax s (take k j) e
+
+-- the same, lax or not
+abbrev pub MayFollowIn : Bool → Sizes → List Event → Event → Type 0
+MayFollowIn true = MayFollowLax
+MayFollowIn false = MayFollow
+
+abbrev pub WellFormedIn : Bool → Sizes → List Event → Type 0
+WellFormedIn true = WellFormedLax
+WellFormedIn false = WellFormed
+
+-- a well formed history is well formed in the lax sense
+abbrev pub LaxLaw : Type 0
+LaxLaw = (s : Sizes) (j : List Event) → WellFormed s j → WellFormedLax s j

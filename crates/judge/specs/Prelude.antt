@@ -1,0 +1,6 @@
+-- The words that contracts name, passed on from one place. Declares nothing.
+pub use Rattle.judge.specs.Sizes.{AreSmall, sizes_of}
+pub use Rattle.judge.specs.Lax.{LaxLaw, MayFollowLax, WellFormedIn}
+pub use Rattle.judge.specs.Why.{IsFirstIllFormed, IsInTurn, IsVerdict, WaitsFor, WhyLaw}
+pub use Rattle.judge.specs.Tells.{IsFirstAsk, NobodyAsks, Tells, holder_after, set_after}
+pub use Rattle.judge.specs.Ranges.{RangeLaw}

@@ -1,0 +1,93 @@
+-- What each reason says of an event and of what stands before it.
+use Rattle.std.specs.Prelude.{ℕ, ◌≡◌, ◌≢◌, ◌<◌, ◌≤◌, Bool, false, IsTrue, Option, Some, MatchOption, List, take}
+use Rattle.journal.specs.declared.event.Event.{Event}
+use Rattle.journal.specs.declared.event.Kind.{Kind}
+use Rattle.journal.specs.declared.event.Kind.TheVariants.{Ask, Acquire, Release, Depart, Set, Await}
+use Rattle.journal.specs.Sizes.{Sizes}
+use Rattle.journal.specs.Events.{At, count_of, is_arrive, is_depart, is_taking}
+use Rattle.journal.specs.WellFormed.{Does, Holds, KindInRange, LastIs}
+use Rattle.journal.specs.Waits.{awaited}
+use Rattle.judge.specs.declared.why.Why.{Why}
+use Rattle.judge.specs.declared.why.Why.TheVariants.{NoSuchProcessor, OutOfRange, Waits, AsksWhatItHolds, NotAsked}
+use Rattle.judge.specs.declared.why.Why.TheVariants.{HeldBy, AskedEarlier, NotHeld, NotArrived, NotSet}
+use Rattle.judge.specs.declared.judge.IllFormed.{IllFormed}
+use Rattle.judge.specs.Lax.{MayFollowIn, WellFormedIn}
+
+-- p's last event is one after which it waits, for this
+pub record WaitsFor (j : List Event) (p : ℕ) (k : Kind) : Type 0 where
+  pub place : ℕ
+  pub kind : Kind
+  pub last : LastIs j p place kind
+  pub awaits : awaited kind ≡ Some k
+
+-- p's ask of l is open, and q's at the earlier place i is too
+pub record IsBehind (j : List Event) (p l q i : ℕ) : Type 0 where
+  pub place : ℕ
+  pub asked : LastIs j p place (Ask l)
+  pub earlier : LastIs j q i (Ask l)
+  pub before : i < place
+
+-- the reason is true of the event e after j; lax, the order of asks is none
+abbrev pub IsWhy : Bool → Sizes → List Event → Event → Why → Type 0
+IsWhy lax s j e NoSuchProcessor = s.processors ≤ e.processor
+IsWhy lax s j e OutOfRange = ¬ KindInRange s e.kind
+IsWhy lax s j e (Waits k) = WaitsFor j e.processor k × (e.kind ≢ k)
+IsWhy lax s j e AsksWhatItHolds = (l : ℕ) × (e.kind ≡ Ask l) × Holds j e.processor l
+IsWhy lax s j e NotAsked = IsTrue (is_taking e.kind) × (¬ WaitsFor j e.processor e.kind)
+IsWhy lax s j e (HeldBy q) = (l : ℕ) × (e.kind ≡ Acquire l) × Holds j q l
+IsWhy lax s j e (AskedEarlier q i) = (l : ℕ) × (e.kind ≡ Acquire l) × IsBehind j e.processor l q i × (lax ≡ false)
+IsWhy lax s j e NotHeld = (l : ℕ) × (e.kind ≡ Release l) × (¬ Holds j e.processor l)
+IsWhy lax s j e (NotArrived q) =
+    (e.kind ≡ Depart) × (q < s.processors) × (count_of is_arrive j q ≤ count_of is_depart j e.processor)
+IsWhy lax s j e NotSet = (f : ℕ) × (e.kind ≡ Await f) × ((k q : ℕ) → ¬ Does j k q (Set f))
+
+-- the order of the reasons
+abbrev pub rank : Why → ℕ
+rank NoSuchProcessor = 0
+rank OutOfRange = 1
+rank (Waits k) = 2
+rank AsksWhatItHolds = 3
+rank NotAsked = 4
+rank (HeldBy q) = 5
+rank (AskedEarlier q i) = 6
+rank NotHeld = 7
+rank (NotArrived q) = 8
+rank NotSet = 9
+
+-- among open asks the first place comes first, among those who have not arrived the least processor
+abbrev pub number : Why → ℕ
+number (AskedEarlier q i) = i
+number (NotArrived q) = q
+number _ = 0
+
+-- the reason v doesn't come before w
+abbrev pub IsUpTo : Why → Why → Type 0
+IsUpTo w v = (rank w ≤ rank v) × (rank w ≡ rank v → number w ≤ number v)
+
+-- of the reasons that are true, w is the first
+pub record IsFirstWhy (lax : Bool) (s : Sizes) (j : List Event) (e : Event) (w : Why) : Type 0 where
+  pub is_true : IsWhy lax s j e w
+  pub first : (v : Why) → IsWhy lax s j e v → IsUpTo w v
+
+-- None where the event may come next, else the first reason why not
+abbrev pub IsVerdict : Bool → Sizes → List Event → Event → Option Why → Type 0
+IsVerdict lax s j e o = MatchOption o (MayFollowIn lax s j e) (IsFirstWhy lax s j e)
+
+-- its processor and its numbers are within the sizes, and it is what its processor waits for, where that waits
+pub record IsInTurn (s : Sizes) (j : List Event) (e : Event) : Type 0 where
+  pub processor : e.processor < s.processors
+  pub in_range : KindInRange s e.kind
+  pub answers : (k : Kind) → WaitsFor j e.processor k → e.kind ≡ k
+
+-- the event at this place may not follow what stands before it, which is well formed, and this is the first reason
+pub record IsFirstIllFormed (lax : Bool) (s : Sizes) (j : List Event) (x : IllFormed) : Type 0 where
+  pub event : Event
+  pub at : At j x.place event
+  pub before : WellFormedIn lax s (take x.place j)
+  pub refused : ¬ MayFollowIn lax s (take x.place j) event
+  pub why : IsFirstWhy lax s (take x.place j) event x.why
+
+-- where a reason is true of an event, it may not come next
+abbrev pub WhyLaw : Type 0
+WhyLaw = (lax : Bool) (s : Sizes) (j : List Event) (e : Event) (w : Why)
+    → IsWhy lax s j e w → ¬ MayFollowIn lax s j e

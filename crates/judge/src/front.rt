@@ -1,0 +1,285 @@
+//! What a history so far says of what may come next.
+ghost use Rattle.std.specs.Prelude.{◌≡◌, ◌↔◌, ℕ, ◌+◌, ◌<◌, ◌≤◌, ◌^◌, ◌==◌, ◌&&◌, [], ◌∷◌, ◌++◌, Bool, IsTrue};
+ghost use Rattle.std.specs.Prelude.{List, MatchOption, cond, false, slice_index, slice_index_or};
+ghost use Rattle.lists.specs.Prelude.{most_held};
+ghost use Rattle.journal.specs.declared.event.Event.{Event};
+ghost use Rattle.journal.specs.declared.event.Kind.{Kind as AKind};
+ghost use Rattle.journal.specs.declared.event.Kind.TheVariants.{Acquire, Ask, Await, Depart};
+ghost use Rattle.journal.specs.Sizes.{Sizes as TheSizes};
+ghost use Rattle.journal.specs.WellFormed.{KindInRange};
+ghost use Rattle.journal.specs.Prelude.{Holds, event, is_arrive, is_depart};
+ghost use Rattle.judge.specs.Prelude.{AreSmall, IsFirstAsk, IsInTurn, NobodyAsks, IsVerdict, MayFollowLax, Tells, WaitsFor};
+ghost use Rattle.judge.specs.Prelude.{holder_after, set_after, sizes_of};
+
+use crate::kinds::{awaited_after, is_same};
+use crate::sizes::Sizes;
+use crate::why::Why;
+use journal::{Event, Kind};
+
+/// What a processor did last, and where.
+#[derive(Clone, Copy)]
+pub(crate) struct Last {
+    pub(crate) place: usize,
+    pub(crate) kind: Kind,
+}
+
+/// A history, taken an event at a time, of which it tells whether an event may come next.
+#[derive(Drop)]
+pub(crate) struct Front {
+    pub(crate) sizes: Sizes,
+    /// How many events there are.
+    pub(crate) place: usize,
+    /// Of each processor, its last event.
+    pub(crate) last: [Option<Last>; 16],
+    /// How often each processor has arrived.
+    pub(crate) arrivals: [u32; 16],
+    /// How often it has departed.
+    pub(crate) departures: [u32; 16],
+    /// Who holds each lock.
+    pub(crate) holders: [Option<usize>; 32],
+    /// Which flags are set.
+    pub(crate) flags: [bool; 32],
+}
+
+/// The place of a processor's last event, if that asks for the lock.
+fn asked_at(last: Option<Last>, lock: usize) -> Option<usize>
+    ensures { (i : ℕ) → (result ≡ Some i) ↔ (last ≡ Some (record { place = i; kind = Ask lock })) }
+{
+    let last = last?;
+    if last.kind == Kind::Ask(lock) {
+        Some(last.place)
+    } else {
+        None
+    }
+}
+
+/// Counts the event where it is an arrival or a departure.
+fn count(arrivals: &mut [u32; 16], departures: &mut [u32; 16], event: Event)
+    requires processor { event.processor < 16 }
+    requires arrivals_room { slice_index arrivals.old event.processor < 2 ^ 22 }
+    requires departures_room { slice_index departures.old event.processor < 2 ^ 22 }
+    ensures arrivals { (q : ℕ) → slice_index arrivals.new q
+        ≡ slice_index arrivals.old q + cond ((event.processor == q) && is_arrive event.kind) 1 0 }
+    ensures departures { (q : ℕ) → slice_index departures.new q
+        ≡ slice_index departures.old q + cond ((event.processor == q) && is_depart event.kind) 1 0 }
+{
+    match event.kind {
+        Kind::Arrive => arrivals[event.processor] += 1,
+        Kind::Depart => departures[event.processor] += 1,
+        _ => {}
+    }
+}
+
+/// Takes note of who acquires or releases a lock.
+fn hold(holders: &mut [Option<usize>; 32], event: Event)
+    requires { (s : TheSizes) × AreSmall s × KindInRange s event.kind }
+    ensures { (l : ℕ) → slice_index_or holders.new l None
+        ≡ holder_after (slice_index_or holders.old l None) l event.processor event.kind }
+{
+    match event.kind {
+        Kind::Acquire(lock) => holders[lock] = Some(event.processor),
+        Kind::Release(lock) => holders[lock] = None,
+        _ => {}
+    }
+}
+
+/// Takes note of a flag that is set.
+fn set(flags: &mut [bool; 32], kind: Kind)
+    requires { (s : TheSizes) × AreSmall s × KindInRange s kind }
+    ensures { (f : ℕ) → slice_index_or flags.new f false
+        ≡ set_after (slice_index_or flags.old f false) f kind }
+{
+    match kind {
+        Kind::Set(flag) => flags[flag] = true,
+        _ => {}
+    }
+}
+
+impl Front {
+    /// Before the first event.
+    pub(crate) fn new(sizes: Sizes) -> Front
+        requires { AreSmall (sizes_of sizes) }
+        ensures tells { Tells [] result }
+        ensures sizes { result.sizes ≡ sizes }
+    {
+        Front {
+            sizes,
+            place: 0,
+            last: [None; 16],
+            arrivals: [0; 16],
+            departures: [0; 16],
+            holders: [None; 32],
+            flags: [false; 32],
+        }
+    }
+
+    /// What the processor waits for.
+    fn awaited(&self, processor: usize) -> Option<Kind>
+        requires { processor < 16 }
+        ensures { (j : List Event) → Tells j self.now → (k : AKind)
+            → (result ≡ Some k) ↔ WaitsFor j processor k }
+    {
+        let last = self.last[processor]?;
+        awaited_after(last.kind)
+    }
+
+    /// Of the open asks of the lock, whose is the first one, and its place.
+    fn first_ask(&self, lock: usize) -> Option<(usize, usize)>
+        ensures { (j : List Event) → Tells j self.now
+            → MatchOption result (NobodyAsks j lock) (λ x. IsFirstAsk j lock x.0 x.1) }
+    {
+        let mut first = None;
+        let mut limit = self.place;
+        for processor in 0..16 {
+            if let Some(place) = asked_at(self.last[processor], lock) {
+                if place < limit {
+                    limit = place;
+                    first = Some((processor, place));
+                }
+            }
+        }
+        first
+    }
+
+    /// Why the lock is not granted to the processor, whose ask of it is open.
+    fn not_granted(&self, processor: usize, lock: usize, lax: bool) -> Option<Why>
+        requires { lock < 32 }
+        ensures { (j : List Event) → Tells j self.now
+            → IsInTurn (sizes_of self.now.sizes) j (event processor (Acquire lock))
+            → WaitsFor j processor (Acquire lock)
+            → IsVerdict lax (sizes_of self.now.sizes) j (event processor (Acquire lock)) result }
+    {
+        if let Some(holder) = self.holders[lock] {
+            return Some(Why::HeldBy(holder));
+        }
+        if lax {
+            return None;
+        }
+        let (first, place) = self.first_ask(lock)?;
+        if first == processor {
+            None
+        } else {
+            Some(Why::AskedEarlier(first, place))
+        }
+    }
+
+    /// Why the processor, which has arrived, does not depart.
+    fn not_departed(&self, processor: usize) -> Option<Why>
+        requires processor { processor < 16 }
+        requires processors { self.now.sizes.processors ≤ 16 }
+        ensures { (j : List Event) → Tells j self.now
+            → IsInTurn (sizes_of self.now.sizes) j (event processor Depart)
+            → WaitsFor j processor Depart → (lax : Bool)
+            → IsVerdict lax (sizes_of self.now.sizes) j (event processor Depart) result }
+    {
+        let departures = self.departures[processor];
+        for other in 0..self.sizes.processors {
+            if self.arrivals[other] <= departures {
+                return Some(Why::NotArrived(other));
+            }
+        }
+        None
+    }
+
+    /// Why the event, which its processor waits for, may not come next.
+    fn not_let_on(&self, event: Event, lax: bool) -> Option<Why>
+        requires { (j : List Event) × Tells j self.now × IsInTurn (sizes_of self.now.sizes) j event }
+        ensures { (j : List Event) → Tells j self.now → IsInTurn (sizes_of self.now.sizes) j event
+            → WaitsFor j event.processor event.kind
+            → IsVerdict lax (sizes_of self.now.sizes) j event result }
+    {
+        match event.kind {
+            Kind::Acquire(lock) => self.not_granted(event.processor, lock, lax),
+            Kind::Depart => self.not_departed(event.processor),
+            Kind::Await(flag) => {
+                if self.flags[flag] {
+                    None
+                } else {
+                    Some(Why::NotSet)
+                }
+            }
+            _ => None,
+        }
+    }
+
+    /// Why the event may not come next, whose processor waits for nothing.
+    fn not_free(&self, event: Event) -> Option<Why>
+        requires { (j : List Event) × Tells j self.now × IsInTurn (sizes_of self.now.sizes) j event }
+        ensures { (j : List Event) → Tells j self.now → IsInTurn (sizes_of self.now.sizes) j event
+            → ¬ WaitsFor j event.processor event.kind → (lax : Bool)
+            → IsVerdict lax (sizes_of self.now.sizes) j event result }
+    {
+        match event.kind {
+            Kind::Acquire(_) | Kind::Depart | Kind::Await(_) => Some(Why::NotAsked),
+            Kind::Ask(lock) => {
+                if self.holds(event.processor, lock) {
+                    Some(Why::AsksWhatItHolds)
+                } else {
+                    None
+                }
+            }
+            Kind::Release(lock) => {
+                if self.holds(event.processor, lock) {
+                    None
+                } else {
+                    Some(Why::NotHeld)
+                }
+            }
+            _ => None,
+        }
+    }
+
+    /// Whether the processor holds the lock.
+    fn holds(&self, processor: usize, lock: usize) -> bool
+        requires { lock < 32 }
+        ensures { (j : List Event) → Tells j self.now → IsTrue result ↔ Holds j processor lock }
+    {
+        match self.holders[lock] {
+            Some(holder) => holder == processor,
+            None => false,
+        }
+    }
+
+    /// Why the event may not come next; None where it may. `lax` leaves out that a lock's asks are granted in their
+    /// order.
+    pub(crate) fn may_follow(&self, event: Event, lax: bool) -> Option<Why>
+        requires { (j : List Event) × Tells j self.now }
+        ensures { (j : List Event) → Tells j self.now
+            → IsVerdict lax (sizes_of self.now.sizes) j event result }
+    {
+        if event.processor >= self.sizes.processors {
+            return Some(Why::NoSuchProcessor);
+        }
+        if !self.sizes.have(event.kind) {
+            return Some(Why::OutOfRange);
+        }
+        match self.awaited(event.processor) {
+            Some(kind) => {
+                if is_same(event.kind, kind) {
+                    self.not_let_on(event, lax)
+                } else {
+                    Some(Why::Waits(kind))
+                }
+            }
+            None => self.not_free(event),
+        }
+    }
+
+    /// Takes note of the event, which may come next.
+    pub(crate) fn note(&mut self, event: Event)
+        requires few { self.old.place < most_held }
+        requires may_follow { (j : List Event) × Tells j self.old
+            × MayFollowLax (sizes_of self.old.sizes) j event }
+        ensures tells { (j : List Event) → Tells j self.old
+            → MayFollowLax (sizes_of self.old.sizes) j event → Tells (j ++ event ∷ []) self.new }
+        ensures sizes { self.new.sizes ≡ self.old.sizes }
+    {
+        let place = self.place;
+        let kind = event.kind;
+        count(&mut self.arrivals, &mut self.departures, event);
+        hold(&mut self.holders, event);
+        set(&mut self.flags, kind);
+        self.last[event.processor] = Some(Last { place, kind });
+        self.place += 1;
+    }
+}

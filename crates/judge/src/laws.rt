@@ -1,0 +1,18 @@
+//! Laws of what may come next, as contracts of functions that do nothing: the check proves each by its name.
+ghost use Rattle.judge.specs.Prelude.{LaxLaw, RangeLaw, WhyLaw};
+
+/// A well formed history is well formed whatever the order in which a lock's asks are granted.
+pub fn lax_law()
+    ensures { LaxLaw }
+{}
+
+/// An event of which a reason is true may not come next.
+pub fn why_law()
+    ensures { WhyLaw }
+{}
+
+/// The processors and addresses of a well formed history, lax or not, are those of the cluster: so it may be given to
+/// what asks for that alone.
+pub fn range_law()
+    ensures { RangeLaw }
+{}

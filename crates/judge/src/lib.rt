@@ -1,0 +1,22 @@
+//! Whether a history is one that a cluster could make, event by event, and where it is not, why.
+//!
+//! **What contracts see.** `MayFollow` and `WellFormed` of journal's specs/WellFormed: each event may follow what stands
+//! before it. `WellFormedLax` of specs/Lax is the same but for the order in which a lock's asks are granted. `IsWhy` of
+//! specs/Why says of each reason what it means.
+//!
+//! **What is proved.** `first_ill_formed` answers None exactly where the history is well formed, else the first event that
+//! may not follow what stands before it, with the first reason that applies, in the order of `Why`. The history may be
+//! anyone's: nothing is asked of the numbers in its events.
+#![tactic(auto)]
+
+mod front;
+mod judge;
+mod kinds;
+mod laws;
+mod sizes;
+mod why;
+
+pub use judge::{IllFormed, first_ill_formed};
+pub use laws::{lax_law, range_law, why_law};
+pub use sizes::Sizes;
+pub use why::Why;

@@ -1,0 +1,37 @@
+//! The sizes of a cluster.
+ghost use Rattle.std.specs.Prelude.{◌↔◌, IsTrue};
+ghost use Rattle.journal.specs.WellFormed.{KindInRange};
+ghost use Rattle.judge.specs.Prelude.{AreSmall, sizes_of};
+
+use journal::Kind;
+
+/// The sizes of the cluster whose history is judged: at most 16 processors, 64 pages of 64 words, 32 locks and 32 flags.
+#[derive(Clone, Copy, Debug, PartialEq, Eq)]
+pub struct Sizes {
+    /// How many processors it has.
+    pub processors: usize,
+    /// How many pages.
+    pub pages: usize,
+    /// How many words a page has.
+    pub words: usize,
+    /// How many locks it has.
+    pub locks: usize,
+    /// How many flags.
+    pub flags: usize,
+}
+
+impl Sizes {
+    /// Whether the numbers that the event names are within the sizes.
+    pub(crate) fn have(&self, kind: Kind) -> bool
+        requires { AreSmall (sizes_of self.now) }
+        ensures { IsTrue result ↔ KindInRange (sizes_of self.now) kind }
+    {
+        match kind {
+            Kind::Load(address, _) | Kind::Store(address, _) => address < self.pages * self.words,
+            Kind::Fetch { page, .. } => page < self.pages,
+            Kind::Ask(lock) | Kind::Acquire(lock) | Kind::Release(lock) => lock < self.locks,
+            Kind::Set(flag) | Kind::Watch(flag) | Kind::Await(flag) => flag < self.flags,
+            Kind::Arrive | Kind::Depart => true,
+        }
+    }
+}
