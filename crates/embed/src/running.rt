@@ -1,0 +1,84 @@
+//! The cluster's life: made, shared by threads, finished.
+ghost use Rattle.std.specs.Prelude.{◌≡◌, ◌<◌, IfOk, Ok, map};
+ghost use Rattle.cluster.specs.Prelude.{AreNew};
+ghost use Rattle.embed.specs.Prelude.{AreAtWork, IsAtWork, IsRun, Works, plate};
+
+use crate::calls::load;
+use crate::fault::Fault;
+use crate::grid::{COLUMNS, PAGES, PROCESSORS, TOTAL};
+use crate::jacobi::work;
+use cluster::{BookLock, Cluster, Processor};
+use journal::Journal;
+use std::alloc::{AllocError, Global};
+use std::sync::Wait;
+use std::thread::{Threads, map_vec};
+
+/// Cools the plate with four processors on threads of their own. Answers the total that processor 0 loads at the end,
+/// and the journal of all that was done.
+///
+/// [`Race`](Fault::Race) where the journal has a race; [`Stuck`](Fault::Stuck) where a processor waited in vain and no
+/// other was refused; else the fault of the first processor, by number, that was refused.
+pub fn run<R: Threads + Wait + Sync>(rt: &R, alloc: Global) -> Result<(u32, Journal), Fault>
+    ensures { IfOk result (λ r. IsRun plate r.0 r.1) }
+{
+    let (cluster, processors) = Cluster::new(alloc, PROCESSORS, PAGES, COLUMNS, 1, 0)?;
+    let mut processors = work_all(rt, alloc, &cluster, processors)?;
+    let total = load(rt, &cluster, &mut processors[0], TOTAL)?;
+    let journal = cluster.finish(processors);
+    match journal.first_race()? {
+        Some((first, second)) => Err(Fault::Race(first, second)),
+        None => Ok((total, journal)),
+    }
+}
+
+/// Each processor does its part on a thread of its own. Answers them when all threads have ended.
+fn work_all<R: Threads + Wait + Sync>(
+    rt: &R,
+    alloc: Global,
+    cluster: &Cluster<BookLock>,
+    processors: Vec<Processor<BookLock>>,
+) -> Result<Vec<Processor<BookLock>>, Fault>
+    requires new { AreNew cluster.now processors.items }
+    requires four { cluster.now.sizes.processors ≡ 4 }
+    ensures { IfOk result (λ ms. AreAtWork cluster.now ms.items) }
+{
+    let outcomes = map_vec(
+        rt,
+        processors,
+        &|processor: Processor<BookLock>| -> Result<Processor<BookLock>, Fault>
+            requires at_work { IsAtWork cluster.now processor }
+            requires number { processor.number < 4 }
+            ensures { IfOk result (λ worked. Works cluster.entry.now processor worked) }
+        { work(rt, cluster, processor) },
+    )?;
+    gathered(alloc, outcomes)
+}
+
+/// The processors that came back, in their order, or why one didn't. Stuck is told only where no other fault is: it
+/// comes of waiting for one that was refused.
+fn gathered(
+    alloc: Global,
+    outcomes: Vec<Result<Processor<BookLock>, Fault>>,
+) -> Result<Vec<Processor<BookLock>>, Fault>
+    ensures { IfOk result (λ ms. map Ok ms.items ≡ outcomes.items) }
+{
+    if let Some(fault) = first_fault(outcomes.as_slice()) {
+        return Err(fault);
+    }
+    let mut processors = Vec::with_capacity(alloc, outcomes.len())?;
+    for outcome in outcomes {
+        processors.push(outcome?).map_err(AllocError::from)?;
+    }
+    Ok(processors)
+}
+
+/// The first fault but for Stuck.
+fn first_fault<X>(outcomes: &[Result<X, Fault>]) -> Option<Fault> {
+    for outcome in outcomes {
+        match outcome {
+            Ok(_) | Err(Fault::Stuck) => (),
+            Err(fault) => return Some(*fault),
+        }
+    }
+    None
+}
