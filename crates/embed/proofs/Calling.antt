@@ -1,7 +1,5 @@
 -- What a call leaves of a processor at work.
 use Rattle.std.proofs.Common.{ℕ, ◌≡◌, ◌≢◌, Option, Some, None, Result, Ok, Err, OnErr, OnOk, IfOk, List, [], ◌∷◌, ◌++◌, refl, sym, ap, subst, ◌∙◌, inl, inr, append_assoc}
-use Rattle.std.specs.Result.{result_err}
-use Rattle.lists.specs.Places.{Has}
 use Rattle.lists.proofs.Joined.{has-nil, has-cons, has-append}
 use Rattle.journal.specs.declared.event.Event.{Event}
 use Rattle.journal.specs.declared.event.Kind.{Kind}
@@ -11,13 +9,12 @@ use Rattle.journal.specs.Events.{part}
 use Rattle.journal.specs.Waits.{awaited}
 use Rattle.book.specs.declared.refused.Refused.{Refused}
 use Rattle.replicas.specs.Local.{Local, calls, noted}
-use Rattle.replicas.specs.Steps.{handed}
 use Rattle.cluster.specs.Accesses.{IsFetched, IsStored}
-use Rattle.cluster.specs.Calls.{IsCall, IsHandingCall, IsHanded, Nothing}
-use Rattle.cluster.specs.Closing.{IsClosedBy, IsClosingCall}
+use Rattle.cluster.specs.Calls.{IsCall, IsHandingCall}
+use Rattle.cluster.specs.Closing.{IsClosingCall}
 use Rattle.cluster.specs.Clusters.{Shared}
-use Rattle.cluster.specs.Taking.{awaited_event, IsTaken, IsTakingCall}
-use Rattle.embed.specs.Working.{IsAtWork, MayStore, StoresAreOwn, Waits, Works}
+use Rattle.cluster.specs.Taking.{awaited_event, IsTakingCall}
+use Rattle.embed.specs.Workers.{IsAtWork, IsSameWorker, MayStore, Placed, StoresAreOwn, Waits, Works, placed}
 
 -- no store is where it may not be
 pub own_none : StoresAreOwn []
@@ -150,6 +147,19 @@ works_fetch c m n page (Ok x) at err ok = subst (Works c m) (sym ok.after)
     (sym (append_assoc (part m.seen m.number) m.block _)) (own_one m.number _ (λ b w e. cc)) at.waits)
 works_fetch c m n page (Err e) at err ok = works_same c m n at err
 
--- a take after other calls
-pub works_then_take : (c : Shared) (l m n : Local) (r : Option Refused) → Works c l m → IsTakingCall m n r → Works c l n
-works_then_take c l m n r first call = works_then c l m n first (works_take c m n r first.at_work call)
+-- a worker whose processor made a call
+pub same_by : (old mid : Placed) (c : Shared) (m n : Local) → IsSameWorker old mid → placed c m ≡ mid → Works c m n
+    → IsSameWorker old (placed c n)
+same_by old mid c m n same is works = record {
+  cluster = ap (λ (x : Placed). x.cluster) is ∙ same.cluster;
+  number = works.number ∙ ap (λ (x : Placed). x.processor.number) is ∙ same.number;
+}
+
+-- and one that stored where it might from the start
+pub works_stored : {A : Type 0} (old mid : Placed) (c : Shared) (l m n : Local) (a v : ℕ) (r : Result A Refused)
+    → MayStore old.processor.number a → IsSameWorker old mid → placed c l ≡ mid → Works c l m → OnErr r (n ≡ m)
+    → OnOk r (IsStored m a v n) → Works c l n
+works_stored old mid c l m n a v r may same is first err ok =
+    let number = first.number ∙ ap (λ (x : Placed). x.processor.number) is ∙ same.number in
+    works_then c l m n first
+    (works_store c m n a v r first.at_work (subst (λ p. MayStore p a) (sym number) may) err ok)

@@ -1,5 +1,5 @@
 -- Processors at work at the start, after their threads and at the end, and what the journal then says.
-use Rattle.std.proofs.Common.{ℕ, ◌≡◌, ◌<◌, Option, Some, None, Result, Ok, Err, IfOk, List, [], ◌∷◌, ◌++◌, length, map, refl, sym, ap, subst, subst₂, eq-eqb, ◌∙◌, inl, inr, slice_get, slice_set, get_or, take, replicate, arith}
+use Rattle.std.proofs.Common.{ℕ, ◌≡◌, ◌<◌, Option, Some, None, Result, Ok, IfOk, List, [], ◌∷◌, ◌++◌, length, map, refl, sym, ap, subst, subst₂, eq-eqb, ◌∙◌, inl, inr, slice_get, slice_set, get_or, replicate, arith}
 use Rattle.std.specs.Prelude.{◌==◌, MatchOption}
 use Rattle.std.specs.Option.{option_map}
 use Rattle.std.proofs.Math.Seq.{take-length}
@@ -22,12 +22,12 @@ use Rattle.journal.specs.RacesFrom.{RaceFreeFrom}
 use Rattle.journal.specs.Sizes.{Sizes, addresses}
 use Rattle.journal.specs.WellFormed.{WellFormed}
 use Rattle.journal.proofs.Bases.Whole.{same_law}
-use Rattle.replicas.specs.Local.{Local, calls, new_local}
+use Rattle.replicas.specs.Local.{Local, new_local}
 use Rattle.cluster.specs.Clusters.{AreNew, Shared}
 use Rattle.cluster.specs.Finishing.{AreAllOf, IsFinished}
-use Rattle.embed.specs.declared.fault.Fault.{Fault}
+use Rattle.embed.specs.declared.running.Fault.{Fault}
 use Rattle.embed.specs.Runs.{AreAtWork, IsAtWorkAs, IsRun, plate}
-use Rattle.embed.specs.Working.{HasLoaded, IsAtWork, MayStore, StoresAreOwn, Works}
+use Rattle.embed.specs.Workers.{HasLoaded, IsAtWork, StoresAreOwn, Works}
 use Rattle.embed.proofs.Calling.{own_none}
 
 -- a processor before its first call
@@ -147,8 +147,8 @@ some_at_work c ms sizes all =
 
 -- processor 0 has done something
 pub first_set : (c : Shared) (ms : List Local) (m n : Local) → AreAtWork c ms → 0 < length ms → m ≡ get_or ms 0 m
-    → Works c m n → AreAtWork c (slice_set ms 0 n)
-first_set c ms m n all some is works = all_set c ms 0 n all (record {
-  at_work = works.at_work;
-  number_is = works.number ∙ (at_place c ms m 0 all some is).number_is;
-})
+    → (IsAtWork c m → Works c m n) → AreAtWork c (slice_set ms 0 n)
+first_set c ms m n all some is step =
+    let first = at_place c ms m 0 all some is in
+    let works = step first.at_work in
+    all_set c ms 0 n all (record { at_work = works.at_work; number_is = works.number ∙ first.number_is })

@@ -1,3 +1,3 @@
-pub mod Working
+pub mod Workers
 pub mod Runs
 pub mod Prelude

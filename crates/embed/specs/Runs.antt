@@ -10,7 +10,7 @@ use Rattle.journal.specs.Sizes.{Sizes, addresses}
 use Rattle.replicas.specs.Local.{Local}
 use Rattle.cluster.specs.Clusters.{Shared}
 use Rattle.cluster.specs.Histories.{IsFaithful, IsJournalOf}
-use Rattle.embed.specs.Working.{IsAtWork, StoresAreOwn}
+use Rattle.embed.specs.Workers.{IsAtWork, StoresAreOwn}
 
 -- four processors, 25 pages of eight words, one lock
 abbrev pub plate : Sizes

@@ -1,164 +1,152 @@
-//! What each processor does.
-ghost use Rattle.std.specs.Prelude.{◌≡◌, ◌/◌, ◌<◌, IfOk};
-ghost use Rattle.embed.specs.Prelude.{IsAtWork, Works};
+//! What each processor does: heats, sweeps, adds up.
+ghost use Rattle.std.specs.Prelude.{◌≡◌, ◌+◌, ◌*◌, ◌/◌, ◌<◌, IfOk, sum};
+ghost use Rattle.embed.specs.Prelude.{IsAtWork, IsSameWorker, Works};
 
-use crate::calls::{add, load, meet, store};
-use crate::fault::Fault;
-use crate::grid::{COLUMNS, HOT, OWN_ROWS, ROWS, SWEEPS, TOTAL, address, mean};
+use crate::running::Fault;
+use crate::worker::Worker;
 use book::Refused;
 use cluster::{BookLock, Cluster, Processor};
 use std::sync::Wait;
 
-/// Heats the upper border of both grids.
-fn heat<R: Wait>(
-    rt: &R,
-    cluster: &Cluster<BookLock>,
-    processor: &mut Processor<BookLock>,
-) -> Result<(), Refused>
-    requires at_work { IsAtWork cluster.now processor.old }
-    requires first { processor.old.number ≡ 0 }
-    ensures { Works cluster.now processor.old processor.new }
+/// Rows that a processor owns: it alone stores to them.
+const OWN_ROWS: usize = 3;
+/// Rows of a grid. The first and the last are border, as are the first and the last word of each row.
+pub(crate) const ROWS: usize = 12;
+/// Words of a row. It lies in a page of its own, so no store makes others' rows stale.
+pub(crate) const COLUMNS: usize = 8;
+/// What the upper border is heated to.
+pub(crate) const HOT: u32 = 1_000_000;
+/// Sweeps.
+pub(crate) const SWEEPS: usize = 10;
+/// The address of the total, behind both grids.
+pub(crate) const TOTAL: usize = 192;
+
+/// The address of a word of grid 0 or 1.
+fn address(grid: usize, row: usize, column: usize) -> usize
+    requires { (grid < 2) × (row < 12) × (column < 8) }
+    ensures { result ≡ (grid * 12 + row) * 8 + column }
 {
-    for column in 0..COLUMNS {
-        store(rt, cluster, processor, address(0, 0, column), HOT)?;
-        store(rt, cluster, processor, address(1, 0, column), HOT)?;
-    }
-    Ok(())
+    (grid * ROWS + row) * COLUMNS + column
 }
 
-/// The mean of the four words round this one.
-fn mean_round<R: Wait>(
-    rt: &R,
-    cluster: &Cluster<BookLock>,
-    processor: &mut Processor<BookLock>,
-    grid: usize,
-    row: usize,
-    column: usize,
-) -> Result<u32, Refused>
-    requires at_work { IsAtWork cluster.now processor.old }
-    requires grid { grid < 2 }
-    requires row { (0 < row) × (row < 11) }
-    requires column { (0 < column) × (column < 7) }
-    ensures { Works cluster.now processor.old processor.new }
+/// The mean of four words, rounded down.
+pub(crate) fn mean(words: [u32; 4]) -> u32
+    ensures { result ≡ sum words / 4 }
 {
-    let above = load(rt, cluster, processor, address(grid, row - 1, column))?;
-    let below = load(rt, cluster, processor, address(grid, row + 1, column))?;
-    let left = load(rt, cluster, processor, address(grid, row, column - 1))?;
-    let right = load(rt, cluster, processor, address(grid, row, column + 1))?;
-    Ok(mean([above, below, left, right]))
+    let [above, below, left, right] = words;
+    let sum = u64::from(above) + u64::from(below) + u64::from(left) + u64::from(right);
+    (sum / 4) as u32
 }
 
-/// Makes a row of one grid from the other.
-fn sweep_row<R: Wait>(
-    rt: &R,
-    cluster: &Cluster<BookLock>,
-    processor: &mut Processor<BookLock>,
-    from: usize,
-    row: usize,
-) -> Result<(), Refused>
-    requires at_work { IsAtWork cluster.now processor.old }
-    requires from { from < 2 }
-    requires row { (0 < row) × (row < 11) × (row / 3 ≡ processor.old.number) }
-    ensures { Works cluster.now processor.old processor.new }
-{
-    for column in 1..COLUMNS - 1 {
-        let word = mean_round(rt, cluster, processor, from, row, column)?;
-        store(rt, cluster, processor, address(1 - from, row, column), word)?;
+impl<'a, R: Wait> Worker<'a, R> {
+    /// Heats the upper border of both grids.
+    fn heat(&mut self) -> Result<(), Refused>
+        requires { self.old.processor.number ≡ 0 }
+        ensures { IsSameWorker self.old self.new }
+    {
+        for column in 0..COLUMNS {
+            self.store(address(0, 0, column), HOT)?;
+            self.store(address(1, 0, column), HOT)?;
+        }
+        Ok(())
     }
-    Ok(())
-}
 
-/// The sum of a row, modulo 2^32.
-fn row_sum<R: Wait>(
-    rt: &R,
-    cluster: &Cluster<BookLock>,
-    processor: &mut Processor<BookLock>,
-    grid: usize,
-    row: usize,
-) -> Result<u32, Refused>
-    requires at_work { IsAtWork cluster.now processor.old }
-    requires grid { grid < 2 }
-    requires row { row < 12 }
-    ensures { Works cluster.now processor.old processor.new }
-{
-    let mut sum = 0_u32;
-    for column in 0..COLUMNS {
-        sum = sum.wrapping_add(load(rt, cluster, processor, address(grid, row, column))?);
+    /// The mean of the four words round this one.
+    fn mean_round(&mut self, grid: usize, row: usize, column: usize) -> Result<u32, Refused>
+        requires { (grid < 2) × (0 < row) × (row < 11) × (0 < column) × (column < 7) }
+        ensures { IsSameWorker self.old self.new }
+    {
+        let above = self.load(address(grid, row - 1, column))?;
+        let below = self.load(address(grid, row + 1, column))?;
+        let left = self.load(address(grid, row, column - 1))?;
+        let right = self.load(address(grid, row, column + 1))?;
+        Ok(mean([above, below, left, right]))
     }
-    Ok(sum)
-}
 
-/// Makes all rows of its own in one grid from the other, but the border's.
-fn sweep<R: Wait>(
-    rt: &R,
-    cluster: &Cluster<BookLock>,
-    processor: &mut Processor<BookLock>,
-    from: usize,
-) -> Result<(), Refused>
-    requires at_work { IsAtWork cluster.now processor.old }
-    requires number { processor.old.number < 4 }
-    requires from { from < 2 }
-    ensures { Works cluster.now processor.old processor.new }
-{
-    let first = processor.number() * OWN_ROWS;
-    for row in first.max(1)..(first + OWN_ROWS).min(ROWS - 1) {
-        sweep_row(rt, cluster, processor, from, row)?;
+    /// Makes a row of one grid from the other.
+    fn sweep_row(&mut self, from: usize, row: usize) -> Result<(), Refused>
+        requires inner { (from < 2) × (0 < row) × (row < 11) }
+        requires own { row / 3 ≡ self.old.processor.number }
+        ensures { IsSameWorker self.old self.new }
+    {
+        for column in 1..COLUMNS - 1 {
+            let word = self.mean_round(from, row, column)?;
+            self.store(address(1 - from, row, column), word)?;
+        }
+        Ok(())
     }
-    Ok(())
-}
 
-/// Adds the sums of all rows of its own to the total.
-fn add_rows<R: Wait>(
-    rt: &R,
-    cluster: &Cluster<BookLock>,
-    processor: &mut Processor<BookLock>,
-    grid: usize,
-) -> Result<(), Fault>
-    requires at_work { IsAtWork cluster.now processor.old }
-    requires number { processor.old.number < 4 }
-    requires grid { grid < 2 }
-    ensures { Works cluster.now processor.old processor.new }
-{
-    let first = processor.number() * OWN_ROWS;
-    let mut sum = 0_u32;
-    for row in first..first + OWN_ROWS {
-        sum = sum.wrapping_add(row_sum(rt, cluster, processor, grid, row)?);
+    /// Makes its rows of one grid from the other.
+    fn sweep(&mut self, from: usize) -> Result<(), Refused>
+        requires { (from < 2) × (self.old.processor.number < 4) }
+        ensures { IsSameWorker self.old self.new }
+    {
+        let first = self.processor.number() * OWN_ROWS;
+        for row in first.max(1)..(first + OWN_ROWS).min(ROWS - 1) {
+            self.sweep_row(from, row)?;
+        }
+        Ok(())
     }
-    add(rt, cluster, processor, TOTAL, sum)
-}
 
-/// Does the processor's part: heats, sweeps and adds up, with a barrier after each.
-fn cool<R: Wait>(
-    rt: &R,
-    cluster: &Cluster<BookLock>,
-    processor: &mut Processor<BookLock>,
-) -> Result<(), Fault>
-    requires at_work { IsAtWork cluster.now processor.old }
-    requires number { processor.old.number < 4 }
-    ensures { Works cluster.now processor.old processor.new }
-{
-    if processor.number() == 0 {
-        heat(rt, cluster, processor)?;
+    /// The sum of its rows, modulo 2^32.
+    fn own_sum(&mut self, grid: usize) -> Result<u32, Refused>
+        requires { (grid < 2) × (self.old.processor.number < 4) }
+        ensures { IsSameWorker self.old self.new }
+    {
+        let first = address(grid, self.processor.number() * OWN_ROWS, 0);
+        let mut sum = 0_u32;
+        for address in first..first + OWN_ROWS * COLUMNS {
+            sum = sum.wrapping_add(self.load(address)?);
+        }
+        Ok(sum)
     }
-    meet(rt, cluster, processor)?;
-    for count in 0..SWEEPS {
-        sweep(rt, cluster, processor, count % 2)?;
-        meet(rt, cluster, processor)?;
+
+    /// Adds to the total, under the lock.
+    fn add(&mut self, sum: u32) -> Result<(), Fault>
+        ensures { IsSameWorker self.old self.new }
+    {
+        self.acquire()?;
+        let total = self.load(TOTAL)?;
+        self.store(TOTAL, total.wrapping_add(sum))?;
+        self.release()?;
+        Ok(())
     }
-    add_rows(rt, cluster, processor, SWEEPS % 2)?;
-    meet(rt, cluster, processor)
+
+    /// All of its part. They meet after each sweep, so whatever one loads of a row was stored in an earlier sweep.
+    fn cool(&mut self) -> Result<(), Fault>
+        requires { self.old.processor.number < 4 }
+        ensures { IsSameWorker self.old self.new }
+    {
+        if self.processor.number() == 0 {
+            self.heat()?;
+        }
+        self.meet()?;
+        for count in 0..SWEEPS {
+            self.sweep(count % 2)?;
+            self.meet()?;
+        }
+        let sum = self.own_sum(SWEEPS % 2)?;
+        self.add(sum)?;
+        self.meet()
+    }
 }
 
 /// Does the processor's part, and gives the processor back.
 pub(crate) fn work<R: Wait>(
     rt: &R,
     cluster: &Cluster<BookLock>,
-    mut processor: Processor<BookLock>,
+    processor: Processor<BookLock>,
 ) -> Result<Processor<BookLock>, Fault>
     requires at_work { IsAtWork cluster.now processor }
     requires number { processor.number < 4 }
     ensures { IfOk result (λ worked. Works cluster.now processor worked) }
 {
-    cool(rt, cluster, &mut processor)?;
+    let mut worker = Worker {
+        rt,
+        cluster,
+        processor,
+    };
+    worker.cool()?;
+    let Worker { processor, .. } = worker;
     Ok(processor)
 }

@@ -1,6 +1,6 @@
 //! The same work in one plain loop, to compare with.
 
-use crate::grid::{COLUMNS, HOT, ROWS, SWEEPS, mean};
+use crate::jacobi::{COLUMNS, HOT, ROWS, SWEEPS, mean};
 
 /// A grid.
 type Grid = [[u32; COLUMNS]; ROWS];

@@ -3,15 +3,32 @@ ghost use Rattle.std.specs.Prelude.{◌≡◌, ◌<◌, IfOk, Ok, map};
 ghost use Rattle.cluster.specs.Prelude.{AreNew};
 ghost use Rattle.embed.specs.Prelude.{AreAtWork, IsAtWork, IsRun, Works, plate};
 
-use crate::calls::load;
-use crate::fault::Fault;
-use crate::grid::{COLUMNS, PAGES, PROCESSORS, TOTAL};
-use crate::jacobi::work;
+use crate::jacobi::{COLUMNS, TOTAL, work};
+use crate::worker::load;
+use book::Refused;
 use cluster::{BookLock, Cluster, Processor};
 use journal::Journal;
 use std::alloc::{AllocError, Global};
 use std::sync::Wait;
 use std::thread::{Threads, map_vec};
+use thiserror::Error;
+
+/// Why a run fails.
+#[derive(Clone, Copy, Debug, PartialEq, Eq, Error)]
+pub enum Fault {
+    /// A call was refused, and its caller can do nothing about it.
+    #[error("{0}")]
+    Refused(#[from] Refused),
+    /// Memory was refused outside of a call.
+    #[error("out of memory")]
+    NoMemory(#[from] AllocError),
+    /// What a processor waits for didn't come, as where another one was refused.
+    #[error("no progress")]
+    Stuck,
+    /// The events at these places of the journal race.
+    #[error("events {0} and {1} race")]
+    Race(usize, usize),
+}
 
 /// Cools the plate with four processors on threads of their own. Answers the total that processor 0 loads at the end,
 /// and the journal of all that was done.
@@ -21,9 +38,9 @@ use std::thread::{Threads, map_vec};
 pub fn run<R: Threads + Wait + Sync>(rt: &R, alloc: Global) -> Result<(u32, Journal), Fault>
     ensures { IfOk result (λ r. IsRun plate r.0 r.1) }
 {
-    let (cluster, processors) = Cluster::new(alloc, PROCESSORS, PAGES, COLUMNS, 1, 0)?;
+    let (cluster, processors) = Cluster::new(alloc, 4, 25, COLUMNS, 1, 0)?;
     let mut processors = work_all(rt, alloc, &cluster, processors)?;
-    let total = load(rt, &cluster, &mut processors[0], TOTAL)?;
+    let total = load(&mut processors[0], TOTAL)?;
     let journal = cluster.finish(processors);
     match journal.first_race()? {
         Some((first, second)) => Err(Fault::Race(first, second)),

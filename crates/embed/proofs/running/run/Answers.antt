@@ -1,16 +1,8 @@
 use Rattle.std.proofs.Common.{subst}
 use Rattle.lists.proofs.Sets.{slice_get-set_same}
 use Rattle.embed.specs.Runs.{IsRun}
-use Rattle.embed.proofs.Ending.{all_of, at_place, first_set, run_is, some_at_work, where_none}
+use Rattle.embed.proofs.Ending.{all_of, first_set, run_is, some_at_work, where_none}
 use Rattle.embed.proofs.running.run.Goals as goal
-
-pub load-requires : goal.load-requires
-load-requires g c =
-    let cluster = c.in_ok-cluster.cluster in
-    let ms = c.in_ok-processors.processors.items in
-    let all = c.in_ok-processors.ensures in
-    (at_place cluster ms c.index_mut.result.now 0 all (some_at_work cluster ms c.in_ok-cluster.ensures.sizes all)
-    c.index_mut.ensures.value).at_work
 
 pub finish-journal-requires-after_bounds : goal.finish-journal-requires-after_bounds
 finish-journal-requires-after_bounds g c κs =
@@ -18,7 +10,7 @@ finish-journal-requires-after_bounds g c κs =
     let ms = c.in_ok-processors.processors.items in
     let all = c.in_ok-processors.ensures in
     all_of cluster _ (first_set cluster ms c.index_mut.result.now c.load.new.processor all
-    (some_at_work cluster ms c.in_ok-cluster.ensures.sizes all) c.index_mut.ensures.value c.load.ensures.works)
+    (some_at_work cluster ms c.in_ok-cluster.ensures.sizes all) c.index_mut.ensures.value (c.load.ensures.works cluster))
 
 pub returns-in-None : goal.returns-in-None
 returns-in-None g c =
@@ -31,6 +23,6 @@ returns-in-None g c =
     let total = c.in_ok-total.total in
     let journal = c.finish-journal.result in
     subst (λ s. IsRun s total journal) sizes (run_is cluster _ n total journal
-    (first_set cluster ms c.index_mut.result.now n all some c.index_mut.ensures.value c.load.ensures.works)
+    (first_set cluster ms c.index_mut.result.now n all some c.index_mut.ensures.value (c.load.ensures.works cluster))
     (slice_get-set_same ms 0 n some) c.in_ok-total.ensures.reply c.finish-journal.ensures
     (where_none _ _ _ c.in-None.is c.in_ok-first.ensures.first))
