@@ -8,6 +8,8 @@ use book::Refused;
 use cluster::{BookLock, Cluster, Processor};
 use std::sync::Wait;
 
+/// Processors.
+pub(crate) const PROCESSORS: usize = 4;
 /// Rows that a processor owns: it alone stores to them.
 const OWN_ROWS: usize = 3;
 /// Rows of a grid. The first and the last are border, as are the first and the last word of each row.

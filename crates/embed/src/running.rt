@@ -3,7 +3,7 @@ ghost use Rattle.std.specs.Prelude.{◌≡◌, ◌<◌, IfOk, Ok, map};
 ghost use Rattle.cluster.specs.Prelude.{AreNew};
 ghost use Rattle.embed.specs.Prelude.{AreAtWork, IsAtWork, IsRun, Works, plate};
 
-use crate::jacobi::{COLUMNS, TOTAL, work};
+use crate::jacobi::{COLUMNS, PROCESSORS, ROWS, TOTAL, work};
 use crate::worker::load;
 use book::Refused;
 use cluster::{BookLock, Cluster, Processor};
@@ -33,12 +33,14 @@ pub enum Fault {
 /// Cools the plate with four processors on threads of their own. Answers the total that processor 0 loads at the end,
 /// and the journal of all that was done.
 ///
-/// [`Race`](Fault::Race) where the journal has a race; [`Stuck`](Fault::Stuck) where a processor waited in vain and no
-/// other was refused; else the fault of the first processor, by number, that was refused.
+/// [`Race`](Fault::Race) where the journal has a race; [`Stuck`](Fault::Stuck) where a processor waited in vain and none
+/// was refused; [`Refused`](Fault::Refused) with a call's refusal, of the least processor with one; and
+/// [`NoMemory`](Fault::NoMemory).
 pub fn run<R: Threads + Wait + Sync>(rt: &R, alloc: Global) -> Result<(u32, Journal), Fault>
     ensures { IfOk result (λ r. IsRun plate r.0 r.1) }
 {
-    let (cluster, processors) = Cluster::new(alloc, 4, 25, COLUMNS, 1, 0)?;
+    // A page for each row of both grids, and one for the total; one lock, and no flags.
+    let (cluster, processors) = Cluster::new(alloc, PROCESSORS, 2 * ROWS + 1, COLUMNS, 1, 0)?;
     let mut processors = work_all(rt, alloc, &cluster, processors)?;
     let total = load(&mut processors[0], TOTAL)?;
     let journal = cluster.finish(processors);
