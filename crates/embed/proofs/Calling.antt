@@ -14,7 +14,7 @@ use Rattle.cluster.specs.Calls.{IsCall, IsHandingCall}
 use Rattle.cluster.specs.Closing.{IsClosingCall}
 use Rattle.cluster.specs.Clusters.{Shared}
 use Rattle.cluster.specs.Taking.{awaited_event, IsTakingCall}
-use Rattle.embed.specs.Workers.{IsAtWork, IsSameWorker, MayStore, Placed, StoresAreOwn, Waits, Works, placed}
+use Rattle.embed.specs.Workers.{HasLoaded, IsAtWork, IsSameWorker, MayStore, Placed, StoresAreOwn, Waits, Works, placed}
 
 -- no store is where it may not be
 pub own_none : StoresAreOwn []
@@ -155,11 +155,10 @@ same_by old mid c m n same is works = record {
   number = works.number ∙ ap (λ (x : Placed). x.processor.number) is ∙ same.number;
 }
 
--- and one that stored where it might from the start
-pub works_stored : {A : Type 0} (old mid : Placed) (c : Shared) (l m n : Local) (a v : ℕ) (r : Result A Refused)
-    → MayStore old.processor.number a → IsSameWorker old mid → placed c l ≡ mid → Works c l m → OnErr r (n ≡ m)
-    → OnOk r (IsStored m a v n) → Works c l n
-works_stored old mid c l m n a v r may same is first err ok =
-    let number = first.number ∙ ap (λ (x : Placed). x.processor.number) is ∙ same.number in
-    works_then c l m n first
-    (works_store c m n a v r first.at_work (subst (λ p. MayStore p a) (sym number) may) err ok)
+-- a load that was answered
+pub loaded : (m n : Local) (a v : ℕ) → n ≡ noted m (Load a v) → calls n ≡ calls m ++ event m.number (Load a v) ∷ []
+    → HasLoaded n a v
+loaded m n a v ok more = record {
+  front = calls m;
+  calls_are = more ∙ ap (λ (x : Local). calls m ++ event x.number (Load a v) ∷ []) (sym ok);
+}

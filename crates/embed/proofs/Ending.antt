@@ -87,7 +87,7 @@ all_of c ms all = record {
 
 -- what the journal says that these processors end with, where it has no race and processor 0 loaded the total last
 pub run_is : (c : Shared) (ms : List Local) (m : Local) (total : ℕ) (j : Log) → AreAtWork c ms → slice_get ms 0 ≡ Some m
-    → HasLoaded m 192 total → IsFinished c.sizes ms j → RaceFreeFrom j.base j.events → IsRun c.sizes total j
+    → HasLoaded m 224 total → IsFinished c.sizes ms j → RaceFreeFrom j.base j.events → IsRun c.sizes total j
 run_is c ms m total j all first loaded finished free = record {
   history = h;
   taken = taken;
@@ -98,7 +98,7 @@ run_is c ms m total j all first loaded finished free = record {
   own = own;
   reply = record {
     front = loaded.front;
-    calls_are = subst (λ n. part h n ≡ loaded.front ++ event n (Load 192 total) ∷ []) zero
+    calls_are = subst (λ n. part h n ≡ loaded.front ++ event n (Load 224 total) ∷ []) zero
         ((finished.each 0 m first).calls_are ∙ loaded.calls_are);
   };
 }

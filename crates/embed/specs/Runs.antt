@@ -12,9 +12,9 @@ use Rattle.cluster.specs.Clusters.{Shared}
 use Rattle.cluster.specs.Histories.{IsFaithful, IsJournalOf}
 use Rattle.embed.specs.Workers.{IsAtWork, StoresAreOwn}
 
--- four processors, 25 pages of eight words, one lock
+-- four processors, 29 pages of eight words, one lock
 abbrev pub plate : Sizes
-plate = record { processors = 4; pages = 25; words = 8; locks = 1; flags = 0 }
+plate = record { processors = 4; pages = 29; words = 8; locks = 1; flags = 0 }
 
 -- the cluster's processor p
 pub record IsAtWorkAs (c : Shared) (p : ℕ) (m : Local) : Type 0 where
@@ -40,4 +40,4 @@ pub record IsRun (s : Sizes) (total : ℕ) (j : Log) : Type 0 where
   pub faithful : IsFaithful s history
   pub flat : Replays (replicate (addresses s) 0) history
   pub own : StoresAreOwn history
-  pub reply : IsLastReply history 0 192 total
+  pub reply : IsLastReply history 0 224 total

@@ -1,5 +1,5 @@
 -- What a processor of this program does.
-use Rattle.std.specs.Prelude.{ℕ, ◌≡◌, ◌≢◌, ◌⊎◌, ◌<◌, ◌/◌, ◌%◌, Some, List, [], ◌∷◌, ◌++◌}
+use Rattle.std.specs.Prelude.{ℕ, ◌≡◌, ◌≢◌, ◌⊎◌, ◌<◌, ◌/◌, ◌%◌, ◌-◌, Some, List, [], ◌∷◌, ◌++◌}
 use Rattle.lists.specs.Places.{Has}
 use Rattle.journal.specs.declared.event.Event.{Event}
 use Rattle.journal.specs.declared.event.Kind.TheVariants.{Load, Store}
@@ -7,13 +7,14 @@ use Rattle.journal.specs.Did.{event}
 use Rattle.replicas.specs.Local.{Local, calls}
 use Rattle.cluster.specs.Clusters.{Shared}
 
--- the processor that owns the row of this address, in either grid: eight words a row, three of twelve rows a processor
+-- the processor that owns the row of this address, in either grid of 14 rows of eight words: each owns three rows, and the
+-- first has the upper border too
 abbrev pub owner_of : ℕ → ℕ
-owner_of a = a / 8 % 12 / 3
+owner_of a = (a / 8 % 14 - 1) / 3
 
 -- processor p may store there: in a row of its own, or at the total
 abbrev pub MayStore : ℕ → ℕ → Type 0
-MayStore p a = (a ≡ 192) ⊎ ((a < 192) × (owner_of a ≡ p))
+MayStore p a = (a ≡ 224) ⊎ ((a < 224) × (owner_of a ≡ p))
 
 -- each store of these is where its processor may store
 abbrev pub StoresAreOwn : List Event → Type 0

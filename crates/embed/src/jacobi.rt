@@ -1,5 +1,5 @@
 //! What each processor does: heats, sweeps, adds up.
-ghost use Rattle.std.specs.Prelude.{◌≡◌, ◌+◌, ◌*◌, ◌/◌, ◌<◌, IfOk, sum};
+ghost use Rattle.std.specs.Prelude.{◌≡◌, ◌+◌, ◌*◌, ◌/◌, ◌%◌, ◌<◌, IfOk, sum};
 ghost use Rattle.embed.specs.Prelude.{IsAtWork, IsSameWorker, Works};
 
 use crate::running::Fault;
@@ -13,7 +13,7 @@ pub(crate) const PROCESSORS: usize = 4;
 /// Rows that a processor owns: it alone stores to them.
 const OWN_ROWS: usize = 3;
 /// Rows of a grid. The first and the last are border, as are the first and the last word of each row.
-pub(crate) const ROWS: usize = 12;
+pub(crate) const ROWS: usize = 14;
 /// Words of a row. It lies in a page of its own, so no store makes others' rows stale.
 pub(crate) const COLUMNS: usize = 8;
 /// What the upper border is heated to.
@@ -21,12 +21,13 @@ pub(crate) const HOT: u32 = 1_000_000;
 /// Sweeps.
 pub(crate) const SWEEPS: usize = 10;
 /// The address of the total, behind both grids.
-pub(crate) const TOTAL: usize = 192;
+pub(crate) const TOTAL: usize = 224;
 
 /// The address of a word of grid 0 or 1.
 fn address(grid: usize, row: usize, column: usize) -> usize
-    requires { (grid < 2) × (row < 12) × (column < 8) }
-    ensures { result ≡ (grid * 12 + row) * 8 + column }
+    requires { (grid < 2) × (row < 14) × (column < 8) }
+    ensures value { result ≡ (grid * 14 + row) * 8 + column }
+    ensures row { result / 8 % 14 ≡ row }
 {
     (grid * ROWS + row) * COLUMNS + column
 }
@@ -53,39 +54,23 @@ impl<'a, R: Wait> Worker<'a, R> {
         Ok(())
     }
 
-    /// The mean of the four words round this one.
-    fn mean_round(&mut self, grid: usize, row: usize, column: usize) -> Result<u32, Refused>
-        requires { (grid < 2) × (0 < row) × (row < 11) × (0 < column) × (column < 7) }
-        ensures { IsSameWorker self.old self.new }
-    {
-        let above = self.load(address(grid, row - 1, column))?;
-        let below = self.load(address(grid, row + 1, column))?;
-        let left = self.load(address(grid, row, column - 1))?;
-        let right = self.load(address(grid, row, column + 1))?;
-        Ok(mean([above, below, left, right]))
-    }
-
-    /// Makes a row of one grid from the other.
-    fn sweep_row(&mut self, from: usize, row: usize) -> Result<(), Refused>
-        requires inner { (from < 2) × (0 < row) × (row < 11) }
-        requires own { row / 3 ≡ self.old.processor.number }
-        ensures { IsSameWorker self.old self.new }
-    {
-        for column in 1..COLUMNS - 1 {
-            let word = self.mean_round(from, row, column)?;
-            self.store(address(1 - from, row, column), word)?;
-        }
-        Ok(())
-    }
-
-    /// Makes its rows of one grid from the other.
+    /// Makes its rows of one grid, the border's words aside, from the other.
     fn sweep(&mut self, from: usize) -> Result<(), Refused>
         requires { (from < 2) × (self.old.processor.number < 4) }
         ensures { IsSameWorker self.old self.new }
     {
-        let first = self.processor.number() * OWN_ROWS;
-        for row in first.max(1)..(first + OWN_ROWS).min(ROWS - 1) {
-            self.sweep_row(from, row)?;
+        let first = 1 + self.processor.number() * OWN_ROWS;
+        for cell in 0..OWN_ROWS * (COLUMNS - 2) {
+            let row = first + cell / (COLUMNS - 2);
+            let column = 1 + cell % (COLUMNS - 2);
+            let above = self.load(address(from, row - 1, column))?;
+            let below = self.load(address(from, row + 1, column))?;
+            let left = self.load(address(from, row, column - 1))?;
+            let right = self.load(address(from, row, column + 1))?;
+            self.store(
+                address(1 - from, row, column),
+                mean([above, below, left, right]),
+            )?;
         }
         Ok(())
     }
@@ -95,23 +80,12 @@ impl<'a, R: Wait> Worker<'a, R> {
         requires { (grid < 2) × (self.old.processor.number < 4) }
         ensures { IsSameWorker self.old self.new }
     {
-        let first = address(grid, self.processor.number() * OWN_ROWS, 0);
+        let first = address(grid, 1 + self.processor.number() * OWN_ROWS, 0);
         let mut sum = 0_u32;
         for address in first..first + OWN_ROWS * COLUMNS {
             sum = sum.wrapping_add(self.load(address)?);
         }
         Ok(sum)
-    }
-
-    /// Adds to the total, under the lock.
-    fn add(&mut self, sum: u32) -> Result<(), Fault>
-        ensures { IsSameWorker self.old self.new }
-    {
-        self.acquire()?;
-        let total = self.load(TOTAL)?;
-        self.store(TOTAL, total.wrapping_add(sum))?;
-        self.release()?;
-        Ok(())
     }
 
     /// All of its part. They meet after each sweep, so whatever one loads of a row was stored in an earlier sweep.
@@ -128,8 +102,11 @@ impl<'a, R: Wait> Worker<'a, R> {
             self.meet()?;
         }
         let sum = self.own_sum(SWEEPS % 2)?;
-        self.add(sum)?;
-        self.meet()
+        self.add(TOTAL, sum)?;
+        self.meet()?;
+        // So that its copy of the total is valid.
+        self.load(TOTAL)?;
+        Ok(())
     }
 }
 

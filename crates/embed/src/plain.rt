@@ -21,7 +21,7 @@ fn swept(old: &Grid) -> Grid {
     new
 }
 
-/// The sum of all words after all sweeps, modulo 2^32.
+/// The sum of all rows but the border's after all sweeps, modulo 2^32.
 pub(crate) fn total() -> u32 {
     let mut grid = [[0; COLUMNS]; ROWS];
     grid[0] = [HOT; COLUMNS];
@@ -29,7 +29,7 @@ pub(crate) fn total() -> u32 {
         grid = swept(&grid);
     }
     let mut total = 0_u32;
-    for row in &grid {
+    for row in &grid[1..ROWS - 1] {
         for word in row {
             total = total.wrapping_add(*word);
         }

@@ -4,7 +4,6 @@ ghost use Rattle.cluster.specs.Prelude.{AreNew};
 ghost use Rattle.embed.specs.Prelude.{AreAtWork, IsAtWork, IsRun, Works, plate};
 
 use crate::jacobi::{COLUMNS, PROCESSORS, ROWS, TOTAL, work};
-use crate::worker::load;
 use book::Refused;
 use cluster::{BookLock, Cluster, Processor};
 use journal::Journal;
@@ -14,35 +13,37 @@ use std::thread::{Threads, map_vec};
 use thiserror::Error;
 
 /// Why a run fails.
-#[derive(Clone, Copy, Debug, PartialEq, Eq, Error)]
+#[derive(Clone, Copy, Debug, Error)]
 pub enum Fault {
-    /// A call was refused, and its caller can do nothing about it.
+    /// A call was refused, and its caller can do nothing about it; or memory was refused.
     #[error("{0}")]
     Refused(#[from] Refused),
-    /// Memory was refused outside of a call.
-    #[error("out of memory")]
-    NoMemory(#[from] AllocError),
     /// What a processor waits for didn't come, as where another one was refused.
     #[error("no progress")]
     Stuck,
     /// The events at these places of the journal race.
-    #[error("events {0} and {1} race")]
+    #[error("two events race")]
     Race(usize, usize),
+}
+
+impl From<AllocError> for Fault {
+    fn from(error: AllocError) -> Fault {
+        Fault::Refused(Refused::from(error))
+    }
 }
 
 /// Cools the plate with four processors on threads of their own. Answers the total that processor 0 loads at the end,
 /// and the journal of all that was done.
 ///
 /// [`Race`](Fault::Race) where the journal has a race; [`Stuck`](Fault::Stuck) where a processor waited in vain and none
-/// was refused; [`Refused`](Fault::Refused) with a call's refusal, of the least processor with one; and
-/// [`NoMemory`](Fault::NoMemory).
+/// was refused; else [`Refused`](Fault::Refused), of the least processor with one.
 pub fn run<R: Threads + Wait + Sync>(rt: &R, alloc: Global) -> Result<(u32, Journal), Fault>
     ensures { IfOk result (λ r. IsRun plate r.0 r.1) }
 {
     // A page for each row of both grids, and one for the total; one lock, and no flags.
     let (cluster, processors) = Cluster::new(alloc, PROCESSORS, 2 * ROWS + 1, COLUMNS, 1, 0)?;
     let mut processors = work_all(rt, alloc, &cluster, processors)?;
-    let total = load(&mut processors[0], TOTAL)?;
+    let total = processors[0].load(TOTAL)?;
     let journal = cluster.finish(processors);
     match journal.first_race()? {
         Some((first, second)) => Err(Fault::Race(first, second)),
@@ -73,22 +74,19 @@ fn work_all<R: Threads + Wait + Sync>(
     gathered(alloc, outcomes)
 }
 
-/// The processors that came back, in their order, or why one didn't. Stuck is told only where no other fault is: it
+/// What came back from all threads, in their order, or why one brought nothing. Stuck is told only where no other fault is: it
 /// comes of waiting for one that was refused.
-fn gathered(
-    alloc: Global,
-    outcomes: Vec<Result<Processor<BookLock>, Fault>>,
-) -> Result<Vec<Processor<BookLock>>, Fault>
-    ensures { IfOk result (λ ms. map Ok ms.items ≡ outcomes.items) }
+fn gathered<X: Drop>(alloc: Global, outcomes: Vec<Result<X, Fault>>) -> Result<Vec<X>, Fault>
+    ensures { IfOk result (λ all. map Ok all.items ≡ outcomes.items) }
 {
     if let Some(fault) = first_fault(outcomes.as_slice()) {
         return Err(fault);
     }
-    let mut processors = Vec::with_capacity(alloc, outcomes.len())?;
+    let mut all = Vec::with_capacity(alloc, outcomes.len())?;
     for outcome in outcomes {
-        processors.push(outcome?).map_err(AllocError::from)?;
+        all.push(outcome?).map_err(AllocError::from)?;
     }
-    Ok(processors)
+    Ok(all)
 }
 
 /// The first fault but for Stuck.

@@ -1,9 +1,6 @@
 //! A processor on its thread: the calls, and what one does about their refusals.
-ghost use Rattle.std.specs.Prelude.{◌≡◌, IfOk};
-ghost use Rattle.cluster.specs.Prelude.{Shared};
-ghost use Rattle.embed.specs.Prelude.{HasLoaded, IsAtWork, IsSameWorker, MayStore, Works};
+ghost use Rattle.embed.specs.Prelude.{IsSameWorker, MayStore};
 
-use crate::jacobi::COLUMNS;
 use crate::running::Fault;
 use book::Refused;
 use cluster::{BookLock, Cluster, Processor};
@@ -33,45 +30,25 @@ impl<'a, R> Model for Worker<'a, R> {
 }
 
 impl<'a, R: Wait> Worker<'a, R> {
-    /// The word at the address.
+    /// The word at the address. A copy that lacks what others stored there is fetched.
     pub(crate) fn load(&mut self, address: usize) -> Result<u32, Refused>
         ensures { IsSameWorker self.old self.new }
     {
-        self.make_room()?;
-        load(&mut self.processor, address)
+        match self.processor.load(address) {
+            Err(Refused::Invalid(page)) => {
+                self.processor.fetch(page)?;
+                self.processor.load(address)
+            }
+            answer => answer,
+        }
     }
 
-    /// Stores the word at the address.
+    /// Stores the word at the address, of a page that no other has stored to since it was last loaded from here.
     pub(crate) fn store(&mut self, address: usize, word: u32) -> Result<(), Refused>
         requires { MayStore self.old.processor.number address }
         ensures { IsSameWorker self.old self.new }
     {
-        self.make_room()?;
-        freshen(&mut self.processor, address)?;
         self.processor.store(address, word)
-    }
-
-    /// Passes the barrier: what all stored before it, all know of after it.
-    pub(crate) fn meet(&mut self) -> Result<(), Fault>
-        ensures { IsSameWorker self.old self.new }
-    {
-        self.cluster.arrive(self.rt, &mut self.processor)?;
-        self.take()
-    }
-
-    /// Acquires lock 0: what its holders stored before is known from then on.
-    pub(crate) fn acquire(&mut self) -> Result<(), Fault>
-        ensures { IsSameWorker self.old self.new }
-    {
-        self.cluster.ask(self.rt, &mut self.processor, 0)?;
-        self.take()
-    }
-
-    /// Releases lock 0.
-    pub(crate) fn release(&mut self) -> Result<(), Refused>
-        ensures { IsSameWorker self.old self.new }
-    {
-        self.cluster.release(self.rt, &mut self.processor, 0)
     }
 
     /// Takes what the processor waits for, as soon as it has come; between two tries other threads get on.
@@ -96,33 +73,24 @@ impl<'a, R: Wait> Worker<'a, R> {
         self.cluster.take(self.rt, &mut self.processor)
     }
 
-    /// Hands the open block in where it has no room for a fetch and an access: they would be refused as BlockFull.
-    fn make_room(&mut self) -> Result<(), Refused>
+    /// Passes the barrier: what any of them stored before it, all know of after it.
+    pub(crate) fn meet(&mut self) -> Result<(), Fault>
         ensures { IsSameWorker self.old self.new }
     {
-        if self.processor.room() >= 2 {
-            return Ok(());
-        }
-        self.cluster.flush(self.rt, &mut self.processor)
+        self.cluster.arrive(self.rt, &mut self.processor)?;
+        self.take()
     }
-}
 
-/// Fetches what the copy of the address's page lacks: an access would be refused as Invalid.
-fn freshen(processor: &mut Processor<BookLock>, address: usize) -> Result<(), Refused>
-    ensures { (c : Shared) → IsAtWork c processor.old → Works c processor.old processor.new }
-{
-    let page = address / COLUMNS;
-    if processor.is_valid(page) {
-        return Ok(());
+    /// Adds to the word at the address, modulo 2^32, under lock 0.
+    pub(crate) fn add(&mut self, address: usize, value: u32) -> Result<(), Fault>
+        requires { MayStore self.old.processor.number address }
+        ensures { IsSameWorker self.old self.new }
+    {
+        self.cluster.ask(self.rt, &mut self.processor, 0)?;
+        self.take()?;
+        let word = self.load(address)?;
+        self.store(address, word.wrapping_add(value))?;
+        self.cluster.release(self.rt, &mut self.processor, 0)?;
+        Ok(())
     }
-    processor.fetch(page)
-}
-
-/// The word at the address, in a block with room.
-pub(crate) fn load(processor: &mut Processor<BookLock>, address: usize) -> Result<u32, Refused>
-    ensures works { (c : Shared) → IsAtWork c processor.old → Works c processor.old processor.new }
-    ensures reply { IfOk result (λ word. HasLoaded processor.new address word) }
-{
-    freshen(processor, address)?;
-    processor.load(address)
 }

@@ -1,5 +1,5 @@
 use Rattle.embed.specs.Workers.{IsSameWorker}
 use Rattle.embed.proofs.worker.Worker.sweep.Given as goal
 
-abbrev pub invariant-loop-row : goal.invariant-loop-row
-invariant-loop-row g l = IsSameWorker l.fn.self l.self
+abbrev pub invariant-loop-cell : goal.invariant-loop-cell
+invariant-loop-cell g l = IsSameWorker l.fn.self l.self
