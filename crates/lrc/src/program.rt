@@ -124,13 +124,13 @@ fn run_script<R: Threads + Wait + Sync, S: Read, W: Write>(
     print_report(rt, alloc, options, &script, out)
 }
 
-/// Says on `err` in one write why the program ends without a report, and answers the fault's exit status. Where
-/// there is no memory for the line, it says that, with the status of that.
-pub fn say<E: Write>(alloc: Global, fault: ProgramFault, err: &mut E) -> u8
+/// Says on `err` in one write why the program ends without a report on the file's script, and answers the fault's
+/// exit status. Where there is no memory for the line, it says that, with the status of that.
+pub fn say<E: Write>(alloc: Global, file: Option<&str>, fault: ProgramFault, err: &mut E) -> u8
     ensures { IsStatusOf fault result }
 {
     // Where standard error takes nothing, the status still tells.
-    match format!(in alloc; "lrc: {fault}\n") {
+    match fault.line(alloc, file) {
         Ok(line) => {
             let _ = err.write_all(line.as_bytes());
             fault.status()
@@ -165,6 +165,6 @@ pub fn program<R: Threads + Wait + Sync, S: Read, W: Write, E: Write>(
 {
     match run_script(rt, alloc, options, source, out) {
         Ok(()) => 0,
-        Err(fault) => say(alloc, fault, err),
+        Err(fault) => say(alloc, options.file.as_deref(), fault, err),
     }
 }

@@ -1,11 +1,11 @@
 -- What the getters of clap's matches read, by the rows.
-use Rattle.std.proofs.Common.{◌≡◌, ◌∙◌, ◌<◌, ◌≤◌, ◌^◌, ℕ, Bool, true, false, List, Option, Some, None, Result, Ok, Err, [], ◌∷◌, inl, refl, sym, ap, ap₂, codes, arith}
+use Rattle.std.proofs.Common.{◌≡◌, ◌⊎◌, ◌∙◌, ◌<◌, ◌≤◌, ◌^◌, ℕ, Bool, true, false, List, Option, Some, None, Result, Ok, Err, [], ◌∷◌, inl, refl, subst, sym, ap, ap₂, codes, arith}
 use Rattle.std.specs.Prelude.{◌||◌, option_map}
 use Rattle.std.specs.Option.{option_map_or}
 use Rattle.std.specs.Str.{bytes_eq}
 use Rattle.std.specs.Str.Parse.{IsNumeral, ParsesUnsigned, without_leading_plus}
 use Rattle.std.proofs.lemmas.Option.{same_Some}
-use Rattle.clap.specs.Words.{FailsBy, HasKind, Kinds, Row, Text, ReadsOne, first_of, first_value, one_of, one_text, rows_of}
+use Rattle.clap.specs.Words.{FailsBy, HasKind, IsAmong, Kinds, Row, Text, ReadsOne, first_of, first_value, one_of, one_text, rows_of}
 use Rattle.clap.specs.declared.parser.matches.Found.{Found}
 use Rattle.clap.specs.declared.error.Error.{Error}
 use Rattle.clap.proofs.WalkLemmas.{first_value-rows, one_text-rows}
@@ -133,6 +133,10 @@ no_fault kinds r x was fails = rw was at fails
 pub is_fault : {T : Type 0} (kinds : Kinds) (r : Result T Error) (e : Error) → r ≡ Err e → FailsBy kinds r
     → HasKind kinds e
 is_fault kinds r e was fails = rw was at fails
+
+-- an error of the same kind has one of the kinds too
+pub same_kind : (kinds : Kinds) (a b : Error) → kind_of b ≡ kind_of a → HasKind kinds a → HasKind kinds b
+same_kind kinds a b is has = subst (λ k. (k ≡ OutOfMemory) ⊎ IsAmong k kinds) (sym is) has
 
 -- want of memory refuses any words
 pub out_of_memory : (locks : ValueParser) (words : List Text) (e : Error)

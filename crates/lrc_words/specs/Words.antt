@@ -45,11 +45,17 @@ script_app name own locks =
     with_rule (with_rule (with_rule (with_rule (new_app name) (new_rule (codes "FILE"))) own) (lock_rule locks))
     journal_rule
 
--- `lrc`, which wants a command; `--lock` takes what this parser lets through
+-- `lrc run` and `lrc step`; `--lock` takes what this parser lets through
+abbrev pub run_app : ValueParser → App
+run_app locks = script_app (codes "run") tries_rule locks
+
+abbrev pub step_app : ValueParser → App
+step_app locks = script_app (codes "step") seed_rule locks
+
+-- `lrc`, which wants a command and has a version
 abbrev pub lrc_app : ValueParser → App
-lrc_app locks = on_top (λ s. record s { subcommand_required = true })
-    (with_subcommand (with_subcommand (new_app (codes "lrc")) (script_app (codes "run") tries_rule locks).top)
-    (script_app (codes "step") seed_rule locks).top)
+lrc_app locks = on_top (λ s. record s { subcommand_required = true; has_version = true })
+    (with_subcommand (with_subcommand (new_app (codes "lrc")) (run_app locks).top) (step_app locks).top)
 
 -- the parser takes these names and no others
 abbrev pub TakesNames : List Text → ValueParser → Type 0

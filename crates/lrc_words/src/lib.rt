@@ -9,5 +9,8 @@
 //! **What is only tested**, by whole runs of the program `lrc`. The texts of faults and help.
 #![tactic(auto)]
 
+mod command;
+mod help;
 pub mod options;
+mod tips;
 pub mod words;

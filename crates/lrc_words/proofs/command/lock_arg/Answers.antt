@@ -1,7 +1,7 @@
 use Rattle.std.proofs.Common.{ap, codes, [], ◌∷◌, Some}
 use Rattle.clap.specs.Words.{Rule}
 use Rattle.clap.specs.declared.builder.value_parser.ValueParser.TheVariants as vp
-use Rattle.lrc_words.proofs.words.lock_arg.Goals as goal
+use Rattle.lrc_words.proofs.command.lock_arg.Goals as goal
 
 pub returns-clause-rule : goal.returns-clause-rule
 returns-clause-rule c =
