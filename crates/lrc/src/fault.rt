@@ -9,8 +9,8 @@ use lrc_report::render::OutFault;
 use lrc_run::{Cause, RunFault};
 use lrc_script::fault::ScriptFault;
 use std::alloc::{AllocError, Global};
-use std::io;
 use std::io::ErrorKind;
+use std::{fmt, io};
 
 /// Why the program ends without a report.
 #[derive(Clone, Copy)]
@@ -29,31 +29,35 @@ pub enum ProgramFault {
     NoMemory,
 }
 
+/// What the program says on standard error after `lrc: `, where the script comes from standard input. The reasons are
+/// the system's.
+impl fmt::Display for ProgramFault {
+    fn fmt<W: fmt::Write>(&self, f: &mut fmt::Formatter<W>) -> fmt::Result {
+        match self {
+            ProgramFault::Words(reason) => write!(f, "cannot read the words: {reason}"),
+            ProgramFault::Unreadable(reason) => write!(f, "cannot read standard input: {reason}"),
+            ProgramFault::Script(line, fault) => write!(f, "line {line}: {fault}"),
+            ProgramFault::Run(fault) => fault.fmt(f),
+            ProgramFault::Output => f.write_str("output failed"),
+            ProgramFault::NoMemory => f.write_str("out of memory"),
+        }
+    }
+}
+
 impl ProgramFault {
-    /// The line that standard error gets. A script's file is named as Rust writes a string, so that it is one line
-    /// whatever the name has; without a file the script comes from standard input. The reasons are the system's.
+    /// The line that standard error gets. The script's file is named as Rust writes a string, so that it is one line
+    /// whatever the name has.
     pub fn line(self, alloc: Global, file: Option<&str>) -> Result<String, AllocError> {
         match (self, file) {
-            (ProgramFault::Words(reason), _) => format!(in alloc;
-                "lrc: cannot read the words: {reason}\n"
-            ),
             (ProgramFault::Unreadable(reason), Some(file)) => format!(in alloc;
                 "lrc: cannot read {file:?}: {reason}\n"
             ),
-            (ProgramFault::Unreadable(reason), None) => format!(in alloc;
-                "lrc: cannot read standard input: {reason}\n"
-            ),
-            (ProgramFault::Script(line, fault), _) => format!(in alloc;
-                "lrc: line {line}: {fault}\n"
-            ),
-            (ProgramFault::Run(fault), _) => format!(in alloc; "lrc: {fault}\n"),
-            (ProgramFault::Output, _) => String::from_str(alloc, "lrc: output failed\n"),
-            (ProgramFault::NoMemory, _) => String::from_str(alloc, "lrc: out of memory\n"),
+            _ => format!(in alloc; "lrc: {self}\n"),
         }
     }
 
-    /// The exit status: 5 for words or a script's file that can't be read, 2 for a script that is refused, 3 for a run without
-    /// progress, else 4.
+    /// The exit status: 5 for words or a script that can't be read, 2 for a script that is refused, 3 for a run
+    /// without progress, else 4.
     pub fn status(self) -> u8
         ensures { result ≡ status_of self }
     {

@@ -1,12 +1,13 @@
 //! The program over its reader and its writers.
-ghost use Rattle.std.specs.Prelude.{◌≡◌, ◌≢◌, ◌<◌, IfErr, IfOk, OnOk};
+ghost use Rattle.std.specs.Prelude.{◌≡◌, ◌≢◌, ◌<◌, ◌≤◌, ◌^◌, IfErr, IfOk, OnOk};
 ghost use Rattle.std.specs.Io.KnownBytes.{Keeps};
 ghost use Rattle.lrc_script.specs.Prelude.{IsLawful, plan_of};
 ghost use Rattle.lrc_run.specs.Prelude.{IsReportOf};
 ghost use Rattle.lrc.specs.Prelude.{IsNoScript, IsPrinted, IsRead, IsServed, IsBeforeOutput, IsScripts, IsStatusOf};
 
 use crate::fault::ProgramFault;
-use cluster::{BookLock, TicketBookLock};
+use book::Book;
+use cluster::{BookLock, Rule, TicketBookLock};
 use lrc_report::Report;
 use lrc_report::render::render;
 use lrc_run::{Open, RunFault, run_with, step_with};
@@ -16,42 +17,28 @@ use std::alloc::Global;
 use std::io::{Read, Write};
 use std::sync::Wait;
 use std::thread::Threads;
+use turn::Turn;
 
 /// One byte more than the longest script has: what is longer is refused without its rest.
 const MOST_READ: u64 = MOST_BYTES as u64 + 1;
 
-/// Runs the script by turns on one thread, with the lock that is asked for.
-fn step_report<R: Wait>(
+/// Runs the script as the options say, with this lock round the book: by turns on one thread, or with a thread for
+/// each processor.
+fn report_with<T: Turn<Book, Rule> + Send + Drop, R: Threads + Wait + Sync>(
     rt: &R,
     alloc: Global,
     options: &Options,
     script: &Script,
 ) -> Result<Report, RunFault>
-    requires { IsLawful (plan_of script.now) }
-    ensures { IfOk result (IsReportOf (plan_of script.now)) }
-{
-    if options.ticket {
-        step_with::<TicketBookLock, R>(rt, alloc, script, options.seed)
-    } else {
-        step_with::<BookLock, R>(rt, alloc, script, options.seed)
-    }
-}
-
-/// Runs the script with a thread for each processor and the lock that is asked for.
-fn run_report<R: Threads + Wait + Sync>(
-    rt: &R,
-    alloc: Global,
-    options: &Options,
-    script: &Script,
-) -> Result<Report, RunFault>
+    requires entries { T.ENTRIES ≤ 2 ^ 40 }
     requires tries { 0 < options.now.tries }
     requires lawful { IsLawful (plan_of script.now) }
     ensures { IfOk result (IsReportOf (plan_of script.now)) }
 {
-    if options.ticket {
-        run_with::<TicketBookLock, R, Open>(rt, alloc, script, &Open, options.tries)
+    if options.step {
+        step_with::<T, R>(rt, alloc, script, options.seed)
     } else {
-        run_with::<BookLock, R, Open>(rt, alloc, script, &Open, options.tries)
+        run_with::<T, R, Open>(rt, alloc, script, &Open, options.tries)
     }
 }
 
@@ -66,10 +53,10 @@ fn report_of<R: Threads + Wait + Sync>(
     requires lawful { IsLawful (plan_of script.now) }
     ensures { IfOk result (IsReportOf (plan_of script.now)) }
 {
-    if options.step {
-        step_report(rt, alloc, options, script)
+    if options.ticket {
+        report_with::<TicketBookLock, R>(rt, alloc, options, script)
     } else {
-        run_report(rt, alloc, options, script)
+        report_with::<BookLock, R>(rt, alloc, options, script)
     }
 }
 

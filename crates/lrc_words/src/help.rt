@@ -10,7 +10,8 @@ Prints the last words, whether two accesses race, and what the protocol sent.";
 
 /// An example, and the exit statuses.
 pub(crate) const AFTER: &str = "Example:
-  printf 'cluster 2 1 1 1\\np 0\\nacquire 0\\nadd 0 1\\nrelease 0\\np 1\\nacquire 0\\nadd 0 1\\nrelease 0\\nshow 0\\n' | lrc step --journal
+  printf 'cluster 2 1 1 1\\np 0\\nacquire 0\\nadd 0 1\\nrelease 0\\n\
+p 1\\nacquire 0\\nadd 0 1\\nrelease 0\\nshow 0\\n' | lrc step --journal
 
 Statuses: 0 done; 2 the script is refused; 3 no progress; 4 a limit, want of memory, a thread that
 couldn't be started, or a failed write; 5 usage, or the file can't be read.";

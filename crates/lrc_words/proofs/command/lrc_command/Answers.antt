@@ -1,4 +1,4 @@
-use Rattle.std.proofs.Common.{◌≡◌, ◌∙◌, ap, ap₂, codes, true, false}
+use Rattle.std.proofs.Common.{◌≡◌, ◌∙◌, ap, ap₂, true, false}
 use Rattle.clap.specs.Words.{App, app_of, with_subcommand}
 use Rattle.clap.specs.Simple.{app_of_fields, on_top}
 use Rattle.clap.specs.declared.builder.command.Command.{Command}
@@ -16,7 +16,8 @@ returns c =
     let start_local : (out-Command c.after_help.result).has_globals ≡ false =
     ap (λ (f : Command-F Command). f.has_globals) c.after_help.ensures ∙ about_local in
     let with_run = c.in_ok-subcommand.ensures.shape c.in_ok-run_command.ensures.globals
-    ∙ ap₂ with_subcommand (start ∙ about ∙ c.new.ensures.app) (ap (λ (a : App). a.top) c.in_ok-run_command.ensures.app) in
+    ∙ ap₂ with_subcommand (start ∙ about ∙ c.new.ensures.app)
+    (ap (λ (a : App). a.top) c.in_ok-run_command.ensures.app) in
     let with_step = c.in_ok-subcommand-2.ensures.shape c.in_ok-step_command.ensures.globals
     ∙ ap₂ with_subcommand with_run (ap (λ (a : App). a.top) c.in_ok-step_command.ensures.app) in
     let wanting = ap app_of_fields c.subcommand_required.ensures
