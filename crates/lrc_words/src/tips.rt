@@ -2,7 +2,6 @@
 ghost use Rattle.std.specs.Prelude.{◌≡◌, IfOk};
 ghost use Rattle.clap.specs.Words.{kind_of};
 
-use crate::command::{LOCKS, run_command, step_command};
 use clap::error::ErrorKind;
 use clap::{Command, Error};
 use std::alloc::{AllocError, Global};
@@ -43,11 +42,11 @@ impl Lacking {
         }
     }
 
-    /// The command by its whole name, as usage shows it.
-    fn command(self, alloc: Global) -> Result<Command<'static>, AllocError> {
+    /// The command's line of usage.
+    fn usage(self) -> &'static str {
         match self {
-            Lacking::Run => run_command(alloc, LOCKS.as_slice())?.bin_name("lrc run"),
-            Lacking::Step => step_command(alloc, LOCKS.as_slice())?.bin_name("lrc step"),
+            Lacking::Run => "lrc run [OPTIONS] [FILE]",
+            Lacking::Step => "lrc step [OPTIONS] [FILE]",
         }
     }
 
@@ -55,7 +54,7 @@ impl Lacking {
     fn fault(self, alloc: Global) -> Result<Error, AllocError>
         ensures { IfOk result (λ e. kind_of e ≡ ErrorKind.UnknownArgument) }
     {
-        let mut command = self.command(alloc)?;
+        let mut command = Command::new(alloc, "lrc").override_usage(self.usage());
         command.error(ErrorKind::UnknownArgument, self.text())
     }
 }
