@@ -1,6 +1,6 @@
 -- What the getters of clap's matches read, by the rows.
 use Rattle.std.proofs.Common.{◌≡◌, ◌⊎◌, ◌∙◌, ◌<◌, ◌≤◌, ◌^◌, ℕ, Bool, true, false, List, Option, Some, None, Result, Ok, Err, [], ◌∷◌, inl, refl, subst, sym, ap, ap₂, codes, arith}
-use Rattle.std.specs.Prelude.{◌||◌, option_map}
+use Rattle.std.specs.Prelude.{◌||◌, IfOk, option_map}
 use Rattle.std.specs.Option.{option_map_or}
 use Rattle.std.specs.Str.{bytes_eq}
 use Rattle.std.specs.Str.Parse.{IsNumeral, ParsesUnsigned, without_leading_plus}
@@ -107,6 +107,11 @@ word_read f id word lock b is same = same
 pub no_word : (f : Found) (id word : Text) → None ≡ first_value f id
     → false ≡ option_map_or (λ t. bytes_eq t word) (first_of id (rows_of f)) false
 no_word f id word is = ap (λ o. option_map_or (λ t. bytes_eq t word) o false) (is ∙ first_value-rows f id)
+
+-- what holds of a value, where there is one, makes what follows from it hold
+pub if_ok_map : {T E : Type 0} {P Q : T → Type 0} (r : Result T E) → ((x : T) → P x → Q x) → IfOk r P → IfOk r Q
+if_ok_map (Ok x) follows holds = follows x holds
+if_ok_map (Err e) follows holds = tt
 
 -- a command with one more part takes no argument from above
 pub still_local : (a b r : Bool) → r ≡ (a || b) → a ≡ false → b ≡ false → r ≡ false

@@ -39,13 +39,11 @@ lock_rule locks = record (option_rule (codes "lock")) { parser = Some locks; def
 abbrev pub journal_rule : Rule
 journal_rule = record (new_rule (codes "journal")) { long = Some (codes "journal"); action = Some SetTrue }
 
--- a command on a script's file, with one option of its own
-abbrev pub file_app : Text → Rule → App
-file_app name own = with_rule (with_rule (new_app name) (new_rule (codes "FILE"))) own
-
--- the same with `--lock` and `--journal`
+-- a command on a script's file, with one option of its own, `--lock` and `--journal`
 abbrev pub script_app : Text → Rule → ValueParser → App
-script_app name own locks = with_rule (with_rule (file_app name own) (lock_rule locks)) journal_rule
+script_app name own locks =
+    with_rule (with_rule (with_rule (with_rule (new_app name) (new_rule (codes "FILE"))) own) (lock_rule locks))
+    journal_rule
 
 -- `lrc run` and `lrc step`; `--lock` takes what this parser lets through
 abbrev pub run_app : ValueParser → App

@@ -1,10 +1,10 @@
 //! The command that the program's words are read by.
-ghost use Rattle.std.specs.Prelude.{◌≡◌, IfOk, codes, false, true};
-ghost use Rattle.clap.specs.Words.{app_of, new_app, rule_of, with_subcommand};
+ghost use Rattle.std.specs.Prelude.{◌≡◌, IfOk, false, true};
+ghost use Rattle.clap.specs.Words.{app_of, rule_of};
 ghost use Rattle.clap.specs.declared.builder.command.Command.TheViews.{out-Command};
 ghost use Rattle.clap.specs.declared.builder.value_parser.ValueParser.TheVariants as vp;
 ghost use Rattle.lrc_words.specs.Words.{tries_rule, seed_rule, lock_rule, journal_rule};
-ghost use Rattle.lrc_words.specs.Words.{file_app, script_app, run_app, step_app, lrc_app};
+ghost use Rattle.lrc_words.specs.Words.{script_app, run_app, step_app, lrc_app};
 
 use crate::help::{ABOUT, AFTER, SCRIPT, VERSION};
 use clap::builder::ValueParser;
@@ -70,26 +70,6 @@ fn journal_arg<'a>(alloc: Global) -> Arg<'a>
 }
 
 /// A command on a script's file, with an option of its own.
-fn file_command<'a>(
-    alloc: Global,
-    name: &'a str,
-    about: &'a str,
-    own: Arg<'a>,
-) -> Result<Command<'a>, AllocError>
-    requires { own.global ≡ false }
-    ensures app { IfOk result (λ c. app_of c ≡ file_app name.entry.now (rule_of own.entry)) }
-    ensures globals { IfOk result (λ c. (out-Command c).has_globals ≡ false) }
-{
-    let file = Arg::new(alloc, "FILE").help("the script; standard input where it isn't given");
-    let command = Command::new(alloc, name)
-        .about(about)
-        .after_help(SCRIPT)
-        .arg(file)?
-        .arg(own)?;
-    Ok(command)
-}
-
-/// The same with the options that both commands have.
 fn script_command<'a>(
     alloc: Global,
     name: &'a str,
@@ -102,10 +82,14 @@ fn script_command<'a>(
         ≡ script_app name.entry.now (rule_of own.entry) (vp.Names locks.entry)) }
     ensures globals { IfOk result (λ c. (out-Command c).has_globals ≡ false) }
 {
-    let command = file_command(alloc, name, about, own)?
+    let file = Arg::new(alloc, "FILE").help("the script; standard input where it isn't given");
+    Command::new(alloc, name)
+        .about(about)
+        .after_help(SCRIPT)
+        .arg(file)?
+        .arg(own)?
         .arg(lock_arg(alloc, locks))?
-        .arg(journal_arg(alloc))?;
-    Ok(command)
+        .arg(journal_arg(alloc))
 }
 
 /// `lrc run`.
@@ -136,19 +120,6 @@ fn step_command<'a>(alloc: Global, locks: &'a [&'a str]) -> Result<Command<'a>, 
     )
 }
 
-/// `lrc`, so far with `run` alone.
-fn lrc_run<'a>(alloc: Global, locks: &'a [&'a str]) -> Result<Command<'a>, AllocError>
-    ensures app { IfOk result (λ c. app_of c
-        ≡ with_subcommand (new_app (codes "lrc")) (run_app (vp.Names locks.entry)).top) }
-    ensures globals { IfOk result (λ c. (out-Command c).has_globals ≡ false) }
-{
-    let lrc = Command::new(alloc, "lrc")
-        .about(ABOUT)
-        .after_help(AFTER)
-        .subcommand(run_command(alloc, locks)?)?;
-    Ok(lrc)
-}
-
 /// The command that the words are read by.
 pub(crate) fn lrc_command<'a>(
     alloc: Global,
@@ -158,9 +129,11 @@ pub(crate) fn lrc_command<'a>(
     ensures globals { IfOk result (λ c. (out-Command c).has_globals ≡ false) }
     ensures wants { IfOk result (λ c. (out-Command c).subcommand_required ≡ true) }
 {
-    let lrc = lrc_run(alloc, locks)?
-        .subcommand(step_command(alloc, locks)?)?
+    Command::new(alloc, "lrc")
+        .about(ABOUT)
+        .after_help(AFTER)
+        .version(VERSION)
         .subcommand_required(true)
-        .version(VERSION);
-    Ok(lrc)
+        .subcommand(run_command(alloc, locks)?)?
+        .subcommand(step_command(alloc, locks)?)
 }
