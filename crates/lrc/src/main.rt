@@ -2,7 +2,7 @@
 //!
 //! **What contracts see.** A reader by the bytes that it has left (`remaining`), a writer by those that it was given
 //! (`contents`). A run's `Report` is one of a script's plan (`IsReportOf` of `lrc_run`). What its text is, and what
-//! options the words give, `lrc_report` and `lrc_words` say.
+//! options the words give, `lrc_report` and `lrc_options` say.
 //!
 //! **What is proved.** `program` answers 0 only where all that it could read is a script's text, that script was run
 //! and the text of its report was written, and nothing else (`IsServed`); 2 only where it is no script's text
@@ -22,8 +22,8 @@ use crate::fault::ProgramFault;
 use crate::program::{program, say};
 use clap::Error;
 use clap::error::ErrorKind;
-use lrc_words::options::Options;
-use lrc_words::words::options;
+use lrc_options::command_line::options;
+use lrc_options::options::Options;
 use std::fs::File;
 use std::io;
 use std::process::ExitCode;

@@ -8,11 +8,11 @@ ghost use Rattle.lrc.specs.Prelude.{IsNoScript, IsPrinted, IsRead, IsServed, IsB
 use crate::fault::ProgramFault;
 use book::Book;
 use cluster::{BookLock, Rule, TicketBookLock};
+use lrc_options::options::Options;
 use lrc_report::Report;
 use lrc_report::render::render;
 use lrc_run::{Open, RunFault, run_with, step_with};
 use lrc_script::script::{MOST_BYTES, Script, parse};
-use lrc_words::options::Options;
 use std::alloc::Global;
 use std::io::{Read, Write};
 use std::sync::Wait;
