@@ -3,7 +3,7 @@ use Rattle.std.proofs.Common.{◌≡◌, ◌≢◌, ◌∙◌, ℕ, inl, inr, sy
 use Rattle.runs.specs.declared.cause.Cause.{Cause}
 use Rattle.runs.specs.declared.cause.Cause.TheVariants.{Stuck, Gate, Thread, Refused}
 use Rattle.lrc.specs.declared.fault.ProgramFault.{ProgramFault}
-use Rattle.lrc.specs.declared.fault.ProgramFault.TheVariants.{Unreadable, Script, Run, Output, NoMemory}
+use Rattle.lrc.specs.declared.fault.ProgramFault.TheVariants.{Words, Unreadable, Script, Run, Output, NoMemory}
 use Rattle.lrc.specs.Statuses.{status_of_cause, status_of, IsStatusOf, IsScripts, IsBeforeOutput}
 
 -- a run's fault has status 3 or 4
@@ -22,7 +22,8 @@ cause_others (Refused refused) is = absurd (omega (arith, is))
 
 -- a fault has some status
 some : (fault : ProgramFault) → status_of fault ≢ 0
-some Unreadable is = absurd (omega (arith, is))
+some (Words reason) is = absurd (omega (arith, is))
+some (Unreadable reason) is = absurd (omega (arith, is))
 some (Script line fault) is = absurd (omega (arith, is))
 some (Run fault) is = cause_some fault.cause is
 some Output is = absurd (omega (arith, is))
@@ -30,7 +31,8 @@ some NoMemory is = absurd (omega (arith, is))
 
 -- status 2 is the script's
 scripts : (fault : ProgramFault) → status_of fault ≡ 2 → IsScripts fault
-scripts Unreadable is = absurd (omega (arith, is))
+scripts (Words reason) is = absurd (omega (arith, is))
+scripts (Unreadable reason) is = absurd (omega (arith, is))
 scripts (Script line fault) is = tt
 scripts (Run fault) is = absurd (cause_others fault.cause is)
 scripts Output is = absurd (omega (arith, is))
@@ -38,7 +40,8 @@ scripts NoMemory is = absurd (omega (arith, is))
 
 -- a fault of the output has status 4
 before : (fault : ProgramFault) → status_of fault ≢ 4 → IsBeforeOutput fault
-before Unreadable isnt = tt
+before (Words reason) isnt = tt
+before (Unreadable reason) isnt = tt
 before (Script line fault) isnt = tt
 before (Run fault) isnt = tt
 before Output isnt = absurd (isnt refl)

@@ -3,7 +3,7 @@ use Rattle.std.specs.Prelude.{ℕ, ◌≡◌, ◌⊎◌, ⊤}
 use Rattle.runs.specs.declared.cause.Cause.{Cause}
 use Rattle.runs.specs.declared.cause.Cause.TheVariants.{Stuck}
 use Rattle.lrc.specs.declared.fault.ProgramFault.{ProgramFault}
-use Rattle.lrc.specs.declared.fault.ProgramFault.TheVariants.{Unreadable, Script, Run, Output, NoMemory}
+use Rattle.lrc.specs.declared.fault.ProgramFault.TheVariants.{Words, Unreadable, Script, Run, Output, NoMemory}
 
 -- a run without progress has a status of its own
 abbrev pub status_of_cause : Cause → ℕ
@@ -12,7 +12,8 @@ status_of_cause _ = 4
 
 -- the status of a fault
 abbrev pub status_of : ProgramFault → ℕ
-status_of Unreadable = 5
+status_of (Words reason) = 5
+status_of (Unreadable reason) = 5
 status_of (Script line fault) = 2
 status_of (Run fault) = status_of_cause fault.cause
 status_of _ = 4

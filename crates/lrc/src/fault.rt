@@ -8,15 +8,17 @@ use book::Refused;
 use lrc_report::render::OutFault;
 use lrc_run::{Cause, RunFault};
 use lrc_script::fault::ScriptFault;
-use std::alloc::AllocError;
+use std::alloc::{AllocError, Global};
 use std::io::ErrorKind;
 use std::{fmt, io};
 
 /// Why the program ends without a report.
 #[derive(Clone, Copy)]
 pub enum ProgramFault {
-    /// The file or standard input can't be read.
-    Unreadable,
+    /// The words can't be read, for this reason.
+    Words(io::Error),
+    /// The script's file or standard input can't be read, for this reason.
+    Unreadable(io::Error),
     /// The script has a fault, in this line.
     Script(usize, ScriptFault),
     /// A processor went no further.
@@ -27,27 +29,40 @@ pub enum ProgramFault {
     NoMemory,
 }
 
-/// What the program says on standard error after `lrc: `.
+/// What the program says on standard error after `lrc: `, where the script comes from standard input. The reasons are
+/// the system's.
 impl fmt::Display for ProgramFault {
     fn fmt<W: fmt::Write>(&self, f: &mut fmt::Formatter<W>) -> fmt::Result {
         match self {
-            ProgramFault::Unreadable => write!(f, "file cannot be read"),
+            ProgramFault::Words(reason) => write!(f, "cannot read the words: {reason}"),
+            ProgramFault::Unreadable(reason) => write!(f, "cannot read standard input: {reason}"),
             ProgramFault::Script(line, fault) => write!(f, "line {line}: {fault}"),
-            ProgramFault::Run(fault) => write!(f, "{fault}"),
-            ProgramFault::Output => write!(f, "output failed"),
-            ProgramFault::NoMemory => write!(f, "out of memory"),
+            ProgramFault::Run(fault) => fault.fmt(f),
+            ProgramFault::Output => f.write_str("output failed"),
+            ProgramFault::NoMemory => f.write_str("out of memory"),
         }
     }
 }
 
 impl ProgramFault {
-    /// The exit status: 5 for a file that can't be read, 2 for a script that is refused, 3 for a run without
-    /// progress, else 4.
+    /// The line that standard error gets. The script's file is named as Rust writes a string, so that it is one line
+    /// whatever the name has.
+    pub fn line(self, alloc: Global, file: Option<&str>) -> Result<String, AllocError> {
+        match (self, file) {
+            (ProgramFault::Unreadable(reason), Some(file)) => format!(in alloc;
+                "lrc: cannot read {file:?}: {reason}\n"
+            ),
+            _ => format!(in alloc; "lrc: {self}\n"),
+        }
+    }
+
+    /// The exit status: 5 for words or a script that can't be read, 2 for a script that is refused, 3 for a run
+    /// without progress, else 4.
     pub fn status(self) -> u8
         ensures { result ≡ status_of self }
     {
         match self {
-            ProgramFault::Unreadable => 5,
+            ProgramFault::Words(_) | ProgramFault::Unreadable(_) => 5,
             ProgramFault::Script(..) => 2,
             ProgramFault::Run(
                 RunFault {
@@ -67,7 +82,7 @@ impl From<io::Error> for ProgramFault {
         if error.kind() == ErrorKind::OutOfMemory {
             ProgramFault::NoMemory
         } else {
-            ProgramFault::Unreadable
+            ProgramFault::Unreadable(error)
         }
     }
 }

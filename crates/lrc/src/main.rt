@@ -1,12 +1,12 @@
 //! `lrc`: runs scripts of a shared memory and prints the final words, a race verdict and the traffic.
 //!
 //! **What contracts see.** A reader by the bytes that it has left (`remaining`), a writer by those that it was given
-//! (`contents`). A run's `Report` is one of a script's plan (`IsReportOf` of `lrc_run`). What its text is, and what options
-//! the words give, `lrc_report` and `lrc_words` say.
+//! (`contents`). A run's `Report` is one of a script's plan (`IsReportOf` of `lrc_run`). What its text is, and what
+//! options the words give, `lrc_report` and `lrc_options` say.
 //!
-//! **What is proved.** `program` answers 0 only where all that it could read is a script's text, that script was run and
-//! the text of its report was written, and nothing else (`IsServed`); 2 only where it is no script's text (`IsNoScript`);
-//! and but for 4 a report is written whole or not at all. Each fault has its status (`status_of`).
+//! **What is proved.** `program` answers 0 only where all that it could read is a script's text, that script was run
+//! and the text of its report was written, and nothing else (`IsServed`); 2 only where it is no script's text
+//! (`IsNoScript`); and but for 4 a report is written whole or not at all. Each fault has its status (`status_of`).
 //!
 //! **What is only tested**, by whole runs of the program. The texts of faults, help and usage, which fault is met, that
 //! the lock and the seed that the words ask for are used, and that no call allocates without need. No contract sees what a
@@ -22,19 +22,20 @@ use crate::fault::ProgramFault;
 use crate::program::{program, say};
 use clap::Error;
 use clap::error::ErrorKind;
-use lrc_words::options::Options;
-use lrc_words::words::options;
+use lrc_options::command_line::options;
+use lrc_options::options::Options;
 use std::fs::File;
+use std::io;
 use std::process::ExitCode;
 use std::sync::Wait;
 use std::thread::Threads;
 
-/// Says why the program doesn't start, and answers its status.
+/// Says why the program ends before it has words to go by, and answers its status.
 fn refuse(rt: &HostRuntime, fault: ProgramFault) -> u8 {
-    say(rt.alloc(), fault, &mut rt.stderr())
+    say(rt.alloc(), None, fault, &mut rt.stderr())
 }
 
-/// Prints clap's answer to the words: help to standard output, faults to standard error.
+/// Prints clap's answer to the words: help and the version to standard output, faults to standard error.
 fn answer_words(rt: &HostRuntime, error: &Error) -> u8 {
     if error.kind() == ErrorKind::OutOfMemory {
         return refuse(rt, ProgramFault::NoMemory);
@@ -58,38 +59,31 @@ fn run_file<R: Threads + Wait + Sync>(rt: &HostRuntime, handle: &R, options: &Op
         None => program(handle, alloc, options, &mut rt.stdin(), &mut out, &mut err),
         Some(path) => match File::open(rt, path) {
             Ok(mut source) => program(handle, alloc, options, &mut source, &mut out, &mut err),
-            Err(error) => refuse(rt, ProgramFault::from(error)),
+            Err(error) => say(alloc, Some(path), ProgramFault::from(error), &mut err),
         },
     }
 }
 
 /// Does what the words ask for.
-fn start<R: Threads + Wait + Sync>(rt: &HostRuntime, handle: &R, words: &[&str]) -> u8 {
+fn start<R: Threads + Wait + Sync>(rt: &HostRuntime, handle: &R, words: &[String]) -> u8 {
     match options(rt.alloc(), words) {
         Ok(options) => run_file(rt, handle, &options),
         Err(error) => answer_words(rt, &error),
     }
 }
 
-/// Does what the words ask for, each as text. It stands apart since one list alone is to be dropped where memory is short.
-fn start_with<R: Threads + Wait + Sync>(
-    rt: &HostRuntime,
-    handle: &R,
-    words: &[String],
-) -> Result<u8, ProgramFault> {
-    let words: Vec<&str> = words.iter().map(|word| word.as_str()).collect(rt.alloc())?;
-    Ok(start(rt, handle, &words))
-}
-
-/// Reads the program's words and does what they ask for.
-fn read_words<R: Threads + Wait + Sync>(rt: &HostRuntime, handle: &R) -> Result<u8, ProgramFault> {
-    let words: Vec<String> = std::env::args(rt)?.collect(rt.alloc())?;
-    start_with(rt, handle, &words)
+/// The program's words, its name first.
+fn words_of(rt: &HostRuntime) -> Result<Vec<String>, ProgramFault> {
+    match std::env::args(rt) {
+        Ok(words) => Ok(words.collect(rt.alloc())?),
+        Err(error) if error.kind() == io::ErrorKind::OutOfMemory => Err(ProgramFault::NoMemory),
+        Err(error) => Err(ProgramFault::Words(error)),
+    }
 }
 
 fn main(rt: HostRuntime) -> ExitCode {
-    let status = match read_words(&rt, &rt) {
-        Ok(status) => status,
+    let status = match words_of(&rt) {
+        Ok(words) => start(&rt, &rt, &words),
         Err(fault) => refuse(&rt, fault),
     };
     ExitCode::from(status)

@@ -1,57 +1,44 @@
 //! The program over its reader and its writers.
-ghost use Rattle.std.specs.Prelude.{◌≡◌, ◌≢◌, ◌<◌, IfErr, IfOk, OnOk};
+ghost use Rattle.std.specs.Prelude.{◌≡◌, ◌≢◌, ◌<◌, ◌≤◌, ◌^◌, IfErr, IfOk, OnOk};
 ghost use Rattle.std.specs.Io.KnownBytes.{Keeps};
 ghost use Rattle.lrc_script.specs.Prelude.{IsLawful, plan_of};
 ghost use Rattle.lrc_run.specs.Prelude.{IsReportOf};
 ghost use Rattle.lrc.specs.Prelude.{IsNoScript, IsPrinted, IsRead, IsServed, IsBeforeOutput, IsScripts, IsStatusOf};
 
 use crate::fault::ProgramFault;
-use cluster::{BookLock, TicketBookLock};
+use book::Book;
+use cluster::{BookLock, Rule, TicketBookLock};
+use lrc_options::options::Options;
 use lrc_report::Report;
 use lrc_report::render::render;
 use lrc_run::{Open, RunFault, run_with, step_with};
 use lrc_script::script::{MOST_BYTES, Script, parse};
-use lrc_words::options::Options;
 use std::alloc::Global;
 use std::io::{Read, Write};
 use std::sync::Wait;
 use std::thread::Threads;
+use turn::Turn;
 
 /// One byte more than the longest script has: what is longer is refused without its rest.
 const MOST_READ: u64 = MOST_BYTES as u64 + 1;
 
-/// Runs the script by turns on one thread, with the lock that is asked for.
-fn step_report<R: Wait>(
+/// Runs the script as the options say, with this lock round the book: by turns on one thread, or with a thread for
+/// each processor.
+fn report_with<T: Turn<Book, Rule> + Send + Drop, R: Threads + Wait + Sync>(
     rt: &R,
     alloc: Global,
     options: &Options,
     script: &Script,
 ) -> Result<Report, RunFault>
-    requires { IsLawful (plan_of script.now) }
-    ensures { IfOk result (IsReportOf (plan_of script.now)) }
-{
-    if options.ticket {
-        step_with::<TicketBookLock, R>(rt, alloc, script, options.seed)
-    } else {
-        step_with::<BookLock, R>(rt, alloc, script, options.seed)
-    }
-}
-
-/// Runs the script with a thread for each processor and the lock that is asked for.
-fn run_report<R: Threads + Wait + Sync>(
-    rt: &R,
-    alloc: Global,
-    options: &Options,
-    script: &Script,
-) -> Result<Report, RunFault>
+    requires entries { T.ENTRIES ≤ 2 ^ 40 }
     requires tries { 0 < options.now.tries }
     requires lawful { IsLawful (plan_of script.now) }
     ensures { IfOk result (IsReportOf (plan_of script.now)) }
 {
-    if options.ticket {
-        run_with::<TicketBookLock, R, Open>(rt, alloc, script, &Open, options.tries)
+    if options.step {
+        step_with::<T, R>(rt, alloc, script, options.seed)
     } else {
-        run_with::<BookLock, R, Open>(rt, alloc, script, &Open, options.tries)
+        run_with::<T, R, Open>(rt, alloc, script, &Open, options.tries)
     }
 }
 
@@ -66,10 +53,10 @@ fn report_of<R: Threads + Wait + Sync>(
     requires lawful { IsLawful (plan_of script.now) }
     ensures { IfOk result (IsReportOf (plan_of script.now)) }
 {
-    if options.step {
-        step_report(rt, alloc, options, script)
+    if options.ticket {
+        report_with::<TicketBookLock, R>(rt, alloc, options, script)
     } else {
-        run_report(rt, alloc, options, script)
+        report_with::<BookLock, R>(rt, alloc, options, script)
     }
 }
 
@@ -124,13 +111,13 @@ fn run_script<R: Threads + Wait + Sync, S: Read, W: Write>(
     print_report(rt, alloc, options, &script, out)
 }
 
-/// Says on `err` in one write why the program ends without a report, and answers the fault's exit status. Where
-/// there is no memory for the line, it says that, with the status of that.
-pub fn say<E: Write>(alloc: Global, fault: ProgramFault, err: &mut E) -> u8
+/// Says on `err` in one write why the program ends without a report on the file's script, and answers the fault's
+/// exit status. Where there is no memory for the line, it says that, with the status of that.
+pub fn say<E: Write>(alloc: Global, file: Option<&str>, fault: ProgramFault, err: &mut E) -> u8
     ensures { IsStatusOf fault result }
 {
     // Where standard error takes nothing, the status still tells.
-    match format!(in alloc; "lrc: {fault}\n") {
+    match fault.line(alloc, file) {
         Ok(line) => {
             let _ = err.write_all(line.as_bytes());
             fault.status()
@@ -165,6 +152,6 @@ pub fn program<R: Threads + Wait + Sync, S: Read, W: Write, E: Write>(
 {
     match run_script(rt, alloc, options, source, out) {
         Ok(()) => 0,
-        Err(fault) => say(alloc, fault, err),
+        Err(fault) => say(alloc, options.file.as_deref(), fault, err),
     }
 }

@@ -1,0 +1,145 @@
+-- What the getters of clap's matches read, by the rows.
+use Rattle.std.proofs.Common.{◌≡◌, ◌⊎◌, ◌∙◌, ◌<◌, ◌≤◌, ◌^◌, ℕ, Bool, true, false, List, Option, Some, None, Result, Ok, Err, [], ◌∷◌, inl, refl, subst, sym, ap, ap₂, codes, arith}
+use Rattle.std.specs.Prelude.{◌||◌, IfOk, option_map}
+use Rattle.std.specs.Option.{option_map_or}
+use Rattle.std.specs.Str.{bytes_eq}
+use Rattle.std.specs.Str.Parse.{IsNumeral, ParsesUnsigned, without_leading_plus}
+use Rattle.std.proofs.lemmas.Option.{same_Some}
+use Rattle.clap.specs.Words.{FailsBy, HasKind, IsAmong, Kinds, Row, Text, ReadsOne, first_of, first_value, one_of, one_text, rows_of}
+use Rattle.clap.specs.declared.parser.matches.Found.{Found}
+use Rattle.clap.specs.declared.error.Error.{Error}
+use Rattle.clap.proofs.WalkLemmas.{first_value-rows, one_text-rows}
+use Rattle.clap.specs.Values.{kind_of}
+use Rattle.clap.specs.declared.builder.value_parser.ValueParser.{ValueParser}
+use Rattle.clap.specs.declared.error.kind.ErrorKind.TheVariants.{OutOfMemory}
+use Rattle.lrc_options.specs.CommandLine.{IsNumberRead, IsNumberGiven, IsSeedGiven, IsFlagGiven, IsRefusedBy, TakesNames, number_of, most_tries, default_tries, most_seed}
+
+-- a text that is a number is read as that
+number_reads : {E : Type 0} (t : Text) (G : List ℕ → Result ℕ E → Type 0) (r : Option ℕ) → ReadsOne G t r
+    → ((u : List ℕ) (x : Result ℕ E) → G u x → ParsesUnsigned 64 10 u x) → IsNumeral 10 (without_leading_plus t)
+    → number_of t < 2 ^ 64 → r ≡ Some (number_of t)
+number_reads t G (Some n) reads parses numeral small = ap Some (parses t (Ok n) reads).1
+number_reads t G None reads parses numeral small = absurd (parses t (Err reads.0) reads.1 (numeral, small))
+
+-- `get_one` of a number
+pub number_read : {E : Type 0} (G : List ℕ → Result ℕ E → Type 0) (f : Found) (id : Text) (r : Option ℕ)
+    → (one_text f id ≡ None → r ≡ None)
+    → ((t : List ℕ) → one_text f id ≡ Some t → ReadsOne G t r)
+    → ((u : List ℕ) (x : Result ℕ E) → G u x → ParsesUnsigned 64 10 u x) → IsNumberRead (one_of id (rows_of f)) r
+number_read G f id r none value parses = record {
+  read = λ t is. number_reads t G r (value t (one_text-rows f id ∙ is)) parses;
+  none = λ is. none (one_text-rows f id ∙ is);
+}
+
+-- a number in range
+pub tries_in : (given : Option Text) (n : ℕ) → IsNumberRead given (Some n) → 1 ≤ n → n ≤ most_tries
+    → IsNumberGiven 1 most_tries default_tries given n
+tries_in given n r least most = record {
+  read = λ t is within. same_Some n (number_of t) (r.read t is within.0 within.1);
+  default_is = λ is. absurd (cc (r.none is));
+  least_is = least;
+  most_is = most;
+}
+
+-- a number out of range
+pub tries_out : (given : Option Text) (n : ℕ) → IsNumberRead given (Some n) → (1 ≤ n → n ≤ most_tries → ⊥)
+    → IsNumberGiven 1 most_tries default_tries given 1000000
+tries_out given n r out = record {
+  read = λ t is within.
+      let same = same_Some n (number_of t) (r.read t is within.0 within.1) in
+      absurd (out (rw same within.2) (rw same within.3));
+  default_is = λ is. refl;
+  least_is = omega arith;
+  most_is = omega arith;
+}
+
+-- no number
+pub tries_none : (given : Option Text) → IsNumberRead given None
+    → IsNumberGiven 1 most_tries default_tries given 1000000
+tries_none given r = record {
+  read = λ t is within. absurd (cc (r.read t is within.0 within.1));
+  default_is = λ is. refl;
+  least_is = omega arith;
+  most_is = omega arith;
+}
+
+-- a seed in range
+pub seed_in : (given : Option Text) (n : ℕ) → IsNumberRead given (Some n) → n ≤ most_seed → IsSeedGiven given (Some n)
+seed_in given n r most = record {
+  read = λ t is within. r.read t is within.0 within.1;
+  none = r.none;
+  most_is = most;
+}
+
+-- a number out of range
+pub seed_out : (given : Option Text) (n : ℕ) → IsNumberRead given (Some n) → (n ≤ most_seed → ⊥)
+    → IsSeedGiven given None
+seed_out given n r out = record {
+  read = λ t is within. absurd (out (rw (same_Some n (number_of t) (r.read t is within.0 within.1)) within.3));
+  none = λ is. refl;
+  most_is = tt;
+}
+
+-- no number
+pub seed_none : (given : Option Text) → IsNumberRead given None → IsSeedGiven given None
+seed_none given r = record {
+  read = λ t is within. r.read t is within.0 within.1;
+  none = λ is. refl;
+  most_is = tt;
+}
+
+-- `get_flag`
+pub flag_read : (f : Found) (id : Text) (b : Bool) → (one_text f id ≡ None → b ≡ false)
+    → (one_text f id ≡ Some (codes "true") → b ≡ true)
+    → (one_text f id ≡ Some (codes "false") → b ≡ false) → IsFlagGiven (one_of id (rows_of f)) b
+flag_read f id b none value other = record {
+  set = λ is. value (one_text-rows f id ∙ is);
+  unset = λ is. other (one_text-rows f id ∙ is);
+  none = λ is. none (one_text-rows f id ∙ is);
+}
+
+-- `get_str`, compared with a word
+pub word_read : (f : Found) (id word lock : Text) (b : Bool) → Some lock ≡ first_value f id → b ≡ bytes_eq lock word
+    → b ≡ option_map_or (λ t. bytes_eq t word) (first_of id (rows_of f)) false
+word_read f id word lock b is same = same
+    ∙ ap (λ o. option_map_or (λ t. bytes_eq t word) o false) (is ∙ first_value-rows f id)
+
+pub no_word : (f : Found) (id word : Text) → None ≡ first_value f id
+    → false ≡ option_map_or (λ t. bytes_eq t word) (first_of id (rows_of f)) false
+no_word f id word is = ap (λ o. option_map_or (λ t. bytes_eq t word) o false) (is ∙ first_value-rows f id)
+
+-- what holds of a value, where there is one, makes what follows from it hold
+pub if_ok_map : {T E : Type 0} {P Q : T → Type 0} (r : Result T E) → ((x : T) → P x → Q x) → IfOk r P → IfOk r Q
+if_ok_map (Ok x) follows holds = follows x holds
+if_ok_map (Err e) follows holds = tt
+
+-- a command with one more part takes no argument from above
+pub still_local : (a b r : Bool) → r ≡ (a || b) → a ≡ false → b ≡ false → r ≡ false
+still_local a b r is first second = is ∙ ap₂ (λ x y. x || y) first second
+
+-- two readings of one thing
+abbrev pub both_of : {A : Type 0} → (A → Text) → (A → List Row) → A → Text × List Row
+both_of f g b = (f b, g b)
+
+-- the name and the rows of what was entered
+pub named_rows : {A : Type 0} (f : A → Text) (g : A → List Row) (o : Option A) (name : Text) (rows : List Row)
+    → Some name ≡ option_map f o
+    → Some rows ≡ option_map (λ (p : Text × List Row). p.1) (option_map (both_of f g) o)
+    → option_map (both_of f g) o ≡ Some (name, rows)
+named_rows f g None name rows named found = absurd (cc)
+named_rows f g (Some b) name rows named found =
+    ap₂ (λ x y. Some (x, y)) (sym (same_Some name (f b) named)) (sym (same_Some rows (g b) found))
+
+-- where the words were taken there is no fault
+pub no_fault : {T : Type 0} (kinds : Kinds) (r : Result T Error) (x : T) → r ≡ Ok x → FailsBy kinds r → kinds ≡ []
+no_fault kinds r x was fails = rw was at fails
+
+-- an error has one of the kinds
+pub is_fault : {T : Type 0} (kinds : Kinds) (r : Result T Error) (e : Error) → r ≡ Err e → FailsBy kinds r
+    → HasKind kinds e
+is_fault kinds r e was fails = rw was at fails
+
+-- running out of memory refuses any words
+pub out_of_memory : (locks : ValueParser) (words : List Text) (e : Error)
+    → TakesNames (codes "array" ∷ codes "ticket" ∷ []) locks → kind_of e ≡ OutOfMemory → IsRefusedBy words e
+out_of_memory locks words e are is = record { locks = locks; locks_are = are; kind = inl is }

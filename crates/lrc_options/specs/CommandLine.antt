@@ -1,0 +1,117 @@
+-- What the program's words give.
+use Rattle.std.specs.Prelude.{ℕ, ◌≡◌, ◌<◌, ◌≤◌, ◌-◌, ◌^◌, Bool, true, false, List, [], ◌∷◌, Option, Some, None, IfSome, codes, map, option_map, string_bytes}
+use Rattle.std.specs.Option.{option_map_or}
+use Rattle.std.specs.Str.{bytes_eq}
+use Rattle.std.specs.Str.Parse.{IsNumeral, digits_value, without_leading_plus}
+use Rattle.clap.specs.Words.{App, HasKind, Row, Rule, Text, new_app, new_rule, with_rule, with_subcommand, subcommand_of, first_of, one_of, fault_of}
+use Rattle.clap.specs.Simple.{on_top}
+use Rattle.clap.specs.Values.{IsUnsignedIn}
+use Rattle.clap.specs.declared.builder.action.ArgAction.TheVariants.{SetTrue}
+use Rattle.clap.specs.declared.builder.value_parser.ValueParser.{ValueParser}
+use Rattle.clap.specs.declared.builder.value_parser.ValueParser.TheVariants as vp
+use Rattle.clap.specs.declared.error.Error.{Error}
+use Rattle.lrc_options.specs.declared.options.Options.{Options}
+
+-- the limits and the default of `--tries`, and the limit of `--seed`
+abbrev pub most_tries : ℕ
+most_tries = 1000000000
+
+abbrev pub default_tries : ℕ
+default_tries = 1000000
+
+abbrev pub most_seed : ℕ
+most_seed = 2 ^ 32 - 1
+
+-- an option with a value
+abbrev pub option_rule : Text → Rule
+option_rule id = record (new_rule id) { long = Some id; value_names = 1 }
+
+abbrev pub tries_rule : Rule
+tries_rule =
+    record (option_rule (codes "tries")) { parser = Some (vp.Unsigned 1 most_tries); defaults = codes "1000000" ∷ [] }
+
+abbrev pub seed_rule : Rule
+seed_rule = record (option_rule (codes "seed")) { parser = Some (vp.Unsigned 0 most_seed) }
+
+abbrev pub lock_rule : ValueParser → Rule
+lock_rule locks = record (option_rule (codes "lock")) { parser = Some locks; defaults = codes "array" ∷ [] }
+
+abbrev pub journal_rule : Rule
+journal_rule = record (new_rule (codes "journal")) { long = Some (codes "journal"); action = Some SetTrue }
+
+-- a command on a script's file, with one option of its own, `--lock` and `--journal`
+abbrev pub script_app : Text → Rule → ValueParser → App
+script_app name own locks =
+    with_rule (with_rule (with_rule (with_rule (new_app name) (new_rule (codes "FILE"))) own) (lock_rule locks))
+    journal_rule
+
+-- `lrc run` and `lrc step`; `--lock` takes what this parser lets through
+abbrev pub run_app : ValueParser → App
+run_app locks = script_app (codes "run") tries_rule locks
+
+abbrev pub step_app : ValueParser → App
+step_app locks = script_app (codes "step") seed_rule locks
+
+-- `lrc`, which wants a command and has a version
+abbrev pub lrc_app : ValueParser → App
+lrc_app locks = on_top (λ s. record s { subcommand_required = true; has_version = true })
+    (with_subcommand (with_subcommand (new_app (codes "lrc")) (run_app locks).top) (step_app locks).top)
+
+-- the parser takes these names and no others
+abbrev pub TakesNames : List Text → ValueParser → Type 0
+TakesNames names (vp.Names given) = map (λ s. s.now) given.now ≡ names
+TakesNames names _ = ⊥
+
+-- the number that a text gives
+abbrev pub number_of : Text → ℕ
+number_of t = digits_value 10 (without_leading_plus t)
+
+-- the number that is given, where the text is one of 64 bits
+pub record IsNumberRead (given : Option Text) (n : Option ℕ) : Type 0 where
+  pub read : (t : Text) → given ≡ Some t → IsNumeral 10 (without_leading_plus t) → number_of t < 2 ^ 64
+      → n ≡ Some (number_of t)
+  pub none : given ≡ None → n ≡ None
+
+-- the number that is given, or the default; it is in range
+pub record IsNumberGiven (least most default : ℕ) (given : Option Text) (n : ℕ) : Type 0 where
+  pub read : (t : Text) → given ≡ Some t → IsUnsignedIn least most t → n ≡ number_of t
+  pub default_is : given ≡ None → n ≡ default
+  pub least_is : least ≤ n
+  pub most_is : n ≤ most
+
+-- the seed that is given, or none; it is in range
+pub record IsSeedGiven (given : Option Text) (seed : Option ℕ) : Type 0 where
+  pub read : (t : Text) → given ≡ Some t → IsUnsignedIn 0 most_seed t → seed ≡ Some (number_of t)
+  pub none : given ≡ None → seed ≡ None
+  pub most_is : IfSome seed (λ n. n ≤ most_seed)
+
+-- whether a flag is set
+pub record IsFlagGiven (given : Option Text) (flag : Bool) : Type 0 where
+  pub set : given ≡ Some (codes "true") → flag ≡ true
+  pub unset : given ≡ Some (codes "false") → flag ≡ false
+  pub none : given ≡ None → flag ≡ false
+
+-- the options that a command's name and its rows give
+pub record AreOptionsOf (name : Text) (rows : List Row) (o : Options) : Type 0 where
+  pub step : o.step ≡ bytes_eq name (codes "step")
+  pub file : option_map (λ f. string_bytes f) o.file ≡ first_of (codes "FILE") rows
+  pub tries : IsNumberGiven 1 most_tries default_tries (one_of (codes "tries") rows) o.tries
+  pub seed : IsSeedGiven (one_of (codes "seed") rows) o.seed
+  pub ticket : o.ticket ≡ option_map_or (λ t. bytes_eq t (codes "ticket")) (first_of (codes "lock") rows) false
+  pub journal : IsFlagGiven (one_of (codes "journal") rows) o.journal
+
+-- the options that the words give, by the matches of a simple command, which find no fault in them
+pub record AreGiven (words : List Text) (o : Options) : Type 0 where
+  pub locks : ValueParser
+  pub locks_are : TakesNames (codes "array" ∷ codes "ticket" ∷ []) locks
+  pub faultless : fault_of (lrc_app locks) words ≡ []
+  pub name : Text
+  pub rows : List Row
+  pub command : subcommand_of (lrc_app locks) words ≡ Some (name, rows)
+  pub options : AreOptionsOf name rows o
+
+-- memory ran out, or the matches of that command find a fault of this kind in the words
+pub record IsRefusedBy (words : List Text) (e : Error) : Type 0 where
+  pub locks : ValueParser
+  pub locks_are : TakesNames (codes "array" ∷ codes "ticket" ∷ []) locks
+  pub kind : HasKind (fault_of (lrc_app locks) words) e

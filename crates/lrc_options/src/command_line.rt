@@ -1,0 +1,105 @@
+//! Reads the program's words.
+ghost use Rattle.std.specs.Prelude.{◌≡◌, IfOk, IfErr, false, map, option_map, string_bytes, codes};
+ghost use Rattle.std.specs.Option.{option_map_or};
+ghost use Rattle.std.specs.Str.{bytes_eq};
+ghost use Rattle.clap.specs.Words.{first_of, one_of, rows_of, found_of};
+ghost use Rattle.lrc_options.specs.CommandLine.{IsNumberRead, IsNumberGiven, IsSeedGiven, IsFlagGiven, AreOptionsOf};
+ghost use Rattle.lrc_options.specs.CommandLine.{AreGiven, IsRefusedBy, most_tries, default_tries};
+
+use crate::command::{LOCKS, MOST_SEED, MOST_TRIES, lrc_command};
+use crate::options::{DEFAULT_TRIES, Options};
+use crate::tips::with_tip;
+use clap::{ArgMatches, Error};
+use std::alloc::{AllocError, Global};
+
+/// The number that an option gives.
+fn number_of(matches: &ArgMatches<'_>, id: &str) -> Option<u64>
+    ensures { IsNumberRead (one_of id.now (rows_of (found_of matches.now))) result }
+{
+    matches.get_one::<u64>(id)
+}
+
+/// The number given for `--tries`, or the default.
+fn tries_of(matches: &ArgMatches<'_>) -> u64
+    ensures { IsNumberGiven 1 most_tries default_tries
+        (one_of (codes "tries") (rows_of (found_of matches.now))) result }
+{
+    match number_of(matches, "tries") {
+        Some(tries) if 1 <= tries && tries <= MOST_TRIES => tries,
+        _ => DEFAULT_TRIES,
+    }
+}
+
+/// The number given for `--seed`.
+fn seed_of(matches: &ArgMatches<'_>) -> Option<u64>
+    ensures { IsSeedGiven (one_of (codes "seed") (rows_of (found_of matches.now))) result }
+{
+    match number_of(matches, "seed") {
+        Some(seed) if seed <= MOST_SEED => Some(seed),
+        _ => None,
+    }
+}
+
+/// Whether the ticket lock is asked for.
+fn is_ticket(matches: &ArgMatches<'_>) -> bool
+    ensures { result ≡ option_map_or (λ t. bytes_eq t (codes "ticket"))
+        (first_of (codes "lock") (rows_of (found_of matches.now))) false }
+{
+    match matches.get_str("lock") {
+        Some(lock) => lock == "ticket",
+        None => false,
+    }
+}
+
+/// Whether the journal is asked for.
+fn wants_journal(matches: &ArgMatches<'_>) -> bool
+    ensures { IsFlagGiven (one_of (codes "journal") (rows_of (found_of matches.now))) result }
+{
+    matches.get_flag("journal")
+}
+
+/// The file that is named.
+fn file_of(alloc: Global, matches: &ArgMatches<'_>) -> Result<Option<String>, AllocError>
+    ensures { IfOk result (λ f. option_map (λ s. string_bytes s) f
+        ≡ first_of (codes "FILE") (rows_of (found_of matches.now))) }
+{
+    match matches.get_str("FILE") {
+        Some(file) => Ok(Some(String::from_str(alloc, file)?)),
+        None => Ok(None),
+    }
+}
+
+/// The options that a command's name and its matches give.
+fn options_of(alloc: Global, name: &str, matches: &ArgMatches<'_>) -> Result<Options, AllocError>
+    ensures { IfOk result (AreOptionsOf name.now (rows_of (found_of matches.now))) }
+{
+    let file = file_of(alloc, matches)?;
+    Ok(Options {
+        step: name == "step",
+        file,
+        tries: tries_of(matches),
+        seed: seed_of(matches),
+        ticket: is_ticket(matches),
+        journal: wants_journal(matches),
+    })
+}
+
+/// Reads the words, the program's name first: `lrc run [FILE] [--tries N] [--lock KIND] [--journal]` or
+/// `lrc step [FILE] [--seed N] [--lock KIND] [--journal]`.
+///
+/// # Errors
+///
+/// clap's, of just the kind that its own function of the command finds in the words: words that give no such command,
+/// a question for help; or want of memory.
+pub fn options<'a>(alloc: Global, words: &'a [String]) -> Result<Options, Error>
+    ensures given { IfOk result (AreGiven (map (λ w. string_bytes w) words.entry.now)) }
+    ensures refused { IfErr result (IsRefusedBy (map (λ w. string_bytes w) words.entry.now)) }
+{
+    match lrc_command(alloc, LOCKS.as_slice())?.try_get_matches_from(words) {
+        Ok(matches) => match matches.subcommand() {
+            Some((name, given)) => Ok(options_of(alloc, name, given)?),
+            None => unreachable!("a command is required"),
+        },
+        Err(fault) => Err(with_tip(alloc, words, fault)?),
+    }
+}

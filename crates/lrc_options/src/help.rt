@@ -1,0 +1,45 @@
+//! The texts of help.
+
+/// The program's version, which `--version` prints. It is stated here alone.
+pub(crate) const VERSION: &str = "0.1.0";
+
+/// What the program is.
+pub(crate) const ABOUT: &str =
+    "Runs a script on a page-based shared memory of several processors, under lazy release consistency.
+Prints the last words, whether two accesses race, and what the protocol sent.";
+
+/// An example, and the exit statuses.
+pub(crate) const AFTER: &str = "Example:
+  printf 'cluster 2 1 1 1\\np 0\\nacquire 0\\nadd 0 1\\nrelease 0\\n\
+p 1\\nacquire 0\\nadd 0 1\\nrelease 0\\nshow 0\\n' | lrc step --journal
+
+Statuses: 0 done; 2 the script is refused; 3 no progress; 4 a limit, want of memory, a thread that
+couldn't be started, or a failed write; 5 usage, or the file can't be read.";
+
+/// What a script says, and what is printed of it.
+pub(crate) const SCRIPT: &str = "A script, a line each:
+  cluster P N W L [G]    P processors, N pages of W words, L locks, G flags; all are numbered from 0
+  p K                    what processor K does follows; there is one for each processor, in order
+  load A                 reads the word at address A, which is word A % W of page A / W
+  store A V              writes V there
+  add A V                reads the word there, and writes it with V added, modulo 2^32
+  acquire L, release L   waits for lock L and takes it; gives it back
+  barrier                waits until all processors have come to it
+  set F, await F         sets flag F; waits until it is set
+  cut                    may cut off the journal's events up to the last barrier that all have come to
+  show A ..              the last line: the addresses whose words are printed
+
+What is printed:
+  word A V               address A has V in the end
+  verdict race-free      or `racy`: two processors accessed a word, one by a store, and nothing orders the two
+  traffic M R W          M messages were sent; fetches brought R records with W words in all
+  cut K                  with --journal, where K events were cut off
+  event I B ..           with --journal: event I of the journal, by processor B, which
+    load A V               read V at address A
+    store A V              wrote V at address A
+    fetch P S R W          brought page P up to date: W words in R records of S processors
+    ask L, acquire L       asked for lock L; was given it
+    release L              gave lock L back
+    arrive, depart         came to a barrier; went on from it
+    set F                  set flag F
+    watch F, await F       began to wait for flag F; found it set";
