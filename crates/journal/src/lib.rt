@@ -25,8 +25,8 @@ mod laws;
 mod limits;
 mod numbered;
 mod race;
-mod replay;
 mod reach_table;
+mod replay;
 mod traffic;
 
 pub use clock::Clock;

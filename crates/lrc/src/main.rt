@@ -1,29 +1,19 @@
 //! `lrc`: runs scripts of a shared memory and prints the final words, a race verdict and the traffic.
 //!
-//! **What contracts see.** A reader by the bytes that it has left (`remaining`), a writer by those that it was given
-//! (`contents`). A run's `Report` is one of a script's plan (`IsReportOf` of `lrc_run`). What its text is, and what
-//! options the words give, `lrc_report` and `lrc_options` say.
-//!
-//! **What is proved.** `program` answers 0 only where all that it could read is a script's text, that script was run
-//! and the text of its report was written, and nothing else (`IsServed`); 2 only where it is no script's text
-//! (`IsNoScript`); and but for 4 a report is written whole or not at all. Each fault has its status (`status_of`).
-//!
-//! **What is only tested**, by whole runs of the program. The texts of faults, help and usage, which fault is met, that
-//! the lock and the seed that the words ask for are used, and that no call allocates without need. No contract sees what a
-//! file or a standard stream has.
+//! What it does with a script, and what is proved of it, is in crate `lrc_program`. Here its words are read, the script's
+//! file is opened, and what runs scripts is handed in.
 #![tactic(auto)]
 
 ghost use Rattle.std.specs.Prelude.{◌<◌};
 
-mod fault;
-mod program;
+mod threaded;
 
-use crate::fault::ProgramFault;
-use crate::program::{program, say};
+use crate::threaded::Threaded;
 use clap::Error;
 use clap::error::ErrorKind;
 use lrc_options::command_line::options;
 use lrc_options::options::Options;
+use lrc_program::{ProgramFault, program, say};
 use std::fs::File;
 use std::io;
 use std::process::ExitCode;
@@ -54,11 +44,12 @@ fn run_file<R: Threads + Wait + Sync>(rt: &HostRuntime, handle: &R, options: &Op
     requires { 0 < options.now.tries }
 {
     let alloc = rt.alloc();
+    let runs = Threaded { rt: handle };
     let (mut out, mut err) = (rt.stdout(), rt.stderr());
     match options.file.as_deref() {
-        None => program(handle, alloc, options, &mut rt.stdin(), &mut out, &mut err),
+        None => program(&runs, alloc, options, &mut rt.stdin(), &mut out, &mut err),
         Some(path) => match File::open(rt, path) {
-            Ok(mut source) => program(handle, alloc, options, &mut source, &mut out, &mut err),
+            Ok(mut source) => program(&runs, alloc, options, &mut source, &mut out, &mut err),
             Err(error) => say(alloc, Some(path), ProgramFault::from(error), &mut err),
         },
     }

@@ -139,7 +139,11 @@ pub is_fault : {T : Type 0} (kinds : Kinds) (r : Result T Error) (e : Error) →
     → HasKind kinds e
 is_fault kinds r e was fails = rw was at fails
 
--- running out of memory refuses any words
+-- an error of the same kind has one of the kinds too
+pub same_kind : (kinds : Kinds) (a b : Error) → kind_of b ≡ kind_of a → HasKind kinds a → HasKind kinds b
+same_kind kinds a b is has = subst (λ k. (k ≡ OutOfMemory) ⊎ IsAmong k kinds) (sym is) has
+
+-- want of memory refuses any words
 pub out_of_memory : (locks : ValueParser) (words : List Text) (e : Error)
     → TakesNames (codes "array" ∷ codes "ticket" ∷ []) locks → kind_of e ≡ OutOfMemory → IsRefusedBy words e
 out_of_memory locks words e are is = record { locks = locks; locks_are = are; kind = inl is }

@@ -5,12 +5,12 @@ ghost use Rattle.follows.specs.Prelude.{sizes_of};
 ghost use Rattle.cluster.specs.Prelude.{AreAllOf};
 ghost use Rattle.lrc_run.specs.Prelude.{HaveFollowed, IsReportOf, AreWalked};
 
-use runs::Cause;
 use crate::shown::show;
 use book::Book;
 use cluster::{Cluster, Processor, Rule};
 use lrc_report::Report;
 use lrc_script::script::Script;
+use runs::Cause;
 use std::alloc::{AllocError, Global};
 use std::sync::Wait;
 use turn::Turn;

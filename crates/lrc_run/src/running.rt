@@ -7,7 +7,6 @@ ghost use Rattle.lrc_run.specs.Prelude.{IsReportOf, AreOutcomes};
 mod threads;
 
 use self::threads::walk_all;
-use runs::{Cause, RunFault};
 use crate::ending::conclude;
 use crate::faults::gathered;
 use crate::gate::Gate;
@@ -15,6 +14,7 @@ use book::Book;
 use cluster::{BookLock, Cluster, Processor, Rule};
 use lrc_report::Report;
 use lrc_script::script::Script;
+use runs::{Cause, RunFault};
 use std::alloc::Global;
 use std::sync::Wait;
 use std::thread::Threads;

@@ -8,7 +8,6 @@ ghost use Rattle.lrc_run.specs.Prelude.{AreBelow, IsReportOf, AreOnTheirWay, Are
 mod turns;
 
 use self::turns::{Progress, take_turn};
-use runs::{Cause, RunFault};
 use crate::ending::conclude;
 use crate::orders::order;
 use book::Book;
@@ -17,6 +16,7 @@ use lrc_report::Report;
 use lrc_script::script::Script;
 use rand_core::SeedableRng;
 use rand_pcg::Pcg32;
+use runs::{Cause, RunFault};
 use std::alloc::{AllocError, Global};
 use std::sync::Wait;
 use turn::Turn;

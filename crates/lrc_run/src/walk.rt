@@ -8,12 +8,12 @@ mod instructions;
 
 pub(crate) use self::accesses::load;
 pub(crate) use self::instructions::{begin, end};
-use runs::Cause;
 use crate::gate::Gate;
 use book::Book;
 use cluster::{Cluster, Processor, Rule};
 use crossbeam_utils::Backoff;
 use lrc_script::script::Instruction;
+use runs::Cause;
 use std::sync::Wait;
 use turn::Turn;
 

@@ -5,12 +5,12 @@ ghost use Rattle.lrc_script.specs.Prelude.{items_of};
 ghost use Rattle.cluster.specs.Prelude.{AreNew};
 ghost use Rattle.lrc_run.specs.Prelude.{AreOutcomes, AreOutcomesOf, AreStarted, IsOutcomeOf, Walks};
 
-use runs::Cause;
 use crate::gate::Gate;
 use crate::walk::walk;
 use book::Book;
 use cluster::{Cluster, Processor, Rule};
 use lrc_script::script::Instruction;
+use runs::Cause;
 use std::alloc::{AllocError, Global};
 use std::marker::Model;
 use std::snapshot::Snapshot;

@@ -3,11 +3,11 @@ ghost use Rattle.std.specs.Prelude.{◌≡◌, ◌≤◌, IfOk, length, All, IsT
 ghost use Rattle.replicas.specs.Prelude.{Local};
 ghost use Rattle.lrc_run.specs.Prelude.{IsAt, instruction_at, progress_after, IsOnItsWay};
 
-use runs::Cause;
 use crate::walk::{begin, end};
 use book::Book;
 use cluster::{Cluster, Processor, Rule};
 use lrc_script::script::Instruction;
+use runs::Cause;
 use std::sync::Wait;
 use turn::Turn;
 

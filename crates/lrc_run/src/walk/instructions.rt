@@ -7,10 +7,10 @@ ghost use Rattle.lrc_script.specs.declared.script.Instruction.TheVariants as ins
 ghost use Rattle.lrc_run.specs.Waiting.{waits};
 
 use super::accesses::{add, load, store};
-use runs::Cause;
 use book::{Book, Refused};
 use cluster::{Cluster, Processor, Rule};
 use lrc_script::script::Instruction;
+use runs::Cause;
 use std::sync::Wait;
 use turn::Turn;
 

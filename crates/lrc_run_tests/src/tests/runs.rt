@@ -167,8 +167,7 @@ fn another_has_spent_its_entries(rt: HostRuntime) -> Result<(), Fail> {
         &script,
         &Open,
         2,
-    )
-    .err();
+    ).err();
     let spent = RunFault {
         processor: 1,
         cause: Cause::Refused(Refused::SeatSpent),

@@ -2,8 +2,8 @@
 use Rattle.std.specs.Prelude.{ℕ, ◌≡◌, ◌⊎◌, ⊤}
 use Rattle.runs.specs.declared.cause.Cause.{Cause}
 use Rattle.runs.specs.declared.cause.Cause.TheVariants.{Stuck}
-use Rattle.lrc.specs.declared.fault.ProgramFault.{ProgramFault}
-use Rattle.lrc.specs.declared.fault.ProgramFault.TheVariants.{Words, Unreadable, Script, Run, Output, NoMemory}
+use Rattle.lrc_program.specs.declared.fault.ProgramFault.{ProgramFault}
+use Rattle.lrc_program.specs.declared.fault.ProgramFault.TheVariants.{Words, Unreadable, Script, Run, Output, NoMemory}
 
 -- a run without progress has a status of its own
 abbrev pub status_of_cause : Cause → ℕ

@@ -1,62 +1,42 @@
 //! The program over its reader and its writers.
-ghost use Rattle.std.specs.Prelude.{◌≡◌, ◌≢◌, ◌<◌, ◌≤◌, ◌^◌, IfErr, IfOk, OnOk};
+ghost use Rattle.std.specs.Prelude.{◌≡◌, ◌≢◌, ◌<◌, IfErr, IfOk, OnOk};
 ghost use Rattle.std.specs.Io.KnownBytes.{Keeps};
 ghost use Rattle.lrc_script.specs.Prelude.{IsLawful, plan_of};
-ghost use Rattle.lrc_run.specs.Prelude.{IsReportOf};
-ghost use Rattle.lrc.specs.Prelude.{IsNoScript, IsPrinted, IsRead, IsServed, IsBeforeOutput, IsScripts, IsStatusOf};
+ghost use Rattle.runs.specs.Prelude.{IsReportOf};
+ghost use Rattle.lrc_program.specs.Prelude.{IsNoScript, IsPrinted, IsRead, IsServed, IsBeforeOutput, IsScripts, IsStatusOf};
 
 use crate::fault::ProgramFault;
-use book::Book;
-use cluster::{BookLock, Rule, TicketBookLock};
 use lrc_options::options::Options;
 use lrc_report::Report;
 use lrc_report::render::render;
-use lrc_run::{Open, RunFault, run_with, step_with};
 use lrc_script::script::{MOST_BYTES, Script, parse};
+use runs::{Lock, RunFault, Runs};
 use std::alloc::Global;
 use std::io::{Read, Write};
-use std::sync::Wait;
-use std::thread::Threads;
-use turn::Turn;
 
 /// One byte more than the longest script has: what is longer is refused without its rest.
 const MOST_READ: u64 = MOST_BYTES as u64 + 1;
 
-/// Runs the script as the options say, with this lock round the book: by turns on one thread, or with a thread for
-/// each processor.
-fn report_with<T: Turn<Book, Rule> + Send + Drop, R: Threads + Wait + Sync>(
-    rt: &R,
+/// Has the script run as the options say.
+fn report_of<T: Runs>(
+    runs: &T,
     alloc: Global,
     options: &Options,
     script: &Script,
 ) -> Result<Report, RunFault>
-    requires entries { T.ENTRIES ≤ 2 ^ 40 }
     requires tries { 0 < options.now.tries }
     requires lawful { IsLawful (plan_of script.now) }
     ensures { IfOk result (IsReportOf (plan_of script.now)) }
 {
+    let lock = if options.ticket {
+        Lock::Ticket
+    } else {
+        Lock::Array
+    };
     if options.step {
-        step_with::<T, R>(rt, alloc, script, options.seed)
+        runs.step(alloc, script, lock, options.seed)
     } else {
-        run_with::<T, R, Open>(rt, alloc, script, &Open, options.tries)
-    }
-}
-
-/// Runs the script as the options say.
-fn report_of<R: Threads + Wait + Sync>(
-    rt: &R,
-    alloc: Global,
-    options: &Options,
-    script: &Script,
-) -> Result<Report, RunFault>
-    requires tries { 0 < options.now.tries }
-    requires lawful { IsLawful (plan_of script.now) }
-    ensures { IfOk result (IsReportOf (plan_of script.now)) }
-{
-    if options.ticket {
-        report_with::<TicketBookLock, R>(rt, alloc, options, script)
-    } else {
-        report_with::<BookLock, R>(rt, alloc, options, script)
+        runs.run(alloc, script, lock, options.tries)
     }
 }
 
@@ -72,8 +52,8 @@ fn read_script<S: Read>(alloc: Global, source: &mut S) -> Result<Script, Program
 
 /// Runs a script and writes its report. It stands apart from the reading since nothing is to be dropped where the run
 /// ends with a fault.
-fn print_report<R: Threads + Wait + Sync, W: Write>(
-    rt: &R,
+fn print_report<T: Runs, W: Write>(
+    runs: &T,
     alloc: Global,
     options: &Options,
     script: &Script,
@@ -87,14 +67,14 @@ fn print_report<R: Threads + Wait + Sync, W: Write>(
         (λ fault. IsBeforeOutput fault → Keeps (W.contents out.old) (W.contents out.new)) }
     ensures runs { IfErr result (λ fault. IsScripts fault → ⊥) }
 {
-    let report = report_of(rt, alloc, options, script)?;
+    let report = report_of(runs, alloc, options, script)?;
     render(&report, options.journal, out)?;
     Ok(())
 }
 
 /// Reads a script, runs it and writes its report.
-fn run_script<R: Threads + Wait + Sync, S: Read, W: Write>(
-    rt: &R,
+fn run_script<T: Runs, S: Read, W: Write>(
+    runs: &T,
     alloc: Global,
     options: &Options,
     source: &mut S,
@@ -108,7 +88,7 @@ fn run_script<R: Threads + Wait + Sync, S: Read, W: Write>(
         (λ fault. IsBeforeOutput fault → Keeps (W.contents out.old) (W.contents out.new)) }
 {
     let script = read_script(alloc, source)?;
-    print_report(rt, alloc, options, &script, out)
+    print_report(runs, alloc, options, &script, out)
 }
 
 /// Says on `err` in one write why the program ends without a report on the file's script, and answers the fault's
@@ -131,8 +111,8 @@ pub fn say<E: Write>(alloc: Global, file: Option<&str>, fault: ProgramFault, err
 
 /// Runs the script of `source` as the options say: writes its report to `out`, or one line to `err`, and
 /// answers the exit status. The file that the options name isn't opened here.
-pub fn program<R: Threads + Wait + Sync, S: Read, W: Write, E: Write>(
-    rt: &R,
+pub fn program<T: Runs, S: Read, W: Write, E: Write>(
+    runs: &T,
     alloc: Global,
     options: &Options,
     source: &mut S,
@@ -150,7 +130,7 @@ pub fn program<R: Threads + Wait + Sync, S: Read, W: Write, E: Write>(
     // Where it was written, no line goes to the error output.
     ensures quiet { result ≡ 0 → Keeps (E.contents err.old) (E.contents err.new) }
 {
-    match run_script(rt, alloc, options, source, out) {
+    match run_script(runs, alloc, options, source, out) {
         Ok(()) => 0,
         Err(fault) => say(alloc, options.file.as_deref(), fault, err),
     }

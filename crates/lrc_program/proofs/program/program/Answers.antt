@@ -1,5 +1,5 @@
-use Rattle.lrc.proofs.Statuses.{told_some, told_script, told_before}
-use Rattle.lrc.proofs.program.program.Goals as goal
+use Rattle.lrc_program.proofs.Statuses.{told_some, told_script, told_before}
+use Rattle.lrc_program.proofs.program.program.Goals as goal
 
 pub returns-in-Err-clause-served : goal.returns-in-Err-clause-served
 returns-in-Err-clause-served g c = λ is. absurd (told_some _ _ c.say.ensures is)

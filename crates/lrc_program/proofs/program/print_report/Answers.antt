@@ -1,4 +1,4 @@
-use Rattle.lrc.proofs.program.print_report.Goals as goal
+use Rattle.lrc_program.proofs.program.print_report.Goals as goal
 
 pub returns-clause-printed : goal.returns-clause-printed
 returns-clause-printed g c = record {

@@ -1,6 +1,6 @@
 use Rattle.lrc_script.specs.Plan.{plan_of}
-use Rattle.lrc.proofs.Serving.{not_scripts, served_by}
-use Rattle.lrc.proofs.program.run_script.Goals as goal
+use Rattle.lrc_program.proofs.Serving.{not_scripts, served_by}
+use Rattle.lrc_program.proofs.program.run_script.Goals as goal
 
 pub returns-clause-served : goal.returns-clause-served
 returns-clause-served g c =

@@ -2,9 +2,9 @@
 use Rattle.std.proofs.Common.{◌≡◌, ◌≢◌, ◌∙◌, ℕ, inl, inr, sym, refl, arith}
 use Rattle.runs.specs.declared.cause.Cause.{Cause}
 use Rattle.runs.specs.declared.cause.Cause.TheVariants.{Stuck, Gate, Thread, Refused}
-use Rattle.lrc.specs.declared.fault.ProgramFault.{ProgramFault}
-use Rattle.lrc.specs.declared.fault.ProgramFault.TheVariants.{Words, Unreadable, Script, Run, Output, NoMemory}
-use Rattle.lrc.specs.Statuses.{status_of_cause, status_of, IsStatusOf, IsScripts, IsBeforeOutput}
+use Rattle.lrc_program.specs.declared.fault.ProgramFault.{ProgramFault}
+use Rattle.lrc_program.specs.declared.fault.ProgramFault.TheVariants.{Words, Unreadable, Script, Run, Output, NoMemory}
+use Rattle.lrc_program.specs.Statuses.{status_of_cause, status_of, IsStatusOf, IsScripts, IsBeforeOutput}
 
 -- a run's fault has status 3 or 4
 cause_some : (cause : Cause) → status_of_cause cause ≢ 0

@@ -1,13 +1,13 @@
 //! Why the program ends without a report.
 ghost use Rattle.std.specs.Prelude.{◌≡◌, ◌≢◌};
 ghost use Rattle.lrc_script.specs.declared.fault.ScriptFault.TheVariants.{NoMemory};
-ghost use Rattle.lrc.specs.Prelude.{IsScripts, status_of};
-ghost use Rattle.lrc.specs.declared.fault.ProgramFault.TheVariants as program;
+ghost use Rattle.lrc_program.specs.Prelude.{IsScripts, status_of};
+ghost use Rattle.lrc_program.specs.declared.fault.ProgramFault.TheVariants as program;
 
 use book::Refused;
 use lrc_report::render::OutFault;
-use lrc_run::{Cause, RunFault};
 use lrc_script::fault::ScriptFault;
+use runs::{Cause, RunFault};
 use std::alloc::{AllocError, Global};
 use std::io::ErrorKind;
 use std::{fmt, io};

@@ -7,7 +7,7 @@ use Rattle.lrc_script.specs.Plan.{Plan}
 use Rattle.lrc_script.specs.Laws.{most_bytes}
 use Rattle.lrc_script.specs.Text.{text}
 use Rattle.lrc_script.proofs.Longest.{text_most}
-use Rattle.lrc.specs.Served.{IsNoScript, IsRead}
+use Rattle.lrc_program.specs.Served.{IsNoScript, IsRead}
 
 -- what was asked for
 abbrev pub most_read : ℕ

@@ -2,9 +2,9 @@
 use Rattle.std.proofs.Common.{ℕ, Bool, List, Option, Result, Ok, Err, OnOk}
 use Rattle.std.specs.Prelude.{IfErr}
 use Rattle.lrc_script.specs.Plan.{Plan}
-use Rattle.lrc.specs.declared.fault.ProgramFault.{ProgramFault}
-use Rattle.lrc.specs.Served.{IsNoScript, IsPrinted, IsRead, IsServed}
-use Rattle.lrc.specs.Statuses.{IsScripts}
+use Rattle.lrc_program.specs.declared.fault.ProgramFault.{ProgramFault}
+use Rattle.lrc_program.specs.Served.{IsNoScript, IsPrinted, IsRead, IsServed}
+use Rattle.lrc_program.specs.Statuses.{IsScripts}
 
 -- its report was written
 pub served_by : {A : Type 0} (journal : Bool) (script : Plan) (source old new : Option (List ℕ))

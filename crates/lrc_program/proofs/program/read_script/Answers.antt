@@ -1,6 +1,6 @@
-use Rattle.lrc.proofs.Reading.{read_whole, none_read}
+use Rattle.lrc_program.proofs.Reading.{read_whole, none_read}
 use Rattle.std.proofs.lemmas.Result.{err_from_is_err_and}
-use Rattle.lrc.proofs.program.read_script.Goals as goal
+use Rattle.lrc_program.proofs.program.read_script.Goals as goal
 
 pub returns-in_err-parse-clause-refused : goal.returns-in_err-parse-clause-refused
 returns-in_err-parse-clause-refused g c =
