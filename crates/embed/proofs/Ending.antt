@@ -52,7 +52,8 @@ all_back c jobs ms outcomes new long are gives = record { all = many ∙ new.all
         let job = gives p (Ok m) less in
         let is = new.each p job.0 (slice_get_read jobs (length jobs) p job.0 refl less job.1) in
         let there : slice_get outcomes p ≡ Some (Ok m) =
-        subst (λ (os : List (Result Local Fault)). slice_get os p ≡ Some (Ok m)) are (slice_get-map Ok ms p ∙ ap (option_map Ok) at) in
+        subst (λ (os : List (Result Local Fault)). slice_get os p ≡ Some (Ok m)) are
+        (slice_get-map Ok ms p ∙ ap (option_map Ok) at) in
         let here = get_or_from_slice_get outcomes p (Ok m) (Ok m) there in
         let works : Works c job.0 m = subst (λ (r : Result Local Fault). IfOk r (Works c job.0)) here job.2 in
         record { at_work = works.at_work; number_is = works.number ∙ ap (λ (l : Local). l.number) is }
@@ -86,7 +87,8 @@ all_of c ms all = record {
 }
 
 -- what the journal says that these processors end with, where it has no race and processor 0 loaded the total last
-pub run_is : (c : Shared) (ms : List Local) (m : Local) (total : ℕ) (j : Log) → AreAtWork c ms → slice_get ms 0 ≡ Some m
+pub run_is : (c : Shared) (ms : List Local) (m : Local) (total : ℕ) (j : Log) → AreAtWork c ms
+    → slice_get ms 0 ≡ Some m
     → HasLoaded m 224 total → IsFinished c.sizes ms j → RaceFreeFrom j.base j.events → IsRun c.sizes total j
 run_is c ms m total j all first loaded finished free = record {
   history = h;
@@ -123,7 +125,8 @@ run_is c ms m total j all first loaded finished free = record {
 
     own : StoresAreOwn h
     own p a v has =
-        let within : p < c.sizes.processors = (finished.faithful.well_formed has.0 (event p (Store a v)) has.1).processor in
+        let within : p < c.sizes.processors =
+        (finished.faithful.well_formed has.0 (event p (Store a v)) has.1).processor in
         let many = all.all in
         let less : p < length ms = omega arith in
         let n = get_or ms p m in

@@ -31,8 +31,8 @@ pub record IsLastReply (h : List Event) (p a v : ℕ) : Type 0 where
   pub front : List Event
   pub calls_are : part h p ≡ front ++ event p (Load a v) ∷ []
 
--- the journal holds, after some of it was cut off, a faithful history: all its replies are those of one flat memory, each
--- store is in a row of its processor's own or at the total, and the total is what processor 0 loaded last
+-- the journal holds, after some of it was cut off, a faithful history: all its replies are those of one flat memory,
+-- each store is in a row of its processor's own or at the total, and the total is what processor 0 loaded last
 pub record IsRun (s : Sizes) (total : ℕ) (j : Log) : Type 0 where
   pub history : List Event
   pub taken : List Event

@@ -7,8 +7,8 @@ use Rattle.journal.specs.Did.{event}
 use Rattle.replicas.specs.Local.{Local, calls}
 use Rattle.cluster.specs.Clusters.{Shared}
 
--- the processor that owns the row of this address, in either grid of 14 rows of eight words: each owns three rows, and the
--- first has the upper border too
+-- the processor that owns the row of this address, in either grid of 14 rows of eight words: each owns three rows, and
+-- the first has the upper border too
 abbrev pub owner_of : ℕ → ℕ
 owner_of a = (a / 8 % 14 - 1) / 3
 

@@ -35,8 +35,8 @@ impl From<AllocError> for Fault {
 /// Cools the plate with four processors on threads of their own. Answers the total that processor 0 loads at the end,
 /// and the journal of all that was done.
 ///
-/// [`Race`](Fault::Race) where the journal has a race; [`Stuck`](Fault::Stuck) where a processor waited in vain and none
-/// was refused; else [`Refused`](Fault::Refused), of the least processor with one.
+/// [`Race`](Fault::Race) where the journal has a race; [`Stuck`](Fault::Stuck) where a processor waited in vain and
+/// none was refused; else [`Refused`](Fault::Refused), of the least processor with one.
 pub fn run<R: Threads + Wait + Sync>(rt: &R, alloc: Global) -> Result<(u32, Journal), Fault>
     ensures { IfOk result (λ r. IsRun plate r.0 r.1) }
 {
@@ -74,8 +74,8 @@ fn work_all<R: Threads + Wait + Sync>(
     gathered(alloc, outcomes)
 }
 
-/// What came back from all threads, in their order, or why one brought nothing. Stuck is told only where no other fault is: it
-/// comes of waiting for one that was refused.
+/// What came back from all threads, in their order, or why one brought nothing. Stuck is told only where no other
+/// fault is: it comes of waiting for one that was refused.
 fn gathered<X: Drop>(alloc: Global, outcomes: Vec<Result<X, Fault>>) -> Result<Vec<X>, Fault>
     ensures { IfOk result (λ all. map Ok all.items ≡ outcomes.items) }
 {

@@ -27,5 +27,6 @@ returns-in-None g c =
     subst (λ s. IsRun s total journal) sizes (run_is cluster _ n total journal
     (first_set cluster ms c.index_mut.result.now n all some c.index_mut.ensures.value
     (λ at. works_load cluster _ c.load.new.self 224 c.load.result at c.load.ensures.err c.load.ensures.ok))
-    (slice_get-set_same ms 0 n some) (loaded _ n 224 total c.in_ok-total.ensures.ok c.in_ok-total.ensures.calls) c.finish-journal.ensures
+    (slice_get-set_same ms 0 n some) (loaded _ n 224 total c.in_ok-total.ensures.ok c.in_ok-total.ensures.calls)
+    c.finish-journal.ensures
     (where_none _ _ _ c.in-None.is c.in_ok-first.ensures.first))
