@@ -7,7 +7,8 @@
 //!
 //! **What is proved.** `replay`, `first_race` and `traffic` answer exactly what Flat, Races and Traffic
 //! define, and up to its first race an explained journal replays. Lemmas for the crates above lie in
-//! proofs/, a folder a topic. `ReachTable` is the slow program by the definition.
+//! proofs/, a folder a topic. `ReachTable` is the slow program by the definition. `Clocks` has the timestamps of a
+//! journal that is taken an event at a time (`AreClocks`).
 //!
 //! **What is only tested** (in `journal_tests`): that memory isn't refused needlessly, and that a journal of 2^20 events is
 //! checked in a test's time.
