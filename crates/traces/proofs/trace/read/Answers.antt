@@ -7,8 +7,11 @@ use Rattle.traces.proofs.trace.read.Goals as goal
 
 pub returns-in-Err-clause-fault : goal.returns-in-Err-clause-fault
 returns-in-Err-clause-fault c =
-    inl (refl, head_fault c.in-Err.fault c.args.bytes.now c.in-Some.line.now _ c.in-Some.ensures
-    c.in-Err.ensures.fault)
+    inl (
+      refl,
+      head_fault c.in-Err.fault c.args.bytes.now c.in-Some.line.now _ c.in-Some.ensures
+          c.in-Err.ensures.fault,
+    )
 
 pub returns-in-Err-clause-only : goal.returns-in-Err-clause-only
 returns-in-Err-clause-only c =
