@@ -7,6 +7,9 @@
 //! **What is proved.** `first_ill_formed` answers None exactly where the history is well formed, else the first event that
 //! may not follow what stands before it, with the first reason that applies, in the order of `Why`. The history may be
 //! anyone's: nothing is asked of the numbers in its events.
+//!
+//! **What is only tested** (crate `judge_uses`): that these definitions say what they are to say, by histories worked by
+//! hand; and that 2^20 events are judged in a test's time. No call takes memory.
 #![tactic(auto)]
 
 mod front;
