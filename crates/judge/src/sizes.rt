@@ -5,7 +5,8 @@ ghost use Rattle.judge.specs.Prelude.{AreSmall, sizes_of};
 
 use journal::{Kind, MOST_PROCESSORS};
 
-/// The sizes of the cluster whose history is judged: at most 16 processors, 64 pages of 64 words, 32 locks and 32 flags.
+/// The sizes of the cluster whose history is judged: at most 16 processors, 64 pages of 64 words, 32 locks and 32
+/// flags.
 #[derive(Clone, Copy, Debug, PartialEq, Eq)]
 pub struct Sizes {
     /// How many processors it has.

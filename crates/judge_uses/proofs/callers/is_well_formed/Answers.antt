@@ -16,8 +16,9 @@ returns-in-None c =
 pub returns-in-Some : goal.returns-in-Some
 returns-in-Some c =
     let x = c.in-Some.ensures in
+    let k = c.in-Some.field-0.place in
     record {
-      well = (λ wrong. absurd (false≢true wrong), λ well. absurd (x.refused (well c.in-Some.field-0.place x.event x.at)));
+      well = (λ wrong. absurd (false≢true wrong), λ well. absurd (x.refused (well k x.event x.at)));
       processors = λ wrong. absurd (false≢true wrong);
       addresses = λ wrong. absurd (false≢true wrong);
     }
