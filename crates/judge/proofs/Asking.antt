@@ -63,7 +63,8 @@ asks_within last l q i asks = elim (cases_lt q (length last)) [
 ]
 
 module _ (j : List Event) (last : List (Option Last)) (l limit : ℕ)
-    (lasts : (p : ℕ) → IsLastOf j p (slice_index_or last p None)) (from : AreFrom last l limit 16) (long : length last ≡ 16) where
+    (lasts : (p : ℕ) → IsLastOf j p (slice_index_or last p None)) (from : AreFrom last l limit 16)
+    (long : length last ≡ 16) where
   all_from : (q k : ℕ) → LastIs j q k (Ask l) → limit ≤ k
   all_from q k is =
       let asks = last_kept j q k (Ask l) (slice_index_or last q None) (lasts q) is in

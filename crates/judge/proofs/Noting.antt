@@ -111,7 +111,8 @@ pub holders_next : (s : Sizes) (j : List Event) (p : ℕ) (k : Kind) (l : ℕ) (
     → ((r : ℕ) → (o ≡ Some r) ↔ Holds j r l) → (q : ℕ)
     → (holder_after o l p k ≡ Some q) ↔ Holds (j ++ event p k ∷ []) q l
 holders_next s j p (Acquire m) l o allowed was q = elim (cases_eq m l) [
-  | inl is ↦ subst (λ b. (cond b (Some p) o ≡ Some q) ↔ Holds (j ++ event p (Acquire m) ∷ []) q l) (sym (eq-eqb m l is))
+  | inl is ↦ subst (λ b. (cond b (Some p) o ≡ Some q) ↔ Holds (j ++ event p (Acquire m) ∷ []) q l)
+      (sym (eq-eqb m l is))
       (subst (λ n. (Some p ≡ Some q) ↔ Holds (j ++ event p (Acquire m) ∷ []) q n) is
       (holder_acquired j p q m allowed.1))
   | inr isnt ↦ subst (λ b. (cond b (Some p) o ≡ Some q) ↔ Holds (j ++ event p (Acquire m) ∷ []) q l)
@@ -125,7 +126,8 @@ holders_next s j p (Release m) l o allowed was q = elim (cases_eq m l) [
   | inl is ↦ subst (λ b. (cond b None o ≡ Some q) ↔ Holds (j ++ event p (Release m) ∷ []) q l) (sym (eq-eqb m l is))
       (subst (λ n. (None ≡ Some q) ↔ Holds (j ++ event p (Release n) ∷ []) q l) (sym is)
       (holder_released j p q l o was (subst (Holds j p) is allowed)))
-  | inr isnt ↦ subst (λ b. (cond b None o ≡ Some q) ↔ Holds (j ++ event p (Release m) ∷ []) q l) (sym (ne_eqb m l isnt))
+  | inr isnt ↦ subst (λ b. (cond b None o ≡ Some q) ↔ Holds (j ++ event p (Release m) ∷ []) q l)
+      (sym (ne_eqb m l isnt))
       (holder_kept j (event p (Release m)) q l o (λ is. absurd cc) (λ is. isnt (same_release is)) (was q))
 ]
   where

@@ -122,28 +122,14 @@ module _ (lax : Bool) (s : Sizes) (j : List Event) (p : ℕ) where
       record { is_true = (l, refl, free); first = λ v w. (least v w, λ same. omega arith) }
     where
       least : (v : Why) → IsWhy lax s j (event p (Release l)) v → 7 ≤ rank v
-      least NoSuchProcessor w = absurd (let le = in_turn lax s j (event p (Release l)) NoSuchProcessor turn w in omega arith)
+      least NoSuchProcessor w =
+          absurd (let le = in_turn lax s j (event p (Release l)) NoSuchProcessor turn w in omega arith)
       least OutOfRange w = absurd (let le = in_turn lax s j (event p (Release l)) OutOfRange turn w in omega arith)
       least (Waits k) w = absurd (let le = in_turn lax s j (event p (Release l)) (Waits k) turn w in omega arith)
       least AsksWhatItHolds w = absurd (let e = w.1 in cc)
       least NotAsked w = absurd (false≢true w.0)
       least (HeldBy q) w = absurd (let e = w.1 in cc)
       least (AskedEarlier q i) w = absurd (let e = w.1 in cc)
-      least _ w = omega arith
-
-  pub not_asked : (k : Kind) → IsTrue (is_taking k) → IsInTurn s j (event p k) → (¬ WaitsFor j p k)
-      → IsFirstWhy lax s j (event p k) NotAsked
-  not_asked k takes turn idle =
-      record { is_true = (takes, idle); first = λ v w. (least v w, λ same. omega arith) }
-    where
-      asks_nothing : (l : ℕ) → k ≡ Ask l → ⊥
-      asks_nothing l is = false≢true (subst (λ x. IsTrue (is_taking x)) is takes)
-
-      least : (v : Why) → IsWhy lax s j (event p k) v → 4 ≤ rank v
-      least AsksWhatItHolds w = absurd (asks_nothing w.0 w.1)
-      least NoSuchProcessor w = absurd (let le = in_turn lax s j (event p k) NoSuchProcessor turn w in omega arith)
-      least OutOfRange w = absurd (let le = in_turn lax s j (event p k) OutOfRange turn w in omega arith)
-      least (Waits b) w = absurd (let le = in_turn lax s j (event p k) (Waits b) turn w in omega arith)
       least _ w = omega arith
 
 -- takings of a processor that waits for them
@@ -359,7 +345,8 @@ turn_for s j e k lt range waits is = record {
 
 pub turn_idle : (s : Sizes) (j : List Event) (e : Event) → e.processor < s.processors → KindInRange s e.kind
     → ((k : Kind) → ¬ WaitsFor j e.processor k) → IsInTurn s j e
-turn_idle s j e lt range idle = record { processor = lt; in_range = range; answers = λ b waits. absurd (idle b waits) }
+turn_idle s j e lt range idle =
+    record { processor = lt; in_range = range; answers = λ b waits. absurd (idle b waits) }
 
 -- what is said of an event by its kind
 pub by_kind : (lax : Bool) (s : Sizes) (j : List Event) (e : Event) (k : Kind) (o : Option Why) → e.kind ≡ k

@@ -8,8 +8,8 @@ ghost use Rattle.journal.specs.declared.event.Kind.TheVariants.{Acquire, Ask, Aw
 ghost use Rattle.journal.specs.Sizes.{Sizes as TheSizes};
 ghost use Rattle.journal.specs.WellFormed.{KindInRange};
 ghost use Rattle.journal.specs.Prelude.{Holds, event, is_arrive, is_depart};
-ghost use Rattle.judge.specs.Prelude.{AreSmall, IsFirstAsk, IsInTurn, NobodyAsks, IsVerdict, MayFollowLax, Tells, WaitsFor};
-ghost use Rattle.judge.specs.Prelude.{holder_after, set_after, sizes_of};
+ghost use Rattle.judge.specs.Prelude.{AreSmall, IsFirstAsk, IsInTurn, IsVerdict, MayFollowLax, NobodyAsks, Tells};
+ghost use Rattle.judge.specs.Prelude.{WaitsFor, holder_after, set_after, sizes_of};
 
 use crate::kinds::{awaited_after, is_same};
 use crate::sizes::Sizes;

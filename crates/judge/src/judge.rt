@@ -20,8 +20,8 @@ pub struct IllFormed {
 /// The first event of a history that may not follow what stands before it, and why; None where each may. `lax` leaves
 /// out that a lock's asks are granted in their order, and nothing else.
 ///
-/// Nothing is asked of the events' own numbers, which may be out of range. It takes no memory, and time in the order of
-/// the events times the processors.
+/// Nothing is asked of the events' own numbers, which may be out of range. It takes no memory, and time in the order
+/// of the events times the processors.
 pub fn first_ill_formed(sizes: Sizes, events: &[Event], lax: bool) -> Option<IllFormed>
     requires sizes { AreSmall (sizes_of sizes) }
     requires few { length events.now ≤ most_held }

@@ -1,12 +1,15 @@
 //! Whether a history is one that a cluster could make, event by event, and where it is not, why.
 //!
-//! **What contracts see.** `MayFollow` and `WellFormed` of journal's specs/WellFormed: each event may follow what stands
-//! before it. `WellFormedLax` of specs/Lax is the same but for the order in which a lock's asks are granted. `IsWhy` of
-//! specs/Why says of each reason what it means.
+//! **What contracts see.** `MayFollow` and `WellFormed` of journal's specs/WellFormed: each event may follow what
+//! stands before it. `WellFormedLax` of specs/Lax is the same but for the order in which a lock's asks are granted.
+//! `IsWhy` of specs/Why says of each reason what it means.
 //!
-//! **What is proved.** `first_ill_formed` answers None exactly where the history is well formed, else the first event that
-//! may not follow what stands before it, with the first reason that applies, in the order of `Why`. The history may be
-//! anyone's: nothing is asked of the numbers in its events.
+//! **What is proved.** `first_ill_formed` answers None exactly where the history is well formed, else the first event
+//! that may not follow what stands before it, with the first reason that applies, in the order of `Why`. The history
+//! may be anyone's: nothing is asked of the numbers in its events.
+//!
+//! **What is only tested** (crate `judge_uses`): that these definitions say what they are to say, by histories worked
+//! by hand; and that 2^20 events are judged in a test's time. No call takes memory.
 #![tactic(auto)]
 
 mod front;

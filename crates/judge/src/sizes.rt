@@ -3,9 +3,10 @@ ghost use Rattle.std.specs.Prelude.{◌↔◌, IsTrue};
 ghost use Rattle.journal.specs.WellFormed.{KindInRange};
 ghost use Rattle.judge.specs.Prelude.{AreSmall, sizes_of};
 
-use journal::Kind;
+use journal::{Kind, MOST_PROCESSORS};
 
-/// The sizes of the cluster whose history is judged: at most 16 processors, 64 pages of 64 words, 32 locks and 32 flags.
+/// The sizes of the cluster whose history is judged: at most 16 processors, 64 pages of 64 words, 32 locks and 32
+/// flags.
 #[derive(Clone, Copy, Debug, PartialEq, Eq)]
 pub struct Sizes {
     /// How many processors it has.
@@ -21,6 +22,17 @@ pub struct Sizes {
 }
 
 impl Sizes {
+    /// Whether a history of these sizes can be judged: whether they are as small as that.
+    pub fn are_small(&self) -> bool
+        ensures { IsTrue result ↔ AreSmall (sizes_of self.now) }
+    {
+        self.processors <= MOST_PROCESSORS
+            && self.pages <= 64
+            && self.words <= 64
+            && self.locks <= 32
+            && self.flags <= 32
+    }
+
     /// Whether the numbers that the event names are within the sizes.
     pub(crate) fn have(&self, kind: Kind) -> bool
         requires { AreSmall (sizes_of self.now) }

@@ -1,7 +1,8 @@
 //! Why an event may not come next.
 use journal::Kind;
 
-/// Why an event may not follow what stands before it. Where several of these apply, the first one in this order is told.
+/// Why an event may not follow what stands before it. Where several of these apply, the first one in this order is
+/// told.
 #[derive(Clone, Copy, Debug, PartialEq, Eq)]
 pub enum Why {
     /// The cluster has no such processor.
@@ -12,7 +13,8 @@ pub enum Why {
     Waits(Kind),
     /// It asks for a lock that its processor holds.
     AsksWhatItHolds,
-    /// It acquires, departs or awaits, and its processor's last event is not the ask, arrival or watch that goes with it.
+    /// It acquires, departs or awaits, and its processor's last event is not the ask, arrival or watch that goes with
+    /// it.
     NotAsked,
     /// It acquires a lock that this processor holds.
     HeldBy(usize),

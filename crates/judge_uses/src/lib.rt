@@ -1,8 +1,14 @@
 //! A caller of judge who knows nothing of it but its contracts.
 //!
-//! **What is only tested** here: that the words of judge's specs mean what they are to mean, by histories worked by hand;
-//! and that a history of 2^20 events is judged in a test's time.
+//! **What is proved**: by these alone a caller knows exactly whether a history is well formed, and that the numbers
+//! of one that is are the cluster's.
+//!
+//! **What is only tested** here: that the words of judge's specs mean what they are to mean, by histories worked by
+//! hand; and that a history of 2^20 events is judged in a test's time.
 #![tactic(auto)]
 
+mod callers;
 #[cfg(test)]
 mod tests;
+
+pub use callers::is_well_formed;

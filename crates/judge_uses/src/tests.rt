@@ -2,6 +2,7 @@
 ghost use Rattle.std.specs.Prelude.{◌≡◌};
 ghost use Rattle.judge.specs.Prelude.{AreSmall, sizes_of};
 
+use crate::callers::is_well_formed;
 use journal::{Event, Kind, MOST_HELD};
 use judge::{IllFormed, Sizes, Why, first_ill_formed};
 use std::process::Abort;
@@ -236,5 +237,26 @@ fn long(rt: HostRuntime) -> Result<(), Fail> {
     events.push(by(15, Kind::Store(4095, 1)))?;
     assert!(rt; events.len() <= MOST_HELD);
     assert!(rt; first_ill_formed(most(), &events, false) == None);
+    Ok(())
+}
+
+/// Which sizes are small enough.
+#[test]
+fn limits(rt: HostRuntime) -> Result<(), Fail> {
+    let most = most();
+    assert!(rt; most.are_small());
+    assert!(rt; is_well_formed(most, &[by(15, Kind::Load(4095, 0)), by(15, Kind::Set(31))]));
+    for more in [
+        Sizes {
+            processors: 17,
+            ..most
+        },
+        Sizes { pages: 65, ..most },
+        Sizes { words: 65, ..most },
+        Sizes { locks: 33, ..most },
+        Sizes { flags: 33, ..most },
+    ] {
+        assert!(rt; !more.are_small());
+    }
     Ok(())
 }

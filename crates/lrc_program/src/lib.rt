@@ -14,8 +14,5 @@
 //! file or a standard stream has.
 #![tactic(auto)]
 
-mod fault;
-mod program;
-
-pub use fault::ProgramFault;
-pub use program::{program, say};
+pub mod fault;
+pub mod program;

@@ -86,4 +86,5 @@ loop-place-init c = record {
 pub returns : goal.returns
 returns c =
     let over = c.loop-place-test.false in
-    well_whole c.args.lax (sizes_of c.args.sizes) c.args.events.now c.loop-place.place over c.loop-place.invariant.well
+    let well = c.loop-place.invariant.well in
+    well_whole c.args.lax (sizes_of c.args.sizes) c.args.events.now c.loop-place.place over well

@@ -45,6 +45,7 @@ loop-processor-preserved c =
     let n = c.loop-processor.processor in
     let old = c.loop-processor.invariant in
     let limit = c.loop-processor.limit in
+    let first = c.loop-processor.first in
     let now = c.match-asked_at in
     elim now.branch [
       | in-Some+then-place-limit w ↦
@@ -56,7 +57,7 @@ loop-processor-preserved c =
           })
       | in-Some+else-place-limit w ↦
           (record {
-            found = found_is last end l now.limit limit now.first c.loop-processor.first w.first-is w.limit-is old.found;
+            found = found_is last end l now.limit limit now.first first w.first-is w.limit-is old.found;
             least = from_is last l now.limit limit (n + 1) w.limit-is
                 (from_same last l limit n
                 (λ i asks. at_or_after w.in-Some.place i limit
@@ -64,7 +65,7 @@ loop-processor-preserved c =
           })
       | in_default w ↦
           (record {
-            found = found_is last end l now.limit limit now.first c.loop-processor.first w.first-is w.limit-is old.found;
+            found = found_is last end l now.limit limit now.first first w.first-is w.limit-is old.found;
             least = from_is last l now.limit limit (n + 1) w.limit-is
                 (from_same last l limit n
                 (λ i asks. absurd (none-some i (sym w.in_default.is ∙ (c.asked_at.ensures i).1 asks))) old.least);

@@ -29,7 +29,8 @@ returns-else-self-flag c = λ j tells turn waits.
 pub returns-in_default : goal.returns-in_default
 returns-in_default c = λ j tells turn waits.
     let e = c.args.event in
-    absurd (false≢true (sym (quiet_kind e.kind c.in_default.not-Acquire c.in_default.not-Depart c.in_default.not-Await)
+    let not = c.in_default in
+    absurd (false≢true (sym (quiet_kind e.kind not.not-Acquire not.not-Depart not.not-Await)
     ∙ waits_takes j e.processor e.kind waits))
 
 pub returns-in-Acquire : goal.returns-in-Acquire

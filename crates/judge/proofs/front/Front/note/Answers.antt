@@ -35,8 +35,9 @@ departures_small j x q tells few =
     omega arith
 
 -- what is read is what the lemmas speak of
-holder_is : (j : List Event) (e : Event) (l q : ℕ) (new : List (Option ℕ)) (o : Option ℕ) → slice_index_or new l None ≡ o
-    → (o ≡ Some q) ↔ Holds (j ++ e ∷ []) q l → (slice_index_or new l None ≡ Some q) ↔ Holds (j ++ e ∷ []) q l
+holder_is : (j : List Event) (e : Event) (l q : ℕ) (new : List (Option ℕ)) (o : Option ℕ)
+    → slice_index_or new l None ≡ o → (o ≡ Some q) ↔ Holds (j ++ e ∷ []) q l
+    → (slice_index_or new l None ≡ Some q) ↔ Holds (j ++ e ∷ []) q l
 holder_is j e l q new o is tells = subst (λ x. (x ≡ Some q) ↔ Holds (j ++ e ∷ []) q l) (sym is) tells
 
 flag_is : (j : List Event) (e : Event) (f : ℕ) (new : List Bool) (b : Bool) → slice_index_or new f false ≡ b
@@ -82,5 +83,6 @@ returns-clause-tells c = λ j tells may.
       holders = λ l q.
           holder_is j e l q c.hold.new.holders _ (c.hold.ensures l)
           (holders_next (sizes_of x.sizes) j e.processor e.kind l _ may.allowed (tells.holders l) q);
-      flags = λ f. flag_is j e f c.set.new.flags _ (c.set.ensures f) (sets_next j e.processor e.kind f _ (tells.flags f));
+      flags = λ f.
+          flag_is j e f c.set.new.flags _ (c.set.ensures f) (sets_next j e.processor e.kind f _ (tells.flags f));
     }
