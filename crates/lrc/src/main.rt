@@ -6,9 +6,9 @@
 
 ghost use Rattle.std.specs.Prelude.{◌<◌};
 
-mod threaded;
+mod ours;
 
-use crate::threaded::Threaded;
+use crate::ours::Ours;
 use clap::Error;
 use clap::error::ErrorKind;
 use lrc_options::command_line::options;
@@ -45,12 +45,27 @@ fn run_file<R: Threads + Wait + Sync>(rt: &HostRuntime, handle: &R, options: &Op
     requires { 0 < options.now.tries }
 {
     let alloc = rt.alloc();
-    let runs = Threaded { rt: handle };
     let (mut out, mut err) = (rt.stdout(), rt.stderr());
     match options.file.as_deref() {
-        None => program(&runs, alloc, options, &mut rt.stdin(), &mut out, &mut err),
+        None => program(
+            &Ours,
+            handle,
+            alloc,
+            options,
+            &mut rt.stdin(),
+            &mut out,
+            &mut err,
+        ),
         Some(path) => match File::open(rt, path) {
-            Ok(mut source) => program(&runs, alloc, options, &mut source, &mut out, &mut err),
+            Ok(mut source) => program(
+                &Ours,
+                handle,
+                alloc,
+                options,
+                &mut source,
+                &mut out,
+                &mut err,
+            ),
             Err(error) => say(alloc, Some(path), ProgramFault::from(error), &mut err),
         },
     }

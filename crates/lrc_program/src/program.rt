@@ -13,13 +13,16 @@ use lrc_script::script::{MOST_BYTES, Script, parse};
 use runs::{Lock, RunFault, Runs};
 use std::alloc::Global;
 use std::io::{Read, Write};
+use std::sync::Wait;
+use std::thread::Threads;
 
 /// One byte more than the longest script has: what is longer is refused without its rest.
 const MOST_READ: u64 = MOST_BYTES as u64 + 1;
 
 /// Has the script run as the options say.
-fn report_of<T: Runs>(
+fn report_of<T: Runs, R: Threads + Wait + Sync>(
     runs: &T,
+    rt: &R,
     alloc: Global,
     options: &Options,
     script: &Script,
@@ -34,9 +37,9 @@ fn report_of<T: Runs>(
         Lock::Array
     };
     if options.step {
-        runs.step(alloc, script, lock, options.seed)
+        runs.step(rt, alloc, script, lock, options.seed)
     } else {
-        runs.run(alloc, script, lock, options.tries)
+        runs.run(rt, alloc, script, lock, options.tries)
     }
 }
 
@@ -52,8 +55,9 @@ fn read_script<S: Read>(alloc: Global, source: &mut S) -> Result<Script, Program
 
 /// Runs a script and writes its report. It stands apart from the reading since nothing is to be dropped where the run
 /// ends with a fault.
-fn print_report<T: Runs, W: Write>(
+fn print_report<T: Runs, R: Threads + Wait + Sync, W: Write>(
     runs: &T,
+    rt: &R,
     alloc: Global,
     options: &Options,
     script: &Script,
@@ -67,14 +71,15 @@ fn print_report<T: Runs, W: Write>(
         (λ fault. IsBeforeOutput fault → Keeps (W.contents out.old) (W.contents out.new)) }
     ensures runs { IfErr result (λ fault. IsScripts fault → ⊥) }
 {
-    let report = report_of(runs, alloc, options, script)?;
+    let report = report_of(runs, rt, alloc, options, script)?;
     render(&report, options.journal, out)?;
     Ok(())
 }
 
 /// Reads a script, runs it and writes its report.
-fn run_script<T: Runs, S: Read, W: Write>(
+fn run_script<T: Runs, R: Threads + Wait + Sync, S: Read, W: Write>(
     runs: &T,
+    rt: &R,
     alloc: Global,
     options: &Options,
     source: &mut S,
@@ -88,7 +93,7 @@ fn run_script<T: Runs, S: Read, W: Write>(
         (λ fault. IsBeforeOutput fault → Keeps (W.contents out.old) (W.contents out.new)) }
 {
     let script = read_script(alloc, source)?;
-    print_report(runs, alloc, options, &script, out)
+    print_report(runs, rt, alloc, options, &script, out)
 }
 
 /// Says on `err` in one write why the program ends without a report on the file's script, and answers the fault's
@@ -111,8 +116,9 @@ pub fn say<E: Write>(alloc: Global, file: Option<&str>, fault: ProgramFault, err
 
 /// Runs the script of `source` as the options say: writes its report to `out`, or one line to `err`, and
 /// answers the exit status. The file that the options name isn't opened here.
-pub fn program<T: Runs, S: Read, W: Write, E: Write>(
+pub fn program<T: Runs, R: Threads + Wait + Sync, S: Read, W: Write, E: Write>(
     runs: &T,
+    rt: &R,
     alloc: Global,
     options: &Options,
     source: &mut S,
@@ -130,7 +136,7 @@ pub fn program<T: Runs, S: Read, W: Write, E: Write>(
     // Where it was written, no line goes to the error output.
     ensures quiet { result ≡ 0 → Keeps (E.contents err.old) (E.contents err.new) }
 {
-    match run_script(runs, alloc, options, source, out) {
+    match run_script(runs, rt, alloc, options, source, out) {
         Ok(()) => 0,
         Err(fault) => say(alloc, options.file.as_deref(), fault, err),
     }

@@ -1,5 +1,6 @@
 //! What runs scripts.
 ghost use Rattle.std.specs.Prelude.{◌<◌, IfOk};
+ghost use Rattle.std.specs.Thread.{IsSync};
 ghost use Rattle.lrc_script.specs.Prelude.{IsLawful, plan_of};
 ghost use Rattle.runs.specs.Prelude.{IsReportOf};
 
@@ -7,6 +8,8 @@ use crate::cause::RunFault;
 use lrc_report::Report;
 use lrc_script::script::Script;
 use std::alloc::Global;
+use std::sync::Wait;
+use std::thread::Threads;
 
 /// Which lock stands round the book.
 #[derive(Clone, Copy, Debug, PartialEq, Eq)]
@@ -19,21 +22,24 @@ pub enum Lock {
 
 /// Runs lawful scripts. Whatever it answers is a report of the script.
 pub trait Runs {
-    /// Runs the script with a thread for each processor. What a processor waits for is tried for `tries` times in a row.
-    fn run(
+    /// Runs the script with a thread for each processor, started by this handle. What a processor waits for is tried for `tries` times in a row.
+    fn run<R: Threads + Wait + Sync>(
         &self,
+        rt: &R,
         alloc: Global,
         script: &Script,
         lock: Lock,
         tries: u64,
     ) -> Result<Report, RunFault>
+        requires threads { IsSync R.row }
         requires tries { 0 < tries }
         requires lawful { IsLawful (plan_of script.now) }
         ensures { IfOk result (IsReportOf (plan_of script.now)) };
 
     /// Runs the script by turns on one thread, in the orders that the seed draws, or by rising number without one.
-    fn step(
+    fn step<R: Wait>(
         &self,
+        rt: &R,
         alloc: Global,
         script: &Script,
         lock: Lock,

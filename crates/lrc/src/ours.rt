@@ -12,37 +12,36 @@ use std::alloc::Global;
 use std::sync::Wait;
 use std::thread::Threads;
 
-/// Runs scripts on threads of this handle.
-pub(crate) struct Threaded<'a, R: Threads + Wait + Sync> {
-    pub(crate) rt: &'a R,
-}
+/// Runs scripts on our cluster.
+#[derive(Clone, Copy)]
+pub(crate) struct Ours;
 
-impl<'a, R: Threads + Wait + Sync> Runs for Threaded<'a, R> {
-    fn run(
+impl Runs for Ours {
+    fn run<R: Threads + Wait + Sync>(
         &self,
+        rt: &R,
         alloc: Global,
         script: &Script,
         lock: Lock,
         tries: u64,
     ) -> Result<Report, RunFault> {
         match lock {
-            Lock::Array => run(self.rt, alloc, script, &Open, tries),
-            Lock::Ticket => {
-                run_with::<TicketBookLock, R, Open>(self.rt, alloc, script, &Open, tries)
-            }
+            Lock::Array => run(rt, alloc, script, &Open, tries),
+            Lock::Ticket => run_with::<TicketBookLock, R, Open>(rt, alloc, script, &Open, tries),
         }
     }
 
-    fn step(
+    fn step<R: Wait>(
         &self,
+        rt: &R,
         alloc: Global,
         script: &Script,
         lock: Lock,
         seed: Option<u64>,
     ) -> Result<Report, RunFault> {
         match lock {
-            Lock::Array => step(self.rt, alloc, script, seed),
-            Lock::Ticket => step_with::<TicketBookLock, R>(self.rt, alloc, script, seed),
+            Lock::Array => step(rt, alloc, script, seed),
+            Lock::Ticket => step_with::<TicketBookLock, R>(rt, alloc, script, seed),
         }
     }
 }
