@@ -2,5 +2,5 @@
 
 mod cuts;
 mod faults;
-mod runs;
 mod steps;
+mod threads;

@@ -4,7 +4,7 @@ ghost use Rattle.lrc_script.specs.Prelude.{IsLawful, plan_of};
 
 use crate::flaw::Flaw;
 use crate::random::one_in;
-use crate::runs::read_again;
+use crate::reports::read_again;
 use lrc_script::script::{Instruction, Script};
 use rand_core::SeedableRng;
 use rand_pcg::Pcg32;

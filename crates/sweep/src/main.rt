@@ -22,7 +22,7 @@ mod mixed;
 mod random;
 mod readers;
 mod rebuilt;
-mod runs;
+mod reports;
 mod schedules;
 mod slow;
 mod table;

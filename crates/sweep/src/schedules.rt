@@ -6,7 +6,7 @@ use crate::checks::{are_same, check, check_cuts};
 use crate::cuts::{Marks, read_with};
 use crate::draws::Drawing;
 use crate::flaw::{Flaw, expect};
-use crate::runs::{Lock, step_report, threads_report};
+use crate::reports::{Lock, step_report, threads_report};
 use lrc_report::Report;
 use lrc_script::script::Script;
 use std::alloc::Global;
