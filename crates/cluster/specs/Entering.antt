@@ -23,7 +23,7 @@ pub record Finds (m : Local) (b : State) : Type 0 where
   pub at : slice_get views m.number ≡ Some (view_of m.sizes m.seen m.cut m.own_cut)
   pub kept : IsKept m.sizes (m.seen ++ rest) b views
 
--- and leaves the new book, which its events make of the old one, and off which it cut so many more
+-- and leaves the new book, which its events make of the old one, with that many more events cut off
 pub record IsCallOf (m : Local) (old : State) (es : List Event) (new : State) : Type 0 where
   pub mine : (k : ℕ) (e : Event) → At es k e → e.processor ≡ m.number
   pub adds : added old.journal new.journal ≡ es

@@ -11,7 +11,7 @@ use Rattle.book.specs.State.{State}
 use Rattle.book.specs.Told.{IsTold}
 use Rattle.cluster.specs.declared.keeper.View.{View}
 
--- a processor of a cluster of these sizes has seen this, of which so many events were cut off, so many by itself
+-- a processor of a cluster of these sizes has seen this; that many of its events were cut off, and that many by it
 abbrev pub view_of : Sizes → List Event → ℕ → ℕ → View
 view_of s seen cut own_cut = record { shape = s; seen = seen; cut = cut; own_cut = own_cut }
 

@@ -178,7 +178,7 @@ impl Clocks {
         }
     }
 
-    /// Takes note of the event at this place, the next one. The only error is want of memory, after which the
+    /// Takes note of the event at this place, the next one. The only error is running out of memory, after which the
     /// timestamps may be those of no journal.
     pub fn note(&mut self, events: &[Event], place: usize) -> Result<(), AllocError>
         requires place { place < length events.now }

@@ -95,7 +95,7 @@ fn row_of(
     Ok(row)
 }
 
-/// Of each two places of a list of events, whether the event at the one happens before that at the other:
+/// For each two places of a list of events, whether the event at the one happens before that at the other:
 /// a row for each place, with a mark for each that happens before it.
 #[derive(Drop)]
 pub struct ReachTable {

@@ -29,7 +29,7 @@ pub(crate) struct Front {
     pub(crate) sizes: Sizes,
     /// How many events there are.
     pub(crate) place: usize,
-    /// Of each processor, its last event.
+    /// The last event of each processor.
     pub(crate) last: [Option<Last>; 16],
     /// How often each processor has arrived.
     pub(crate) arrivals: [u32; 16],
@@ -89,9 +89,8 @@ fn set(flags: &mut [bool; 32], kind: Kind)
     ensures { (f : ℕ) → slice_index_or flags.new f false
         ≡ set_after (slice_index_or flags.old f false) f kind }
 {
-    match kind {
-        Kind::Set(flag) => flags[flag] = true,
-        _ => {}
+    if let Kind::Set(flag) = kind {
+        flags[flag] = true;
     }
 }
 

@@ -6,9 +6,9 @@
 
 ghost use Rattle.std.specs.Prelude.{◌<◌};
 
-mod ours;
+mod on_cluster;
 
-use crate::ours::Ours;
+use crate::on_cluster::OnCluster;
 use clap::Error;
 use clap::error::ErrorKind;
 use lrc_options::command_line::options;
@@ -48,7 +48,7 @@ fn run_file<R: Threads + Wait + Sync>(rt: &HostRuntime, handle: &R, options: &Op
     let (mut out, mut err) = (rt.stdout(), rt.stderr());
     match options.file.as_deref() {
         None => program(
-            &Ours,
+            &OnCluster,
             handle,
             alloc,
             options,
@@ -58,7 +58,7 @@ fn run_file<R: Threads + Wait + Sync>(rt: &HostRuntime, handle: &R, options: &Op
         ),
         Some(path) => match File::open(rt, path) {
             Ok(mut source) => program(
-                &Ours,
+                &OnCluster,
                 handle,
                 alloc,
                 options,

@@ -143,7 +143,7 @@ is_fault kinds r e was fails = rw was at fails
 pub same_kind : (kinds : Kinds) (a b : Error) → kind_of b ≡ kind_of a → HasKind kinds a → HasKind kinds b
 same_kind kinds a b is has = subst (λ k. (k ≡ OutOfMemory) ⊎ IsAmong k kinds) (sym is) has
 
--- want of memory refuses any words
+-- running out of memory refuses any words
 pub out_of_memory : (locks : ValueParser) (words : List Text) (e : Error)
     → TakesNames (codes "array" ∷ codes "ticket" ∷ []) locks → kind_of e ≡ OutOfMemory → IsRefusedBy words e
 out_of_memory locks words e are is = record { locks = locks; locks_are = are; kind = inl is }

@@ -30,7 +30,7 @@ fn tries_arg<'a>(alloc: Global) -> Arg<'a>
         .value_name("N")
         .value_parser(ValueParser::unsigned(1, MOST_TRIES))
         .default_value("1000000")
-        .help("after how many answers in a row that it must wait a thread gives up")
+        .help("a thread gives up after N consecutive answers that it must wait")
 }
 
 /// `--seed N`.

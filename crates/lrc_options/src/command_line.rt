@@ -90,7 +90,7 @@ fn options_of(alloc: Global, name: &str, matches: &ArgMatches<'_>) -> Result<Opt
 /// # Errors
 ///
 /// clap's, of just the kind that its own function of the command finds in the words: words that give no such command,
-/// a question for help; or want of memory.
+/// a question for help; or running out of memory.
 pub fn options<'a>(alloc: Global, words: &'a [String]) -> Result<Options, Error>
     ensures given { IfOk result (AreGiven (map (λ w. string_bytes w) words.entry.now)) }
     ensures refused { IfErr result (IsRefusedBy (map (λ w. string_bytes w) words.entry.now)) }

@@ -10,14 +10,14 @@
 //! **What is only tested**: that memory isn't refused needlessly, and that each refusal is answered.
 #![tactic(auto)]
 
-mod judge;
 mod known;
 mod laws;
 mod rows;
 mod sources;
 mod stored;
+mod unexplained;
 
-pub use judge::first_unexplained;
 pub use laws::{answers_law, stays_law};
 pub use rows::latest;
 pub use sources::Sources;
+pub use unexplained::first_unexplained;

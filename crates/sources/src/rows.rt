@@ -38,7 +38,7 @@ fn row(alloc: Global, sources: &Sources, event: Event) -> Result<Vec<usize>, All
 
 /// Of each event of a history of `processors` processors, at most `MOST_PROCESSORS`, and `addresses` addresses: the
 /// places of the latest stores of its past to its address, by rising processor, where it is a load; no place where
-/// it is none. The only error is want of memory.
+/// it is none. The only error is running out of memory.
 ///
 /// A load that has no place may answer 0, and any other the value of each of its places. It takes time in the order
 /// of the events times the processors times (the processors and the logarithm of the events), and memory as

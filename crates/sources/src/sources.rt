@@ -15,7 +15,7 @@ use crate::stored::{Stored, last_below};
 use journal::{Clocks, Event, Kind};
 use std::alloc::{AllocError, Global};
 
-/// Of each processor, its last store to an address in a past.
+/// The last store of each processor to an address in a past.
 type LastStores = [Option<Stored>; 16];
 
 /// A history, taken an event at a time, of which it tells what a load that comes next may answer.
@@ -66,7 +66,7 @@ fn intervals(whole: u32, is_own: bool) -> usize
 
 impl Sources {
     /// Before the first event, of a history of `processors` processors, at most `MOST_PROCESSORS`, and `addresses`
-    /// addresses. The only error is want of memory.
+    /// addresses. The only error is running out of memory.
     pub fn new(alloc: Global, processors: usize, addresses: usize) -> Result<Sources, AllocError>
         requires { processors ≤ most_processors }
         ensures tells { IfOk result (Tells []) }
@@ -228,7 +228,7 @@ impl Sources {
         }
     }
 
-    /// Takes note of the event at this place, the next one. The only error is want of memory, after which it may tell
+    /// Takes note of the event at this place, the next one. The only error is running out of memory, after which it may tell
     /// no history.
     pub fn note(&mut self, events: &[Event], place: usize) -> Result<(), AllocError>
         requires place { place < length events.now }

@@ -4,7 +4,7 @@
 use journal::{Event, Kind};
 use std::alloc::{AllocError, Global};
 
-/// Of each event all events that happen before it.
+/// For each event, all events that happen before it.
 #[derive(Drop)]
 pub struct Table {
     rows: Vec<Vec<bool>>,

@@ -1,4 +1,4 @@
-//! Lists for the sweep that refuses each request for memory in turn: what is read is the same, and want of memory is
+//! Lists for the sweep that refuses each request for memory in turn: what is read is the same, and running out of memory is
 //! told with a line up to the trace's last, or the fault's.
 
 use super::bytes_of;
@@ -55,7 +55,7 @@ fn traces_are_read(rt: HostRuntime) -> Result<(), Fail> {
     Ok(())
 }
 
-/// A fault is the same one, or want of memory is told with a line up to the fault's.
+/// A fault is the same one, or running out of memory is told with a line up to the fault's.
 #[test]
 fn faults_are_found(rt: HostRuntime) -> Result<(), Fail> {
     let text = "cluster 1 1 1 0/event 0 0 arrive/event 1 0 depart/event 2 0 ask 0/";

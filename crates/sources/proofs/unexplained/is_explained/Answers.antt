@@ -4,7 +4,7 @@ use Rattle.journal.specs.declared.event.Kind.{Kind}
 use Rattle.journal.specs.declared.event.Kind.TheVariants.{Load}
 use Rattle.journal.specs.Did.{event}
 use Rattle.journal.specs.Loads.{IsAnswer}
-use Rattle.sources.proofs.judge.is_explained.Goals as goal
+use Rattle.sources.proofs.unexplained.is_explained.Goals as goal
 
 address_same : (a v b w : ℕ) → Load a v ≡ Load b w → a ≡ b
 address_same a v b w is = cc

@@ -26,7 +26,7 @@ fn is_explained(sources: &Sources, front: &[Event], event: Event) -> bool
 
 /// The place of the first load of a history of `processors` processors, at most `MOST_PROCESSORS`, and `addresses`
 /// addresses that answers what it may not: neither the value of a latest store of its past, nor 0 where there is
-/// none. None where each load answers what it may. The only error is want of memory.
+/// none. None where each load answers what it may. The only error is running out of memory.
 ///
 /// It takes time in the order of the events times the processors times (the processors and the logarithm of the
 /// events), and memory as `Sources` does.

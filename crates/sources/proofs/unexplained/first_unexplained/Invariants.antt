@@ -3,7 +3,7 @@ use Rattle.journal.specs.declared.event.Kind.TheVariants.{Load}
 use Rattle.journal.specs.WellFormed.{Does}
 use Rattle.journal.specs.Loads.{IsAnswer}
 use Rattle.sources.specs.Tells.{Tells}
-use Rattle.sources.proofs.judge.first_unexplained.Given as goal
+use Rattle.sources.proofs.unexplained.first_unexplained.Given as goal
 
 abbrev pub invariant-loop-place : goal.invariant-loop-place
 invariant-loop-place l = record {

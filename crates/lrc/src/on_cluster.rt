@@ -1,4 +1,4 @@
-//! Scripts run by `lrc_run`.
+//! What runs scripts here: `lrc_run`, on a cluster with the lock that is asked for.
 ghost use Rattle.std.specs.Prelude.{◌<◌, IfOk};
 ghost use Rattle.lrc_script.specs.Prelude.{IsLawful, plan_of};
 ghost use Rattle.runs.specs.Prelude.{IsReportOf};
@@ -12,11 +12,11 @@ use std::alloc::Global;
 use std::sync::Wait;
 use std::thread::Threads;
 
-/// Runs scripts on our cluster.
+/// Runs scripts on a cluster.
 #[derive(Clone, Copy)]
-pub(crate) struct Ours;
+pub(crate) struct OnCluster;
 
-impl Runs for Ours {
+impl Runs for OnCluster {
     fn run<R: Threads + Wait + Sync>(
         &self,
         rt: &R,

@@ -12,7 +12,7 @@ use Rattle.journal.specs.Loads.{IsAnswer}
 use Rattle.journal.proofs.Order.Places.{at_same, at_within}
 use Rattle.sources.specs.Answers.{IsFirstUnexplained}
 use Rattle.sources.proofs.Answering.{answer_in}
-use Rattle.sources.proofs.judge.first_unexplained.Goals as goal
+use Rattle.sources.proofs.unexplained.first_unexplained.Goals as goal
 
 -- the event at this place
 abbrev here : List Event → ℕ → Event
