@@ -6,15 +6,13 @@
 
 ghost use Rattle.std.specs.Prelude.{◌<◌};
 
-mod on_cluster;
-
-use crate::on_cluster::OnCluster;
 use clap::Error;
 use clap::error::ErrorKind;
 use lrc_options::command_line::options;
 use lrc_options::options::Options;
 use lrc_program::fault::ProgramFault;
 use lrc_program::program::{program, say};
+use lrc_run::OnCluster;
 use std::fs::File;
 use std::io;
 use std::process::ExitCode;

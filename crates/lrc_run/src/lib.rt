@@ -17,6 +17,7 @@ mod ending;
 mod faults;
 mod gate;
 pub mod laws;
+mod on_cluster;
 mod orders;
 mod running;
 mod shown;
@@ -24,6 +25,7 @@ mod steps;
 mod walk;
 
 pub use gate::{Gate, Open, Stopped};
+pub use on_cluster::OnCluster;
 pub use orders::order;
 pub use running::{run, run_with};
 pub use runs::{Cause, RunFault};

@@ -228,8 +228,8 @@ impl Sources {
         }
     }
 
-    /// Takes note of the event at this place, the next one. The only error is running out of memory, after which it may tell
-    /// no history.
+    /// Takes note of the event at this place, the next one. The only error is running out of memory, after which it may
+    /// tell no history.
     pub fn note(&mut self, events: &[Event], place: usize) -> Result<(), AllocError>
         requires place { place < length events.now }
         requires few { length events.now ≤ most_held + most_processors }

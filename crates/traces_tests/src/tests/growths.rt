@@ -1,5 +1,5 @@
-//! Lists for the sweep that refuses each request for memory in turn: what is read is the same, and running out of memory is
-//! told with a line up to the trace's last, or the fault's.
+//! Lists for the sweep that refuses each request for memory in turn: what is read is the same, and running out of
+//! memory is told with a line up to the trace's last, or the fault's.
 
 use super::bytes_of;
 use std::alloc::{AllocError, Global};

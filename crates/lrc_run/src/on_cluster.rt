@@ -1,20 +1,22 @@
-//! What runs scripts here: `lrc_run`, on a cluster with the lock that is asked for.
+//! What runs scripts: on a cluster, with the lock that is asked for.
 ghost use Rattle.std.specs.Prelude.{◌<◌, IfOk};
 ghost use Rattle.lrc_script.specs.Prelude.{IsLawful, plan_of};
 ghost use Rattle.runs.specs.Prelude.{IsReportOf};
 
+use crate::gate::Open;
+use crate::running::{run, run_with};
+use crate::steps::{step, step_with};
 use cluster::TicketBookLock;
 use lrc_report::Report;
-use lrc_run::{Open, run, run_with, step, step_with};
 use lrc_script::script::Script;
 use runs::{Lock, RunFault, Runs};
 use std::alloc::Global;
 use std::sync::Wait;
 use std::thread::Threads;
 
-/// Runs scripts on a cluster.
+/// Runs scripts on a cluster, whose book has the lock that is asked for.
 #[derive(Clone, Copy)]
-pub(crate) struct OnCluster;
+pub struct OnCluster;
 
 impl Runs for OnCluster {
     fn run<R: Threads + Wait + Sync>(
