@@ -1,4 +1,5 @@
 pub mod Calls
+pub mod Beginnings
 pub mod Instructions
 pub mod Like
 pub mod Script

@@ -193,12 +193,12 @@ counts f c j told spent is before =
     is ∙ ap (λ n. n + sum_by f j) (before ∙ zero-add (sum_by f c)) ∙ sym both
 
 -- a list of no items
-nothing_of : (xs : List Event) → length xs ≡ 0 → xs ≡ []
+pub nothing_of : (xs : List Event) → length xs ≡ 0 → xs ≡ []
 nothing_of [] none = refl
 nothing_of (x ∷ xs) none = absurd (omega arith)
 
 -- processors of which each cut nothing off cut nothing off together
-no_sum : (ms : List Local) → ((p : ℕ) (m : Local) → slice_get ms p ≡ Some m → m.own_cut ≡ 0)
+pub no_sum : (ms : List Local) → ((p : ℕ) (m : Local) → slice_get ms p ≡ Some m → m.own_cut ≡ 0)
     → sum_by (λ (m : Local). m.own_cut) ms ≡ 0
 no_sum [] each = refl
 no_sum (m ∷ ms) each =

@@ -5,3 +5,4 @@ pub mod Exchanging
 pub mod Concluding
 pub mod Failing
 pub mod Joining
+pub mod Halting

@@ -1,6 +1,6 @@
 -- The words that contracts name, passed on from one place. Declares nothing.
 pub use Rattle.lrc_run.specs.Walks.{AreWalked, Does, IsOnItsWay, Loads, Makes, Takes, Tries, Walks}
-pub use Rattle.lrc_run.specs.Steps.{AreOnTheirWay, IsAt, instruction_at, progress_after}
+pub use Rattle.lrc_run.specs.Steps.{AreOnTheirWay, HaveBegun, IsAt, instruction_at, progress_after}
 pub use Rattle.lrc_run.specs.Orders.{AreBelow, ordered}
 pub use Rattle.lrc_run.specs.Endings.{HaveFollowed}
 pub use Rattle.runs.specs.Reports.{IsReportOf}

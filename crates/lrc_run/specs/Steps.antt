@@ -36,3 +36,7 @@ pub record AreOnTheirWay (c : Shared) (sections : List (List Instruction)) (ms :
   pub long : length all ≡ c.sizes.processors
   pub each : (p : ℕ) (section : List Instruction) (m : Local) (at : Progress) → slice_get sections p ≡ Some section
       → slice_get ms p ≡ Some m → slice_get all p ≡ Some at → IsAt (new_at c p) m section at
+
+-- each of them is somewhere on its way
+abbrev pub HaveBegun : Shared → List (List Instruction) → List Local → Type 0
+HaveBegun c sections ms = (all : List Progress) × AreOnTheirWay c sections ms all

@@ -28,5 +28,5 @@ pub use gate::{Gate, Open, Stopped};
 pub use on_cluster::OnCluster;
 pub use orders::order;
 pub use running::{run, run_with};
-pub use runs::{Cause, RunFault};
-pub use steps::{step, step_with};
+pub use runs::{Cause, Ended, Halt, RunFault};
+pub use steps::{step, step_as_far, step_as_far_with, step_with};

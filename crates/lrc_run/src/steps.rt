@@ -1,9 +1,10 @@
 //! All processors by turns on one thread.
-ghost use Rattle.std.specs.Prelude.{◌≡◌, ◌≤◌, ◌<◌, ◌^◌, ◌↔◌, All, IfOk, IsTrue, OnOk, length, replicate, vec_len};
+ghost use Rattle.std.specs.Prelude.{◌≡◌, ◌≤◌, ◌<◌, ◌^◌, ◌↔◌, All, IfOk, IsTrue, MatchOption, length, replicate, vec_len};
 ghost use Rattle.lrc_script.specs.Prelude.{IsLawful, plan_of};
 ghost use Rattle.follows.specs.Prelude.{sizes_of};
 ghost use Rattle.cluster.specs.Prelude.{AreNew};
-ghost use Rattle.lrc_run.specs.Prelude.{AreBelow, IsReportOf, AreOnTheirWay, AreWalked};
+ghost use Rattle.runs.specs.Prelude.{IsEndOf, IsReportOf};
+ghost use Rattle.lrc_run.specs.Prelude.{AreBelow, AreOnTheirWay, AreWalked, HaveBegun};
 
 mod turns;
 
@@ -16,7 +17,7 @@ use lrc_report::Report;
 use lrc_script::script::Script;
 use rand_core::SeedableRng;
 use rand_pcg::Pcg32;
-use runs::{Cause, RunFault};
+use runs::{Cause, Ended, Halt, RunFault};
 use std::alloc::{AllocError, Global};
 use std::sync::Wait;
 use turn::Turn;
@@ -49,9 +50,50 @@ pub fn step_with<T: Turn<Book, Rule> + Drop, R: Wait>(
     requires lawful { IsLawful (plan_of script.now) }
     ensures { IfOk result (IsReportOf (plan_of script.now)) }
 {
+    match step_as_far_with::<T, R>(rt, alloc, script, seed)? {
+        Ended::Whole(report) => Ok(report),
+        Ended::Halted(halt) => Err(RunFault {
+            processor: halt.processor,
+            cause: Cause::Stuck,
+        }),
+    }
+}
+
+/// The same with the array lock, but that a script that can't go on is no fault: then it answers the journal so far.
+pub fn step_as_far<R: Wait>(
+    rt: &R,
+    alloc: Global,
+    script: &Script,
+    seed: Option<u64>,
+) -> Result<Ended, RunFault>
+    requires { IsLawful (plan_of script.now) }
+    ensures { IfOk result (IsEndOf (plan_of script.now)) }
+{
+    step_as_far_with::<BookLock, R>(rt, alloc, script, seed)
+}
+
+/// The same with a lock of the caller's choice round the book.
+pub fn step_as_far_with<T: Turn<Book, Rule> + Drop, R: Wait>(
+    rt: &R,
+    alloc: Global,
+    script: &Script,
+    seed: Option<u64>,
+) -> Result<Ended, RunFault>
+    requires entries { T.ENTRIES ≤ 2 ^ 40 }
+    requires lawful { IsLawful (plan_of script.now) }
+    ensures { IfOk result (IsEndOf (plan_of script.now)) }
+{
     let (cluster, mut processors) = new_cluster::<T>(alloc, script)?;
-    go_round(rt, alloc, &cluster, &mut processors, script, seed)?;
-    conclude(rt, alloc, cluster, processors, script).map_err(outside)
+    match go_round(rt, alloc, &cluster, &mut processors, script, seed)? {
+        None => match conclude(rt, alloc, cluster, processors, script) {
+            Ok(report) => Ok(Ended::Whole(report)),
+            Err(cause) => Err(outside(cause)),
+        },
+        Some(processor) => {
+            let journal = cluster.finish(processors);
+            Ok(Ended::Halted(Halt { processor, journal }))
+        }
+    }
 }
 
 /// A fault outside of turns.
@@ -84,7 +126,7 @@ fn new_cluster<T: Turn<Book, Rule>>(
     }
 }
 
-/// Rounds, until all have passed the closing barrier.
+/// Rounds, until all have passed the closing barrier, or none got on: then it answers the least processor that waits.
 fn go_round<T: Turn<Book, Rule>, R: Wait>(
     rt: &R,
     alloc: Global,
@@ -92,11 +134,13 @@ fn go_round<T: Turn<Book, Rule>, R: Wait>(
     processors: &mut Vec<Processor<T>>,
     script: &Script,
     seed: Option<u64>,
-) -> Result<(), RunFault>
+) -> Result<Option<usize>, RunFault>
     requires lawful { IsLawful (plan_of script.now) }
     requires sizes { cluster.now.sizes ≡ sizes_of (plan_of script.now) }
     requires new { AreNew cluster.now processors.old.items }
-    ensures { OnOk result (AreWalked cluster.now (plan_of script.now).sections processors.new.items) }
+    ensures { IfOk result (λ o. MatchOption o
+        (AreWalked cluster.now (plan_of script.now).sections processors.new.items)
+        (λ _. HaveBegun cluster.now (plan_of script.now).sections processors.new.items)) }
 {
     let (mut all, mut list) = match beginnings(alloc, processors.len()) {
         Ok(beginnings) => beginnings,
@@ -105,11 +149,11 @@ fn go_round<T: Turn<Book, Rule>, R: Wait>(
     let mut generator = generator_of(seed);
     for _ in rt.forever() {
         if have_passed(&all) {
-            return Ok(());
+            return Ok(None);
         }
         draw(&mut generator, &mut list);
         if !round(rt, cluster, processors, &mut all, script, &list)? {
-            return Err(stuck(&all));
+            return Ok(Some(least_waiting(&all)));
         }
     }
     unreachable!()
@@ -141,15 +185,11 @@ fn have_passed(all: &[Progress]) -> bool
     all.iter().all(|progress| *progress == Progress::Passed)
 }
 
-/// The fault of the least processor that waits.
-fn stuck(all: &[Progress]) -> RunFault {
-    let waits = all
-        .iter()
-        .position(|progress| matches!(progress, Progress::Waits(_)));
-    RunFault {
-        processor: waits.unwrap_or(0),
-        cause: Cause::Stuck,
-    }
+/// The least processor that waits.
+fn least_waiting(all: &[Progress]) -> usize {
+    all.iter()
+        .position(|progress| matches!(progress, Progress::Waits(_)))
+        .unwrap_or(0)
 }
 
 /// The order of the next round: rising numbers, exchanged as the generator draws.

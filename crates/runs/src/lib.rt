@@ -4,11 +4,16 @@
 //! journal has the plan's sizes and holds what is left, after some of it was cut off, of a history that is well formed and
 //! explained and follows the plan; the verdict, the shown words and the traffic are those of the whole history (`Tells`).
 //!
+//! A run by turns that can't go on has its journal so far (`IsJournalSoFar`): the same, but that its history only begins
+//! the script.
+//!
 //! Crate `lrc_run` runs scripts; the program is proved over `Runs` beside it, and waits for none of its proofs.
 #![tactic(auto)]
 
 mod cause;
+mod ended;
 mod runs;
 
 pub use cause::{Cause, RunFault};
+pub use ended::{Ended, Halt};
 pub use runs::{Lock, Runs};

@@ -1,0 +1,165 @@
+-- What the journal holds where no processor got on.
+use Rattle.std.proofs.Common.{ℕ, ◌≡◌, ◌<◌, ◌≤◌, Bool, true, false, cond, Option, Some, None, List, [], ◌∷◌, ◌++◌, length, take, get_or, slice_get, refl, sym, ap, subst, ◌∙◌, append_assoc, arith}
+use Rattle.std.specs.Prelude.{◌==◌, nat_lt, MatchOption}
+use Rattle.std.proofs.Math.Seq.{take-length}
+use Rattle.std.proofs.lemmas.Bool.{ltb-true, ltb-false}
+use Rattle.std.proofs.lemmas.List.{get_or_past}
+use Rattle.std.proofs.lemmas.Option.{slice_get-get_or, slice_get_within}
+use Rattle.lists.proofs.Places.{slice_get-from_take}
+use Rattle.journal.specs.declared.event.Event.{Event}
+use Rattle.journal.specs.declared.event.Kind.TheVariants.{Arrive, Depart}
+use Rattle.journal.specs.declared.event.Kind.{Kind}
+use Rattle.journal.specs.Counted.{AreCounted}
+use Rattle.journal.specs.Events.{part}
+use Rattle.journal.specs.Log.{Log}
+use Rattle.journal.specs.Sizes.{Sizes, addresses}
+use Rattle.journal.specs.WellFormed.{WellFormed}
+use Rattle.lrc_script.specs.declared.script.Instruction.{Instruction}
+use Rattle.lrc_script.specs.declared.script.Instruction.TheVariants.{Barrier, Cut}
+use Rattle.lrc_script.specs.Lawful.{IsLawful}
+use Rattle.lrc_script.specs.Plan.{Plan}
+use Rattle.follows.specs.Begins.{BeginsScript, BeginsSection}
+use Rattle.follows.specs.Follows.{calls_of, kinds_of, sizes_of}
+use Rattle.follows.specs.Instructions.{AreEventsOf, AreEventsOfAll}
+use Rattle.follows.proofs.Beginnings.{begins_after, begins_front, begins_whole, begins_within}
+use Rattle.replicas.specs.Local.{Local}
+use Rattle.cluster.specs.Clusters.{Shared}
+use Rattle.cluster.specs.Finishing.{AreAllOf, IsFinished, IsProcessorOf}
+use Rattle.runs.specs.Cuts.{HasCut, HasNoCut}
+use Rattle.runs.specs.Ends.{IsJournalSoFar}
+use Rattle.lrc_run.specs.declared.steps.turns.Progress.{Progress}
+use Rattle.lrc_run.specs.declared.steps.turns.Progress.TheVariants.{Next, Passed, Waits}
+use Rattle.lrc_run.specs.Steps.{AreOnTheirWay, HaveBegun, IsAt, instruction_at}
+use Rattle.lrc_run.specs.Walks.{AreWalked, made, new_at}
+use Rattle.lrc_run.proofs.Concluding.{no_sum, nothing_of}
+use Rattle.lrc_run.proofs.Stepping.{same_on_its_way}
+
+-- a cut among the first instructions is one of the section
+cut_of_front : (n : ℕ) (section : List Instruction) → HasCut (take n section) → HasCut section
+cut_of_front n section cut = (cut.0, slice_get-from_take section n cut.0 Cut cut.1)
+
+-- whoever is on its way cut nothing off but by a cut of its section
+at_uncut : (c : Shared) (p : ℕ) (m : Local) (section : List Instruction) (at : Progress) → IsAt (new_at c p) m section at
+    → ¬ HasCut section → m.own_cut ≡ 0
+at_uncut c p m section (Next n) is none = is.0.makes.uncut (λ cut. none (cut_of_front n section cut))
+at_uncut c p m section (Waits n) is none =
+    is.0.begins.makes.uncut ∙ is.0.done.makes.uncut (λ cut. none (cut_of_front n section cut))
+at_uncut c p m section Passed is none = is.makes.uncut none
+
+-- the events of its first instructions and the first one of the next begin a section
+waits_begins : (section : List Instruction) (shown : List ℕ) (n : ℕ) (kinds : List Kind) (first last : Kind)
+    → n ≤ length section → AreEventsOfAll (take n section) kinds
+    → AreEventsOf (instruction_at section n) (first ∷ last ∷ []) → BeginsSection section shown (kinds ++ first ∷ [])
+waits_begins section shown n kinds first last within are two = cases (nat_lt n (length section)) refl
+  where
+    cases : (b : Bool) → nat_lt n (length section) ≡ b → BeginsSection section shown (kinds ++ first ∷ [])
+    cases true e = begins_within section shown n (instruction_at section n) kinds first last
+        (slice_get-get_or section n Barrier (ltb-true n (length section) e)) are two
+    cases false e =
+        let past : length section ≤ n = ltb-false n (length section) e in
+        let same : n ≡ length section = omega arith in
+        let Q : List Instruction → Type 0 = λ is. AreEventsOfAll is kinds in
+        let whole = subst Q (ap (λ k. take k section) same ∙ take-length section) are in
+        let R : Instruction → Type 0 = λ i. AreEventsOf i (first ∷ last ∷ []) in
+        let closing : first ∷ last ∷ [] ≡ Arrive ∷ Depart ∷ [] = subst R (get_or_past section n Barrier past) two in
+        let P : List Kind → Type 0 = BeginsSection section shown in
+        begins_front section shown (kinds ++ first ∷ []) (last ∷ [])
+        (subst P (ap (λ ks. kinds ++ ks) (sym closing) ∙ sym (append_assoc kinds (first ∷ []) (last ∷ [])))
+        (begins_whole section shown kinds whole))
+
+-- and what it made begins its section
+at_begins : (c : Shared) (p : ℕ) (m : Local) (section : List Instruction) (shown : List ℕ) (at : Progress)
+    → IsAt (new_at c p) m section at → BeginsSection section shown (made m)
+at_begins c p m section shown (Next n) is =
+    let P : List Kind → Type 0 = BeginsSection section shown in
+    subst P (sym is.0.makes.more) (begins_after section shown n is.0.kinds is.0.are)
+at_begins c p m section shown (Passed) is =
+    let P : List Kind → Type 0 = BeginsSection section shown in
+    subst P (sym is.makes.more) (begins_whole section shown is.kinds is.are)
+at_begins c p m section shown (Waits n) is =
+    let begun = is.0 in
+    let P : List Kind → Type 0 = BeginsSection section shown in
+    subst P (sym (begun.begins.makes.more ∙ ap (λ ks. ks ++ begun.begins.first ∷ []) begun.done.makes.more))
+    (waits_begins section shown n begun.done.kinds begun.begins.first begun.begins.last is.1 begun.done.are
+    begun.begins.are)
+
+-- each of the script's processors has a section, and is somewhere on its way through it
+at_of : (s : Plan) (c : Shared) (ms : List Local) → IsLawful s → c.sizes ≡ sizes_of s
+    → HaveBegun c s.sections ms → (p : ℕ) (m : Local) → slice_get ms p ≡ Some m
+    → (section : List Instruction) × (at : Progress) × (slice_get s.sections p ≡ Some section)
+    × IsAt (new_at c p) m section at
+at_of s c ms lawful sizes begun p m here =
+    let within = slice_get_within ms p m here in
+    let one_each = lawful.but_uneven.one_each in
+    let same = ap (λ (x : Sizes). x.processors) sizes in
+    let way = begun.1 in
+    let many = way.many in
+    let long = way.long in
+    let listed : p < length s.sections = omega arith in
+    let known : p < length begun.0 = omega arith in
+    let section = get_or s.sections p [] in
+    let at = get_or begun.0 p Passed in
+    let its = slice_get-get_or s.sections p [] listed in
+    let there = slice_get-get_or begun.0 p Passed known in
+    (section, at, its, way.each p section m at its here there)
+
+-- they are all of the cluster
+pub halted_all : (s : Plan) (c : Shared) (ms : List Local) → IsLawful s → c.sizes ≡ sizes_of s
+    → HaveBegun c s.sections ms → AreAllOf c ms
+halted_all s c ms lawful sizes begun = record { all = begun.1.many; each = each }
+  where
+    each : (p : ℕ) (m : Local) → slice_get ms p ≡ Some m → IsProcessorOf c p m
+    each p m here =
+        let is = at_of s c ms lawful sizes begun p m here in
+        let same = same_on_its_way (new_at c p) m is.0 is.1 is.3 in
+        record { lock = same.lock; number = same.number; sizes = same.sizes }
+
+-- the journal of a finished cluster whose processors are on their way
+pub halted_is : (s : Plan) (c : Shared) (ms : List Local) (j : Log) → IsLawful s → c.sizes ≡ sizes_of s
+    → HaveBegun c s.sections ms → IsFinished c.sizes ms j → IsJournalSoFar s j
+halted_is s c ms j lawful sizes begun finished = record {
+  processors = finished.journal.processors ∙ ap (λ (x : Sizes). x.processors) sizes;
+  addresses_are = finished.journal.addresses_are ∙ ap addresses sizes;
+  history = h;
+  taken = finished.taken;
+  holds = finished.journal.holds;
+  uncut = λ none. nothing_of finished.taken (finished.cuts ∙ no_sum ms (own none));
+  well_formed = subst (λ (x : Sizes). WellFormed x h) sizes finished.faithful.well_formed;
+  explained = finished.faithful.explained;
+  counted = subst (λ (x : Sizes). AreCounted x h) sizes finished.faithful.counted;
+  begins = begins;
+}
+  where
+    h : List Event
+    h = finished.history
+
+    own : HasNoCut s → (p : ℕ) (m : Local) → slice_get ms p ≡ Some m → m.own_cut ≡ 0
+    own none p m here =
+        let is = at_of s c ms lawful sizes begun p m here in
+        at_uncut c p m is.0 is.1 is.3 (none p is.0 is.2)
+
+    begins : BeginsScript s h
+    begins p section its =
+        let listed = slice_get_within s.sections p section its in
+        let one_each = lawful.but_uneven.one_each in
+        let same = ap (λ (x : Sizes). x.processors) sizes in
+        let many = begun.1.many in
+        let long = begun.1.long in
+        let within : p < length ms = omega arith in
+        let known : p < length begun.0 = omega arith in
+        let m = get_or ms p (new_at c p) in
+        let here = slice_get-get_or ms p (new_at c p) within in
+        let there = slice_get-get_or begun.0 p Passed known in
+        let shown = cond (p == 0) s.shown [] in
+        let is = at_begins c p m section shown (get_or begun.0 p Passed)
+        (begun.1.each p section m (get_or begun.0 p Passed) its here there) in
+        let number = ((halted_all s c ms lawful sizes begun).each p m here).number in
+        let made_is : calls_of h p ≡ made m =
+        ap kinds_of (ap (part h) (sym number) ∙ (finished.each p m here).calls_are) in
+        subst (BeginsSection section shown) (sym made_is) is
+
+-- where rounds ended with a processor that waits
+pub begun_at : (c : Shared) (sections : List (List Instruction)) (ms : List Local) (o : Option ℕ) (p : ℕ) → o ≡ Some p
+    → MatchOption o (AreWalked c sections ms) (λ _. HaveBegun c sections ms) → HaveBegun c sections ms
+begun_at c sections ms None p is answer = absurd (cc is)
+begun_at c sections ms (Some q) p is answer = answer

@@ -1,0 +1,34 @@
+-- How a run by turns may end.
+use Rattle.std.specs.Prelude.{◌≡◌, List, []}
+use Rattle.journal.specs.declared.event.Event.{Event}
+use Rattle.journal.specs.Counted.{AreCounted}
+use Rattle.journal.specs.Loads.{Explained}
+use Rattle.journal.specs.Log.{HoldsRest, Log}
+use Rattle.journal.specs.WellFormed.{WellFormed}
+use Rattle.lrc_script.specs.Lawful.{addresses}
+use Rattle.lrc_script.specs.Plan.{Plan}
+use Rattle.follows.specs.Begins.{BeginsScript}
+use Rattle.follows.specs.Follows.{sizes_of}
+use Rattle.runs.specs.declared.ended.Ended.{Ended}
+use Rattle.runs.specs.declared.ended.Ended.TheVariants.{Halted, Whole}
+use Rattle.runs.specs.Cuts.{HasNoCut}
+use Rattle.runs.specs.Reports.{IsReportOf}
+
+-- the journal has the script's sizes and holds what is left, after some of it was cut off, of a history that is well
+-- formed and explained, fetches what is missing and begins the script; and nothing is cut off where that has no cut
+pub record IsJournalSoFar (s : Plan) (j : Log) : Type 0 where
+  pub processors : j.processors ≡ s.processors
+  pub addresses_are : j.addresses ≡ addresses s
+  pub history : List Event
+  pub taken : List Event
+  pub holds : HoldsRest j taken history
+  pub uncut : HasNoCut s → taken ≡ []
+  pub well_formed : WellFormed (sizes_of s) history
+  pub explained : Explained history
+  pub counted : AreCounted (sizes_of s) history
+  pub begins : BeginsScript s history
+
+-- a report of the script, or such a journal
+abbrev pub IsEndOf : Plan → Ended → Type 0
+IsEndOf s (Whole report) = IsReportOf s report
+IsEndOf s (Halted halt) = IsJournalSoFar s halt.journal
