@@ -1,9 +1,8 @@
 -- A record that is put among those that a copy lacks.
-use Rattle.std.proofs.Common.{ℕ, zero, suc, ◌≡◌, ◌≢◌, ◌<◌, ◌≤◌, ◌+◌, ◌-◌, ◌⊎◌, ◌↔◌, Some, List, [], ◌∷◌, ◌++◌, length, map, take, drop, slice_get, inl, inr, refl, sym, ap, subst, ◌∙◌, arith}
+use Rattle.std.proofs.Common.{ℕ, zero, suc, ◌≡◌, ◌≢◌, ◌<◌, ◌+◌, ◌⊎◌, ◌↔◌, Some, List, [], ◌∷◌, ◌++◌, length, map, take, drop, slice_get, inl, inr, refl, sym, ap, subst, ◌∙◌, arith}
 use Rattle.std.specs.Option.{option_map}
-use Rattle.std.proofs.lemmas.Bool.{cases_eq}
 use Rattle.std.proofs.lemmas.List.{length-take, take-append-drop}
-use Rattle.std.proofs.lemmas.Option.{same_Some, slice_get-map}
+use Rattle.std.proofs.lemmas.Option.{slice_get-map}
 use Rattle.journal.specs.Missing.{Missing, InClosingOrder}
 use Rattle.lists.specs.Places.{Has, InOrder}
 use Rattle.lists.proofs.Joined.{has-nil, has-cons, has-append, in_order-append, in_order-cons, in_order-map, in_order_single, in_order_tail}
@@ -12,7 +11,8 @@ use Rattle.interval.specs.Intervals.{SentRecord}
 use Rattle.book.specs.News.{missing_of}
 use Rattle.page.specs.Contents.{Contents}
 use Rattle.page.specs.declared.page.Access.TheVariants.{Invalid}
-use Rattle.replicas.specs.Copies.{Copied, IsPlaceAmong}
+use Rattle.replicas.specs.Backlogs.{IsPlaceAmong}
+use Rattle.replicas.specs.Copies.{Copied}
 use Rattle.replicas.specs.Steps.{IsAfterNews, MayLack}
 
 -- one interval was closed before the other
@@ -29,32 +29,6 @@ in_order xs order x y a b lt at bt = order x y (missing_of a) (missing_of b) lt 
 -- and back
 pub closing_order : (xs : List SentRecord) → InOrder IsBefore xs → InClosingOrder (map missing_of xs)
 closing_order xs = in_order-map (λ (a b : Missing). a.place < b.place) missing_of xs
-
--- where the last of the first k was closed no later, none of them was
-pub place_found : (xs : List SentRecord) (place k : ℕ) (x : SentRecord) → InClosingOrder (map missing_of xs)
-    → k ≤ length xs
-    → 0 < k
-    → slice_get xs (k - 1) ≡ Some x
-    → x.place ≤ place
-    → ((i : ℕ) (y : SentRecord) → k ≤ i → slice_get xs i ≡ Some y → place < y.place)
-    → IsPlaceAmong xs place k
-place_found xs place k x order within some last early behind = record {
-  within = within;
-  before = before;
-  behind = behind;
-}
-  where
-    before : (i : ℕ) (y : SentRecord) → i < k → slice_get xs i ≡ Some y → y.place ≤ place
-    before i y lt at = elim (cases_eq i (k - 1)) [
-      | inl same ↦
-          (let P : ℕ → Type 0 = λ n. slice_get xs n ≡ Some y in
-          let is : Some y ≡ Some x = sym (subst P same at) ∙ last in
-          let e : y.place ≡ x.place = ap (λ (r : SentRecord). r.place) (same_Some y x is) in
-          omega arith)
-      | inr other ↦
-          (let sooner = in_order xs order i (k - 1) y x (omega arith) at last in
-          omega arith)
-    ]
 
 module _ (xs : List SentRecord) (x : SentRecord) (k : ℕ) (is : IsPlaceAmong xs x.place k) where
   -- the list with the record at its place

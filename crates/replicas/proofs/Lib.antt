@@ -3,6 +3,7 @@ pub mod FirstMark
 pub mod Owners
 pub mod Replicas
 pub mod Taken
+pub mod Backlogs
 pub mod Learned
 pub mod LearnedAll
 pub mod Locks

@@ -2,7 +2,7 @@
 use Rattle.std.proofs.Common.{ℕ, suc, ◌≡◌, ◌<◌, ◌+◌, List, [], ◌∷◌, ◌++◌, Some, length, get_or, slice_get, take, drop, sym, ap, ◌∙◌, add-one}
 use Rattle.std.proofs.Math.Seq.{drop-cons}
 use Rattle.std.proofs.lemmas.List.{take_more}
-use Rattle.std.proofs.lemmas.Option.{slice_get-get_or}
+use Rattle.std.proofs.lemmas.Option.{same_Some, slice_get-get_or}
 
 module _ {A : Type 0} (xs : List A) (k : ℕ) (x : A) (within : k < length xs) (is : x ≡ get_or xs k x) where
   pub item_at : slice_get xs k ≡ Some x
@@ -15,3 +15,13 @@ module _ {A : Type 0} (xs : List A) (k : ℕ) (x : A) (within : k < length xs) (
   item_dropped =
       drop-cons xs k x within ∙ ap (λ (y : A). y ∷ drop (suc k) xs) (sym is)
       ∙ ap (λ (n : ℕ). x ∷ drop n xs) (sym (add-one k))
+
+module _ {A : Type 0} (xs : List A) (k : ℕ) (x : A) (within : k < length xs) (at : slice_get xs k ≡ Some x) where
+  same : x ≡ get_or xs k x
+  same = same_Some x (get_or xs k x) (sym at ∙ slice_get-get_or xs k x within)
+
+  pub found_taken : take (k + 1) xs ≡ take k xs ++ x ∷ []
+  found_taken = item_taken xs k x within same
+
+  pub found_dropped : drop k xs ≡ x ∷ drop (k + 1) xs
+  found_dropped = item_dropped xs k x within same

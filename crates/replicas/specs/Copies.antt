@@ -1,5 +1,5 @@
 -- A processor's copy of a page, by what the processor has seen.
-use Rattle.std.specs.Prelude.{ℕ, ◌≡◌, ◌≢◌, ◌+◌, ◌<◌, ◌≤◌, Bool, true, false, Option, Some, None, List, [], ◌++◌, map, length, replicate, slice_get, slice_set}
+use Rattle.std.specs.Prelude.{ℕ, ◌≡◌, ◌≢◌, ◌+◌, ◌<◌, ◌≤◌, Bool, true, false, Option, Some, None, List, [], ◌++◌, map, length, replicate, slice_set}
 use Rattle.journal.specs.declared.event.Event.{Event}
 use Rattle.journal.specs.Sizes.{Sizes}
 use Rattle.journal.specs.Missing.{InClosingOrder}
@@ -63,12 +63,6 @@ fetched c = record {
   missing = [];
   room = c.room + length c.missing;
 }
-
--- the first k of the records were closed no later than `place`, and the others later
-pub record IsPlaceAmong (missing : List SentRecord) (place k : ℕ) : Type 0 where
-  pub within : k ≤ length missing
-  pub before : (i : ℕ) (x : SentRecord) → i < k → slice_get missing i ≡ Some x → x.place ≤ place
-  pub behind : (i : ℕ) (x : SentRecord) → k ≤ i → slice_get missing i ≡ Some x → place < x.place
 
 -- q owns one of the records
 abbrev pub IsOwner : List SentRecord → ℕ → Type 0

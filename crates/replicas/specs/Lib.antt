@@ -1,3 +1,4 @@
+pub mod Backlogs
 pub mod Copies
 pub mod Counts
 pub mod Local

@@ -8,6 +8,7 @@
 //! - The laws of what calls do to a processor (`Local`, specs/Local) stand in proofs/: crate `cluster` cites them.
 #![tactic(auto)]
 
+mod backlog;
 mod harvesting;
 mod learning;
 mod marks;

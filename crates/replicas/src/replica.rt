@@ -8,10 +8,11 @@ ghost use Rattle.page.specs.Prelude.{IsHarvest, IsClean};
 ghost use Rattle.page.specs.declared.page.Access.TheVariants.{Valid, Invalid};
 ghost use Rattle.interval.specs.Prelude.{SentRecord};
 ghost use Rattle.book.specs.Prelude.{missing_of};
-ghost use Rattle.replicas.specs.Prelude.{AllFit, IsOwner, IsPlaceAmong, may_use, words_if, words_of, AreCountable};
+ghost use Rattle.replicas.specs.Prelude.{AllFit, IsOwner, may_use, words_if, words_of, AreCountable};
 ghost use Rattle.replicas.specs.Prelude.{fetched, written_at, zeros, IsAfterNews, IsSameCopy, MayLack, cleaned};
 ghost use Rattle.replicas.specs.Prelude.{AreCounts};
 
+use crate::backlog::Backlog;
 use crate::marks::Marks;
 use interval::Sent;
 use page::{Access, Page, Record};
@@ -34,19 +35,18 @@ pub struct Counts {
 #[derive(Debug, Drop)]
 pub struct Replica {
     page: Page,
-    missing: Vec<Sent>,
+    missing: Backlog,
 }
 
 impl Model for Replica {
-    ghost use Rattle.std.specs.Prelude.{◌-◌, length, vec_capacity};
     ghost use Rattle.replicas.specs.Copies.{Copied};
 
     ghost Value = { Copied };
 
     ghost view = { λ r. record {
       page = r.page;
-      missing = r.missing.items;
-      room = vec_capacity r.missing - length r.missing.items;
+      missing = r.missing.records;
+      room = r.missing.room;
     } };
 }
 
@@ -59,7 +59,7 @@ impl Replica {
     {
         Ok(Replica {
             page: Page::zero(alloc, words)?,
-            missing: Vec::new(alloc),
+            missing: Backlog::new(alloc),
         })
     }
 
@@ -105,7 +105,7 @@ impl Replica {
         requires fit { AllFit (length self.now.page.words) self.now.missing }
         ensures { AreCounts self.now.missing result }
     {
-        let missing = self.missing.as_slice();
+        let missing = &self.missing;
         Counts {
             writers: writers_of(missing),
             records: missing.len() as u32,
@@ -144,10 +144,7 @@ impl Replica {
         ensures news { IsAfterNews self.old (sent ∷ []) self.new }
         ensures room { self.new.room + 1 ≡ self.old.room }
     {
-        let at = place_among(&self.missing, sent.place);
-        let Ok(()) = self.missing.insert(at, sent) else {
-            unreachable!("there is room");
-        };
+        self.missing.put(sent);
         self.page.set_invalid();
     }
 
@@ -158,51 +155,36 @@ impl Replica {
         requires fit { AllFit (length self.old.page.words) self.old.missing }
         ensures { self.new ≡ fetched self.old }
     {
-        apply_all(&mut self.page, self.missing.as_slice());
+        apply_all(&mut self.page, &self.missing);
         self.page.set_valid();
         self.missing.clear();
     }
 }
 
 /// Applies the records in their order.
-fn apply_all(page: &mut Page, missing: &[Sent])
+fn apply_all(page: &mut Page, missing: &Backlog)
     requires invalid { page.old.access ≡ Invalid }
-    requires fit { AllFit (length page.old.words) missing.now }
+    requires fit { AllFit (length page.old.words) missing.now.records }
     ensures { page.new ≡ record page.old
-        { words = records_applied page.old.words (map words_of missing.now) } }
+        { words = records_applied page.old.words (map words_of missing.now.records) } }
 {
-    for sent in missing {
+    for index in 0..missing.len() {
+        let sent = missing.at(index);
         let content: &Record = &sent.content;
         page.apply(content);
     }
 }
 
-/// How many of these records were closed no later than `place`, where they are in closing order. What comes is
-/// mostly closed last, so it looks from the back.
-fn place_among(missing: &[Sent], place: u64) -> usize
-    requires { InClosingOrder (map missing_of missing.now) }
-    ensures { IsPlaceAmong missing.now place result }
-{
-    let mut at = missing.len();
-    while at > 0 {
-        let last = &missing[at - 1];
-        if last.place <= place {
-            break;
-        }
-        at -= 1;
-    }
-    at
-}
-
 /// How many owners the records have.
-fn writers_of(missing: &[Sent]) -> u32
-    requires few { length missing.now < 2 ^ 32 }
-    requires fit { (x : SentRecord) → Has missing.now x → x.notice.owner < 64 }
-    ensures { HasCount (IsOwner missing.now) result }
+fn writers_of(missing: &Backlog) -> u32
+    requires few { length missing.now.records < 2 ^ 32 }
+    requires fit { (x : SentRecord) → Has missing.now.records x → x.notice.owner < 64 }
+    ensures { HasCount (IsOwner missing.now.records) result }
 {
     let mut owners = Marks::none();
     let mut count = 0;
-    for sent in missing {
+    for index in 0..missing.len() {
+        let sent = missing.at(index);
         let owner = sent.notice.owner;
         if !owners.has(owner) {
             owners.add(owner);
@@ -213,12 +195,13 @@ fn writers_of(missing: &[Sent]) -> u32
 }
 
 /// How many words the records have.
-fn words_in(missing: &[Sent]) -> u32
-    requires { sum_by (λ x. length (words_of x)) missing.now < 2 ^ 32 }
-    ensures { result ≡ sum_by (λ x. length (words_of x)) missing.now }
+fn words_in(missing: &Backlog) -> u32
+    requires { sum_by (λ x. length (words_of x)) missing.now.records < 2 ^ 32 }
+    ensures { result ≡ sum_by (λ x. length (words_of x)) missing.now.records }
 {
     let mut count = 0;
-    for sent in missing {
+    for index in 0..missing.len() {
+        let sent = missing.at(index);
         let content: &Record = &sent.content;
         count += content.words().len() as u32;
     }

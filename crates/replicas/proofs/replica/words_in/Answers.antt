@@ -3,7 +3,7 @@ use Rattle.std.proofs.lemmas.List.Sums.{sum_by_push, sum_by-take-le}
 use Rattle.page.specs.Changes.{Changes}
 use Rattle.interval.specs.Intervals.{SentRecord}
 use Rattle.replicas.specs.Copies.{words_of}
-use Rattle.replicas.proofs.Steps.{item_taken}
+use Rattle.replicas.proofs.Steps.{found_taken}
 use Rattle.replicas.proofs.replica.words_in.Goals as goal
 
 -- the words so far and those of the next record are within all
@@ -18,9 +18,9 @@ within xs k x more =
 
 pub overflow_cast-count : goal.overflow_cast-count
 overflow_cast-count c =
-    let x = c.sent-item.result in
-    let k = c.loop-sent.sent-index in
-    let low = within c.args.missing.now k x (item_taken c.args.missing.now k x (omega arith) c.sent-item.is) in
+    let x = c.at-sent.result.now in
+    let k = c.loop-index.index in
+    let low = within c.args.missing.now.records k x (found_taken c.args.missing.now.records k x (omega arith) c.at-sent.ensures) in
     let few = c.requires in
     let same : c.words.result.now ≡ words_of x =
     c.words.ensures.words ∙ ap (λ (r : Changes). r.words) c.deref-content.ensures
@@ -29,26 +29,26 @@ overflow_cast-count c =
 
 pub overflow_add-count : goal.overflow_add-count
 overflow_add-count c =
-    let x = c.sent-item.result in
-    let k = c.loop-sent.sent-index in
-    let low = within c.args.missing.now k x (item_taken c.args.missing.now k x (omega arith) c.sent-item.is) in
+    let x = c.at-sent.result.now in
+    let k = c.loop-index.index in
+    let low = within c.args.missing.now.records k x (found_taken c.args.missing.now.records k x (omega arith) c.at-sent.ensures) in
     let few = c.requires in
-    let sums = c.loop-sent.invariant.sums in
+    let sums = c.loop-index.invariant.sums in
     let same : c.words.result.now ≡ words_of x =
     c.words.ensures.words ∙ ap (λ (r : Changes). r.words) c.deref-content.ensures
     ∙ ap (λ (y : SentRecord). words_of y) c.sent.view_is in
     rw same (omega arith)
 
-pub loop-sent-preserved : goal.loop-sent-preserved
-loop-sent-preserved c =
-    let x = c.sent-item.result in
-    let k = c.loop-sent.sent-index in
+pub loop-index-preserved : goal.loop-index-preserved
+loop-index-preserved c =
+    let x = c.at-sent.result.now in
+    let k = c.loop-index.index in
     let same : c.words.result.now ≡ words_of x =
     c.words.ensures.words ∙ ap (λ (r : Changes). r.words) c.deref-content.ensures
     ∙ ap (λ (y : SentRecord). words_of y) c.sent.view_is in
     let f : SentRecord → ℕ = λ y. length (words_of y) in
-    let more = item_taken c.args.missing.now k x (omega arith) c.sent-item.is in
+    let more = found_taken c.args.missing.now.records k x (omega arith) c.at-sent.ensures in
     record {
       sums = rw (same, more)
-          (ap (λ n. n + f x) c.loop-sent.invariant.sums ∙ sym (sum_by_push f (take k c.args.missing.now) x));
+          (ap (λ n. n + f x) c.loop-index.invariant.sums ∙ sym (sum_by_push f (take k c.args.missing.now.records) x));
     }

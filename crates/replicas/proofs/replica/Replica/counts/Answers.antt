@@ -5,18 +5,18 @@ use Rattle.replicas.proofs.replica.Replica.counts.Goals as goal
 
 pub writers_of-requires-clause-fit : goal.writers_of-requires-clause-fit
 writers_of-requires-clause-fit c =
-    let fit : AllFit (length c.self.inside.page.words) c.self.inside.missing.items =
+    let fit : AllFit (length c.self.inside.page.words) c.self.inside.missing.records =
     subst (λ (r : Copied). AllFit (length r.page.words) r.missing) (sym c.self.view_is) c.requires.fit in
-    rw (c.as_slice-missing.ensures.value) (λ x h. (fit x h).owner)
+    (λ x h. (fit x h).owner)
 
 pub words_in-requires : goal.words_in-requires
 words_in-requires c =
-    let few : AreCountable c.self.inside.missing.items =
+    let few : AreCountable c.self.inside.missing.records =
     subst (λ (r : Copied). AreCountable r.missing) (sym c.self.view_is) c.requires.few in
-    rw (c.as_slice-missing.ensures.value) few.words
+    few.words
 
 pub writers_of-requires-clause-few : goal.writers_of-requires-clause-few
 writers_of-requires-clause-few c =
-    let few : AreCountable c.self.inside.missing.items =
+    let few : AreCountable c.self.inside.missing.records =
     subst (λ (r : Copied). AreCountable r.missing) (sym c.self.view_is) c.requires.few in
-    rw (c.as_slice-missing.ensures.value) few.records
+    few.records

@@ -4,5 +4,4 @@ use Rattle.replicas.proofs.replica.Replica.fetch.Goals as goal
 
 pub apply_all-requires-clause-fit : goal.apply_all-requires-clause-fit
 apply_all-requires-clause-fit c =
-    rw (c.as_slice.ensures.value)
     (subst (λ (r : Copied). AllFit (length r.page.words) r.missing) (sym c.self.view_is) c.requires.fit)
