@@ -250,6 +250,15 @@ impl Book {
         self.protocol.is_full()
     }
 
+    /// Whether `p` is ready: what it waits for has come, so that a take isn't answered NotYet. It takes no memory, and
+    /// costs the same however much has come.
+    pub fn is_ready(&self, p: usize) -> bool
+        requires call { MayTakeSome self.now p }
+        ensures { (s : Sizes) (h : List AnEvent) → IsTold s h self.now → IsTrue result ↔ Ready s h p }
+    {
+        self.protocol.is_ready(p)
+    }
+
     /// The number of the first kept interval of processor `q`.
     pub fn first(&self, q: usize) -> u64
         requires { q < length self.now.closed.first }

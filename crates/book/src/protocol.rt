@@ -429,6 +429,17 @@ impl Protocol {
         self.journal.len() >= LIMIT
     }
 
+    /// What `Book::is_ready` says.
+    pub(crate) fn is_ready(&self, p: usize) -> bool
+        requires call { MayTakeSome self.now p }
+        ensures { (s : Sizes) (h : List AnEvent) → IsTold s h self.now → IsTrue result ↔ Ready s h p }
+    {
+        let Some(awaited) = self.awaits[p] else {
+            unreachable!("the processor waits")
+        };
+        has_come(&self.flags, &self.transit, p, awaited)
+    }
+
     /// What `Book::first` says.
     pub(crate) fn first(&self, q: usize) -> u64
         requires { q < length self.now.closed.first }

@@ -1,23 +1,23 @@
 -- What a take would bring, before it is taken.
-use Rattle.std.proofs.Common.{ℕ, ◌≡◌, Option, Some, None, Result, Ok, Err, IfOk, OnOk, EachIndex, List, [], count_by, length, slice_get, slice_index, slice_index_or, refl, sym, arith}
-use Rattle.std.proofs.lemmas.Option.{slice_get_within, slice_get-get_or}
+use Rattle.std.proofs.Common.{ℕ, ◌≡◌, Some, Result, Ok, Err, IfErr, IfOk, OnOk, ◌≢◌, ◌⊎◌, ◌↔◌, inl, inr, EachIndex, List, count_by, length, slice_index, ap, arith}
+use Rattle.std.proofs.lemmas.Option.{slice_get_within}
 use Rattle.journal.specs.declared.event.Event.{Event}
-use Rattle.journal.specs.declared.event.Kind.{Kind}
 use Rattle.journal.specs.Sizes.{Sizes}
 use Rattle.journal.specs.WellFormed.{Ready}
 use Rattle.interval.specs.Closings.{is_of_page}
 use Rattle.interval.specs.Intervals.{SentRecord}
-use Rattle.transit.specs.Letters.{Letter, letter}
+use Rattle.transit.specs.Letters.{letter}
 use Rattle.transit.specs.declared.message.Message.{Message}
-use Rattle.book.specs.Brought.{brought, message_for}
+use Rattle.book.specs.Brought.{brought}
 use Rattle.book.specs.Calls.{MayLook, MayTakeSome}
 use Rattle.book.proofs.Parts.Told.{is_processor}
 use Rattle.book.specs.State.{State}
 use Rattle.book.specs.Told.{IsTold}
-use Rattle.book.proofs.Keeps.Whole.{message_law}
+use Rattle.book.specs.Refusals.{IsWantOfRoom}
+use Rattle.book.specs.declared.refused.Refused.{Refused}
+use Rattle.book.specs.declared.refused.Refused.TheVariants.{NotYet}
 use Rattle.replicas.specs.Copies.{Copied}
 use Rattle.replicas.specs.Steps.{HaveRoom}
-use Rattle.replicas.proofs.Calls.{awaited_takes}
 use Rattle.cluster.specs.Taking.{HasRoomFor}
 
 -- room by counts of these records is room for them
@@ -43,27 +43,27 @@ pub room_brought : {E : Type 0} (r : Result Message E) (b : State) (p : ℕ) (co
 room_brought (Ok m) b p copies same room = rw same room
 room_brought (Err e) b p copies same room = tt
 
--- what has come for p lets it take
-comes : (s : Sizes) (h : List Event) (b : State) (p : ℕ) (k : Kind) (m : Letter) → IsTold s h b
-    → slice_get b.awaits p ≡ Some (Some k) → message_for b p k ≡ Some m → Ready s h p
-comes s h b p k m told at come =
-    let last = (told.awaits.each p (Some k) at).some k refl in
-    let takes = awaited_takes last.1 k (sym ((told.awaits.each p (Some k) at).last last.0 last.1 last.2)) in
-    (k, takes, (message_law s h b p k m told at come).allowed)
+-- one who is ready isn't told that it is early
+pub never_absent : {A : Type 0} (r : Result A Refused) (b : State) (p : ℕ) → MayTakeSome b p
+    → ((s : Sizes) (h : List Event) → IsTold s h b → Ready s h p)
+    → ((s : Sizes) (h : List Event) → IsTold s h b → r ≡ Err NotYet ↔ (¬ Ready s h p)) → r ≢ Err NotYet
+never_absent r b p may ready absent is =
+    let by = may.take.by in
+    (absent by.sizes by.history by.told).0 is (ready by.sizes by.history by.told)
 
--- so nothing is brought to one who isn't ready
-pub nothing_brought : (s : Sizes) (h : List Event) (b : State) (p : ℕ) → IsTold s h b → MayTakeSome b p
-    → ¬ Ready s h p → brought b p ≡ []
-nothing_brought s h b p told may late = go (message_for b p may.kind) refl
-  where
-    kind : slice_index_or b.awaits p None ≡ Some may.kind
-    kind =
-        let here = slice_get-get_or b.awaits p None (slice_get_within b.awaits p (Some may.kind) may.take.waits) in
-        cc (here, may.take.waits)
+-- so the book's answer is one of the others
+pub in_time : {A : Type 0} (r : Result A Refused) → r ≢ Err NotYet → IfErr r (λ e. (e ≡ NotYet) ⊎ IsWantOfRoom e)
+    → IfErr r IsWantOfRoom
+in_time (Ok a) never only = tt
+in_time (Err e) never only =
+    elim only [ inl late ↦ absurd (never (ap (λ (x : Refused). Err x) late)) | inr want ↦ want ]
 
-    go : (o : Option Letter) → message_for b p may.kind ≡ o → brought b p ≡ []
-    go None none = rw (kind, none) refl
-    go (Some m) come = absurd (late (comes s h b p may.kind m told may.take.waits come))
+-- and these are no NotYet
+pub never_late : {A : Type 0} (r : Result A Refused) → IfErr r IsWantOfRoom → r ≢ Err NotYet
+never_late (Ok a) only is = absurd cc
+never_late (Err e) only is =
+    let same : e ≡ NotYet = cc is in
+    elim only [ inl full ↦ absurd (cc (full, same)) | inr none ↦ absurd (cc (none, same)) ]
 
 -- who waits for something is a processor
 pub may_look : (b : State) (p : ℕ) → MayTakeSome b p → MayLook b p

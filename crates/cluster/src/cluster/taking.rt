@@ -1,13 +1,13 @@
 //! Calls that take what a processor waits for.
-ghost use Rattle.std.specs.Prelude.{◌≡◌, ◌≢◌, ◌↔◌, ◌⊎◌, ◌<◌, ◌≤◌, ◌+◌, Err, IfErr, EachIndex, IfOk, IsOk, OnOk};
-ghost use Rattle.std.specs.Prelude.{OnErr, List, [], length, slice_index, vec_len, true};
+ghost use Rattle.std.specs.Prelude.{◌≡◌, ◌≢◌, ◌↔◌, ◌⊎◌, ◌<◌, ◌≤◌, ◌+◌, Err, IfErr, IfOk, OnOk};
+ghost use Rattle.std.specs.Prelude.{OnErr, List, length, vec_len, true};
 ghost use Rattle.std.specs.Result.{result_err};
 ghost use Rattle.lists.specs.Prelude.{most_events};
 ghost use Rattle.journal.specs.Prelude.{is_taking, Sizes, Ready};
 ghost use Rattle.journal.specs.declared.event.Event.{Event};
 ghost use Rattle.vtime.specs.Times.{join};
 ghost use Rattle.transit.specs.Prelude.{letter};
-ghost use Rattle.book.specs.Prelude.{brought, MayLook, MayTakeSome, Takes, IsTold};
+ghost use Rattle.book.specs.Prelude.{brought, MayLook, MayTakeSome, Takes, IsFullAt, IsWantOfRoom, IsTold};
 ghost use Rattle.replicas.specs.Prelude.{AreAfterNews, AreSameCopies, HaveRoom, MayLearn, held_after};
 ghost use Rattle.cluster.specs.Prelude.{IsTakingCall, MayHoldOne, HasRoomFor};
 
@@ -52,8 +52,8 @@ impl<T: Turn<Book, Rule>> Cluster<T> {
     }
 }
 
-/// Makes room in the copies' lists for what is to come, and takes it from the book. Where the journal is full the
-/// book refuses, so no growth is tried.
+/// Takes what `p` waits for from the book, and makes room for it in the copies' lists. Whoever waits looks again and
+/// again, so it asks first whether that has come.
 fn receive(book: &mut Book, p: usize, replicas: &mut Vec<Replica>) -> Result<Message, Refused>
     requires call { MayTakeSome book.old p }
     requires few { vec_len replicas.old ≤ 64 }
@@ -68,8 +68,26 @@ fn receive(book: &mut Book, p: usize, replicas: &mut Vec<Replica>) -> Result<Mes
     ensures only { IfErr result (λ e.
         (e ≡ Refused.NotYet) ⊎ (e ≡ Refused.JournalFull) ⊎ (e ≡ Refused.NoMemory)) }
 {
+    if !book.is_ready(p) {
+        return Err(Refused::NotYet);
+    }
+    receive_ready(book, p, replicas)
+}
+
+/// The same where that has come. Where the journal is full nothing is taken, so no growth is tried.
+fn receive_ready(book: &mut Book, p: usize, replicas: &mut Vec<Replica>) -> Result<Message, Refused>
+    requires call { MayTakeSome book.old p }
+    requires ready { (s : Sizes) (h : List Event) → IsTold s h book.old → Ready s h p }
+    requires few { vec_len replicas.old ≤ 64 }
+    ensures same { AreSameCopies replicas.old.items replicas.new.items }
+    ensures room { IfOk result (λ m. HasRoomFor (letter m).notices replicas.new.items) }
+    ensures ok { IfOk result (λ m. Takes book.old p (letter m) book.new) }
+    ensures err { OnErr result (book.new ≡ book.old) }
+    ensures full { IsFullAt (length book.old.journal.events + 1) result }
+    ensures only { IfErr result IsWantOfRoom }
+{
     if book.is_full() {
-        return book.take(p);
+        return Err(Refused::JournalFull);
     }
     prepare(book, p, replicas)?;
     book.take(p)
@@ -81,7 +99,6 @@ fn prepare(book: &Book, p: usize, replicas: &mut Vec<Replica>) -> Result<(), All
     requires few { vec_len replicas.old ≤ 64 }
     ensures same { AreSameCopies replicas.old.items replicas.new.items }
     ensures room { OnOk result (HasRoomFor (brought book.now p) replicas.new.items) }
-    ensures none { brought book.now p ≡ [] → IsOk result }
 {
     let mut counts = [0; MOST_PAGES];
     let counts = &mut counts[..replicas.len()];
@@ -95,7 +112,6 @@ fn make_room(replicas: &mut Vec<Replica>, counts: &[usize]) -> Result<(), AllocE
     ensures same { AreSameCopies replicas.old.items replicas.new.items }
     ensures long { length counts.now ≡ length replicas.new.items }
     ensures ok { OnOk result (HaveRoom counts.now replicas.new.items) }
-    ensures zeros { EachIndex counts.now (λ n. slice_index counts.now n ≡ 0) → IsOk result }
 {
     replicas::make_room(replicas.as_mut_slice(), counts)
 }

@@ -1,20 +1,18 @@
-use Rattle.std.proofs.Common.{◌≡◌}
-use Rattle.book.specs.declared.refused.Refused.TheVariants.{NotYet, NoMemory}
-use Rattle.cluster.proofs.Preparing.{may_look, nothing_brought, room_brought}
+use Rattle.std.proofs.Common.{true≢false, refl, sym, ◌∙◌}
+use Rattle.cluster.proofs.Preparing.{never_late}
 use Rattle.cluster.proofs.cluster.taking.receive.Goals as goal
 
-pub returns-in_err-prepare-clause-absent : goal.returns-in_err-prepare-clause-absent
-returns-in_err-prepare-clause-absent c =
-    λ s h told. (
-      λ e ready. (let x : NotYet ≡ NoMemory = rw e at c.from_residual.ensures.1 in absurd (cc x)),
-      λ late. absurd (cc (c.in_err-prepare.ensures.none
-          (nothing_brought s h c.args.book.now c.args.p told c.requires.call late))),
+pub returns-then-not-is_ready-clause-absent : goal.returns-then-not-is_ready-clause-absent
+returns-then-not-is_ready-clause-absent c s h told =
+    let is = c.is_ready.ensures s h told in
+    ((λ e ready. absurd (true≢false (sym (is.1 ready) ∙ c.if-not-is_ready.true))), (λ late. refl))
+
+pub receive_ready-requires-clause-ready : goal.receive_ready-requires-clause-ready
+receive_ready-requires-clause-ready c s h told = (c.is_ready.ensures s h told).0 c.if-not-is_ready.false
+
+pub returns-clause-absent : goal.returns-clause-absent
+returns-clause-absent c s h told =
+    let ready = (c.is_ready.ensures s h told).0 c.if-not-is_ready.false in (
+      λ is. absurd (never_late c.receive_ready.result c.receive_ready.ensures.only is),
+      λ late. absurd (late ready),
     )
-
-pub returns-clause-room : goal.returns-clause-room
-returns-clause-room c =
-    room_brought c.take-2.result c.args.book.now c.args.p c.prepare.new.replicas.items c.take-2.ensures.brings
-    c.in_ok-prepare.ensures.room
-
-pub prepare-requires-clause-call : goal.prepare-requires-clause-call
-prepare-requires-clause-call c = may_look c.args.book.now c.args.p c.requires.call

@@ -1,0 +1,41 @@
+use Rattle.std.proofs.Common.{◌<◌, length, refl, ap, sym, subst, arith}
+use Rattle.std.proofs.lemmas.List.{length-map}
+use Rattle.std.specs.Option.{option_map}
+use Rattle.book.specs.Awaiting.{kind_of}
+use Rattle.book.specs.Holding.{state_of}
+use Rattle.book.specs.State.{State}
+use Rattle.book.proofs.Calling.Takes.{IsReceiving, reading, comes, receiving, not_idle}
+use Rattle.book.proofs.protocol.Protocol.is_ready.Goals.{In-Some}
+use Rattle.book.proofs.protocol.Protocol.is_ready.Goals as goal
+
+pub index-requires : goal.index-requires
+index-requires c =
+    let r = receiving c.args.self.now c.args.p c.requires.call.kind c.requires.call.take in
+    let e = ap (λ (b : State). length b.awaits) c.self.view_is in
+    omega (arith, r.awaits, e, length-map c.self.inside.awaits.items (option_map kind_of), c.self.inside.awaits.ok.0)
+
+pub unreachable-requires : goal.unreachable-requires
+unreachable-requires c =
+    not_idle (state_of c.self.inside) c.args.self.now c.self.inside.awaits.items c.args.p c.index.result.now refl
+    c.self.view_is c.requires.call c.index.ensures c.in_default.is
+
+-- what p waits for
+waits : (c : In-Some) → IsReceiving (state_of c.self.inside) c.args.p (kind_of c.in-Some.awaited)
+waits c =
+    reading (state_of c.self.inside)
+    c.args.self.now c.self.inside.awaits.items c.args.p c.index.result.now refl c.self.view_is c.requires.call
+    c.index.ensures c.in-Some.awaited c.in-Some.is
+
+pub has_come-requires-clause-processor : goal.has_come-requires-clause-processor
+has_come-requires-clause-processor c = (waits (goal.at.has_come-requires-clause-processor c).In-Some).transit
+
+pub has_come-requires-clause-flag : goal.has_come-requires-clause-flag
+has_come-requires-clause-flag c f is =
+    subst (λ fs. f < length fs) (sym c.deref.ensures.value)
+    ((waits (goal.at.has_come-requires-clause-flag c).In-Some).flag f (ap kind_of is)).within
+
+pub returns : goal.returns
+returns c s h told =
+    comes _ c.args.self.now c.args.p (kind_of c.in-Some.awaited)
+    c.deref.result.now c.has_come.result c.self.view_is (waits (goal.at.returns c).In-Some) c.deref.ensures.value
+    c.has_come.ensures s h told

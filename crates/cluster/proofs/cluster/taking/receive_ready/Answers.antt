@@ -1,0 +1,15 @@
+use Rattle.cluster.proofs.Preparing.{in_time, may_look, never_absent, room_brought}
+use Rattle.cluster.proofs.cluster.taking.receive_ready.Goals as goal
+
+pub prepare-requires-clause-call : goal.prepare-requires-clause-call
+prepare-requires-clause-call c = may_look c.args.book.now c.args.p c.requires.call
+
+pub returns-clause-room : goal.returns-clause-room
+returns-clause-room c =
+    room_brought c.take.result c.args.book.now c.args.p c.prepare.new.replicas.items c.take.ensures.brings
+    c.in_ok-prepare.ensures.room
+
+pub returns-clause-only : goal.returns-clause-only
+returns-clause-only c =
+    let never = never_absent c.take.result c.args.book.now c.args.p c.requires.call c.requires.ready c.take.ensures.absent in
+    in_time c.take.result never c.take.ensures.only
