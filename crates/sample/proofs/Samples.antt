@@ -1,0 +1,60 @@
+-- What a script's runs came to, one run after another.
+use Rattle.std.proofs.Common.{◌+◌, ◌^◌, ◌<◌, ◌≤◌, ℕ, inl, inr, List, [], ◌∷◌, ◌++◌, subst, refl, arith}
+use Rattle.std.specs.List.{sum_by}
+use Rattle.std.proofs.lemmas.List.{length-append}
+use Rattle.std.proofs.lemmas.Option.{none-some}
+use Rattle.lists.specs.Places.{Has}
+use Rattle.lists.proofs.Places.{push_cases}
+use Rattle.lrc_script.specs.Plan.{Plan}
+use Rattle.sample.specs.declared.outcome.Outcome.{Outcome}
+use Rattle.sample.specs.declared.tally.Line.{Line}
+use Rattle.sample.specs.declared.sampling.Sampled.{Sampled}
+use Rattle.sample.specs.Order.{AreFrequentFirst, AreSeenInOrder, IsNoted}
+use Rattle.sample.specs.Outcomes.{IsOutcomeOf}
+use Rattle.sample.specs.Samples.{IsMade, IsSampleOf}
+use Rattle.sample.specs.Tally.{IsTally, times_of}
+
+-- before the first run
+pub made_none : (s : Plan) → IsMade s 0 []
+made_none s = record {
+  outcomes = [];
+  are = record { many = refl; each = λ o has. absurd (none-some o has.1) };
+  noted = record {
+    tally = record {
+      each = λ line has. absurd (none-some line has.1);
+      once = λ i k a b at_a at_b e. absurd (none-some a at_a);
+      all = λ o has. absurd (none-some o has.1);
+      sum = refl;
+    };
+    seen = λ i k a b less at_a at_b. absurd (none-some a at_a);
+  };
+}
+
+-- one run more
+pub made_next : (s : Plan) (n : ℕ) (o : Outcome) (old new : List Line) (is : IsMade s n old) → IsOutcomeOf s o
+    → IsNoted (is.outcomes ++ o ∷ []) new → IsMade s (n + 1) new
+made_next s n o old new is one noted = record {
+  outcomes = is.outcomes ++ o ∷ [];
+  are = record { many = omega (arith, length-append is.outcomes (o ∷ []), is.are.many); each = each };
+  noted = noted;
+}
+  where
+    each : (x : Outcome) → Has (is.outcomes ++ o ∷ []) x → IsOutcomeOf s x
+    each x has = elim (push_cases is.outcomes o has.0 x has.1)
+        [ inl old ↦ is.are.each x (has.0, old.1) | inr last ↦ subst (IsOutcomeOf s) last.1 one ]
+
+-- the counts fit
+pub made_few : (s : Plan) (n : ℕ) (lines : List Line) → n ≤ 2 ^ 32 → IsMade s n lines
+    → sum_by times_of lines < 2 ^ 64
+made_few s n lines few is = omega (arith, few, is.noted.tally.sum, is.are.many)
+
+-- in order
+pub sample_of : (s : Plan) (n : ℕ) (old : List Line) (sampled : Sampled) (is : IsMade s n old)
+    → ((os : List Outcome) → IsTally os old → IsTally os sampled.lines.items)
+    → (AreSeenInOrder old → AreFrequentFirst sampled.lines.items) → IsSampleOf s n sampled
+sample_of s n old sampled is tally order = record {
+  outcomes = is.outcomes;
+  are = is.are;
+  tally = tally is.outcomes is.noted.tally;
+  order = order is.noted.seen;
+}

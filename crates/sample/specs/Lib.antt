@@ -1,0 +1,7 @@
+pub mod Answered
+pub mod Order
+pub mod Outcomes
+pub mod Prelude
+pub mod Replies
+pub mod Samples
+pub mod Tally

@@ -1,0 +1,22 @@
+-- What it is that a script's run came to.
+use Rattle.std.specs.Prelude.{ℕ, ◌≡◌, ⊤, length}
+use Rattle.lrc_script.specs.Plan.{Plan}
+use Rattle.lrc_report.specs.declared.report.Report.{Report}
+use Rattle.runs.specs.Reports.{IsReportOf}
+use Rattle.sample.specs.declared.outcome.Outcome.{Outcome}
+use Rattle.sample.specs.declared.outcome.Outcome.TheVariants.{Ended, Stuck}
+use Rattle.sample.specs.Answered.{Answered}
+use Rattle.sample.specs.Replies.{replies_of}
+
+-- the shown words of a report, the replies of so many processors that its journal has, and its verdict
+abbrev pub answered : ℕ → Report → Answered
+answered processors r = record {
+  words = r.shown.items;
+  replies = replies_of (length r.shown.items) processors r.journal.events;
+  racy = r.racy;
+}
+
+-- the answers are those of a report of the script; of a run that is stuck nothing is known
+abbrev pub IsOutcomeOf : Plan → Outcome → Type 0
+IsOutcomeOf s (Ended answers) = (r : Report) × (IsReportOf s r × (answers ≡ answered s.processors r))
+IsOutcomeOf s (Stuck processor) = ⊤
