@@ -5,3 +5,4 @@ pub mod Same
 pub mod Samples
 pub mod Swaps
 pub mod Tallies
+pub mod Telling

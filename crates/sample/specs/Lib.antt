@@ -1,4 +1,5 @@
 pub mod Answered
+pub mod Laws
 pub mod Order
 pub mod Outcomes
 pub mod Prelude

@@ -2,6 +2,7 @@
 pub use Rattle.sample.specs.Answered.{Answered}
 pub use Rattle.sample.specs.Outcomes.{answered, IsOutcomeOf}
 pub use Rattle.sample.specs.Replies.{own_replies, reply_by, replies_by, replies_of}
+pub use Rattle.sample.specs.Laws.{FirstLaw, RaceFreeOutcomeLaw}
 pub use Rattle.sample.specs.Order.{AreFrequentFirst, AreSeenInOrder, IsNoted}
 pub use Rattle.sample.specs.Samples.{AreOutcomesOf, IsMade, IsSampleOf}
 pub use Rattle.sample.specs.Tally.{IsLineOf, IsTally, run_of, times_of}
