@@ -1,5 +1,5 @@
 -- Records in a ring, and the place of one more.
-use Rattle.std.proofs.Common.{ℕ, ◌≡◌, ◌<◌, ◌≤◌, ◌+◌, ◌-◌, Some, List, ◌++◌, append_assoc, length, map, take, drop, get_or, slice_get, inl, inr, refl, sym, ap, subst, ◌∙◌, arith}
+use Rattle.std.proofs.Common.{ℕ, ◌≡◌, ◌<◌, ◌≤◌, ◌+◌, ◌-◌, Some, List, ◌++◌, append_assoc, length, map, take, drop, get_or, slice_get, inl, inr, sym, ap, subst, ◌∙◌, arith}
 use Rattle.std.proofs.Math.Seq.{drop-append-add, take-append-add}
 use Rattle.std.proofs.lemmas.Bool.{cases_eq}
 use Rattle.std.proofs.lemmas.List.{length-append, length-take, length-drop, take-append-drop, take-append-le, drop-append-le}
@@ -77,9 +77,9 @@ module _ {A : Type 0} where
       let cut = length-drop k xs in
       let long = length-take k xs in
       let e : length (take k xs) + to ≡ from = omega arith in
-      let P : List A → Type 0 = λ zs. read_from (length (take k xs) + to) (take k xs ++ drop k xs) ≡ read_from (length (take k xs) + to) zs in
-      let here = subst P (take-append-drop k xs) refl in
-      read_swapped to (take k xs) (drop k xs) (omega arith) ∙ here ∙ ap (λ (n : ℕ). read_from n xs) e
+      let swapped = read_swapped to (take k xs) (drop k xs) (omega arith) in
+      let whole = ap (λ (zs : List A). read_from (length (take k xs) + to) zs) (take-append-drop k xs) in
+      swapped ∙ whole ∙ ap (λ (n : ℕ). read_from n xs) e
 
   -- turned to the right
   pub turned_right : (from to : ℕ) (xs : List A) → from < to → to ≤ length xs

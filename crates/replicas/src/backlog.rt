@@ -13,8 +13,8 @@ use std::marker::Model;
 
 /// Records in closing order, in a ring that is read round from `start` on.
 ///
-/// A record is put at the ring's end, once the ring is turned so that it belongs there. What comes is in closing
-/// order, so all of it goes in while the ring turns round once.
+/// A record is put at the ring's end, once the ring is turned so that it belongs there. What one call brings is in
+/// closing order, so all of it goes in while the ring turns back once and then on.
 #[derive(Debug, Drop)]
 pub(crate) struct Backlog {
     ring: VecDeque<Sent>,
@@ -109,11 +109,12 @@ impl Backlog {
         self.on_from(start, place)
     }
 
-    /// The last place no later than `from` before which a record stands that was closed no later than `place`, or 0.
+    /// The last place up to `from` right behind a record that was closed no later than `place`; 0 where there is none.
     fn back_from(&self, from: usize, place: u64) -> usize
         requires within { from ≤ length self.now.records }
         ensures within { result ≤ from }
-        ensures before { (x : SentRecord) → 0 < result → slice_get self.now.records (result - 1) ≡ Some x → x.place ≤ place }
+        ensures before { (x : SentRecord) → 0 < result
+            → slice_get self.now.records (result - 1) ≡ Some x → x.place ≤ place }
     {
         let mut at = from;
         while at > 0 && self.at(at - 1).place > place {
@@ -125,7 +126,8 @@ impl Backlog {
     /// How many records were closed no later than `place`, where those before `from` were.
     fn on_from(&self, from: usize, place: u64) -> usize
         requires within { from ≤ length self.now.records }
-        requires before { (i : ℕ) (x : SentRecord) → i < from → slice_get self.now.records i ≡ Some x → x.place ≤ place }
+        requires before { (i : ℕ) (x : SentRecord) → i < from
+            → slice_get self.now.records i ≡ Some x → x.place ≤ place }
         requires order { InClosingOrder (map missing_of self.now.records) }
         ensures { IsPlaceAmong self.now.records place result }
     {
