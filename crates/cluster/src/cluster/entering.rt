@@ -16,6 +16,8 @@ impl<T: Turn<Book, Rule>> Cluster<T> {
     /// Waits for the chair's turn, and takes the book.
     ///
     /// [`SeatSpent`](Refused::SeatSpent) exactly where the chair has entered as often as it may.
+    // It stands in its callers, since a take that comes too early does little else.
+    #[inline(always)]
     pub(super) fn take_book<R: Wait>(
         &self,
         rt: &R,

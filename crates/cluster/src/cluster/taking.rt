@@ -74,7 +74,9 @@ fn receive(book: &mut Book, p: usize, replicas: &mut Vec<Replica>) -> Result<Mes
     receive_ready(book, p, replicas)
 }
 
-/// The same where that has come. Where the journal is full nothing is taken, so no growth is tried.
+/// The same where that has come. Where the journal is full nothing is taken, so no growth is tried. It is called, since
+/// whoever comes too early would else set up all its locals.
+#[inline(never)]
 fn receive_ready(book: &mut Book, p: usize, replicas: &mut Vec<Replica>) -> Result<Message, Refused>
     requires call { MayTakeSome book.old p }
     requires ready { (s : Sizes) (h : List Event) → IsTold s h book.old → Ready s h p }
