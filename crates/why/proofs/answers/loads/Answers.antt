@@ -1,0 +1,35 @@
+use Rattle.std.proofs.Common.{◌≡◌, ℕ, List, length, slice_index_or, subst, sym, refl, arith}
+use Rattle.std.proofs.lemmas.Option.{slice_get-get_or, slice_get_read}
+use Rattle.journal.specs.declared.event.Event.{Event}
+use Rattle.journal.specs.declared.event.Kind.TheVariants.{Load}
+use Rattle.journal.specs.Did.{event}
+use Rattle.sources.specs.Latest.{IsRow}
+use Rattle.why.specs.Source.{AreSources}
+use Rattle.why.proofs.Answering.{sources_next}
+use Rattle.why.proofs.answers.loads.Goals as goal
+
+-- the event at this place
+abbrev here : List Event → ℕ → Event
+here events place = slice_index_or events place (event 0 (Load 0 0))
+
+pub loop-place-preserved : goal.loop-place-preserved
+loop-place-preserved c =
+    let events = c.args.events.now in
+    let place = c.loop-place.place in
+    let old = c.loop-place.invariant in
+    let at = slice_get-get_or events place (event 0 (Load 0 0)) c.loop-place-test.true in
+    let rows = c.in_ok-rows.rows in
+    let read = c.index.result.now in
+    let all : length rows.items ≡ length events = omega (arith, rows.ok.0, c.in_ok-rows.ensures.long) in
+    let there = slice_get_read rows.items (length rows.items) place read refl (omega arith) c.index.ensures in
+    let row : IsRow events place c.deref.result.now =
+    subst (IsRow events place) (sym c.deref.ensures.value) (c.in_ok-rows.ensures.rows place read there) in
+    let sources = c.loop-place.sources in
+    let long : length sources.items ≡ place = omega (arith, sources.ok.0, old.long) in
+    record {
+      long = (let len = c.in_ok-push.ensures.len in let was = old.long in omega arith);
+      sources =
+          subst (AreSources events) (sym c.in_ok-push.ensures.items)
+          (sources_next events sources.items place c.source_at.result long old.sources
+          (c.source_at.ensures place at row));
+    }
