@@ -1,3 +1,4 @@
 pub mod Source
 pub mod Heard
+pub mod Explanation
 pub mod Prelude

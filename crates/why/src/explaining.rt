@@ -1,0 +1,39 @@
+//! Why the events of a history went as they did, all together.
+ghost use Rattle.std.specs.Prelude.{◌≤◌, IfOk, length};
+ghost use Rattle.lists.specs.Prelude.{most_held, most_processors};
+ghost use Rattle.journal.specs.Prelude.{AddressesInRange, ProcessorsInRange};
+ghost use Rattle.why.specs.Prelude.{IsExplanation};
+
+use crate::answers::loads;
+use crate::racing::{FirstRace, race};
+use crate::source::Source;
+use journal::Event;
+use std::alloc::{AllocError, Global};
+
+/// What is told of a history.
+#[derive(Drop)]
+pub struct Explanation {
+    /// Of each event, in order: where the value comes from that it answers, if it is a load; else None.
+    pub loads: Vec<Option<Source>>,
+    /// The first race; None where there is none.
+    pub race: Option<FirstRace>,
+}
+
+/// What `loads` and `race` tell of a history of `processors` processors, at most `MOST_PROCESSORS`, and `addresses`
+/// addresses. The only error is running out of memory.
+pub fn explain(
+    alloc: Global,
+    processors: usize,
+    addresses: usize,
+    events: &[Event],
+) -> Result<Explanation, AllocError>
+    requires few { length events.now ≤ most_held }
+    requires few_processors { processors ≤ most_processors }
+    requires addresses { AddressesInRange addresses events.now }
+    requires processors { ProcessorsInRange processors events.now }
+    ensures { IfOk result (IsExplanation events.now) }
+{
+    let race = race(alloc, processors, addresses, events)?;
+    let loads = loads(alloc, processors, addresses, events)?;
+    Ok(Explanation { loads, race })
+}
