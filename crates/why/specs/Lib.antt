@@ -1,4 +1,5 @@
 pub mod Source
 pub mod Heard
+pub mod Edges
 pub mod Explanation
 pub mod Prelude

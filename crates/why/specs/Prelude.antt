@@ -2,3 +2,4 @@
 pub use Rattle.why.specs.Source.{AreSources, IsSource, IsSourceAt}
 pub use Rattle.why.specs.Heard.{IsFirstRaceTold, IsHeard}
 pub use Rattle.why.specs.Explanation.{IsExplanation}
+pub use Rattle.why.specs.Edges.{AreEdges, LetsOn}

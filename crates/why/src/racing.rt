@@ -21,7 +21,7 @@ pub struct FirstRace {
     /// The place of the other access, which has nothing to order it after the first one.
     pub second: usize,
     /// The place of the last event of the first one's processor that the second one's processor had heard of: the
-    /// greatest place that happens before the second access. It lies before `first`. None where there is none.
+    /// greatest place that happens before the second access. None where there is none.
     pub heard: Option<usize>,
 }
 

@@ -2,7 +2,7 @@ use Rattle.std.proofs.Common.{ℕ, Option, MatchOption}
 use Rattle.std.proofs.lemmas.Result.{IfOk-weaker}
 use Rattle.journal.specs.Races.{IsFirstRace, RaceFree}
 use Rattle.journal.specs.RacesFrom.{IsFirstRaceFrom, RaceFreeFrom}
-use Rattle.why.proofs.Hearing.{race_whole}
+use Rattle.why.proofs.Heard.{race_whole}
 use Rattle.why.proofs.racing.first_race_of.Goals as goal
 
 pub returns : goal.returns

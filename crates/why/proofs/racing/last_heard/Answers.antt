@@ -9,7 +9,7 @@ use Rattle.journal.specs.Order.{HappensBefore}
 use Rattle.journal.specs.WellFormed.{Does}
 use Rattle.journal.proofs.Order.Places.{at_same, does_at}
 use Rattle.journal.proofs.Passes.RaceSteps.{count_next}
-use Rattle.why.proofs.Hearing.{IsHeardBelow, heard_all, heard_next, heard_other}
+use Rattle.why.proofs.Heard.{IsHeardBelow, heard_all, heard_next, heard_other}
 use Rattle.why.proofs.racing.last_heard.Goals as goal
 use Rattle.why.proofs.racing.last_heard.Goals.{then-event-by+then-closed-limit, else-event-by, else-event-by-via-then-event-by+else-closed-limit, else-event-by-via-else-event-by}
 

@@ -1,6 +1,6 @@
 use Rattle.std.proofs.Common.{◌≡◌, take}
 use Rattle.journal.specs.Events.{count_of, is_closing}
-use Rattle.why.proofs.Hearing.{IsHeardBelow}
+use Rattle.why.proofs.Heard.{IsHeardBelow}
 use Rattle.why.proofs.racing.last_heard.Given as goal
 
 abbrev pub invariant-loop-place : goal.invariant-loop-place

@@ -7,7 +7,7 @@ use Rattle.journal.specs.Events.{At}
 use Rattle.journal.specs.Races.{IsFirstRace}
 use Rattle.journal.proofs.Order.Places.{at_same}
 use Rattle.why.specs.Heard.{IsHeard}
-use Rattle.why.proofs.Hearing.{are_apart}
+use Rattle.why.proofs.Heard.{are_apart}
 use Rattle.why.proofs.racing.race.Goals as goal
 
 -- the event at this place

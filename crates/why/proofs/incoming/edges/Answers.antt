@@ -1,0 +1,65 @@
+use Rattle.std.proofs.Common.{ℕ, ◌+◌, List, slice_index, slice_index_or, take, subst, sym, refl, ◌∙◌, arith}
+use Rattle.std.proofs.lemmas.Bool.{false≢true}
+use Rattle.std.proofs.lemmas.List.{length-set}
+use Rattle.std.proofs.lemmas.Option.{slice_get-get_or}
+use Rattle.journal.specs.declared.event.Event.{Event}
+use Rattle.journal.specs.declared.event.Kind.TheVariants.{Load}
+use Rattle.journal.specs.Did.{event}
+use Rattle.journal.specs.Events.{count_of, is_arrive, is_depart}
+use Rattle.why.specs.Edges.{EdgeFromOther, LetsOn}
+use Rattle.why.proofs.LetsOn.{AreEdgesBelow, counts_next, edges_all, edges_next, edges_other, leads, led}
+use Rattle.why.proofs.incoming.edges.Goals as goal
+use Rattle.why.proofs.incoming.edges.Goals.{then-from-to+then-lets_on+in_ok-push, else-from-to, else-from-to-via-then-from-to+else-lets_on, else-from-to-via-else-from-to}
+
+-- the event at this place
+abbrev here : List Event → ℕ → Event
+here events place = slice_index_or events place (event 0 (Load 0 0))
+
+pub loop-i-preserved : goal.loop-i-preserved
+loop-i-preserved c =
+    let events = c.args.events.now in
+    let k = c.args.place in
+    let i = c.loop-i.i in
+    let from = here events i in
+    let to = here events k in
+    let old = c.loop-i.invariant in
+    let lt = c.loop-i-test.true in
+    let inside = c.requires.place in
+    let at = slice_get-get_or events i (event 0 (Load 0 0)) (omega arith) in
+    let end = slice_get-get_or events k (event 0 (Load 0 0)) inside in
+    let low = c.requires.processors i from at in
+    let arrived = old.counts from.processor low in
+    let departed = c.departures_before-departed.ensures in
+    let one = c.arrivals_of.ensures in
+    record {
+      long = length-set c.loop-i.arrivals from.processor _ ∙ old.long;
+      counts = counts_next events i from c.loop-i.arrivals _ at old.long old.counts (omega arith);
+      edges = elim c.if-from-to.branch [
+        | then-from-to+then-lets_on+in_ok-push w ↦
+            (let on : LetsOn from.kind (count_of is_arrive (take i events) from.processor) to.kind (count_of is_depart (take k events) to.processor) =
+            subst (λ n. LetsOn from.kind n to.kind (count_of is_depart (take k events) to.processor)) arrived
+            (subst (λ m. LetsOn from.kind (slice_index c.loop-i.arrivals from.processor) to.kind m) departed (w.if-lets_on.ensures.0 refl)) in
+            subst (λ v. AreEdgesBelow events k (i + 1) v.items) (sym w.places-is)
+            (subst (AreEdgesBelow events k (i + 1)) (sym w.in_ok-push.ensures.items)
+            (edges_next events k i c.loop-i.places.items (leads events i k from to lt at end (w.if-from-to.true, on))
+            old.edges)))
+        | else-from-to w ↦
+            (let away : ¬ EdgeFromOther events i k = λ x.
+            let l = led events i k from to at end x in
+            let on : LetsOn from.kind (slice_index c.loop-i.arrivals from.processor) to.kind c.departures_before-departed.result =
+            subst (λ n. LetsOn from.kind n to.kind c.departures_before-departed.result) (sym arrived)
+            (subst (λ m. LetsOn from.kind (count_of is_arrive (take i events) from.processor) to.kind m) (sym departed) l.1) in
+            elim w.else-from-to.branch [
+              | else-from-to-via-then-from-to+else-lets_on v ↦ false≢true (v.if-lets_on.ensures.1 on)
+              | else-from-to-via-else-from-to v ↦ l.0 v.if-from-to.false
+            ] in
+            subst (λ v. AreEdgesBelow events k (i + 1) v.items) (sym w.places-is)
+            (edges_other events k i c.loop-i.places.items away old.edges))
+      ];
+    }
+
+pub returns : goal.returns
+returns c =
+    let lt = c.loop-i-test.false in
+    let top = c.loop-i.auto.i-end in
+    edges_all c.args.events.now c.args.place c.loop-i.i c.loop-i.places.items (omega arith) c.loop-i.invariant.edges
