@@ -1,7 +1,6 @@
 //! What lets an event through: the events of other processors with an edge to it.
-ghost use Rattle.std.specs.Prelude.{◌≡◌, ◌↔◌, ◌==◌, ◌&&◌, ℕ, ◌+◌, ◌<◌, ◌≤◌, ◌^◌, IsTrue, IfOk, cond, length, slice_index, take};
+ghost use Rattle.std.specs.Prelude.{◌≡◌, ◌↔◌, ◌==◌, ◌&&◌, ◌<◌, ◌≤◌, IsTrue, IfOk, cond, length, take};
 ghost use Rattle.journal.specs.declared.event.Kind.TheVariants.{Release, Set};
-ghost use Rattle.lists.specs.Prelude.{most_held};
 ghost use Rattle.journal.specs.Prelude.{ProcessorsInRange, count_of, is_arrive, is_depart};
 ghost use Rattle.why.specs.Prelude.{AreEdges, LetsOn};
 
