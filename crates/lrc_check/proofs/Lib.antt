@@ -1,0 +1,4 @@
+pub mod Places
+pub mod Fronts
+pub mod Firsts
+pub mod Races

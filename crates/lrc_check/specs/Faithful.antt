@@ -1,0 +1,18 @@
+-- Which histories such a memory can make, as far as they are judged here.
+use Rattle.std.specs.Prelude.{ℕ, ◌<◌, suc, Bool, List, ◌++◌, length, take}
+use Rattle.journal.specs.declared.event.Event.{Event}
+use Rattle.journal.specs.Sizes.{Sizes}
+use Rattle.journal.specs.Loads.{Explained}
+use Rattle.judge.specs.Lax.{WellFormedIn}
+
+-- each event may follow what stands before it, lax or not, and each load answers a latest store of its past
+pub record IsFaithful (lax : Bool) (s : Sizes) (j : List Event) : Type 0 where
+  pub well_formed : WellFormedIn lax s j
+  pub explained : Explained j
+
+-- the event at place k is the first that no such memory makes: what stands before it is faithful, and with it nothing
+-- is, however it goes on
+pub record IsFirstUnfaithful (lax : Bool) (s : Sizes) (j : List Event) (k : ℕ) : Type 0 where
+  pub within : k < length j
+  pub before : IsFaithful lax s (take k j)
+  pub never : (es : List Event) → ¬ IsFaithful lax s (take (suc k) j ++ es)

@@ -1,0 +1,28 @@
+-- What is found of the bytes of a trace.
+use Rattle.std.specs.Prelude.{ℕ, ◌≡◌, Bool, List, ⊤}
+use Rattle.journal.specs.declared.event.Event.{Event}
+use Rattle.journal.specs.Sizes.{Sizes}
+use Rattle.traces.specs.Lawful.{IsTrace}
+use Rattle.traces.specs.Text.{text}
+use Rattle.lrc_check.specs.declared.checked.Checked.{Checked}
+use Rattle.lrc_check.specs.declared.fault.CheckFault.{CheckFault}
+use Rattle.lrc_check.specs.declared.fault.CheckFault.TheVariants.{Output, Trace}
+use Rattle.lrc_check.specs.Checked.{IsChecked}
+
+-- the bytes are the text of a trace, and what is said of it is true
+pub record IsFoundOf (lax : Bool) (bytes : List ℕ) (found : Checked) : Type 0 where
+  pub sizes : Sizes
+  pub events : List Event
+  pub trace : IsTrace sizes events
+  pub text_is : bytes ≡ text sizes events
+  pub checked : IsChecked lax sizes events found
+
+-- the fault is the trace's
+abbrev pub IsTraces : CheckFault → Type 0
+IsTraces (Trace line fault) = ⊤
+IsTraces _ = ⊥
+
+-- the fault came before anything was written
+abbrev pub IsBeforeOutput : CheckFault → Type 0
+IsBeforeOutput Output = ⊥
+IsBeforeOutput _ = ⊤

@@ -1,0 +1,4 @@
+pub mod Faithful
+pub mod Checked
+pub mod Found
+pub mod Prelude

@@ -1,0 +1,73 @@
+//! Reads a trace, judges it, and prints what was found.
+ghost use Rattle.std.specs.Prelude.{◌≡◌, IfErr, IfOk, OnOk};
+ghost use Rattle.std.specs.Io.KnownBytes.{Appends, Keeps};
+ghost use Rattle.traces.specs.Prelude.{IsNoTrace};
+ghost use Rattle.judge.specs.Prelude.{AreSmall};
+ghost use Rattle.judge.specs.Prelude.{sizes_of as judged_sizes};
+ghost use Rattle.traces.specs.Prelude.{head, sizes_of};
+ghost use Rattle.lrc_script.specs.Prelude.{AreSizes};
+ghost use Rattle.lrc_check.specs.Prelude.{IsBeforeOutput, IsFoundOf, IsTraces};
+
+use crate::checked::Checked;
+use crate::fault::CheckFault;
+use crate::judging::judge_history;
+use crate::text::text_of;
+use lrc_report::render::OutFault;
+use std::alloc::Global;
+use std::io::Write;
+use traces::trace::read;
+
+/// The trace's sizes, as they are judged by.
+fn sizes_for(sizes: traces::trace::Sizes) -> judge::Sizes
+    requires { AreSizes (head (sizes_of sizes)) }
+    ensures same { judged_sizes result ≡ sizes_of sizes }
+    ensures small { AreSmall (judged_sizes result) }
+{
+    judge::Sizes {
+        processors: sizes.processors,
+        pages: sizes.pages,
+        words: sizes.words,
+        locks: sizes.locks,
+        flags: sizes.flags,
+    }
+}
+
+/// Writes the bytes, and has the writer pass on what it still keeps.
+fn write<W: Write>(out: &mut W, bytes: &[u8]) -> Result<(), OutFault>
+    ensures { OnOk result (Appends (W.contents out.old) (W.contents out.new) bytes.now) }
+{
+    if out.write_all(bytes).is_err() {
+        return Err(OutFault);
+    }
+    match out.flush() {
+        Ok(()) => Ok(()),
+        Err(_) => Err(OutFault),
+    }
+}
+
+/// Judges the trace that has these bytes as its text, and writes what was found. `lax` leaves out what only this
+/// memory asks: that a lock's asks are granted in their order.
+///
+/// # Errors
+///
+/// `Trace` comes only where the bytes are the text of no trace, with the first line that has a fault; then nothing was
+/// written. Nothing was written either where memory ran out. After `Output` a beginning of the text may have been.
+pub fn check<W: Write>(
+    alloc: Global,
+    bytes: &[u8],
+    lax: bool,
+    out: &mut W,
+) -> Result<Checked, CheckFault>
+    // What is found is true of the one trace that has these bytes.
+    ensures found { IfOk result (IsFoundOf lax bytes.now) }
+    // What is refused as a trace is none.
+    ensures refused { IfErr result (λ fault. IsTraces fault → IsNoTrace bytes.now) }
+    ensures early { IfErr result
+        (λ fault. IsBeforeOutput fault → Keeps (W.contents out.old) (W.contents out.new)) }
+{
+    let trace = read(alloc, bytes)?;
+    let found = judge_history(alloc, sizes_for(trace.sizes), &trace.events, lax)?;
+    let text = text_of(alloc, bytes, trace.events.len(), &found, lax)?;
+    write(out, &text)?;
+    Ok(found)
+}

@@ -1,0 +1,178 @@
+//! The text of what was found of a trace.
+
+use crate::checked::{Checked, Unexplained};
+use journal::{Kind, Traffic};
+use judge::{IllFormed, Why};
+use lrc_script::line::split_line;
+use std::alloc::{AllocError, Global};
+
+/// The line with this number, counted from 0, of these lines, without its line feed.
+fn line_at(lines: &[u8], number: usize) -> &[u8] {
+    let mut rest = lines;
+    for _ in 0..number {
+        match split_line(rest) {
+            Some((_, after)) => rest = after,
+            None => return rest,
+        }
+    }
+    match split_line(rest) {
+        Some((line, _)) => line,
+        None => rest,
+    }
+}
+
+/// Adds the line of the event at this place, as the trace has it.
+fn put_event(text: &mut Vec<u8>, bytes: &[u8], place: usize) -> Result<(), AllocError> {
+    let events = match split_line(bytes) {
+        Some((_, events)) => events,
+        None => bytes,
+    };
+    text.extend_from_slice(line_at(events, place))?;
+    text.push(b'\n')?;
+    Ok(())
+}
+
+/// What its processor waits for.
+fn put_awaited(alloc: Global, kind: Kind) -> Result<String, AllocError> {
+    match kind {
+        Kind::Acquire(lock) => format!(in alloc; "its processor waits for lock {lock}"),
+        Kind::Await(flag) => format!(in alloc; "its processor waits for flag {flag}"),
+        _ => String::from_str(alloc, "its processor waits at the barrier"),
+    }
+}
+
+/// A reason that names nobody.
+fn plain_reason(why: Why) -> &'static str {
+    match why {
+        Why::NoSuchProcessor => "there is no such processor",
+        Why::OutOfRange => "a number of it is out of range",
+        Why::AsksWhatItHolds => "its processor holds the lock",
+        Why::NotAsked => "its processor has not just asked, arrived or watched for it",
+        Why::NotHeld => "its processor does not hold the lock",
+        Why::NotSet => "nobody has set the flag",
+        _ => "it may not stand there",
+    }
+}
+
+/// Why an event may not follow what stands before it.
+fn reason(alloc: Global, why: Why) -> Result<String, AllocError> {
+    match why {
+        Why::Waits(kind) => put_awaited(alloc, kind),
+        Why::HeldBy(holder) => format!(in alloc; "processor {holder} holds the lock"),
+        Why::AskedEarlier(asker, place) => format!(in alloc;
+            "processor {asker} asked for the lock earlier, by event {place}"
+        ),
+        Why::NotArrived(other) => format!(in alloc; "processor {other} has not arrived"),
+        _ => String::from_str(alloc, plain_reason(why)),
+    }
+}
+
+/// Adds why the event is ill formed.
+fn put_ill_formed(
+    text: &mut Vec<u8>,
+    alloc: Global,
+    bytes: &[u8],
+    fault: IllFormed,
+) -> Result<(), AllocError> {
+    put_event(text, bytes, fault.place)?;
+    let why = reason(alloc, fault.why)?;
+    text.extend_from_slice(b"because ")?;
+    text.extend_from_slice(why.as_bytes())?;
+    text.push(b'\n')?;
+    Ok(())
+}
+
+/// Adds the load's line, and what it may answer.
+fn put_unexplained(text: &mut Vec<u8>, bytes: &[u8], load: &Unexplained) -> Result<(), AllocError> {
+    put_event(text, bytes, load.place)?;
+    if load.latest == [None; 16] {
+        text.extend_from_slice(b"because it may answer 0 alone\n")?;
+        return Ok(());
+    }
+    text.extend_from_slice(b"because it may answer only what was stored by\n")?;
+    for place in &load.latest {
+        if let Some(place) = *place {
+            put_event(text, bytes, place)?;
+        }
+    }
+    Ok(())
+}
+
+/// Adds the verdict, with the two events of the first race.
+fn put_verdict(
+    text: &mut Vec<u8>,
+    bytes: &[u8],
+    race: Option<(usize, usize)>,
+) -> Result<(), AllocError> {
+    match race {
+        None => text.extend_from_slice(b"verdict race-free\n")?,
+        Some((first, second)) => {
+            text.extend_from_slice(b"verdict racy\n")?;
+            put_event(text, bytes, first)?;
+            put_event(text, bytes, second)?;
+        }
+    }
+    Ok(())
+}
+
+/// Adds the traffic.
+fn put_traffic(text: &mut Vec<u8>, alloc: Global, traffic: Traffic) -> Result<(), AllocError> {
+    let Traffic {
+        messages,
+        records,
+        words,
+    } = traffic;
+    let line = format!(in alloc; "traffic {messages} {records} {words}\n")?;
+    text.extend_from_slice(line.as_bytes())?;
+    Ok(())
+}
+
+/// Adds what isn't judged.
+fn put_unjudged(text: &mut Vec<u8>, lax: bool) -> Result<(), AllocError> {
+    if lax {
+        text.extend_from_slice(b"unjudged counts order\n")?;
+    } else {
+        text.extend_from_slice(b"unjudged counts\n")?;
+    }
+    Ok(())
+}
+
+/// The lines that say how many events there are and what was found.
+fn opening(alloc: Global, count: usize, found: &Checked) -> Result<Vec<u8>, AllocError> {
+    let line = match *found {
+        Checked::Faithful { .. } => format!(in alloc; "events {count}\nfaithful\n")?,
+        Checked::IllFormed(fault) => {
+            let place = fault.place;
+            format!(in alloc; "events {count}\nunfaithful {place}\n")?
+        }
+        Checked::Unexplained(load) => {
+            let place = load.place;
+            format!(in alloc; "events {count}\nunfaithful {place}\n")?
+        }
+    };
+    let mut text = Vec::new(alloc);
+    text.extend_from_slice(line.as_bytes())?;
+    Ok(text)
+}
+
+/// The text of what was found of the trace with these bytes and so many events. The only error is running out of
+/// memory.
+pub(crate) fn text_of(
+    alloc: Global,
+    bytes: &[u8],
+    count: usize,
+    found: &Checked,
+    lax: bool,
+) -> Result<Vec<u8>, AllocError> {
+    let mut text = opening(alloc, count, found)?;
+    match *found {
+        Checked::Faithful { race, traffic } => {
+            put_unjudged(&mut text, lax)?;
+            put_verdict(&mut text, bytes, race)?;
+            put_traffic(&mut text, alloc, traffic)?;
+        }
+        Checked::IllFormed(fault) => put_ill_formed(&mut text, alloc, bytes, fault)?,
+        Checked::Unexplained(load) => put_unexplained(&mut text, bytes, &load)?,
+    }
+    Ok(text)
+}
