@@ -1,4 +1,4 @@
-//! `lrc`: runs scripts of a shared memory and prints the final words, a race verdict and the traffic.
+//! `lrc`: runs scripts of a shared memory and prints the final words, a race verdict and the traffic; or judges a trace.
 //!
 //! What it does with a script, and what is proved of it, is in crate `lrc_program`. Here its words are read, the script's
 //! file is opened, and what runs scripts is handed in.
@@ -9,7 +9,8 @@ ghost use Rattle.std.specs.Prelude.{◌<◌};
 use clap::Error;
 use clap::error::ErrorKind;
 use lrc_options::command_line::options;
-use lrc_options::options::Options;
+use lrc_options::options::{Asked, Options, TraceOptions};
+use lrc_program::checking::check_program;
 use lrc_program::fault::ProgramFault;
 use lrc_program::program::{program, say};
 use lrc_run::OnCluster;
@@ -69,10 +70,24 @@ fn run_file<R: Threads + Wait + Sync>(rt: &HostRuntime, handle: &R, options: &Op
     }
 }
 
+/// Judges the trace of the file, or of standard input where no file is given.
+fn check_file(rt: &HostRuntime, options: &TraceOptions) -> u8 {
+    let alloc = rt.alloc();
+    let (mut out, mut err) = (rt.stdout(), rt.stderr());
+    match options.file.as_deref() {
+        None => check_program(alloc, options, &mut rt.stdin(), &mut out, &mut err),
+        Some(path) => match File::open(rt, path) {
+            Ok(mut source) => check_program(alloc, options, &mut source, &mut out, &mut err),
+            Err(error) => say(alloc, Some(path), ProgramFault::from(error), &mut err),
+        },
+    }
+}
+
 /// Does what the words ask for.
 fn start<R: Threads + Wait + Sync>(rt: &HostRuntime, handle: &R, words: &[String]) -> u8 {
     match options(rt.alloc(), words) {
-        Ok(options) => run_file(rt, handle, &options),
+        Ok(Asked::Script(options)) => run_file(rt, handle, &options),
+        Ok(Asked::Trace(options)) => check_file(rt, &options),
         Err(error) => answer_words(rt, &error),
     }
 }

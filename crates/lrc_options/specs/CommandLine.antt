@@ -10,7 +10,10 @@ use Rattle.clap.specs.declared.builder.action.ArgAction.TheVariants.{SetTrue}
 use Rattle.clap.specs.declared.builder.value_parser.ValueParser.{ValueParser}
 use Rattle.clap.specs.declared.builder.value_parser.ValueParser.TheVariants as vp
 use Rattle.clap.specs.declared.error.Error.{Error}
+use Rattle.lrc_options.specs.declared.options.Asked.{Asked}
+use Rattle.lrc_options.specs.declared.options.Asked.TheVariants.{Script, Trace}
 use Rattle.lrc_options.specs.declared.options.Options.{Options}
+use Rattle.lrc_options.specs.declared.options.TraceOptions.{TraceOptions}
 
 -- the limits and the default of `--tries`, and the limit of `--seed`
 abbrev pub most_tries : ℕ
@@ -52,10 +55,19 @@ run_app locks = script_app (codes "run") tries_rule locks
 abbrev pub step_app : ValueParser → App
 step_app locks = script_app (codes "step") seed_rule locks
 
+-- `lrc check`
+abbrev pub lax_rule : Rule
+lax_rule = record (new_rule (codes "lax")) { long = Some (codes "lax"); action = Some SetTrue }
+
+abbrev pub check_app : App
+check_app = with_rule (with_rule (new_app (codes "check")) (new_rule (codes "FILE"))) lax_rule
+
 -- `lrc`, which wants a command and has a version
 abbrev pub lrc_app : ValueParser → App
 lrc_app locks = on_top (λ s. record s { subcommand_required = true; has_version = true })
+    (with_subcommand
     (with_subcommand (with_subcommand (new_app (codes "lrc")) (run_app locks).top) (step_app locks).top)
+    check_app.top)
 
 -- the parser takes these names and no others
 abbrev pub TakesNames : List Text → ValueParser → Type 0
@@ -100,15 +112,25 @@ pub record AreOptionsOf (name : Text) (rows : List Row) (o : Options) : Type 0 w
   pub ticket : o.ticket ≡ option_map_or (λ t. bytes_eq t (codes "ticket")) (first_of (codes "lock") rows) false
   pub journal : IsFlagGiven (one_of (codes "journal") rows) o.journal
 
--- the options that the words give, by the matches of a simple command, which find no fault in them
-pub record AreGiven (words : List Text) (o : Options) : Type 0 where
+-- the options that the rows of `check` give
+pub record AreTraceOptionsOf (rows : List Row) (o : TraceOptions) : Type 0 where
+  pub file : option_map (λ f. string_bytes f) o.file ≡ first_of (codes "FILE") rows
+  pub lax : IsFlagGiven (one_of (codes "lax") rows) o.lax
+
+-- what a command's name and its rows ask for
+abbrev pub AreAskedOf : Text → List Row → Asked → Type 0
+AreAskedOf name rows (Script o) = (bytes_eq name (codes "check") ≡ false) × AreOptionsOf name rows o
+AreAskedOf name rows (Trace o) = (bytes_eq name (codes "check") ≡ true) × AreTraceOptionsOf rows o
+
+-- what the words ask for, by the matches of a simple command, which find no fault in them
+pub record AreGiven (words : List Text) (o : Asked) : Type 0 where
   pub locks : ValueParser
   pub locks_are : TakesNames (codes "array" ∷ codes "ticket" ∷ []) locks
   pub faultless : fault_of (lrc_app locks) words ≡ []
   pub name : Text
   pub rows : List Row
   pub command : subcommand_of (lrc_app locks) words ≡ Some (name, rows)
-  pub options : AreOptionsOf name rows o
+  pub asked : AreAskedOf name rows o
 
 -- memory ran out, or the matches of that command find a fault of this kind in the words
 pub record IsRefusedBy (words : List Text) (e : Error) : Type 0 where

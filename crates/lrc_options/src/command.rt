@@ -4,9 +4,9 @@ ghost use Rattle.clap.specs.Words.{app_of, rule_of};
 ghost use Rattle.clap.specs.declared.builder.command.Command.TheViews.{out-Command};
 ghost use Rattle.clap.specs.declared.builder.value_parser.ValueParser.TheVariants as vp;
 ghost use Rattle.lrc_options.specs.CommandLine.{tries_rule, seed_rule, lock_rule, journal_rule};
-ghost use Rattle.lrc_options.specs.CommandLine.{script_app, run_app, step_app, lrc_app};
+ghost use Rattle.lrc_options.specs.CommandLine.{check_app, lax_rule, script_app, run_app, step_app, lrc_app};
 
-use crate::help::{ABOUT, AFTER, SCRIPT, VERSION};
+use crate::help::{ABOUT, AFTER, SCRIPT, TRACE, VERSION};
 use clap::builder::ValueParser;
 use clap::{Arg, ArgAction, Command};
 use std::alloc::{AllocError, Global};
@@ -69,6 +69,19 @@ fn journal_arg<'a>(alloc: Global) -> Arg<'a>
         .help("prints a line for each event too")
 }
 
+/// `--lax`.
+fn lax_arg<'a>(alloc: Global) -> Arg<'a>
+    ensures rule { rule_of result ≡ lax_rule }
+    ensures own { result.global ≡ false }
+{
+    Arg::new(alloc, "lax")
+        .long("lax")
+        .action(ArgAction::SetTrue)
+        .help(
+            "leaves out what only this memory asks: the order of a lock's asks, and counts of fetches",
+        )
+}
+
 /// A command on a script's file, with an option of its own.
 fn script_command<'a>(
     alloc: Global,
@@ -120,6 +133,19 @@ fn step_command<'a>(alloc: Global, locks: &'a [&'a str]) -> Result<Command<'a>, 
     )
 }
 
+/// `lrc check`.
+fn check_command<'a>(alloc: Global) -> Result<Command<'a>, AllocError>
+    ensures app { IfOk result (λ c. app_of c ≡ check_app) }
+    ensures globals { IfOk result (λ c. (out-Command c).has_globals ≡ false) }
+{
+    let file = Arg::new(alloc, "FILE").help("the trace; standard input where it isn't given");
+    Command::new(alloc, "check")
+        .about("Judges a trace, of anyone's making: whether such a memory could have made it")
+        .after_help(TRACE)
+        .arg(file)?
+        .arg(lax_arg(alloc))
+}
+
 /// The command that the words are read by.
 pub(crate) fn lrc_command<'a>(
     alloc: Global,
@@ -135,5 +161,6 @@ pub(crate) fn lrc_command<'a>(
         .version(VERSION)
         .subcommand_required(true)
         .subcommand(run_command(alloc, locks)?)?
-        .subcommand(step_command(alloc, locks)?)
+        .subcommand(step_command(alloc, locks)?)?
+        .subcommand(check_command(alloc)?)
 }

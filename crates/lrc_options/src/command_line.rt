@@ -3,11 +3,12 @@ ghost use Rattle.std.specs.Prelude.{◌≡◌, IfOk, IfErr, false, map, option_m
 ghost use Rattle.std.specs.Option.{option_map_or};
 ghost use Rattle.std.specs.Str.{bytes_eq};
 ghost use Rattle.clap.specs.Words.{first_of, one_of, rows_of, found_of};
-ghost use Rattle.lrc_options.specs.CommandLine.{IsNumberRead, IsNumberGiven, IsSeedGiven, IsFlagGiven, AreOptionsOf};
+ghost use Rattle.lrc_options.specs.CommandLine.{IsNumberRead, IsNumberGiven, IsSeedGiven, IsFlagGiven, AreAskedOf, AreOptionsOf};
+ghost use Rattle.lrc_options.specs.CommandLine.{AreTraceOptionsOf};
 ghost use Rattle.lrc_options.specs.CommandLine.{AreGiven, IsRefusedBy, most_tries, default_tries};
 
 use crate::command::{LOCKS, MOST_SEED, MOST_TRIES, lrc_command};
-use crate::options::{DEFAULT_TRIES, Options};
+use crate::options::{Asked, DEFAULT_TRIES, Options, TraceOptions};
 use crate::tips::with_tip;
 use clap::{ArgMatches, Error};
 use std::alloc::{AllocError, Global};
@@ -58,6 +59,13 @@ fn wants_journal(matches: &ArgMatches<'_>) -> bool
     matches.get_flag("journal")
 }
 
+/// Whether what only this memory asks is to be left out.
+fn is_lax(matches: &ArgMatches<'_>) -> bool
+    ensures { IsFlagGiven (one_of (codes "lax") (rows_of (found_of matches.now))) result }
+{
+    matches.get_flag("lax")
+}
+
 /// The file that is named.
 fn file_of(alloc: Global, matches: &ArgMatches<'_>) -> Result<Option<String>, AllocError>
     ensures { IfOk result (λ f. option_map (λ s. string_bytes s) f
@@ -69,7 +77,7 @@ fn file_of(alloc: Global, matches: &ArgMatches<'_>) -> Result<Option<String>, Al
     }
 }
 
-/// The options that a command's name and its matches give.
+/// The options that the name of a command on a script, and its matches, give.
 fn options_of(alloc: Global, name: &str, matches: &ArgMatches<'_>) -> Result<Options, AllocError>
     ensures { IfOk result (AreOptionsOf name.now (rows_of (found_of matches.now))) }
 {
@@ -84,20 +92,42 @@ fn options_of(alloc: Global, name: &str, matches: &ArgMatches<'_>) -> Result<Opt
     })
 }
 
-/// Reads the words, the program's name first: `lrc run [FILE] [--tries N] [--lock KIND] [--journal]` or
-/// `lrc step [FILE] [--seed N] [--lock KIND] [--journal]`.
+/// The options that the matches of `check` give.
+fn trace_options_of(alloc: Global, matches: &ArgMatches<'_>) -> Result<TraceOptions, AllocError>
+    ensures { IfOk result (AreTraceOptionsOf (rows_of (found_of matches.now))) }
+{
+    let file = file_of(alloc, matches)?;
+    Ok(TraceOptions {
+        file,
+        lax: is_lax(matches),
+    })
+}
+
+/// What a command's name and its matches ask for.
+fn asked_of(alloc: Global, name: &str, matches: &ArgMatches<'_>) -> Result<Asked, AllocError>
+    ensures { IfOk result (AreAskedOf name.now (rows_of (found_of matches.now))) }
+{
+    if name == "check" {
+        Ok(Asked::Trace(trace_options_of(alloc, matches)?))
+    } else {
+        Ok(Asked::Script(options_of(alloc, name, matches)?))
+    }
+}
+
+/// Reads the words, the program's name first: `lrc run [FILE] [--tries N] [--lock KIND] [--journal]`,
+/// `lrc step [FILE] [--seed N] [--lock KIND] [--journal]` or `lrc check [FILE] [--lax]`.
 ///
 /// # Errors
 ///
 /// clap's, of just the kind that its own function of the command finds in the words: words that give no such command,
 /// a question for help; or running out of memory.
-pub fn options<'a>(alloc: Global, words: &'a [String]) -> Result<Options, Error>
+pub fn options<'a>(alloc: Global, words: &'a [String]) -> Result<Asked, Error>
     ensures given { IfOk result (AreGiven (map (λ w. string_bytes w) words.entry.now)) }
     ensures refused { IfErr result (IsRefusedBy (map (λ w. string_bytes w) words.entry.now)) }
 {
     match lrc_command(alloc, LOCKS.as_slice())?.try_get_matches_from(words) {
         Ok(matches) => match matches.subcommand() {
-            Some((name, given)) => Ok(options_of(alloc, name, given)?),
+            Some((name, given)) => Ok(asked_of(alloc, name, given)?),
             None => unreachable!("a command is required"),
         },
         Err(fault) => Err(with_tip(alloc, words, fault)?),

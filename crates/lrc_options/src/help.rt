@@ -13,8 +13,9 @@ pub(crate) const AFTER: &str = "Example:
   printf 'cluster 2 1 1 1\\np 0\\nacquire 0\\nadd 0 1\\nrelease 0\\n\
 p 1\\nacquire 0\\nadd 0 1\\nrelease 0\\nshow 0\\n' | lrc step --journal
 
-Statuses: 0 done; 2 the script is refused; 3 no progress; 4 a limit, want of memory, a thread that
-couldn't be started, or a failed write; 5 usage, or the file can't be read.";
+Statuses: 0 done; 2 the script or the trace is refused; 3 no progress; 4 a limit, want of memory, a
+thread that couldn't be started, or a failed write; 5 usage, or the file can't be read; 6 the trace
+isn't faithful.";
 
 /// What a script says, and what is printed of it.
 pub(crate) const SCRIPT: &str = "A script, a line each:
@@ -43,3 +44,21 @@ What is printed:
     arrive, depart         came to a barrier; went on from it
     set F                  set flag F
     watch F, await F       began to wait for flag F; found it set";
+
+/// What a trace is, and what is printed of it.
+pub(crate) const TRACE: &str =
+    "A trace is a script's line `cluster P N W L [G]`, and the lines `event I B ..` that --journal prints,
+numbered from 0: each event in order, and nothing else.
+
+What is printed:
+  events N                it has N events
+  faithful                such a memory can make each of them, but for what isn't judged:
+    unjudged counts ..      the counts of fetches; with --lax also the order of a lock's asks
+    verdict race-free       or `racy`, and then the two events of the first race
+    traffic M R W           M messages; R records with W words in all, as its fetches tell
+  unfaithful I            no such memory makes event I after those before it, which are faithful:
+    event I B ..            the event
+    because ..              why; where a load may answer stores of others, their events follow
+
+Statuses: 0 faithful, racy or not; 2 no trace; 4 a limit, want of memory, or a failed write; 5 usage, or
+the file can't be read; 6 unfaithful.";

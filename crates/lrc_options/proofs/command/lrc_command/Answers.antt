@@ -17,10 +17,12 @@ returns-clause-app c =
     ∙ ap (on_top (λ s. record s { subcommand_required = true })) version in
     let with_run = c.in_ok-subcommand.ensures.shape c.in_ok-run_command.ensures.globals
     ∙ ap₂ with_subcommand start (ap (λ (a : App). a.top) c.in_ok-run_command.ensures.app) in
-    if_ok_map c.subcommand-2.result
-    (λ made adds. adds.shape c.in_ok-step_command.ensures.globals
-    ∙ ap₂ with_subcommand with_run (ap (λ (a : App). a.top) c.in_ok-step_command.ensures.app))
-    c.subcommand-2.ensures
+    let with_step = c.in_ok-subcommand-2.ensures.shape c.in_ok-step_command.ensures.globals
+    ∙ ap₂ with_subcommand with_run (ap (λ (a : App). a.top) c.in_ok-step_command.ensures.app) in
+    if_ok_map c.subcommand-3.result
+    (λ made adds. adds.shape c.in_ok-check_command.ensures.globals
+    ∙ ap₂ with_subcommand with_step (ap (λ (a : App). a.top) c.in_ok-check_command.ensures.app))
+    c.subcommand-3.ensures
 
 pub returns-clause-globals : goal.returns-clause-globals
 returns-clause-globals c =
@@ -34,9 +36,12 @@ returns-clause-globals c =
     ap (λ (f : Command-F Command). f.has_globals) c.subcommand_required.ensures ∙ version in
     let with_run =
     still_local _ _ _ c.in_ok-subcommand.ensures.globals start c.in_ok-run_command.ensures.globals in
-    if_ok_map c.subcommand-2.result
-    (λ made adds. still_local _ _ _ adds.globals with_run c.in_ok-step_command.ensures.globals) c.subcommand-2.ensures
+    let with_step =
+    still_local _ _ _ c.in_ok-subcommand-2.ensures.globals with_run c.in_ok-step_command.ensures.globals in
+    if_ok_map c.subcommand-3.result
+    (λ made adds. still_local _ _ _ adds.globals with_step c.in_ok-check_command.ensures.globals)
+    c.subcommand-3.ensures
 
 pub returns-clause-wants : goal.returns-clause-wants
 returns-clause-wants c =
-    if_ok_map c.subcommand-2.result (λ made is. ap (λ (a : App). a.top.subcommand_required) is) (returns-clause-app c)
+    if_ok_map c.subcommand-3.result (λ made is. ap (λ (a : App). a.top.subcommand_required) is) (returns-clause-app c)

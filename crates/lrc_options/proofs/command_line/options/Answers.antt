@@ -6,8 +6,8 @@ use Rattle.std.proofs.lemmas.Result.{err_from_is_err_and}
 use Rattle.lrc_options.proofs.CommandLine.{named_rows, no_fault, is_fault, out_of_memory, same_kind}
 use Rattle.lrc_options.proofs.command_line.options.Goals as goal
 
-pub returns-in_ok-options_of-in-Some-clause-given : goal.returns-in_ok-options_of-in-Some-clause-given
-returns-in_ok-options_of-in-Some-clause-given c =
+pub returns-in_ok-asked_of-in-Some-clause-given : goal.returns-in_ok-asked_of-in-Some-clause-given
+returns-in_ok-asked_of-in-Some-clause-given c =
     let app = c.in_ok-lrc_command.ensures.app in
     let words = map (λ w. string_bytes w) c.args.words.now in
     let locks_are : map (λ s. s.now) c.as_slice.result.now ≡ codes "array" ∷ codes "ticket" ∷ [] = search rules in
@@ -21,7 +21,7 @@ returns-in_ok-options_of-in-Some-clause-given c =
       name = c.in-Some.name.now;
       rows = rows_of (found_of c.in-Some.given.now);
       command = sym entered ∙ named_rows _ _ _ _ _ c.in-Some.ensures.name c.in-Some.ensures.rows;
-      options = c.in_ok-options_of-in-Some.ensures;
+      asked = c.in_ok-asked_of-in-Some.ensures;
     }
 
 pub returns-in_err-lrc_command-clause-refused : goal.returns-in_err-lrc_command-clause-refused
@@ -49,9 +49,9 @@ returns-in_err-with_tip-in-Err-clause-refused c =
     c.from_residual-in_err-with_tip-in-Err.ensures.1 in
     rw answer.1 (out_of_memory (vp.Names c.as_slice.result) _ _ (search rules) answer.2)
 
-pub returns-in_err-options_of-in-Some-clause-refused : goal.returns-in_err-options_of-in-Some-clause-refused
-returns-in_err-options_of-in-Some-clause-refused c =
+pub returns-in_err-asked_of-in-Some-clause-refused : goal.returns-in_err-asked_of-in-Some-clause-refused
+returns-in_err-asked_of-in-Some-clause-refused c =
     let answer =
-    err_from_is_err_and c.from_residual-in_err-options_of-in-Some.result
-    c.from_residual-in_err-options_of-in-Some.ensures.1 in
+    err_from_is_err_and c.from_residual-in_err-asked_of-in-Some.result
+    c.from_residual-in_err-asked_of-in-Some.ensures.1 in
     rw answer.1 (out_of_memory (vp.Names c.as_slice.result) _ _ (search rules) answer.2)
