@@ -4,3 +4,8 @@ pub mod Asking
 pub mod Fronts
 pub mod InRange
 pub mod Verdicts
+pub mod Counts
+pub mod Rows
+pub mod InGaps
+pub mod Keeping
+pub mod Parts

@@ -3,4 +3,7 @@ pub mod Lax
 pub mod Why
 pub mod Tells
 pub mod Ranges
+pub mod Tallies
+pub mod Gaps
+pub mod Miscounted
 pub mod Prelude

@@ -1,25 +1,34 @@
-//! Whether a history is one that a cluster could make, event by event, and where it is not, why.
+//! Whether a history is one that a cluster could make, event by event, and where it is not, why; and whether its fetches
+//! count what they bring.
 //!
 //! **What contracts see.** `MayFollow` and `WellFormed` of journal's specs/WellFormed: each event may follow what
 //! stands before it. `WellFormedLax` of specs/Lax is the same but for the order in which a lock's asks are granted.
-//! `IsWhy` of specs/Why says of each reason what it means.
+//! `IsWhy` of specs/Why says of each reason what it means. What fetches count is `AreCounted` of journal's
+//! specs/Counted.
 //!
 //! **What is proved.** `first_ill_formed` answers None exactly where the history is well formed, else the first event
 //! that may not follow what stands before it, with the first reason that applies, in the order of `Why`. The history
-//! may be anyone's: nothing is asked of the numbers in its events.
+//! may be anyone's: nothing is asked of the numbers in its events. Of a well formed history, lax or not,
+//! `first_miscounted` answers None exactly where each fetch counts its gap, else the first one that does not, with the
+//! counts of its gap.
 //!
 //! **What is only tested** (crate `judge_uses`): that these definitions say what they are to say, by histories worked
-//! by hand; and that 2^20 events are judged in a test's time. No call takes memory.
+//! by hand; that 2^20 events are judged in a test's time; and that memory isn't refused needlessly. Only
+//! `first_miscounted` takes memory.
 #![tactic(auto)]
 
 mod front;
+mod gaps;
 mod judge;
 mod kinds;
 mod laws;
+mod miscounted;
 mod sizes;
+mod tally;
 mod why;
 
 pub use judge::{IllFormed, first_ill_formed};
 pub use laws::{lax_law, range_law, why_law};
+pub use miscounted::{Miscounted, first_miscounted};
 pub use sizes::Sizes;
 pub use why::Why;

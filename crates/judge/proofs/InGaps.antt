@@ -1,0 +1,249 @@
+-- What a history's stores and fetches are to the gap of a fetch that comes next.
+use Rattle.std.proofs.Common.{ℕ, ◌≡◌, ◌≢◌, ◌<◌, ◌≤◌, ◌⊎◌, ◌↔◌, ◌/◌, inl, inr, List, [], ◌∷◌, ◌++◌, length, refl, sym, ap, ap₂, ◌∙◌, subst, le_of_lt, arith}
+use Rattle.std.proofs.lemmas.Bool.{cases_lt}
+use Rattle.std.proofs.lemmas.Option.{none-some}
+use Rattle.std.proofs.Math.Seq.{take-append_seam}
+use Rattle.lists.proofs.Places.{push_cases}
+use Rattle.journal.specs.declared.event.Event.{Event}
+use Rattle.journal.specs.declared.event.Kind.TheVariants.{Store, Fetch}
+use Rattle.journal.specs.Did.{did, event}
+use Rattle.journal.specs.Sizes.{Sizes}
+use Rattle.journal.specs.Events.{count_of, interval_at, is_closing}
+use Rattle.journal.specs.Order.{HappensBefore}
+use Rattle.journal.specs.Pasts.{InPast}
+use Rattle.journal.specs.Times.{IsTimeOf}
+use Rattle.journal.specs.WellFormed.{Does}
+use Rattle.journal.specs.Copies.{StoredInGap}
+use Rattle.journal.specs.Brought.{Brought}
+use Rattle.journal.proofs.Order.Places.{at_within, at_longer, at_last, count_of-append, count_of-front, count_of-take-le}
+use Rattle.journal.proofs.Order.HappensBefore.{shorter}
+use Rattle.journal.proofs.Order.Pasts.{past_back, past_within, own_in_past, reaches_new}
+use Rattle.journal.proofs.Times.Times.{interval_behind}
+use Rattle.journal.proofs.Times.Pushes.{covered}
+use Rattle.journal.proofs.Copies.Stores.{store_same, stores_to}
+use Rattle.journal.proofs.Copies.Brought.{brought_longer, brought_past, brought_push, gap_is}
+use Rattle.journal.proofs.Missing.Gaps.{gap_apart, not_mine}
+use Rattle.judge.specs.Gaps.{StoresAt, StoresInPage, StoresWord, IsFetched}
+use Rattle.judge.proofs.Rows.{IsMore}
+
+-- a store stays in its interval as the history goes on
+pub stores_on : (j : List Event) (e : Event) (a q k : ℕ) → StoresAt j a q k → StoresAt (j ++ e ∷ []) a q k
+stores_on j e a q k x =
+    let within = le_of_lt (at_within j x.0 (event q (Store a x.1)) x.2) in (
+      x.0,
+      x.1,
+      at_longer j (e ∷ []) x.0 (event q (Store a x.1)) x.2,
+      count_of-front is_closing j (e ∷ []) x.0 q within
+          ∙ x.3,
+    )
+
+-- after one more event a store is an old one, or the event itself, in its processor's open interval
+pub stores_push : (j : List Event) (e : Event) (a q k : ℕ) → StoresAt (j ++ e ∷ []) a q k
+    → StoresAt j a q k ⊎ ((v : ℕ) × (e ≡ event q (Store a v)) × (k ≡ count_of is_closing j q))
+stores_push j e a q k x = elim (push_cases j e x.0 (event q (Store a x.1)) x.2) [
+  | inl old ↦
+      inl (x.0, x.1, old.1, sym (count_of-front is_closing j (e ∷ []) x.0 q (le_of_lt old.0)) ∙ x.3)
+  | inr new ↦
+      inr (
+        x.1,
+        new.1,
+        sym x.3 ∙ ap (interval_at (j ++ e ∷ []) q) new.0
+            ∙ ap (λ (xs : List Event). count_of is_closing xs q) (take-append_seam j (e ∷ [])),
+      )
+]
+
+-- no interval is past the open one
+pub stores_bound : (j : List Event) (a q k : ℕ) → StoresAt j a q k → k ≤ count_of is_closing j q
+stores_bound j a q k x = let le = count_of-take-le is_closing j x.0 q in let is = x.3 in omega arith
+
+-- an event that is no store
+pub stores_other : (j : List Event) (e : Event) → ((q a v : ℕ) → e ≢ event q (Store a v)) → (a q k : ℕ)
+    → StoresAt j a q k ↔ StoresAt (j ++ e ∷ []) a q k
+stores_other j e none a q k = (
+  stores_on j e a q k,
+  λ x. elim (stores_push j e a q k x) [ inl old ↦ old | inr new ↦ absurd (none q a new.0 new.1) ],
+)
+
+pub words_other : (s : Sizes) (j : List Event) (e : Event) → ((q a v : ℕ) → e ≢ event q (Store a v)) → (n q : ℕ)
+    → (x : ℕ × ℕ) → StoresWord s j n q x ↔ StoresWord s (j ++ e ∷ []) n q x
+words_other s j e none n q x =
+    let same = stores_other j e none x.1 q x.0 in (λ h. (same.0 h.0, h.1), λ h. (same.1 h.0, h.1))
+
+pub pages_other : (s : Sizes) (j : List Event) (e : Event) → ((q a v : ℕ) → e ≢ event q (Store a v)) → (n q k : ℕ)
+    → StoresInPage s j n q k ↔ StoresInPage s (j ++ e ∷ []) n q k
+pages_other s j e none n q k = (
+  λ h. (h.0, (words_other s j e none n q (k, h.0)).0 h.1),
+  λ h. (h.0, (words_other s j e none n q (k, h.0)).1 h.1),
+)
+
+same_store : (q a v r b w : ℕ) → event q (Store a v) ≡ event r (Store b w) → (r ≡ q) × (b ≡ a)
+same_store q a v r b w is =
+    let kind = ap (λ (e : Event). e.kind) is in
+    let kinds : Store a v ≡ Store b w = kind in
+    (sym (ap (λ (e : Event). e.processor) is), cc)
+
+-- a store is one more, of its address
+pub stores_next : (j : List Event) (q a v : ℕ)
+    → IsMore (StoresAt j) (StoresAt (did j q (Store a v))) a q (count_of is_closing j q)
+stores_next j q a v = record {
+  same = λ b r k. stores_on j (event q (Store a v)) b r k;
+  now = (
+    length j,
+    v,
+    at_last j (event q (Store a v)),
+    ap (λ (xs : List Event). count_of is_closing xs q) (take-append_seam j (event q (Store a v) ∷ [])),
+  );
+  others = λ b r k x. elim (stores_push j (event q (Store a v)) b r k x) [
+    | inl old ↦ inl old
+    | inr new ↦
+        (let same = same_store q a v r b new.0 new.1 in
+        inr (same.1, same.0, new.2 ∙ ap (count_of is_closing j) same.0))
+  ];
+}
+
+-- of its word
+pub words_next : (s : Sizes) (j : List Event) (q a v : ℕ)
+    → IsMore (StoresWord s j) (StoresWord s (did j q (Store a v))) (a / s.words) q (count_of is_closing j q, a)
+words_next s j q a v =
+    let next = stores_next j q a v in
+    record {
+      same = λ n r x h. (next.same x.1 r x.0 h.0, h.1);
+      now = (next.now, refl);
+      others = λ n r x h. elim (next.others x.1 r x.0 h.0) [
+        | inl old ↦ inl (old, h.1)
+        | inr new ↦
+            inr (sym h.1 ∙ ap (λ (b : ℕ). b / s.words) new.0, new.1, pairs x new.2 new.0)
+      ];
+    }
+  where
+    pairs : (x : ℕ × ℕ) → x.0 ≡ count_of is_closing j q → x.1 ≡ a → x ≡ (count_of is_closing j q, a)
+    pairs x first second = ap₂ (λ (k b : ℕ). (k, b)) first second
+
+-- of its page
+pub pages_next : (s : Sizes) (j : List Event) (q a v : ℕ)
+    → IsMore (StoresInPage s j) (StoresInPage s (did j q (Store a v))) (a / s.words) q (count_of is_closing j q)
+pages_next s j q a v =
+    let next = words_next s j q a v in
+    record {
+      same = λ n r k h. (h.0, next.same n r (k, h.0) h.1);
+      now = (a, next.now);
+      others = λ n r k h. elim (next.others n r (k, h.0) h.1) [
+        | inl old ↦ inl (h.0, old)
+        | inr new ↦ inr (new.0, new.1, ap (λ (x : ℕ × ℕ). x.0) new.2)
+      ];
+    }
+
+-- what fetches of the page by p have brought stays under any other event
+pub fetched_other : (s : Sizes) (j : List Event) (e : Event) (p n : ℕ) (m : ℕ → ℕ)
+    → ((w r d : ℕ) → e ≢ event p (Fetch w n r d)) → IsFetched s j p n m → IsFetched s (j ++ e ∷ []) p n m
+fetched_other s j e p n m none is = record { brought = brought; within = within }
+  where
+    within : (q : ℕ) → m q ≤ count_of is_closing (j ++ e ∷ []) q
+    within q = let old = is.within q in let sum = count_of-append is_closing j (e ∷ []) q in omega arith
+
+    brought : (q i a v : ℕ) → q ≢ p → Does (j ++ e ∷ []) i q (Store a v) → a / s.words ≡ n
+        → Brought (j ++ e ∷ []) p n i ↔ (interval_at (j ++ e ∷ []) q i < m q)
+    brought q i a v apart does page = elim (push_cases j e i (event q (Store a v)) does) [
+      | inl old ↦
+          (let number = count_of-front is_closing j (e ∷ []) i q (le_of_lt old.0) in
+          let was = is.brought q i a v apart old.1 page in (
+            λ b.
+                (let less = was.0 (elim (brought_push s j e p n i none (stores_to s (j ++ e ∷ []) n i q a v does page) b) [
+                  | inl o ↦ o
+                  | inr last ↦ absurd (let at = last.0 in let lt = old.0 in omega arith)
+                ]) in
+                omega arith),
+            λ less. brought_longer j (e ∷ []) p n i (was.1 (omega arith)),
+          ))
+      | inr new ↦ (
+        λ b. absurd (elim (brought_push s j e p n i none (stores_to s (j ++ e ∷ []) n i q a v does page) b) [
+          | inl o ↦ (let lt = past_within j p i (brought_past j p n i o) in let at = new.0 in omega arith)
+          | inr last ↦ apart (sym (ap (λ (f : Event). f.processor) new.1) ∙ last.1)
+        ]),
+        λ less.
+            absurd (let behind = interval_behind j (e ∷ []) q i (let at = new.0 in omega arith) in
+            let few = is.within q in omega arith),
+      )
+    ]
+
+-- a fetch brings what p's past has
+pub fetched_now : (s : Sizes) (j : List Event) (p n w r d : ℕ) (t : ℕ → ℕ) → IsTimeOf j p t
+    → IsFetched s (did j p (Fetch w n r d)) p n t
+fetched_now s j p n w r d t time = record { brought = brought; within = within }
+  where
+    e : Event
+    e = event p (Fetch w n r d)
+
+    within : (q : ℕ) → t q ≤ count_of is_closing (j ++ e ∷ []) q
+    within q = let old = time.within q in let sum = count_of-append is_closing j (e ∷ []) q in omega arith
+
+    past : (q i a v : ℕ) → q ≢ p → Does (j ++ e ∷ []) i q (Store a v) → Brought (j ++ e ∷ []) p n i → InPast j p i
+    past q i a v apart does (inl mine) = absurd (not_mine (j ++ e ∷ []) p q i (Store a v) does apart mine)
+    past q i a v apart does (inr x) =
+        let f = x.1 in
+        let fetch : Event = event p (Fetch f.0 n f.1 f.2) in
+        elim (push_cases j e x.0 fetch f.3) [
+          | inl old ↦ past_back j p i x.0 (shorter j (e ∷ []) old.0 x.2) (own_in_past j p x.0 fetch old.1 refl)
+          | inr new ↦ (reaches_new j e i refl).0 (subst (HappensBefore (j ++ e ∷ []) i) new.0 x.2)
+        ]
+
+    brought : (q i a v : ℕ) → q ≢ p → Does (j ++ e ∷ []) i q (Store a v) → a / s.words ≡ n
+        → Brought (j ++ e ∷ []) p n i ↔ (interval_at (j ++ e ∷ []) q i < t q)
+    brought q i a v apart does page = elim (push_cases j e i (event q (Store a v)) does) [
+      | inl old ↦
+          (let number = count_of-front is_closing j (e ∷ []) i q (le_of_lt old.0) in
+          let covers = covered j p q i (Store a v) t time old.1 apart in (
+            λ b. (let less = covers.0 (past q i a v apart does b) in omega arith),
+            λ less. inr (length j, (w, r, d, at_last j e), (reaches_new j e i refl).1 (covers.1 (omega arith))),
+          ))
+      | inr new ↦ absurd (apart (sym (ap (λ (f : Event). f.processor) new.1)))
+    ]
+
+-- before the first event nothing is brought
+pub fetched_none : (s : Sizes) (p n : ℕ) (m : ℕ → ℕ) → ((q : ℕ) → m q ≡ 0) → IsFetched s [] p n m
+fetched_none s p n m none = record {
+  brought = λ q i a v apart does page. absurd (none-some (event q (Store a v)) does);
+  within = λ q. (let zero_here = none q in omega arith);
+}
+
+-- what is in the gap, by intervals: what p's timestamp counts and its last fetch of the page didn't bring
+pub stored_is : (s : Sizes) (j : List Event) (p n q k a : ℕ) (m t : ℕ → ℕ) → IsFetched s j p n m → IsTimeOf j p t
+    → q ≢ p → StoredInGap s j p n (q, k, a) ↔ (StoresWord s j n q (k, a) × (m q ≤ k) × (k < t q))
+stored_is s j p n q k a m t fetched time apart = (there, back)
+  where
+    there : StoredInGap s j p n (q, k, a) → StoresWord s j n q (k, a) × (m q ≤ k) × (k < t q)
+    there g =
+        let x = g.3.store in
+        let address = (store_same j g.0 q x.by a x.address g.1 x.value g.2 x.does).1 in
+        let page : a / s.words ≡ n = ap (λ (b : ℕ). b / s.words) address ∙ x.in_page in
+        let less = (covered j p q g.0 (Store a g.1) t time g.2 apart).0 g.3.past in
+        let is = g.4 in (
+          ((g.0, g.1, g.2, g.4), page),
+          elim (cases_lt (interval_at j q g.0) (m q)) [
+            | inl lt ↦ absurd (((gap_is s j p n g.0).0 g.3).2 ((fetched.brought q g.0 a g.1 apart g.2 page).1 lt))
+            | inr le ↦ omega arith
+          ],
+          omega arith,
+        )
+
+    back : StoresWord s j n q (k, a) × (m q ≤ k) × (k < t q) → StoredInGap s j p n (q, k, a)
+    back h =
+        let x = h.0.0 in
+        let page = h.0.1 in
+        let is = x.3 in
+        let le = h.1 in
+        let lt = h.2 in (
+          x.0,
+          x.1,
+          x.2,
+          (gap_is s j p n x.0).1 (
+            (covered j p q x.0 (Store a x.1) t time x.2 apart).1 (omega arith),
+            stores_to s j n x.0 q a x.1 x.2 page,
+            λ b. let less = (fetched.brought q x.0 a x.1 apart x.2 page).0 b in omega arith,
+          ),
+          x.3,
+        )
+
+-- one's own stores are in no gap of one's
+pub own_none : (s : Sizes) (j : List Event) (p n k a : ℕ) → ¬ StoredInGap s j p n (p, k, a)
+own_none s j p n k a g = gap_apart s j p n p g.0 a g.1 g.3 g.2 refl

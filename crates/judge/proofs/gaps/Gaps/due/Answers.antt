@@ -1,0 +1,44 @@
+use Rattle.std.proofs.Common.{◌+◌, ◌<◌, subst, sym, arith}
+use Rattle.journal.specs.InRange.{ProcessorsInRange}
+use Rattle.judge.specs.declared.gaps.Counts.{Counts}
+use Rattle.judge.specs.Sizes.{sizes_of}
+use Rattle.judge.specs.Gaps.{AreFew, CountsAmong}
+use Rattle.judge.proofs.Parts.{counts_all, counts_next, counts_start}
+use Rattle.judge.proofs.gaps.Gaps.due.Goals as goal
+
+pub loop-by-init : goal.loop-by-init
+loop-by-init c = record {
+  few = (let none = c.none-due.ensures in
+      let P : Counts → Type 0 = λ x. AreFew 0 x in
+      subst P (sym none) (record { writers = omega arith; records = omega arith; words = omega arith }));
+  counts = λ j tells.
+      (let s = sizes_of c.args.self.now.sizes in
+      let P : Counts → Type 0 =
+      λ x. CountsAmong s j c.args.processor c.args.page (λ q. q < 0) x.writers x.records x.words in
+      subst P (sym c.none-due.ensures) (counts_start s j c.args.processor c.args.page));
+}
+
+pub loop-by-preserved : goal.loop-by-preserved
+loop-by-preserved c = record {
+  few = c.and-due.ensures.few;
+  counts = λ j tells.
+      (let s = sizes_of c.args.self.now.sizes in
+      let old = c.loop-by.due in
+      let now = c.part.result in
+      let P : Counts → Type 0 =
+      λ x. CountsAmong s j c.args.processor c.args.page (λ q. q < c.loop-by.by + 1) x.writers x.records x.words in
+      subst P (sym c.and-due.ensures.sum)
+      (counts_next s j c.args.processor c.args.page c.loop-by.by old.writers old.records old.words now.writers
+      now.records now.words (c.loop-by.invariant.counts j tells) (c.part.ensures.counts j tells)));
+}
+
+pub returns : goal.returns
+returns c = λ j tells.
+    let s = sizes_of c.args.self.now.sizes in
+    let due = c.loop-by.due in
+    let over = c.loop-by-test.false in
+    let small = tells.long.sizes.processors in
+    let range : ProcessorsInRange c.loop-by.by j =
+    λ i e at. (let lt = tells.processors i e at in omega arith) in
+    counts_all s j c.args.processor c.args.page c.loop-by.by due.writers due.records due.words range
+    (c.loop-by.invariant.counts j tells)

@@ -1,0 +1,58 @@
+use Rattle.std.proofs.Common.{◌≡◌, ◌+◌, ◌<◌, List, take, slice_index_or, subst, sym, ap, ◌∙◌}
+use Rattle.std.specs.Prelude.{Result, Ok, Err, OnOk}
+use Rattle.std.proofs.lemmas.Option.{slice_get-get_or}
+use Rattle.lists.proofs.Places.{slice_get-from_take}
+use Rattle.journal.specs.declared.event.Event.{Event}
+use Rattle.journal.specs.declared.event.Kind.TheVariants.{Load}
+use Rattle.journal.specs.declared.clocks.Clocks.{Clocks}
+use Rattle.journal.specs.Did.{event}
+use Rattle.journal.specs.InRange.{ProcessorsInRange}
+use Rattle.journal.specs.Clocks.{AreClocks}
+use Rattle.journal.proofs.Passes.ClockSteps.{front_next}
+use Rattle.judge.specs.declared.gaps.Gaps.{Gaps}
+use Rattle.judge.specs.Gaps.{AreGapsOf, AreLong, TellsGaps}
+use Rattle.judge.proofs.gaps.Gaps.note.Goals as goal
+
+-- what two facts of success give, success gives
+both : {E P Q R : Type 0} (r : Result (Unit {0}) E) → (P → Q → R) → OnOk r P → OnOk r Q → OnOk r R
+both (Ok x) f p q = f p q
+both (Err e) f p q = tt
+
+-- with the timestamps, what is kept tells the history
+told : (j : List Event) (g : Gaps) (clocks : Clocks) → ProcessorsInRange g.sizes.processors j → AreLong g
+    → AreGapsOf j g → AreClocks j clocks → clocks.present ≡ g.sizes.processors
+    → TellsGaps j (record g { clocks = clocks })
+told j g clocks range long kept are present = record {
+  clocks = are;
+  present = present;
+  processors = range;
+  long = record {
+    sizes = long.sizes;
+    fetched = long.fetched;
+    intervals = long.intervals;
+    marks = long.marks;
+    words = long.words;
+    words_marks = long.words_marks;
+  };
+  are = record { fetched = kept.fetched; intervals = kept.intervals; words = kept.words };
+}
+
+pub returns-clause-tells : goal.returns-clause-tells
+returns-clause-tells c =
+    let events = c.args.events.now in
+    let place = c.args.place in
+    let e = slice_index_or events place (event 0 (Load 0 0)) in
+    let g = c.keep.new.self in
+    let next = front_next events place e (slice_get-get_or events place (event 0 (Load 0 0)) c.requires.place) in
+    let kept : AreGapsOf (take (place + 1) events) g =
+    subst (λ xs. AreGapsOf xs g) (sym next) (c.in_ok-keep.ensures.kept (take place events) c.requires.so_far) in
+    let same = c.keep.ensures.sizes in
+    let range : ProcessorsInRange g.sizes.processors (take (place + 1) events) =
+    λ i f at. subst (λ s. f.processor < s.processors) (sym same)
+    (c.requires.within i f (slice_get-from_take events (place + 1) i f at)).processor in
+    let was = ap (λ (x : Clocks). x.present) c.keep.ensures.clocks ∙ c.requires.so_far.present
+    ∙ sym (ap (λ s. s.processors) same) in
+    both c.note.result
+    (λ clocks present. told (take (place + 1) events) g c.note.new.self range c.keep.ensures.long kept clocks
+    (present ∙ was))
+    c.note.ensures.clocks c.note.ensures.present

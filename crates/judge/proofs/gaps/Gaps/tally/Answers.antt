@@ -1,0 +1,106 @@
+use Rattle.std.proofs.Common.{◌≡◌, ◌==◌, ◌&&◌, ℕ, ◌+◌, ◌/◌, ◌<◌, ◌≤◌, ◌^◌, List, [], ◌∷◌, length, slice_index, subst, sym, refl, ap, ◌∙◌, arith, length-append}
+use Rattle.std.proofs.lemmas.List.Sums.{count_by-le-length}
+use Rattle.std.specs.Prelude.{Result, Ok, Err, OnOk}
+use Rattle.journal.specs.declared.event.Event.{Event}
+use Rattle.journal.specs.declared.event.Kind.TheVariants.{Store, Fetch}
+use Rattle.journal.specs.Sizes.{Sizes}
+use Rattle.journal.specs.Did.{did, event}
+use Rattle.journal.specs.Events.{count_of, is_closing}
+use Rattle.journal.specs.Entries.{entry}
+use Rattle.journal.proofs.Times.Pushes.{own_entry}
+use Rattle.judge.specs.declared.gaps.Gaps.{Gaps}
+use Rattle.judge.specs.declared.tally.Tally.{Tally}
+use Rattle.judge.specs.Sizes.{sizes_of}
+use Rattle.judge.specs.Gaps.{AreGapsOf, TellsGaps, StoresAt, StoresInPage, StoresWord}
+use Rattle.judge.specs.Tallies.{Adds, IsTally, row_of}
+use Rattle.judge.proofs.Rows.{tally_next}
+use Rattle.judge.proofs.InGaps.{fetched_other, pages_next, stores_bound, stores_next, words_next}
+use Rattle.judge.proofs.gaps.Gaps.tally.Goals as goal
+
+not_fetch : (q a v p n w r d : ℕ) → event q (Store a v) ≡ event p (Fetch w n r d) → ⊥
+not_fetch q a v p n w r d is = let kind = ap (λ (e : Event). e.kind) is in let kinds : Store a v ≡ Fetch w n r d = kind in cc
+
+-- the open interval is few
+own_few : (j : List Event) (p : ℕ) → count_of is_closing j p ≤ length j
+own_few j p = count_by-le-length (λ (e : Event). (e.processor == p) && is_closing e.kind) j
+
+-- what both tallies add is what is kept after the store
+stored : (g : Gaps) (j : List Event) (q a v k n : ℕ) (intervals words : Tally) → TellsGaps j g → q < 16
+    → k ≡ count_of is_closing j q → n ≡ a / g.sizes.words
+    → Adds g.intervals intervals (row_of n q) (row_of n q) k → Adds g.words words (row_of n q) (row_of a q) k
+    → AreGapsOf (did j q (Store a v)) (record g { intervals = intervals; words = words })
+stored g j q a v k n intervals words tells lt is page first second = record {
+  fetched = λ m p within. fetched_other s j (event q (Store a v)) p m (entry g.fetched.items (row_of m p))
+      (λ w r d. not_fetch q a v p m w r d) (tells.are.fetched m p within);
+  intervals =
+      subst (λ x. IsTally (StoresInPage s after) (λ z. z) (StoresInPage s after) x intervals) (sym long)
+      (tally_next (StoresInPage s j) (StoresInPage s after) (λ z. z) (StoresInPage s j) (StoresInPage s after) (length j)
+      g.intervals intervals (a / s.words) (a / s.words) q (count_of is_closing j q) lt (pages_next s j q a v)
+      (pages_next s j q a v) (λ h. h, λ h. h) (λ z h. stores_bound j h.0 q z h.1.0)
+      (λ z h. stores_bound j h.0 q z h.1.0)
+      (subst (λ x. Adds g.intervals intervals (row_of x q) (row_of x q) (count_of is_closing j q)) page
+      (subst (Adds g.intervals intervals (row_of n q) (row_of n q)) is first)) tells.are.intervals);
+  words =
+      subst (λ x. IsTally (StoresWord s after) (λ z. z.0) (StoresAt after) x words) (sym long)
+      (tally_next (StoresWord s j) (StoresWord s after) (λ z. z.0) (StoresAt j) (StoresAt after) (length j)
+      g.words words (a / s.words) a q (count_of is_closing j q, a) lt (words_next s j q a v)
+      (stores_next j q a v) (λ h. h.0, λ h. (h, refl)) (λ z h. stores_bound j z.1 q z.0 h.0)
+      (λ z h. stores_bound j a q z h)
+      (subst (λ x. Adds g.words words (row_of x q) (row_of a q) (count_of is_closing j q)) page
+      (subst (Adds g.words words (row_of n q) (row_of a q)) is second)) tells.are.words);
+}
+  where
+    s : Sizes
+    s = sizes_of g.sizes
+
+    after : List Event
+    after = did j q (Store a v)
+
+    long : length after ≡ length j + 1
+    long = let sum = length-append j (event q (Store a v) ∷ []) in omega arith
+
+-- the interval that is read is the open one
+own : (j : List Event) (g : Gaps) (p : ℕ) (time : List ℕ) → TellsGaps j g → p < 16
+    → ((q : ℕ) → slice_index time q ≡ entry g.clocks.processors.items p q)
+    → slice_index time p ≡ count_of is_closing j p
+own j g p time tells lt is = is p ∙ own_entry j p (entry g.clocks.processors.items p) (tells.clocks.times p lt)
+
+sixteen : (j : List Event) (g : Gaps) (p : ℕ) → TellsGaps j g → p < g.sizes.processors → p < 16
+sixteen j g p tells lt = let small = tells.long.sizes.processors in omega arith
+
+room : (j : List Event) (g : Gaps) (p : ℕ) (time : List ℕ) → TellsGaps j g → length j < 2 ^ 22 → p < g.sizes.processors
+    → ((q : ℕ) → slice_index time q ≡ entry g.clocks.processors.items p q) → slice_index time p < 2 ^ 22
+room j g p time tells few lt is =
+    let open_is = own j g p time tells (sixteen j g p tells lt) is in let le = own_few j p in omega arith
+
+pub add-requires-clause-room : goal.add-requires-clause-room
+add-requires-clause-room c =
+    room c.requires.tells.0 c.args.self.now c.args.processor c.of.result.now c.requires.tells.1 c.requires.tells.2
+    c.requires.processor c.of.ensures
+
+pub add-requires-2-clause-room : goal.add-requires-2-clause-room
+add-requires-2-clause-room c =
+    room c.requires.tells.0 c.args.self.now c.args.processor c.of.result.now c.requires.tells.1 c.requires.tells.2
+    c.requires.processor c.of.ensures
+
+-- what success gives, success gives
+then : {E P Q : Type 0} (r : Result (Unit {0}) E) → (P → Q) → OnOk r P → OnOk r Q
+then (Ok x) f p = f p
+then (Err e) f p = tt
+
+pub returns-clause-kept : goal.returns-clause-kept
+returns-clause-kept c =
+    let g = c.args.self.now in
+    let q = c.args.processor in
+    let a = c.args.address in
+    let interval = slice_index c.of.result.now q in
+    let n = a / g.sizes.words in
+    then c.add-2.result
+    (λ second j tells v.
+    let lt = sixteen j g q tells c.requires.processor in
+    let first = subst (λ r. Adds g.intervals c.add.new.self r r interval) c.row_at-row.ensures c.in_ok-add.ensures.adds in
+    let both = subst (λ r. Adds g.words c.add-2.new.self r (row_of a q) interval) c.row_at-row.ensures
+    (subst (λ r. Adds g.words c.add-2.new.self c.row_at-row.result r interval) c.row_at.ensures second) in
+    stored g j q a v interval n c.add.new.self c.add-2.new.self tells lt (own j g q c.of.result.now tells lt c.of.ensures)
+    refl first both)
+    c.add-2.ensures.adds

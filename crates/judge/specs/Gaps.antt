@@ -1,0 +1,71 @@
+-- What is kept of a history to count the gaps of fetches.
+use Rattle.std.specs.Prelude.{ℕ, ◌≡◌, ◌≢◌, ◌*◌, ◌/◌, ◌^◌, ◌<◌, ◌≤◌, ◌↔◌, List, length, vec_len}
+use Rattle.journal.specs.declared.event.Event.{Event}
+use Rattle.journal.specs.declared.event.Kind.TheVariants.{Store}
+use Rattle.journal.specs.Sizes.{Sizes}
+use Rattle.journal.specs.Events.{count_of, interval_at, is_closing}
+use Rattle.journal.specs.WellFormed.{Does}
+use Rattle.journal.specs.InRange.{ProcessorsInRange}
+use Rattle.journal.specs.Clocks.{AreClocks}
+use Rattle.journal.specs.Entries.{entry}
+use Rattle.journal.specs.Brought.{Brought}
+use Rattle.journal.specs.Copies.{HasCount, StoredInGap}
+use Rattle.judge.specs.declared.gaps.Counts.{Counts}
+use Rattle.judge.specs.declared.gaps.Gaps.{Gaps}
+use Rattle.judge.specs.Sizes.{AreSmall, sizes_of}
+use Rattle.judge.specs.Tallies.{IsTally, row_of}
+
+-- q stores at address a in its interval k
+abbrev pub StoresAt : List Event → ℕ → ℕ → ℕ → Type 0
+StoresAt j a q k = (i : ℕ) × (v : ℕ) × Does j i q (Store a v) × (interval_at j q i ≡ k)
+
+-- q stores in page n in its interval x.0, at address x.1
+abbrev pub StoresWord : Sizes → List Event → ℕ → ℕ → ℕ × ℕ → Type 0
+StoresWord s j n q x = StoresAt j x.1 q x.0 × (x.1 / s.words ≡ n)
+
+-- q stores in page n in its interval k
+abbrev pub StoresInPage : Sizes → List Event → ℕ → ℕ → ℕ → Type 0
+StoresInPage s j n q k = (a : ℕ) × StoresWord s j n q (k, a)
+
+-- of each other processor's stores to page n, p's fetches of it have brought those of the first m q intervals
+pub record IsFetched (s : Sizes) (j : List Event) (p n : ℕ) (m : ℕ → ℕ) : Type 0 where
+  pub brought : (q i a v : ℕ) → q ≢ p → Does j i q (Store a v) → a / s.words ≡ n
+      → Brought j p n i ↔ (interval_at j q i < m q)
+  pub within : (q : ℕ) → m q ≤ count_of is_closing j q
+
+-- what is kept is the history's
+pub record AreGapsOf (j : List Event) (g : Gaps) : Type 0 where
+  pub fetched : (n p : ℕ) → p < 16 → IsFetched (sizes_of g.sizes) j p n (entry g.fetched.items (row_of n p))
+  pub intervals : IsTally (StoresInPage (sizes_of g.sizes) j) (λ k. k) (StoresInPage (sizes_of g.sizes) j) (length j)
+      g.intervals
+  pub words : IsTally (StoresWord (sizes_of g.sizes) j) (λ x. x.0) (StoresAt j) (length j) g.words
+
+-- there is a row for each page and processor, and a mark of words for each address and processor
+pub record AreLong (g : Gaps) : Type 0 where
+  pub sizes : AreSmall (sizes_of g.sizes)
+  pub fetched : vec_len g.fetched ≡ g.sizes.pages * 16
+  pub intervals : vec_len g.intervals.rows ≡ g.sizes.pages * 16
+  pub marks : vec_len g.intervals.marks ≡ g.sizes.pages * 16
+  pub words : vec_len g.words.rows ≡ g.sizes.pages * 16
+  pub words_marks : vec_len g.words.marks ≡ (g.sizes.pages * g.sizes.words) * 16
+
+-- so few as so many processors can have
+pub record AreFew (parts : ℕ) (c : Counts) : Type 0 where
+  pub writers : c.writers ≤ parts
+  pub records : c.records ≤ parts * 2 ^ 22
+  pub words : c.words ≤ parts * 2 ^ 22
+
+-- the gaps tell this history so far
+pub record TellsGaps (j : List Event) (g : Gaps) : Type 0 where
+  pub clocks : AreClocks j g.clocks
+  pub present : g.clocks.present ≡ g.sizes.processors
+  pub processors : ProcessorsInRange g.sizes.processors j
+  pub long : AreLong g
+  pub are : AreGapsOf j g
+
+-- what a fetch of the page says of those of the gap's stores whose processor is among these
+pub record CountsAmong (s : Sizes) (j : List Event) (p n : ℕ) (among : ℕ → Type 0) (writers records words : ℕ) : Type 0
+  where
+    pub writers_are : HasCount (λ (q : ℕ). among q × ((k : ℕ) × (a : ℕ) × StoredInGap s j p n (q, k, a))) writers
+    pub records_are : HasCount (λ (x : ℕ × ℕ). among x.0 × ((a : ℕ) × StoredInGap s j p n (x.0, x.1, a))) records
+    pub words_are : HasCount (λ (x : ℕ × ℕ × ℕ). among x.0 × StoredInGap s j p n x) words

@@ -1,0 +1,209 @@
+//! What fetches have to count.
+ghost use Rattle.std.specs.Prelude.{◌≡◌, ℕ, ◌+◌, ◌*◌, ◌<◌, ◌≤◌, ◌^◌, [], ◌∷◌, ◌++◌, IfOk, OnOk, List, Some, length};
+ghost use Rattle.std.specs.Prelude.{cond, nat_lt, slice_get, take};
+ghost use Rattle.lists.specs.Prelude.{most_held};
+ghost use Rattle.journal.specs.declared.event.Event.{Event};
+ghost use Rattle.journal.specs.Copies.{GapCounts};
+ghost use Rattle.journal.specs.declared.event.Kind.TheVariants.{Fetch, Store};
+ghost use Rattle.journal.specs.Prelude.{did};
+ghost use Rattle.judge.specs.Prelude.{AreFew, AreGapsOf, AreLong, AreSmall, CountsAmong, IsWithin, TellsGaps, sizes_of};
+ghost use Rattle.judge.specs.Prelude.{row_of};
+
+use crate::sizes::Sizes;
+use crate::tally::Tally;
+use journal::{Clock, Clocks, Event, Kind};
+use std::alloc::{AllocError, Global};
+
+/// What a fetch counts: processors whose stores it brings, intervals of these stores, and words in them.
+#[derive(Clone, Copy)]
+pub(crate) struct Counts {
+    pub(crate) writers: usize,
+    pub(crate) records: usize,
+    pub(crate) words: usize,
+}
+
+/// A history, taken an event at a time, of which it tells what a fetch that comes next has to count.
+#[derive(Drop)]
+pub(crate) struct Gaps {
+    pub(crate) sizes: Sizes,
+    pub(crate) clocks: Clocks,
+    /// Of each page and processor the timestamp that the processor had at its last fetch of the page; zeros before.
+    pub(crate) fetched: Vec<Clock>,
+    /// Of each page and processor the intervals in which it stores in the page, each once.
+    pub(crate) intervals: Tally,
+    /// The same, each once for each word.
+    pub(crate) words: Tally,
+}
+
+impl Counts {
+    /// Of nothing.
+    fn none() -> Counts
+        ensures { result ≡ record { writers = 0; records = 0; words = 0 } }
+    {
+        Counts {
+            writers: 0,
+            records: 0,
+            words: 0,
+        }
+    }
+
+    /// With those of one more processor, after so many.
+    fn and(self, other: Counts, parts: usize) -> Counts
+        requires parts { parts < 16 }
+        requires few { AreFew parts self }
+        requires other_few { AreFew 1 other }
+        ensures few { AreFew (parts + 1) result }
+        ensures sum { result ≡ record {
+          writers = self.writers + other.writers;
+          records = self.records + other.records;
+          words = self.words + other.words;
+        } }
+    {
+        Counts {
+            writers: self.writers + other.writers,
+            records: self.records + other.records,
+            words: self.words + other.words,
+        }
+    }
+}
+
+/// Where it is kept what there is of a page or address and a processor.
+fn row_at(number: usize, processor: usize) -> usize
+    requires processor { processor < 16 }
+    requires number { number ≤ 2 ^ 12 }
+    ensures { result ≡ row_of number processor }
+{
+    number * 16 + processor
+}
+
+/// How many processors have so many records, where one has all of them.
+fn writers_of(records: usize) -> usize
+    ensures { result ≡ cond (nat_lt 0 records) 1 0 }
+{
+    usize::from(records > 0)
+}
+
+impl Gaps {
+    /// Before the first event. The only error is running out of memory.
+    pub(crate) fn new(alloc: Global, sizes: Sizes) -> Result<Gaps, AllocError>
+        requires { AreSmall (sizes_of sizes) }
+        ensures tells { IfOk result (TellsGaps []) }
+        ensures sizes { IfOk result (λ g. g.sizes ≡ sizes) }
+    {
+        let rows = sizes.pages * 16;
+        let marks = sizes.pages * sizes.words * 16;
+        Ok(Gaps {
+            sizes,
+            clocks: Clocks::new(alloc, sizes.processors)?,
+            fetched: vec![in alloc; [0; 16]; rows]?,
+            intervals: Tally::new(alloc, rows, rows)?,
+            words: Tally::new(alloc, rows, marks)?,
+        })
+    }
+
+    /// What a fetch of the page by this processor has to count of one's stores.
+    fn part(&self, processor: usize, page: usize, by: usize) -> Counts
+        requires tells { (j : List Event) × TellsGaps j self.now × (length j < 2 ^ 22) }
+        requires processor { processor < 16 }
+        requires page { page < self.now.sizes.pages }
+        requires by { by < 16 }
+        ensures few { AreFew 1 result }
+        ensures counts { (j : List Event) → TellsGaps j self.now
+            → CountsAmong (sizes_of self.now.sizes) j processor page (λ q. q ≡ by)
+            result.writers result.records result.words }
+    {
+        if by == processor {
+            return Counts::none();
+        }
+        let row = row_at(page, by);
+        let from = self.fetched[row_at(page, processor)][by];
+        let to = self.clocks.of(processor)[by];
+        let records = self.intervals.count(row, from, to);
+        let words = self.words.count(row, from, to);
+        Counts {
+            writers: writers_of(records),
+            records,
+            words,
+        }
+    }
+
+    /// What a fetch of the page by this processor has to count, if it comes next.
+    pub(crate) fn due(&self, processor: usize, page: usize) -> Counts
+        requires tells { (j : List Event) × TellsGaps j self.now × (length j < 2 ^ 22) }
+        requires processor { processor < 16 }
+        requires page { page < self.now.sizes.pages }
+        ensures { (j : List Event) → TellsGaps j self.now → GapCounts (sizes_of self.now.sizes) j processor page
+            result.writers result.records result.words }
+    {
+        let mut due = Counts::none();
+        for by in 0..16 {
+            due = due.and(self.part(processor, page, by), by);
+        }
+        due
+    }
+
+    /// Tallies a store of the processor to the address, the next event.
+    fn tally(&mut self, processor: usize, address: usize) -> Result<(), AllocError>
+        requires tells { (j : List Event) × TellsGaps j self.old × (length j < 2 ^ 22) }
+        requires processor { processor < self.old.sizes.processors }
+        requires address { address < self.old.sizes.pages * self.old.sizes.words }
+        ensures sizes { self.new.sizes ≡ self.old.sizes }
+        ensures clocks { self.new.clocks ≡ self.old.clocks }
+        ensures long { AreLong self.new }
+        ensures kept { OnOk result ((j : List Event) → TellsGaps j self.old → (v : ℕ)
+            → AreGapsOf (did j processor (Store address v)) self.new) }
+    {
+        let interval = self.clocks.of(processor)[processor];
+        let row = row_at(address / self.sizes.words, processor);
+        self.intervals.add(row, row, interval)?;
+        self.words.add(row, row_at(address, processor), interval)
+    }
+
+    /// Takes note of a fetch of the page by the processor, the next event.
+    fn fetch(&mut self, processor: usize, page: usize)
+        requires tells { (j : List Event) × TellsGaps j self.old }
+        requires processor { processor < self.old.sizes.processors }
+        requires page { page < self.old.sizes.pages }
+        ensures sizes { self.new.sizes ≡ self.old.sizes }
+        ensures clocks { self.new.clocks ≡ self.old.clocks }
+        ensures long { AreLong self.new }
+        ensures kept { (j : List Event) → TellsGaps j self.old → (writers records words : ℕ)
+            → AreGapsOf (did j processor (Fetch writers page records words)) self.new }
+    {
+        self.fetched[row_at(page, processor)] = *self.clocks.of(processor);
+    }
+
+    /// Keeps what the event changes, which comes next, but for the timestamps so far.
+    fn keep(&mut self, event: Event) -> Result<(), AllocError>
+        requires tells { (j : List Event) × TellsGaps j self.old × (length j < 2 ^ 22) }
+        requires within { IsWithin (sizes_of self.old.sizes) event }
+        ensures sizes { self.new.sizes ≡ self.old.sizes }
+        ensures clocks { self.new.clocks ≡ self.old.clocks }
+        ensures long { AreLong self.new }
+        ensures kept { OnOk result ((j : List Event) → TellsGaps j self.old → AreGapsOf (j ++ event ∷ []) self.new) }
+    {
+        match event.kind {
+            Kind::Store(address, _) => self.tally(event.processor, address),
+            Kind::Fetch { page, .. } => {
+                self.fetch(event.processor, page);
+                Ok(())
+            }
+            _ => Ok(()),
+        }
+    }
+
+    /// Takes note of the event at this place, the next one. The only error is running out of memory, after which they
+    /// may tell no history.
+    pub(crate) fn note(&mut self, events: &[Event], place: usize) -> Result<(), AllocError>
+        requires place { place < length events.now }
+        requires few { length events.now ≤ most_held }
+        requires within { (k : ℕ) (e : Event) → slice_get events.now k ≡ Some e
+            → IsWithin (sizes_of self.old.sizes) e }
+        requires so_far { TellsGaps (take place events.now) self.old }
+        ensures sizes { self.new.sizes ≡ self.old.sizes }
+        ensures tells { OnOk result (TellsGaps (take (place + 1) events.now) self.new) }
+    {
+        self.keep(events[place])?;
+        self.clocks.note(events, place)
+    }
+}

@@ -1,0 +1,92 @@
+//! The first fetch of a history that counts what it should not.
+ghost use Rattle.std.specs.Prelude.{◌≡◌, ◌↔◌, ◌<◌, ◌≤◌, ◌^◌, IfOk, IfSome, IsTrue, List, MatchOption, length, true};
+ghost use Rattle.lists.specs.Prelude.{most_held};
+ghost use Rattle.journal.specs.declared.event.Event.{Event};
+ghost use Rattle.journal.specs.Counted.{AreCounted};
+ghost use Rattle.judge.specs.Prelude.{AreSmall, CountsGap, IsFirstMiscounted, IsWithin, Miscounts};
+ghost use Rattle.judge.specs.Prelude.{TellsGaps, WellFormedIn, sizes_of};
+
+use crate::gaps::{Counts, Gaps};
+use crate::sizes::Sizes;
+use journal::{Event, Kind};
+use std::alloc::{AllocError, Global};
+
+/// A fetch whose counts are not those of its gap, and the counts that are.
+#[derive(Clone, Copy, Debug, PartialEq, Eq)]
+pub struct Miscounted {
+    /// Its place in the history, counted from 0.
+    pub place: usize,
+    /// How many processors stored in the gap.
+    pub writers: usize,
+    /// In how many of their intervals.
+    pub records: usize,
+    /// At how many addresses, each counted once for each of these intervals.
+    pub words: usize,
+}
+
+/// Whether these are the counts.
+fn is_count(due: Counts, writers: u32, records: u32, words: u32) -> bool
+    ensures { IsTrue result ↔ (due ≡ record { writers = writers; records = records; words = words }) }
+{
+    due.writers == writers as usize
+        && due.records == records as usize
+        && due.words == words as usize
+}
+
+/// What is due at this place instead, where the event there is a fetch that counts something else.
+fn miscount(gaps: &Gaps, event: Event, place: usize) -> Option<Miscounted>
+    requires tells { (j : List Event) × TellsGaps j gaps.now × (length j < 2 ^ 22) }
+    requires within { IsWithin (sizes_of gaps.now.sizes) event }
+    ensures place { IfSome result (λ m. m.place ≡ place) }
+    ensures verdict { (j : List Event) → TellsGaps j gaps.now
+        → MatchOption result (CountsGap (sizes_of gaps.now.sizes) j event)
+        (Miscounts (sizes_of gaps.now.sizes) j event) }
+{
+    match event.kind {
+        Kind::Fetch {
+            writers,
+            page,
+            records,
+            words,
+        } => {
+            let due = gaps.due(event.processor, page);
+            if is_count(due, writers, records, words) {
+                None
+            } else {
+                Some(Miscounted {
+                    place,
+                    writers: due.writers,
+                    records: due.records,
+                    words: due.words,
+                })
+            }
+        }
+        _ => None,
+    }
+}
+
+/// The first fetch of a well formed history whose counts are not those of its gap, and what they should be; None where
+/// each fetch counts its gap. The gap are the stores of others to the page that the fetch brings.
+///
+/// The only error is running out of memory. It takes time in the order of the events, and for each fetch that of the
+/// processors times the logarithm of the events.
+pub fn first_miscounted(
+    alloc: Global,
+    sizes: Sizes,
+    events: &[Event],
+) -> Result<Option<Miscounted>, AllocError>
+    requires sizes { AreSmall (sizes_of sizes) }
+    requires few { length events.now ≤ most_held }
+    requires well { WellFormedIn true (sizes_of sizes) events.now }
+    ensures { IfOk result (λ o. MatchOption o (AreCounted (sizes_of sizes) events.now)
+        (IsFirstMiscounted (sizes_of sizes) events.now)) }
+{
+    let mut gaps = Gaps::new(alloc, sizes)?;
+    for place in 0..events.len() {
+        if let Some(wrong) = miscount(&gaps, events[place], place) {
+            return Ok(Some(wrong));
+        }
+        gaps.note(events, place)?;
+    }
+    Ok(None)
+}
