@@ -1,7 +1,7 @@
 //! A caller of judge who knows nothing of it but its contracts.
 //!
-//! **What is proved**: by these alone a caller knows exactly whether a history is well formed, and that the numbers
-//! of one that is are the cluster's.
+//! **What is proved**: by these alone a caller knows exactly whether a history is well formed, that the numbers of one
+//! that is are the cluster's, and exactly whether its fetches count what they bring.
 //!
 //! **What is only tested** here: that the words of judge's specs mean what they are to mean, by histories worked by
 //! hand; and that a history of 2^20 events is judged in a test's time.
@@ -9,6 +9,8 @@
 
 mod callers;
 #[cfg(test)]
+mod counts;
+#[cfg(test)]
 mod tests;
 
-pub use callers::is_well_formed;
+pub use callers::{is_counted, is_well_formed};
