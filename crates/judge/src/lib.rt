@@ -13,8 +13,7 @@
 //! counts of its gap.
 //!
 //! **What is only tested** (crate `judge_uses`): that these definitions say what they are to say, by histories worked
-//! by hand; that 2^20 events are judged in a test's time; and that memory isn't refused needlessly. Only
-//! `first_miscounted` takes memory.
+//! by hand; and that `first_ill_formed` judges 2^20 events in a test's time. Only `first_miscounted` takes memory.
 #![tactic(auto)]
 
 mod front;
