@@ -2,9 +2,9 @@
 
 use book::{Book, Refused};
 use cluster::{BookLock, Rule, TicketBookLock};
-use journal::{Event, Kind};
+use journal::{Event, Journal, Kind};
 use lrc_report::Report;
-use lrc_run::{Cause, RunFault, order, step, step_with};
+use lrc_run::{Cause, Ended, RunFault, order, step, step_as_far, step_as_far_with, step_with};
 use lrc_script::script::parse;
 use rand_core::SeedableRng;
 use rand_pcg::Pcg32;
@@ -233,4 +233,39 @@ fn orders_of_four(rt: HostRuntime) {
         order(&mut Pcg32::seed_from_u64(seed), &mut list);
         assert!(rt; list == drawn);
     }
+}
+
+/// How many events of this kind the journal has.
+fn count(journal: &Journal, kind: Kind) -> usize {
+    journal.events().iter().filter(|event| event.kind == kind).count()
+}
+
+/// Processor 1 asks for a lock that processor 0 holds at the closing barrier.
+#[test]
+fn as_far_as_it_goes(rt: HostRuntime) -> Result<(), Fail> {
+    let text = b"cluster 2 1 1 1\np 0\nacquire 0\nstore 0 5\np 1\nacquire 0\nshow 0\n";
+    let script = parse(rt.alloc(), text)?;
+    let ended = step_as_far_with::<TicketBookLock, HostRuntime>(&rt, rt.alloc(), &script, None)?;
+    let Ended::Halted(halt) = ended else {
+        return Err(Fail::from("it can't go on"));
+    };
+    assert_eq!(rt; halt.processor, 0);
+    assert_eq!(rt; halt.journal.len(), 5);
+    assert_eq!(rt; count(&halt.journal, Kind::Ask(0)), 2);
+    assert_eq!(rt; count(&halt.journal, Kind::Store(0, 5)), 1);
+    assert_eq!(rt; count(&halt.journal, Kind::Arrive), 1);
+    Ok(())
+}
+
+/// What can go on ends with the report of `step`.
+#[test]
+fn to_its_end(rt: HostRuntime) -> Result<(), Fail> {
+    for row in &RACE_FREE {
+        let script = parse(rt.alloc(), row.text.as_bytes())?;
+        let Ended::Whole(report) = step_as_far(&rt, rt.alloc(), &script, None)? else {
+            return Err(Fail::from("it can go on"));
+        };
+        assert!(rt; is_rows(&report, row), "{}", row.text);
+    }
+    Ok(())
 }
