@@ -237,7 +237,11 @@ fn orders_of_four(rt: HostRuntime) {
 
 /// How many events of this kind the journal has.
 fn count(journal: &Journal, kind: Kind) -> usize {
-    journal.events().iter().filter(|event| event.kind == kind).count()
+    journal
+        .events()
+        .iter()
+        .filter(|event| event.kind == kind)
+        .count()
 }
 
 /// Processor 1 asks for a lock that processor 0 holds at the closing barrier.
