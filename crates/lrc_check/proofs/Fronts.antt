@@ -71,6 +71,12 @@ explained_before j k le x m p a v does =
     let at = slice_get-from_take j k m (event p (Load a v)) does in
     (answer_taken j k m a v lt le).0 (x.first m p a v lt at)
 
+-- each front of an explained history is explained
+pub explained_take : (j : List Event) (n : ℕ) → n ≤ length j → Explained j → Explained (take n j)
+explained_take j n le all m p a v does =
+    let lt = slice_get-take_within j n m (event p (Load a v)) does in
+    (answer_taken j n m a v lt le).0 (all m p a v (slice_get-from_take j n m (event p (Load a v)) does))
+
 -- however the history goes on, that load isn't explained
 pub unexplained_never : (j es : List Event) (k : ℕ) → IsFirstUnexplained j k → ¬ Explained (take (suc k) j ++ es)
 unexplained_never j es k x all =

@@ -1,4 +1,5 @@
 pub mod Places
 pub mod Fronts
+pub mod Counts
 pub mod Firsts
 pub mod Races

@@ -8,9 +8,11 @@ use Rattle.journal.specs.Traffic.{messages, records, words}
 use Rattle.journal.specs.WellFormed.{Does}
 use Rattle.journal.specs.Races.{IsFirstRace, RaceFree}
 use Rattle.judge.specs.declared.judge.IllFormed.{IllFormed}
+use Rattle.judge.specs.Miscounted.{IsFirstMiscounted}
 use Rattle.judge.specs.Why.{IsFirstIllFormed}
 use Rattle.sources.specs.Answers.{IsFirstUnexplained}
 use Rattle.sources.specs.Latest.{IsLatest}
+use Rattle.lrc_check.specs.declared.checked.Unexplained.{Unexplained}
 use Rattle.lrc_check.specs.declared.checked.Checked.{Checked}
 use Rattle.lrc_check.specs.declared.checked.Checked.TheVariants as found
 use Rattle.lrc_check.specs.Faithful.{IsFaithful, IsFirstUnfaithful}
@@ -30,6 +32,10 @@ AreLatestOf j k latest = (p a v q i : ℕ) → Does j k p (Load a v)
 abbrev pub IsFront : List Event → Option IllFormed → List Event → Type 0
 IsFront j fault front = MatchOption fault (front ≡ j) (λ x. front ≡ take x.place j)
 
+-- what stands before the unexplained load, or all where there is none
+abbrev pub IsExplainedFront : List Event → Option Unexplained → List Event → Type 0
+IsExplainedFront j load front = MatchOption load (front ≡ j) (λ x. front ≡ take x.place j)
+
 -- what is said of a history is true
 abbrev pub IsChecked : Bool → Sizes → List Event → Checked → Type 0
 IsChecked lax s j (found.Faithful race traffic) =
@@ -37,3 +43,4 @@ IsChecked lax s j (found.Faithful race traffic) =
 IsChecked lax s j (found.IllFormed x) = IsFirstUnfaithful lax s j x.place × IsFirstIllFormed lax s j x
 IsChecked lax s j (found.Unexplained x) =
     IsFirstUnfaithful lax s j x.place × IsFirstUnexplained j x.place × AreLatestOf j x.place x.latest
+IsChecked lax s j (found.Miscounted x) = IsFirstUnfaithful lax s j x.place × IsFirstMiscounted s j x

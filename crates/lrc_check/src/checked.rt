@@ -1,7 +1,7 @@
 //! What is found of a history.
 
 use journal::Traffic;
-use judge::IllFormed;
+use judge::{IllFormed, Miscounted};
 
 /// A load that answers what it may not.
 #[derive(Clone, Copy, Debug, PartialEq, Eq)]
@@ -27,4 +27,6 @@ pub enum Checked {
     IllFormed(IllFormed),
     /// The first event that no such memory makes is a load of a value that it may not answer.
     Unexplained(Unexplained),
+    /// The first event that no such memory makes is a fetch that counts what it should not. This is never told lax.
+    Miscounted(Miscounted),
 }

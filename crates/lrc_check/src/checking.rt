@@ -46,7 +46,7 @@ fn write<W: Write>(out: &mut W, bytes: &[u8]) -> Result<(), OutFault>
 }
 
 /// Judges the trace that has these bytes as its text, and writes what was found. `lax` leaves out what only this
-/// memory asks: that a lock's asks are granted in their order.
+/// memory asks: that a lock's asks are granted in their order, and that fetches count their gaps.
 ///
 /// # Errors
 ///

@@ -1,17 +1,18 @@
 //! Judges a history.
-ghost use Rattle.std.specs.Prelude.{◌≡◌, ◌<◌, ◌≤◌, IfOk, IfSome, MatchOption, length, take};
+ghost use Rattle.std.specs.Prelude.{◌≡◌, ◌<◌, ◌≤◌, IfOk, IfSome, MatchOption, false, length, take};
 ghost use Rattle.lists.specs.Prelude.{most_held};
 ghost use Rattle.journal.specs.Sizes.{addresses};
+ghost use Rattle.journal.specs.Counted.{AreCounted};
 ghost use Rattle.journal.specs.Loads.{Explained};
 ghost use Rattle.journal.specs.Log.{HoldsHistory};
 ghost use Rattle.journal.specs.Prelude.{AddressesInRange, IsFirstRace, ProcessorsInRange, RaceFree};
-ghost use Rattle.judge.specs.Prelude.{AreSmall, IsFirstIllFormed, WellFormedIn, sizes_of};
+ghost use Rattle.judge.specs.Prelude.{AreSmall, IsFirstIllFormed, IsFirstMiscounted, WellFormedIn, sizes_of};
 ghost use Rattle.sources.specs.Prelude.{IsFirstUnexplained};
-ghost use Rattle.lrc_check.specs.Prelude.{AreLatestOf, IsChecked, IsFront, IsTrafficOf};
+ghost use Rattle.lrc_check.specs.Prelude.{AreLatestOf, IsChecked, IsExplainedFront, IsFront, IsTrafficOf};
 
 use crate::checked::{Checked, Unexplained};
 use journal::{Event, Journal, Kind, Traffic, uncut_law};
-use judge::{IllFormed, Sizes, first_ill_formed, range_law};
+use judge::{IllFormed, Miscounted, Sizes, first_ill_formed, first_miscounted, lax_law, range_law};
 use sources::{Sources, first_unexplained};
 use std::alloc::{AllocError, Global};
 
@@ -118,8 +119,40 @@ fn front_of(events: &[Event], fault: Option<IllFormed>) -> &[Event]
     }
 }
 
+/// The events before the load that is unexplained, or all where none is.
+fn explained_front(events: &[Event], load: Option<Unexplained>) -> &[Event]
+    requires { IfSome load (λ x. x.place ≤ length events.now) }
+    ensures { IsExplainedFront events.now load result.now }
+{
+    match load {
+        Some(load) => &events[..load.place],
+        None => events,
+    }
+}
+
+/// The first fetch that counts what it should not. Lax, none is found. The only error is running out of memory.
+fn miscounted(
+    alloc: Global,
+    sizes: Sizes,
+    events: &[Event],
+    lax: bool,
+) -> Result<Option<Miscounted>, AllocError>
+    requires sizes { AreSmall (sizes_of sizes) }
+    requires few { length events.now ≤ most_held }
+    requires well { WellFormedIn lax (sizes_of sizes) events.now }
+    ensures { IfOk result (λ o. MatchOption o (lax ≡ false → AreCounted (sizes_of sizes) events.now)
+        (λ x. (lax ≡ false) × IsFirstMiscounted (sizes_of sizes) events.now x)) }
+{
+    if lax {
+        return Ok(None);
+    }
+    lax_law();
+    first_miscounted(alloc, sizes, events)
+}
+
 /// What is found of a history: whether it is faithful, and if it isn't, which event is the first that no such memory
-/// makes, and why. `lax` leaves out that a lock's asks are granted in their order.
+/// makes, and why. `lax` leaves out that a lock's asks are granted in their order, and that
+/// fetches count their gaps.
 ///
 /// Nothing is asked of the events' own numbers, which may be out of range. It takes time in the order of the events
 /// times the processors times (the processors and the logarithm of the events), and memory in the order of the
@@ -137,7 +170,11 @@ pub fn judge_history(
     range_law();
     let fault = first_ill_formed(sizes, events, lax);
     let front = front_of(events, fault);
-    if let Some(load) = unexplained(alloc, sizes, front)? {
+    let load = unexplained(alloc, sizes, front)?;
+    if let Some(fetch) = miscounted(alloc, sizes, explained_front(front, load), lax)? {
+        return Ok(Checked::Miscounted(fetch));
+    }
+    if let Some(load) = load {
         return Ok(Checked::Unexplained(load));
     }
     match fault {

@@ -2,7 +2,7 @@
 
 use crate::checked::{Checked, Unexplained};
 use journal::{Kind, Traffic};
-use judge::{IllFormed, Why};
+use judge::{IllFormed, Miscounted, Why};
 use lrc_script::line::split_line;
 use std::alloc::{AllocError, Global};
 
@@ -98,6 +98,27 @@ fn put_unexplained(text: &mut Vec<u8>, bytes: &[u8], load: &Unexplained) -> Resu
     Ok(())
 }
 
+/// Adds the fetch's line, and what it has to count.
+fn put_miscounted(
+    text: &mut Vec<u8>,
+    alloc: Global,
+    bytes: &[u8],
+    fetch: Miscounted,
+) -> Result<(), AllocError> {
+    put_event(text, bytes, fetch.place)?;
+    let Miscounted {
+        writers,
+        records,
+        words,
+        ..
+    } = fetch;
+    let line = format!(in alloc;
+        "because the fetch has to count {writers} writers, {records} records and {words} words\n"
+    )?;
+    text.extend_from_slice(line.as_bytes())?;
+    Ok(())
+}
+
 /// Adds the verdict, with the two events of the first race.
 fn put_verdict(
     text: &mut Vec<u8>,
@@ -127,12 +148,10 @@ fn put_traffic(text: &mut Vec<u8>, alloc: Global, traffic: Traffic) -> Result<()
     Ok(())
 }
 
-/// Adds what isn't judged.
+/// Adds what isn't judged, where that is something.
 fn put_unjudged(text: &mut Vec<u8>, lax: bool) -> Result<(), AllocError> {
     if lax {
         text.extend_from_slice(b"unjudged counts order\n")?;
-    } else {
-        text.extend_from_slice(b"unjudged counts\n")?;
     }
     Ok(())
 }
@@ -147,6 +166,10 @@ fn opening(alloc: Global, count: usize, found: &Checked) -> Result<Vec<u8>, Allo
         }
         Checked::Unexplained(load) => {
             let place = load.place;
+            format!(in alloc; "events {count}\nunfaithful {place}\n")?
+        }
+        Checked::Miscounted(fetch) => {
+            let place = fetch.place;
             format!(in alloc; "events {count}\nunfaithful {place}\n")?
         }
     };
@@ -173,6 +196,7 @@ pub(crate) fn text_of(
         }
         Checked::IllFormed(fault) => put_ill_formed(&mut text, alloc, bytes, fault)?,
         Checked::Unexplained(load) => put_unexplained(&mut text, bytes, &load)?,
+        Checked::Miscounted(fetch) => put_miscounted(&mut text, alloc, bytes, fetch)?,
     }
     Ok(text)
 }

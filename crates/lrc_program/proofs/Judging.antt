@@ -1,11 +1,11 @@
 -- A trace that was read and judged.
-use Rattle.std.proofs.Common.{◌≡◌, ◌∙◌, ℕ, ◌<◌, ◌≤◌, suc, Bool, List, ◌++◌, Option, Some, None, length, take, drop, sym, ap, subst, take-append-drop, arith}
+use Rattle.std.proofs.Common.{◌≡◌, ◌∙◌, ℕ, ◌<◌, ◌≤◌, suc, Bool, List, Option, Some, None, length, take, drop, sym, ap, subst, take-append-drop, arith}
 use Rattle.std.specs.Prelude.{IfSome, option_map}
 use Rattle.std.proofs.lemmas.List.{length-take, take_all}
 use Rattle.journal.specs.declared.event.Event.{Event}
 use Rattle.journal.specs.Sizes.{Sizes}
 use Rattle.lrc_check.specs.declared.checked.Checked.{Checked}
-use Rattle.lrc_check.specs.declared.checked.Checked.TheVariants.{Faithful, IllFormed, Unexplained}
+use Rattle.lrc_check.specs.declared.checked.Checked.TheVariants.{Faithful, IllFormed, Miscounted, Unexplained}
 use Rattle.lrc_check.specs.Faithful.{IsFaithful, IsFirstUnfaithful}
 use Rattle.lrc_check.specs.Found.{IsFoundOf}
 use Rattle.lrc_program.specs.Judged.{IsJudgedAs, is_faithful_of}
@@ -49,6 +49,13 @@ judged_as lax source bytes (IllFormed x) had f = record {
   unfaithful = none_faithful lax f.sizes f.events x.place f.checked.0;
 }
 judged_as lax source bytes (Unexplained x) had f = record {
+  sizes = f.sizes;
+  events = f.events;
+  trace = f.trace;
+  text_is = text_in source bytes _ had f.text_is;
+  unfaithful = none_faithful lax f.sizes f.events x.place f.checked.0;
+}
+judged_as lax source bytes (Miscounted x) had f = record {
   sizes = f.sizes;
   events = f.events;
   trace = f.trace;
