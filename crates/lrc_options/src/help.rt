@@ -52,8 +52,8 @@ numbered from 0: each event in order, and nothing else.
 
 What is printed:
   events N                it has N events
-  faithful                such a memory can make each of them, but for what isn't judged:
-    unjudged counts ..      the counts of fetches; with --lax also the order of a lock's asks
+  faithful                such a memory can make each of them, but for what --lax leaves out:
+    unjudged counts order   with --lax: the counts of fetches, and the order of a lock's asks
     verdict race-free       or `racy`, and then the two events of the first race
     traffic M R W           M messages; R records with W words in all, as its fetches tell
   unfaithful I            no such memory makes event I after those before it, which are faithful:
