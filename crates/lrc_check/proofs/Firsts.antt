@@ -66,8 +66,7 @@ taken_explained lax s j front front' (Some x) t found is =
     let long : length front ≡ t.count = ap length t.is ∙ length-take-le t.count j t.le in
     let le : x.place ≤ t.count = omega arith in
     let old = t.le in
-    let whole : take x.place front ≡ take x.place j = ap (take x.place) t.is ∙ take-take x.place t.count j le in
-    (
+    let whole : take x.place front ≡ take x.place j = ap (take x.place) t.is ∙ take-take x.place t.count j le in (
       record {
         count = x.place;
         le = omega arith;
@@ -135,7 +134,7 @@ unexplained_checked lax s j front front' x t first latest is counted =
     let before : front' ≡ take k j = is ∙ (ap (take k) t.is ∙ take-take k n j le) in
     let whole = unexplained_taken j n k t.le here in (
       unexplained_first lax s j n k t.le (subst (WellFormedIn lax s) t.is t.well) within whole
-      (λ strict. subst (AreCounted s) before (counted strict)),
+          (λ strict. subst (AreCounted s) before (counted strict)),
       whole,
       latest_taken j n k x.latest within t.le (subst (λ xs. AreLatestOf xs k x.latest) t.is latest),
     )

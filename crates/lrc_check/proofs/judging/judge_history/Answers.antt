@@ -53,7 +53,7 @@ returns-in_ok-race-in-None c =
     let same = rw c.in_default-load.is at c.explained_front.ensures in
     let counted = rw c.in_default.is at c.in_ok-fetch.ensures in (
       faithful_whole c.args.lax s c.args.events.now c.front_of-front.result.now c.explained_front.result.now
-      c.in-None.ensures front explained same counted,
+          c.in-None.ensures front explained same counted,
       c.in_ok-race-in-None.ensures.race,
       c.in_ok-race-in-None.ensures.traffic,
     )
