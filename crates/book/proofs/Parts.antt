@@ -1,4 +1,6 @@
--- Each part of the book under one more event.
+-- The book is told by the history: each part of it stays what the history says, under one more event.
+-- An event changes one item of a part or none (Each, Doings); the history says the same of all other items.
+-- A file a part: locks' lines, flags, barrier, timestamps, mail, closed intervals. Told puts them together.
 pub mod Each
 pub mod History
 pub mod Doings
@@ -9,6 +11,6 @@ pub mod Flags
 pub mod Meetings
 pub mod ClosedIntervals
 pub mod Tight
-pub mod Loose
+pub mod Timed
 pub mod Told
 pub mod News

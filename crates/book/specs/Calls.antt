@@ -6,7 +6,7 @@ use Rattle.journal.specs.declared.event.Kind.TheVariants.{Await}
 use Rattle.journal.specs.Sizes.{Sizes}
 use Rattle.journal.specs.Events.{At, is_closing, is_taking}
 use Rattle.journal.specs.WellFormed.{KindInRange, Holds}
-use Rattle.interval.specs.Closings.{Closings, between}
+use Rattle.interval.specs.Closings.{Closings, KeepsBetween, between}
 use Rattle.book.specs.State.{State, time_of}
 use Rattle.book.specs.Brought.{message_for, sent_with}
 use Rattle.book.specs.ClosedIntervals.{AreFromFirst, IsTight}
@@ -81,19 +81,14 @@ pub record MayBeSent (c : Closings) (times : List (List ℕ)) (r : ℕ) : Type 0
   pub long : length (slice_index_or times r []) ≡ length c.first
   pub kept : (q : ℕ) → slice_index c.first q ≤ slice_index (slice_index_or times r []) q
 
--- the flag can be signalled to one with the timestamp `own`: no interval is dropped that it doesn't cover
+-- the flag can be signalled to one with the timestamp `own`
 pub record MaySignal (c : Closings) (flags : List (Option (List ℕ))) (own : List ℕ) (f : ℕ) : Type 0 where
   pub within : f < length flags
-  pub time : (t : List ℕ) → slice_index_or flags f None ≡ Some t → length t ≡ length c.first
-  pub long : length own ≡ length c.first
-  pub kept : (q : ℕ) → slice_index c.first q ≤ slice_index own q
+  pub keeps : (t : List ℕ) → slice_index_or flags f None ≡ Some t → KeepsBetween c own t
 
--- the signal of flag f, which has the timestamp `time`, is what p waits for, whose timestamp is `own`: no interval is
--- dropped that p lacks
+-- the signal of flag f, which has the timestamp `time`, is what p waits for, whose timestamp is `own`
 pub record IsSignalled (b : State) (p f : ℕ) (own time : List ℕ) : Type 0 where
-  pub old_long : length own ≡ length b.closed.first
-  pub new_long : length time ≡ length b.closed.first
-  pub kept : (q : ℕ) → slice_index b.closed.first q ≤ slice_index own q
+  pub keeps : KeepsBetween b.closed own time
   pub brings : between b.closed own time ≡ sent_with (message_for b p (Await f))
 
 -- the intervals may be trimmed after p's timestamp has risen from `before`: where p isn't alone, nothing was left

@@ -14,5 +14,6 @@ pub mod Cutting
 pub mod Laws
 pub mod Holding
 pub mod Refusals
+pub mod Ends
 pub mod Calls
 pub mod Prelude

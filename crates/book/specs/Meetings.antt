@@ -16,7 +16,7 @@ IsAtStage h n p Away = (count_of is_arrive h p ≡ n) × (count_of is_depart h p
 IsAtStage h n p Here = (count_of is_arrive h p ≡ n + 1) × (count_of is_depart h p ≡ n)
 IsAtStage h n p Free = (count_of is_arrive h p ≡ n) × (count_of is_depart h p + 1 ≡ n)
 
--- so many episodes are complete, and the open one has the time of its arrivals so far
+-- that many episodes are complete, and the open one has the time of its arrivals so far
 pub record IsBarrier (s : Sizes) (h : List Event) (b : Episodes) : Type 0 where
   pub complete : ℕ
   pub stages : AreAll s.processors (IsAtStage h complete) b.stages

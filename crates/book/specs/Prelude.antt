@@ -14,5 +14,6 @@ pub use Rattle.book.specs.Laws.{AreOpenRecords, ArriveLaw, AskLaw, CutLaw, HandI
 pub use Rattle.book.specs.Laws.{NewsLaw, NewsOrderLaw, ReleaseLaw, SetLaw, TakeLaw, WatchLaw}
 pub use Rattle.book.specs.Holding.{IsHeld, state_of}
 pub use Rattle.book.specs.Refusals.{IsFullAt, IsWantOfRoom}
+pub use Rattle.book.specs.Ends.{Closes, HandsIn}
 pub use Rattle.book.specs.Calls.{IsInner, IsOpen, IsSignalled, MayAsk, MayBeSent, MayCall, MayFlush, MayGive}
 pub use Rattle.book.specs.Calls.{MayHandIn, MayLook, MayRelease, MaySignal, MayTake, MayTakeSome, MayTrim}

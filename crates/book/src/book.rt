@@ -9,11 +9,18 @@ ghost use Rattle.interval.specs.Prelude.{HasRisingPages, is_of_page};
 ghost use Rattle.transit.specs.Prelude.{letter};
 ghost use Rattle.book.specs.Prelude.{brought, WasBookCut, MayFlush, MayCall, MayAsk, MayRelease, MayTakeSome};
 ghost use Rattle.book.specs.Prelude.{MayLook, new_book, handed_in, handed_last, book_watched, book_set, book_asked};
-ghost use Rattle.book.specs.Prelude.{book_released, book_arrived, Takes, IsFullAt, IsWantOfRoom, IsTold};
+ghost use Rattle.book.specs.Prelude.{book_released, book_arrived, Closes, HandsIn, IsFullAt, IsTold, IsWantOfRoom};
+ghost use Rattle.book.specs.Prelude.{Takes};
 
-use crate::protocol::Protocol;
+use crate::awaited::Awaited;
+use crate::messages::{grant_to, has_come, post_all, receive};
+use crate::opening::{empty_history, idle, unused};
+use crate::protocol::{Protocol, leave, with_set};
 use crate::refused::Refused;
-use journal::{CutFault, Event, Journal};
+use crate::room::{LIMIT, append_all, make_room};
+use crate::trims::trim;
+use barrier::Barrier;
+use journal::{CutFault, Event, Journal, Kind};
 use page::Record;
 use std::alloc::{AllocError, Global};
 use std::marker::Model;
@@ -27,7 +34,7 @@ use transit::Message;
 /// enter and leave of its lock.
 #[derive(Drop)]
 pub struct Book {
-    protocol: Box<Protocol>,
+    parts: Box<Protocol>,
 }
 
 // A book moves as a pointer.
@@ -38,7 +45,7 @@ impl Model for Book {
 
     ghost Value = { State };
 
-    ghost view = { λ b. b.protocol.value };
+    ghost view = { λ b. b.parts.value };
 }
 
 impl Book {
@@ -64,9 +71,25 @@ impl Book {
           flags = flags;
         })) }
     {
-        let protocol = Protocol::new(alloc, processors, pages, words, locks, flags)?;
+        let owing = 256 * processors;
+        let (journal, closed) = empty_history(alloc, processors, pages * words, owing)?;
+        let (times, awaits) = idle(alloc, processors)?;
+        let (locks, flags, transit) = unused(alloc, processors, locks, flags)?;
+        let barrier = Barrier::new(alloc, processors);
+        let parts = Protocol {
+            words,
+            journal,
+            owing,
+            closed,
+            times,
+            locks,
+            barrier,
+            flags,
+            awaits,
+            transit,
+        };
         Ok(Book {
-            protocol: Box::new(alloc, protocol)?,
+            parts: Box::new(alloc, parts)?,
         })
     }
 
@@ -75,25 +98,27 @@ impl Book {
     pub fn hand_in(&mut self, p: usize, block: &[Event]) -> Result<(), Refused>
         requires call { MayFlush self.old p block.now }
         requires short { length block.now ≤ most_in_block }
-        ensures ok { OnOk result (self.new ≡ handed_in self.old block.now) }
-        ensures err { OnErr result (self.new ≡ self.old) }
-        ensures full { IsFullAt (length self.old.journal.events + length block.now) result }
-        ensures only { IfErr result IsWantOfRoom }
+        ensures { HandsIn block.now self.old self.new result }
     {
-        self.protocol.hand_in(p, block)
+        let parts = &mut *self.parts;
+        make_room(&mut parts.journal, parts.owing, block.len())?;
+        append_all(&mut parts.journal, block);
+        Ok(())
     }
 
     /// Hands in a block as `hand_in` does, and answers a copy of the whole journal after it.
     pub fn audit(&mut self, p: usize, block: &[Event]) -> Result<Journal, Refused>
         requires call { MayFlush self.old p block.now }
         requires short { length block.now ≤ most_in_block }
-        ensures ok { OnOk result (self.new ≡ handed_in self.old block.now) }
+        ensures call { HandsIn block.now self.old self.new result }
         ensures copy { IfOk result (λ j. j ≡ record self.new.journal { room = j.room }) }
-        ensures err { OnErr result (self.new ≡ self.old) }
-        ensures full { IsFullAt (length self.old.journal.events + length block.now) result }
-        ensures only { IfErr result IsWantOfRoom }
     {
-        self.protocol.audit(p, block)
+        let parts = &mut *self.parts;
+        make_room(&mut parts.journal, parts.owing, block.len())?;
+        let mut copy = parts.journal.copy_with_room(block.len())?;
+        append_all(&mut parts.journal, block);
+        append_all(&mut copy, block);
+        Ok(copy)
     }
 
     /// Watches a flag: closes the interval, whose records these are, and from then on `p` waits for the
@@ -108,13 +133,12 @@ impl Book {
         requires call { MayCall self.old p block.now }
         requires short { length block.now ≤ most_in_block }
         requires rising { HasRisingPages (map arc_value records.items) }
-        ensures ok { OnOk result (self.new
-            ≡ book_watched (handed_in self.old block.now) p f (map arc_value records.items)) }
-        ensures err { OnErr result (self.new ≡ self.old) }
-        ensures full { IsFullAt (length self.old.journal.events + length block.now + 1) result }
-        ensures only { IfErr result IsWantOfRoom }
+        ensures { Closes block.now (λ b. book_watched b p f (map arc_value records.items))
+            self.old self.new result }
     {
-        self.protocol.watch(p, f, block, records)
+        let parts = &mut *self.parts;
+        let interval = parts.open_interval(p, records);
+        parts.close(p, Kind::Watch(f), block, interval)
     }
 
     /// Sets a flag: closes the interval, and joins the timestamp of `p` after that into the flag's.
@@ -130,13 +154,15 @@ impl Book {
         requires flag { f < length self.old.flags }
         requires short { length block.now ≤ most_in_block }
         requires rising { HasRisingPages (map arc_value records.items) }
-        ensures ok { OnOk result (self.new
-            ≡ book_set (handed_in self.old block.now) p f (map arc_value records.items)) }
-        ensures err { OnErr result (self.new ≡ self.old) }
-        ensures full { IsFullAt (length self.old.journal.events + length block.now + 1) result }
-        ensures only { IfErr result IsWantOfRoom }
+        ensures { Closes block.now (λ b. book_set b p f (map arc_value records.items))
+            self.old self.new result }
     {
-        self.protocol.set(p, f, block, records)
+        let parts = &mut *self.parts;
+        let interval = parts.open_interval(p, records);
+        parts.close(p, Kind::Set(f), block, interval)?;
+        let time = with_set(&parts.flags[f], &parts.times[p]);
+        parts.flags[f] = Some(time);
+        Ok(())
     }
 
     /// Asks for a lock that `p` doesn't hold: closes the interval, and puts `p` into the lock's line. Where
@@ -152,13 +178,19 @@ impl Book {
         requires call { MayAsk self.old p l block.now }
         requires short { length block.now ≤ most_in_block }
         requires rising { HasRisingPages (map arc_value records.items) }
-        ensures ok { OnOk result (self.new
-            ≡ book_asked (handed_in self.old block.now) p l (map arc_value records.items)) }
-        ensures err { OnErr result (self.new ≡ self.old) }
-        ensures full { IsFullAt (length self.old.journal.events + length block.now + 1) result }
-        ensures only { IfErr result IsWantOfRoom }
+        ensures { Closes block.now (λ b. book_asked b p l (map arc_value records.items))
+            self.old self.new result }
     {
-        self.protocol.ask(p, l, block, records)
+        let parts = &mut *self.parts;
+        make_room(&mut parts.journal, parts.owing, block.len() + 1)?;
+        let grant = parts.grant_if_free(p, l)?;
+        let interval = parts.open_interval(p, records);
+        parts.close(p, Kind::Ask(l), block, interval)?;
+        parts.locks.ask(l, p);
+        if let Some(message) = grant {
+            parts.transit.post(p, message);
+        }
+        Ok(())
     }
 
     /// Releases a lock that `p` holds: closes the interval, and leaves the timestamp of `p` after that with
@@ -174,13 +206,21 @@ impl Book {
         requires call { MayRelease self.old p l block.now }
         requires short { length block.now ≤ most_in_block }
         requires rising { HasRisingPages (map arc_value records.items) }
-        ensures ok { OnOk result (self.new
-            ≡ book_released (handed_in self.old block.now) p l (map arc_value records.items)) }
-        ensures err { OnErr result (self.new ≡ self.old) }
-        ensures full { IsFullAt (length self.old.journal.events + length block.now + 1) result }
-        ensures only { IfErr result IsWantOfRoom }
+        ensures { Closes block.now (λ b. book_released b p l (map arc_value records.items))
+            self.old self.new result }
     {
-        self.protocol.release(p, l, block, records)
+        let parts = &mut *self.parts;
+        make_room(&mut parts.journal, parts.owing, block.len() + 1)?;
+        let interval = parts.open_interval(p, records);
+        let time = parts.closing_time(p);
+        let locks = &parts.locks;
+        let grant = grant_to(locks.next(l), &parts.closed, &parts.times, &interval, &time)?;
+        parts.close(p, Kind::Release(l), block, interval)?;
+        parts.locks.release(l, p, time);
+        if let Some((next, message)) = grant {
+            parts.transit.post(next, message);
+        }
+        Ok(())
     }
 
     /// Arrives at the barrier: closes the interval, and joins the timestamp of `p` after that into the
@@ -195,13 +235,20 @@ impl Book {
         requires call { MayCall self.old p block.now }
         requires short { length block.now ≤ most_in_block }
         requires rising { HasRisingPages (map arc_value records.items) }
-        ensures ok { OnOk result (self.new
-            ≡ book_arrived (handed_in self.old block.now) p (map arc_value records.items)) }
-        ensures err { OnErr result (self.new ≡ self.old) }
-        ensures full { IsFullAt (length self.old.journal.events + length block.now + 1) result }
-        ensures only { IfErr result IsWantOfRoom }
+        ensures { Closes block.now (λ b. book_arrived b p (map arc_value records.items))
+            self.old self.new result }
     {
-        self.protocol.arrive(p, block, records)
+        let parts = &mut *self.parts;
+        make_room(&mut parts.journal, parts.owing, block.len() + 1)?;
+        let interval = parts.open_interval(p, records);
+        let time = parts.closing_time(p);
+        let departures = parts.departures_with(&interval, &time)?;
+        parts.close(p, Kind::Arrive, block, interval)?;
+        parts.barrier.arrive(p, &time);
+        if let Some(messages) = departures {
+            post_all(&mut parts.transit, messages);
+        }
+        Ok(())
     }
 
     /// Takes what `p` waits for: its grant, its departure, or the signal of its flag as the flag stands now,
@@ -219,7 +266,31 @@ impl Book {
             → IsFullAt (length self.old.journal.events + 1) result }
         ensures only { IfErr result (λ e. (e ≡ Refused.NotYet) ⊎ IsWantOfRoom e) }
     {
-        self.protocol.take(p)
+        let parts = &mut *self.parts;
+        let Some(awaited) = parts.awaits[p] else {
+            unreachable!("the processor waits")
+        };
+        if !has_come(&parts.flags, &parts.transit, p, awaited) {
+            return Err(Refused::NotYet);
+        }
+        make_room(&mut parts.journal, parts.owing, 1)?;
+        let (closed, flags) = (&parts.closed, &parts.flags);
+        let message = receive(
+            &mut parts.transit,
+            closed,
+            flags,
+            &parts.times[p],
+            p,
+            awaited,
+        )?;
+        let kind = awaited.kind();
+        parts.journal.append(Event { processor: p, kind });
+        let before = parts.times[p].copy();
+        parts.times[p].join(message.time());
+        parts.awaits[p] = None;
+        leave(&mut parts.barrier, awaited, p);
+        trim(&mut parts.closed, &parts.times, p, &before);
+        Ok(message)
     }
 
     /// Hands in the last block of `p` at the end, past the limit. It takes no memory.
@@ -228,7 +299,9 @@ impl Book {
         requires room { length block.now ≤ self.old.journal.room }
         ensures { self.new ≡ handed_last self.old block.now }
     {
-        self.protocol.last(p, block)
+        let parts = &mut *self.parts;
+        append_all(&mut parts.journal, block);
+        parts.owing -= block.len();
     }
 
     /// Cuts off the journal's events up to the last arrival of the last complete episode, as
@@ -240,14 +313,15 @@ impl Book {
         ensures err { OnErr result (self.new ≡ self.old) }
         ensures fault { IfErr result (IsCutFault self.old.journal) }
     {
-        self.protocol.cut()
+        let parts = &mut *self.parts;
+        parts.journal.cut()
     }
 
     /// Whether the journal has the 2^20 events that it may have, so that a take, which would add one, is refused.
     pub fn is_full(&self) -> bool
         ensures { IsTrue result ↔ (most_events ≤ length self.now.journal.events) }
     {
-        self.protocol.is_full()
+        self.parts.journal.len() >= LIMIT
     }
 
     /// Whether `p` is ready: what it waits for has come, so that a take isn't answered NotYet. It takes no memory, and
@@ -256,7 +330,11 @@ impl Book {
         requires call { MayTakeSome self.now p }
         ensures { (s : Sizes) (h : List AnEvent) → IsTold s h self.now → IsTrue result ↔ Ready s h p }
     {
-        self.protocol.is_ready(p)
+        let parts = &*self.parts;
+        let Some(awaited) = parts.awaits[p] else {
+            unreachable!("the processor waits")
+        };
+        has_come(&parts.flags, &parts.transit, p, awaited)
     }
 
     /// The number of the first kept interval of processor `q`.
@@ -264,14 +342,15 @@ impl Book {
         requires { q < length self.now.closed.first }
         ensures { slice_get self.now.closed.first q ≡ Some result }
     {
-        self.protocol.first(q)
+        let closed = &self.parts.closed;
+        closed.first(q)
     }
 
     /// The journal alone, with whatever room it has.
     pub fn into_journal(self) -> Journal
         ensures { result ≡ record self.journal { room = result.room } }
     {
-        Box::into_inner(self.protocol).into_journal()
+        Box::into_inner(self.parts).journal
     }
 
     /// How many notices of the page a take by `p` would bring now: none where `p` waits for nothing, or
@@ -280,7 +359,12 @@ impl Book {
         requires call { MayLook self.now p }
         ensures { result ≡ count_by (is_of_page page) (brought self.now p) }
     {
-        self.protocol.due(p, page)
+        let parts = &*self.parts;
+        match parts.awaits[p] {
+            Some(Awaited::Grant(_) | Awaited::Departure) => parts.due_by_message(p, page),
+            Some(Awaited::Signal(flag)) => parts.due_by_flag(p, flag, page),
+            None => 0,
+        }
     }
 
     /// How many notices of each page a take by `p` would bring now: entry n of the slice, whatever stood
@@ -292,6 +376,11 @@ impl Book {
             ≡ count_by (is_of_page n) (brought self.now p)) }
         ensures same_length { length counts.new ≡ length counts.old }
     {
-        self.protocol.count_due(p, counts)
+        let parts = &*self.parts;
+        match parts.awaits[p] {
+            Some(Awaited::Grant(_) | Awaited::Departure) => parts.count_by_message(p, counts),
+            Some(Awaited::Signal(flag)) => parts.count_by_flag(p, flag, counts),
+            None => counts.fill(0),
+        }
     }
 }

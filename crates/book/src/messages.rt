@@ -2,7 +2,7 @@
 ghost use Rattle.std.specs.Prelude.{◌≡◌, ◌≢◌, ℕ, ◌<◌, ◌≤◌, IfOk, IfSome, IsSome, List, OnOk, OnErr, None, Some, true};
 ghost use Rattle.std.specs.Prelude.{length, map, replicate, slice_index, slice_set};
 ghost use Rattle.std.specs.Option.{option_map};
-ghost use Rattle.interval.specs.Prelude.{HasRisingPages, pushed};
+ghost use Rattle.interval.specs.Prelude.{HasRisingPages, KeepsBetween, pushed};
 ghost use Rattle.transit.specs.Prelude.{letter};
 ghost use Rattle.book.specs.Prelude.{addressed, addressed_grant, departure_to, kind_of, has_come, message_among};
 ghost use Rattle.book.specs.Prelude.{signal_to, MayBeSent, MaySignal};
@@ -132,9 +132,7 @@ pub(crate) fn receive(
 /// The signal of a flag that is set, to one with the timestamp `own`.
 fn signal(closed: &Closed, flag: &Option<VTime>, own: &VTime) -> Result<Message, AllocError>
     requires set { IsSome flag.now }
-    requires time { IfSome flag.now (λ t. length t ≡ length closed.now.first) }
-    requires own { length own.now ≡ length closed.now.first }
-    requires kept { (q : ℕ) → slice_index closed.now.first q ≤ slice_index own.now q }
+    requires keeps { IfSome flag.now (λ t. KeepsBetween closed.now own.now t) }
     ensures { IfOk result (λ m.
         option_map (λ (t : List ℕ). signal_to closed.now t own.now) flag.now ≡ Some (letter m)) }
 {

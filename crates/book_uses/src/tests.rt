@@ -65,7 +65,7 @@ enum Step<'a> {
     Refuses(usize, Call, Refused),
     /// A take answers a message of this name, with this timestamp and these records.
     Gets(usize, &'static str, &'a [u64], &'a [Comes]),
-    /// A take would bring of this page so many notices.
+    /// A take would bring of this page that many notices.
     IsDue(usize, usize, usize),
     /// These are the first intervals that are kept of processors 0 and 1.
     Keeps([u64; 2]),
@@ -182,7 +182,7 @@ fn loads_of(call: Call) -> usize {
     }
 }
 
-/// A block of so many loads of address 0, and then these stores.
+/// A block of that many loads of address 0, and then these stores.
 fn block_of(
     alloc: Global,
     p: usize,

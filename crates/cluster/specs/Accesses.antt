@@ -58,7 +58,7 @@ abbrev pub fetched_at : Local → ℕ → Copied → Counts → Local
 fetched_at m n c k =
     record (noted m (Fetch k.writers n k.records k.words)) { copies = slice_set m.copies n (fetched c) }
 
--- and it had one, whose missing records are so many; each word with stores in the gap has the newest of them
+-- and it had one, whose missing records are that many; each word with stores in the gap has the newest of them
 pub record IsFetched (old : Local) (n : ℕ) (new : Local) : Type 0 where
   pub copy : Copied
   pub at : slice_get old.copies n ≡ Some copy

@@ -19,7 +19,7 @@ pub record IsSame (m n : Local) : Type 0 where
 abbrev pub IsHanded : Local → Local → Type 0
 IsHanded m n = n ≡ handed m
 
--- the call entered, and left all as it found it: what it waits for is absent, or the journal has no room for so many
+-- the call entered, and left all as it found it: what it waits for is absent, or the journal has no room for that many
 -- events, or no memory was to be had
 pub record IsRefusedInside (many : ℕ) (absent : Local → Type 0) (old new : Local) (e : Refused) : Type 0 where
   pub entered : IsAfter IsSame old new

@@ -17,7 +17,7 @@ use Rattle.cluster.specs.Covers.{Covers, IsAllowed}
 use Rattle.cluster.specs.Entering.{IsAfter}
 use Rattle.cluster.specs.Refusals.{flush_refusal}
 
--- of a history of which so many events were cut off, the next n are to be cut off: they end an episode, and no longer
+-- of a history of which that many events were cut off, the next n are to be cut off: they end an episode, and no longer
 -- front of what is left does; and all that is cut off stays within the limit
 pub record MayCutOff (s : Sizes) (h : List Event) (cut n : ℕ) : Type 0 where
   pub place : IsCut s.processors (drop cut h) n

@@ -59,7 +59,7 @@ pub record HasLeft (old new : ChairToken State View) (held : Held) (b : State) :
 abbrev pub FindsBook : ChairToken State View → State → Type 0
 FindsBook c b = Stands Kept b (place c) (view c)
 
--- the processor after it entered, others' events had come, and so many were cut off
+-- the processor after it entered, others' events had come, and that many were cut off
 abbrev pub entered : Local → List Event → ℕ → Local
 entered m rest cut = record (found m rest) { entries = m.entries + 1; cut = cut }
 

@@ -1,4 +1,6 @@
--- How often each page is written to in what would be sent.
+-- How many notices of each page would be sent, counted without making the list.
+-- A loop adds an interval's pages to the counts (Counted), an owner's queue after the other (Walked).
+-- The sum over owners is that of the closing order, and is at most the number of intervals closed. (Most)
 pub mod Counted
 pub mod Most
 pub mod Walked

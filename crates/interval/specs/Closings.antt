@@ -1,5 +1,5 @@
 -- The closed intervals that are kept, as one list in closing order.
-use Rattle.std.specs.Prelude.{ℕ, ◌+◌, ◌==◌, ◌&&◌, nat_lt, nat_le, not, min, max, Bool, Option, List, [], ◌∷◌, ◌++◌, map, filter, find, slice_index, slice_set}
+use Rattle.std.specs.Prelude.{ℕ, ◌≡◌, ◌≤◌, ◌+◌, ◌==◌, ◌&&◌, nat_lt, nat_le, not, min, max, Bool, Option, List, [], ◌∷◌, ◌++◌, map, filter, find, length, slice_index, slice_set}
 use Rattle.std.specs.List.{flat_map}
 use Rattle.std.specs.Option.{option_and_then}
 use Rattle.page.specs.Changes.{Changes}
@@ -58,6 +58,13 @@ sent_interval k = map (sent_record k) k.interval.records
 -- the kept intervals that `new` covers and `old` doesn't, in closing order
 abbrev pub between : Closings → List ℕ → List ℕ → List SentRecord
 between c old new = flat_map sent_interval (filter (is_news old new) c.kept)
+
+-- all that lies between these timestamps is kept: each has an entry for each owner, and none is dropped that `old`
+-- doesn't cover
+pub record KeepsBetween (c : Closings) (old new : List ℕ) : Type 0 where
+  pub old_long : length old ≡ length c.first
+  pub new_long : length new ≡ length c.first
+  pub none_trimmed : (q : ℕ) → slice_index c.first q ≤ slice_index old q
 
 -- it announces a record of the page
 abbrev pub is_of_page : ℕ → SentRecord → Bool

@@ -1,6 +1,6 @@
 -- The words that contracts name, passed on from one place. Declares nothing.
 pub use Rattle.interval.specs.Intervals.{ClosedInterval, HasRisingPages, IsInClosingOrder, SentRecord}
-pub use Rattle.interval.specs.Closings.{Closings, between, is_news, is_of_page, pushed, record_of, sent_interval}
-pub use Rattle.interval.specs.Closings.{sent_record, trimmed}
+pub use Rattle.interval.specs.Closings.{Closings, KeepsBetween, between, is_news, is_of_page, pushed, record_of}
+pub use Rattle.interval.specs.Closings.{sent_interval, sent_record, trimmed}
 pub use Rattle.interval.specs.Queues.{AreAll, AreQueues, Queue, closings, within, without}
 pub use Rattle.interval.specs.Counts.{AreCounted, HasRoom, pages_of, pages_of_records}

@@ -1,5 +1,5 @@
 -- How the kept intervals lie: one queue for each owner.
-use Rattle.std.specs.Prelude.{ℕ, ◌≡◌, ◌≢◌, ◌↔◌, ◌+◌, ◌-◌, ◌<◌, min, max, drop, take, nat_lt, cond, Some, List, [], ◌∷◌, map, length, slice_get}
+use Rattle.std.specs.Prelude.{ℕ, ◌≡◌, ◌≢◌, ◌↔◌, ◌+◌, ◌-◌, ◌^◌, ◌<◌, min, max, drop, take, nat_lt, cond, Some, List, [], ◌∷◌, map, length, slice_get}
 use Rattle.std.specs.List.{flat_map}
 use Rattle.lists.specs.Places.{Has, InOrder}
 use Rattle.interval.specs.declared.kept.Kept.{Kept}
@@ -43,13 +43,14 @@ pub record IsQueued (owner count : ℕ) (queue : Queue) (i : ℕ) (k : Kept) : T
   pub closed : k.place < count
   pub pages : HasRisingPages k.interval.records
 
--- the owner's queue, when so many intervals were closed in all
+-- the owner's queue, when that many intervals were closed in all
 pub record IsQueue (owner count : ℕ) (queue : Queue) : Type 0 where
   pub each : (i : ℕ) (k : Kept) → slice_get queue.kept i ≡ Some k → IsQueued owner count queue i k
   pub rising : InOrder (λ (j k : Kept). j.place < k.place) queue.kept
 
--- one queue for each owner, and no closing number in two of them
+-- one queue for each owner, and no closing number in two of them; the count of all that were closed fits a word
 pub record AreQueues (queues : List Queue) (count : ℕ) : Type 0 where
+  pub few : count < 2 ^ 64
   pub each : (q : ℕ) (queue : Queue) → slice_get queues q ≡ Some queue → IsQueue q count queue
   pub apart : (q r : ℕ) (a b : Queue) (j k : Kept) → slice_get queues q ≡ Some a → slice_get queues r ≡ Some b
       → Has a.kept j → Has b.kept k → j.place ≡ k.place → q ≡ r

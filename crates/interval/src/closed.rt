@@ -4,8 +4,8 @@ ghost use Rattle.std.specs.Prelude.{replicate, [], ◌∷◌, length, find, filt
 ghost use Rattle.std.specs.Prelude.{EachIndex, map};
 ghost use Rattle.std.specs.Option.{option_copied};
 ghost use Rattle.vtime.specs.Times.{tick};
-ghost use Rattle.interval.specs.Prelude.{HasRisingPages, IsInClosingOrder, pushed, trimmed, is_news, between};
-ghost use Rattle.interval.specs.Prelude.{is_of_page, record_of, AreAll};
+ghost use Rattle.interval.specs.Prelude.{HasRisingPages, IsInClosingOrder, KeepsBetween, pushed, trimmed, is_news};
+ghost use Rattle.interval.specs.Prelude.{between, is_of_page, record_of, AreAll};
 
 use crate::kept::{Interval, Kept};
 use crate::notice::{Notice, Sent};
@@ -77,9 +77,7 @@ impl Closed {
     /// each record; what else is kept costs nothing. It takes memory for those intervals and for what it
     /// answers.
     pub fn between(&self, old: &VTime, new: &VTime) -> Result<Vec<Sent>, AllocError>
-        requires old_long { length old.now ≡ length self.now.first }
-        requires new_long { length new.now ≡ length self.now.first }
-        requires none_trimmed { (q : ℕ) → slice_index self.now.first q ≤ slice_index old.now q }
+        requires { KeepsBetween self.now old.now new.now }
         ensures value { IfOk result (λ sent. sent.items ≡ between self.now old.now new.now) }
         ensures in_order { IfOk result (λ sent. IsInClosingOrder sent.items) }
     {
@@ -96,9 +94,7 @@ impl Closed {
     /// the number for page n. Pages past the slice's end are not counted. It takes no memory, and costs in
     /// the order of the owners, the slice, and the intervals between the timestamps with their records.
     pub fn count_news(&self, old: &VTime, new: &VTime, counts: &mut [usize])
-        requires old_long { length old.now ≡ length self.now.first }
-        requires new_long { length new.now ≡ length self.now.first }
-        requires none_trimmed { (q : ℕ) → slice_index self.now.first q ≤ slice_index old.now q }
+        requires { KeepsBetween self.now old.now new.now }
         ensures each { EachIndex counts.new
             (λ n. slice_index counts.new n ≡ count_by (is_of_page n)
             (between self.now old.now new.now)) }
@@ -109,9 +105,7 @@ impl Closed {
 
     /// How many notices of the page `between` answers. It takes no memory, and costs as `count_news` does.
     pub fn news_of(&self, page: usize, old: &VTime, new: &VTime) -> usize
-        requires old_long { length old.now ≡ length self.now.first }
-        requires new_long { length new.now ≡ length self.now.first }
-        requires none_trimmed { (q : ℕ) → slice_index self.now.first q ≤ slice_index old.now q }
+        requires { KeepsBetween self.now old.now new.now }
         ensures { result ≡ count_by (is_of_page page) (between self.now old.now new.now) }
     {
         let mut count = [0];
@@ -122,16 +116,12 @@ impl Closed {
     /// As `count_news`, with the number for page `base + i` in entry i: one walk over each owner's intervals
     /// between the timestamps, in no order.
     fn count_pages(&self, base: usize, old: &VTime, new: &VTime, counts: &mut [usize])
-        requires old_long { length old.now ≡ length self.now.first }
-        requires new_long { length new.now ≡ length self.now.first }
-        requires none_trimmed { (q : ℕ) → slice_index self.now.first q ≤ slice_index old.now q }
+        requires { KeepsBetween self.now old.now new.now }
         ensures each { EachIndex counts.new
             (λ i. slice_index counts.new i ≡ count_by (is_of_page (base + i))
             (between self.now old.now new.now)) }
         ensures same_length { length counts.new ≡ length counts.old }
     {
-        // No count passes the number of intervals that were ever closed.
-        let _most = self.pushed;
         counts.fill(0);
         for (owner, queue) in self.queues.iter().enumerate() {
             queue.count_pages(old.entry(owner), new.entry(owner), base, counts);
@@ -148,9 +138,7 @@ impl Closed {
     ) -> Result<Vec<Sent>, AllocError>
         requires owner { interval.now.owner < length self.now.next }
         requires pages { HasRisingPages interval.now.records }
-        requires old_long { length old.now ≡ length self.now.first }
-        requires new_long { length new.now ≡ length self.now.first }
-        requires none_trimmed { (q : ℕ) → slice_index self.now.first q ≤ slice_index old.now q }
+        requires kept { KeepsBetween self.now old.now new.now }
         ensures value { IfOk result (λ sent. sent.items
             ≡ between (pushed self.now interval.now) old.now new.now) }
         ensures in_order { IfOk result (λ sent. IsInClosingOrder sent.items) }
@@ -165,9 +153,7 @@ impl Closed {
 
     /// The intervals that `new` covers and `old` doesn't, owner by owner.
     fn news(&self, old: &VTime, new: &VTime) -> Result<Vec<&Kept>, AllocError>
-        requires old_long { length old.now ≡ length self.now.first }
-        requires new_long { length new.now ≡ length self.now.first }
-        requires none_trimmed { (q : ℕ) → slice_index self.now.first q ≤ slice_index old.now q }
+        requires { KeepsBetween self.now old.now new.now }
         ensures { IfOk result (λ news. AreAll (filter (is_news old.now new.now) self.now.kept)
             (map (λ k. k.now) news.items)) }
     {

@@ -9,19 +9,19 @@ use Rattle.replicas.specs.Copies.{Copied, AllFit, FitsPage}
 use Rattle.replicas.specs.Counts.{AreCountable}
 use Rattle.replicas.specs.Records.{DirtyAreMarked}
 
--- valid copies of pages of so many words, with marks where they were stored to
+-- valid copies of pages of that many words, with marks where they were stored to
 pub record AreOpen (words : ℕ) (copies : List Copied) (marks : List Bool) : Type 0 where
   pub valid : (n : ℕ) (c : Copied) → slice_get copies n ≡ Some c → c.page.access ≡ Valid
   pub long : (n : ℕ) (c : Copied) → slice_get copies n ≡ Some c → length c.page.words ≡ words
   pub marked : DirtyAreMarked copies marks
 
--- the notice of a word of page 0, where a page has so many words, at this place
+-- the notice of a word of page 0, where a page has that many words, at this place
 pub record IsNotice (words place : ℕ) (x : SentRecord) : Type 0 where
   pub page : x.notice.page ≡ 0
   pub place_is : x.place ≡ place
   pub fits : FitsPage words x
 
--- notices of page 0, where a page has so many words, in closing order
+-- notices of page 0, where a page has that many words, in closing order
 pub record AreNotices (words : ℕ) (sent : List SentRecord) : Type 0 where
   pub some : sent ≢ []
   pub page : (x : SentRecord) → Has sent x → x.notice.page ≡ 0

@@ -25,7 +25,7 @@ impl Model for Transit {
 }
 
 impl Transit {
-    /// No message, for so many processors.
+    /// No message, for that many processors.
     pub fn new(alloc: Global, processors: usize) -> Result<Transit, AllocError>
         ensures { IfOk result (λ t. t ≡ replicate processors None) }
     {

@@ -45,7 +45,8 @@ module _ (B V : Type 0) (fact : B → List V → Type 0) (shows : List ℕ → �
         behind = zero-le;
         fits = λ k c e. subst (λ (x : ChairState B V). Fits 0 (drawn (replicate n (fresh {B = B} v))) false book
             x.stage) (idle k c e) tt;
-        apart = λ k j m f g. absurd (none-some m (ap (λ (x : ChairState B V). number x.stage) (idle k f.0 f.1) ∙ f.2));
+        apart = λ k j m f g. absurd (none-some m (ap (λ (x : ChairState B V). number x.stage) (idle k f.0 f.1)
+            ∙ f.2));
         queued = λ m low high. absurd (omega arith);
         lies = refl;
         taken = λ o. absurd (let no : false ≡ true = o in cc);
@@ -63,32 +64,35 @@ module _ (B V : Type 0) (fact : B → List V → Type 0) (shows : List ℕ → �
       (first_turns (suc n) words book v room next shown keeps)
 
   -- the slot of the last table has the book, and the fact holds of it and the chairs' views
-  pub ends : (n id : ℕ) (v : ChairRun (ChairState B V)) (cs : List (ChairToken B V)) (words : List ℕ)
-      (slots : List (Option B)) (slot : Option B) → v.live ≡ true → v.place ≡ 0 → chairs_of v ≡ map state_of cs
-      → length cs ≡ n
-      → ((k : ℕ) (c : ChairToken B V) → slice_get cs k ≡ Some c → IsOutside c)
-      → Final (Seen (Dealt n (Turns fact shows limit)) id v) words slots
-      → get_elem? slots 0 ≡ some slot → (book : B) × (slot ≡ Some book) × fact book (map view cs)
-  ends n id v cs words slots slot live first all long outside last found =
-      let s = last.0 in
-      let d = last.1.0 in
-      let t = d.keeps in
-      let count : length (chairs_of v) ≡ n = ap length all ∙ length-map cs state_of ∙ long in
-      let chairs : d.chairs ≡ map state_of cs =
-      gathered (Option B) (ChairState B V) n (Turns fact shows limit) s d id v (got_at s.views id v last.1.1)
-      live first count ∙ all in
-      let off : t.out ≡ false = not_true t.out (λ o.
-      let q = t.taken o in
-      let c = at_unmap state_of cs q.0 q.2 (subst (λ (l : List (ChairState B V)). slice_get l q.0 ≡ Some q.2)
-      chairs q.3) in
-      inside_outside q.1 t.book (sym q.4 ∙ ap (λ (x : ChairState B V). x.stage) (sym c.2) ∙ outside q.0 c.0 c.1)) in
-      let lies : s.homes ≡ some (Some t.book) ∷ [] = t.lies ∙ ap (λ (o : Bool). shelf o t.book) off in
-      let views : map view_of d.chairs ≡ map view cs = ap (map view_of) chairs ∙ map_map view_of state_of cs in
-      let full : get_elem? slots 0 ≡ some (Some t.book) =
-      last.4 0 (Some t.book) (ap (λ (hs : List (maybe.Option (Option B))). get_elem? hs 0) lies) in (
-        t.book,
-        some-injective slot (Some t.book) (sym found ∙ full),
-        subst (λ (vs : List V). fact t.book vs) views t.kept,
+  pub ends : (n id : ℕ) (run : ChairRun (ChairState B V)) (tokens : List (ChairToken B V)) (words : List ℕ)
+      (slots : List (Option B)) (slot : Option B) → run.live ≡ true → run.place ≡ 0
+      → chairs_of run ≡ map state_of tokens → length tokens ≡ n
+      → ((k : ℕ) (c : ChairToken B V) → slice_get tokens k ≡ Some c → IsOutside c)
+      → Final (Seen (Dealt n (Turns fact shows limit)) id run) words slots
+      → get_elem? slots 0 ≡ some slot → (book : B) × (slot ≡ Some book) × fact book (map view tokens)
+  ends n id run tokens words slots slot live first all long outside last found =
+      let table = last.0 in
+      let dealt = last.1.0 in
+      let turns = dealt.keeps in
+      let count : length (chairs_of run) ≡ n = ap length all ∙ length-map tokens state_of ∙ long in
+      let chairs : dealt.chairs ≡ map state_of tokens =
+      gathered (Option B) (ChairState B V) n (Turns fact shows limit) table dealt id run
+      (got_at table.views id run last.1.1) live first count ∙ all in
+      let off : turns.out ≡ false = not_true turns.out (λ o.
+      let taker = turns.taken o in
+      let token = at_unmap state_of tokens taker.0 taker.2
+      (subst (λ (l : List (ChairState B V)). slice_get l taker.0 ≡ Some taker.2) chairs taker.3) in
+      inside_outside taker.1 turns.book (sym taker.4 ∙ ap (λ (x : ChairState B V). x.stage) (sym token.2)
+      ∙ outside taker.0 token.0 token.1)) in
+      let lies : table.homes ≡ some (Some turns.book) ∷ [] =
+      turns.lies ∙ ap (λ (o : Bool). shelf o turns.book) off in
+      let views : map view_of dealt.chairs ≡ map view tokens =
+      ap (map view_of) chairs ∙ map_map view_of state_of tokens in
+      let full : get_elem? slots 0 ≡ some (Some turns.book) =
+      last.4 0 (Some turns.book) (ap (λ (homes : List (maybe.Option (Option B))). get_elem? homes 0) lies) in (
+        turns.book,
+        some-injective slot (Some turns.book) (sym found ∙ full),
+        subst (λ (vs : List V). fact turns.book vs) views turns.kept,
       )
 
 module _ {B V : Type 0} where

@@ -33,154 +33,171 @@ module _ (C : Type 0) where
   more P c cs here rest zero d e = subst (λ (x : C). P 0 x) (same_Some c d e) here
   more P c cs here rest (suc j) d e = rest j d e
 
-module _ (S C : Type 0) (n : ℕ) (core : List ℕ → List (Option S) → List C → Type 0) where
+module _ {S C : Type 0} {n : ℕ} {core : List ℕ → List (Option S) → List C → Type 0} {s : State S (ChairRun C)}
+    (dealt : Dealt n core s) (id place : ℕ) (chair : C) where
   -- the chair of a seat with one place
-  pub at_place : (s : State S (ChairRun C)) (d : Dealt n core s) (id p : ℕ) (c : C)
-      → slice_get s.views id ≡ Some (one p c) → slice_get d.chairs p ≡ Some c
-  at_place s d id p c at = subst (λ (k : ℕ). slice_get d.chairs k ≡ Some c) (add-zero p)
-      (d.known id (one p c) at refl zero c refl).0
+  pub at_place : slice_get s.views id ≡ Some (one place chair) → slice_get dealt.chairs place ≡ Some chair
+  at_place at = subst (λ (k : ℕ). slice_get dealt.chairs k ≡ Some chair) (add-zero place)
+      (dealt.known id (one place chair) at refl zero chair refl).0
 
-  moved_known : (s : State S (ChairRun C)) (d : Dealt n core s) (id p : ℕ) (c c' : C)
-      → slice_get s.views id ≡ Some (one p c)
-      → (j : ℕ) (h : ChairRun C) → slice_get (set s.views id (one p c')) j ≡ Some h → h.live ≡ true
-      → Knows (set d.chairs p c') d.owner j h
-  moved_known s d id p c c' at j h e live =
-      let mine = d.known id (one p c) at refl zero c refl in
+  moved_known : (now : C) → slice_get s.views id ≡ Some (one place chair) → (j : ℕ) (h : ChairRun C)
+      → slice_get (set s.views id (one place now)) j ≡ Some h → h.live ≡ true
+      → Knows (set dealt.chairs place now) dealt.owner j h
+  moved_known now at j h e live =
+      let mine = dealt.known id (one place chair) at refl zero chair refl in
       ⊎_elim
-      (λ (t : (j ≡ id) × (one p c' ≡ h)). subst (λ (g : ChairRun C). Knows (set d.chairs p c') d.owner j g) t.1
-      (only C (λ i x. (slice_get (set d.chairs p c') (p + i) ≡ Some x) × (d.owner (p + i) ≡ j)) c' (
-        subst (λ (k : ℕ). slice_get (set d.chairs p c') k ≡ Some c') (sym (add-zero p))
-            (set_here d.chairs p c' (slice_get_within d.chairs p c (at_place s d id p c at))),
-        mine.1 ∙ sym t.0,
+      (λ (own : (j ≡ id) × (one place now ≡ h)). subst
+      (λ (g : ChairRun C). Knows (set dealt.chairs place now) dealt.owner j g) own.1
+      (only C (λ i x. (slice_get (set dealt.chairs place now) (place + i) ≡ Some x) × (dealt.owner (place + i) ≡ j))
+      now (
+        subst (λ (k : ℕ). slice_get (set dealt.chairs place now) k ≡ Some now) (sym (add-zero place))
+            (set_here dealt.chairs place now (slice_get_within dealt.chairs place chair (at_place at))),
+        mine.1 ∙ sym own.0,
       )))
-      (λ (t : (j ≢ id) × (slice_get s.views j ≡ Some h)). λ (i : ℕ) (x : C) (f : slice_get (chairs_of h) i ≡ Some x).
-      let k = d.known j h t.1 live i x f in
-      let apart : h.place + i ≢ p = λ same. t.0 (sym k.1 ∙ ap d.owner (same ∙ sym (add-zero p)) ∙ mine.1) in
-      (set_else d.chairs p (h.place + i) c' apart ∙ k.0, k.1))
-      (at_set s.views id j (one p c') h e)
+      (λ (other : (j ≢ id) × (slice_get s.views j ≡ Some h)). λ (i : ℕ) (x : C)
+      (f : slice_get (chairs_of h) i ≡ Some x).
+      let theirs = dealt.known j h other.1 live i x f in
+      let apart : h.place + i ≢ place = λ same. other.0
+      (sym theirs.1 ∙ ap dealt.owner (same ∙ sym (add-zero place)) ∙ mine.1) in
+      (set_else dealt.chairs place (h.place + i) now apart ∙ theirs.0, theirs.1))
+      (at_set s.views id j (one place now) h e)
 
   -- a seat with one place changes its chair
-  pub moved : (s : State S (ChairRun C)) (d : Dealt n core s) (id p : ℕ) (c c' : C) (words : List ℕ)
-      (homes : List (Option S)) → slice_get s.views id ≡ Some (one p c)
-      → core words homes (set d.chairs p c') → Dealt n core
-      (record { words = words; homes = homes; views = set s.views id (one p c') })
-  moved s d id p c c' words homes at keeps = record {
-    chairs = set d.chairs p c';
-    owner = d.owner;
-    all = length-set d.chairs p c' ∙ d.all;
-    known = moved_known s d id p c c' at;
+  pub moved : (now : C) (words : List ℕ) (homes : List (Option S)) → slice_get s.views id ≡ Some (one place chair)
+      → core words homes (set dealt.chairs place now)
+      → Dealt n core (record { words = words; homes = homes; views = set s.views id (one place now) })
+  moved now words homes at keeps = record {
+    chairs = set dealt.chairs place now;
+    owner = dealt.owner;
+    all = length-set dealt.chairs place now ∙ dealt.all;
+    known = moved_known now at;
     keeps = keeps;
   }
 
-  first_known : (s : State S (ChairRun C)) (d : Dealt n core s) (id : ℕ) (v : ChairRun C) → v.live ≡ true
-      → slice_get s.views id ≡ Some v → (m : ℕ) → Knows d.chairs (given d.owner v.place m) m (first_of v)
-  first_known s d id v live at m = only C
-      (λ i x. (slice_get d.chairs (v.place + i) ≡ Some x) × (given d.owner v.place m (v.place + i) ≡ m)) v.lead
-      ((d.known id v at live zero v.lead refl).0, given_here d.owner v.place m (v.place + zero) (add-zero v.place))
+module _ (S C : Type 0) (n : ℕ) (core : List ℕ → List (Option S) → List C → Type 0) where
+  first_known : (table : State S (ChairRun C)) (dealt : Dealt n core table) (id : ℕ) (run : ChairRun C) → run.live
+      ≡ true
+      → slice_get table.views id ≡ Some run → (new : ℕ) → Knows dealt.chairs (given dealt.owner run.place new) new
+      (first_of run)
+  first_known table dealt id run live at new = only C
+      (λ i x. (slice_get dealt.chairs (run.place + i) ≡ Some x) ×
+      (given dealt.owner run.place new (run.place + i) ≡ new)) run.lead (
+        (dealt.known id run at live zero run.lead refl).0,
+        given_here dealt.owner run.place new (run.place + zero)
+            (add-zero run.place),
+      )
 
-  rest_known : (s : State S (ChairRun C)) (d : Dealt n core s) (id m p : ℕ) (c : C) (cs : List C)
+  rest_known : (table : State S (ChairRun C)) (dealt : Dealt n core table) (id new p : ℕ) (c : C) (cs : List C)
       → ((j : ℕ) (x : C) → slice_get (c ∷ cs) j ≡ Some x
-      → (slice_get d.chairs (p + j) ≡ Some x) × (d.owner (p + j) ≡ id))
-      → (after_first (p + 1) c cs).live ≡ true → Knows d.chairs (given d.owner p m) id (after_first (p + 1) c cs)
-  rest_known s d id m p c [] known live = cc
-  rest_known s d id m p c (y ∷ ys) known live = λ (j : ℕ) (x : C) (e : slice_get (y ∷ ys) j ≡ Some x).
+      → (slice_get dealt.chairs (p + j) ≡ Some x) × (dealt.owner (p + j) ≡ id))
+      → (after_first (p + 1) c cs).live ≡ true → Knows dealt.chairs (given dealt.owner p new) id
+      (after_first (p + 1) c cs)
+  rest_known table dealt id new p c [] known live = cc
+  rest_known table dealt id new p c (y ∷ ys) known live = λ (j : ℕ) (x : C) (e : slice_get (y ∷ ys) j ≡ Some x).
       let k = known (suc j) x e in
       let same : p + suc j ≡ p + 1 + j = omega arith in (
-        subst (λ (i : ℕ). slice_get d.chairs i ≡ Some x) same k.0,
-        given_else d.owner p m (p + 1 + j) (λ z. omega arith) ∙ ap d.owner (sym same) ∙ k.1,
+        subst (λ (i : ℕ). slice_get dealt.chairs i ≡ Some x) same k.0,
+        given_else dealt.owner p new (p + 1 + j) (λ z. omega arith) ∙ ap dealt.owner (sym same) ∙ k.1,
       )
 
   -- a seat gives its first chair to a new seat
-  pub deals : (id : ℕ) (v : ChairRun C) → v.live ≡ true → Splits (Dealt n core) id v (rest_of v) (first_of v)
-  deals id v live s d found =
-      let at = got_at s.views id v found in
-      let m = length s.views in
-      let long : length (set s.views id (rest_of v)) ≡ m = length-set s.views id (rest_of v) in
+  pub deals : (id : ℕ) (run : ChairRun C) → run.live ≡ true
+      → Splits (Dealt n core) id run (rest_of run) (first_of run)
+  deals id run live table dealt found =
+      let at = got_at table.views id run found in
+      let new = length table.views in
+      let kept = set table.views id (rest_of run) in
+      let long : length kept ≡ new = length-set table.views id (rest_of run) in
+      let owner = given dealt.owner run.place new in
       record {
-        chairs = d.chairs;
-        owner = given d.owner v.place m;
-        all = d.all;
+        chairs = dealt.chairs;
+        owner = owner;
+        all = dealt.all;
         known = λ j h e alive. ⊎_elim
-            (λ (f : slice_get (set s.views id (rest_of v)) j ≡ Some h). ⊎_elim
-            (λ (t : (j ≡ id) × (rest_of v ≡ h)).
-            let K = rest_known s d id m v.place v.lead v.others (d.known id v at live) in
-            let g = subst (λ (g : ChairRun C). g.live ≡ true → Knows d.chairs (given d.owner v.place m) id g) t.1 K in
-            subst (λ (i : ℕ). Knows d.chairs (given d.owner v.place m) i h) (sym t.0) (g alive))
-            (λ (t : (j ≢ id) × (slice_get s.views j ≡ Some h)). λ (i : ℕ) (x : C)
-            (g : slice_get (chairs_of h) i ≡ Some x).
-            let k = d.known j h t.1 alive i x g in
-            let mine = d.known id v at live zero v.lead refl in
-            let apart : h.place + i ≢ v.place = λ same. t.0
-            (sym k.1 ∙ ap d.owner (same ∙ sym (add-zero v.place)) ∙ mine.1) in
-            (k.0, given_else d.owner v.place m (h.place + i) apart ∙ k.1))
-            (at_set s.views id j (rest_of v) h f))
-            (λ (t : (j ≡ length (set s.views id (rest_of v))) × (first_of v ≡ h)).
-            subst (λ (g : ChairRun C). Knows d.chairs (given d.owner v.place m) j g) t.1
-            (subst (λ (i : ℕ). Knows d.chairs (given d.owner v.place m) i (first_of v)) (sym (t.0 ∙ long))
-            (first_known s d id v live at m)))
-            (at_end (set s.views id (rest_of v)) (first_of v) h j e);
-        keeps = d.keeps;
+            (λ (old : slice_get kept j ≡ Some h). ⊎_elim
+            (λ (own : (j ≡ id) × (rest_of run ≡ h)).
+            let rest = rest_known table dealt id new run.place run.lead run.others (dealt.known id run at live) in
+            let left = subst (λ (g : ChairRun C). g.live ≡ true → Knows dealt.chairs owner id g) own.1 rest in
+            subst (λ (i : ℕ). Knows dealt.chairs owner i h) (sym own.0) (left alive))
+            (λ (other : (j ≢ id) × (slice_get table.views j ≡ Some h)). λ (i : ℕ) (x : C)
+            (there : slice_get (chairs_of h) i ≡ Some x).
+            let theirs = dealt.known j h other.1 alive i x there in
+            let mine = dealt.known id run at live zero run.lead refl in
+            let apart : h.place + i ≢ run.place = λ same. other.0
+            (sym theirs.1 ∙ ap dealt.owner (same ∙ sym (add-zero run.place)) ∙ mine.1) in
+            (theirs.0, given_else dealt.owner run.place new (h.place + i) apart ∙ theirs.1))
+            (at_set table.views id j (rest_of run) h old))
+            (λ (last : (j ≡ length kept) × (first_of run ≡ h)).
+            subst (λ (g : ChairRun C). Knows dealt.chairs owner j g) last.1
+            (subst (λ (i : ℕ). Knows dealt.chairs owner i (first_of run)) (sym (last.0 ∙ long))
+            (first_known table dealt id run live at new)))
+            (at_end kept (first_of run) h j e);
+        keeps = dealt.keeps;
       }
 
   -- a seat takes in the chair at the place before its own
-  pub gathers : (id other : ℕ) (v w spent : ChairRun C) → v.live ≡ true → w.live ≡ true → spent.live ≡ false
-      → v.place ≡ w.place + 1
-      → Joins (Dealt n core) id v other w (both_of v w) spent
-  gathers id other v w spent live alive dead next s d found ne met =
-      let at = got_at s.views id v found in
-      let both = both_of v w in
-      let there : slice_get s.views other ≡ Some w =
-      sym (set_else s.views id other both ne) ∙ got_at (set s.views id both) other w met in
-      let own = given d.owner w.place id in
-      let first = d.known other w there alive zero w.lead refl in
+  pub gathers : (id other : ℕ) (run lower spent : ChairRun C) → run.live ≡ true → lower.live ≡ true
+      → spent.live ≡ false → run.place ≡ lower.place + 1
+      → Joins (Dealt n core) id run other lower (both_of run lower) spent
+  gathers id other run lower spent live alive dead next table dealt found apart_ids met =
+      let at = got_at table.views id run found in
+      let both = both_of run lower in
+      let there : slice_get table.views other ≡ Some lower =
+      sym (set_else table.views id other both apart_ids) ∙ got_at (set table.views id both) other lower met in
+      let owner = given dealt.owner lower.place id in
+      let first = dealt.known other lower there alive zero lower.lead refl in
       record {
-        chairs = d.chairs;
-        owner = own;
-        all = d.all;
+        chairs = dealt.chairs;
+        owner = owner;
+        all = dealt.all;
         known = λ j h e up. ⊎_elim
-            (λ (t : (j ≡ other) × (spent ≡ h)). let f : h.live ≡ false =
-            ap (λ (g : ChairRun C). g.live) (sym t.1) ∙ dead in cc)
-            (λ (t : (j ≢ other) × (slice_get (set s.views id both) j ≡ Some h)). ⊎_elim
-            (λ (u : (j ≡ id) × (both ≡ h)). subst (λ (g : ChairRun C). Knows d.chairs own j g) u.1
-            (more C (λ i x. (slice_get d.chairs (w.place + i) ≡ Some x) × (own (w.place + i) ≡ j)) w.lead (chairs_of v)
-            (first.0, given_here d.owner w.place id (w.place + zero) (add-zero w.place) ∙ sym u.0)
+            (λ (gone : (j ≡ other) × (spent ≡ h)). let off : h.live ≡ false =
+            ap (λ (g : ChairRun C). g.live) (sym gone.1) ∙ dead in cc)
+            (λ (left : (j ≢ other) × (slice_get (set table.views id both) j ≡ Some h)). ⊎_elim
+            (λ (own : (j ≡ id) × (both ≡ h)). subst (λ (g : ChairRun C). Knows dealt.chairs owner j g) own.1
+            (more C (λ i x. (slice_get dealt.chairs (lower.place + i) ≡ Some x) × (owner (lower.place + i) ≡ j))
+            lower.lead (chairs_of run)
+            (first.0, given_here dealt.owner lower.place id (lower.place + zero) (add-zero lower.place) ∙ sym own.0)
             (λ i x f.
-            let k = d.known id v at live i x f in
-            let same : v.place + i ≡ w.place + suc i = omega arith in (
-              subst (λ (p : ℕ). slice_get d.chairs p ≡ Some x) same k.0,
-              given_else d.owner w.place id (w.place + suc i) (λ z. omega arith) ∙ ap d.owner (sym same) ∙ k.1
-                  ∙ sym u.0,
+            let mine = dealt.known id run at live i x f in
+            let same : run.place + i ≡ lower.place + suc i = omega arith in (
+              subst (λ (p : ℕ). slice_get dealt.chairs p ≡ Some x) same mine.0,
+              given_else dealt.owner lower.place id (lower.place + suc i) (λ z. omega arith)
+                  ∙ ap dealt.owner (sym same) ∙ mine.1 ∙ sym own.0,
             ))))
-            (λ (u : (j ≢ id) × (slice_get s.views j ≡ Some h)). λ (i : ℕ) (x : C)
+            (λ (third : (j ≢ id) × (slice_get table.views j ≡ Some h)). λ (i : ℕ) (x : C)
             (f : slice_get (chairs_of h) i ≡ Some x).
-            let k = d.known j h u.1 up i x f in
-            let apart : h.place + i ≢ w.place = λ same. t.0
-            (sym k.1 ∙ ap d.owner (same ∙ sym (add-zero w.place)) ∙ first.1) in
-            (k.0, given_else d.owner w.place id (h.place + i) apart ∙ k.1))
-            (at_set s.views id j both h t.1))
-            (at_set (set s.views id both) other j spent h e);
-        keeps = d.keeps;
+            let theirs = dealt.known j h third.1 up i x f in
+            let apart : h.place + i ≢ lower.place = λ same. left.0
+            (sym theirs.1 ∙ ap dealt.owner (same ∙ sym (add-zero lower.place)) ∙ first.1) in
+            (theirs.0, given_else dealt.owner lower.place id (h.place + i) apart ∙ theirs.1))
+            (at_set table.views id j both h left.1))
+            (at_set (set table.views id both) other j spent h e);
+        keeps = dealt.keeps;
       }
 
   -- the table at the start: one seat has all places
-  pub opens : (words : List ℕ) (slots : List S) (v : ChairRun C) → v.live ≡ true → v.place ≡ 0
-      → length (chairs_of v) ≡ n → core words (map some slots) (chairs_of v) → Dealt n core (opening words slots v)
-  opens words slots v live first all keeps = record {
-    chairs = chairs_of v;
+  pub opens : (words : List ℕ) (slots : List S) (run : ChairRun C) → run.live ≡ true → run.place ≡ 0
+      → length (chairs_of run) ≡ n → core words (map some slots) (chairs_of run) → Dealt n core
+      (opening words slots run)
+  opens words slots run live first all keeps = record {
+    chairs = chairs_of run;
     owner = λ _. 0;
     all = all;
-    known = λ j h e up. only (ChairRun C) (λ i g. Knows (chairs_of v) (λ _. 0) i g) v
+    known = λ j h e up. only (ChairRun C) (λ i g. Knows (chairs_of run) (λ _. 0) i g) run
         (λ i x f. (
-          subst (λ (k : ℕ). slice_get (chairs_of v) k ≡ Some x)
-              (let z : i ≡ v.place + i = omega arith in z) f,
+          subst (λ (k : ℕ). slice_get (chairs_of run) k ≡ Some x)
+              (let z : i ≡ run.place + i = omega arith in z) f,
           refl,
         )) j h e;
     keeps = keeps;
   }
 
   -- who has all places knows all chairs
-  pub gathered : (s : State S (ChairRun C)) (d : Dealt n core s) (id : ℕ) (v : ChairRun C)
-      → slice_get s.views id ≡ Some v → v.live ≡ true → v.place ≡ 0 → length (chairs_of v) ≡ n → d.chairs ≡ chairs_of v
-  gathered s d id v at live first all = same_list d.chairs (chairs_of v) (d.all ∙ sym all)
-      (λ j x e. subst (λ (k : ℕ). slice_get d.chairs k ≡ Some x) (let z : v.place + j ≡ j = omega arith in z)
-      (d.known id v at live j x e).0)
+  pub gathered : (table : State S (ChairRun C)) (dealt : Dealt n core table) (id : ℕ) (run : ChairRun C)
+      → slice_get table.views id ≡ Some run → run.live ≡ true → run.place ≡ 0 → length (chairs_of run) ≡ n
+      → dealt.chairs ≡ chairs_of
+      run
+  gathered table dealt id run at live first all = same_list dealt.chairs (chairs_of run) (dealt.all ∙ sym all)
+      (λ j x e. subst (λ (k : ℕ). slice_get dealt.chairs k ≡ Some x) (let z : run.place + j ≡ j = omega arith in z)
+      (dealt.known id run at live j x e).0)

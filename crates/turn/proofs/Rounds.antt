@@ -55,136 +55,143 @@ module _ (B V : Type 0) (fact : B → List V → Type 0) (width : ℕ) (shows : 
 
   pub draws_allowed : (me : Hold) → IsAtStage Outside me → me.0.lead.entries < limit
       → Allows Rule slots id me 0 (λ m. (m + 1) % 2 ^ 64) (Draws me)
-  draws_allowed me sits less s h long seen fit =
-      let mine = got_at s.views id me.0 seen in
-      let p = me.0.place in
-      let c : ChairState B V = chair_state Outside me.0.lead.entries me.0.lead.view in
-      let next = get_or s.words 0 0 in
-      let mine' : slice_get s.views id ≡ Some (one p c) = mine ∙ ap (λ (x : Hold). Some x.0) sits in
-      let r = draws B V fact width shows at passed board limit s.words s.homes h.chairs h.keeps p c
-      (at_place (Option B) (ChairState B V) n (Turns fact shows limit) s h id p c mine') refl less in
-      let d : ChairState B V = chair_state (Waiting next) (me.0.lead.entries + 1) me.0.lead.view in (
-        one p d,
+  draws_allowed me sits less table dealt long seen fit =
+      let place = me.0.place in
+      let view = me.0.lead.view in
+      let next = get_or table.words 0 0 in
+      let chair : ChairState B V = chair_state Outside me.0.lead.entries view in
+      let now : ChairState B V = chair_state (Waiting next) (me.0.lead.entries + 1) view in
+      let mine : slice_get table.views id ≡ Some (one place chair) =
+      got_at table.views id me.0 seen ∙ ap (λ (x : Hold). Some x.0) sits in
+      let drawn = draws board dealt.keeps place chair (at_place dealt id place chair mine) refl less in
+      let after : (one place now, me.1) ≡ seat_with place (Waiting next) (me.0.lead.entries + 1) view =
+      ap (λ (x : Hold). (one place now, x.1)) sits in (
+        one place now,
         keeps,
         tt,
-        moved (Option B) (ChairState B V) n (Turns fact shows limit) s h id p c d
-            (set s.words 0 ((next + 1) % 2 ^ 64)) s.homes mine' r.1,
-        (
-          let z : (one p d, me.1) ≡ seat_with p (Waiting next) (me.0.lead.entries + 1) me.0.lead.view =
-              ap (λ (x : Hold). (one p d, x.1)) sits in z,
-          r.0,
-        ),
+        moved dealt id place chair now (set table.words 0 ((next + 1) % 2 ^ 64)) table.homes mine drawn.1,
+        (after, drawn.0),
       )
 
   -- a look that finds the chair's own number
-  finds_own : (m : ℕ) (me : Hold) → IsAtStage (Waiting m) me → (s : State (Option B) (ChairRun (ChairState B V)))
-      → Rule s → slice_get s.views id ≡ Some me.0 → get_or s.words (at m) 0 ≡ m
-      → (w : ChairRun (ChairState B V)) × (a : Act (Option B)) × Valid s.homes me.1 a
-      × Rule (stepped s (at m) (get_or s.words (at m) 0) id me.1 w a)
-      × Looks fact me (get_or s.words (at m) 0) (w, carried_after me.1 a)
-  finds_own m me sits s h mine found =
-      let p = me.0.place in
-      let c : ChairState B V = chair_state (Waiting m) me.0.lead.entries me.0.lead.view in
-      let mine' : slice_get s.views id ≡ Some (one p c) = mine ∙ ap (λ (x : Hold). Some x.0) sits in
-      let t = h.keeps in
-      let here = at_place (Option B) (ChairState B V) n (Turns fact shows limit) s h id p c mine' in
-      let low = (t.fits p c here).0 in
-      let served = board.finds s.words t.serving m t.shown low found in
-      let off = not_out B V fact width shows at passed board limit s.words s.homes h.chairs t p c here m refl served in
-      let r = enters B V fact width shows at passed board limit s.words s.homes h.chairs t p c here m refl served in
-      let d : ChairState B V = chair_state (Inside m t.book) me.0.lead.entries me.0.lead.view in
-      let lies : s.homes ≡ some (Some t.book) ∷ [] = t.lies ∙ ap (λ (o : Bool). shelf o t.book) off in
-      let empty : set s.homes 0 none ≡ none ∷ [] = ap (λ (hs : List (maybe.Option (Option B))). set hs 0 none) lies in
+  finds_own : (m : ℕ) (me : Hold) → IsAtStage (Waiting m) me
+      → (table : State (Option B) (ChairRun (ChairState B V))) → Rule table → slice_get table.views id ≡ Some me.0
+      → get_or table.words (at m) 0 ≡ m
+      → (w : ChairRun (ChairState B V)) × (a : Act (Option B)) × Valid table.homes me.1 a
+      × Rule (stepped table (at m) (get_or table.words (at m) 0) id me.1 w a)
+      × Looks fact me (get_or table.words (at m) 0) (w, carried_after me.1 a)
+  finds_own m me sits table dealt seen found =
+      let place = me.0.place in
+      let turns = dealt.keeps in
+      let chair : ChairState B V = chair_state (Waiting m) me.0.lead.entries me.0.lead.view in
+      let now : ChairState B V = chair_state (Inside m turns.book) me.0.lead.entries me.0.lead.view in
+      let mine : slice_get table.views id ≡ Some (one place chair) = seen ∙ ap (λ (x : Hold). Some x.0) sits in
+      let here = at_place dealt id place chair mine in
+      let low = (turns.fits place chair here).0 in
+      let served = board.finds table.words turns.serving m turns.shown low found in
+      let off = not_out board turns place chair here m refl served in
+      let entered = enters board turns place chair here m refl served in
+      let lies : table.homes ≡ some (Some turns.book) ∷ [] =
+      turns.lies ∙ ap (λ (o : Bool). shelf o turns.book) off in
+      let empty : set table.homes 0 none ≡ none ∷ [] =
+      ap (λ (homes : List (maybe.Option (Option B))). set homes 0 none) lies in
       let none_yet : me.1 ≡ [] = ap (λ (x : Hold). x.1) sits in
-      let took : StepsIn fact m me (one p d, (0, Some t.book) ∷ me.1) = (
-        t.book,
-        (map view_of h.chairs, at_map view_of h.chairs p c here, t.kept),
-        ap (λ (xs : List (ℕ × Option B)). (one p d, (0, Some t.book) ∷ xs)) none_yet,
+      let took : StepsIn fact m me (one place now, (0, Some turns.book) ∷ me.1) = (
+        turns.book,
+        (map view_of dealt.chairs, at_map view_of dealt.chairs place chair here, turns.kept),
+        ap (λ (taken : List (ℕ × Option B)). (one place now, (0, Some turns.book) ∷ taken)) none_yet,
       ) in (
-        one p d,
-        takes 0 (Some t.book),
-        ap (λ (hs : List (maybe.Option (Option B))). get_elem? hs 0) lies,
-        subst (λ (ws : List ℕ). Rule (record {
-          words = ws;
-          homes = set s.homes 0 none;
+        one place now,
+        takes 0 (Some turns.book),
+        ap (λ (homes : List (maybe.Option (Option B))). get_elem? homes 0) lies,
+        subst (λ (words : List ℕ). Rule (record {
+          words = words;
+          homes = set table.homes 0 none;
           views =
-              set s.views id (one p d);
-        })) (sym (set-get_or s.words (at m) 0))
-            (moved (Option B) (ChairState B V) n (Turns fact shows limit) s h id p c d s.words (set s.homes 0 none)
-            mine' (subst (λ (hs : List (maybe.Option (Option B))). Turns fact shows limit s.words hs
-            (set h.chairs p d)) (sym empty) r)),
+              set table.views id (one place now);
+        })) (sym (set-get_or table.words (at m) 0))
+            (moved dealt id place chair now table.words (set table.homes 0 none) mine
+            (subst (λ (homes : List (maybe.Option (Option B))). Turns fact shows limit table.words homes
+            (set dealt.chairs place now)) (sym empty) entered)),
         λ k waits.
             let same : m ≡ k = waiting_once me.0.lead.stage m k (ap (λ (x : Hold). x.0.lead.stage) sits) waits in
-            subst (λ (b : Bool). MatchBool b (StepsIn fact k me (one p d, (0, Some t.book) ∷ me.1))
-            ((one p d, (0, Some t.book) ∷ me.1) ≡ me)) (sym (eq-eqb (get_or s.words (at m) 0) k (found ∙ same)))
-            (subst (λ (i : ℕ). StepsIn fact i me (one p d, (0, Some t.book) ∷ me.1)) same took),
+            subst (λ (b : Bool). MatchBool b (StepsIn fact k me (one place now, (0, Some turns.book) ∷ me.1))
+            ((one place now, (0, Some turns.book) ∷ me.1) ≡ me))
+            (sym (eq-eqb (get_or table.words (at m) 0) k (found ∙ same)))
+            (subst (λ (i : ℕ). StepsIn fact i me (one place now, (0, Some turns.book) ∷ me.1)) same took),
       )
 
   -- a look that finds another number
-  finds_other : (m : ℕ) (me : Hold) → IsAtStage (Waiting m) me → (s : State (Option B) (ChairRun (ChairState B V)))
-      → Rule s → slice_get s.views id ≡ Some me.0 → get_or s.words (at m) 0 ≢ m
-      → (w : ChairRun (ChairState B V)) × (a : Act (Option B)) × Valid s.homes me.1 a
-      × Rule (stepped s (at m) (get_or s.words (at m) 0) id me.1 w a)
-      × Looks fact me (get_or s.words (at m) 0) (w, carried_after me.1 a)
-  finds_other m me sits s h mine found = (
+  finds_other : (m : ℕ) (me : Hold) → IsAtStage (Waiting m) me
+      → (table : State (Option B) (ChairRun (ChairState B V))) → Rule table → slice_get table.views id ≡ Some me.0
+      → get_or table.words (at m) 0 ≢ m
+      → (w : ChairRun (ChairState B V)) × (a : Act (Option B)) × Valid table.homes me.1 a
+      × Rule (stepped table (at m) (get_or table.words (at m) 0) id me.1 w a)
+      × Looks fact me (get_or table.words (at m) 0) (w, carried_after me.1 a)
+  finds_other m me sits table dealt seen found = (
     me.0,
     keeps,
     tt,
-    subst (λ (ws : List ℕ). Rule (record { words = ws; homes = s.homes; views = set s.views id me.0 }))
-        (sym (set-get_or s.words (at m) 0))
-        (subst (λ (vs : List (ChairRun (ChairState B V))). Rule
-        (record { words = s.words; homes = s.homes; views = vs })) (sym (set_again s.views id me.0 mine)) h),
+    subst (λ (words : List ℕ). Rule
+        (record { words = words; homes = table.homes; views = set table.views id me.0 }))
+        (sym (set-get_or table.words (at m) 0))
+        (subst (λ (views : List (ChairRun (ChairState B V))). Rule
+        (record { words = table.words; homes = table.homes; views = views }))
+        (sym (set_again table.views id me.0 seen)) dealt),
     λ k waits.
         let same : m ≡ k = waiting_once me.0.lead.stage m k (ap (λ (x : Hold). x.0.lead.stage) sits) waits in
         subst (λ (b : Bool). MatchBool b (StepsIn fact k me me) (me ≡ me))
-        (sym (ne_eqb (get_or s.words (at m) 0) k (λ e. found (e ∙ sym same)))) refl,
+        (sym (ne_eqb (get_or table.words (at m) 0) k (λ e. found (e ∙ sym same)))) refl,
   )
 
   pub looks_allowed : (m : ℕ) (me : Hold) → IsAtStage (Waiting m) me
       → Allows Rule slots id me (at m) (λ k. k) (Looks fact me)
-  looks_allowed m me sits s h long seen fit =
-      let mine = got_at s.views id me.0 seen in
-      dite (ℕ_discrete (get_or s.words (at m) 0) m) (finds_own m me sits s h mine) (finds_other m me sits s h mine)
+  looks_allowed m me sits table dealt long seen fit =
+      let mine = got_at table.views id me.0 seen in
+      dite (ℕ_discrete (get_or table.words (at m) 0) m)
+      (finds_own m me sits table dealt mine) (finds_other m me sits table dealt mine)
 
   pub leaves_allowed : (then : B → B → ℕ → V → V → Type 0) (m : ℕ) (found book : B) (me : Hold)
       → me ≡ ((with_stage (Inside m found) me).0, (0, Some book) ∷ [])
       → MayHandIn fact then found book me.0.place me.0.lead.view
       → Allows Rule slots id me (at (m + 1)) (passed m) (λ _ after. Leaves then me after)
-  leaves_allowed then m found book me sits may s h long seen fit =
-      let mine = got_at s.views id me.0 seen in
-      let p = me.0.place in
-      let v = me.0.lead.view in
-      let c : ChairState B V = chair_state (Inside m found) me.0.lead.entries v in
-      let mine' : slice_get s.views id ≡ Some (one p c) = mine ∙ ap (λ (x : Hold). Some x.0) sits in
-      let t = h.keeps in
-      let here = at_place (Option B) (ChairState B V) n (Turns fact shows limit) s h id p c mine' in
-      let has = served B V fact width shows at passed board limit s.words s.homes h.chairs t p c here m found refl in
-      let shown : shows s.words m = subst (λ (k : ℕ). shows s.words k) (sym has.0) t.shown in
-      let words = set s.words (at (m + 1)) (passed m (get_or s.words (at (m + 1)) 0)) in
-      let next : get_or words 0 0 ≡ get_or s.words 0 0 =
-      get_or-set_other s.words (at (m + 1)) 0 (passed m (get_or s.words (at (m + 1)) 0)) 0
-      (λ e. let z = board.beside_next (m + 1) in omega arith) in
-      let w = may (map view_of h.chairs) (at_map view_of h.chairs p c here)
-      (subst (λ (b : B). fact b (map view_of h.chairs)) (sym has.2) t.kept) in
-      let d : ChairState B V = chair_state Outside me.0.lead.entries w.0 in
+  leaves_allowed then m found book me sits may table dealt long seen fit =
+      let place = me.0.place in
+      let view = me.0.lead.view in
+      let turns = dealt.keeps in
+      let chair : ChairState B V = chair_state (Inside m found) me.0.lead.entries view in
+      let mine : slice_get table.views id ≡ Some (one place chair) =
+      got_at table.views id me.0 seen ∙ ap (λ (x : Hold). Some x.0) sits in
+      let here = at_place dealt id place chair mine in
+      let is = served board turns place chair here m found refl in
+      let shown : shows table.words m = subst (λ (k : ℕ). shows table.words k) (sym is.number) turns.shown in
+      let words = set table.words (at (m + 1)) (passed m (get_or table.words (at (m + 1)) 0)) in
+      let next : get_or words 0 0 ≡ get_or table.words 0 0 =
+      get_or-set_other table.words (at (m + 1)) 0 (passed m (get_or table.words (at (m + 1)) 0)) 0
+      (λ e. let beside = board.beside_next (m + 1) in omega arith) in
+      let handed = may (map view_of dealt.chairs) (at_map view_of dealt.chairs place chair here)
+      (subst (λ (b : B). fact b (map view_of dealt.chairs)) (sym is.book) turns.kept) in
+      let new_view = handed.0 in
+      let told = handed.1 in
+      let now : ChairState B V = chair_state Outside me.0.lead.entries new_view in
       let has_slot : me.1 ≡ (0, Some book) ∷ [] = ap (λ (x : Hold). x.1) sits in
-      let r = leaves B V fact width shows at passed board limit s.words s.homes h.chairs t p c here m found book
-      w.0 words refl (board.passes s.words m shown has.1) next w.2 in
-      let back : put_back s.homes me.1 ≡ some (Some book) ∷ [] =
-      ap (λ (xs : List (ℕ × Option B)). put_back s.homes xs) has_slot
-      ∙ ap (λ (hs : List (maybe.Option (Option B))). set hs 0 (some (Some book))) has.3 in (
-        one p d,
+      let left = leaves board turns place chair here m found book new_view words refl
+      (board.passes table.words m shown is.fits) next handed.2 in
+      let back : put_back table.homes me.1 ≡ some (Some book) ∷ [] =
+      ap (λ (taken : List (ℕ × Option B)). put_back table.homes taken) has_slot
+      ∙ ap (λ (homes : List (maybe.Option (Option B))). set homes 0 (some (Some book))) is.out in (
+        one place now,
         gives,
         tt,
-        moved (Option B) (ChairState B V) n (Turns fact shows limit) s h id p c d words (put_back s.homes me.1)
-            mine' (subst (λ (hs : List (maybe.Option (Option B))). Turns fact shows limit words hs
-            (set h.chairs p d)) (sym back) r),
+        moved dealt id place chair now words (put_back table.homes me.1) mine
+            (subst (λ (homes : List (maybe.Option (Option B))). Turns fact shows limit words homes
+            (set dealt.chairs place now)) (sym back) left),
         (
-          ap (λ (xs : List (ℕ × Option B)). (one p d, rest xs)) has_slot,
+          ap (λ (taken : List (ℕ × Option B)). (one place now, rest taken)) has_slot,
           λ k a b stands e.
               let same : found ≡ a = inside_once me.0.lead.stage m k found a
               (ap (λ (x : Hold). x.0.lead.stage) sits) stands in
-              subst₂ (λ (x y : B). then x y p v w.0) same (slot_once me.1 book b has_slot e) w.1,
+              subst₂ (λ (x y : B). then x y place view new_view) same (slot_once me.1 book b has_slot e) told,
         ),
       )
 

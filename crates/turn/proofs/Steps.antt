@@ -32,7 +32,8 @@ module _ {B : Type 0} where
   fits_more s n n' out book (Waiting m) h f = (f.0, omega arith)
   fits_more s n n' out book (Inside m b) h f = (f.0, omega arith, f.2, f.3)
 
-  fits_out : (s n : ℕ) (out : Bool) (book : B) (g : Stage B) → out ≡ false → Fits s n out book g → Fits s n true book g
+  fits_out : (s n : ℕ) (out : Bool) (book : B) (g : Stage B) → out ≡ false → Fits s n out book g → Fits s n true book
+      g
   fits_out s n out book Outside h f = tt
   fits_out s n out book (Waiting m) h f = f
   fits_out s n out book (Inside m b) h f = (f.0, f.1, refl, f.3)
@@ -103,174 +104,223 @@ module _ {B V : Type 0} where
   views_same cs k c d at e = map-set view_of cs k d ∙ ap (λ (v : V). set (map view_of cs) k v) e
       ∙ set_again (map view_of cs) k c.view (at_map view_of cs k c at)
 
-module _ (B V : Type 0) (fact : B → List V → Type 0) (width : ℕ) (shows : List ℕ → ℕ → Type 0) (at : ℕ → ℕ)
-    (passed : ℕ → ℕ → ℕ) (board : IsBoard width shows at passed) (limit : ℕ)
-    (ws : List ℕ) (hs : List (maybe.Option (Option B))) (cs : List (ChairState B V))
-    (t : Turns fact shows limit ws hs cs) (k : ℕ) (c : ChairState B V) (here : slice_get cs k ≡ Some c) where
-  -- the numbers are below 2 ^ 64
-  few : drawn cs < 2 ^ 64
-  few = let a = drawn-le limit cs t.within in let b = t.room in omega arith
+-- a number that was drawn and not left
+pub between : {B V : Type 0} {fact : B → List V → Type 0} {shows : List ℕ → ℕ → Type 0} {limit : ℕ}
+    {words : List ℕ} {homes : List (maybe.Option (Option B))} {chairs : List (ChairState B V)}
+    (turns : Turns fact shows limit words homes chairs) (k m : ℕ) → HasNumber chairs k m
+    → (turns.serving ≤ m) × (m < drawn chairs)
+between {chairs = chairs} turns k m has =
+    fits_number turns.serving (drawn chairs) m turns.out turns.book has.0.stage has.2 (turns.fits k has.0 has.1)
 
-  pub draws : c.stage ≡ Outside → c.entries < limit
-      → (get_or ws 0 0 + 1 < 2 ^ 64) × Turns fact shows limit (set ws 0 ((get_or ws 0 0 + 1) % 2 ^ 64)) hs
-      (set cs k (chair_state (Waiting (get_or ws 0 0)) (c.entries + 1) c.view))
+-- who is inside: its number is served and fits a word, and the book is out
+pub record IsServed {B V : Type 0} {fact : B → List V → Type 0} {shows : List ℕ → ℕ → Type 0} {limit : ℕ}
+    {words : List ℕ} {homes : List (maybe.Option (Option B))} {chairs : List (ChairState B V)}
+    (turns : Turns fact shows limit words homes chairs) (m : ℕ) (found : B) : Type 0 where
+  pub number : m ≡ turns.serving
+  pub fits : m + 1 < 2 ^ 64
+  pub book : found ≡ turns.book
+  pub out : homes ≡ none ∷ []
+
+-- the chair at a place, in a state that meets the lock's rule
+module _ {B V : Type 0} {fact : B → List V → Type 0} {width : ℕ} {shows : List ℕ → ℕ → Type 0} {at : ℕ → ℕ}
+    {passed : ℕ → ℕ → ℕ} (board : IsBoard width shows at passed) {limit : ℕ} {words : List ℕ}
+    {homes : List (maybe.Option (Option B))} {chairs : List (ChairState B V)}
+    (turns : Turns fact shows limit words homes chairs) (place : ℕ) (chair : ChairState B V)
+    (here : slice_get chairs place ≡ Some chair) where
+  -- the numbers are below 2 ^ 64
+  few : drawn chairs < 2 ^ 64
+  few = let a = drawn-le limit chairs turns.within in let b = turns.room in omega arith
+
+  pub draws : chair.stage ≡ Outside → chair.entries < limit
+      → (get_or words 0 0 + 1 < 2 ^ 64) × Turns fact shows limit (set words 0 ((get_or words 0 0 + 1) % 2 ^ 64)) homes
+      (set chairs place (chair_state (Waiting (get_or words 0 0)) (chair.entries + 1) chair.view))
   draws out less =
-      let next = get_or ws 0 0 in
-      let d : ChairState B V = chair_state (Waiting next) (c.entries + 1) c.view in
-      let next_is : next ≡ drawn cs = t.next_is in
-      let behind = t.behind in
-      let sums = drawn-set cs k c d here in
-      let one_more : drawn (set cs k d) ≡ drawn cs + 1 = omega arith in
-      let within : ((j : ℕ) (x : ChairState B V) → slice_get (set cs k d) j ≡ Some x → x.entries ≤ limit) =
-      each_set (λ _ x. x.entries ≤ limit) cs k d (omega arith) (λ j x _ e. t.within j x e) in
-      let long = length-set cs k d in
-      let room : length (set cs k d) * limit < 2 ^ 64 = subst (λ (n : ℕ). n * limit < 2 ^ 64) (sym long) t.room in
-      let bound = drawn-le limit (set cs k d) within in
+      let next = get_or words 0 0 in
+      let now : ChairState B V = chair_state (Waiting next) (chair.entries + 1) chair.view in
+      let next_is : next ≡ drawn chairs = turns.next_is in
+      let behind = turns.behind in
+      let sums = drawn-set chairs place chair now here in
+      let one_more : drawn (set chairs place now) ≡ drawn chairs + 1 = omega arith in
+      let within : ((j : ℕ) (x : ChairState B V) → slice_get (set chairs place now) j ≡ Some x → x.entries ≤ limit) =
+      each_set (λ _ x. x.entries ≤ limit) chairs place now (omega arith) (λ j x _ e. turns.within j x e) in
+      let long = length-set chairs place now in
+      let room : length (set chairs place now) * limit < 2 ^ 64 = subst (λ (n : ℕ). n * limit < 2 ^ 64) (sym long)
+      turns.room in
+      let bound = drawn-le limit (set chairs place now) within in
       let small : next + 1 < 2 ^ 64 = omega arith in
-      let none_yet : number c.stage ≡ None = ap number out in (
+      let none_yet : number chair.stage ≡ None = ap number out in (
         small,
         record {
-          serving = t.serving;
-          book = t.book;
-          out = t.out;
+          serving = turns.serving;
+          book = turns.book;
+          out = turns.out;
           room = room;
           within = within;
-          next_is = get_or-set_same ws 0 ((next + 1) % 2 ^ 64) 0 (board.has_next ws t.serving t.shown)
+          next_is = get_or-set_same words 0 ((next + 1) % 2 ^ 64) 0 (board.has_next words turns.serving turns.shown)
               ∙ mod-eq_of_lt small ∙ ap (λ (n : ℕ). n + 1) next_is ∙ sym one_more;
-          shown = board.draws ws t.serving ((next + 1) % 2 ^ 64) t.shown;
+          shown = board.draws words turns.serving ((next + 1) % 2 ^ 64) turns.shown;
           behind = omega arith;
-          fits = each_set (λ _ x. Fits t.serving (drawn (set cs k d)) t.out t.book x.stage) cs k d
+          fits = each_set (λ _ x. Fits turns.serving (drawn (set chairs place now)) turns.out turns.book x.stage)
+              chairs place now
               (omega arith, omega arith)
-              (λ j x _ e. fits_more t.serving (drawn cs) (drawn (set cs k d)) t.out t.book x.stage (omega arith)
-              (t.fits j x e));
+              (λ j x _ e. fits_more turns.serving (drawn chairs) (drawn (set chairs place now)) turns.out turns.book
+              x.stage (omega arith)
+              (turns.fits j x e));
           apart = λ i j m f g. ⊎_elim
-              (λ (p : (i ≡ k) × (Some next ≡ Some m)). ⊎_elim
-              (λ (q : (j ≡ k) × (Some next ≡ Some m)). p.0 ∙ sym q.0)
-              (λ (q : (j ≢ k) × HasNumber cs j m). let low =
-              fits_number t.serving (drawn cs) m t.out t.book q.1.0.stage q.1.2 (t.fits j q.1.0 q.1.1) in
-              let e : next ≡ m = same_Some next m p.1 in absurd (omega arith))
-              (has_set cs k d j m g))
-              (λ (p : (i ≢ k) × HasNumber cs i m). ⊎_elim
-              (λ (q : (j ≡ k) × (Some next ≡ Some m)). let low =
-              fits_number t.serving (drawn cs) m t.out t.book p.1.0.stage p.1.2 (t.fits i p.1.0 p.1.1) in
-              let e : next ≡ m = same_Some next m q.1 in absurd (omega arith))
-              (λ (q : (j ≢ k) × HasNumber cs j m). t.apart i j m p.1 q.1)
-              (has_set cs k d j m g))
-              (has_set cs k d i m f);
+              (λ (one : (i ≡ place) × (Some next ≡ Some m)). ⊎_elim
+              (λ (two : (j ≡ place) × (Some next ≡ Some m)). one.0 ∙ sym two.0)
+              (λ (two : (j ≢ place) × HasNumber chairs j m). let low = between turns j m two.1 in
+              let e : next ≡ m = same_Some next m one.1 in absurd (omega arith))
+              (has_set chairs place now j m g))
+              (λ (one : (i ≢ place) × HasNumber chairs i m). ⊎_elim
+              (λ (two : (j ≡ place) × (Some next ≡ Some m)). let low = between turns i m one.1 in
+              let e : next ≡ m = same_Some next m two.1 in absurd (omega arith))
+              (λ (two : (j ≢ place) × HasNumber chairs j m). turns.apart i j m one.1 two.1)
+              (has_set chairs place now j m g))
+              (has_set chairs place now i m f);
           queued = λ m low high. dite (ℕ_discrete m next)
-              (λ (e : m ≡ next). (k, has_here cs k c d m here (ap Some (sym e))))
-              (λ (e : m ≢ next). let q = t.queued m low (omega arith) in
-              (q.0, has_else cs k d q.0 m (λ z. none-some m (sym none_yet ∙ has_known cs k c q.0 m here q.1 z)) q.1));
-          lies = t.lies;
-          taken = λ o. let q = t.taken o in (
+              (λ (e : m ≡ next). (place, has_here chairs place chair now m here (ap Some (sym e))))
+              (λ (e : m ≢ next). let q = turns.queued m low (omega arith) in (
+                q.0,
+                has_else chairs place now q.0 m (λ z. none-some m
+                    (sym none_yet ∙ has_known chairs place chair q.0 m here q.1 z)) q.1,
+              ));
+          lies = turns.lies;
+          taken = λ o. let q = turns.taken o in (
             q.0,
             q.1,
             q.2,
-            set_else cs k q.0 d (λ z. inside_outside q.1 t.book
+            set_else chairs place q.0 now (λ z. inside_outside q.1 turns.book
                 (sym q.4 ∙ ap (λ (y : ChairState B V). y.stage)
-                (at_once cs k q.2 c (subst (λ (i : ℕ). slice_get cs i ≡ Some q.2) z q.3) here) ∙ out)) ∙ q.3,
+                (at_once chairs place q.2 chair (subst (λ (i : ℕ). slice_get chairs i ≡ Some q.2) z q.3) here) ∙ out))
+                ∙ q.3,
             q.4,
           );
-          kept = subst (λ (vs : List V). fact t.book vs) (sym (views_same cs k c d here refl)) t.kept;
+          kept = subst (λ (vs : List V). fact turns.book vs) (sym (views_same chairs place chair now here refl))
+              turns.kept;
         },
       )
 
-  pub not_out : (m : ℕ) → c.stage ≡ Waiting m → m ≡ t.serving → t.out ≡ false
-  not_out m waits served = not_true t.out (λ o.
-      let q = t.taken o in
-      let f = subst (λ (g : Stage B). Fits t.serving (drawn cs) t.out t.book g) q.4 (t.fits q.0 q.2 q.3) in
-      let mine : HasNumber cs k m = (c, here, ap number waits) in
-      let same : q.1 ≡ m = f.0 ∙ sym served in
-      let theirs : HasNumber cs q.0 m = (q.2, q.3, ap number q.4 ∙ ap Some same) in
-      let z = t.apart q.0 k m theirs mine in
-      inside_waits q.1 m t.book (sym q.4 ∙ ap (λ (y : ChairState B V). y.stage)
-      (at_once cs k q.2 c (subst (λ (i : ℕ). slice_get cs i ≡ Some q.2) z q.3) here) ∙ waits))
+  pub not_out : (m : ℕ) → chair.stage ≡ Waiting m → m ≡ turns.serving → turns.out ≡ false
+  not_out m waits served = not_true turns.out (λ o.
+      let taker = turns.taken o in
+      let fit = subst (λ (g : Stage B). Fits turns.serving (drawn chairs) turns.out turns.book g) taker.4
+      (turns.fits taker.0 taker.2 taker.3) in
+      let mine : HasNumber chairs place m = (chair, here, ap number waits) in
+      let same : taker.1 ≡ m = fit.0 ∙ sym served in
+      let theirs : HasNumber chairs taker.0 m = (taker.2, taker.3, ap number taker.4 ∙ ap Some same) in
+      let here_too = turns.apart taker.0 place m theirs mine in
+      inside_waits taker.1 m turns.book (sym taker.4 ∙ ap (λ (y : ChairState B V). y.stage)
+      (at_once chairs place taker.2 chair
+      (subst (λ (i : ℕ). slice_get chairs i ≡ Some taker.2) here_too taker.3) here) ∙ waits))
 
-  pub enters : (m : ℕ) → c.stage ≡ Waiting m → m ≡ t.serving
-      → Turns fact shows limit ws (none ∷ []) (set cs k (chair_state (Inside m t.book) c.entries c.view))
+  pub enters : (m : ℕ) → chair.stage ≡ Waiting m → m ≡ turns.serving
+      → Turns fact shows limit words (none ∷ []) (set chairs place
+      (chair_state (Inside m turns.book) chair.entries chair.view))
   enters m waits served =
-      let d : ChairState B V = chair_state (Inside m t.book) c.entries c.view in
-      let sums = drawn-set cs k c d here in
-      let as_many : drawn (set cs k d) ≡ drawn cs = omega arith in
-      let more : drawn cs ≤ drawn (set cs k d) = omega arith in
-      let mine = subst (λ (g : Stage B). Fits t.serving (drawn cs) t.out t.book g) waits (t.fits k c here) in
+      let now : ChairState B V = chair_state (Inside m turns.book) chair.entries chair.view in
+      let sums = drawn-set chairs place chair now here in
+      let as_many : drawn (set chairs place now) ≡ drawn chairs = omega arith in
+      let more : drawn chairs ≤ drawn (set chairs place now) = omega arith in
+      let mine = subst (λ (g : Stage B). Fits turns.serving (drawn chairs) turns.out turns.book g) waits
+      (turns.fits place chair here) in
       let off = not_out m waits served in
-      let number_is : number c.stage ≡ Some m = ap number waits in
+      let number_is : number chair.stage ≡ Some m = ap number waits in
       record {
-        serving = t.serving;
-        book = t.book;
+        serving = turns.serving;
+        book = turns.book;
         out = true;
-        room = subst (λ (n : ℕ). n * limit < 2 ^ 64) (sym (length-set cs k d)) t.room;
-        within = each_set (λ _ x. x.entries ≤ limit) cs k d (t.within k c here) (λ j x _ e. t.within j x e);
-        next_is = t.next_is ∙ sym as_many;
-        shown = t.shown;
-        behind = let b = t.behind in omega arith;
-        fits = each_set (λ _ x. Fits t.serving (drawn (set cs k d)) true t.book x.stage) cs k d
+        room = subst (λ (n : ℕ). n * limit < 2 ^ 64) (sym (length-set chairs place now)) turns.room;
+        within = each_set (λ _ x. x.entries ≤ limit) chairs place now (turns.within place chair here)
+            (λ j x _ e. turns.within j x e);
+        next_is = turns.next_is ∙ sym as_many;
+        shown = turns.shown;
+        behind = let b = turns.behind in omega arith;
+        fits = each_set (λ _ x. Fits turns.serving (drawn (set chairs place now)) true turns.book x.stage) chairs
+            place now
             (served, omega arith, refl, refl)
-            (λ j x _ e. fits_out t.serving (drawn (set cs k d)) t.out t.book x.stage off
-            (fits_more t.serving (drawn cs) (drawn (set cs k d)) t.out t.book x.stage more (t.fits j x e)));
+            (λ j x _ e. fits_out turns.serving (drawn (set chairs place now)) turns.out turns.book x.stage off
+            (fits_more turns.serving (drawn chairs) (drawn (set chairs place now)) turns.out turns.book x.stage more
+            (turns.fits j x e)));
         apart = λ i j n f g.
-            let back : ((l : ℕ) → HasNumber (set cs k d) l n → HasNumber cs l n) = λ l h. ⊎_elim
-            (λ (p : (l ≡ k) × (Some m ≡ Some n)). let e : HasNumber cs k n = (c, here, number_is ∙ p.1) in
-            subst (λ (z : ℕ). HasNumber cs z n) (sym p.0) e)
-            (λ (p : (l ≢ k) × HasNumber cs l n). p.1)
-            (has_set cs k d l n h) in
-            t.apart i j n (back i f) (back j g);
-        queued = λ n low high. let q = t.queued n low (omega arith) in dite (ℕ_discrete q.0 k)
-            (λ (e : q.0 ≡ k). (k, has_here cs k c d n here (sym number_is ∙ has_known cs k c q.0 n here q.1 e)))
-            (λ (e : q.0 ≢ k). (q.0, has_else cs k d q.0 n e q.1));
+            let back : ((l : ℕ) → HasNumber (set chairs place now) l n → HasNumber chairs l n) = λ l h. ⊎_elim
+            (λ (p : (l ≡ place) × (Some m ≡ Some n)). let e : HasNumber chairs place n =
+            (chair, here, number_is ∙ p.1) in
+            subst (λ (z : ℕ). HasNumber chairs z n) (sym p.0) e)
+            (λ (p : (l ≢ place) × HasNumber chairs l n). p.1)
+            (has_set chairs place now l n h) in
+            turns.apart i j n (back i f) (back j g);
+        queued = λ n low high. let q = turns.queued n low (omega arith) in dite (ℕ_discrete q.0 place)
+            (λ (e : q.0 ≡ place). (
+              place,
+              has_here chairs place chair now n here
+                  (sym number_is ∙ has_known chairs place chair q.0 n here q.1 e),
+            ))
+            (λ (e : q.0 ≢ place). (q.0, has_else chairs place now q.0 n e q.1));
         lies = refl;
-        taken = λ _. (k, m, d, set_here cs k d (slice_get_within cs k c here), refl);
-        kept = subst (λ (vs : List V). fact t.book vs) (sym (views_same cs k c d here refl)) t.kept;
+        taken = λ _. (place, m, now, set_here chairs place now (slice_get_within chairs place chair here), refl);
+        kept = subst (λ (vs : List V). fact turns.book vs) (sym (views_same chairs place chair now here refl))
+            turns.kept;
       }
 
-  pub leaves : (m : ℕ) (found handed : B) (w : V) (ws' : List ℕ) → c.stage ≡ Inside m found → shows ws' (m + 1)
-      → get_or ws' 0 0 ≡ get_or ws 0 0 → fact handed (set (map view_of cs) k w)
-      → Turns fact shows limit ws' (some (Some handed) ∷ []) (set cs k (chair_state Outside c.entries w))
-  leaves m found handed w ws' inside shown same keeps =
-      let d : ChairState B V = chair_state Outside c.entries w in
-      let sums = drawn-set cs k c d here in
-      let as_many : drawn (set cs k d) ≡ drawn cs = omega arith in
-      let mine = subst (λ (g : Stage B). Fits t.serving (drawn cs) t.out t.book g) inside (t.fits k c here) in
-      let number_is : number c.stage ≡ Some m = ap number inside in
+  pub leaves : (m : ℕ) (found handed : B) (w : V) (words' : List ℕ) → chair.stage ≡ Inside m found → shows words'
+      (m + 1)
+      → get_or words' 0 0 ≡ get_or words 0 0 → fact handed (set (map view_of chairs) place w)
+      → Turns fact shows limit words' (some (Some handed) ∷ [])
+      (set chairs place (chair_state Outside chair.entries w))
+  leaves m found handed w words' inside shown same keeps =
+      let now : ChairState B V = chair_state Outside chair.entries w in
+      let sums = drawn-set chairs place chair now here in
+      let as_many : drawn (set chairs place now) ≡ drawn chairs = omega arith in
+      let mine = subst (λ (g : Stage B). Fits turns.serving (drawn chairs) turns.out turns.book g) inside
+      (turns.fits place chair here) in
+      let number_is : number chair.stage ≡ Some m = ap number inside in
       record {
         serving = m + 1;
         book = handed;
         out = false;
-        room = subst (λ (n : ℕ). n * limit < 2 ^ 64) (sym (length-set cs k d)) t.room;
-        within = each_set (λ _ x. x.entries ≤ limit) cs k d (t.within k c here) (λ j x _ e. t.within j x e);
-        next_is = same ∙ t.next_is ∙ sym as_many;
+        room = subst (λ (n : ℕ). n * limit < 2 ^ 64) (sym (length-set chairs place now)) turns.room;
+        within = each_set (λ _ x. x.entries ≤ limit) chairs place now (turns.within place chair here)
+            (λ j x _ e. turns.within j x e);
+        next_is = same ∙ turns.next_is ∙ sym as_many;
         shown = shown;
         behind = let low = mine.1 in omega arith;
-        fits = each_set (λ _ x. Fits (m + 1) (drawn (set cs k d)) false handed x.stage) cs k d tt
+        fits = each_set (λ _ x. Fits (m + 1) (drawn (set chairs place now)) false handed x.stage) chairs place now tt
             (λ j x ne e.
-            let other : number x.stage ≡ Some m → ⊥ = λ f. ne (t.apart j k m (x, e, f) (c, here, number_is)) in
-            let f = subst (λ (s : ℕ). Fits s (drawn cs) t.out t.book x.stage) (sym mine.0) (t.fits j x e) in
-            fits_next m (drawn (set cs k d)) t.out t.book handed x.stage other
-            (fits_more m (drawn cs) (drawn (set cs k d)) t.out t.book x.stage (omega arith) f));
+            let other : number x.stage ≡ Some m → ⊥ = λ f. ne
+            (turns.apart j place m (x, e, f) (chair, here, number_is)) in
+            let f = subst (λ (s : ℕ). Fits s (drawn chairs) turns.out turns.book x.stage) (sym mine.0)
+            (turns.fits j x e) in
+            fits_next m (drawn (set chairs place now)) turns.out turns.book handed x.stage other
+            (fits_more m (drawn chairs) (drawn (set chairs place now)) turns.out turns.book x.stage (omega arith) f));
         apart = λ i j n f g.
-            let back : ((l : ℕ) → HasNumber (set cs k d) l n → HasNumber cs l n) = λ l h. ⊎_elim
-            (λ (p : (l ≡ k) × (None ≡ Some n)). absurd (none-some n p.1))
-            (λ (p : (l ≢ k) × HasNumber cs l n). p.1)
-            (has_set cs k d l n h) in
-            t.apart i j n (back i f) (back j g);
+            let back : ((l : ℕ) → HasNumber (set chairs place now) l n → HasNumber chairs l n) = λ l h. ⊎_elim
+            (λ (p : (l ≡ place) × (None ≡ Some n)). absurd (none-some n p.1))
+            (λ (p : (l ≢ place) × HasNumber chairs l n). p.1)
+            (has_set chairs place now l n h) in
+            turns.apart i j n (back i f) (back j g);
         queued = λ n low high.
             let served = mine.0 in
-            let q = t.queued n (omega arith) (omega arith) in (
+            let q = turns.queued n (omega arith) (omega arith) in (
               q.0,
-              has_else cs k d q.0 n (λ z. let e : m ≡ n =
-                  same_Some m n (sym number_is ∙ has_known cs k c q.0 n here q.1 z) in omega arith) q.1,
+              has_else chairs place now q.0 n (λ z. let e : m ≡ n =
+                  same_Some m n (sym number_is ∙ has_known chairs place chair q.0 n here q.1 z) in omega arith) q.1,
             );
         lies = refl;
         taken = λ o. absurd (let no : false ≡ true = o in cc);
-        kept = subst (λ (vs : List V). fact handed vs) (sym (map-set view_of cs k d)) keeps;
+        kept = subst (λ (vs : List V). fact handed vs) (sym (map-set view_of chairs place now)) keeps;
       }
 
   -- who is inside has the number that is served, and the book is out
-  pub served : (m : ℕ) (found : B) → c.stage ≡ Inside m found
-      → (m ≡ t.serving) × (m + 1 < 2 ^ 64) × (found ≡ t.book) × (hs ≡ none ∷ [])
+  pub served : (m : ℕ) (found : B) → chair.stage ≡ Inside m found → IsServed turns m found
   served m found inside =
-      let f = subst (λ (g : Stage B). Fits t.serving (drawn cs) t.out t.book g) inside (t.fits k c here) in
-      let below = f.1 in
+      let fit = subst (λ (g : Stage B). Fits turns.serving (drawn chairs) turns.out turns.book g) inside
+      (turns.fits place chair here) in
+      let below = fit.1 in
       let top = few in
-      (f.0, omega arith, f.3, t.lies ∙ ap (λ (o : Bool). shelf o t.book) f.2)
+      record {
+        number = fit.0;
+        fits = omega arith;
+        book = fit.3;
+        out = turns.lies ∙ ap (λ (o : Bool). shelf o turns.book) fit.2;
+      }

@@ -82,7 +82,7 @@ pub struct Layout<W: Board> {
 }
 
 impl<W: Board> Layout<W> {
-    // The layout of a table with so many words.
+    // The layout of a table with that many words.
     pub(crate) fn new(seats: usize, words: usize) -> Layout<W>
         requires some { 1 ≤ seats }
         requires wide { words ≡ W.width seats }

@@ -93,6 +93,6 @@ pub trait Turn<B, K: Keeper<B>>: Sized + Sync {
         requires { AreAll (id self) (size self) chairs.items }
         ensures { K.fact result (map view chairs.items) };
 
-    // A chair of the lock may enter so often.
+    // How many times a chair of the lock may enter.
     ghost limits: { (l : Self) → (id l).limit ≡ ENTRIES };
 }

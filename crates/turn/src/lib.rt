@@ -10,7 +10,7 @@
 //! **What contracts see** (`specs/Chairs`): of a chair its `lock`, `place`, `view`, `entries`, and whether it `IsOutside`
 //! or `IsInside` with the book that it took; of a lock its `id`, `size` and `ENTRIES`. Lists are read by `slice_get`.
 //!
-//! **What is proved**: the keeper's fact whenever the lock is free; [`Spent`] exactly after so many entries, with nothing
+//! **What is proved**: the keeper's fact whenever the lock is free; [`Spent`] exactly after that many entries, with nothing
 //! changed; `turns_law` of both locks, that the numbers are served in turn and one chair at most is inside.
 //!
 //! **What is only tested**: that waiting chairs get in; the words of both boards. Fairness, time and that `enter` returns

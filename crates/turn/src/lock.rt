@@ -103,7 +103,7 @@ const NEXT: usize = 0;
 /// Pauses of a waiting thread before it yields.
 const PAUSES: u32 = 128;
 
-// Waits between two looks, after so many pauses: a pause of the processor more, or a yield once there were enough. They
+// Waits between two looks, after that many pauses: a pause of the processor more, or a yield once there were enough. They
 // don't grow, since in a queue the one that looks too late stops everybody behind it.
 fn give_way(pauses: u32) -> u32 {
     if pauses < PAUSES {

@@ -14,7 +14,7 @@ module _ {B : Type 0} where
   abbrev pub IsNew : LockId → ChairToken B ℕ → Type 0
   IsNew l c = (lock c ≡ l) × IsOutside c × (view c ≡ 0) × (entries c ≡ 0)
 
-  -- the chair after a thread added so many times, or couldn't since a chair enters at most `limit` times
+  -- the chair after a thread added that many times, or couldn't since a chair enters at most `limit` times
   abbrev pub HasAdded : ℕ → ℕ → ChairToken B ℕ → ChairToken B ℕ → Bool → Type 0
   HasAdded limit times old new done = IsSameChair old new × IsOutside new
       × MatchBool done ((view new ≡ times) × (times ≤ limit)) (limit < times)

@@ -30,7 +30,7 @@ pub fn add_one<T: Turn<u64, Tally>, R: Wait>(
     Ok(())
 }
 
-/// Adds one to the count so many times, or as often as the chair may still enter.
+/// Adds one to the count that many times, or as often as the chair may still enter.
 pub fn add_many<T: Turn<u64, Tally>, R: Wait>(
     rt: &R,
     turn: &T,
@@ -103,7 +103,7 @@ fn close_two<T: Turn<u64, Tally>>(
     turn.close(chairs)
 }
 
-/// What two threads count that add one so many times each; None where a chair may not enter as often.
+/// What two threads count that add one that many times each; None where a chair may not enter as often.
 pub fn count_in_two<T: Turn<u64, Tally>, R: Threads + Wait + Sync>(
     rt: &R,
     alloc: Global,
@@ -136,7 +136,7 @@ pub fn count_in_two<T: Turn<u64, Tally>, R: Threads + Wait + Sync>(
     }
 }
 
-// The chairs of so many threads, in order, and whether each could enter as often as it was to.
+// The chairs of that many threads, in order, and whether each could enter as often as it was to.
 fn chairs_of(
     alloc: Global,
     results: Vec<(Chair<u64, Tally>, bool)>,
@@ -153,7 +153,7 @@ fn chairs_of(
     Ok((chairs, all))
 }
 
-/// What so many threads count that add one so many times each; None where a chair may not enter as often.
+/// What that many threads count that add one that many times each; None where a chair may not enter as often.
 pub fn count_in_many<T: Turn<u64, Tally> + Drop, R: Threads + Wait + Sync>(
     rt: &R,
     alloc: Global,

@@ -1,6 +1,6 @@
 -- What a set and an ask rest on, and what they make, read off the book.
-use Rattle.std.proofs.Common.{◌≡◌, ℕ, zero, suc, ◌+◌, ◌<◌, ◌≤◌, List, [], ◌∷◌, length, Option, Some, None, IfSome, slice_get, slice_set, slice_index, slice_index_or, subst, sym, refl, ap, ◌∙◌, arith}
-use Rattle.std.proofs.lemmas.Option.{slice_get-get_or, same_Some}
+use Rattle.std.proofs.Common.{◌≡◌, ℕ, ◌+◌, ◌<◌, ◌≤◌, List, [], length, Option, Some, None, IfSome, slice_get, slice_set, slice_index, slice_index_or, subst, sym, ap, ◌∙◌, arith}
+use Rattle.std.proofs.lemmas.Option.{slice_get-get_or}
 use Rattle.std.proofs.lemmas.List.{length-set, get_or-set_same, get_or-set_other}
 use Rattle.journal.specs.declared.event.Event.{Event}
 use Rattle.journal.specs.declared.event.Kind.{Kind}
@@ -9,7 +9,7 @@ use Rattle.lists.specs.Places.{Has}
 use Rattle.page.specs.Changes.{Changes}
 use Rattle.vtime.specs.Times.{tick}
 use Rattle.interval.specs.Intervals.{SentRecord}
-use Rattle.interval.specs.Closings.{pushed, between}
+use Rattle.interval.specs.Closings.{KeepsBetween, pushed, between}
 use Rattle.lockq.specs.Lock.{Locks, unheld, lock_at, with_lock, line, asked}
 use Rattle.transit.specs.Letters.{Letter}
 use Rattle.transit.specs.Letters.Kind.{grant}
@@ -18,7 +18,7 @@ use Rattle.book.specs.Flags.{IsFlag}
 use Rattle.book.specs.State.{State, time_of}
 use Rattle.book.specs.Transitions.{handed_in, open_interval, closed_by, grant_from, if_free, flag_joined, book_set, book_asked}
 use Rattle.book.specs.Calls.{MayCall, MayAsk}
-use Rattle.book.proofs.Parts.Each.{is_at}
+use Rattle.book.proofs.Parts.Each.{is_at, set_back}
 use Rattle.book.proofs.Parts.Mail.{idle_mail}
 use Rattle.book.proofs.Parts.Lines.{idle_no_ask, not_in_line}
 use Rattle.book.proofs.Parts.ClosedIntervals.{between_same}
@@ -87,9 +87,7 @@ set_is old b p f block records o t r is read made = rw is (cc)
 -- what an ask rests on
 pub record IsAsking (b : State) (p l : ℕ) : Type 0 where
   pub lock : l < length b.locks.locks
-  pub own_long : length (time_of b p) ≡ length b.closed.first
-  pub time_long : length (lock_at b.locks l).time ≡ length b.closed.first
-  pub kept : (q : ℕ) → slice_index b.closed.first q ≤ slice_index (time_of b p) q
+  pub keeps : KeepsBetween b.closed (time_of b p) (lock_at b.locks l).time
   pub processor : p < b.locks.processors
   pub apart : ¬ Has (line (lock_at b.locks l)) p
   pub none : slice_get b.transit p ≡ Some None
@@ -117,9 +115,11 @@ asking b p l block may =
     let read = slice_get-get_or b.transit p None (omega arith) in
     record {
       lock = omega arith;
-      own_long = omega arith;
-      time_long = omega arith;
-      kept = λ q. told.within p q (time_of b p) (slice_get-get_or b.times p [] (omega arith));
+      keeps = record {
+        old_long = omega arith;
+        new_long = omega arith;
+        none_trimmed = λ q. told.within p q (time_of b p) (slice_get-get_or b.times p [] (omega arith));
+      };
       processor = omega arith;
       apart = not_in_line h p l (line (lock_at b.locks l)) (idle_no_ask h p l idle) may.free lock.line_is;
       none = read ∙ ap (λ (x : Option Letter). Some x)
@@ -145,12 +145,6 @@ grant_same b p l block records lt is =
     (ticked ∙ sym news
     ∙ ap (λ (now : List ℕ). between (pushed b.closed (open_interval b p records)) now t)
     (sym (own_ticked b p lt)))
-
--- what is there already is written without a change
-set_back : {A : Type 0} (xs : List A) (i : ℕ) (v : A) → slice_get xs i ≡ Some v → slice_set xs i v ≡ xs
-set_back [] i v at = refl
-set_back {A} (x ∷ xs) zero v at = ap (λ (y : A). y ∷ xs) (sym (same_Some x v at))
-set_back {A} (x ∷ xs) (suc i) v at = ap (λ (ys : List A). x ∷ ys) (set_back xs i v at)
 
 -- p asks for the lock
 module _ (old b : State) (p l : ℕ) (block : List Event) (records : List Changes) (may : MayAsk old p l block)

@@ -1,5 +1,5 @@
 -- What the calls of an idle processor rest on, read off the book.
-use Rattle.std.proofs.Common.{◌≡◌, ℕ, ◌-◌, ◌<◌, ◌≤◌, List, [], ◌∷◌, ◌++◌, slice_set, length, Option, None, slice_index, slice_index_or, ◌==◌, ◌&&◌, true, subst, sym, refl, ap, ◌∙◌, arith}
+use Rattle.std.proofs.Common.{◌≡◌, ℕ, ◌-◌, ◌<◌, ◌≤◌, List, [], ◌∷◌, ◌++◌, slice_set, length, None, slice_index, slice_index_or, ◌==◌, ◌&&◌, true, subst, sym, refl, ap, ◌∙◌, arith}
 use Rattle.std.proofs.lemmas.Option.{slice_get-get_or, get_or_from_slice_get}
 use Rattle.std.proofs.lemmas.List.Sums.{count_by-le-length}
 use Rattle.journal.specs.declared.event.Event.{Event}
@@ -14,7 +14,7 @@ use Rattle.journal.specs.Waits.{awaited}
 use Rattle.page.specs.Changes.{Changes}
 use Rattle.vtime.specs.Times.{tick}
 use Rattle.interval.specs.Intervals.{ClosedInterval}
-use Rattle.interval.specs.Closings.{Closings, pushed}
+use Rattle.interval.specs.Closings.{pushed}
 use Rattle.journal.specs.Did.{event}
 use Rattle.book.specs.Transitions.{handed_in, open_interval, closed_by}
 use Rattle.book.specs.declared.protocol.Protocol.TheInside.{Inside}
@@ -121,15 +121,23 @@ pub logs_are : (a b c d : Log) (owing : ℕ) (block : List Event) (e : Event) �
     → record d { room = owing } ≡ record a { events = (a.events ++ block) ++ e ∷ []; room = owing }
 logs_are a b c d owing block e first second third = cc
 
--- the book after a block and an event that closes an interval, part by part
-pub closing_is : (b : State) (p : ℕ) (k : Kind) (block : List Event) (records : List Changes) (log : Log)
-    (c : Closings) (t : List ℕ) (waits : List (Option Kind))
-    → log ≡ record b.journal { events = (b.journal.events ++ block) ++ event p k ∷ [] }
-    → c ≡ pushed b.closed (open_interval b p records) → t ≡ tick (time_of b p) p
-    → waits ≡ slice_set b.awaits p (awaited k)
-    → record b { journal = log; closed = c; times = slice_set b.times p t; awaits = waits }
-    ≡ closed_by (handed_in b block) p k records
-closing_is b p k block records log c t waits one two three four = cc
+-- the book after p handed in a block and closed its interval: each part that changes, and the others as they were
+pub record HasClosed (b : State) (p : ℕ) (k : Kind) (block : List Event) (records : List Changes) (new : State)
+    : Type 0 where
+  pub journal : new.journal ≡ record b.journal { events = (b.journal.events ++ block) ++ event p k ∷ [] }
+  pub closed : new.closed ≡ pushed b.closed (open_interval b p records)
+  pub times : new.times ≡ slice_set b.times p (tick (time_of b p) p)
+  pub awaits : new.awaits ≡ slice_set b.awaits p (awaited k)
+  pub others : new ≡ record b { journal = new.journal; closed = new.closed; times = new.times; awaits = new.awaits }
+
+pub closing_is : (b : State) (p : ℕ) (k : Kind) (block : List Event) (records : List Changes) (new : State)
+    → HasClosed b p k block records new → new ≡ closed_by (handed_in b block) p k records
+closing_is b p k block records new is =
+    let journal = is.journal in
+    let closed = is.closed in
+    let times = is.times in
+    let awaits = is.awaits in
+    is.others ∙ cc
 
 pub stands : (b now : State) (p : ℕ) (block : List Event) → b ≡ now → MayCall now p block → IsStanding b p
 stands b now p block same may = subst (λ x. IsStanding x p) (sym same) (standing now p block may)

@@ -1,5 +1,5 @@
 -- What a take rests on, and what it makes, read off the book.
-use Rattle.std.proofs.Common.{Bool, ◌≡◌, ◌↔◌, ◌-◌, ℕ, ◌<◌, ◌≤◌, inl, inr, true, IsTrue, List, [], ◌∷◌, ◌++◌, length, map, Option, Some, None, slice_get, slice_set, slice_index, slice_index_or, subst, subst₂, sym, refl, ap, ◌∙◌, arith}
+use Rattle.std.proofs.Common.{Bool, ◌≡◌, ◌↔◌, ◌-◌, ℕ, ◌<◌, inl, inr, true, IsTrue, List, [], ◌∷◌, ◌++◌, length, map, Option, Some, None, slice_get, slice_set, slice_index_or, subst, subst₂, sym, refl, ap, ◌∙◌, arith}
 use Rattle.std.proofs.lemmas.Bool.{cases_eq}
 use Rattle.std.proofs.lemmas.Option.{get_or_from_slice_get, slice_get-get_or, same_Some}
 use Rattle.std.proofs.Math.ListN.{get_or-map}
@@ -17,8 +17,7 @@ use Rattle.journal.specs.WellFormed.{Allowed, Ready}
 use Rattle.journal.specs.Waits.{awaited}
 use Rattle.journal.proofs.Journals.Balance.{balanced}
 use Rattle.vtime.specs.Times.{join}
-use Rattle.interval.specs.Closings.{Closings, between}
-use Rattle.barrier.specs.Episodes.{Episodes}
+use Rattle.interval.specs.Closings.{KeepsBetween, between}
 use Rattle.barrier.specs.declared.barrier.Stage.{Stage}
 use Rattle.barrier.specs.declared.barrier.Stage.TheVariants.{Away, Free}
 use Rattle.transit.specs.Letters.{Letter}
@@ -111,12 +110,15 @@ receiving_by s h b p k told waits =
         let own_long = (own_stamp s h b p told lt).long in
         record {
           within = omega arith;
-          time = λ t is. (let flag : IsFlag s.processors h f (Some t) =
-              subst (λ o. IsFlag s.processors h f o) is
-              (is_at s.flags (IsFlag s.processors h) b.flags f None told.flags range) in let long =
-              flag.1.long in omega arith);
-          long = omega arith;
-          kept = λ q. told.within p q (time_of b p) (slice_get-get_or b.times p [] (omega arith));
+          keeps = λ t is.
+              let flag : IsFlag s.processors h f (Some t) = subst (λ o. IsFlag s.processors h f o) is
+              (is_at s.flags (IsFlag s.processors h) b.flags f None told.flags range) in
+              let long = flag.1.long in
+              record {
+                old_long = omega arith;
+                new_long = omega arith;
+                none_trimmed = λ q. told.within p q (time_of b p) (slice_get-get_or b.times p [] (omega arith));
+              };
         }
 
 pub receiving : (b : State) (p : ℕ) (k : Kind) → MayTake b p k → IsReceiving b p k
@@ -194,23 +196,35 @@ taking_address n (Load a v) takes = absurd cc
 taking_address n (Store a v) takes = absurd cc
 taking_address n _ takes = tt
 
--- the book after the take of a message, part by part
-pub took_is : (b : State) (p : ℕ) (k : Kind) (m : Letter) (u : List ℕ) (log : Log) (c : Closings)
-    (waits : List (Option Kind)) (transit : List (Option Letter)) (barrier : Episodes)
-    → log ≡ record b.journal { events = b.journal.events ++ event p k ∷ [] } → u ≡ join (time_of b p) m.time
-    → c ≡ trimmed_by b.closed (slice_set b.times p u) (length (slice_set b.times p u))
-    → waits ≡ slice_set b.awaits p None → transit ≡ slice_set b.transit p None
-    → barrier ≡ barrier_left k b.barrier p → IsTrue (is_taking k)
-    → record b {
-      journal = log;
-      closed = c;
-      times = slice_set b.times p u;
-      awaits = waits;
-      transit = transit;
-      barrier = barrier;
-    } ≡ book_taken b p k m
-took_is b p k m u log c waits transit barrier one two three set four five six =
-    let none = takes_on k six in cc
+-- the book after p took a message, for which it waited: each part that changes, and the others as they were
+pub record HasTaken (b : State) (p : ℕ) (k : Kind) (m : Letter) (new : State) : Type 0 where
+  pub takes : IsTrue (is_taking k)
+  pub journal : new.journal ≡ record b.journal { events = b.journal.events ++ event p k ∷ [] }
+  pub times : new.times ≡ slice_set b.times p (join (time_of b p) m.time)
+  pub closed : new.closed ≡ trimmed_by b.closed new.times (length new.times)
+  pub awaits : new.awaits ≡ slice_set b.awaits p None
+  pub transit : new.transit ≡ slice_set b.transit p None
+  pub barrier : new.barrier ≡ barrier_left k b.barrier p
+  pub others : new ≡ record b {
+    journal = new.journal;
+    closed = new.closed;
+    times = new.times;
+    awaits = new.awaits;
+    transit = new.transit;
+    barrier = new.barrier;
+  }
+
+pub took_is : (b : State) (p : ℕ) (k : Kind) (m : Letter) (new : State) → HasTaken b p k m new
+    → new ≡ book_taken b p k m
+took_is b p k m new is =
+    let none = takes_on k is.takes in
+    let journal = is.journal in
+    let times = is.times in
+    let closed = is.closed in
+    let awaits = is.awaits in
+    let transit = is.transit in
+    let barrier = is.barrier in
+    is.others ∙ cc
   where
     takes_on : (a : Kind) → IsTrue (is_taking a) → awaited a ≡ None
     takes_on (Acquire l) takes = refl
@@ -256,9 +270,7 @@ signalled b now p f own time o same may own_is flag_is set =
     let at : slice_index_or b.flags f None ≡ Some time =
     sym (same_default b.flags f o None flag.within) ∙ sym flag_is ∙ set in
     subst (λ (x : State). IsSignalled x p f own time) same (record {
-      old_long = ap (λ (t : List ℕ). length t) read ∙ flag.long;
-      new_long = flag.time time at;
-      kept = subst (λ (t : List ℕ). (q : ℕ) → slice_index b.closed.first q ≤ slice_index t q) (sym read) flag.kept;
+      keeps = subst (λ (t : List ℕ). KeepsBetween b.closed t time) (sym read) (flag.keeps time at);
       brings = ap (λ (t : List ℕ). between b.closed t time) read
           ∙ ap (λ (x : Option (List ℕ)). sent_with
           (option_map (λ (t : List ℕ). signal_to b.closed t (time_of b p)) x)) (sym at);

@@ -21,7 +21,7 @@ use Rattle.book.specs.Mail.{IsPosted, IsMail}
 use Rattle.book.specs.Flags.{IsFlag}
 use Rattle.book.specs.ClosedIntervals.{AreContents}
 use Rattle.book.specs.State.{State, time_of}
-use Rattle.book.specs.Transitions.{closed_by, flag_joined, book_set, book_watched, book_joined}
+use Rattle.book.specs.Transitions.{closed_by, flag_joined, book_set, book_watched, book_joined, book_trimmed}
 use Rattle.book.specs.Told.{IsTold}
 use Rattle.book.proofs.Parts.Each.{each_set, each_own, is_at}
 use Rattle.book.proofs.Parts.Stamps.{stamp_closing}
@@ -29,7 +29,6 @@ use Rattle.book.proofs.Parts.Lines.{idle_no_ask}
 use Rattle.book.proofs.Parts.Mail.{mail_kept, own_idle, own_none, lets_posted}
 use Rattle.book.proofs.Parts.Flags.{flag_kept, flags_kept, flag_set}
 use Rattle.book.proofs.Parts.Meetings.{barrier_kept}
-use Rattle.book.proofs.Parts.Loose.{IsLoose}
 use Rattle.book.proofs.Parts.Doings.{unlike}
 use Rattle.book.proofs.Parts.Told.{is_processor, is_idle, has_none, own_stamp, follows, old_notices}
 use Rattle.book.proofs.Keeps.Events.{told_closing, told_taking}
@@ -132,10 +131,10 @@ watching_mail s h p i f (Some m) last mail = absurd (go mail.kind (lets_posted m
     go Depart posted allowed = absurd (cc ((last_unique h p i allowed.0 (Watch f) Arrive last allowed.1).1))
     go _ posted allowed = absurd posted
 
--- p awaits a flag that is set
+-- p awaits a flag that is set, and what everyone covers then is trimmed
 pub told_signal : (s : Sizes) (h : List Event) (b : State) (p f : ℕ) (t : List ℕ) → IsTold s h b
     → slice_get b.awaits p ≡ Some (Some (Await f)) → slice_get b.flags f ≡ Some (Some t)
-    → IsLoose s (did h p (Await f)) (book_joined b p (Await f) t)
+    → IsTold s (did h p (Await f)) (book_trimmed (book_joined b p (Await f) t))
 told_signal s h b p f t told waits set =
     told_taking s h b p told (is_processor s h b p (Some (Await f)) told waits) (Await f) may
     (book_joined b p (Await f) t)

@@ -1,6 +1,6 @@
--- The empty book, blocks, and trims.
-use Rattle.std.proofs.Common.{◌≡◌, ◌≢◌, ℕ, zero, suc, ◌<◌, ◌≤◌, List, [], ◌∷◌, ◌++◌, length, replicate, false, Some, None, slice_get, slice_index, subst, subst₂, sym, refl, ap, ◌∙◌, append_assoc, append-nil, arith}
-use Rattle.std.proofs.lemmas.Option.{same_Some, none-some}
+-- The empty book, and blocks.
+use Rattle.std.proofs.Common.{◌≡◌, ◌≢◌, ℕ, ◌<◌, ◌≤◌, List, [], ◌∷◌, ◌++◌, length, replicate, false, Some, None, slice_get, slice_set, slice_index, subst, subst₂, sym, refl, ap, ◌∙◌, append_assoc, append-nil, arith}
+use Rattle.std.proofs.lemmas.Option.{none-some}
 use Rattle.std.proofs.lemmas.List.{length-replicate}
 use Rattle.lists.proofs.Places.{push_induction}
 use Rattle.lists.proofs.Joined.{has-nil, in_order-nil}
@@ -18,7 +18,6 @@ use Rattle.journal.specs.Brings.{SomeDoes, SomeArrives}
 use Rattle.journal.proofs.Order.Places.{at_longer, at_last}
 use Rattle.journal.proofs.Journals.WellFormed.{well_formed_empty}
 use Rattle.interval.specs.declared.kept.Kept.{Kept}
-use Rattle.interval.specs.Closings.{Closings, trimmed}
 use Rattle.lockq.specs.Lock.{unheld}
 use Rattle.barrier.specs.declared.barrier.Stage.TheVariants.{Away}
 use Rattle.book.specs.Meetings.{IsAtStage}
@@ -28,21 +27,20 @@ use Rattle.book.specs.Lines.{IsLock}
 use Rattle.book.specs.Mail.{IsPosted, IsMail}
 use Rattle.book.specs.Flags.{IsFlag}
 use Rattle.book.specs.State.{State}
-use Rattle.book.specs.Transitions.{new_book, appended, handed_in, least, trimmed_by}
+use Rattle.book.specs.Transitions.{new_book, appended, handed_in}
 use Rattle.book.specs.Told.{HoldsSome, IsTold}
 use Rattle.book.specs.Calls.{IsInner, IsBlockOf}
-use Rattle.book.proofs.Parts.Each.{each_own, each_replicate}
-use Rattle.book.proofs.Parts.Doings.{unlike, awaited_on, awaited_now}
+use Rattle.book.proofs.Parts.Each.{each_own, each_replicate, set_back}
+use Rattle.book.proofs.Parts.Doings.{unlike}
 use Rattle.book.proofs.Parts.Stamps.{stamp_none, stamp_others, stamp_quiet}
 use Rattle.book.proofs.Parts.Lines.{idle_no_ask}
 use Rattle.book.proofs.Parts.Mail.{mail_kept, own_idle}
 use Rattle.book.proofs.Parts.Flags.{flags_kept}
 use Rattle.book.proofs.Parts.Meetings.{barrier_kept}
-use Rattle.book.proofs.Parts.ClosedIntervals.{closed_quiet, closed_trimmed, within_trimmed, least_le}
-use Rattle.interval.proofs.News.Unchanged.{between-trimmed}
-use Rattle.book.proofs.Parts.Loose.{IsLoose}
+use Rattle.book.proofs.Parts.ClosedIntervals.{closed_quiet}
 use Rattle.book.proofs.Parts.History.{history_new, history_on}
-use Rattle.book.proofs.Parts.Told.{same_sizes, is_idle, follows, still_formed}
+use Rattle.book.proofs.Parts.Told.{same_sizes, is_processor, is_idle, follows}
+use Rattle.book.proofs.Keeps.Events.{told_event}
 use Rattle.book.proofs.Keeps.Locks.{locks_kept}
 
 -- nothing has happened in an empty history
@@ -137,37 +135,40 @@ told_journal s h b log same holds told = record {
 }
 
 -- one load, store or fetch
-told_quiet : (s : Sizes) (h : List Event) (b : State) (p : ℕ) (k : Kind) (log : Log)
-    → (log.processors ≡ b.journal.processors) × (log.addresses ≡ b.journal.addresses) → IsTold s h b
+told_quiet : (s : Sizes) (h : List Event) (b : State) (p : ℕ) (k : Kind) → IsTold s h b
     → slice_get b.awaits p ≡ Some None → is_taking k ≡ false → is_closing k ≡ false → KindInRange s k
-    → HoldsSome log (did h p k) → IsTold s (did h p k) (record b { journal = log })
-told_quiet s h b p k log same told idle takes closes range holds = record {
-  well_formed = still_formed s h b p told k may;
-  sizes = same_sizes s b _ told.sizes (same.0, refl, same.1, refl);
-  holds = holds;
-  closed = closed_quiet s h p k b.closed closes told.closed;
-  times = each_own s.processors (λ q t. IsStamp s.processors h (InPast h q) t)
-      (λ q t. IsStamp s.processors (did h p k) (InPast (did h p k) q) t) b.times p told.times
-      (λ q t isnt at is. stamp_others s.processors h p k q t isnt is)
-      (λ t at is. stamp_quiet s.processors h p k t takes closes is);
-  locks = locks_kept s h p k b.locks.locks ask (λ l. unlike is_taking k (Acquire l) takes refl) release
-      (λ l. idle_no_ask h p l free) told.locks;
-  barrier = barrier_kept s h p k b.barrier plain.arrives plain.departs told.barrier;
-  flags = flags_kept s h p k b.flags (λ f. unlike is_closing k (Set f) closes refl) told.flags;
-  awaits = each_own s.processors (IsAwaited h) (IsAwaited (did h p k)) b.awaits p told.awaits
-      (λ q w isnt at is. awaited_on h p k q w isnt is)
-      (λ w at is. subst (λ x. IsAwaited (did h p k) p x) (plain.awaits ∙ same_Some None w (sym idle ∙ at))
-      (awaited_now h p k));
-  transit = each_own s.processors (IsMail s h) (IsMail s (did h p k)) b.transit p told.transit
-      (λ r o isnt at is. mail_kept s h p k may r isnt o release arrive is)
-      (λ o at is. own_idle s h p k o free ask arrive is);
-  notices = told.notices;
-  within = told.within;
-  tight = told.tight;
-}
+    → IsTold s (did h p k) (handed_in b (event p k ∷ []))
+told_quiet s h b p k told idle takes closes range =
+    told_event s h b p told lt k may (handed_in b (event p k ∷ []))
+    (record {
+      locks = locks_kept s h p k b.locks.locks ask (λ l. unlike is_taking k (Acquire l) takes refl) release
+          (λ l. idle_no_ask h p l free) told.locks;
+      barrier = barrier_kept s h p k b.barrier plain.arrives plain.departs told.barrier;
+      flags = flags_kept s h p k b.flags (λ f. unlike is_closing k (Set f) closes refl) told.flags;
+      transit = each_own s.processors (IsMail s h) (IsMail s (did h p k)) b.transit p told.transit
+          (λ r o isnt at is. mail_kept s h p k may r isnt o release arrive is)
+          (λ o at is. own_idle s h p k o free ask arrive is);
+      notices = told.notices;
+    })
+    b.closed b.times
+    (record {
+      closed = closed_quiet s h p k b.closed closes told.closed;
+      times = each_own s.processors (λ q t. IsStamp s.processors h (InPast h q) t)
+          (λ q t. IsStamp s.processors (did h p k) (InPast (did h p k) q) t) b.times p told.times
+          (λ q t isnt at is. stamp_others s.processors h p k q t isnt is)
+          (λ t at is. stamp_quiet s.processors h p k t takes closes is);
+      within = told.within;
+    })
+    told.tight (ap (λ ws. record (handed_in b (event p k ∷ [])) { awaits = ws }) waits)
   where
+    lt : p < s.processors
+    lt = is_processor s h b p None told idle
+
     plain : IsPlain k
     plain = plain_kind k takes closes
+
+    waits : b.awaits ≡ slice_set b.awaits p (awaited k)
+    waits = sym (ap (λ w. slice_set b.awaits p w) plain.awaits ∙ set_back b.awaits p None idle)
 
     free : IsIdle h p
     free = is_idle s h b p told idle
@@ -198,10 +199,7 @@ told_block s h block b p told idle all =
         → IsTold s (h ++ (es ++ e ∷ [])) (handed_in b (es ++ e ∷ []))
     pushed es e x now =
         let same : event p e.kind ≡ e = ap (λ q. event q e.kind) (sym x.mine) in
-        let one = told_quiet s (h ++ es) (handed_in b es) p e.kind
-        (appended (handed_in b es).journal (event p e.kind ∷ [])) (refl, refl)
-        now idle x.takes x.closes x.in_range
-        (history_on (handed_in b es).journal (h ++ es) (event p e.kind ∷ []) now.holds) in
+        let one = told_quiet s (h ++ es) (handed_in b es) p e.kind now idle x.takes x.closes x.in_range in
         let read = subst (λ f. IsTold s ((h ++ es) ++ f ∷ [])
         (record b { journal = record b.journal { events = (b.journal.events ++ es) ++ f ∷ [] } })) same one in
         subst₂ (λ xs ys. IsTold s xs (record b { journal = record b.journal { events = ys } }))
@@ -211,31 +209,3 @@ told_block s h block b p told idle all =
         → IsBlockOf s p (es ++ e ∷ []) → IsTold s (h ++ (es ++ e ∷ [])) (handed_in b (es ++ e ∷ []))
     step es e ih plain =
         pushed es e (plain (length es) e (at_last es e)) (ih (λ k f at. plain k f (at_longer es (e ∷ []) k f at)))
-
--- one owner's intervals that everyone's timestamp covers are trimmed
-trimmed_once : (s : Sizes) (h : List Event) (b : State) (c : Closings) (owner to : ℕ)
-    → ((p : ℕ) (t : List ℕ) → slice_get b.times p ≡ Some t → to ≤ slice_index t owner) → owner < s.processors
-    → IsLoose s h (record b { closed = c }) → IsLoose s h (record b { closed = trimmed c owner to })
-trimmed_once s h b c owner to covered lt told = record {
-  well_formed = told.well_formed;
-  sizes = same_sizes s (record b { closed = c }) _ told.sizes (refl, refl, refl, refl);
-  holds = told.holds;
-  closed = closed_trimmed s h c owner to lt told.closed;
-  times = told.times;
-  locks = told.locks;
-  barrier = told.barrier;
-  flags = told.flags;
-  awaits = told.awaits;
-  transit = told.transit;
-  notices = λ p m t at now. told.notices p m t at now ∙ sym (between-trimmed c owner to t m.time (covered p t now));
-  within = within_trimmed c owner to b.times covered (subst (λ n. owner < n) (sym told.closed.first_long) lt)
-      told.within;
-}
-
--- the intervals that everyone's timestamp covers are trimmed
-pub told_trimmed : (s : Sizes) (h : List Event) (b : State) (n : ℕ) → n ≤ s.processors → IsLoose s h b
-    → IsLoose s h (record b { closed = trimmed_by b.closed b.times n })
-told_trimmed s h b zero le told = told
-told_trimmed s h b (suc n) le told =
-    trimmed_once s h b (trimmed_by b.closed b.times n) n (least b.times n) (λ p t at. least_le b.times n p t at)
-    (omega arith) (told_trimmed s h b n (omega arith) told)

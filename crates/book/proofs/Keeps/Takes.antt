@@ -28,7 +28,7 @@ use Rattle.book.specs.Flags.{IsFlag}
 use Rattle.book.specs.Meetings.{IsBarrier}
 use Rattle.lockq.specs.Lock.{Lock}
 use Rattle.book.specs.State.{State, time_of}
-use Rattle.book.specs.Transitions.{barrier_left, book_joined, book_received}
+use Rattle.book.specs.Transitions.{barrier_left, book_joined, book_received, book_trimmed, book_taken}
 use Rattle.book.specs.Brought.{signal_to, message_for, has_come}
 use Rattle.book.specs.Told.{IsTold}
 use Rattle.book.specs.Laws.{IsMessage}
@@ -36,7 +36,6 @@ use Rattle.book.proofs.Parts.Each.{each_set, each_kept, item_at, is_at}
 use Rattle.book.proofs.Parts.Mail.{lets_posted, mail_kept, own_none}
 use Rattle.book.proofs.Parts.Flags.{flags_kept}
 use Rattle.book.proofs.Parts.Meetings.{barrier_kept, barrier_departed}
-use Rattle.book.proofs.Parts.Loose.{IsLoose}
 use Rattle.book.proofs.Parts.Doings.{unlike}
 use Rattle.book.proofs.Parts.Told.{is_processor}
 use Rattle.book.proofs.Keeps.Events.{told_taking}
@@ -120,9 +119,9 @@ module _ (s : Sizes) (h : List Event) (b : State) (p : ℕ) (told : IsTold s h b
   took_barrier Depart lt posted allowed = barrier_departed s h p b.barrier told.well_formed allowed lt told.barrier
   took_barrier _ lt posted allowed = absurd posted
 
-  -- p takes its mail
+  -- p takes its mail, and what everyone covers then is trimmed
   told_take : (k : Kind) (m : Letter) → slice_get b.awaits p ≡ Some (Some k)
-      → slice_get b.transit p ≡ Some (Some m) → IsLoose s (did h p k) (book_received b p k m)
+      → slice_get b.transit p ≡ Some (Some m) → IsTold s (did h p k) (book_taken b p k m)
   told_take k m waits mail =
       told_taking s h b p told lt k may (book_received b p k m)
       (record {
@@ -227,12 +226,13 @@ module _ (s : Sizes) (h : List Event) (b : State) (p : ℕ) (told : IsTold s h b
 
     signal_took : (m : Letter) (o : Option (List ℕ)) → slice_get b.flags f ≡ Some o
         → option_map (λ (t : List ℕ). signal_to b.closed t (time_of b p)) o ≡ Some m
-        → IsLoose s (did h p (Await f)) (book_received b p (Await f) m)
+        → IsTold s (did h p (Await f)) (book_taken b p (Await f) m)
     signal_took m None at is = absurd (none-some m is)
     signal_took m (Some t) at is =
-        subst (λ x. IsLoose s (did h p (Await f)) (book_received b p (Await f) x))
+        subst (λ x. IsTold s (did h p (Await f)) (book_taken b p (Await f) x))
         (same_Some (signal_to b.closed t (time_of b p)) m is)
-        (subst (λ ts. IsLoose s (did h p (Await f)) (record (book_joined b p (Await f) t) { transit = ts }))
+        (subst (λ ts. IsTold s (did h p (Await f)) (book_trimmed
+        (record (book_joined b p (Await f) t) { transit = ts })))
         no_mail_waits (told_signal s h b p f t told waits at))
 
   -- p's message lets p go on
@@ -241,9 +241,9 @@ module _ (s : Sizes) (h : List Event) (b : State) (p : ℕ) (told : IsTold s h b
   message_is (Await f) m waits is = signal_is f waits m (slice_index_or b.flags f None) (flag_at f waits) is
   message_is _ m waits is = mail_is _ m waits is
 
-  -- p takes its message
+  -- p takes its message, and what everyone covers then is trimmed
   pub told_took : (k : Kind) (m : Letter) → slice_get b.awaits p ≡ Some (Some k) → message_for b p k ≡ Some m
-      → IsLoose s (did h p k) (book_received b p k m)
+      → IsTold s (did h p k) (book_taken b p k m)
   told_took (Await f) m waits is = signal_took f waits m (slice_index_or b.flags f None) (flag_at f waits) is
   told_took _ m waits is = told_take _ m waits (mail_at m (is_processor s h b p (Some _) told waits) is)
 

@@ -1,5 +1,5 @@
 -- The laws of whole transitions: the block, then the event.
-use Rattle.std.proofs.Common.{◌≡◌, ◌≢◌, ℕ, ◌↔◌, Option, Some, None, slice_get, subst, List, [], ◌∷◌, ◌++◌, sym, refl, ap, ◌∙◌, append_assoc, append-nil, arith, length}
+use Rattle.std.proofs.Common.{◌≡◌, ◌≢◌, ℕ, ◌↔◌, Option, Some, None, slice_get, subst, List, [], ◌∷◌, ◌++◌, sym, refl, ap, ◌∙◌, append_assoc, append-nil, length}
 use Rattle.std.proofs.lemmas.Bool.{true≢false}
 use Rattle.std.proofs.lemmas.Option.{none-some}
 use Rattle.journal.specs.declared.event.Kind.{Kind}
@@ -12,19 +12,15 @@ use Rattle.journal.specs.HistoryLaws.{IsOf}
 use Rattle.journal.specs.Events.{is_closing, is_taking}
 use Rattle.journal.specs.WellFormed.{Holds}
 use Rattle.journal.proofs.Order.Places.{at_longer, at_last}
-use Rattle.journal.specs.Did.{did}
 use Rattle.book.specs.State.{State}
-use Rattle.book.specs.Transitions.{handed_in, handed_last, book_received, book_taken}
+use Rattle.book.specs.Transitions.{handed_in, handed_last}
 use Rattle.book.specs.Told.{IsTold}
 use Rattle.book.specs.Calls.{IsBlockOf, MayHandIn}
 use Rattle.book.specs.Laws.{NewLaw, HandInLaw, LastLaw, AskLaw, ReleaseLaw, ArriveLaw, SetLaw, WatchLaw, TakeLaw, CutLaw, MessageLaw, NewsLaw, NewsOrderLaw}
 use Rattle.book.proofs.Parts.History.{history_room, history_cut}
-use Rattle.book.proofs.Parts.Loose.{tightened, least_few}
-use Rattle.book.proofs.Parts.Tight.{tight_trimmed}
-use Rattle.book.proofs.Parts.Told.{is_processor}
 use Rattle.book.proofs.Parts.News.{news_are, sent_in_order}
 use Rattle.book.proofs.Parts.Doings.{holds_on, holds_back}
-use Rattle.book.proofs.Keeps.Starting.{told_new, told_journal, told_block, told_trimmed}
+use Rattle.book.proofs.Keeps.Starting.{told_new, told_journal, told_block}
 use Rattle.book.proofs.Keeps.Locks.{told_ask, told_release}
 use Rattle.book.proofs.Keeps.Arrivals.{told_arrive}
 use Rattle.book.proofs.Keeps.Flags.{told_set, told_watch}
@@ -103,16 +99,7 @@ watch_law s h block b p f records told may are range =
     told_watch s (h ++ block) (handed_in b block) p f records (block_told s h block b p told may) range may.idle are
 
 pub take_law : TakeLaw
-take_law s h b p k m told waits is =
-    let next = told_took s h b p told k m waits is in
-    let long = next.times.long in
-    let lt = is_processor s h b p (Some k) told waits in
-    let first = next.closed.first_long in
-    let trimmed = told_trimmed s (did h p k) (book_received b p k m) (length (book_received b p k m).times)
-    (omega arith) next in
-    tightened s (did h p k) (book_taken b p k m) trimmed
-    (tight_trimmed b.closed (book_received b p k m).times (length (book_received b p k m).times) (omega arith)
-    (omega arith) (λ q less. least_few s (did h p k) (book_received b p k m) q next (omega arith)))
+take_law s h b p k m told waits is = told_took s h b p told k m waits is
 
 pub cut_law : CutLaw
 cut_law s h old new told was =

@@ -1,8 +1,8 @@
 -- Lists of which one item changes, or none.
-use Rattle.std.proofs.Common.{◌≡◌, ◌≢◌, ℕ, ◌<◌, inl, inr, List, replicate, Some, slice_get, slice_set, slice_index_or, subst, sym, ◌∙◌}
+use Rattle.std.proofs.Common.{◌≡◌, ◌≢◌, ℕ, zero, suc, ◌<◌, inl, inr, List, [], ◌∷◌, replicate, Some, slice_get, slice_set, slice_index_or, subst, sym, refl, ap, ◌∙◌}
 use Rattle.std.proofs.lemmas.Bool.{cases_eq}
 use Rattle.std.proofs.lemmas.List.{length-set, length-replicate}
-use Rattle.std.proofs.lemmas.Option.{slice_get-get_or}
+use Rattle.std.proofs.lemmas.Option.{same_Some, slice_get-get_or}
 use Rattle.lists.proofs.Sets.{slice_get-set_found, slice_get-set_other, slice_get-replicate_found}
 use Rattle.book.specs.Stamps.{AreAll}
 
@@ -53,3 +53,9 @@ item_at n R xs i d all lt = slice_get-get_or xs i d (subst (λ m. i < m) (sym al
 pub is_at : {A : Type 0} (n : ℕ) (R : ℕ → A → Type 0) (xs : List A) (i : ℕ) (d : A) → AreAll n R xs → i < n
     → R i (slice_index_or xs i d)
 is_at n R xs i d all lt = all.each i (slice_index_or xs i d) (item_at n R xs i d all lt)
+
+-- what is there already is written without a change
+pub set_back : {A : Type 0} (xs : List A) (i : ℕ) (v : A) → slice_get xs i ≡ Some v → slice_set xs i v ≡ xs
+set_back [] i v at = refl
+set_back {A} (x ∷ xs) zero v at = ap (λ (y : A). y ∷ xs) (sym (same_Some x v at))
+set_back {A} (x ∷ xs) (suc i) v at = ap (λ (ys : List A). x ∷ ys) (set_back xs i v at)

@@ -10,34 +10,8 @@ use interval::Sent;
 use vtime::VTime;
 
 impl Protocol {
-    /// What `Book::due` says.
-    pub(crate) fn due(&self, p: usize, page: usize) -> usize
-        requires call { MayLook self.now p }
-        ensures { result ≡ count_by (is_of_page page) (brought self.now p) }
-    {
-        match self.awaits[p] {
-            Some(Awaited::Grant(_) | Awaited::Departure) => self.due_by_message(p, page),
-            Some(Awaited::Signal(flag)) => self.due_by_flag(p, flag, page),
-            None => 0,
-        }
-    }
-
-    /// What `Book::count_due` says.
-    pub(crate) fn count_due(&self, p: usize, counts: &mut [usize])
-        requires call { MayLook self.now p }
-        ensures each { EachIndex counts.new (λ n. slice_index counts.new n
-            ≡ count_by (is_of_page n) (brought self.now p)) }
-        ensures same_length { length counts.new ≡ length counts.old }
-    {
-        match self.awaits[p] {
-            Some(Awaited::Grant(_) | Awaited::Departure) => self.count_by_message(p, counts),
-            Some(Awaited::Signal(flag)) => self.count_by_flag(p, flag, counts),
-            None => counts.fill(0),
-        }
-    }
-
-    /// The same where `p` waits for the flag.
-    fn count_by_flag(&self, p: usize, f: usize, counts: &mut [usize])
+    /// How many notices of each page a take by `p` would bring now, where `p` waits for the flag.
+    pub(crate) fn count_by_flag(&self, p: usize, f: usize, counts: &mut [usize])
         requires call { MayTake self.now p (Await f) }
         ensures each { EachIndex counts.new (λ n. slice_index counts.new n
             ≡ count_by (is_of_page n) (sent_with (message_for self.now p (Await f)))) }
@@ -51,7 +25,7 @@ impl Protocol {
     }
 
     /// The same where `p` waits for a grant or a departure.
-    fn count_by_message(&self, p: usize, counts: &mut [usize])
+    pub(crate) fn count_by_message(&self, p: usize, counts: &mut [usize])
         requires processor { p < length self.now.transit }
         ensures each { EachIndex counts.new (λ n. slice_index counts.new n
             ≡ count_by (is_of_page n) (sent_with (slice_index_or self.now.transit p None))) }
@@ -65,7 +39,7 @@ impl Protocol {
     }
 
     /// How many notices of the page, where `p` waits for the flag.
-    fn due_by_flag(&self, p: usize, f: usize, page: usize) -> usize
+    pub(crate) fn due_by_flag(&self, p: usize, f: usize, page: usize) -> usize
         requires call { MayTake self.now p (Await f) }
         ensures { result
             ≡ count_by (is_of_page page) (sent_with (message_for self.now p (Await f))) }
@@ -88,7 +62,7 @@ impl Protocol {
     }
 
     /// The same where `p` waits for a grant or a departure.
-    fn due_by_message(&self, p: usize, page: usize) -> usize
+    pub(crate) fn due_by_message(&self, p: usize, page: usize) -> usize
         requires processor { p < length self.now.transit }
         ensures { result
             ≡ count_by (is_of_page page) (sent_with (slice_index_or self.now.transit p None)) }

@@ -1,12 +1,12 @@
 //! Cuts of the book's journal, and what goes on after them.
 use super::*;
 
-/// Whether so many events were cut off, and left these words.
+/// Whether that many events were cut off, and left these words.
 fn has_base(journal: &Journal, count: u64, words: &[u32]) -> bool {
     journal.cut_events() == count && journal.base() == words
 }
 
-/// Whether an audit of processor 0 answers a journal of which so many events were cut off, with these words and
+/// Whether an audit of processor 0 answers a journal of which that many events were cut off, with these words and
 /// events left.
 fn audit_left(
     told: &mut Told,

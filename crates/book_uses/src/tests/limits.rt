@@ -189,7 +189,7 @@ fn has_event(journal: &Journal, place: usize, wanted: Event) -> bool {
     }
 }
 
-/// Hands in so many full blocks of loads.
+/// Hands in that many full blocks of loads.
 fn fill(told: &mut Told, alloc: Global, p: usize, blocks: usize) -> Result<(), Refused> {
     for _ in 0..blocks {
         does(told, alloc, p, HandIn(256), NONE)?;

@@ -1,12 +1,11 @@
 //! Calls that close the open interval.
-ghost use Rattle.std.specs.Prelude.{◌≡◌, ◌↔◌, ◌⊎◌, ◌<◌, ◌≤◌, ◌+◌, None, true, Err, IfErr, IfOk, OnOk, OnErr, length};
-ghost use Rattle.std.specs.Prelude.{map};
+ghost use Rattle.std.specs.Prelude.{◌≡◌, ◌≤◌, None, true, length, map};
 ghost use Rattle.std.specs.Arc.{arc_value};
 ghost use Rattle.std.specs.Result.{result_err};
-ghost use Rattle.lists.specs.Prelude.{most_events, most_in_block};
+ghost use Rattle.lists.specs.Prelude.{most_in_block};
 ghost use Rattle.journal.specs.Prelude.{is_closing, awaited};
 ghost use Rattle.interval.specs.Prelude.{HasRisingPages};
-ghost use Rattle.book.specs.Prelude.{handed_in};
+ghost use Rattle.book.specs.Prelude.{Closes};
 ghost use Rattle.replicas.specs.Prelude.{AreHarvests, held_after};
 ghost use Rattle.cluster.specs.Prelude.{closing_test, MayClose, MayMake, MayHold, IsClosingCall, book_closed};
 
@@ -81,12 +80,7 @@ fn close_in(
     requires call { MayClose kind book.old p block.now }
     requires short { length block.now ≤ most_in_block }
     requires rising { HasRisingPages (map arc_value records.items) }
-    ensures ok { OnOk result (book.new
-        ≡ book_closed kind (handed_in book.old block.now) p (map arc_value records.items)) }
-    ensures err { OnErr result (book.new ≡ book.old) }
-    ensures full { result ≡ Err Refused.JournalFull
-        ↔ (most_events < length book.old.journal.events + length block.now + 1) }
-    ensures only { IfErr result (λ e. (e ≡ Refused.JournalFull) ⊎ (e ≡ Refused.NoMemory)) }
+    ensures { Closes block.now (λ b. book_closed kind b p (map arc_value records.items)) book.old book.new result }
 {
     match kind {
         Kind::Ask(lock) => book.ask(p, lock, block, records),

@@ -1,5 +1,5 @@
 -- The news of all owners, owner by owner: as much as in closing order.
-use Rattle.std.proofs.Common.{◌≡◌, ◌≢◌, ℕ, zero, suc, ◌+◌, ◌-◌, ◌<◌, ◌≤◌, ◌==◌, ◌^◌, min, nat_lt, Bool, true, false, cond, inl, inr, Some, List, [], ◌∷◌, map, filter, take, drop, count_by, length, get_or, length-drop, length-take, slice_get, slice_index, refl, sym, ap, ap₂, subst, arith, ◌∙◌}
+use Rattle.std.proofs.Common.{◌≡◌, ◌≢◌, ℕ, zero, suc, ◌+◌, ◌-◌, ◌<◌, ◌≤◌, ◌==◌, min, nat_lt, Bool, true, false, cond, inl, inr, Some, List, [], ◌∷◌, map, filter, take, drop, count_by, length, get_or, length-drop, length-take, slice_get, slice_index, refl, sym, ap, ap₂, subst, arith, ◌∙◌}
 use Rattle.std.specs.List.{flat_map, sum_by}
 use Rattle.std.proofs.lemmas.Bool.{cases_Bool, cases_lt, cond_both, cond-true, cond-false, and_from, and_left, and_right, ltb-false, lt-ltb, le-ltb, le-leb, lt-leb}
 use Rattle.std.proofs.lemmas.List.{get_or-drop, get_or-take}
@@ -237,10 +237,11 @@ news_total queues items count value old new n same is are =
 
 -- the counts have room for all of it
 pub news_room : (queues items : List Queue) (count : ℕ) (value : Closings) (base : ℕ) (old new counts : List ℕ)
-    → items ≡ queues → closings queues count ≡ value → AreQueues queues count → count < 2 ^ 64
+    → items ≡ queues → closings queues count ≡ value → AreQueues queues count
     → ((i : ℕ) → i < length counts → slice_index counts i ≡ 0)
     → HasRoom base (flat_map (news_pages old new) items) counts
-news_room queues items count value base old new counts same is are few zeros i inside =
+news_room queues items count value base old new counts same is are zeros i inside =
+    let few = are.few in
     let none = zeros i inside in
     let all = news_total queues items count value old new (base + i) same is are in
     let most = count_fits queues count value (base + i) old new is are in

@@ -34,9 +34,9 @@ pub nothing_lies : (queues : List Queue) → flat_map (λ (q : Queue). q.kept) q
 nothing_lies queues none k l =
     let P : List Kept → Type 0 = λ ks. Has ks k in has-nil k (subst P none (lies_in queues k l))
 
-pub are_none : (queues : List Queue) (count : ℕ) → flat_map (λ (q : Queue). q.kept) queues ≡ []
-    → AreQueues queues count
-are_none queues count none = record {
+pub are_none : (queues : List Queue) → flat_map (λ (q : Queue). q.kept) queues ≡ [] → AreQueues queues 0
+are_none queues none = record {
+  few = omega arith;
   each = λ q queue at. record {
     each =
         λ i k at_i. absurd

@@ -1,5 +1,5 @@
 -- The queues after one more interval, closed last, in its owner's queue.
-use Rattle.std.proofs.Common.{◌≡◌, ◌≢◌, ℕ, zero, suc, ◌<◌, ◌+◌, ◌⊎◌, inl, inr, Some, List, [], ◌∷◌, ◌++◌, map, slice_get, slice_index, set, get_or, length, refl, sym, ap, arith, ◌∙◌}
+use Rattle.std.proofs.Common.{◌≡◌, ◌≢◌, ℕ, zero, suc, ◌<◌, ◌+◌, ◌-◌, ◌^◌, ◌⊎◌, inl, inr, Some, List, [], ◌∷◌, ◌++◌, map, slice_get, slice_index, set, get_or, length, refl, sym, ap, arith, ◌∙◌}
 use Rattle.std.proofs.lemmas.Bool.{cases_eq}
 use Rattle.std.proofs.lemmas.List.{length_push, length-map, map-set, set-get_or}
 use Rattle.std.proofs.lemmas.Option.{slice_get_within, get_or_from_slice_get, slice_get_read}
@@ -20,6 +20,7 @@ pub record Comes (queues : List Queue) (count owner : ℕ) (queue : Queue) (k : 
   pub owner_is : k.interval.owner ≡ owner
   pub number_is : k.interval.number ≡ queue.first + length queue.kept
   pub place_is : k.place ≡ count
+  pub fits : count + 1 < 2 ^ 64
   pub pages : HasRisingPages k.interval.records
 
 abbrev pub with_last : Queue → Kept → Queue
@@ -154,6 +155,7 @@ module _ (queues : List Queue) (count owner : ℕ) (queue : Queue) (k : Kept) (a
 
   pub are_pushed : AreQueues (with_queue queues owner queue k) (count + 1)
   are_pushed = record {
+    few = comes.fits;
     each = λ q a at. elim (queue_cases q a at) [
       | inl here ↦
           let is : IsQueue owner (count + 1) (with_last queue k) =
@@ -251,9 +253,9 @@ entry_of f (q ∷ qs) (suc owner) queue at = entry_of f qs owner queue at
 -- what `push` requires makes the interval the next one of its queue
 pub comes_next : (queues : List Queue) (count : ℕ) (value : Closings) (i : ClosedInterval) (owner : ℕ) (queue : Queue)
     → closings queues count ≡ value → owner ≡ i.owner → i.owner < length value.next
-    → i.number ≡ slice_index value.next i.owner → HasRisingPages i.records
+    → i.number ≡ slice_index value.next i.owner → HasRisingPages i.records → value.pushed < 2 ^ 64 - 1
     → queue ≡ get_or queues owner queue → Comes queues count owner queue (record { place = count; interval = i })
-comes_next queues count value i owner queue is same in_range next pages read =
+comes_next queues count value i owner queue is same in_range next pages few read =
     let nexts : map (λ (q : Queue). q.first + length q.kept) queues ≡ value.next = ap (λ (c : Closings). c.next) is in
     let long = length-map queues (λ (q : Queue). q.first + length q.kept) in
     let longs = ap length nexts in
@@ -263,7 +265,15 @@ comes_next queues count value i owner queue is same in_range next pages read =
     let entry = entry_of (λ (q : Queue). q.first + length q.kept) queues owner queue owned in
     let number : i.number ≡ queue.first + length queue.kept =
     next ∙ ap (slice_index value.next) (sym same) ∙ ap (λ (ns : List ℕ). slice_index ns owner) (sym nexts) ∙ entry in
-    record { owned = owned; owner_is = sym same; number_is = number; place_is = refl; pages = pages }
+    let pushed_is = ap (λ (c : Closings). c.pushed) is in
+    record {
+      owned = owned;
+      owner_is = sym same;
+      number_is = number;
+      place_is = refl;
+      fits = omega arith;
+      pages = pages;
+    }
 
 -- and `push` then does what it says
 pub closings_pushed : (queues : List Queue) (count : ℕ) (value : Closings) (i : ClosedInterval) (owner : ℕ)

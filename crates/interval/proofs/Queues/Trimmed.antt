@@ -69,6 +69,7 @@ module _ (queues : List Queue) (count owner : ℕ) (queue : Queue) (to : ℕ) (a
 
   pub are_trimmed : AreQueues (with_trim queues owner queue to) count
   are_trimmed = record {
+    few = are.few;
     each = λ q a at. elim (queue_cases q a at) [
       | inl here ↦ rw (here.0, ← here.1) is_queue
       | inr there ↦ are.each q a there.1

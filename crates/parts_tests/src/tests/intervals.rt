@@ -2,7 +2,7 @@
 ghost use Rattle.std.specs.Prelude.{◌≡◌, ℕ, ◌+◌, ◌<◌, ◌≤◌, Some, IfOk, OnOk, OnErr, length, map};
 ghost use Rattle.std.specs.Prelude.{slice_get, slice_index, slice_set};
 ghost use Rattle.std.specs.Arc.{arc_value};
-ghost use Rattle.interval.specs.Prelude.{HasRisingPages};
+ghost use Rattle.interval.specs.Prelude.{HasRisingPages, KeepsBetween};
 
 use interval::{Closed, Interval, Notice, Sent};
 use page::Record;
@@ -118,9 +118,7 @@ fn times(
     new: [u64; 2],
 ) -> (VTime, VTime)
     requires { length closed.now.first ≡ 2 }
-    ensures old_long { length result.0 ≡ 2 }
-    ensures new_long { length result.1 ≡ 2 }
-    ensures none_trimmed { (q : ℕ) → slice_index closed.now.first q ≤ slice_index result.0 q }
+    ensures { KeepsBetween closed.now result.0 result.1 }
 {
     let old = stamp(rt.alloc(), old);
     let new = stamp(rt.alloc(), new);
@@ -193,11 +191,9 @@ fn sends_in_closing_order(rt: HostRuntime) -> Result<(), Fail> {
 /// Two timestamps, and how many notices of pages 0 and on lie between them.
 type Counts<'a> = ([u64; 2], [u64; 2], &'a [usize]);
 
-/// Whether so many notices of each page lie between the timestamps, counted page by page.
+/// Whether that many notices of each page lie between the timestamps, counted page by page.
 fn has_each(closed: &Closed, old: &VTime, new: &VTime, counts: &[usize]) -> bool
-    requires old_long { length old.now ≡ length closed.now.first }
-    requires new_long { length new.now ≡ length closed.now.first }
-    requires none_trimmed { (q : ℕ) → slice_index closed.now.first q ≤ slice_index old.now q }
+    requires { KeepsBetween closed.now old.now new.now }
 {
     for (page, count) in counts.iter().enumerate() {
         if closed.news_of(page, old, new) != *count {
@@ -207,7 +203,7 @@ fn has_each(closed: &Closed, old: &VTime, new: &VTime, counts: &[usize]) -> bool
     true
 }
 
-/// Whether so many notices lie between the row's timestamps, counted at once, whatever stood there, and page by page.
+/// Whether that many notices lie between the row's timestamps, counted at once, whatever stood there, and page by page.
 fn has_counts(rt: &(impl Abort + AllocGlobal), closed: &Closed, row: &Counts) -> bool
     requires { length closed.now.first ≡ 2 }
 {

@@ -99,7 +99,7 @@ fn goes<W: Board + Sync, R: Wait>(
         && shown(turn) == words
 }
 
-// Opens a lock over 7 with so many chairs, each of which may enter three times, makes the steps, and closes it.
+// Opens a lock over 7 with that many chairs, each of which may enter three times, makes the steps, and closes it.
 fn makes<W: Board + Sync, R: Wait + Abort>(
     rt: &R,
     alloc: Global,
@@ -204,7 +204,7 @@ fn open_two<W: Board + Sync>(
     Ok((turn, first, second))
 }
 
-// Waits until so many numbers were drawn.
+// Waits until that many numbers were drawn.
 fn wait_for_draws<W: Board, R: Wait>(rt: &R, turn: &Lock<u64, Anything, W, 3>, draws: u64) {
     for _ in rt.forever() {
         if turn.table.shared.peek(NEXT) == draws {

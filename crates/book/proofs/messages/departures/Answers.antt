@@ -1,7 +1,7 @@
-use Rattle.std.proofs.Common.{◌≡◌, ◌≤◌, ℕ, List, length, map, slice_index, slice_index_or, slice_set, [], ap, ◌∙◌, sym, subst, arith}
+use Rattle.std.proofs.Common.{◌≡◌, ℕ, List, map, slice_index_or, slice_set, [], ap, ◌∙◌, sym, subst, arith}
 use Rattle.std.proofs.lemmas.List.{length-set, map-append}
 use Rattle.interval.specs.Intervals.{ClosedInterval, SentRecord}
-use Rattle.interval.specs.Closings.{pushed, between}
+use Rattle.interval.specs.Closings.{KeepsBetween, pushed, between}
 use Rattle.transit.specs.Letters.{Letter, letter}
 use Rattle.book.specs.Transitions.{departure_to}
 use Rattle.transit.specs.Letters.Kind.{departure}
@@ -23,16 +23,12 @@ read c =
     (λ is. c.time_after-old.ensures.owner (is ∙ sym owner))
     (λ apart. c.time_after-old.ensures.others (λ is. apart (is ∙ owner)))
 
-pub between_after-requires-clause-old_long : goal.between_after-requires-clause-old_long
-between_after-requires-clause-old_long c =
-    let is = read (goal.at.between_after-requires-clause-old_long c).After-time_after-old in
-    ap length is ∙ (c.requires.all c.loop-q.q c.loop-q-test.true).long
-
-pub between_after-requires-clause-none_trimmed : goal.between_after-requires-clause-none_trimmed
-between_after-requires-clause-none_trimmed c =
-    let is = read (goal.at.between_after-requires-clause-none_trimmed c).After-time_after-old in
-    subst (λ t. (q : ℕ) → slice_index c.args.closed.now.first q ≤ slice_index t q) (sym is)
-    (c.requires.all c.loop-q.q c.loop-q-test.true).kept
+pub between_after-requires-clause-kept : goal.between_after-requires-clause-kept
+between_after-requires-clause-kept c =
+    let is = read (goal.at.between_after-requires-clause-kept c).After-time_after-old in
+    let may = c.requires.all c.loop-q.q c.loop-q-test.true in
+    subst (λ t. KeepsBetween c.args.closed.now t c.args.time.now) (sym is)
+    (record { old_long = may.long; new_long = c.requires.long; none_trimmed = may.kept })
 
 pub loop-q-preserved : goal.loop-q-preserved
 loop-q-preserved c =

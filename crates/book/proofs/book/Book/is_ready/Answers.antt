@@ -1,7 +1,54 @@
-use Rattle.std.proofs.Common.{◌∙◌, sym, subst}
-use Rattle.book.specs.Told.{IsTold}
+use Rattle.std.proofs.Common.{◌≡◌, ◌∙◌, ◌<◌, length, refl, ap, sym, subst, arith}
+use Rattle.std.proofs.lemmas.List.{length-map}
+use Rattle.std.specs.Option.{option_map}
+use Rattle.book.specs.Awaiting.{kind_of}
+use Rattle.book.specs.Holding.{state_of}
+use Rattle.book.specs.State.{State}
+use Rattle.book.proofs.Calling.Takes.{IsReceiving, reading, comes, receiving, not_idle}
+use Rattle.book.proofs.book.Book.is_ready.Goals.{In-Some}
+use Rattle.book.proofs.book.Book.is_ready.Goals.{After-parts}
 use Rattle.book.proofs.book.Book.is_ready.Goals as goal
+
+-- the parts hold the book as it is found
+same : (c : After-parts) → state_of c.parts.inside ≡ c.args.self.now
+same c = c.parts.view_is ∙ c.deref-parts.ensures ∙ c.self.view_is
+
+pub index-requires : goal.index-requires
+index-requires c =
+    let r = receiving c.args.self.now c.args.p c.requires.call.kind c.requires.call.take in
+    let e = ap (λ (b : State). length b.awaits) (same (goal.at.index-requires c).After-parts) in
+    omega (
+      arith,
+      r.awaits,
+      e,
+      length-map c.parts.inside.awaits.items (option_map kind_of),
+      c.parts.inside.awaits.ok.0,
+    )
+
+pub unreachable-requires : goal.unreachable-requires
+unreachable-requires c =
+    not_idle (state_of c.parts.inside) c.args.self.now c.parts.inside.awaits.items c.args.p c.index.result.now refl
+    (same (goal.at.unreachable-requires c).After-parts) c.requires.call c.index.ensures c.in_default.is
+
+-- what p waits for
+waits : (c : In-Some) → IsReceiving (state_of c.parts.inside) c.args.p (kind_of c.in-Some.awaited)
+waits c =
+    reading (state_of c.parts.inside)
+    c.args.self.now c.parts.inside.awaits.items c.args.p c.index.result.now refl
+    (c.parts.view_is ∙ c.deref-parts.ensures ∙ c.self.view_is) c.requires.call
+    c.index.ensures c.in-Some.awaited c.in-Some.is
+
+pub has_come-requires-clause-processor : goal.has_come-requires-clause-processor
+has_come-requires-clause-processor c = (waits (goal.at.has_come-requires-clause-processor c).In-Some).transit
+
+pub has_come-requires-clause-flag : goal.has_come-requires-clause-flag
+has_come-requires-clause-flag c f is =
+    subst (λ fs. f < length fs) (sym c.deref.ensures.value)
+    ((waits (goal.at.has_come-requires-clause-flag c).In-Some).flag f (ap kind_of is)).within
 
 pub returns : goal.returns
 returns c s h told =
-    c.is_ready.ensures s h (subst (λ b. IsTold s h b) (sym (c.deref.ensures ∙ c.self.view_is)) told)
+    comes _ c.args.self.now c.args.p (kind_of c.in-Some.awaited)
+    c.deref.result.now c.has_come.result (same (goal.at.returns c).After-parts) (waits (goal.at.returns c).In-Some)
+    c.deref.ensures.value
+    c.has_come.ensures s h told

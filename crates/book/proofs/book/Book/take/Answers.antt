@@ -1,7 +1,254 @@
-use Rattle.std.proofs.Common.{◌∙◌, sym, subst}
+use Rattle.std.proofs.Common.{◌≡◌, ◌↔◌, ◌<◌, ℕ, List, [], ◌∷◌, ◌++◌, length, inl, inr, Some, None, true, refl, slice_get, slice_set, slice_index_or, ap, ◌∙◌, sym, subst, arith, rules, true≢false}
+use Rattle.std.proofs.lemmas.List.{length-append, length-map, map-set}
+use Rattle.std.specs.Option.{option_map}
+use Rattle.journal.specs.Did.{event}
+use Rattle.journal.specs.declared.event.Event.{Event}
+use Rattle.journal.specs.Sizes.{Sizes}
+use Rattle.journal.specs.WellFormed.{Ready}
+use Rattle.journal.specs.InRange.{AddressInRange}
+use Rattle.journal.specs.Log.{Log}
+use Rattle.vtime.specs.Times.{join}
+use Rattle.transit.specs.Letters.{letter}
+use Rattle.book.specs.declared.refused.Refused.TheVariants.{NotYet, NoMemory}
+use Rattle.book.specs.Awaiting.{kind_of}
+use Rattle.book.specs.Brought.{message_for}
+use Rattle.book.specs.Calls.{MaySignal}
+use Rattle.book.specs.Holding.{state_of}
+use Rattle.book.specs.State.{State, time_of}
+use Rattle.book.specs.Transitions.{trimmed_by, book_taken}
 use Rattle.book.specs.Told.{IsTold}
+use Rattle.book.proofs.Calling.Calls.{own_read}
+use Rattle.book.proofs.Calling.Takes.{IsReceiving, reading, may_trim, log_is, taking_address, took_is, comes, received_is, brings_is, receiving, not_idle}
+use Rattle.book.proofs.book.Book.take.Goals.{In-Some, After-has_come, After-index-2, In_ok-message, After-index_mut}
+use Rattle.book.proofs.book.Book.take.Goals.{After-parts}
 use Rattle.book.proofs.book.Book.take.Goals as goal
+
+-- the parts hold the book as it is found
+same : (c : After-parts) → state_of c.parts.inside ≡ c.args.self.now
+same c = c.parts.view_is ∙ c.deref_mut-parts.ensures.value ∙ c.self.view_is
+
+pub index-requires : goal.index-requires
+index-requires c =
+    let r = receiving c.args.self.now c.args.p c.requires.call.kind c.requires.call.take in
+    let e = ap (λ (b : State). length b.awaits) (same (goal.at.index-requires c).After-parts) in
+    omega (
+      arith,
+      r.awaits,
+      e,
+      length-map c.parts.inside.awaits.items (option_map kind_of),
+      c.parts.inside.awaits.ok.0,
+    )
+
+pub unreachable-requires : goal.unreachable-requires
+unreachable-requires c =
+    not_idle (state_of c.parts.inside) c.args.self.now c.parts.inside.awaits.items c.args.p c.index.result.now refl
+    (same (goal.at.unreachable-requires c).After-parts) c.requires.call c.index.ensures c.in_default.is
+
+-- what p waits for
+waits : (c : In-Some) → IsReceiving (state_of c.parts.inside) c.args.p (kind_of c.in-Some.awaited)
+waits c =
+    reading (state_of c.parts.inside)
+    c.args.self.now c.parts.inside.awaits.items c.args.p c.index.result.now refl
+    (c.parts.view_is ∙ c.deref_mut-parts.ensures.value ∙ c.self.view_is) c.requires.call
+    c.index.ensures c.in-Some.awaited c.in-Some.is
+
+-- it has come exactly where p is ready
+come : (c : After-has_come) → IsReceiving (state_of c.parts.inside) c.args.p (kind_of c.in-Some.awaited)
+    → (s : Sizes) (h : List Event) → IsTold s h c.args.self.now → (c.has_come.result ≡ true) ↔ Ready s h c.args.p
+come c w =
+    comes _ c.args.self.now c.args.p (kind_of c.in-Some.awaited)
+    c.deref.result.now c.has_come.result (c.parts.view_is ∙ c.deref_mut-parts.ensures.value ∙ c.self.view_is) w
+    c.deref.ensures.value c.has_come.ensures
+
+-- p's timestamp, as it was read
+own : (c : After-index-2) → IsReceiving (state_of c.parts.inside) c.args.p (kind_of c.in-Some.awaited)
+    → c.index-2.result.now ≡ time_of (state_of c.parts.inside) c.args.p
+own c w = own_read c.parts.inside.times.items c.args.p c.index-2.result.now w.times c.index-2.ensures
+
+-- and as it is written
+written : (c : After-index_mut) → IsReceiving (state_of c.parts.inside) c.args.p (kind_of c.in-Some.awaited)
+    → c.index_mut.result.now ≡ time_of (state_of c.parts.inside) c.args.p
+written c w = own_read c.parts.inside.times.items c.args.p c.index_mut.result.now w.times c.index_mut.ensures.value
+
+-- the message is what has come
+received : (c : In_ok-message) → c.index-2.result.now ≡ time_of (state_of c.parts.inside) c.args.p
+    → message_for (state_of c.parts.inside) c.args.p (kind_of c.in-Some.awaited) ≡ Some
+    (letter c.in_ok-message.message)
+received c is =
+    received_is (state_of c.parts.inside) (state_of c.parts.inside) c.args.p (kind_of c.in-Some.awaited)
+    c.deref-2.result.now c.index-2.result.now (letter c.in_ok-message.message) refl c.deref-2.ensures.value is
+    c.in_ok-message.ensures.ok
+
+pub has_come-requires-clause-processor : goal.has_come-requires-clause-processor
+has_come-requires-clause-processor c = (waits (goal.at.has_come-requires-clause-processor c).In-Some).transit
+
+pub has_come-requires-clause-flag : goal.has_come-requires-clause-flag
+has_come-requires-clause-flag c f is =
+    subst (λ fs. f < length fs) (sym c.deref.ensures.value)
+    ((waits (goal.at.has_come-requires-clause-flag c).In-Some).flag f (ap kind_of is)).within
+
+pub returns-then-not-has_come-clause-absent : goal.returns-then-not-has_come-clause-absent
+returns-then-not-has_come-clause-absent c s h told =
+    let at = goal.at.returns-then-not-has_come-clause-absent c in
+    let is = come at.After-has_come (waits at.In-Some) s h told in
+    ((λ e ready. absurd (true≢false (sym (is.1 ready) ∙ c.if-not-has_come.true))), (λ isnt. refl))
+
+pub returns-in_err-make_room-clause-absent : goal.returns-in_err-make_room-clause-absent
+returns-in_err-make_room-clause-absent c s h told =
+    let at = goal.at.returns-in_err-make_room-clause-absent c in
+    let is = come at.After-has_come (waits at.In-Some) s h told in (
+      λ e ready. (let x : NotYet ≡ c.in_err-make_room.field-0.0 = rw e at c.from_residual.ensures.1 in
+          elim c.in_err-make_room.ensures.only [ inl full ↦ absurd (cc (full)) | inr none ↦ absurd (cc (none)) ]),
+      λ isnt. absurd (isnt (is.0 c.if-not-has_come.false)),
+    )
+
+pub returns-in_err-make_room-clause-err : goal.returns-in_err-make_room-clause-err
+returns-in_err-make_room-clause-err c = search rules
+
+pub returns-in_err-make_room-clause-full : goal.returns-in_err-make_room-clause-full
+returns-in_err-make_room-clause-full c = search rules
+
+pub index-requires-2 : goal.index-requires-2
+index-requires-2 c = omega (arith, (waits (goal.at.index-requires-2 c).In-Some).times, c.parts.inside.times.ok.0)
+
+pub receive-requires-clause-processor : goal.receive-requires-clause-processor
+receive-requires-clause-processor c = (waits (goal.at.receive-requires-clause-processor c).In-Some).transit
+
+pub receive-requires-clause-flag : goal.receive-requires-clause-flag
+receive-requires-clause-flag c f is =
+    let at = goal.at.receive-requires-clause-flag c in
+    let w = waits at.In-Some in
+    subst (λ fs. MaySignal c.parts.inside.closed fs c.index-2.result.now f) (sym c.deref-2.ensures.value)
+    (subst (λ t. MaySignal c.parts.inside.closed c.parts.inside.flags.items t f) (sym (own at.After-index-2 w))
+    (w.flag f (ap kind_of is)))
+
+pub receive-requires-clause-none : goal.receive-requires-clause-none
+receive-requires-clause-none c f is =
+    (waits (goal.at.receive-requires-clause-none c).In-Some).none f (ap kind_of is)
+
+pub returns-in_err-message-clause-absent : goal.returns-in_err-message-clause-absent
+returns-in_err-message-clause-absent c s h told =
+    let at = goal.at.returns-in_err-message-clause-absent c in
+    let is = come at.After-has_come (waits at.In-Some) s h told in (
+      λ e ready. (let x : NotYet ≡ NoMemory = rw e at c.from_residual-in_err-message.ensures.1 in absurd (cc (x))),
+      λ isnt. absurd (isnt (is.0 c.if-not-has_come.false)),
+    )
+
+pub returns-in_err-message-clause-err : goal.returns-in_err-message-clause-err
+returns-in_err-message-clause-err c = search rules
+
+pub returns-in_err-message-clause-full : goal.returns-in_err-message-clause-full
+returns-in_err-message-clause-full c = search rules
+
+pub append-requires-clause-processor : goal.append-requires-clause-processor
+append-requires-clause-processor c =
+    let lt = (waits (goal.at.append-requires-clause-processor c).In-Some).journal in
+    let e = ap (λ (l : Log). l.processors) c.in_ok-make_room.ensures.same in
+    omega arith
+
+pub append-requires-clause-address : goal.append-requires-clause-address
+append-requires-clause-address c =
+    subst (λ k. AddressInRange c.make_room.new.journal.addresses k) (sym c.kind-kind.ensures)
+    (taking_address c.make_room.new.journal.addresses (kind_of c.in-Some.awaited)
+    (waits (goal.at.append-requires-clause-address c).In-Some).takes)
+
+pub index_mut-requires : goal.index_mut-requires
+index_mut-requires c = omega (arith, (waits (goal.at.index_mut-requires c).In-Some).times, c.parts.inside.times.ok.0)
+
+pub index-requires-3 : goal.index-requires-3
+index-requires-3 c = omega (arith, (waits (goal.at.index-requires-3 c).In-Some).times, c.parts.inside.times.ok.0)
+
+pub join-requires : goal.join-requires
+join-requires c =
+    let at = goal.at.join-requires c in
+    let w = waits at.In-Some in
+    ap (λ (t : List ℕ). length t) c.time.ensures
+    ∙ w.long (letter c.in_ok-message.message) (received at.In_ok-message (own at.After-index-2 w))
+    ∙ sym (ap length (written at.After-index_mut w) ∙ w.own_long)
+
+pub index_mut-requires-2 : goal.index_mut-requires-2
+index_mut-requires-2 c =
+    let w = waits (goal.at.index_mut-requires-2 c).In-Some in
+    omega (arith, w.awaits, length-map c.parts.inside.awaits.items (option_map kind_of), c.parts.inside.awaits.ok.0)
+
+pub leave-requires : goal.leave-requires
+leave-requires c is =
+    let at = goal.at.leave-requires c in
+    let w = waits at.In-Some in
+    w.free (letter c.in_ok-message.message) (received at.In_ok-message (own at.After-index-2 w)) (ap kind_of is)
+
+pub trim-requires : goal.trim-requires
+trim-requires c =
+    let at = goal.at.trim-requires c in
+    let w = waits at.In-Some in
+    may_trim (state_of c.parts.inside) c.args.p (kind_of c.in-Some.awaited)
+    c.deref-3.result.now c.copy-before.result c.join.new.self w c.deref-3.ensures.value
+    (c.join.ensures.same_length ∙ ap length (written at.After-index_mut w) ∙ w.own_long)
+    (c.copy-before.ensures
+    ∙ own_read c.parts.inside.times.items c.args.p c.index-3.result.now w.times c.index-3.ensures)
+
+pub invariant_of-parts-2 : goal.invariant_of-parts-2
+invariant_of-parts-2 c =
+    let room = ap (λ (l : Log). l.room) c.append.ensures in
+    let events = ap (λ (l : Log). length l.events) c.append.ensures in
+    let before = ap (λ (l : Log). length l.events) c.in_ok-make_room.ensures.same in
+    let more = length-append c.make_room.new.journal.events (event c.args.p c.kind-kind.result ∷ []) in
+    record {
+      room = omega (arith, room, c.in_ok-make_room.ensures.ok.0);
+      owing = omega arith;
+      few = omega (arith, events, before, more, c.in_ok-make_room.ensures.ok.1);
+    }
+
+-- the message is what p waited for
+was_due : (c : In_ok-message) → c.index-2.result.now ≡ time_of (state_of c.parts.inside) c.args.p
+    → message_for c.args.self.now c.args.p (kind_of c.in-Some.awaited) ≡ Some (letter c.in_ok-message.message)
+was_due c is =
+    ap (λ (b : State). message_for b c.args.p (kind_of c.in-Some.awaited))
+    (sym (c.parts.view_is ∙ c.deref_mut-parts.ensures.value ∙ c.self.view_is)) ∙ received c is
+
+pub returns-clause-ok : goal.returns-clause-ok
+returns-clause-ok c =
+    let at = goal.at.returns-clause-ok c in
+    let w = waits at.In-Some in
+    let m = letter c.in_ok-message.message in
+    let log = log_is c.parts.inside.journal c.make_room.new.journal c.append.new.self c.parts.inside.owing
+    (event c.args.p c.kind-kind.result) c.in_ok-make_room.ensures.same c.append.ensures
+    ∙ ap (λ k. record c.parts.inside.journal
+    { events = c.parts.inside.journal.events ++ event c.args.p k ∷ []; room = c.parts.inside.owing })
+    c.kind-kind.ensures in
+    let time = c.join.ensures.value ∙ ap (λ (t : List ℕ). join t c.time.result.now) (written at.After-index_mut w)
+    ∙ ap (λ (t : List ℕ). join (slice_index_or c.parts.inside.times.items c.args.p []) t) c.time.ensures in
+    let closed = c.trim.ensures
+    ∙ ap (λ (ts : List (List ℕ)). trimmed_by c.parts.inside.closed ts (length ts)) c.deref-3.ensures.value in
+    record {
+      kind = kind_of c.in-Some.awaited;
+      awaits = ap (λ (b : State). slice_get b.awaits c.args.p) (sym (same (goal.at.returns-clause-ok c).After-parts))
+          ∙ w.waits;
+      message = was_due at.In_ok-message (own at.After-index-2 w);
+      after = took_is (state_of c.parts.inside) c.args.p (kind_of c.in-Some.awaited) m _ (record {
+        takes = w.takes;
+        journal = log;
+        times = ap (λ (t : List ℕ). slice_set c.parts.inside.times.items c.args.p t) time;
+        closed = closed;
+        awaits = map-set (option_map kind_of) c.parts.inside.awaits.items c.args.p None;
+        transit = c.in_ok-message.ensures.after;
+        barrier = c.leave.ensures;
+        others = refl;
+      }) ∙ ap (λ (b : State). book_taken b c.args.p (kind_of c.in-Some.awaited) m)
+          (same (goal.at.returns-clause-ok c).After-parts);
+    }
+
+pub returns-clause-brings : goal.returns-clause-brings
+returns-clause-brings c =
+    let at = goal.at.returns-clause-brings c in
+    let w = waits at.In-Some in
+    brings_is c.args.self.now c.args.p (kind_of c.in-Some.awaited) (letter c.in_ok-message.message)
+    (ap (λ (b : State). slice_get b.awaits c.args.p) (sym (same (goal.at.returns-clause-brings c).After-parts))
+    ∙ w.waits)
+    (was_due at.In_ok-message (own at.After-index-2 w))
 
 pub returns-clause-absent : goal.returns-clause-absent
 returns-clause-absent c s h told =
-    c.take.ensures.absent s h (subst (λ b. IsTold s h b) (sym (c.deref_mut.ensures.value ∙ c.self.view_is)) told)
+    let at = goal.at.returns-clause-absent c in
+    let is = come at.After-has_come (waits at.In-Some) s h told in
+    ((λ e ready. absurd (cc (e))), (λ isnt. absurd (isnt (is.0 c.if-not-has_come.false))))

@@ -1,4 +1,4 @@
-use Rattle.std.proofs.Common.{◌≡◌, ◌<◌, length, map, slice_index, slice_set, subst, sym, ap, ◌∙◌, arith}
+use Rattle.std.proofs.Common.{◌≡◌, ◌<◌, length, map, slice_index, slice_set, subst, sym, refl, ap, ◌∙◌, arith, rules}
 use Rattle.std.proofs.lemmas.List.{length-map, map-set}
 use Rattle.std.specs.Option.{option_map}
 use Rattle.journal.specs.Log.{Log}
@@ -90,9 +90,9 @@ index_mut-requires-2 c =
     let lt = (standing (goal.at.index_mut-requires-2 c).After-self).awaits in
     omega (arith, length-map c.self.inside.awaits.items (option_map kind_of), c.self.inside.awaits.ok.0)
 
-pub returns-clause-ok : goal.returns-clause-ok
-returns-clause-ok c =
-    let at = goal.at.returns-clause-ok c in
+pub returns : goal.returns
+returns c =
+    let at = goal.at.returns c in
     let records = c.args.interval.records in
     let log = logs_are c.self.inside.journal c.make_room.new.journal c.append_all.new.journal c.append.new.self
     c.self.inside.owing c.args.block.now
@@ -102,8 +102,15 @@ returns-clause-ok c =
     let time = c.tick.ensures ∙ ap (λ ts. tick ts c.args.p) (own at.After-index_mut (standing at.After-self)) in
     let waits = map-set (option_map kind_of) c.self.inside.awaits.items c.args.p c.after.result
     ∙ ap (λ w. slice_set (map (option_map kind_of) c.self.inside.awaits.items) c.args.p w) c.after.ensures in
-    let whole = closing_is (state_of c.self.inside) c.args.p c.args.kind c.args.block.now records
-    (record c.append.new.self { room = c.self.inside.owing }) c.push.new.self c.tick.new.self
-    (map (option_map kind_of) (slice_set c.self.inside.awaits.items c.args.p c.after.result))
-    log closed time waits in
-    whole ∙ ap (λ (b : State). closed_by (handed_in b c.args.block.now) c.args.p c.args.kind records) c.self.view_is
+    record {
+      ok = closing_is (state_of c.self.inside) c.args.p c.args.kind c.args.block.now records _ (record {
+        journal = log;
+        closed = closed;
+        times = ap (λ t. slice_set c.self.inside.times.items c.args.p t) time;
+        awaits = waits;
+        others = refl;
+      }) ∙ ap (λ (b : State). closed_by (handed_in b c.args.block.now) c.args.p c.args.kind records) c.self.view_is;
+      err = search rules;
+      full = search rules;
+      only = search rules;
+    }

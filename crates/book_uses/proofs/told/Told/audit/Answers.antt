@@ -7,7 +7,7 @@ invariant_of-self-2 c =
     kept_handed c.self.inside _ c.args.p c.args.block.now _ c.self.invariant refl refl
     c.in_ok-reserve.ensures.items c.note.ensures.items
     (gives_found c.self.inside _ c.args.p c.args.block.now c.self.view_is c.in_ok-may_give.ensures.0)
-    c.in_ok-copy.ensures.ok
+    c.in_ok-copy.ensures.call.ok
 
 pub audit-requires-clause-call : goal.audit-requires-clause-call
 audit-requires-clause-call c =

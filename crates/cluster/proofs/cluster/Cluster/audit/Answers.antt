@@ -24,7 +24,7 @@ audit-audited-requires-clause-call g c =
 pub give_book-requires-clause-call : goal.give_book-requires-clause-call
 give_book-requires-clause-call g c κs within =
     let m = c.processor.invariant in
-    let made = c.audit-audited.ensures in
+    let made = c.audit-audited.ensures.call in
     may_give_back m.0 m.1 refl c.in_ok-held.ensures.entered
     (call_of_hand_in _ m.0 _ _ _ _ c.as_slice.ensures.value made.ok made.err made.full)
 
@@ -32,13 +32,13 @@ pub invariant_of-processor-in_err-journal : goal.invariant_of-processor-in_err-j
 invariant_of-processor-in_err-journal g c =
     let m = c.processor.invariant in
     let visit = visited m.0 m.1 refl c.in_ok-held.ensures.entered c.give_book.ensures in
-    (unchanged_sound (left_as visit c.in_err-journal.ensures.err) _ (alike_all _), visit.seated, m.2)
+    (unchanged_sound (left_as visit c.in_err-journal.ensures.call.err) _ (alike_all _), visit.seated, m.2)
 
 pub returns-in_err-journal-clause-call : goal.returns-in_err-journal-clause-call
 returns-in_err-journal-clause-call g c =
     let m = c.processor.invariant in
     let visit = visited m.0 m.1 refl c.in_ok-held.ensures.entered c.give_book.ensures in
-    let bad = c.in_err-journal.ensures in
+    let bad = c.in_err-journal.ensures.call in
     rw (refused_with _ _ c.from_residual-in_err-journal.ensures.1, ← c.processor.view_is)
     (call_refused (left_as visit bad.err) _ _ bad.only bad.full (rw (c.as_slice.ensures.value) refl))
 
@@ -50,7 +50,7 @@ handed : (g : given.Over) (c : After-clear g)
 handed g c =
     let m = c.processor.invariant in
     let visit = visited m.0 m.1 refl c.in_ok-held.ensures.entered c.give_book.ensures in
-    let good = c.in_ok-journal.ensures in
+    let good = c.in_ok-journal.ensures.call in
     handed_visit c.in_ok-journal.journal visit c.as_slice.ensures.value good.ok good.full
 
 pub invariant_of-processor-2 : goal.invariant_of-processor-2

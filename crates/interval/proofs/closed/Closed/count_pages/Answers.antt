@@ -19,7 +19,7 @@ count_pages-requires-clause-room c =
     ∙ get_or-replicate (length c.args.counts.now) i 0 0 (omega arith) in
     let all =
     news_room queues items c.self.inside.pushed c.args.self.now c.args.base old new c.fill.new.self
-    c.deref-queue-items.ensures.value c.self.view_is c.self.invariant (omega arith) zeros in
+    c.deref-queue-items.ensures.value c.self.view_is c.self.invariant zeros in
     let room =
     room_more c.args.base (news_pages old new) items c.loop-owner.owner c.queue-item.result c.fill.new.self
     c.loop-owner.counts c.loop-owner-test.true c.queue-item.is all c.loop-owner.invariant in

@@ -15,7 +15,7 @@ all : (c : goal.After-loop) → c.loop.counter ≡ c.args.owners
 all c = omega arith
 
 pub invariant_of-result : goal.invariant_of-result
-invariant_of-result c = are_none c.loop.queues.items 0 c.loop.invariant.none
+invariant_of-result c = are_none c.loop.queues.items c.loop.invariant.none
 
 pub returns-clause-kept : goal.returns-clause-kept
 returns-clause-kept c = ap by_place c.loop.invariant.none

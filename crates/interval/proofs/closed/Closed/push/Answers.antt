@@ -12,7 +12,7 @@ comes c =
     comes_next c.self.inside.queues.items c.self.inside.pushed c.args.self.now c.args.interval c.interval.inside.owner
     c.index_mut.result.now
     c.self.view_is (ap (λ (i : ClosedInterval). i.owner) c.interval.view_is) c.requires.owner c.requires.number
-    c.requires.pages c.index_mut.ensures.value
+    c.requires.pages c.requires.fits c.index_mut.ensures.value
 
 pub invariant_of-self-2 : goal.invariant_of-self-2
 invariant_of-self-2 c =

@@ -1,4 +1,4 @@
-use Rattle.std.proofs.Common.{◌≡◌, ℕ, ◌+◌, ◌<◌, map, length, replicate, Vec, Global, List, Option, None, Some, slice_get, slice_set, slice_index, ap, ◌∙◌, sym, subst, arith}
+use Rattle.std.proofs.Common.{◌≡◌, ℕ, ◌+◌, ◌<◌, map, length, replicate, Vec, Global, List, Option, None, Some, slice_get, slice_set, slice_index, ap, ◌∙◌, sym, subst, arith, rules}
 use Rattle.std.proofs.lemmas.List.{length-set, length-map}
 use Rattle.std.specs.Arc.{arc_value}
 use Rattle.std.specs.Option.{option_map}
@@ -13,69 +13,79 @@ use Rattle.interval.specs.Closings.{pushed}
 use Rattle.barrier.specs.declared.barrier.Stage.TheVariants.{Away}
 use Rattle.book.specs.Calls.{MayBeSent}
 use Rattle.book.specs.Holding.{state_of}
+use Rattle.book.specs.declared.book.Book.TheInside.{Inside}
 use Rattle.book.proofs.Parts.History.{happened_fits}
 use Rattle.book.proofs.Calling.Calls.{IsStanding, stands, still_open, opens_roomy, closed_roomy}
 use Rattle.book.proofs.Calling.Arrivals.{IsArriving, arrives, arriving, departures_made, none_waits, arrived_met, arrived_alone}
-use Rattle.book.proofs.protocol.Protocol.arrive.Goals.{After-closing_time-time, In_ok-departures, After-self-2, in-Some, in_default}
-use Rattle.book.proofs.protocol.Protocol.arrive.Goals as goal
+use Rattle.book.proofs.book.Book.arrive.Goals.{After-parts, After-closing_time-time, In_ok-departures, After-parts-2, in-Some, in_default}
+use Rattle.book.proofs.book.Book.arrive.Goals as goal
+
+-- the parts hold the book as it is found
+same : (c : After-parts) → state_of c.parts.inside ≡ c.args.self.now
+same c = c.parts.view_is ∙ c.deref_mut-parts.ensures.value ∙ c.self.view_is
 
 pub open_interval-interval-requires : goal.open_interval-interval-requires
 open_interval-interval-requires c =
-    opens_roomy c.self.inside _ _ _ c.args.p c.in_ok-make_room.ensures.same c.self.view_is c.requires.call
+    opens_roomy c.parts.inside _ _ _ c.args.p c.in_ok-make_room.ensures.same
+    (same (goal.at.open_interval-interval-requires c).After-parts) c.requires.call
 
 pub close-requires-clause-open : goal.close-requires-clause-open
 close-requires-clause-open c =
-    still_open (state_of c.self.inside) c.args.p c.open_interval-interval.result (map arc_value c.args.records.items)
+    still_open (state_of c.parts.inside) c.args.p c.open_interval-interval.result (map arc_value c.args.records.items)
     c.open_interval-interval.ensures
 
 pub closing_time-time-requires-clause-open : goal.closing_time-time-requires-clause-open
 closing_time-time-requires-clause-open c =
-    opens_roomy c.self.inside _ _ _ c.args.p c.in_ok-make_room.ensures.same c.self.view_is c.requires.call
+    opens_roomy c.parts.inside _ _ _ c.args.p c.in_ok-make_room.ensures.same
+    (same (goal.at.closing_time-time-requires-clause-open c).After-parts) c.requires.call
 
 pub closing_time-time-requires-clause-fits : goal.closing_time-time-requires-clause-fits
 closing_time-time-requires-clause-fits c =
-    let few = (stands (state_of c.self.inside)
-    c.args.self.now c.args.p c.args.block.now c.self.view_is c.requires.call).few in
-    let all = happened_fits c.self.inside.journal c.self.inside.owing c.self.invariant.few in
+    let few = (stands (state_of c.parts.inside)
+    c.args.self.now c.args.p c.args.block.now (same (goal.at.closing_time-time-requires-clause-fits c).After-parts)
+    c.requires.call).few in
+    let all = happened_fits c.parts.inside.journal c.parts.inside.owing c.parts.invariant.few in
     omega arith
 
 -- what the arrival rests on, whose interval is p's
 rests : (c : After-closing_time-time)
-    → IsStanding (state_of c.self.inside) c.args.p × IsArriving (state_of c.self.inside) c.args.p
+    → IsStanding (state_of c.parts.inside) c.args.p × IsArriving (state_of c.parts.inside) c.args.p
     × (c.args.p ≡ c.open_interval-interval.result.owner)
 rests c = (
-  stands (state_of c.self.inside) c.args.self.now c.args.p c.args.block.now c.self.view_is c.requires.call,
-  arrives (state_of c.self.inside) c.args.self.now c.args.p c.args.block.now c.self.view_is c.requires.call,
+  stands (state_of c.parts.inside) c.args.self.now c.args.p c.args.block.now
+      (c.parts.view_is ∙ c.deref_mut-parts.ensures.value ∙ c.self.view_is) c.requires.call,
+  arrives (state_of c.parts.inside) c.args.self.now c.args.p c.args.block.now
+      (c.parts.view_is ∙ c.deref_mut-parts.ensures.value ∙ c.self.view_is) c.requires.call,
   sym (ap (λ (i : ClosedInterval). i.owner) c.open_interval-interval.ensures),
 )
 
 -- the timestamp after the arrival
 ticked : (c : After-closing_time-time)
-    → c.closing_time-time.result ≡ tick (time_of (state_of c.self.inside) c.args.p) c.args.p
+    → c.closing_time-time.result ≡ tick (time_of (state_of c.parts.inside) c.args.p) c.args.p
 ticked c = c.closing_time-time.ensures
 
 -- there are as many stages as it has entries
-long : (c : After-closing_time-time) → length c.closing_time-time.result ≡ length c.self.inside.barrier.stages
+long : (c : After-closing_time-time) → length c.closing_time-time.result ≡ length c.parts.inside.barrier.stages
 long c =
     ap (λ (t : List ℕ). length t) (ticked c)
-    ∙ length-set (time_of (state_of c.self.inside) c.args.p) c.args.p
-    (slice_index (time_of (state_of c.self.inside) c.args.p) c.args.p + 1) ∙ (rests c).1.own_long
+    ∙ length-set (time_of (state_of c.parts.inside) c.args.p) c.args.p
+    (slice_index (time_of (state_of c.parts.inside) c.args.p) c.args.p + 1) ∙ (rests c).1.own_long
     ∙ sym (rests c).1.stages
 
 pub departures_with-requires-clause-owner : goal.departures_with-requires-clause-owner
 departures_with-requires-clause-owner c =
     let w = rests (goal.at.departures_with-requires-clause-owner c).After-closing_time-time in
-    subst (λ q. q < length c.self.inside.closed.next) w.2 w.0.next
+    subst (λ q. q < length c.parts.inside.closed.next) w.2 w.0.next
 
 pub departures_with-requires-clause-processor : goal.departures_with-requires-clause-processor
 departures_with-requires-clause-processor c =
     let w = rests (goal.at.departures_with-requires-clause-processor c).After-closing_time-time in
-    subst (λ q. q < length c.self.inside.times.items) w.2 w.0.times
+    subst (λ q. q < length c.parts.inside.times.items) w.2 w.0.times
 
 pub departures_with-requires-clause-away : goal.departures_with-requires-clause-away
 departures_with-requires-clause-away c =
     let w = rests (goal.at.departures_with-requires-clause-away c).After-closing_time-time in
-    subst (λ q. slice_get c.self.inside.barrier.stages q ≡ Some Away) w.2 w.1.away
+    subst (λ q. slice_get c.parts.inside.barrier.stages q ≡ Some Away) w.2 w.1.away
 
 pub departures_with-requires-clause-own_long : goal.departures_with-requires-clause-own_long
 departures_with-requires-clause-own_long c =
@@ -85,30 +95,31 @@ pub departures_with-requires-clause-all : goal.departures_with-requires-clause-a
 departures_with-requires-clause-all c =
     let at = (goal.at.departures_with-requires-clause-all c).After-closing_time-time in
     let w = rests at in
-    subst (λ q. (r : ℕ) → r < length c.self.inside.times.items
-    → MayBeSent c.self.inside.closed (slice_set c.self.inside.times.items q c.closing_time-time.result) r) w.2
-    (subst (λ (t : List ℕ). (r : ℕ) → r < length c.self.inside.times.items
-    → MayBeSent c.self.inside.closed (slice_set c.self.inside.times.items c.args.p t) r) (sym (ticked at)) w.1.sent)
+    subst (λ q. (r : ℕ) → r < length c.parts.inside.times.items
+    → MayBeSent c.parts.inside.closed (slice_set c.parts.inside.times.items q c.closing_time-time.result) r) w.2
+    (subst (λ (t : List ℕ). (r : ℕ) → r < length c.parts.inside.times.items
+    → MayBeSent c.parts.inside.closed (slice_set c.parts.inside.times.items c.args.p t) r) (sym (ticked at)) w.1.sent)
 
 -- the book once the interval is closed
-closed : (c : After-self-2) → state_of c.self-2.inside
+closed : (c : After-parts-2) → state_of c.parts-2.inside
     ≡ closed_by (handed_in c.args.self.now c.args.block.now) c.args.p Arrive (map arc_value c.args.records.items)
 closed c =
-    closed_roomy c.self.inside c.args.self.now _ _ c.args.block.now c.args.p Arrive _ _
-    c.in_ok-make_room.ensures.same c.self.view_is c.open_interval-interval.ensures
-    (c.self-2.view_is ∙ c.in_ok-close.ensures.ok)
+    closed_roomy c.parts.inside c.args.self.now _ _ c.args.block.now c.args.p Arrive _ _
+    c.in_ok-make_room.ensures.same (c.parts.view_is ∙ c.deref_mut-parts.ensures.value ∙ c.self.view_is)
+    c.open_interval-interval.ensures
+    (c.parts-2.view_is ∙ c.in_ok-close.ensures.ok)
 
 pub arrive-requires-clause-away : goal.arrive-requires-clause-away
 arrive-requires-clause-away c =
     ap (λ (b : State). slice_get b.barrier.stages c.args.p)
-    (closed (goal.at.arrive-requires-clause-away c).After-self-2)
+    (closed (goal.at.arrive-requires-clause-away c).After-parts-2)
     ∙ (arriving c.args.self.now c.args.p c.args.block.now c.requires.call).away
 
 pub arrive-requires-clause-long : goal.arrive-requires-clause-long
 arrive-requires-clause-long c =
     long (goal.at.arrive-requires-clause-long c).After-closing_time-time
-    ∙ ap (λ (b : State). length b.barrier.stages) c.self.view_is
-    ∙ sym (ap (λ (b : State). length b.barrier.stages) (closed (goal.at.arrive-requires-clause-long c).After-self-2))
+    ∙ ap (λ (b : State). length b.barrier.stages) (same (goal.at.arrive-requires-clause-long c).After-parts)
+    ∙ sym (ap (λ (b : State). length b.barrier.stages) (closed (goal.at.arrive-requires-clause-long c).After-parts-2))
 
 -- the departures as letters
 abbrev letters : Option (Vec Message Global) → Option (List Letter)
@@ -122,36 +133,43 @@ made : (c : In_ok-departures) → (c.closing_time-time.result ≡ tick (time_of 
     c.args.self.now.barrier (slice_set c.args.self.now.times c.args.p c.closing_time-time.result) c.args.p
     c.closing_time-time.result)
 made c = (
-  c.closing_time-time.ensures ∙ ap (λ (b : State). tick (time_of b c.args.p) c.args.p) c.self.view_is,
-  departures_made c.args.self.now (state_of c.self.inside) c.args.p (map arc_value c.args.records.items)
+  c.closing_time-time.ensures ∙ ap (λ (b : State). tick (time_of b c.args.p) c.args.p)
+      (c.parts.view_is ∙ c.deref_mut-parts.ensures.value ∙ c.self.view_is),
+  departures_made c.args.self.now (state_of c.parts.inside) c.args.p (map arc_value c.args.records.items)
       c.open_interval-interval.result c.closing_time-time.result
       (letters c.in_ok-departures.departures)
-      c.self.view_is c.open_interval-interval.ensures c.in_ok-departures.ensures,
+      (c.parts.view_is ∙ c.deref_mut-parts.ensures.value ∙ c.self.view_is) c.open_interval-interval.ensures
+      c.in_ok-departures.ensures,
 )
 
 pub post_all-requires : goal.post_all-requires
 post_all-requires c =
     let w = made (goal.at.post_all-requires c).In_ok-departures in
-    ap (λ (b : State). b.transit) (closed (goal.at.post_all-requires c).After-self-2)
+    ap (λ (b : State). b.transit) (closed (goal.at.post_all-requires c).After-parts-2)
     ∙ none_waits c.args.self.now c.args.p
     (pushed c.args.self.now.closed (open_interval c.args.self.now c.args.p (map arc_value c.args.records.items)))
     c.closing_time-time.result (map letter c.in-Some.messages.items)
     (arriving c.args.self.now c.args.p c.args.block.now c.requires.call) w.0 (sym (ap letters c.in-Some.is) ∙ w.1)
     ∙ ap (λ (n : ℕ). replicate n None) (length-map c.in-Some.messages.items letter)
 
-pub returns-clause-ok : goal.returns-clause-ok
-returns-clause-ok c =
-    let w = made (goal.at.returns-clause-ok c).In_ok-departures in
-    let is = closed (goal.at.returns-clause-ok c).After-self-2 in
+pub returns : goal.returns
+returns c =
+    let w = made (goal.at.returns c).In_ok-departures in
+    let is = closed (goal.at.returns c).After-parts-2 in
     let records = map arc_value c.args.records.items in
-    elim c.match-departures-2.branch [
-      | in-Some x ↦ x.self-is
-          ∙ arrived_met c.args.self.now (state_of c.self-2.inside) c.args.p c.args.block.now records
-          c.closing_time-time.result is w.0 c.arrive.new.self x.post_all.new.transit
-          (map letter x.in-Some.messages.items) c.arrive.ensures.barrier x.post_all.ensures
-          (sym (ap letters x.in-Some.is) ∙ w.1)
-      | in_default x ↦ x.self-is
-          ∙ arrived_alone c.args.self.now (state_of c.self-2.inside) c.args.p c.args.block.now records
-          c.closing_time-time.result is w.0 c.arrive.new.self c.arrive.ensures.barrier
-          (sym (ap letters x.in_default.is) ∙ w.1)
-    ]
+    record {
+      ok = elim c.match-departures-2.branch [
+        | in-Some x ↦ ap (λ (i : Inside). i.parts.value) x.self-inside-is
+            ∙ arrived_met c.args.self.now (state_of c.parts-2.inside) c.args.p c.args.block.now records
+            c.closing_time-time.result is w.0 c.arrive.new.self x.post_all.new.transit
+            (map letter x.in-Some.messages.items) c.arrive.ensures.barrier x.post_all.ensures
+            (sym (ap letters x.in-Some.is) ∙ w.1)
+        | in_default x ↦ ap (λ (i : Inside). i.parts.value) x.self-inside-is
+            ∙ arrived_alone c.args.self.now (state_of c.parts-2.inside) c.args.p c.args.block.now records
+            c.closing_time-time.result is w.0 c.arrive.new.self c.arrive.ensures.barrier
+            (sym (ap letters x.in_default.is) ∙ w.1)
+      ];
+      err = search rules;
+      full = search rules;
+      only = search rules;
+    }

@@ -16,7 +16,7 @@ use transit::Transit;
 use vtime::VTime;
 
 /// A journal with room for `owing` events, and no closed interval.
-pub(super) fn empty_history(
+pub(crate) fn empty_history(
     alloc: Global,
     processors: usize,
     addresses: usize,
@@ -32,7 +32,7 @@ pub(super) fn empty_history(
 }
 
 /// The processors' timestamps, and what they wait for, before their first calls.
-pub(super) fn idle(
+pub(crate) fn idle(
     alloc: Global,
     processors: usize,
 ) -> Result<(Vec<VTime>, Vec<Option<Awaited>>), AllocError>
@@ -45,7 +45,7 @@ pub(super) fn idle(
 }
 
 /// Free locks, flags that are not set, and no message.
-pub(super) fn unused(
+pub(crate) fn unused(
     alloc: Global,
     processors: usize,
     locks: usize,
@@ -63,7 +63,7 @@ pub(super) fn unused(
     Ok((locks, flags, Transit::new(alloc, processors)?))
 }
 
-/// So many timestamps of so many processors.
+/// A timestamp of no interval for each of `processors` processors.
 fn zero_times(alloc: Global, processors: usize) -> Result<Vec<VTime>, AllocError>
     requires some { 1 ≤ processors }
     requires most { processors ≤ most_processors }

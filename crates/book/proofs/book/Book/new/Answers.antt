@@ -1,12 +1,12 @@
-use Rattle.std.proofs.Common.{refl}
-use Rattle.book.proofs.protocol.Protocol.new.Goals as goal
+use Rattle.std.proofs.Common.{refl, ◌∙◌}
+use Rattle.book.proofs.book.Book.new.Goals as goal
 
 pub returns : goal.returns
 returns c =
     let history = c.in_ok-journal.ensures in
     let idle = c.in_ok-times.ensures in
     let unused = c.in_ok-locks.ensures in
-    rw (
+    c.in_ok-new.ensures.ok ∙ rw (
       history.journal,
       history.closed,
       idle.times,
@@ -15,5 +15,5 @@ returns c =
       unused.locks,
       unused.flags,
       unused.transit,
-      c.new.ensures.value,
+      c.new-barrier.ensures.value,
     ) refl

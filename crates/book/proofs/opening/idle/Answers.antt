@@ -1,7 +1,7 @@
 use Rattle.std.proofs.Common.{◌≡◌, ℕ, zero, suc, ◌∷◌, map, replicate, refl, ap, ◌∙◌}
 use Rattle.std.specs.Option.{option_map}
 use Rattle.book.specs.Awaiting.{kind_of}
-use Rattle.book.proofs.protocol.opening.idle.Goals as goal
+use Rattle.book.proofs.opening.idle.Goals as goal
 
 module _ {A B : Type 0} (f : A → B) (a : A) where
   map_replicate : (n : ℕ) → map f (replicate n a) ≡ replicate n (f a)

@@ -1,0 +1,67 @@
+use Rattle.std.proofs.Common.{◌≡◌, map, ◌∙◌, arith, rules}
+use Rattle.std.specs.Arc.{arc_value}
+use Rattle.journal.specs.declared.event.Kind.TheVariants.{Set}
+use Rattle.book.specs.Holding.{state_of}
+use Rattle.book.specs.Transitions.{handed_in, closed_by}
+use Rattle.book.proofs.Calling.Calls.{opens, still_open, closed_since}
+use Rattle.book.proofs.Calling.Asks.{IsSetRead, still_timed, set_read, set_is}
+use Rattle.book.proofs.book.Book.set.Goals.{After-deref_mut-parts, After-parts, After-index-2}
+use Rattle.book.proofs.book.Book.set.Goals as goal
+
+-- the parts hold the book as it is found
+same : (c : After-deref_mut-parts) → c.deref_mut-parts.result.now ≡ c.args.self.now
+same c = c.deref_mut-parts.ensures.value ∙ c.self.view_is
+
+pub open_interval-interval-requires : goal.open_interval-interval-requires
+open_interval-interval-requires c =
+    opens c.deref_mut-parts.result.now c.args.self.now c.args.p c.args.block.now
+    (same (goal.at.open_interval-interval-requires c).After-deref_mut-parts) c.requires.call
+
+pub close-requires-clause-open : goal.close-requires-clause-open
+close-requires-clause-open c =
+    still_open c.deref_mut-parts.result.now c.args.p c.open_interval-interval.result
+    (map arc_value c.args.records.items)
+    c.open_interval-interval.ensures
+
+-- the book once the interval is closed
+closed : (c : After-parts) → state_of c.parts.inside
+    ≡ closed_by (handed_in c.args.self.now c.args.block.now) c.args.p (Set c.args.f)
+    (map arc_value c.args.records.items)
+closed c =
+    closed_since c.deref_mut-parts.result.now c.args.self.now _ c.args.block.now c.args.p (Set c.args.f)
+    c.open_interval-interval.result (map arc_value c.args.records.items)
+    (c.deref_mut-parts.ensures.value ∙ c.self.view_is) c.open_interval-interval.ensures
+    (c.parts.view_is ∙ c.in_ok-close.ensures.ok)
+
+pub index-requires-2 : goal.index-requires-2
+index-requires-2 c =
+    let lt = still_timed c.args.self.now (state_of c.parts.inside) c.args.p (Set c.args.f) c.args.block.now
+    (map arc_value c.args.records.items) c.requires.call (closed (goal.at.index-requires-2 c).After-parts) in
+    omega (arith, lt, c.parts.inside.times.ok.0)
+
+-- the flag and p's timestamp, as they are read
+read : (c : After-index-2) → state_of c.parts.inside
+    ≡ closed_by (handed_in c.args.self.now c.args.block.now) c.args.p (Set c.args.f)
+    (map arc_value c.args.records.items)
+    → IsSetRead c.args.self.now c.args.p c.args.f c.index.result.now c.index-2.result.now
+read c is =
+    set_read c.args.self.now (state_of c.parts.inside) c.args.p c.args.f (Set c.args.f) c.args.block.now
+    (map arc_value c.args.records.items)
+    c.index.result.now c.index-2.result.now c.requires.call c.requires.flag is c.index.ensures c.index-2.ensures
+
+pub with_set-time-requires : goal.with_set-time-requires
+with_set-time-requires c =
+    let at = goal.at.with_set-time-requires c in (read at.After-index-2 (closed at.After-parts)).long
+
+pub returns : goal.returns
+returns c =
+    let at = goal.at.returns c in
+    let is = closed at.After-parts in
+    record {
+      ok = set_is c.args.self.now (state_of c.parts.inside) c.args.p c.args.f c.args.block.now
+          (map arc_value c.args.records.items) c.index.result.now c.index-2.result.now c.with_set-time.result is
+          (read at.After-index-2 is) c.with_set-time.ensures;
+      err = search rules;
+      full = search rules;
+      only = search rules;
+    }
