@@ -1,4 +1,8 @@
--- What a journal says from a base is what the history says of it.
+-- What is left of a journal after a cut says, read from the base, what the whole history says.
+-- The cut stands at the end of an episode: all that was cut off happens before all that is left. (Ends, Episodes, Before)
+-- The base keeps what of it still counts: memory, holders, flags (Holding, Noted; nothing where Uncut). So order, races,
+-- loads, copies and form are the same, read either way (Order, Races, Loads, Copies, WellFormed); Whole has the laws.
+-- Opening, Cutting: the first arrivals behind a cut; a cut of what a cut left.
 pub mod Order
 pub mod Ends
 pub mod Before

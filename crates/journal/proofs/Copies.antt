@@ -1,4 +1,6 @@
--- Copies of pages, valid or stale, and what each event does to them.
+-- A valid copy of a page is the zero page after the stores of a past, in an order that extends happens-before.
+-- One fact stands for all copies, valid or stale, and each kind of event keeps it (Brought, Pages, OpenBlocks).
+-- A load of such a copy answers a latest store of its past (Loads).
 pub mod Stores
 pub mod Images
 pub mod Brought

@@ -1,4 +1,6 @@
--- Gaps: the intervals that a stale copy misses, and the fetch of them.
+-- A stale copy lacks whole intervals: those between two timestamps that wrote to the page.
+-- An event adds to the gap or leaves it (Keeping); the gap in closing order extends happens-before (InGroups, Placed).
+-- So done to the stale copy in that order the missing records give a lawful copy (Applying, Fetches).
 pub mod Gaps
 pub mod Placed
 pub mod InGroups

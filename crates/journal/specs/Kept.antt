@@ -21,7 +21,7 @@ base_of k = record {
   spent = k.spent;
 }
 
--- so many events cost less than this each
+-- that many events cost less than this each
 abbrev pub AreCosts : ℕ → Traffic → Type 0
 AreCosts n t = (t.messages ≤ n * 2 ^ 33) × (t.records ≤ n * 2 ^ 33) × (t.words ≤ n * 2 ^ 33)
 

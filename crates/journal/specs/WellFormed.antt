@@ -41,7 +41,7 @@ pub record MayBeGranted (j : List Event) (i l : ℕ) : Type 0 where
   pub free : (q : ℕ) → ¬ Holds j q l
   pub first : (k q : ℕ) → k < i → ¬ LastIs j q k (Ask l)
 
--- every processor has arrived at least so often
+-- every processor has arrived at least that many times
 abbrev pub AllArrived : Sizes → List Event → ℕ → Type 0
 AllArrived s j n = (q : ℕ) → q < s.processors → n ≤ count_of is_arrive j q
 

@@ -36,7 +36,7 @@ pub record MayBeGrantedFrom (b : Base) (j : List Event) (i l : ℕ) : Type 0 whe
   pub free : (q : ℕ) → ¬ HoldsFrom b j q l
   pub first : (k q : ℕ) → k < i → ¬ LastIs j q k (Ask l)
 
--- every processor has arrived at least so often, with the arrival that was cut off
+-- every processor has arrived at least that many times, with the arrival that was cut off
 abbrev pub AllArrivedFrom : Sizes → Base → List Event → ℕ → Type 0
 AllArrivedFrom s b j n = (q : ℕ) → q < s.processors → n ≤ count_of is_arrive j q + arrived b
 

@@ -12,5 +12,5 @@ pub const MOST_EVENTS: usize = 1 << 20;
 /// Events that a journal can hold: those, what `finish` hands in, and room to spare.
 pub const MOST_HELD: usize = 1 << 21;
 
-/// Events that all cuts of a journal together can cut off: so many, that what they cost fits a u64.
+/// Events that all cuts of a journal together can cut off, few enough that what they cost fits a u64.
 pub const MOST_CUT: u64 = 1 << 30;

@@ -235,8 +235,11 @@ impl Accesses {
     }
 }
 
-/// The pair of the first race of these events: the least second place, and with it the least first one;
-/// None where no events race. The only error is running out of memory.
+/// The pair of the first race of these events, of `processors` processors, at most `MOST_PROCESSORS`, and `addresses`
+/// addresses: the least second place, and with it the least first one; None where no events race. The only error is
+/// running out of memory.
+///
+/// Nothing was cut off before them. They need not be ones that a cluster can make, and none of them is copied.
 ///
 /// Before the first race all stores of an address happen before the last one, or are it. So a timestamp that
 /// counts the last store's interval counts them all, and of the loads since then mostly the last one is enough
@@ -248,7 +251,7 @@ impl Accesses {
 /// logarithm of how many of these occur besides. It takes memory in the order of the addresses, the locks and
 /// flags that occur and the open episodes, times the processors, and a table of 64 KiB at most for the locks
 /// and one for the flags, however great their numbers are.
-pub(crate) fn first_race_of(
+pub fn first_race_of(
     alloc: Global,
     processors: usize,
     addresses: usize,

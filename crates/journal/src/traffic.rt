@@ -43,8 +43,9 @@ pub(crate) fn cost_of(kind: Kind) -> Traffic
     }
 }
 
-/// The traffic of these events.
-pub(crate) fn traffic_of(events: &[Event]) -> Traffic
+/// The traffic of these events, of which at most `MOST_HELD` may be, by the counts that their fetches tell. It takes no
+/// memory.
+pub fn traffic_of(events: &[Event]) -> Traffic
     requires { length events.now ≤ most_held }
     ensures messages { result.messages ≡ messages events.now }
     ensures records { result.records ≡ records events.now }

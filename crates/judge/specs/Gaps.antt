@@ -49,7 +49,7 @@ pub record AreLong (g : Gaps) : Type 0 where
   pub words : vec_len g.words.rows ≡ g.sizes.pages * 16
   pub words_marks : vec_len g.words.marks ≡ (g.sizes.pages * g.sizes.words) * 16
 
--- so few as so many processors can have
+-- no more than that many processors can have
 pub record AreFew (parts : ℕ) (c : Counts) : Type 0 where
   pub writers : c.writers ≤ parts
   pub records : c.records ≤ parts * 2 ^ 22

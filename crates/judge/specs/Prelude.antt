@@ -5,5 +5,5 @@ pub use Rattle.judge.specs.Why.{IsFirstIllFormed, IsInTurn, IsVerdict, WaitsFor,
 pub use Rattle.judge.specs.Tells.{IsFirstAsk, NobodyAsks, Tells, holder_after, set_after}
 pub use Rattle.judge.specs.Ranges.{RangeLaw}
 pub use Rattle.judge.specs.Tallies.{Adds, is_between, mark, numbers, row_of}
-pub use Rattle.judge.specs.Gaps.{AreFew, AreGapsOf, AreLong, CountsAmong, TellsGaps}
+pub use Rattle.judge.specs.Gaps.{AreFew, AreGapsOf, AreLong, CountsAmong, IsFetched, StoresInPage, TellsGaps}
 pub use Rattle.judge.specs.Miscounted.{CountsGap, IsFirstMiscounted, IsWithin, Miscounts}

@@ -1,13 +1,13 @@
 //! What fetches have to count.
 ghost use Rattle.std.specs.Prelude.{◌≡◌, ℕ, ◌+◌, ◌*◌, ◌<◌, ◌≤◌, ◌^◌, [], ◌∷◌, ◌++◌, IfOk, OnOk, List, Some, length};
-ghost use Rattle.std.specs.Prelude.{cond, nat_lt, slice_get, take};
+ghost use Rattle.std.specs.Prelude.{cond, nat_lt, slice_get, slice_index, take};
 ghost use Rattle.lists.specs.Prelude.{most_held};
 ghost use Rattle.journal.specs.declared.event.Event.{Event};
 ghost use Rattle.journal.specs.Copies.{GapCounts};
 ghost use Rattle.journal.specs.declared.event.Kind.TheVariants.{Fetch, Store};
-ghost use Rattle.journal.specs.Prelude.{did};
+ghost use Rattle.journal.specs.Prelude.{HasCount, IsTimeOf, did};
 ghost use Rattle.judge.specs.Prelude.{AreFew, AreGapsOf, AreLong, AreSmall, CountsAmong, IsWithin, TellsGaps, sizes_of};
-ghost use Rattle.judge.specs.Prelude.{row_of};
+ghost use Rattle.judge.specs.Prelude.{IsFetched, StoresInPage, row_of};
 
 use crate::sizes::Sizes;
 use crate::tally::Tally;
@@ -22,9 +22,13 @@ pub(crate) struct Counts {
     pub(crate) words: usize,
 }
 
-/// A history, taken an event at a time, of which it tells what a fetch that comes next has to count.
+/// A history, taken an event at a time, of which it tells what copies of pages lack: what a fetch that comes next has to
+/// count, and in which of its intervals a processor stores in a page.
+///
+/// It takes memory in the order of the pages' words times the processors, and four bytes for each first store of an
+/// interval to a page or to a word.
 #[derive(Drop)]
-pub(crate) struct Gaps {
+pub struct Gaps {
     pub(crate) sizes: Sizes,
     pub(crate) clocks: Clocks,
     /// Of each page and processor the timestamp that the processor had at its last fetch of the page; zeros before.
@@ -47,7 +51,7 @@ impl Counts {
         }
     }
 
-    /// With those of one more processor, after so many.
+    /// With those of one more processor, after that many.
     fn and(self, other: Counts, parts: usize) -> Counts
         requires parts { parts < 16 }
         requires few { AreFew parts self }
@@ -76,7 +80,7 @@ fn row_at(number: usize, processor: usize) -> usize
     number * 16 + processor
 }
 
-/// How many processors have so many records, where one has all of them.
+/// How many processors have that many records, where one has all of them.
 fn writers_of(records: usize) -> usize
     ensures { result ≡ cond (nat_lt 0 records) 1 0 }
 {
@@ -85,7 +89,7 @@ fn writers_of(records: usize) -> usize
 
 impl Gaps {
     /// Before the first event. The only error is running out of memory.
-    pub(crate) fn new(alloc: Global, sizes: Sizes) -> Result<Gaps, AllocError>
+    pub fn new(alloc: Global, sizes: Sizes) -> Result<Gaps, AllocError>
         requires { AreSmall (sizes_of sizes) }
         ensures tells { IfOk result (TellsGaps []) }
         ensures sizes { IfOk result (λ g. g.sizes ≡ sizes) }
@@ -99,6 +103,46 @@ impl Gaps {
             intervals: Tally::new(alloc, rows, rows)?,
             words: Tally::new(alloc, rows, marks)?,
         })
+    }
+
+    /// How many pages there are.
+    pub fn pages(&self) -> usize
+        ensures { result ≡ self.now.sizes.pages }
+    {
+        self.sizes.pages
+    }
+
+    /// The processor's timestamp.
+    pub fn time(&self, processor: usize) -> &Clock
+        requires tells { (j : List Event) × TellsGaps j self.now }
+        requires processor { processor < 16 }
+        ensures { (j : List Event) → TellsGaps j self.now → IsTimeOf j processor (slice_index result.now) }
+    {
+        self.clocks.of(processor)
+    }
+
+    /// The timestamp that the processor had at its last fetch of the page; zeros before it. It tells which stores of others
+    /// its fetches of the page have brought.
+    pub fn last_fetch(&self, processor: usize, page: usize) -> &Clock
+        requires tells { (j : List Event) × TellsGaps j self.now }
+        requires processor { processor < 16 }
+        requires page { page < self.now.sizes.pages }
+        ensures { (j : List Event) → TellsGaps j self.now
+            → IsFetched (sizes_of self.now.sizes) j processor page (slice_index result.now) }
+    {
+        &self.fetched[row_at(page, processor)]
+    }
+
+    /// In how many of its intervals from `from` on and below `to` the processor `by` stores in the page. They are found by
+    /// halving.
+    pub fn records(&self, page: usize, by: usize, from: u32, to: u32) -> usize
+        requires tells { (j : List Event) × TellsGaps j self.now }
+        requires page { page < self.now.sizes.pages }
+        requires by { by < 16 }
+        ensures { (j : List Event) → TellsGaps j self.now
+            → HasCount (λ k. StoresInPage (sizes_of self.now.sizes) j page by k × (from ≤ k) × (k < to)) result }
+    {
+        self.intervals.count(row_at(page, by), from, to)
     }
 
     /// What a fetch of the page by this processor has to count of one's stores.
@@ -194,7 +238,7 @@ impl Gaps {
 
     /// Takes note of the event at this place, the next one. The only error is running out of memory, after which they
     /// may tell no history.
-    pub(crate) fn note(&mut self, events: &[Event], place: usize) -> Result<(), AllocError>
+    pub fn note(&mut self, events: &[Event], place: usize) -> Result<(), AllocError>
         requires place { place < length events.now }
         requires few { length events.now ≤ most_held }
         requires within { (k : ℕ) (e : Event) → slice_get events.now k ≡ Some e

@@ -10,7 +10,7 @@
 //! that may not follow what stands before it, with the first reason that applies, in the order of `Why`. The history
 //! may be anyone's: nothing is asked of the numbers in its events. Of a well formed history, lax or not,
 //! `first_miscounted` answers None exactly where each fetch counts its gap, else the first one that does not, with the
-//! counts of its gap.
+//! counts of its gap. `Gaps` tells the same of any history, an event at a time: what each processor's copies of pages lack.
 //!
 //! **What is only tested** (crate `judge_uses`): that these definitions say what they are to say, by histories worked
 //! by hand; and that `first_ill_formed` judges 2^20 events in a test's time. Only `first_miscounted` takes memory.
@@ -26,6 +26,7 @@ mod sizes;
 mod tally;
 mod why;
 
+pub use gaps::Gaps;
 pub use judge::{IllFormed, first_ill_formed};
 pub use laws::{lax_law, range_law, why_law};
 pub use miscounted::{Miscounted, first_miscounted};

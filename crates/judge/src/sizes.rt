@@ -1,9 +1,9 @@
 //! The sizes of a cluster.
 ghost use Rattle.std.specs.Prelude.{◌↔◌, IsTrue};
 ghost use Rattle.journal.specs.WellFormed.{KindInRange};
-ghost use Rattle.judge.specs.Prelude.{AreSmall, sizes_of};
+ghost use Rattle.judge.specs.Prelude.{AreSmall, IsWithin, sizes_of};
 
-use journal::{Kind, MOST_PROCESSORS};
+use journal::{Event, Kind, MOST_PROCESSORS};
 
 /// The sizes of the cluster whose history is judged: at most 16 processors, 64 pages of 64 words, 32 locks and 32
 /// flags.
@@ -45,5 +45,12 @@ impl Sizes {
             Kind::Set(flag) | Kind::Watch(flag) | Kind::Await(flag) => flag < self.flags,
             Kind::Arrive | Kind::Depart => true,
         }
+    }
+    /// Whether the event's processor and the numbers that it names are within the sizes.
+    pub fn have_event(&self, event: Event) -> bool
+        requires { AreSmall (sizes_of self.now) }
+        ensures { IsTrue result ↔ IsWithin (sizes_of self.now) event }
+    {
+        event.processor < self.processors && self.have(event.kind)
     }
 }

@@ -4,9 +4,11 @@
 //! that is are the cluster's, and exactly whether its fetches count what they bring.
 //!
 //! **What is only tested** here: that the words of judge's specs mean what they are to mean, by histories worked by
-//! hand; and that a history of 2^20 events is judged in a test's time.
+//! hand; and that histories of 2^20 events are judged in a test's time, by all that `lrc check` asks of them (`big`).
 #![tactic(auto)]
 
+#[cfg(test)]
+mod big;
 mod callers;
 #[cfg(test)]
 mod counts;

@@ -1,6 +1,6 @@
 //! What a load that comes next may answer.
 ghost use Rattle.std.specs.Prelude.{◌≡◌, ◌↔◌, ℕ, ◌+◌, ◌*◌, ◌<◌, ◌≤◌, ◌^◌, [], ◌∷◌, ◌++◌, IsTrue, IfOk, OnOk, List};
-ghost use Rattle.std.specs.Prelude.{Some, cond, length, slice_get, take, vec_len};
+ghost use Rattle.std.specs.Prelude.{Some, cond, length, max, slice_get, slice_index, take, vec_len};
 ghost use Rattle.std.specs.Global.{Vec};
 ghost use Rattle.lists.specs.Prelude.{most_held, most_processors};
 ghost use Rattle.journal.specs.declared.event.Event.{Event};
@@ -12,7 +12,7 @@ ghost use Rattle.sources.specs.Prelude.{AreKept, AreLast, IsFollowed, IsLatest, 
 
 use crate::known::Known;
 use crate::stored::{Stored, last_below};
-use journal::{Clocks, Event, Kind};
+use journal::{Clock, Clocks, Event, Kind};
 use std::alloc::{AllocError, Global};
 
 /// The last store of each processor to an address in a past.
@@ -56,12 +56,36 @@ fn is_store_of(event: Event, value: u32) -> bool
     }
 }
 
-/// How many intervals a past has something of, where it has so many whole ones. Of a processor's own past the open
+/// How many intervals a past has something of, where it has that many whole ones. Of a processor's own past the open
 /// interval is one more.
 fn intervals(whole: u32, is_own: bool) -> usize
     ensures { result ≡ whole + cond is_own 1 0 }
 {
     whole as usize + usize::from(is_own)
+}
+
+/// Raises each entry to the other timestamp's, where that is greater.
+fn raise(time: &mut Clock, other: &Clock)
+    ensures { (q : ℕ) → slice_index time.new q ≡ max (slice_index time.old q) (slice_index other.now q) }
+{
+    for q in 0..16 {
+        time[q] = time[q].max(other[q]);
+    }
+}
+
+/// The place of this processor's last store, where none of the others follows it. Joined, their timestamps are this.
+fn unfollowed(last: &LastStores, joined: &Clock, by: usize) -> Option<usize>
+    requires by { by < 16 }
+    ensures { (times : List (List ℕ)) → ((s : Stored)
+        → (s.interval < slice_index joined.now by) ↔ IsFollowed times last.now by s)
+        → (i : ℕ) → (result ≡ Some i) ↔ IsUnfollowed times last.now by i }
+{
+    let store = last[by]?;
+    if store.interval < joined[by] {
+        None
+    } else {
+        Some(store.place as usize)
+    }
 }
 
 impl Sources {
@@ -93,51 +117,35 @@ impl Sources {
     {
         let time = self.clocks.of(processor);
         let mut last = [None; 16];
-        for by in 0..16 {
+        for by in 0..self.processors {
             let stores = &self.stores[address * 16 + by];
             last[by] = last_below(stores, intervals(time[by], by == processor));
         }
         last
     }
 
-    /// Whether one of these stores follows this processor's store.
-    fn is_followed(&self, last: &LastStores, by: usize, store: Stored) -> bool
-        requires by { by < 16 }
-        requires within { (r : ℕ) (s : Stored) → slice_get last.now r ≡ Some (Some s)
+    /// The timestamps of these stores, joined: it counts the interval of a store exactly where one of them follows that.
+    fn joined(&self, last: &LastStores) -> Clock
+        requires { (r : ℕ) (s : Stored) → slice_get last.now r ≡ Some (Some s)
             → s.time < vec_len self.now.known.times }
-        ensures { IsTrue result ↔ IsFollowed self.now.known.times.items last.now by store }
+        ensures { (q : ℕ) (s : Stored) → (s.interval < slice_index result q)
+            ↔ IsFollowed self.now.known.times.items last.now q s }
     {
-        for other in last {
-            if let Some(other) = other {
-                let time = self.known.times[other.time as usize];
-                if store.interval < time[by] {
-                    return true;
-                }
+        let mut joined = [0; 16];
+        for store in last {
+            if let Some(store) = store {
+                raise(&mut joined, &self.known.times[store.time as usize]);
             }
         }
-        false
-    }
-
-    /// The place of this processor's last store, where none of the others follows it.
-    fn unfollowed(&self, last: &LastStores, by: usize) -> Option<usize>
-        requires by { by < 16 }
-        requires within { (r : ℕ) (s : Stored) → slice_get last.now r ≡ Some (Some s)
-            → s.time < vec_len self.now.known.times }
-        ensures { (i : ℕ) → (result ≡ Some i) ↔ IsUnfollowed self.now.known.times.items last.now by i }
-    {
-        let store = last[by]?;
-        if self.is_followed(last, by, store) {
-            None
-        } else {
-            Some(store.place as usize)
-        }
+        joined
     }
 
     /// Of each processor, the place of its store that a load of the address by this processor may answer, if the load
     /// comes next; None where it has no such store. Where all are None, the load answers 0. It takes no memory.
     ///
-    /// It looks at one store of each processor, found by halving among those to the address, and at each two of
-    /// these: of n stores it takes time in the order of the processors times (the processors and the logarithm of n).
+    /// It looks at one store of each processor, mostly its last one to the address, else one found by halving, and joins
+    /// their timestamps: of n stores it takes time in the order of the processors times (the processors and the
+    /// logarithm of n).
     pub fn before(&self, processor: usize, address: usize) -> [Option<usize>; 16]
         requires tells { (j : List Event) × Tells j self.now }
         requires processor { processor < self.now.processors }
@@ -147,9 +155,10 @@ impl Sources {
             ↔ IsLatest (did j processor (Load address v)) (length j) address q i }
     {
         let last = self.last_stores(processor, address);
+        let joined = self.joined(&last);
         let mut latest = [None; 16];
-        for by in 0..16 {
-            latest[by] = self.unfollowed(&last, by);
+        for by in 0..self.processors {
+            latest[by] = unfollowed(&last, &joined, by);
         }
         latest
     }

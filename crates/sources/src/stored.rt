@@ -14,8 +14,8 @@ pub(crate) struct Stored {
     pub(crate) time: u32,
 }
 
-/// The last of these stores that is of an interval below the limit. Their intervals rise.
-pub(crate) fn last_below(stores: &[Stored], limit: usize) -> Option<Stored>
+/// The last of these stores that is of an interval below the limit, looked for by halving. Their intervals rise.
+fn halve(stores: &[Stored], limit: usize) -> Option<Stored>
     requires { InOrder (λ s t. s.interval ≤ t.interval) stores.now }
     ensures { MatchOption result (NoneBelow stores.now limit) (IsLastBelow stores.now limit) }
 {
@@ -24,5 +24,25 @@ pub(crate) fn last_below(stores: &[Stored], limit: usize) -> Option<Stored>
         None
     } else {
         Some(stores[count - 1])
+    }
+}
+
+/// The last of these stores that is of an interval below the limit. Their intervals rise. Mostly it is the last one of
+/// all, or there is none, so the last and the first one are looked at before all others.
+pub(crate) fn last_below(stores: &[Stored], limit: usize) -> Option<Stored>
+    requires { InOrder (λ s t. s.interval ≤ t.interval) stores.now }
+    ensures { MatchOption result (NoneBelow stores.now limit) (IsLastBelow stores.now limit) }
+{
+    let count = stores.len();
+    if count == 0 {
+        return None;
+    }
+    let last = stores[count - 1];
+    if (last.interval as usize) < limit {
+        Some(last)
+    } else if limit <= stores[0].interval as usize {
+        None
+    } else {
+        halve(stores, limit)
     }
 }

@@ -44,7 +44,7 @@ fn are_in_range(events: &[Event], processors: usize, addresses: usize) -> bool
     events.len() <= MOST_HELD && processors <= MOST_PROCESSORS
 }
 
-/// What is wanted of a history of so many processors and addresses: of each of the last events, which are loads, the
+/// What is wanted of a history of that many processors and addresses: of each of the last events, which are loads, the
 /// places of its latest stores. No other event has any, and each load answers what it may.
 fn tells<R: Abort + AllocGlobal>(
     rt: &R,
@@ -69,7 +69,7 @@ fn tells<R: Abort + AllocGlobal>(
     is_refused(rt, sizes, events, None)
 }
 
-/// The first load of a history of so many processors and addresses that answers what it may not stands at this place,
+/// The first load of a history of that many processors and addresses that answers what it may not stands at this place,
 /// if there is one.
 fn is_refused<R: Abort + AllocGlobal>(
     rt: &R,

@@ -1,4 +1,5 @@
-use Rattle.std.proofs.Common.{◌≡◌, ℕ, ◌<◌, List, Option, Some, length, slice_get}
+use Rattle.std.proofs.Common.{◌≡◌, ℕ, ◌<◌, ◌≤◌, List, Option, Some, length, slice_get}
+use Rattle.std.specs.Prelude.{None}
 use Rattle.journal.specs.declared.event.Event.{Event}
 use Rattle.sources.specs.declared.stored.Stored.{Stored}
 use Rattle.sources.specs.Last.{IsLastOf}
@@ -8,6 +9,8 @@ use Rattle.sources.proofs.sources.Sources.last_stores.Given as goal
 abbrev pub invariant-loop-by : goal.invariant-loop-by
 invariant-loop-by l = record {
   long : length l.last ≡ 16;
+  few : l.self.processors ≤ 16;
   last : (j : List Event) → Tells j l.self → (q : ℕ) (o : Option Stored) → q < l.by → slice_get l.last q ≡ Some o
       → IsLastOf j l.self.known.times.items l.processor l.address q o;
+  rest : (q : ℕ) (o : Option Stored) → l.by ≤ q → slice_get l.last q ≡ Some o → o ≡ None;
 }

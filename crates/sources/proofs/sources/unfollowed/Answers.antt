@@ -1,11 +1,10 @@
 use Rattle.std.proofs.Common.{◌≡◌, ◌↔◌, ℕ, ◌<◌, List, Option, Some, length, slice_get, subst, sym, refl, ap, ◌∙◌, arith}
 use Rattle.std.specs.Prelude.{None}
-use Rattle.std.proofs.lemmas.Bool.{false≢true}
 use Rattle.std.proofs.lemmas.Option.{none-some, same_Some}
 use Rattle.sources.specs.declared.stored.Stored.{Stored}
 use Rattle.sources.specs.Last.{IsFollowed, IsUnfollowed}
 use Rattle.sources.proofs.Reading.{option_at}
-use Rattle.sources.proofs.sources.Sources.unfollowed.Goals as goal
+use Rattle.sources.proofs.sources.unfollowed.Goals as goal
 
 -- no answer is right where there is no store that isn't followed
 no_answer : (times : List (List ℕ)) (last : List (Option Stored)) (q : ℕ) (r : Option ℕ) → r ≡ None
@@ -19,27 +18,26 @@ one_store : (times : List (List ℕ)) (last : List (Option Stored)) (q i : ℕ) 
 one_store times last q i s at u = same_Some s u.store (same_Some (Some s) (Some u.store) (sym at ∙ u.at))
 
 pub returns-in_err-store : goal.returns-in_err-store
-returns-in_err-store c =
+returns-in_err-store c = λ times counted.
     let last = c.args.last.now in
     let within : c.args.by < length last = omega arith in
     let at = option_at last c.args.by None within c.in_err-store.was in
-    no_answer c.args.self.now.known.times.items last c.args.by c.from_residual.result c.from_residual.ensures
+    no_answer times last c.args.by c.from_residual.result c.from_residual.ensures
     (λ i u. none-some u.store (same_Some None (Some u.store) (sym at ∙ u.at)))
 
-pub returns-then-is_followed : goal.returns-then-is_followed
-returns-then-is_followed c =
+pub returns-then-store-joined : goal.returns-then-store-joined
+returns-then-store-joined c = λ times counted.
     let last = c.args.last.now in
-    let times = c.args.self.now.known.times.items in
+    let store = c.in_ok-store.store in
     let within : c.args.by < length last = omega arith in
-    let at = option_at last c.args.by (Some c.in_ok-store.store) within c.in_ok-store.was in
+    let at = option_at last c.args.by (Some store) within c.in_ok-store.was in
     no_answer times last c.args.by None refl
-    (λ i u. u.free (subst (IsFollowed times last c.args.by)
-    (one_store times last c.args.by i c.in_ok-store.store at u) (c.if-is_followed.ensures.0 refl)))
+    (λ i u. u.free (subst (IsFollowed times last c.args.by) (one_store times last c.args.by i store at u)
+    ((counted store).0 c.if-store-joined.true)))
 
-pub returns-else-is_followed : goal.returns-else-is_followed
-returns-else-is_followed c = λ i.
+pub returns-else-store-joined : goal.returns-else-store-joined
+returns-else-store-joined c = λ times counted i.
     let last = c.args.last.now in
-    let times = c.args.self.now.known.times.items in
     let store = c.in_ok-store.store in
     let within : c.args.by < length last = omega arith in
     let at = option_at last c.args.by (Some store) within c.in_ok-store.was in (
@@ -47,7 +45,7 @@ returns-else-is_followed c = λ i.
         store = store;
         at = at;
         place = same_Some store.place i is;
-        free = λ f. false≢true (c.if-is_followed.ensures.1 f);
+        free = λ f. (let lt = (counted store).1 f in let le = c.if-store-joined.false in absurd (omega arith));
       },
       λ u. ap (λ (x : Stored). Some x.place) (one_store times last c.args.by i store at u) ∙ ap Some u.place,
     )

@@ -6,7 +6,7 @@ use Rattle.std.specs.List.Sorted.{IsNonDecreasingBy, IsPartitionPoint}
 use Rattle.lists.specs.Places.{InOrder}
 use Rattle.sources.specs.declared.stored.Stored.{Stored}
 use Rattle.sources.specs.Stored.{IsLastBelow}
-use Rattle.sources.proofs.stored.last_below.Goals as goal
+use Rattle.sources.proofs.stored.halve.Goals as goal
 
 -- the intervals do not fall
 rises : (stores : List Stored) → InOrder (λ (s t : Stored). s.interval ≤ t.interval) stores

@@ -1,0 +1,21 @@
+use Rattle.std.proofs.Common.{ℕ, ◌≤◌, ◌<◌, subst, sym, ap, ◌∙◌, count_by}
+use Rattle.journal.specs.Copies.{HasCount}
+use Rattle.judge.specs.Gaps.{StoresInPage}
+use Rattle.judge.specs.Sizes.{sizes_of}
+use Rattle.judge.specs.Tallies.{is_between, numbers, row_of}
+use Rattle.judge.proofs.Rows.{row_counts}
+use Rattle.judge.proofs.gaps.Gaps.records.Goals as goal
+
+pub returns : goal.returns
+returns c = λ j tells.
+    let g = c.args.self.now in
+    let s = sizes_of g.sizes in
+    let n = c.args.page in
+    let q = c.args.by in
+    let In : ℕ → Type 0 = λ k. StoresInPage s j n q k × (c.args.from ≤ k) × (k < c.args.to) in
+    let count =
+    c.count.ensures
+    ∙ ap (λ r. count_by (is_between c.args.from c.args.to) (numbers g.intervals.rows.items r)) c.row_at.ensures in
+    subst (HasCount In) (sym count)
+    (row_counts (StoresInPage s j n q) (λ k. k) (numbers g.intervals.rows.items (row_of n q)) c.args.from c.args.to
+    (tells.are.intervals.rows n q c.requires.by))
