@@ -1,5 +1,5 @@
 -- The events of other processors with an edge to an event.
-use Rattle.std.proofs.Common.{◌≡◌, ◌≢◌, ℕ, ◌+◌, ◌<◌, ◌≤◌, ◌==◌, ◌&&◌, cond, inl, inr, List, [], ◌∷◌, ◌++◌, Some, length, take, slice_index, slice_set, subst, sym, refl, ap, ◌∙◌, arith}
+use Rattle.std.proofs.Common.{◌≡◌, ◌≢◌, ℕ, ◌+◌, ◌<◌, ◌≤◌, ◌==◌, ◌&&◌, Bool, cond, inl, inr, List, [], ◌∷◌, ◌++◌, Some, length, take, slice_index, slice_set, subst, sym, refl, ap, ◌∙◌, arith}
 use Rattle.std.proofs.lemmas.Bool.{cases_eq, eq-eqb, ne_eqb}
 use Rattle.std.proofs.lemmas.List.{length-take-le, get_or-set_same, get_or-set_other}
 use Rattle.std.proofs.lemmas.List.Sums.{count_by-le-length}
@@ -130,32 +130,32 @@ edges_all j k n places is old = record {
 }
 
 -- no count of a journal's front is past its place
-pub count_within : (j : List Event) (i p : ℕ) → i ≤ length j → count_of is_arrive (take i j) p ≤ i
-count_within j i p le =
-    let all = count_by-le-length (λ (e : Event). (e.processor == p) && is_arrive e.kind) (take i j) in
+pub count_within : (is : Kind → Bool) (j : List Event) (i p : ℕ) → i ≤ length j → count_of is (take i j) p ≤ i
+count_within is j i p le =
+    let all = count_by-le-length (λ (e : Event). (e.processor == p) && is e.kind) (take i j) in
     let long = length-take-le i j le in
     omega arith
 
--- counts of arrivals one place on
-pub counts_next : (j : List Event) (i : ℕ) (e : Event) (counts : List ℕ) (now : ℕ) → At j i e → length counts ≡ 16
-    → ((q : ℕ) → q < 16 → slice_index counts q ≡ count_of is_arrive (take i j) q)
-    → now ≡ slice_index counts e.processor + cond (is_arrive e.kind) 1 0
-    → (q : ℕ) → q < 16 → slice_index (slice_set counts e.processor now) q ≡ count_of is_arrive (take (i + 1) j) q
-counts_next j i e counts now at long old is q lt = elim (cases_eq q e.processor) [
+-- counts of some kind one place on
+pub counts_next : (is : Kind → Bool) (j : List Event) (i : ℕ) (e : Event) (counts : List ℕ) (now : ℕ) → At j i e → length counts ≡ 16
+    → ((q : ℕ) → q < 16 → slice_index counts q ≡ count_of is (take i j) q)
+    → now ≡ slice_index counts e.processor + cond (is e.kind) 1 0
+    → (q : ℕ) → q < 16 → slice_index (slice_set counts e.processor now) q ≡ count_of is (take (i + 1) j) q
+counts_next is j i e counts now at long old set_now q lt = elim (cases_eq q e.processor) [
   | inl mine ↦
-      (let next = count_next is_arrive j i q e at in
+      (let next = count_next is j i q e at in
       let set = get_or-set_same counts e.processor now 0 (omega arith) in
       let read = ap (λ n. slice_index (slice_set counts e.processor now) n) mine in
       let was = old q lt in
       let same = ap (slice_index counts) mine in
-      let one : cond {A = ℕ} ((e.processor == q) && is_arrive e.kind) 1 0 ≡ cond (is_arrive e.kind) 1 0 =
+      let one : cond {A = ℕ} ((e.processor == q) && is e.kind) 1 0 ≡ cond (is e.kind) 1 0 =
       rw (eq-eqb e.processor q (sym mine)) in
       omega arith)
   | inr other ↦
-      (let next = count_next is_arrive j i q e at in
+      (let next = count_next is j i q e at in
       let set = get_or-set_other counts e.processor q now 0 other in
       let was = old q lt in
-      let none : cond {A = ℕ} ((e.processor == q) && is_arrive e.kind) 1 0 ≡ 0 =
+      let none : cond {A = ℕ} ((e.processor == q) && is e.kind) 1 0 ≡ 0 =
       rw (ne_eqb e.processor q (λ x. other (sym x))) in
       omega arith)
 ]

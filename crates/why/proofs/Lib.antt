@@ -1,3 +1,10 @@
 pub mod Answering
 pub mod Heard
 pub mod LetsOn
+pub mod LookedUp
+pub mod Fresh
+pub mod Standing
+pub mod Entering
+pub mod Takes
+pub mod Reached
+pub mod Owing

@@ -10,7 +10,8 @@ ghost use Rattle.journal.specs.Prelude.{AddressesInRange, HappensBefore, IsFirst
 ghost use Rattle.journal.specs.Prelude.{RaceFree, is_closing, is_taking};
 ghost use Rattle.why.specs.Prelude.{IsFirstRaceTold, IsHeard};
 
-use journal::{Clocks, Event, Journal, Kind};
+use crate::index::closes;
+use journal::{Clocks, Event, Journal};
 use std::alloc::{AllocError, Global};
 
 /// The first race of a history.
@@ -29,11 +30,7 @@ pub struct FirstRace {
 fn closings(event: Event, by: usize) -> usize
     ensures { result ≡ cond ((event.processor == by) && is_closing event.kind) 1 0 }
 {
-    let closes = match event.kind {
-        Kind::Ask(_) | Kind::Release(_) | Kind::Arrive | Kind::Set(_) | Kind::Watch(_) => true,
-        _ => false,
-    };
-    usize::from(event.processor == by && closes)
+    usize::from(closes(event, by))
 }
 
 /// The last event of the processor `by` that happens before the second place, where those of its first `limit`

@@ -1,7 +1,7 @@
 use Rattle.std.proofs.Common.{◌≡◌, ◌<◌, ℕ, length, slice_index, take}
 use Rattle.journal.specs.Events.{count_of, is_arrive}
 use Rattle.why.proofs.LetsOn.{AreEdgesBelow}
-use Rattle.why.proofs.incoming.edges.Given as goal
+use Rattle.why.proofs.leading.edges.Given as goal
 
 abbrev pub invariant-loop-i : goal.invariant-loop-i
 invariant-loop-i l = record {

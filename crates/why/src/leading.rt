@@ -18,7 +18,7 @@ fn releases(kind: Kind, lock: usize) -> bool
 }
 
 /// Whether it sets this flag.
-fn sets(kind: Kind, flag: usize) -> bool
+pub(crate) fn sets(kind: Kind, flag: usize) -> bool
     ensures { IsTrue result ↔ (kind ≡ Set flag) }
 {
     match kind {
@@ -28,7 +28,7 @@ fn sets(kind: Kind, flag: usize) -> bool
 }
 
 /// Whether it is an arrival.
-fn arrives(kind: Kind) -> bool
+pub(crate) fn arrives(kind: Kind) -> bool
     ensures { result ≡ is_arrive kind }
 {
     match kind {
@@ -57,7 +57,7 @@ fn departures_of(event: Event, processor: usize) -> usize
 
 /// Whether what `from` is lets on what `to` is, where `arrived` arrivals of the one's processor stand before it and
 /// `departed` departures of the other's.
-fn lets_on(from: Kind, arrived: usize, to: Kind, departed: usize) -> bool
+pub(crate) fn lets_on(from: Kind, arrived: usize, to: Kind, departed: usize) -> bool
     ensures { IsTrue result ↔ LetsOn from arrived to departed }
 {
     match to {
@@ -69,7 +69,7 @@ fn lets_on(from: Kind, arrived: usize, to: Kind, departed: usize) -> bool
 }
 
 /// How many departures of the processor stand before this place.
-fn departures_before(events: &[Event], processor: usize, place: usize) -> usize
+pub(crate) fn departures_before(events: &[Event], processor: usize, place: usize) -> usize
     requires { place ≤ length events.now }
     ensures { result ≡ count_of is_depart (take place events.now) processor }
 {

@@ -8,8 +8,8 @@ use Rattle.journal.specs.Did.{event}
 use Rattle.journal.specs.Events.{count_of, is_arrive, is_depart}
 use Rattle.why.specs.Edges.{EdgeFromOther, LetsOn}
 use Rattle.why.proofs.LetsOn.{AreEdgesBelow, counts_next, edges_all, edges_next, edges_other, leads, led}
-use Rattle.why.proofs.incoming.edges.Goals as goal
-use Rattle.why.proofs.incoming.edges.Goals.{then-from-to+then-lets_on+in_ok-push, else-from-to, else-from-to-via-then-from-to+else-lets_on, else-from-to-via-else-from-to}
+use Rattle.why.proofs.leading.edges.Goals as goal
+use Rattle.why.proofs.leading.edges.Goals.{then-from-to+then-lets_on+in_ok-push, else-from-to, else-from-to-via-then-from-to+else-lets_on, else-from-to-via-else-from-to}
 
 -- the event at this place
 abbrev here : List Event → ℕ → Event
@@ -33,7 +33,7 @@ loop-i-preserved c =
     let one = c.arrivals_of.ensures in
     record {
       long = length-set c.loop-i.arrivals from.processor _ ∙ old.long;
-      counts = counts_next events i from c.loop-i.arrivals _ at old.long old.counts (omega arith);
+      counts = counts_next is_arrive events i from c.loop-i.arrivals _ at old.long old.counts (omega arith);
       edges = elim c.if-from-to.branch [
         | then-from-to+then-lets_on+in_ok-push w ↦
             (let on : LetsOn from.kind (count_of is_arrive (take i events) from.processor) to.kind (count_of is_depart (take k events) to.processor) =

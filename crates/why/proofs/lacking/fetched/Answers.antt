@@ -1,0 +1,46 @@
+use Rattle.std.proofs.Common.{◌+◌, ◌*◌, List, slice_index_or, take, subst, refl, arith}
+use Rattle.std.specs.Global.{Vec}
+use Rattle.std.proofs.lemmas.Option.{slice_get-get_or}
+use Rattle.journal.specs.declared.event.Event.{Event}
+use Rattle.journal.specs.declared.event.Kind.TheVariants.{Load}
+use Rattle.journal.specs.Did.{event}
+use Rattle.journal.specs.Events.{At}
+use Rattle.journal.specs.InRange.{ProcessorsInRange}
+use Rattle.journal.proofs.Order.Places.{at_same}
+use Rattle.judge.specs.Gaps.{TellsGaps}
+use Rattle.judge.specs.Sizes.{sizes_of}
+use Rattle.why.specs.declared.lacking.Due.{Due}
+use Rattle.why.specs.declared.lacking.Span.{Span}
+use Rattle.why.specs.Dues.{AreBelow, AreDues}
+use Rattle.why.proofs.Owing.{dues_all, if_ok, in_fetch}
+use Rattle.why.proofs.lacking.fetched.Goals as goal
+
+pub returns : goal.returns
+returns c =
+    let g = c.args.gaps.now in
+    let s = sizes_of g.sizes in
+    let events = c.args.events.now in
+    let k = c.args.place in
+    let h = take k events in
+    let here : Event = slice_index_or events k (event 0 (Load 0 0)) in
+    let there = slice_get-get_or events k (event 0 (Load 0 0)) c.requires.place in
+    let span : Span = record {
+      reader = here.processor;
+      first = c.args.page;
+      end = c.args.page + 1;
+      from = c.last_fetch.result.now;
+      to = c.time.result.now;
+    } in
+    let low : ProcessorsInRange 16 h =
+    λ i f at. (let lt = c.requires.tells.processors i f at in
+    let small = c.requires.tells.long.sizes.processors in
+    omega arith) in
+    let kind = c.requires.fetch here there in
+    let same =
+    in_fetch s events k here kind.0 c.args.page kind.1 kind.2 span kind.3 refl refl refl low
+    (c.last_fetch.ensures h c.requires.tells) (c.time.ensures h c.requires.tells) in
+    if_ok c.dues_in.result
+    (λ (v : Vec Due). (j : List Event) → TellsGaps j g → AreBelow s j span (span.end * 16) v.items)
+    (λ (v : Vec Due). (e : Event) → At events k e → AreDues s events k e v.items)
+    (λ v are e at. subst (λ (f : Event). AreDues s events k f v.items) (at_same events k here e there at)
+    (dues_all s events h k here span v.items same (are h c.requires.tells))) c.dues_in.ensures

@@ -1,0 +1,43 @@
+use Rattle.std.proofs.Common.{◌≡◌, length, slice_index_or, ◌∙◌, arith}
+use Rattle.std.proofs.lemmas.List.{length-set}
+use Rattle.std.proofs.lemmas.Option.{slice_get-get_or, slice_get_within}
+use Rattle.journal.specs.declared.event.Event.{Event}
+use Rattle.journal.specs.declared.event.Kind.TheVariants.{Load}
+use Rattle.journal.specs.Did.{event}
+use Rattle.journal.specs.Events.{is_closing}
+use Rattle.why.proofs.LetsOn.{counts_next}
+use Rattle.why.proofs.Takes.{numbers_next}
+use Rattle.why.proofs.takings.numbers_of.Goals as goal
+
+pub loop-place-preserved : goal.loop-place-preserved
+loop-place-preserved c =
+    let events = c.args.events.now in
+    let place = c.loop-place.place in
+    let e : Event = slice_index_or events place (event 0 (Load 0 0)) in
+    let lt = c.loop-place-test.true in
+    let old = c.loop-place.invariant in
+    let at = slice_get-get_or events place (event 0 (Load 0 0)) lt in
+    let low = c.requires.processors place e at in
+    let one = c.closing_of.ensures in
+    let numbers = c.loop-place.numbers in
+    let long : length numbers.items ≡ place = omega (arith, numbers.ok.0, old.long) in
+    record {
+      closed_long = length-set c.loop-place.closed e.processor _ ∙ old.closed_long;
+      closed = counts_next is_closing events place e c.loop-place.closed _ at old.closed_long old.closed (omega arith);
+      long = (let len = c.in_ok-push.ensures.len in let was = old.long in omega arith);
+      numbers =
+          numbers_next events place _ e numbers.items c.push.new.self.items long at (old.closed e.processor low)
+          c.in_ok-push.ensures.items old.numbers;
+    }
+
+pub returns : goal.returns
+returns c =
+    let over = c.loop-place-test.false in
+    let top = c.loop-place.auto.place-end in
+    let old = c.loop-place.invariant in
+    record {
+      long = omega (arith, c.loop-place.numbers.ok.0, old.long);
+      each = λ k e at.
+          (let lt = slice_get_within c.args.events.now k e at in
+          old.numbers k e (omega arith) at);
+    }
