@@ -2,4 +2,3 @@ pub mod Places
 pub mod Fronts
 pub mod Counts
 pub mod Firsts
-pub mod Races

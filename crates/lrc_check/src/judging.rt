@@ -4,14 +4,13 @@ ghost use Rattle.lists.specs.Prelude.{most_held};
 ghost use Rattle.journal.specs.Sizes.{addresses};
 ghost use Rattle.journal.specs.Counted.{AreCounted};
 ghost use Rattle.journal.specs.Loads.{Explained};
-ghost use Rattle.journal.specs.Log.{HoldsHistory};
 ghost use Rattle.journal.specs.Prelude.{AddressesInRange, IsFirstRace, ProcessorsInRange, RaceFree};
 ghost use Rattle.judge.specs.Prelude.{AreSmall, IsFirstIllFormed, IsFirstMiscounted, WellFormedIn, sizes_of};
 ghost use Rattle.sources.specs.Prelude.{IsFirstUnexplained};
 ghost use Rattle.lrc_check.specs.Prelude.{AreLatestOf, IsChecked, IsExplainedFront, IsFront, IsTrafficOf};
 
 use crate::checked::{Checked, Unexplained};
-use journal::{Event, Journal, Kind, Traffic, uncut_law};
+use journal::{Event, Kind, Traffic, first_race_of, traffic_of};
 use judge::{IllFormed, Miscounted, Sizes, first_ill_formed, first_miscounted, lax_law, range_law};
 use sources::{Sources, first_unexplained};
 use std::alloc::{AllocError, Global};
@@ -72,23 +71,6 @@ fn unexplained(
     }
 }
 
-/// The history as a journal. The only error is running out of memory.
-fn journal_of(alloc: Global, sizes: Sizes, events: &[Event]) -> Result<Journal, AllocError>
-    requires sizes { AreSmall (sizes_of sizes) }
-    requires few { length events.now ≤ most_held }
-    requires processors { ProcessorsInRange sizes.processors events.now }
-    requires addresses { AddressesInRange (addresses (sizes_of sizes)) events.now }
-    ensures holds { IfOk result (λ j. HoldsHistory j events.now) }
-    ensures addresses { IfOk result (λ j. j.addresses ≡ addresses (sizes_of sizes)) }
-{
-    let mut journal = Journal::new(alloc, sizes.processors, addresses_of(sizes))?;
-    journal.reserve(events.len())?;
-    for place in 0..events.len() {
-        journal.append(events[place]);
-    }
-    Ok(journal)
-}
-
 /// The first race and the traffic of a history. The only error is running out of memory.
 fn race_and_traffic(
     alloc: Global,
@@ -102,10 +84,8 @@ fn race_and_traffic(
     ensures race { IfOk result (λ x. MatchOption x.0 (RaceFree events.now) (λ r. IsFirstRace events.now r.0 r.1)) }
     ensures traffic { IfOk result (λ x. IsTrafficOf events.now x.1) }
 {
-    uncut_law();
-    let journal = journal_of(alloc, sizes, events)?;
-    let race = journal.first_race()?;
-    Ok((race, journal.traffic()))
+    let race = first_race_of(alloc, sizes.processors, addresses_of(sizes), events)?;
+    Ok((race, traffic_of(events)))
 }
 
 /// The events before the one that is ill formed, or all where none is.

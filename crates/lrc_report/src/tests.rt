@@ -88,7 +88,7 @@ fn empty_report(rt: HostRuntime) -> Result<(), Fail> {
 const TEXT: &[u8] =
     b"word 0 7\nverdict race-free\ntraffic 2 0 0\nevent 0 0 store 0 7\nevent 1 0 arrive\nevent 2 0 depart\nevent 3 0 load 0 7\n";
 
-/// A writer that takes so many bytes, at most `most` in one write, and then none.
+/// A writer that takes that many bytes, at most `most` in one write, and then none.
 #[derive(Drop)]
 struct Slow {
     left: usize,
@@ -126,7 +126,7 @@ fn slow_writer(alloc: Global, left: usize, most: usize, flushes: bool) -> Slow {
     }
 }
 
-/// Checks that just this beginning of the report is written to a writer that takes so many bytes, and whether a fault
+/// Checks that just this beginning of the report is written to a writer that takes that many bytes, and whether a fault
 /// is told.
 fn check_slow<R: Abort>(rt: &R, alloc: Global, report: &Report, front: &[u8], flushes: bool) {
     let mut out = slow_writer(alloc, front.len(), 3, flushes);

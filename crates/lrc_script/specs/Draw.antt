@@ -44,12 +44,12 @@ abbrev pub piece : Style → Shape → Lcg → List Instruction × Lcg
 piece Guarded s g = group s g
 piece Free s g = item s g
 
--- so many pieces
+-- that many pieces
 unfoldable pub pieces : ℕ → Style → Shape → Lcg → List Instruction × Lcg
 pieces zero style s g = ([], g)
 pieces (suc n) style s g = let one = piece style s g in let rest = pieces n style s one.1 in (one.0 ++ rest.0, rest.1)
 
--- below so many pieces are in a phase
+-- below that many pieces are in a phase
 abbrev pub most_pieces : Style → ℕ
 most_pieces Guarded = 5
 most_pieces Free = 9
@@ -57,7 +57,7 @@ most_pieces Free = 9
 unfoldable pub phase : Style → Shape → Lcg → List Instruction × Lcg
 phase style s g = let n = below (most_pieces style) g in pieces n.0 style s n.1
 
--- so many barriers, each with a phase behind it
+-- that many barriers, each with a phase behind it
 unfoldable pub more_phases : ℕ → Style → Shape → Lcg → List Instruction × Lcg
 more_phases zero style s g = ([], g)
 more_phases (suc n) style s g =
@@ -71,7 +71,7 @@ section style s g =
     let rest = more_phases s.barriers style s first.1 in
     (first.0 ++ rest.0, rest.1)
 
--- so many sections
+-- that many sections
 unfoldable pub drawn_sections : ℕ → Style → Shape → Lcg → List (List Instruction) × Lcg
 drawn_sections zero style s g = ([], g)
 drawn_sections (suc n) style s g =

@@ -115,7 +115,7 @@ takes keyword.Await n = n == 1
 takes keyword.Cut n = n == 0
 takes _ n = false
 
--- which keywords are allowed at this point, with so many numbers
+-- which keywords are allowed at this point, with that many numbers
 abbrev pub is_due : Front → Keyword → ℕ → Bool
 is_due Nothing keyword.Cluster n = (n == 4) || (n == 5)
 is_due Nothing _ n = false

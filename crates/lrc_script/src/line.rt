@@ -5,6 +5,7 @@ ghost use Rattle.lrc_script.specs.Prelude.{HasNoLineFeed, Gives, IsCut, parts_of
 ghost use Rattle.lrc_script.specs.Prelude.{sum_of_digits, number_of, few_items, numbers_after};
 
 use crate::fault::ScriptFault;
+use memchr::memchr;
 use smallvec::SmallVec;
 use std::alloc::Global;
 
@@ -78,11 +79,8 @@ pub fn split_at_byte(bytes: &[u8], separator: u8) -> (&[u8], Option<&[u8]>)
 pub fn split_line(bytes: &[u8]) -> Option<(&[u8], &[u8])>
     ensures { MatchOption result (HasNoLineFeed bytes.now) (λ x. IsCut bytes.now x.0.now x.1.now) }
 {
-    let (line, rest) = split_at_byte(bytes, b'\n');
-    match rest {
-        Some(rest) => Some((line, rest)),
-        None => None,
-    }
+    let at = memchr(b'\n', bytes)?;
+    Some((&bytes[..at], &bytes[at + 1..]))
 }
 
 /// Whether exactly one space separates the words, with none at the beginning or end.

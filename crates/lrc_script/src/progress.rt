@@ -203,7 +203,7 @@ fn add(script: &Script, section: &mut Section, instruction: Instruction) -> Resu
 }
 
 impl Progress {
-    /// Whether a line with this keyword and so many numbers is allowed at this point.
+    /// Whether a line with this keyword and that many numbers is allowed at this point.
     fn is_due(&self, keyword: Keyword, numbers: usize) -> bool
         ensures { result ≡ is_due (front_of self.now) keyword numbers }
     {

@@ -13,14 +13,21 @@ use Rattle.lrc_script.specs.declared.fault.ScriptFault.{ScriptFault}
 use Rattle.lrc_script.specs.declared.fault.ScriptFault.TheVariants as script
 use Rattle.lrc_script.specs.Reading.{Fails, has_bytes, number_of, numbers_after, parts_of}
 use Rattle.lrc_script.proofs.Reading.Numbers.{AreWords, number_again, number_takes, numbers_refused, numbers_take}
-use Rattle.lrc_script.proofs.Reading.Words.{parts_from_split, split_from_parts}
+use Rattle.lrc_script.proofs.Reading.Words.{joined, parts_from_split, parts_whole, split_from_parts}
 use Rattle.traces.specs.declared.fault.TraceFault.{TraceFault}
 use Rattle.traces.specs.declared.names.Name.{Name}
 use Rattle.traces.specs.Names.{count_of, kind_from, name_of, numbers_of, word_of}
-use Rattle.traces.specs.Lines.{HasBadNumber, HasNoShape, IsEventLine, IsShaped}
+use Rattle.traces.specs.Lines.{GivesKind, HasBadNumber, HasNoShape, IsEventLine, IsShaped}
 use Rattle.traces.specs.Faults.{IsNoEvent, fault_from}
 use Rattle.traces.proofs.Called.{kind_counted, kind_takes, name_again, name_for, name_written}
 use Rattle.traces.proofs.Lines.{event_bytes, line_words}
+
+-- the first four words, and what is left
+pub four_words : (line : List ℕ) (w a b x : List ℕ) (l m n o : List (List ℕ)) → parts_of 32 line ≡ w ∷ l → l ≡ a ∷ m
+    → m ≡ b ∷ n → n ≡ x ∷ o → parts_of 32 line ≡ w ∷ a ∷ b ∷ x ∷ o
+four_words line w a b x l m n o first second third fourth =
+    first ∙ ap (λ (t : List (List ℕ)). w ∷ t) second ∙ ap (λ (t : List (List ℕ)). w ∷ a ∷ t) third
+    ∙ ap (λ (t : List (List ℕ)). w ∷ a ∷ b ∷ t) fourth
 
 -- what a comparison of words says
 pub words_differ : (a text b : List ℕ) (r : Bool) → r ≡ not (bytes_eq a text) → r ≡ true → text ≡ b → a ≢ b
@@ -162,11 +169,12 @@ kind_read line a b n ns ms h read none =
     ∙ ap (λ (x : List (List ℕ)). length x) (sym t.words_are) ∙ h.count in
     kind_counted n ms long none
 
--- what is read of an event's line
-pub event_found : (line a b : List ℕ) (n : Name) (ns : List (List ℕ)) (i p : ℕ) (ms : List ℕ) (k : Kind)
-    → IsShaped line a b n ns → number_of a ≡ Some i → number_of b ≡ Some p → numbers_after [] ns ≡ Ok ms
-    → kind_from n ms ≡ Some k → IsEventLine line i (record { processor = p; kind = k })
-event_found line a b n ns i p ms k h place processor read kind =
+-- what is read of an event's words
+event_whole : (line a b : List ℕ) (n : Name) (ns : List (List ℕ)) (i p : ℕ) (ms : List ℕ) (k : Kind)
+    → line ≡ joined 32 (codes "event") (a ∷ b ∷ word_of n ∷ ns) → number_of a ≡ Some i → number_of b ≡ Some p
+    → numbers_after [] ns ≡ Ok ms → kind_from n ms ≡ Some k
+    → IsEventLine line i (record { processor = p; kind = k })
+event_whole line a b n ns i p ms k whole place processor read kind =
     let e : Event = record { processor = p; kind = k } in
     let t = numbers_take [] ns ms read in
     let c = kind_takes n ms k kind in
@@ -181,8 +189,26 @@ event_found line a b n ns i p ms k h place processor read kind =
     ∙ ap (λ (x : List (List ℕ)). decimal i ∷ decimal p ∷ word_of (name_for k) ∷ x)
     (t.words_are ∙ ap (map decimal) (sym numbers)) in
     let bytes : line ≡ event_bytes i e =
-    h.split.whole ∙ ap (λ (x : List (List ℕ)). codes "event" ++ flat_map (λ v. 32 ∷ v) x) words in
+    whole ∙ ap (λ (x : List (List ℕ)). codes "event" ++ flat_map (λ v. 32 ∷ v) x) words in
     record {
       line_is = ap (λ (x : List ℕ). x ++ 10 ∷ []) bytes ∙ sym (line_words i e);
       small = (a-is.1, (b-is.1, subst AreWords (sym numbers) t.small));
     }
+
+-- what is read of an event's line
+pub event_found : (line a b : List ℕ) (n : Name) (ns : List (List ℕ)) (i p : ℕ) (ms : List ℕ) (k : Kind)
+    → IsShaped line a b n ns → number_of a ≡ Some i → number_of b ≡ Some p → numbers_after [] ns ≡ Ok ms
+    → kind_from n ms ≡ Some k → IsEventLine line i (record { processor = p; kind = k })
+event_found line a b n ns i p ms k h place processor read kind =
+    event_whole line a b n ns i p ms k h.split.whole place processor read kind
+
+-- what is read of its words, whose shape the numbers show
+pub event_quick : (line w a b x : List ℕ) (n : Name) (ns : List (List ℕ)) (i p : ℕ) (k : Kind)
+    → parts_of 32 line ≡ w ∷ a ∷ b ∷ x ∷ ns → w ≡ codes "event" → name_of x ≡ Some n → number_of a ≡ Some i
+    → number_of b ≡ Some p → GivesKind n ns k → IsEventLine line i (record { processor = p; kind = k })
+event_quick line w a b x n ns i p k parts event name place processor gives =
+    let parts' : parts_of 32 line ≡ codes "event" ∷ a ∷ b ∷ word_of n ∷ ns =
+    parts ∙ ap (λ (t : List ℕ). t ∷ a ∷ b ∷ x ∷ ns) event
+    ∙ ap (λ (t : List ℕ). codes "event" ∷ a ∷ b ∷ t ∷ ns) (name_written x n name) in
+    event_whole line a b n ns i p gives.numbers k
+    (parts_whole 32 line (codes "event") (a ∷ b ∷ word_of n ∷ ns) parts') place processor gives.read gives.kind

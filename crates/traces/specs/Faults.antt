@@ -45,7 +45,7 @@ IsPast BadFlag s (kind.Watch f) = s.flags ≤ f
 IsPast BadFlag s (kind.Await f) = s.flags ≤ f
 IsPast _ s k = ⊥
 
--- what a fault says of an event of this place behind so many others
+-- what a fault says of an event of this place behind that many others
 abbrev pub EventSays : TraceFault → Sizes → ℕ → ℕ → Event → Type 0
 EventSays BadPlace s count place e = place ≢ count
 EventSays BadProcessor s count place e = s.processors ≤ e.processor

@@ -1,22 +1,30 @@
 -- What a line of a trace is.
-use Rattle.std.specs.Prelude.{◌≡◌, ◌≢◌, ℕ, ◌^◌, ◌<◌, List, [], ◌∷◌, ◌++◌, length, codes, Contains}
+use Rattle.std.specs.Prelude.{◌≡◌, ◌≢◌, ℕ, ◌^◌, ◌<◌, List, [], ◌∷◌, ◌++◌, length, codes, Contains, Ok, Some}
 use Rattle.std.specs.List.{AllByRecursion}
 use Rattle.std.specs.Fmt.{decimal}
 use Rattle.lists.specs.Limits.{most_held}
 use Rattle.journal.specs.declared.event.Event.{Event}
+use Rattle.journal.specs.declared.event.Kind.{Kind}
 use Rattle.journal.specs.Sizes.{Sizes}
 use Rattle.journal.specs.WellFormed.{KindInRange}
 use Rattle.lrc_script.specs.Faults.{IsSplit}
+use Rattle.lrc_script.specs.Reading.{numbers_after}
 use Rattle.lrc_report.specs.ReportText.{cut_line, event_line}
 use Rattle.traces.specs.declared.names.Name.{Name}
 use Rattle.traces.specs.Lawful.{IsWithin}
-use Rattle.traces.specs.Names.{count_of, numbers_of, word_of}
+use Rattle.traces.specs.Names.{count_of, kind_from, numbers_of, word_of}
 
 -- the line is the word `event` and others, with one space before each: a place, a processor, a name, and as many
 -- words as the name has numbers
 pub record IsShaped (line place processor : List ℕ) (name : Name) (numbers : List (List ℕ)) : Type 0 where
   pub split : IsSplit line (codes "event") (place ∷ processor ∷ word_of name ∷ numbers)
   pub count : length numbers ≡ count_of name
+
+-- the words are numbers, and with these an event of this name did what k says
+pub record GivesKind (name : Name) (words : List (List ℕ)) (k : Kind) : Type 0 where
+  pub numbers : List ℕ
+  pub read : numbers_after [] words ≡ Ok numbers
+  pub kind : kind_from name numbers ≡ Some k
 
 -- no words make the line such a one
 abbrev pub HasNoShape : List ℕ → Type 0
@@ -47,7 +55,7 @@ pub record IsEventLine (line : List ℕ) (place : ℕ) (e : Event) : Type 0 wher
 abbrev pub IsCutLine : List ℕ → Type 0
 IsCutLine line = (n : ℕ) × (0 < n) × (n < 2 ^ 32) × (line ++ 10 ∷ [] ≡ cut_line n)
 
--- an event of this place may stand behind so many others
+-- an event of this place may stand behind that many others
 pub record IsDue (s : Sizes) (count place : ℕ) (e : Event) : Type 0 where
   pub place_is : place ≡ count
   pub processor : e.processor < s.processors

@@ -1,15 +1,17 @@
 //! One line of a trace.
-ghost use Rattle.std.specs.Prelude.{◌≡◌, IsTrue, ◌↔◌, [], ◌∷◌, IfOk, IfErr, OnOk, MatchOption};
+ghost use Rattle.std.specs.Prelude.{◌≡◌, IsTrue, ◌↔◌, [], ◌∷◌, IfOk, IfErr, IfSome, OnOk, MatchOption};
 ghost use Rattle.lrc_script.specs.Prelude.{AreSizes, parts_left};
-ghost use Rattle.traces.specs.Prelude.{HasNoShape, IsAdded, IsCutLine, IsEventLine, IsNoEvent, IsShaped, Refuses};
-ghost use Rattle.traces.specs.Prelude.{head, sizes_of};
+ghost use Rattle.traces.specs.Prelude.{GivesKind, HasNoShape, IsAdded, IsCutLine, IsEventLine, IsNoEvent, IsShaped};
+ghost use Rattle.traces.specs.Prelude.{Refuses, head, sizes_of};
 
 use crate::fault::TraceFault;
 use crate::names::Name;
 use crate::range::event_fault;
 use crate::trace::Sizes;
-use journal::Event;
-use lrc_script::line::{is_separated, number, number_count, read_numbers, split_at_byte};
+use journal::{Event, Kind};
+use lrc_script::line::{
+    few_numbers, is_separated, number, number_count, read_numbers, split_at_byte,
+};
 use std::alloc::Global;
 
 /// The words of an event's line, behind the first.
@@ -59,8 +61,41 @@ fn words_of(line: &[u8]) -> Option<Words<'_>>
     })
 }
 
-/// The event of a line, and the place that the line gives it.
-fn read_event(alloc: Global, line: &[u8]) -> Result<(usize, Event), TraceFault>
+/// What an event of this name did, where the words are numbers, and as many as stand behind the name.
+fn kind_of(alloc: Global, name: Name, words: Option<&[u8]>) -> Option<Kind>
+    ensures { IfSome result (GivesKind name (parts_left 32 words.entry)) }
+{
+    if let Some(few) = few_numbers(words) {
+        return name.kind(few.as_slice());
+    }
+    match read_numbers(alloc, words) {
+        Ok(numbers) => name.kind(numbers.as_slice()),
+        Err(_) => None,
+    }
+}
+
+/// The event of a line, and the place that the line gives it. It goes over each word twice at most, and doesn't say
+/// what is wrong: it answers None for each fault, and where memory runs out.
+fn quick_event(alloc: Global, line: &[u8]) -> Option<(usize, Event)>
+    ensures { IfSome result (λ x. IsEventLine line.now x.0 x.1) }
+{
+    let (first, rest) = split_at_byte(line, b' ');
+    if first != b"event".as_slice() {
+        return None;
+    }
+    let (place, rest) = next_word(rest)?;
+    let (processor, rest) = next_word(rest)?;
+    let (word, numbers) = next_word(rest)?;
+    let name = Name::of(word)?;
+    let at = number(place)?;
+    let by = number(processor)?;
+    let kind = kind_of(alloc, name, numbers)?;
+    let processor = by as usize;
+    Some((at as usize, Event { processor, kind }))
+}
+
+/// The event of a line, and the place that the line gives it, or what is wrong with the line.
+fn event_or_fault(alloc: Global, line: &[u8]) -> Result<(usize, Event), TraceFault>
     ensures found { IfOk result (λ x. IsEventLine line.now x.0 x.1) }
     ensures fault { IfErr result (λ e. IsNoEvent e line.now) }
 {
@@ -82,6 +117,18 @@ fn read_event(alloc: Global, line: &[u8]) -> Result<(usize, Event), TraceFault>
     };
     let processor = processor as usize;
     Ok((place as usize, Event { processor, kind }))
+}
+
+/// The event of a line, and the place that the line gives it. Only a line that isn't read quickly is looked at for its
+/// fault.
+fn read_event(alloc: Global, line: &[u8]) -> Result<(usize, Event), TraceFault>
+    ensures found { IfOk result (λ x. IsEventLine line.now x.0 x.1) }
+    ensures fault { IfErr result (λ e. IsNoEvent e line.now) }
+{
+    match quick_event(alloc, line) {
+        Some(found) => Ok(found),
+        None => event_or_fault(alloc, line),
+    }
 }
 
 /// Whether the line tells how many events were cut off.

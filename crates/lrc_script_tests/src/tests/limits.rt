@@ -8,7 +8,7 @@ use lrc_script::script::{Instruction, MOST_BYTES, Script, parse};
 use std::alloc::{AllocError, Global};
 use std::test::Fail;
 
-/// The bytes of `front`, of `item` so often, and of `back`.
+/// The bytes of `front`, of `item` that many times, and of `back`.
 fn repeated(
     alloc: Global,
     front: &str,

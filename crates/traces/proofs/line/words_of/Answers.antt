@@ -1,6 +1,6 @@
 use Rattle.std.proofs.Common.{◌≡◌, List, ◌∷◌, ℕ, sym, ap, ◌∙◌, arith}
 use Rattle.lrc_script.specs.Reading.{parts_of}
-use Rattle.traces.proofs.Shapes.{shaped_from, unshaped_words, unshaped_short, unshaped_name, unshaped_count, words_same}
+use Rattle.traces.proofs.Shapes.{four_words, shaped_from, unshaped_words, unshaped_short, unshaped_name, unshaped_count, words_same}
 use Rattle.traces.proofs.line.words_of.Goals as goal
 
 -- the first words, and what is left
@@ -37,25 +37,18 @@ returns-in_err-word c =
     c.in_err-word.ensures))
     (omega arith))
 
--- all of them
-five : (line : List ℕ) (w a b x : List ℕ) (l m n o : List (List ℕ)) → parts_of 32 line ≡ w ∷ l → l ≡ a ∷ m
-    → m ≡ b ∷ n → n ≡ x ∷ o → parts_of 32 line ≡ w ∷ a ∷ b ∷ x ∷ o
-five line w a b x l m n o first second third fourth =
-    first ∙ ap (λ (t : List (List ℕ)). w ∷ t) second ∙ ap (λ (t : List (List ℕ)). w ∷ a ∷ t) third
-    ∙ ap (λ (t : List (List ℕ)). w ∷ a ∷ b ∷ t) fourth
-
 pub returns-in_err-name : goal.returns-in_err-name
 returns-in_err-name c =
     rw c.from_residual-in_err-name.ensures
     (unshaped_name c.args.line.now _ _ _ c.in_ok-word.word.now _
-    (five c.args.line.now _ _ _ _ _ _ _ _ c.split_at_byte.ensures.parts c.in_ok-place.ensures
+    (four_words c.args.line.now _ _ _ _ _ _ _ _ c.split_at_byte.ensures.parts c.in_ok-place.ensures
     c.in_ok-processor.ensures c.in_ok-word.ensures)
     (sym c.of.ensures ∙ c.in_err-name.was))
 
 pub returns-then-number_count-numbers : goal.returns-then-number_count-numbers
 returns-then-number_count-numbers c =
     unshaped_count c.args.line.now _ _ _ c.in_ok-word.word.now c.in_ok-name.name _
-    (five c.args.line.now _ _ _ _ _ _ _ _ c.split_at_byte.ensures.parts c.in_ok-place.ensures
+    (four_words c.args.line.now _ _ _ _ _ _ _ _ c.split_at_byte.ensures.parts c.in_ok-place.ensures
     c.in_ok-processor.ensures c.in_ok-word.ensures)
     (sym c.of.ensures ∙ c.in_ok-name.was)
     (λ same. c.if-number_count-numbers.true (c.number_count.ensures ∙ same ∙ sym c.numbers.ensures))
@@ -63,7 +56,7 @@ returns-then-number_count-numbers c =
 pub returns : goal.returns
 returns c =
     shaped_from c.args.line.now _ _ _ c.in_ok-word.word.now c.in_ok-name.name _
-    (five c.args.line.now _ _ _ _ _ _ _ _ c.split_at_byte.ensures.parts c.in_ok-place.ensures
+    (four_words c.args.line.now _ _ _ _ _ _ _ _ c.split_at_byte.ensures.parts c.in_ok-place.ensures
     c.in_ok-processor.ensures c.in_ok-word.ensures)
     (sym c.is_separated.ensures ∙ c.if-not-is_separated.false)
     (words_same _ _ _ _ c.ne.ensures c.if-ne.false c.as_slice.ensures) (sym c.of.ensures ∙ c.in_ok-name.was)

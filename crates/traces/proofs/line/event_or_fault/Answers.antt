@@ -1,7 +1,7 @@
 use Rattle.std.proofs.Common.{ap, sym, ◌∙◌}
 use Rattle.traces.specs.Names.{kind_from}
 use Rattle.traces.proofs.Shapes.{bad_place, bad_processor, event_found, kind_read, numbers_fault}
-use Rattle.traces.proofs.line.read_event.Goals as goal
+use Rattle.traces.proofs.line.event_or_fault.Goals as goal
 
 pub returns-in_default-number-clause-fault : goal.returns-in_default-number-clause-fault
 returns-in_default-number-clause-fault c =
