@@ -1,0 +1,4 @@
+pub mod Beginnings
+pub mod Calling
+pub mod Laws
+pub mod Prelude

@@ -1,0 +1,57 @@
+-- Two next events that conflict race, and a history is cut after its first race.
+use Rattle.std.proofs.Common.{ℕ, ◌≡◌, ◌+◌, ◌<◌, ◌≤◌, List, [], ◌∷◌, ◌++◌, Option, Some, length, take, drop, refl, sym, ap, subst, ◌∙◌, arith}
+use Rattle.std.specs.Prelude.{None, IsSome, MatchOption}
+use Rattle.std.specs.Global.{Vec}
+use Rattle.std.proofs.lemmas.List.{length-take, take-append-drop}
+use Rattle.journal.specs.declared.event.Event.{Event}
+use Rattle.journal.specs.declared.event.Kind.{Kind}
+use Rattle.journal.specs.Did.{did, event}
+use Rattle.journal.specs.Races.{IsFirstRace, Race, RaceFree}
+use Rattle.journal.proofs.Bases.Races.{race_shorter}
+use Rattle.journal.proofs.Order.HappensBefore.{shorter}
+use Rattle.journal.proofs.Order.Places.{at_longer, at_within}
+use Rattle.lrc_script.specs.Plan.{Plan}
+use Rattle.beginnings.specs.Beginnings.{IsFlatBeginning}
+use Rattle.beginnings.proofs.Beginnings.{front_begins}
+
+-- a race of a front is one of the whole
+race_longer : (c j : List Event) (i k : ℕ) → Race c i k → Race (c ++ j) i k
+race_longer c j i k r = record {
+  before = r.before;
+  first = r.first;
+  second = r.second;
+  first_at = at_longer c j i r.first r.first_at;
+  second_at = at_longer c j k r.second r.second_at;
+  apart = r.apart;
+  conflict = r.conflict;
+  unordered = λ h. r.unordered (shorter c j (at_within c k r.second r.second_at) h);
+}
+
+first_shorter : (c j : List Event) (i k : ℕ) → k < length c → IsFirstRace (c ++ j) i k → IsFirstRace c i k
+first_shorter c j i k lt first = record {
+  race = race_shorter c j i k lt first.race;
+  least_second = λ m n r. first.least_second m n (race_longer c j m n r);
+  least_first = λ m r. first.least_first m (race_longer c j m k r);
+}
+
+pub length_front : (es : List Event) (k : ℕ) → k < length es → length (take (k + 1) es) ≡ k + 1
+length_front es k lt = length-take (k + 1) es ∙ omega arith
+
+-- so the first race of a history is that of its front up to it
+pub first_of_front : (es : List Event) (i k : ℕ) → k < length es → IsFirstRace es i k → IsFirstRace (take (k + 1) es) i k
+first_of_front es i k lt first =
+    let long = length_front es k lt in
+    first_shorter (take (k + 1) es) (drop (k + 1) es) i k (omega arith)
+    (subst (λ xs. IsFirstRace xs i k) (sym (take-append-drop (k + 1) es)) first)
+
+pub front_is_beginning : (s : Plan) (es : List Event) (n : ℕ) → IsFlatBeginning s es → IsFlatBeginning s (take n es)
+front_is_beginning s es n begins =
+    front_begins s (take n es) (drop n es) (subst (IsFlatBeginning s) (sym (take-append-drop n es)) begins)
+
+-- what is there where one of two cases is not so
+pub is_there : {A : Type 0} (o : Option A) (P : Type 0) (Q : A → Type 0) → MatchOption o P Q → ¬ P → IsSome o
+is_there None P Q h isnt = absurd (isnt h)
+is_there (Some x) P Q h isnt = refl
+
+pub told : {A : Type 0} (o : Option A) (x : A) (P : Type 0) (Q : A → Type 0) → o ≡ Some x → MatchOption o P Q → Q x
+told o x P Q is h = subst (λ p. MatchOption p P Q) is h

@@ -1,0 +1,175 @@
+-- What is found, with a state more.
+-- A state that is there stays at its place; a new one comes from an earlier one, and what it comes to is known.
+use Rattle.std.proofs.Common.{ℕ, zero, suc, ◌≡◌, ◌+◌, ◌<◌, ◌≤◌, inl, inr, List, [], ◌∷◌, ◌++◌, Option, Some, length, slice_get, refl, sym, ap, subst, ◌∙◌, length-append, arith}
+use Rattle.std.specs.Prelude.{None}
+use Rattle.std.proofs.lemmas.Option.{same_Some, none-some, slice_get_within}
+use Rattle.lists.proofs.Places.{push_cases, slice_get-append_left, slice_get-last}
+use Rattle.journal.specs.declared.event.Event.{Event}
+use Rattle.journal.specs.declared.event.Kind.{Kind}
+use Rattle.journal.specs.Did.{did, event}
+use Rattle.lrc_script.specs.Plan.{Plan}
+use Rattle.beginnings.specs.Beginnings.{IsFlatBeginning}
+use Rattle.explore.specs.declared.found.Found.{Found}
+use Rattle.explore.specs.declared.found.Origin.{Origin}
+use Rattle.explore.specs.declared.machine.Machine.{Machine}
+use Rattle.explore.specs.Found.{AreFound, ComesFrom, GoesOn, IsAdded, IsAfter, IsFollowed, IsKnown, Keeps, WasPushed, WasThere, states_of}
+use Rattle.explore.specs.Machines.{IsLike, Knows}
+use Rattle.explore.proofs.Likes.{knows_like}
+
+-- states that are pushed on
+pub keeps_push : (old new : List Machine) (m : Machine) → new ≡ old ++ m ∷ [] → Keeps old new
+keeps_push old new m is place f at =
+    ap (λ ms. slice_get ms place) is
+    ∙ (slice_get-append_left old (m ∷ []) place (slice_get_within old place f at) ∙ at)
+
+pub known_kept : (s : Plan) (old new : List Machine) (g : List Event) → Keeps old new → IsKnown s old g → IsKnown s new g
+known_kept s old new g keeps known = record {
+  place = known.place;
+  state = known.state;
+  at = keeps known.place known.state known.at;
+  knows = known.knows;
+}
+
+-- where a state comes from stays so
+comes_kept : (s : Plan) (old new : List Machine) (place : ℕ) (m : Machine) (o : Option Origin) → Keeps old new
+    → place ≤ length old → ComesFrom s old place m o → ComesFrom s new place m o
+comes_kept s old new place m None keeps within from = from
+comes_kept s old new place m (Some o) keeps within from = record {
+  earlier = from.earlier;
+  after = λ f g at knows.
+      let lt = from.earlier in
+      let here = there old o.from (omega arith) in
+      let same = same_Some here.0 f (sym (keeps o.from here.0 here.1) ∙ at) in
+      from.after f g (subst (λ x. slice_get old o.from ≡ Some x) same here.1) knows;
+}
+  where
+    there : (xs : List Machine) (k : ℕ) → k < length xs → (x : Machine) × (slice_get xs k ≡ Some x)
+    there [] k lt = absurd (omega arith)
+    there (x ∷ xs) zero lt = (x, refl)
+    there (x ∷ xs) (suc k) lt = there xs k (omega arith)
+
+-- a state that comes from somewhere is pushed on
+module _ (s : Plan) (x y : Found) (m : Machine) (o : Option Origin) (pushed : WasPushed x y m o) where
+  pushed_keeps : Keeps (states_of x) (states_of y)
+  pushed_keeps = keeps_push (states_of x) (states_of y) m pushed.states
+
+  pushed_at : slice_get (states_of y) (length (states_of x)) ≡ Some m
+  pushed_at = ap (λ ms. slice_get ms (length (states_of x))) pushed.states ∙ slice_get-last (states_of x) m
+
+  pub pushed_found : AreFound s x → (g : List Event) → Knows s g m → ComesFrom s (states_of x) (length (states_of x)) m o
+      → AreFound s y
+  pushed_found old g knows from = record {
+    long = (
+        let before = old.long in
+        let states = ap (λ (ms : List Machine). length ms) pushed.states in
+        let origins = ap (λ (os : List (Option Origin)). length os) pushed.origins in
+        let one = length-append (states_of x) (m ∷ []) in
+        let two = length-append x.origins.items (o ∷ []) in
+        omega arith);
+    known = λ place f at. elim (push_cases (states_of x) m place f (ap (λ ms. slice_get ms place) (sym pushed.states) ∙ at)) [
+      | inl before ↦ old.known place f before.1
+      | inr now ↦ (g, subst (Knows s g) now.1 knows)
+    ];
+    come = λ place f p at from_at.
+        elim (push_cases (states_of x) m place f (ap (λ ms. slice_get ms place) (sym pushed.states) ∙ at)) [
+          | inl before ↦
+              elim (push_cases x.origins.items o place p (ap (λ os. slice_get os place) (sym pushed.origins) ∙ from_at)) [
+                | inl was ↦
+                    (let lt = before.0 in
+                    comes_kept s (states_of x) (states_of y) place f p pushed_keeps (omega arith)
+                    (old.come place f p before.1 was.1))
+                | inr wrong ↦ (let lt = before.0 in let is = wrong.0 in let long = old.long in absurd (omega arith))
+              ]
+          | inr now ↦
+              elim (push_cases x.origins.items o place p (ap (λ os. slice_get os place) (sym pushed.origins) ∙ from_at)) [
+                | inl wrong ↦ (let lt = wrong.0 in let is = now.0 in let long = old.long in absurd (omega arith))
+                | inr mine ↦
+                    subst (λ q. ComesFrom s (states_of y) place f q) mine.1
+                    (subst (λ q. ComesFrom s (states_of y) place q o) now.1
+                    (subst (λ n. ComesFrom s (states_of y) n m o) (sym now.0)
+                    (comes_kept s (states_of x) (states_of y) (length (states_of x)) m o pushed_keeps (omega arith) from)))
+              ]
+        ];
+    first = known_kept s (states_of x) (states_of y) [] pushed_keeps old.first;
+  }
+
+  pub pushed_known : (g : List Event) → Knows s g m → IsKnown s (states_of y) g
+  pushed_known g knows = record { place = length (states_of x); state = m; at = pushed_at; knows = knows }
+
+-- a state that was there
+module _ (s : Plan) (x y : Found) (m : Machine) (was : WasThere x y m) where
+  there_keeps : Keeps (states_of x) (states_of y)
+  there_keeps place f at = ap (λ ms. slice_get ms place) was.states ∙ at
+
+  pub there_found : AreFound s x → AreFound s y
+  there_found old = record {
+    long = ap (λ (os : List (Option Origin)). length os) was.origins ∙ old.long
+        ∙ ap (λ (ms : List Machine). length ms) (sym was.states);
+    known = λ place f at. old.known place f (ap (λ ms. slice_get ms place) (sym was.states) ∙ at);
+    come = λ place f p at from_at.
+        subst (λ ms. ComesFrom s ms place f p) (sym was.states)
+        (old.come place f p (ap (λ ms. slice_get ms place) (sym was.states) ∙ at)
+        (ap (λ os. slice_get os place) (sym was.origins) ∙ from_at));
+    first = known_kept s (states_of x) (states_of y) [] there_keeps old.first;
+  }
+
+  pub there_known : (g : List Event) → Knows s g m → IsKnown s (states_of y) g
+  there_known g knows = record {
+    place = was.place;
+    state = was.state;
+    at = ap (λ ms. slice_get ms was.place) was.states ∙ was.at;
+    knows = knows_like s g m was.state was.like knows;
+  }
+
+-- what a state comes to is found
+pub followed : (s : Plan) (x y : Found) (place p : ℕ) (k : Kind) (f m : Machine) → AreFound s x
+    → slice_get (states_of x) place ≡ Some f → GoesOn s f p k
+    → ((g : List Event) → Knows s g f → IsFlatBeginning s (did g p k) → Knows s (did g p k) m)
+    → IsAdded x y m (Some (record { from = place; event = event p k })) → IsFollowed s x y place p k
+followed s x y place p k f m old at goes steps (inl was) = record {
+  keeps = there_keeps s x y m was;
+  found = there_found s x y m was old;
+  known = λ h g here knows.
+      let same = same_Some h f (sym here ∙ at) in
+      let mine = subst (Knows s g) same knows in
+      there_known s x y m was (did g p k) (steps g mine (goes g mine));
+}
+followed s x y place p k f m old at goes steps (inr pushed) = record {
+  keeps = pushed_keeps s x y m _ pushed;
+  found =
+      (let first = old.known place f at in
+      pushed_found s x y m _ pushed old (did first.0 p k) (steps first.0 first.1 (goes first.0 first.1))
+      (record {
+        earlier = slice_get_within (states_of x) place f at;
+        after = λ h g here knows.
+            let mine = subst (Knows s g) (same_Some h f (sym here ∙ at)) knows in
+            steps g mine (goes g mine);
+      }));
+  known = λ h g here knows.
+      let mine = subst (Knows s g) (same_Some h f (sym here ∙ at)) knows in
+      pushed_known s x y m _ pushed (did g p k) (steps g mine (goes g mine));
+}
+
+-- the first state alone
+pub first_found : (s : Plan) (x y : Found) (m : Machine) → states_of x ≡ [] → x.origins.items ≡ [] → Knows s [] m
+    → IsAdded x y m None → AreFound s y
+first_found s x y m states origins knows (inl was) =
+    absurd (none-some was.state (sym (ap (λ ms. slice_get ms was.place) states) ∙ was.at))
+first_found s x y m states origins knows (inr pushed) =
+    let all = pushed.states ∙ ap (λ ms. ms ++ m ∷ []) states in
+    let from = pushed.origins ∙ ap (λ os. os ++ None ∷ []) origins in
+    record {
+      long = ap (λ (os : List (Option Origin)). length os) from ∙ ap (λ (ms : List Machine). length ms) (sym all);
+      known = λ place f at. (
+        [],
+        subst (Knows s []) (only m place f (ap (λ ms. slice_get ms place) (sym all) ∙ at)) knows,
+      );
+      come = λ place f p at from_at.
+          subst (λ q. ComesFrom s (states_of y) place f q) (only None place p (ap (λ os. slice_get os place) (sym from) ∙ from_at))
+          (subst (Knows s []) (only m place f (ap (λ ms. slice_get ms place) (sym all) ∙ at)) knows);
+      first = record { place = 0; state = m; at = ap (λ ms. slice_get ms 0) all; knows = knows };
+    }
+  where
+    only : {A : Type 0} (a : A) (place : ℕ) (b : A) → slice_get (a ∷ []) place ≡ Some b → a ≡ b
+    only a zero b at = same_Some a b at
+    only a (suc place) b at = absurd (none-some b at)

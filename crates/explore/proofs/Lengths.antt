@@ -1,0 +1,157 @@
+-- How long beginnings of a lawful script are.
+-- Each event is a call of its processor, a processor's calls are no more than its steps, and an instruction has two
+-- steps at most. So a journal can hold them all.
+use Rattle.std.proofs.Common.{ℕ, zero, suc, ◌≡◌, ◌≢◌, ◌+◌, ◌*◌, ◌<◌, ◌≤◌, inl, inr, List, [], ◌∷◌, ◌++◌, Bool, true, false, cond, ◌==◌, All, length, Some, slice_get, slice_index_or, refl, sym, ap, subst, ◌∙◌, length-append, append-nil, arith}
+use Rattle.std.proofs.lemmas.Bool.{cases_eq}
+use Rattle.std.proofs.lemmas.Option.{same_Some, slice_get-get_or, slice_get_within}
+use Rattle.std.proofs.lemmas.List.Elements.{All-get_or}
+use Rattle.lists.specs.Limits.{most_held}
+use Rattle.lists.proofs.Places.{push_induction}
+use Rattle.journal.specs.declared.event.Event.{Event}
+use Rattle.journal.specs.declared.event.Kind.{Kind}
+use Rattle.journal.specs.Did.{did, event}
+use Rattle.journal.specs.InRange.{ProcessorsInRange}
+use Rattle.journal.proofs.Order.Places.{at_last, at_longer}
+use Rattle.lrc_script.specs.declared.script.Instruction.{Instruction}
+use Rattle.lrc_script.specs.declared.script.Instruction.TheVariants.{Load, Store, Add, Acquire, Release, Barrier, Set, Await, Cut}
+use Rattle.lrc_script.specs.Plan.{Plan}
+use Rattle.lrc_script.specs.Lawful.{IsLawful, IsSection}
+use Rattle.follows.specs.Begins.{BeginsSection}
+use Rattle.follows.specs.Follows.{calls_of, FollowsSection}
+use Rattle.follows.specs.Recomputed.{HasNoFetch}
+use Rattle.follows.proofs.Calls.{calls_of-own, calls_of-other}
+use Rattle.beginnings.specs.Beginnings.{IsFlatBeginning}
+use Rattle.beginnings.specs.Calling.{load_steps, section_steps, shown_by, steps_of, steps_of_all}
+use Rattle.beginnings.proofs.Calling.{follows_length}
+
+-- steps of instructions
+two_at_most : (i : Instruction) → length (steps_of i) ≤ 2
+two_at_most (Load a) = omega arith
+two_at_most (Store a v) = omega arith
+two_at_most (Add a v) = omega arith
+two_at_most (Acquire l) = omega arith
+two_at_most (Release l) = omega arith
+two_at_most Barrier = omega arith
+two_at_most (Set f) = omega arith
+two_at_most (Await f) = omega arith
+two_at_most Cut = omega arith
+
+steps_few : (is : List Instruction) → length (steps_of_all is) ≤ 2 * length is
+steps_few [] = omega arith
+steps_few (i ∷ is) =
+    let one = two_at_most i in
+    let rest = steps_few is in
+    let both = length-append (steps_of i) (steps_of_all is) in
+    omega arith
+
+loads_few : (shown : List ℕ) → length (load_steps shown) ≡ length shown
+loads_few [] = refl
+loads_few (a ∷ shown) = ap suc (loads_few shown)
+
+section_few : (section : List Instruction) (shown : List ℕ) → length section ≤ 10000 → length shown ≤ 64
+    → length (section_steps section shown) ≤ 20066
+section_few section shown few shows =
+    let own = steps_few section in
+    let loads = loads_few shown in
+    let both = length-append (steps_of_all section) (section_steps [] shown) in
+    omega arith
+
+-- calls that begin a section
+pub begun_few : (section : List Instruction) (shown : List ℕ) (kinds : List Kind) → BeginsSection section shown kinds
+    → length kinds ≤ length (section_steps section shown)
+begun_few section shown kinds begins =
+    let whole = follows_length section shown (kinds ++ begins.rest)
+    (record { rest = []; follows = subst (FollowsSection section shown) (sym (append-nil (kinds ++ begins.rest))) begins.follows }) in
+    let long = whole.0 begins.follows in
+    let both = length-append kinds begins.rest in
+    omega arith
+
+-- the sum of the first n
+abbrev total : (ℕ → ℕ) → ℕ → ℕ
+total f zero = 0
+total f (suc n) = total f n + f n
+
+total_zero : (n : ℕ) → total (λ _. 0) n ≡ 0
+total_zero zero = refl
+total_zero (suc n) = let rest = total_zero n in omega arith
+
+total_same : (f h : ℕ → ℕ) (n : ℕ) → ((q : ℕ) → q < n → h q ≡ f q) → total h n ≡ total f n
+total_same f h zero same = refl
+total_same f h (suc n) same =
+    let rest = total_same f h n (λ q lt. same q (omega arith)) in
+    let one = same n (omega arith) in
+    omega arith
+
+total_more : (f h : ℕ → ℕ) (n p : ℕ) → p < n → h p ≡ suc (f p) → ((q : ℕ) → p ≢ q → h q ≡ f q)
+    → total h n ≡ suc (total f n)
+total_more f h zero p lt more others = absurd (omega arith)
+total_more f h (suc n) p lt more others = elim (cases_eq p n) [
+  | inl is ↦
+      (let rest = total_same f h n (λ q less. others q (λ same. absurd (omega arith))) in
+      let one = subst (λ m. h m ≡ suc (f m)) is more in
+      omega arith)
+  | inr isnt ↦
+      (let rest = total_more f h n p (omega arith) more others in
+      let one = others n isnt in
+      omega arith)
+]
+
+total_few : (f : ℕ → ℕ) (n most : ℕ) → ((q : ℕ) → q < n → f q ≤ most) → total f n ≤ n * most
+total_few f zero most few = omega arith
+total_few f (suc n) most few =
+    let rest = total_few f n most (λ q lt. few q (omega arith)) in
+    let one = few n (omega arith) in
+    omega arith
+
+-- each event is its processor's call
+length_total : (n : ℕ) (g : List Event) → HasNoFetch g → ProcessorsInRange n g
+    → length g ≡ total (λ p. length (calls_of g p)) n
+length_total n = push_induction (λ (g : List Event). HasNoFetch g → ProcessorsInRange n g
+    → length g ≡ total (λ p. length (calls_of g p)) n) (λ none within. sym (total_zero n)) step
+  where
+    step : (g : List Event) (e : Event)
+        → (HasNoFetch g → ProcessorsInRange n g → length g ≡ total (λ p. length (calls_of g p)) n)
+        → HasNoFetch (g ++ e ∷ []) → ProcessorsInRange n (g ++ e ∷ [])
+        → length (g ++ e ∷ []) ≡ total (λ p. length (calls_of (g ++ e ∷ []) p)) n
+    step g e old none within =
+        let before = old (λ i f at. none i f (at_longer g (e ∷ []) i f at)) (λ i f at. within i f (at_longer g (e ∷ []) i f at)) in
+        let call = none (length g) e (at_last g e) in
+        let mine : length (calls_of (g ++ e ∷ []) e.processor) ≡ suc (length (calls_of g e.processor)) =
+        (let own = ap (λ (ks : List Kind). length ks) (calls_of-own g e.processor e.kind call) in
+        let both = length-append (calls_of g e.processor) (e.kind ∷ []) in omega arith) in
+        let more = total_more (λ p. length (calls_of g p)) (λ p. length (calls_of (g ++ e ∷ []) p)) n e.processor
+        (within (length g) e (at_last g e)) mine
+        (λ q apart. ap (λ (ks : List Kind). length ks) (calls_of-other g e.processor q e.kind apart)) in
+        let longer = length-append g (e ∷ []) in
+        omega arith
+
+shown_few : (s : Plan) (p : ℕ) → IsLawful s → length (shown_by s p) ≤ 64
+shown_few s p lawful = go (p == 0)
+  where
+    go : (b : Bool) → length (cond b s.shown []) ≤ 64
+    go true = lawful.but_uneven.most_shown
+    go false = omega arith
+
+-- no processor calls more than its section says
+pub calls_few : (s : Plan) (g : List Event) (p : ℕ) → IsLawful s → IsFlatBeginning s g → p < s.processors
+    → length (calls_of g p) ≤ 20066
+calls_few s g p lawful begins lt =
+    let long = lawful.but_uneven.one_each in
+    let within : p < length s.sections = omega arith in
+    let section = slice_index_or s.sections p [] in
+    let is = All-get_or (IsSection s) s.sections p [] within lawful.but_uneven.sections in
+    let begun = begun_few section (shown_by s p) (calls_of g p) (begins.begins p section (slice_get-get_or s.sections p [] within)) in
+    let few = section_few section (shown_by s p) is.most (shown_few s p lawful) in
+    omega arith
+
+-- the processors of a beginning
+pub processors_of : (s : Plan) (g : List Event) → IsFlatBeginning s g → ProcessorsInRange s.processors g
+processors_of s g begins i e at = (begins.well_formed i e at).processor
+
+-- a journal can hold a beginning
+pub history_few : (s : Plan) (g : List Event) → IsLawful s → IsFlatBeginning s g → length g < most_held
+history_few s g lawful begins =
+    let is = length_total s.processors g begins.no_fetch (processors_of s g begins) in
+    let few = total_few (λ p. length (calls_of g p)) s.processors 20066 (λ q lt. calls_few s g q lawful begins lt) in
+    let most = lawful.but_uneven.sizes.most_processors in
+    omega arith

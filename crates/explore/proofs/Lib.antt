@@ -1,0 +1,16 @@
+pub mod Asked
+pub mod Queued
+pub mod Following
+pub mod Proper
+pub mod Replies
+pub mod Lengths
+pub mod Likes
+pub mod Machines
+pub mod Clones
+pub mod Equals
+pub mod Followed
+pub mod FollowedAll
+pub mod FirstRaces
+pub mod Searched
+pub mod Determined
+pub mod Counted

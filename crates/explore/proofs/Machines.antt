@@ -1,0 +1,276 @@
+-- What a machine may do next, and what it knows after that.
+use Rattle.std.proofs.Common.{ℕ, zero, suc, ◌≡◌, ◌≢◌, ◌+◌, ◌*◌, ◌<◌, ◌≤◌, ◌↔◌, inl, inr, List, [], ◌∷◌, ◌++◌, Bool, true, false, cond, ◌==◌, All, length, fold, filter, map, replicate, Option, Some, slice_get, slice_index, slice_index_or, slice_set, get_or-set_same, get_or-set_other, refl, sym, ap, subst, ◌∙◌, length-append, arith}
+use Rattle.std.specs.Prelude.{None, ◌%◌, ◌^◌}
+use Rattle.std.specs.Global.{Vec}
+use Rattle.std.proofs.lemmas.Bool.{cases_eq, false≢true}
+use Rattle.std.proofs.lemmas.Option.{none-some, same_Some, slice_get-get_or, slice_get_within}
+use Rattle.std.proofs.lemmas.List.{length-replicate}
+use Rattle.std.proofs.lemmas.List.Elements.{All-get_or}
+use Rattle.lists.specs.Writes.{wrote}
+use Rattle.lists.proofs.LastWrites.{length-written, written-append}
+use Rattle.journal.specs.declared.event.Event.{Event}
+use Rattle.journal.specs.declared.event.Kind.{Kind}
+use Rattle.journal.specs.declared.event.Kind.TheVariants as kind
+use Rattle.journal.specs.Did.{did, event}
+use Rattle.journal.specs.Flat.{AnswersWord, flat_write, memory_after}
+use Rattle.journal.specs.InRange.{AddressInRange}
+use Rattle.journal.specs.Sizes.{Sizes}
+use Rattle.journal.specs.WellFormed.{KindInRange, MayFollow}
+use Rattle.lrc_script.specs.declared.script.Instruction.{Instruction}
+use Rattle.lrc_script.specs.Plan.{Plan}
+use Rattle.lrc_script.specs.Lawful.{addresses, IsInRange, IsLawful, IsSection}
+use Rattle.follows.specs.Follows.{calls_of, is_fetch, sizes_of}
+use Rattle.follows.proofs.Calls.{calls_of-own, calls_of-other}
+use Rattle.judge.specs.Sizes.{AreSmall}
+use Rattle.follows.proofs.Script.Sections.{told, told_load, is_load}
+use Rattle.beginnings.specs.declared.step.Step.{Step}
+use Rattle.beginnings.specs.declared.step.Step.TheVariants.{Call, Adds}
+use Rattle.explore.specs.declared.machine.Machine.{Machine}
+use Rattle.beginnings.specs.Beginnings.{IsFlatBeginning}
+use Rattle.beginnings.specs.Calling.{AreStepsOf, IsCalledNext, IsStep, last_reply, replyless, reply_after, section_steps, shown_by}
+use Rattle.beginnings.specs.Laws.{IsNext}
+use Rattle.explore.specs.Machines.{AreLawfulSteps, HasWord, IsProper, Knows}
+use Rattle.beginnings.proofs.Beginnings.{next_begins}
+use Rattle.explore.proofs.Proper.{proper_section}
+
+-- a load with the word of the memory is the one that the step says
+pub load_call : (reply a w v : ℕ) (memory : List ℕ) → slice_get memory a ≡ Some v → (k : Kind)
+    → (kind.Load a v ≡ k) ↔ (IsStep reply (Call (kind.Load a w)) k × AnswersWord memory k)
+load_call reply a w v memory at k = (there, back)
+  where
+    there : kind.Load a v ≡ k → IsStep reply (Call (kind.Load a w)) k × AnswersWord memory k
+    there is = subst (λ x. IsStep reply (Call (kind.Load a w)) x × AnswersWord memory x) is (refl, at)
+
+    back : IsStep reply (Call (kind.Load a w)) k × AnswersWord memory k → kind.Load a v ≡ k
+    back h =
+        let load = told_load k a h.0 in
+        let word : slice_get memory a ≡ Some load.0 = subst (AnswersWord memory) load.1 h.1 in
+        ap (λ x. kind.Load a x) (same_Some v load.0 (sym at ∙ word)) ∙ sym load.1
+
+-- any other call is itself
+replyless_other : (c : Kind) → ((a w : ℕ) → c ≢ kind.Load a w) → (replyless c ≡ c) × (is_load c ≡ false)
+replyless_other (kind.Load a w) other = absurd (other a w refl)
+replyless_other _ other = (refl, refl)
+
+other_word : (memory : List ℕ) (c : Kind) → ((a w : ℕ) → c ≢ kind.Load a w) → AnswersWord memory c
+other_word memory (kind.Load a w) other = absurd (other a w refl)
+other_word memory _ other = tt
+
+pub other_call : (reply : ℕ) (c : Kind) (memory : List ℕ) → ((a w : ℕ) → c ≢ kind.Load a w) → (k : Kind)
+    → (c ≡ k) ↔ (IsStep reply (Call c) k × AnswersWord memory k)
+other_call reply c memory other k = (
+  λ is. subst (λ x. IsStep reply (Call c) x × AnswersWord memory x) is (refl, other_word memory c other),
+  λ h. let same = replyless_other c other in sym (told k c (h.0 ∙ same.0) same.1),
+)
+
+-- the store of an add is
+pub adds_call : (reply a v : ℕ) (memory : List ℕ) (k : Kind)
+    → (kind.Store a ((reply + v) % 2 ^ 32) ≡ k) ↔ (IsStep reply (Adds a v) k × AnswersWord memory k)
+adds_call reply a v memory k = ((λ is. (sym is, subst (AnswersWord memory) is tt)), (λ h. sym h.0))
+
+-- what a proper step says is in range, and no fetch
+range_replyless : (s : Sizes) (k : Kind) → KindInRange s k ↔ KindInRange s (replyless k)
+range_replyless s (kind.Load a v) = ((λ h. h), (λ h. h))
+range_replyless s _ = ((λ h. h), (λ h. h))
+
+fetch_replyless : (k : Kind) → is_fetch (replyless k) ≡ is_fetch k
+fetch_replyless (kind.Load a v) = refl
+fetch_replyless _ = refl
+
+pub step_range : (s : Plan) (reply : ℕ) (x : Step) (k : Kind) → IsProper s x → IsStep reply x k
+    → KindInRange (sizes_of s) k
+step_range s reply (Call c) k proper is =
+    (range_replyless (sizes_of s) k).1
+    (subst (KindInRange (sizes_of s)) (sym is) ((range_replyless (sizes_of s) c).0 proper.0))
+step_range s reply (Adds a v) k proper is = subst (KindInRange (sizes_of s)) (sym is) proper
+
+step_call : (s : Plan) (reply : ℕ) (x : Step) (k : Kind) → IsProper s x → IsStep reply x k → is_fetch k ≡ false
+step_call s reply (Call c) k proper is =
+    sym (fetch_replyless k) ∙ ap is_fetch is ∙ fetch_replyless c ∙ proper.1
+step_call s reply (Adds a v) k proper is = ap is_fetch is
+
+-- and its address has a word
+pub step_word : (s : Plan) (x : Step) (size : ℕ) → size ≡ addresses s → IsProper s x → HasWord size x
+step_word s (Call (kind.Load a v)) size is proper = subst (λ n. a < n) (sym is) proper.0
+step_word s _ size is proper = tt
+
+-- the memory keeps its length
+pub memory_long : (s : Plan) (g : List Event) (m : Machine) → Knows s g m → length m.memory.items ≡ addresses s
+memory_long s g m knows =
+    ap (λ (xs : List ℕ). length xs) knows.memory
+    ∙ length-written (λ (e : Event). flat_write e.kind) (replicate (addresses s) 0) g
+    ∙ length-replicate (addresses s) 0
+
+-- the section that a row of steps is of
+pub record IsRowOf (s : Plan) (p : ℕ) (row : Vec Step) : Type 0 where
+  pub section : List Instruction
+  pub at : slice_get s.sections p ≡ Some section
+  pub are : row.items ≡ section_steps section (shown_by s p)
+
+pub row_of : (s : Plan) (steps : List (Vec Step)) (p : ℕ) (row : Vec Step) → AreStepsOf s steps
+    → slice_get steps p ≡ Some row → IsRowOf s p row
+row_of s steps p row are at =
+    let within = slice_get_within steps p row at in
+    let long = are.long in
+    let here : slice_get s.sections p ≡ Some (slice_index_or s.sections p []) =
+    slice_get-get_or s.sections p [] (omega arith) in
+    record {
+      section = slice_index_or s.sections p [];
+      at = here;
+      are = are.each p (slice_index_or s.sections p []) row here at;
+    }
+
+shown_small : (s : Plan) (p : ℕ) → IsLawful s → All (λ a. a < addresses s) (shown_by s p)
+shown_small s p lawful = go (p == 0)
+  where
+    go : (b : Bool) → All (λ a. a < addresses s) (cond b s.shown [])
+    go true = lawful.but_uneven.shown
+    go false = λ k d lt. absurd (omega arith)
+
+-- its steps are proper
+pub row_proper : (s : Plan) (p : ℕ) (row : Vec Step) (n : ℕ) (x : Step) → IsLawful s → IsRowOf s p row
+    → slice_get row.items n ≡ Some x → IsProper s x
+row_proper s p row n x lawful of at =
+    let section_lawful = subst (IsSection s)
+    (same_Some (slice_index_or s.sections p []) of.section
+    (sym (slice_get-get_or s.sections p [] (slice_get_within s.sections p of.section of.at)) ∙ of.at))
+    (All-get_or (IsSection s) s.sections p [] (slice_get_within s.sections p of.section of.at)
+    lawful.but_uneven.sections) in
+    proper_section s of.section (shown_by s p) section_lawful.in_range (shown_small s p lawful) x
+    (n, subst (λ xs. slice_get xs n ≡ Some x) of.are at)
+
+module _ (s : Plan) (g : List Event) (m : Machine) (p : ℕ) (row : Vec Step) (lawful : IsLawful s) (of : IsRowOf s p row)
+    (small : p < 16) (knows : Knows s g m) where
+  called : (k : Kind) → IsFlatBeginning s (did g p k) → IsCalledNext row.items (calls_of g p) k
+  called k h =
+      subst (λ xs. IsCalledNext xs (calls_of g p) k) (sym of.are)
+      (((next_begins s g p k).0 h).1.calls.next of.section of.at)
+
+  -- where all calls are made, there is no next one
+  pub past_steps : length row.items ≤ slice_index m.done p → (k : Kind) → ¬ IsFlatBeginning s (did g p k)
+  past_steps past k h =
+      let next = called k h in
+      let within = slice_get_within row.items (length (calls_of g p)) next.step next.at in
+      let done = knows.done p small in
+      omega (arith, within, done)
+
+  -- else the next step says which it may be
+  pub at_step : (reply : ℕ) → reply ≡ last_reply (calls_of g p) → (x : Step)
+      → slice_get row.items (slice_index m.done p) ≡ Some x → (c : Kind)
+      → ((k : Kind) → (c ≡ k) ↔ (IsStep reply x k × AnswersWord m.memory.items k)) → (k : Kind)
+      → IsFlatBeginning s (did g p k) ↔ (MayFollow (sizes_of s) g (event p c) × (c ≡ k))
+  at_step reply told x at c says k = (there, back)
+    where
+      next_at : slice_get row.items (length (calls_of g p)) ≡ Some x
+      next_at = subst (λ n. slice_get row.items n ≡ Some x) (knows.done p small) at
+
+      there : IsFlatBeginning s (did g p k) → MayFollow (sizes_of s) g (event p c) × (c ≡ k)
+      there h =
+          let next = called k h in
+          let all = ((next_begins s g p k).0 h).1 in
+          let same = same_Some next.step x (sym next.at ∙ next_at) in
+          let step = subst (λ y. IsStep (last_reply (calls_of g p)) y k) same next.is in
+          let mine = subst (λ r. IsStep r x k) (sym told) step in
+          let word = subst (λ xs. AnswersWord xs k) (sym knows.memory) all.answers in
+          let is = (says k).1 (mine, word) in
+          (subst (λ y. MayFollow (sizes_of s) g (event p y)) (sym is) all.may_follow, is)
+
+      back : MayFollow (sizes_of s) g (event p c) × (c ≡ k) → IsFlatBeginning s (did g p k)
+      back h =
+          let both = (says k).0 h.1 in
+          let step = subst (λ r. IsStep r x k) told both.0 in
+          (next_begins s g p k).1 (
+            knows.beginning,
+            record {
+              may_follow = subst (λ y. MayFollow (sizes_of s) g (event p y)) h.1 h.0;
+              calls = record {
+                call = step_call s (last_reply (calls_of g p)) x k (row_proper s p row (slice_index m.done p) x lawful of at) step;
+                next = λ section here.
+                    subst (λ ys. IsCalledNext ys (calls_of g p) k)
+                    (of.are ∙ ap (λ y. section_steps y (shown_by s p)) (same_Some of.section section (sym of.at ∙ here)))
+                    (record { step = x; at = next_at; is = step });
+              };
+              answers = subst (λ xs. AnswersWord xs k) knows.memory both.1;
+            },
+          )
+
+-- the sizes of a lawful script
+pub sizes_small : (s : Plan) → IsLawful s → AreSmall (sizes_of s)
+sizes_small s lawful =
+    let sizes = lawful.but_uneven.sizes in
+    record {
+      processors = sizes.most_processors;
+      pages = sizes.most_pages;
+      words = sizes.most_words;
+      locks = sizes.locks;
+      flags = sizes.flags;
+    }
+
+-- its rows of steps are as many as its processors
+pub rows_many : (s : Plan) (steps : List (Vec Step)) → AreLawfulSteps s steps → s.processors ≡ length steps
+rows_many s steps steps_are =
+    let one = steps_are.lawful.but_uneven.one_each in
+    let long = steps_are.are.long in
+    omega arith
+
+pub rows_few : (s : Plan) (steps : List (Vec Step)) → AreLawfulSteps s steps → length steps ≤ 16
+rows_few s steps steps_are =
+    let many = rows_many s steps steps_are in
+    let most = steps_are.lawful.but_uneven.sizes.most_processors in
+    omega arith
+
+-- a list has an item at each place within it
+pub some_at : {A : Type 0} (xs : List A) (k : ℕ) → k < length xs → (x : A) × (slice_get xs k ≡ Some x)
+some_at [] k lt = absurd (omega arith)
+some_at (x ∷ xs) zero lt = (x, refl)
+some_at (x ∷ xs) (suc k) lt = some_at xs k (omega arith)
+
+-- the item that is read
+pub read_at : {A : Type 0} (xs : List A) (k : ℕ) (x : A) → k < length xs → x ≡ slice_index_or xs k x
+    → slice_get xs k ≡ Some x
+read_at xs k x lt is = slice_get-get_or xs k x lt ∙ ap Some (sym is)
+
+-- an address in range is one of the memory
+pub kind_address : (s : Plan) (k : Kind) (size : ℕ) → size ≡ addresses s → KindInRange (sizes_of s) k → AddressInRange size k
+kind_address s (kind.Load a v) size is range = subst (λ n. a < n) (sym is) range
+kind_address s (kind.Store a v) size is range = subst (λ n. a < n) (sym is) range
+kind_address s _ size is range = tt
+
+module _ (s : Plan) (g : List Event) (p : ℕ) (k : Kind) (next : IsFlatBeginning s (did g p k)) where
+  pub next_may : MayFollow (sizes_of s) g (event p k)
+  next_may = ((next_begins s g p k).0 next).1.may_follow
+
+  pub next_call : is_fetch k ≡ false
+  next_call = ((next_begins s g p k).0 next).1.calls.call
+
+  pub next_within : p < s.processors
+  next_within = next_may.processor
+
+  -- what processors have done, after one call more
+  pub done_next : (ns : List ℕ) → length ns ≡ 16 → p < 16 → ((q : ℕ) → q < 16 → slice_index ns q ≡ length (calls_of g q))
+      → (q : ℕ) → q < 16 → slice_index (slice_set ns p (slice_index ns p + 1)) q ≡ length (calls_of (did g p k) q)
+  done_next ns long small old q lt = elim (cases_eq q p) [
+    | inl same ↦
+        (let n = slice_index ns p + 1 in
+        let mine = ap (λ (ks : List Kind). length ks) (calls_of-own g p k next_call) in
+        let both = length-append (calls_of g p) (k ∷ []) in
+        let was = old p small in
+        let now : slice_index (slice_set ns p n) p ≡ n = get_or-set_same ns p n 0 (omega arith) in
+        let here : slice_index (slice_set ns p n) p ≡ length (calls_of (did g p k) p) = omega arith in
+        subst (λ r. slice_index (slice_set ns p n) r ≡ length (calls_of (did g p k) r)) (sym same) here)
+    | inr isnt ↦
+        get_or-set_other ns p q (slice_index ns p + 1) 0 isnt ∙ old q lt
+        ∙ ap (λ (ks : List Kind). length ks) (sym (calls_of-other g p q k (λ e. isnt (sym e))))
+  ]
+
+  -- and the memory
+  pub memory_next : (old : List ℕ) → old ≡ memory_after (replicate (addresses s) 0) g
+      → wrote old (flat_write k) ≡ memory_after (replicate (addresses s) 0) (did g p k)
+  memory_next old is =
+      ap (λ words. wrote words (flat_write k)) is
+      ∙ sym (written-append (λ (e : Event). flat_write e.kind) (replicate (addresses s) 0) g (event p k ∷ []))
+
+-- what is no Some is None
+pub none_of : {A : Type 0} (o : Option A) → ((x : A) → o ≢ Some x) → o ≡ None
+none_of None h = refl
+none_of (Some x) h = absurd (h x refl)

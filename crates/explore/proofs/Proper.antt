@@ -1,0 +1,67 @@
+-- Steps of lawful scripts: their numbers are in range, and none is a fetch.
+use Rattle.std.proofs.Common.{ℕ, ◌≡◌, ◌<◌, inl, inr, false, List, [], ◌∷◌, ◌++◌, All, cond, true, Some, length, slice_get, ◌==◌, Bool, refl, sym, subst, ◌∙◌, ap}
+use Rattle.std.proofs.lemmas.List.Elements.{All-head, All-tail}
+use Rattle.lists.specs.Places.{Has}
+use Rattle.lists.proofs.Joined.{has-nil, has-cons, has-append}
+use Rattle.journal.specs.declared.event.Kind.TheVariants as kind
+use Rattle.lrc_script.specs.declared.script.Instruction.{Instruction}
+use Rattle.lrc_script.specs.declared.script.Instruction.TheVariants.{Load, Store, Add, Acquire, Release, Barrier, Set, Await, Cut}
+use Rattle.lrc_script.specs.Plan.{Plan}
+use Rattle.lrc_script.specs.Lawful.{addresses, IsInRange, IsLawful, IsSection}
+use Rattle.beginnings.specs.declared.step.Step.{Step}
+use Rattle.beginnings.specs.declared.step.Step.TheVariants.{Call, Adds}
+use Rattle.beginnings.specs.Calling.{load_steps, section_steps, shown_by, steps_of, steps_of_all}
+use Rattle.explore.specs.Machines.{IsProper}
+
+-- each of these steps is proper
+abbrev pub AreProper : Plan → List Step → Type 0
+AreProper s steps = (x : Step) → Has steps x → IsProper s x
+
+none_proper : (s : Plan) → AreProper s []
+none_proper s x has = absurd (has-nil x has)
+
+more_proper : (s : Plan) (y : Step) (steps : List Step) → IsProper s y → AreProper s steps → AreProper s (y ∷ steps)
+more_proper s y steps first rest x has =
+    elim ((has-cons y steps x).0 has) [ inl is ↦ subst (IsProper s) is first | inr later ↦ rest x later ]
+
+append_proper : (s : Plan) (xs ys : List Step) → AreProper s xs → AreProper s ys → AreProper s (xs ++ ys)
+append_proper s xs ys first rest x has =
+    elim ((has-append xs ys x).0 has) [ inl before ↦ first x before | inr later ↦ rest x later ]
+
+one : (s : Plan) (x : Step) → IsProper s x → AreProper s (x ∷ [])
+one s x is = more_proper s x [] is (none_proper s)
+
+two : (s : Plan) (x y : Step) → IsProper s x → IsProper s y → AreProper s (x ∷ y ∷ [])
+two s x y first second = more_proper s x (y ∷ []) first (one s y second)
+
+proper_of : (s : Plan) (i : Instruction) → IsInRange s i → AreProper s (steps_of i)
+proper_of s (Load a) range = one s (Call (kind.Load a 0)) (range, refl)
+proper_of s (Store a v) range = one s (Call (kind.Store a v)) (range.0, refl)
+proper_of s (Add a v) range = two s (Call (kind.Load a 0)) (Adds a v) (range.0, refl) range.0
+proper_of s (Acquire l) range = two s (Call (kind.Ask l)) (Call (kind.Acquire l)) (range, refl) (range, refl)
+proper_of s (Release l) range = one s (Call (kind.Release l)) (range, refl)
+proper_of s Barrier range = two s (Call kind.Arrive) (Call kind.Depart) (tt, refl) (tt, refl)
+proper_of s (Set f) range = one s (Call (kind.Set f)) (range, refl)
+proper_of s (Await f) range = two s (Call (kind.Watch f)) (Call (kind.Await f)) (range, refl) (range, refl)
+proper_of s Cut range = none_proper s
+
+proper_of_all : (s : Plan) (is : List Instruction) → All (IsInRange s) is → AreProper s (steps_of_all is)
+proper_of_all s [] range = none_proper s
+proper_of_all s (i ∷ is) range =
+    append_proper s (steps_of i) (steps_of_all is) (proper_of s i (All-head (IsInRange s) i is range))
+    (proper_of_all s is (All-tail (IsInRange s) i is range))
+
+proper_loads : (s : Plan) (shown : List ℕ) → All (λ a. a < addresses s) shown → AreProper s (load_steps shown)
+proper_loads s [] range = none_proper s
+proper_loads s (a ∷ shown) range =
+    more_proper s (Call (kind.Load a 0)) (load_steps shown) (All-head (λ b. b < addresses s) a shown range, refl)
+    (proper_loads s shown (All-tail (λ b. b < addresses s) a shown range))
+
+-- so are those of a section, whatever it shows of the addresses
+pub proper_section : (s : Plan) (section : List Instruction) (shown : List ℕ) → All (IsInRange s) section
+    → All (λ a. a < addresses s) shown → AreProper s (section_steps section shown)
+proper_section s section shown range words =
+    append_proper s (steps_of_all section) (Call kind.Arrive ∷ Call kind.Depart ∷ load_steps shown)
+    (proper_of_all s section range)
+    (more_proper s (Call kind.Arrive) (Call kind.Depart ∷ load_steps shown) (tt, refl)
+    (more_proper s (Call kind.Depart) (load_steps shown) (tt, refl) (proper_loads s shown words)))

@@ -1,0 +1,445 @@
+-- What a search knows, state by state.
+-- What was noted of the first states stays so as states are pushed on. One more state is either followed, where its next
+-- events are found, or ends: then it is whole and shows an outcome, or it hangs.
+use Rattle.std.proofs.Common.{ℕ, zero, suc, ◌≡◌, ◌≢◌, ◌+◌, ◌<◌, ◌≤◌, ◌↔◌, ◌⊎◌, inl, inr, List, [], ◌∷◌, ◌++◌, Option, Some, length, map, slice_get, slice_index_or, refl, sym, ap, subst, ◌∙◌, arith}
+use Rattle.std.specs.Prelude.{None, MatchOption, unwrap_or}
+use Rattle.std.specs.Global.{Vec}
+use Rattle.std.proofs.lemmas.Bool.{cases_eq, cases_lt}
+use Rattle.std.proofs.lemmas.List.{get_or_past}
+use Rattle.std.proofs.lemmas.Option.{none-some, same_Some, slice_get_within}
+use Rattle.lists.specs.Places.{Has, IsOnce}
+use Rattle.lists.proofs.Joined.{has-append, has-cons, has-nil, in_order-append, in_order-nil, in_order_single}
+use Rattle.lists.proofs.Places.{push_induction}
+use Rattle.lists.proofs.Sets.{same_places}
+use Rattle.journal.specs.declared.event.Event.{Event}
+use Rattle.journal.specs.declared.event.Kind.{Kind}
+use Rattle.journal.specs.Did.{did, event}
+use Rattle.journal.specs.Races.{Conflict}
+use Rattle.lrc_script.specs.declared.script.Instruction.{Instruction}
+use Rattle.lrc_script.specs.Plan.{Plan}
+use Rattle.follows.specs.Follows.{calls_of, Follows}
+use Rattle.beginnings.specs.declared.step.Step.{Step}
+use Rattle.beginnings.specs.Beginnings.{IsFlatBeginning, IsHang}
+use Rattle.beginnings.specs.Laws.{HasNoNeighbours}
+use Rattle.beginnings.specs.Calling.{section_steps, shown_by}
+use Rattle.beginnings.proofs.Beginnings.{next_begins, whole_done}
+use Rattle.explore.specs.declared.explored.Outcome.{Outcome}
+use Rattle.explore.specs.declared.found.Found.{Found}
+use Rattle.explore.specs.declared.machine.Machine.{Machine}
+use Rattle.explore.specs.declared.neighbours.Neighbours.{Neighbours}
+use Rattle.explore.specs.declared.search.Search.{Search}
+use Rattle.explore.specs.Explored.{AreOutcomes, replies_of}
+use Rattle.explore.specs.Followed.{AreFollowed}
+use Rattle.explore.specs.Found.{AreFound, IsKnown, Keeps, states_of}
+use Rattle.explore.specs.Machines.{AreLawfulSteps, Knows, items_of}
+use Rattle.explore.specs.Nexts.{AreNexts, IsConflict, IsOver}
+use Rattle.explore.specs.Outcomes.{AreReplies, replies_in}
+use Rattle.explore.specs.Searched.{AreShown, Hangs, IsAmong, IsClosed, IsNoted, IsQuiet, IsLookedThrough, IsSearched, IsShownBy, MayLook, MayNote, NoneHangs}
+use Rattle.explore.proofs.Followed.{known_kept}
+use Rattle.explore.proofs.Machines.{next_within, some_at}
+
+-- a state of the first ones was there before
+pub was_at : (old new : List Machine) (place : ℕ) (m : Machine) → Keeps old new → place < length old
+    → slice_get new place ≡ Some m → slice_get old place ≡ Some m
+was_at old new place m keeps lt at =
+    let f = some_at old place lt in
+    subst (λ z. slice_get old place ≡ Some z) (same_Some f.0 m (sym (keeps place f.0 f.1) ∙ at)) f.1
+
+-- a whole run can't go on
+pub follows_ends : (s : Plan) (g : List Event) (p : ℕ) (k : Kind) → length s.sections ≡ s.processors → Follows s g
+    → ¬ IsFlatBeginning s (did g p k)
+follows_ends s g p k one follows next =
+    let both = (next_begins s g p k).0 next in
+    let within = next_within s g p k next in
+    let section = some_at s.sections p (omega arith) in
+    let called = both.1.calls.next section.0 section.1 in
+    let done = (whole_done s g both.0).0 follows p section.0 section.1 in
+    let lt = slice_get_within (section_steps section.0 (shown_by s p)) (length (calls_of g p)) called.step called.at in
+    omega arith
+
+module _ (s : Plan) (old new : List Machine) (n : ℕ) (keeps : Keeps old new) (within : n ≤ length old) where
+  shown_kept : (replies : List (List ℕ)) → IsShownBy s old n replies ↔ IsShownBy s new n replies
+  shown_kept replies = (
+    λ x. record {
+      place = x.place;
+      within = x.within;
+      state = x.state;
+      at = keeps x.place x.state x.at;
+      events = x.events;
+      knows = x.knows;
+      follows = x.follows;
+      are = x.are;
+    },
+    λ x. record {
+      place = x.place;
+      within = x.within;
+      state = x.state;
+      at = (let lt = x.within in was_at old new x.place x.state keeps (omega arith) x.at);
+      events = x.events;
+      knows = x.knows;
+      follows = x.follows;
+      are = x.are;
+    },
+  )
+
+  hangs_kept : (o : Option ℕ) → MatchOption o (NoneHangs s old n) (Hangs s old)
+      → MatchOption o (NoneHangs s new n) (Hangs s new)
+  hangs_kept None h = λ place m g lt at knows. h place m g lt (was_at old new place m keeps (omega arith) at) knows
+  hangs_kept (Some place) h = record {
+    within = (
+        let f = some_at old place h.within in slice_get_within new place f.0 (keeps place f.0 f.1));
+    hangs = λ m g at knows. h.hangs m g (was_at old new place m keeps h.within at) knows;
+  }
+
+  pub noted_kept : (x y : Search) → states_of x.found ≡ old → states_of y.found ≡ new → y.outcomes.keys ≡ x.outcomes.keys
+      → y.hang ≡ x.hang → IsNoted s x n → IsNoted s y n
+  noted_kept x y is_old is_new outcomes hang noted =
+      let shows = subst (λ ms. AreShown s ms n (map replies_of x.outcomes.keys)) is_old noted.shown in
+      let hung = subst (λ ms. MatchOption x.hang (NoneHangs s ms n) (Hangs s ms)) is_old noted.hang in
+      record {
+        shown =
+            subst (λ ms. AreShown s ms n (map replies_of y.outcomes.keys)) (sym is_new)
+            (subst (λ ks. AreShown s new n (map replies_of ks)) (sym outcomes) (record {
+              each = λ replies. (
+                λ has. (shown_kept replies).0 ((shows.each replies).0 has),
+                λ by. (shows.each replies).1 ((shown_kept replies).1 by),
+              );
+              once = shows.once;
+            }));
+        hang =
+            subst (λ ms. MatchOption y.hang (NoneHangs s ms n) (Hangs s ms)) (sym is_new)
+            (subst (λ o. MatchOption o (NoneHangs s new n) (Hangs s new)) (sym hang) (hangs_kept x.hang hung));
+      }
+
+  closed_kept : IsClosed s old n → IsClosed s new n
+  closed_kept closed place m g p k lt at knows next =
+      known_kept s old new (did g p k) keeps (closed place m g p k lt (was_at old new place m keeps (omega arith) at) knows next)
+
+  quiet_kept : IsQuiet s old n → IsQuiet s new n
+  quiet_kept quiet place m g p q a b lt at knows = quiet place m g p q a b lt (was_at old new place m keeps (omega arith) at) knows
+
+-- before the first state is looked at
+pub begun : (s : Plan) (x : Search) → AreFound s x.found → x.outcomes.keys ≡ [] → x.hang ≡ None → IsSearched s x 0
+begun s x found outcomes hang = record {
+  found = found;
+  within = omega arith;
+  closed = λ place m g p k lt. absurd (omega arith);
+  quiet = λ place m g p q a b lt. absurd (omega arith);
+  noted = record {
+    shown = subst (λ ks. AreShown s (states_of x.found) 0 (map replies_of ks)) (sym outcomes) (record {
+      each = λ replies. ((λ has. absurd (has-nil replies has)), (λ by. absurd (let lt = by.within in omega arith)));
+      once = in_order-nil _;
+    });
+    hang = subst (λ o. MatchOption o (NoneHangs s (states_of x.found) 0) (Hangs s (states_of x.found))) (sym hang)
+        (λ place m g lt. absurd (omega arith));
+  };
+}
+
+-- the state at this place is neither whole nor a hang
+module _ (s : Plan) (states : List Machine) (n : ℕ) (f : Machine) (at : slice_get states n ≡ Some f)
+    (unfinished : (g : List Event) → Knows s g f → ¬ Follows s g) where
+  skipped_shown : (replies : List (List ℕ)) → IsShownBy s states n replies ↔ IsShownBy s states (n + 1) replies
+  skipped_shown replies = (
+    λ x. record {
+      place = x.place;
+      within = (let lt = x.within in omega arith);
+      state = x.state;
+      at = x.at;
+      events = x.events;
+      knows = x.knows;
+      follows = x.follows;
+      are = x.are;
+    },
+    λ x. record {
+      place = x.place;
+      within = elim (cases_eq x.place n) [
+        | inl is ↦
+            (let same = same_Some x.state f (sym x.at ∙ ap (slice_get states) is ∙ at) in
+            absurd (unfinished x.events (subst (Knows s x.events) same x.knows) x.follows))
+        | inr isnt ↦ (let lt = x.within in omega arith)
+      ];
+      state = x.state;
+      at = x.at;
+      events = x.events;
+      knows = x.knows;
+      follows = x.follows;
+      are = x.are;
+    },
+  )
+
+  pub unfinished_shown : (x y : Search) → states_of x.found ≡ states → states_of y.found ≡ states
+      → y.outcomes.keys ≡ x.outcomes.keys → AreShown s (states_of x.found) n (map replies_of x.outcomes.keys)
+      → AreShown s (states_of y.found) (n + 1) (map replies_of y.outcomes.keys)
+  unfinished_shown x y is_x is_y outcomes old =
+      subst (λ ms. AreShown s ms (n + 1) (map replies_of y.outcomes.keys)) (sym is_y)
+      (subst (λ ks. AreShown s states (n + 1) (map replies_of ks)) (sym outcomes)
+      (let shows = subst (λ ms. AreShown s ms n (map replies_of x.outcomes.keys)) is_x old in
+      record {
+        each = λ replies. (
+          λ has. (skipped_shown replies).0 ((shows.each replies).0 has),
+          λ by. (shows.each replies).1 ((skipped_shown replies).1 by),
+        );
+        once = shows.once;
+      }))
+
+-- something may come next after it
+module _ (s : Plan) (states : List Machine) (n : ℕ) (f : Machine) (at : slice_get states n ≡ Some f)
+    (one : length s.sections ≡ s.processors)
+    (goes : (g : List Event) → Knows s g f → ((p : ℕ) (k : Kind) → ¬ IsFlatBeginning s (did g p k)) → ⊥) where
+  skipped_hang : (o : Option ℕ) → MatchOption o (NoneHangs s states n) (Hangs s states)
+      → MatchOption o (NoneHangs s states (n + 1)) (Hangs s states)
+  skipped_hang None h = λ place m g lt here knows hang. elim (cases_eq place n) [
+    | inl is ↦
+        (let same = same_Some m f (sym here ∙ ap (slice_get states) is ∙ at) in
+        goes g (subst (Knows s g) same knows) hang.stuck)
+    | inr isnt ↦ h place m g (omega arith) here knows hang
+  ]
+  skipped_hang (Some place) h = h
+
+  pub noted_skips : (x : Search) → states_of x.found ≡ states → IsNoted s x n → IsNoted s x (n + 1)
+  noted_skips x is noted = record {
+    shown =
+        unfinished_shown s states n f at (λ g knows follows. goes g knows (λ p k next. follows_ends s g p k one follows next))
+        x x is is refl
+        noted.shown;
+    hang = subst (λ ms. MatchOption x.hang (NoneHangs s ms (n + 1)) (Hangs s ms)) (sym is)
+        (skipped_hang x.hang (subst (λ ms. MatchOption x.hang (NoneHangs s ms n) (Hangs s ms)) is noted.hang));
+  }
+
+-- the state is a hang
+hung : (s : Plan) (states : List Machine) (n : ℕ) (f : Machine) → slice_get states n ≡ Some f
+    → ((g : List Event) → Knows s g f → IsHang s g) → (o : Option ℕ)
+    → MatchOption o (NoneHangs s states n) (Hangs s states) → Hangs s states (unwrap_or o n)
+hung s states n f at hangs None h = record {
+  within = slice_get_within states n f at;
+  hangs = λ m g here knows. hangs g (subst (Knows s g) (same_Some m f (sym here ∙ at)) knows);
+}
+hung s states n f at hangs (Some place) h = h
+
+pub noted_hangs : (s : Plan) (x y : Search) (steps : List (Vec Step)) (n : ℕ) (f : Machine) → MayNote s x steps n
+    → slice_get (states_of x.found) n ≡ Some f → ((g : List Event) → Knows s g f → ¬ Follows s g)
+    → states_of y.found ≡ states_of x.found → y.outcomes.keys ≡ x.outcomes.keys → y.hang ≡ Some (unwrap_or x.hang n)
+    → IsNoted s y (n + 1)
+noted_hangs s x y steps n f may at unfinished found outcomes hang =
+    let is_hang : (g : List Event) → Knows s g f → IsHang s g = λ g knows. record {
+      beginning = knows.beginning;
+      unfinished = unfinished g knows;
+      stuck = λ p k next. may.over f at g p k knows next;
+    } in
+    record {
+      shown = unfinished_shown s (states_of x.found) n f at unfinished x y refl found outcomes may.noted.shown;
+      hang =
+          subst (λ ms. MatchOption y.hang (NoneHangs s ms (n + 1)) (Hangs s ms)) (sym found)
+          (subst (λ o. MatchOption o (NoneHangs s (states_of x.found) (n + 1)) (Hangs s (states_of x.found))) (sym hang)
+          (hung s (states_of x.found) n f at is_hang x.hang may.noted.hang));
+    }
+
+-- lists of replies of one history are the same
+past_none : {A : Type 0} (xs : List A) (k : ℕ) → length xs ≤ k → slice_get xs k ≡ None
+past_none [] k le = refl
+past_none (x ∷ xs) zero le = absurd (omega arith)
+past_none (x ∷ xs) (suc k) le = past_none xs k (omega arith)
+
+pub same_replies : (s : Plan) (g : List Event) (a b : List (List ℕ)) → AreReplies s g a → AreReplies s g b → a ≡ b
+same_replies s g a b first second = same_places a b (λ k. elim (cases_lt k s.processors) [
+  | inl lt ↦ first.each k lt ∙ sym (second.each k lt)
+  | inr past ↦
+      (let one = first.long in
+      let two = second.long in
+      past_none a k (omega arith) ∙ sym (past_none b k (omega arith)))
+])
+
+-- the state is whole
+module _ (s : Plan) (x : Search) (steps : List (Vec Step)) (n : ℕ) (f : Machine) (may : MayNote s x steps n)
+    (at : slice_get (states_of x.found) n ≡ Some f) (whole : (g : List Event) → Knows s g f → Follows s g) where
+  shows_mine : IsShownBy s (states_of x.found) (n + 1) (items_of f.replies.items)
+  shows_mine =
+      let g = may.found.known n f at in
+      record {
+        place = n;
+        within = omega arith;
+        state = f;
+        at = at;
+        events = g.0;
+        knows = g.1;
+        follows = whole g.0 g.1;
+        are = g.1.replies;
+      }
+
+  shows_before : (replies : List (List ℕ)) → IsShownBy s (states_of x.found) n replies
+      → IsShownBy s (states_of x.found) (n + 1) replies
+  shows_before replies y = record {
+    place = y.place;
+    within = (let lt = y.within in omega arith);
+    state = y.state;
+    at = y.at;
+    events = y.events;
+    knows = y.knows;
+    follows = y.follows;
+    are = y.are;
+  }
+
+  shows_one : (replies : List (List ℕ)) → IsShownBy s (states_of x.found) (n + 1) replies
+      → IsShownBy s (states_of x.found) n replies ⊎ (items_of f.replies.items ≡ replies)
+  shows_one replies y = elim (cases_eq y.place n) [
+    | inl is ↦
+        (let same = same_Some y.state f (sym y.at ∙ ap (slice_get (states_of x.found)) is ∙ at) in
+        let knows = subst (Knows s y.events) same y.knows in
+        inr (same_replies s y.events (items_of f.replies.items) replies knows.replies y.are))
+    | inr isnt ↦ inl (record {
+      place = y.place;
+      within = (let lt = y.within in omega arith);
+      state = y.state;
+      at = y.at;
+      events = y.events;
+      knows = y.knows;
+      follows = y.follows;
+      are = y.are;
+    })
+  ]
+
+  shown_more : (old new : List (List (List ℕ))) → AreShown s (states_of x.found) n old
+      → IsAmong old new (items_of f.replies.items) → AreShown s (states_of x.found) (n + 1) new
+  shown_more old new shows (inl was) = record {
+    each = λ replies. (
+      λ has. shows_before replies ((shows.each replies).0 (subst (λ rs. Has rs replies) was.1 has)),
+      λ by. subst (λ rs. Has rs replies) (sym was.1) (elim (shows_one replies by) [
+        | inl before ↦ (shows.each replies).1 before
+        | inr is ↦ subst (Has old) is was.0
+      ]),
+    );
+    once = subst IsOnce (sym was.1) shows.once;
+  }
+  shown_more old new shows (inr pushed) = record {
+    each = λ replies. (
+      λ has. elim ((has-append old (items_of f.replies.items ∷ []) replies).0 (subst (λ rs. Has rs replies) pushed.1 has)) [
+        | inl before ↦ shows_before replies ((shows.each replies).0 before)
+        | inr now ↦ subst (IsShownBy s (states_of x.found) (n + 1)) (one_of (items_of f.replies.items) replies now) shows_mine
+      ],
+      λ by. subst (λ rs. Has rs replies) (sym pushed.1)
+          ((has-append old (items_of f.replies.items ∷ []) replies).1 (elim (shows_one replies by) [
+            | inl before ↦ inl ((shows.each replies).1 before)
+            | inr is ↦ inr ((has-cons (items_of f.replies.items) [] replies).1 (inl is))
+          ])),
+    );
+    once =
+        subst IsOnce (sym pushed.1)
+        (in_order-append (λ (a b : List (List ℕ)). a ≢ b) old (items_of f.replies.items ∷ []) shows.once
+        (in_order_single (λ (a b : List (List ℕ)). a ≢ b) (items_of f.replies.items))
+        (λ a b has one same. pushed.0 (subst (Has old) (same ∙ sym (one_of (items_of f.replies.items) b one)) has)));
+  }
+    where
+      one_of : (a b : List (List ℕ)) → Has (a ∷ []) b → a ≡ b
+      one_of a b has = elim ((has-cons a [] b).0 has) [ inl is ↦ is | inr none ↦ absurd (has-nil b none) ]
+
+  whole_hang : (o : Option ℕ) → MatchOption o (NoneHangs s (states_of x.found) n) (Hangs s (states_of x.found))
+      → MatchOption o (NoneHangs s (states_of x.found) (n + 1)) (Hangs s (states_of x.found))
+  whole_hang None h = λ place m g lt here knows hang. elim (cases_eq place n) [
+    | inl is ↦
+        (let same = same_Some m f (sym here ∙ ap (slice_get (states_of x.found)) is ∙ at) in
+        hang.unfinished (whole g (subst (Knows s g) same knows)))
+    | inr isnt ↦ h place m g (omega arith) here knows hang
+  ]
+  whole_hang (Some place) h = h
+
+  pub noted_whole : (y : Search) → states_of y.found ≡ states_of x.found → y.hang ≡ x.hang
+      → IsAmong (map replies_of x.outcomes.keys) (map replies_of y.outcomes.keys) (items_of f.replies.items)
+      → IsNoted s y (n + 1)
+  noted_whole y found hang among = record {
+    shown =
+        subst (λ ms. AreShown s ms (n + 1) (map replies_of y.outcomes.keys)) (sym found)
+        (shown_more (map replies_of x.outcomes.keys) (map replies_of y.outcomes.keys) may.noted.shown among);
+    hang =
+        subst (λ ms. MatchOption y.hang (NoneHangs s ms (n + 1)) (Hangs s ms)) (sym found)
+        (subst (λ o. MatchOption o (NoneHangs s (states_of x.found) (n + 1)) (Hangs s (states_of x.found))) (sym hang)
+        (whole_hang x.hang may.noted.hang));
+  }
+
+-- a state more was looked at
+pub looked : (s : Plan) (x z : Search) (steps : List (Vec Step)) (n : ℕ) (nexts : List (Option Kind)) → MayLook s x steps n
+    → ((m : Machine) → slice_get (states_of x.found) n ≡ Some m → AreNexts s m nexts)
+    → ((p q : ℕ) (a b : Kind) → ¬ IsConflict nexts p q a b) → AreFollowed s x.found z.found n (length nexts)
+    → IsNoted s z (n + 1) → IsSearched s z (n + 1)
+looked s x z steps n nexts may are none followed noted =
+    let old = states_of x.found in
+    let new = states_of z.found in
+    let f = some_at old n may.more in
+    record {
+      found = followed.found;
+      within = (let lt = slice_get_within new n f.0 (followed.keeps n f.0 f.1) in omega arith);
+      closed = λ place m g p k lt at knows next. elim (cases_eq place n) [
+        | inl is ↦
+            (let here = was_at old new n m followed.keeps may.more (subst (λ i. slice_get new i ≡ Some m) is at) in
+            elim (cases_lt p (length nexts)) [
+              | inl less ↦ followed.known m g p k less here knows next
+              | inr over ↦
+                  absurd (none-some k (sym (get_or_past nexts p None over) ∙ (are m here g knows p k).1 next))
+            ])
+        | inr isnt ↦
+            closed_kept s old new n followed.keeps may.searched.within may.searched.closed place m g p k (omega arith) at knows next
+      ];
+      quiet = λ place m g p q a b lt at knows first second apart conflict. elim (cases_eq place n) [
+        | inl is ↦
+            (let here = was_at old new n m followed.keeps may.more (subst (λ i. slice_get new i ≡ Some m) is at) in
+            let all = are m here g knows in
+            none p q a b (record { apart = apart; first = (all p a).1 first; second = (all q b).1 second; conflict = conflict }))
+        | inr isnt ↦
+            quiet_kept s old new n followed.keeps may.searched.within may.searched.quiet place m g p q a b (omega arith) at knows
+            first second apart conflict
+      ];
+      noted = noted;
+    }
+
+-- where all states are looked at, each beginning comes to one of them
+pub complete : (s : Plan) (x : Search) → IsSearched s x (length (states_of x.found)) → (g : List Event)
+    → IsFlatBeginning s g → IsKnown s (states_of x.found) g
+complete s x searched =
+    push_induction (λ g. IsFlatBeginning s g → IsKnown s (states_of x.found) g) (λ begins. searched.found.first)
+    (λ g e known begins.
+    let before = known ((next_begins s g e.processor e.kind).0 begins).0 in
+    searched.closed before.place before.state g e.processor e.kind
+    (slice_get_within (states_of x.found) before.place before.state before.at) before.at before.knows begins)
+
+pub none_hangs : (s : Plan) (x : Search) → IsSearched s x (length (states_of x.found))
+    → NoneHangs s (states_of x.found) (length (states_of x.found)) → (g : List Event) → ¬ IsHang s g
+none_hangs s x searched none g hang =
+    let known = complete s x searched g hang.beginning in
+    none known.place known.state g (slice_get_within (states_of x.found) known.place known.state known.at) known.at
+    known.knows hang
+
+pub no_neighbours : (s : Plan) (x : Search) → IsSearched s x (length (states_of x.found)) → HasNoNeighbours s
+no_neighbours s x searched g p q a b first second apart =
+    let known = complete s x searched g ((next_begins s g p a).0 first).0 in
+    searched.quiet known.place known.state g p q a b
+    (slice_get_within (states_of x.found) known.place known.state known.at) known.at known.knows first second apart
+
+pub all_outcomes : (s : Plan) (x : Search) → IsSearched s x (length (states_of x.found))
+    → AreOutcomes s (map replies_of x.outcomes.keys)
+all_outcomes s x searched =
+    let shown = searched.noted.shown in
+    record {
+      each = λ replies. (
+        λ has.
+            let by = (shown.each replies).0 has in
+            (by.events, record { beginning = by.knows.beginning; follows = by.follows }, by.are),
+        λ outcome.
+            let known = complete s x searched outcome.0 outcome.1.beginning in
+            (shown.each replies).1 (record {
+              place = known.place;
+              within = slice_get_within (states_of x.found) known.place known.state known.at;
+              state = known.state;
+              at = known.at;
+              events = outcome.0;
+              knows = known.knows;
+              follows = outcome.1.follows;
+              are = outcome.2;
+            }),
+      );
+      once = shown.once;
+    }
+
+-- whatever was found is of the script
+pub through_found : (s : Plan) (x : Search) (steps : List (Vec Step)) (most : ℕ) (o : Option Neighbours)
+    → IsLookedThrough s x steps most o → AreFound s x.found
+through_found s x steps most None through = through.found
+through_found s x steps most (Some ns) racing = racing.found

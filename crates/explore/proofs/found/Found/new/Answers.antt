@@ -1,0 +1,5 @@
+use Rattle.explore.proofs.Followed.{first_found}
+use Rattle.explore.proofs.found.Found.new.Goals as goal
+
+pub returns : goal.returns
+returns c = λ s knows. first_found s _ c.add.new.self c.args.first c.new.ensures.empty c.new-2.ensures.items knows c.in_ok-add.ensures

@@ -1,0 +1,134 @@
+use Rattle.std.proofs.Common.{ℕ, ◌≡◌, ◌≢◌, ◌+◌, ◌<◌, ◌++◌, [], ◌∷◌, List, Some, length, slice_get, refl, sym, ap, subst, ◌∙◌, arith}
+use Rattle.std.specs.Prelude.{IsSome}
+use Rattle.std.specs.Global.{Vec}
+use Rattle.std.proofs.lemmas.Option.{same_Some}
+use Rattle.journal.specs.declared.event.Event.{Event}
+use Rattle.journal.specs.declared.event.Kind.{Kind}
+use Rattle.journal.specs.Did.{did, event}
+use Rattle.journal.specs.Races.{Race}
+use Rattle.lrc_script.specs.Plan.{Plan}
+use Rattle.beginnings.specs.declared.step.Step.{Step}
+use Rattle.beginnings.specs.Beginnings.{IsFlatBeginning}
+use Rattle.beginnings.specs.Laws.{RacesAfter}
+use Rattle.beginnings.proofs.Neighbours.Racing.{racing}
+use Rattle.explore.specs.declared.found.Found.{Found}
+use Rattle.explore.specs.declared.machine.Machine.{Machine}
+use Rattle.explore.specs.declared.neighbours.Neighbours.{Neighbours}
+use Rattle.explore.specs.Found.{states_of}
+use Rattle.explore.specs.Machines.{IsLike, Knows}
+use Rattle.explore.specs.Racing.{AreRacing, IsRacingBeginning}
+use Rattle.explore.proofs.Likes.{knows_like}
+use Rattle.explore.proofs.Machines.{next_within, rows_few, rows_many}
+use Rattle.explore.proofs.racing.racing_events.Goals as goal
+
+module _ (s : Plan) (x : Found) (steps : List (Vec Step)) (ns : Neighbours) (are : AreRacing s x steps ns) (f : Machine)
+    (at : slice_get (states_of x) ns.place ≡ Some f) (g : List Event) (knows : Knows s g f) where
+  first_next : IsFlatBeginning s (did g ns.first.processor ns.first.kind)
+  first_next = are.are.first f at g knows
+
+  second_next : IsFlatBeginning s (did g ns.second.processor ns.second.kind)
+  second_next = are.are.second f at g knows
+
+  first_small : ns.first.processor < 16
+  first_small =
+      let within = next_within s g ns.first.processor ns.first.kind first_next in
+      let most = are.lawful.lawful.but_uneven.sizes.most_processors in
+      omega arith
+
+  second_row : ns.second.processor < length steps
+  second_row =
+      let within = next_within s g ns.second.processor ns.second.kind second_next in
+      let many = rows_many s steps are.lawful in
+      omega arith
+
+  races : RacesAfter s g ns.first.processor ns.second.processor ns.first.kind ns.second.kind
+  races =
+      racing s g ns.first.processor ns.second.processor ns.first.kind ns.second.kind first_next second_next are.are.apart
+      are.are.conflict
+
+-- some events come to the state
+some_events : (s : Plan) (x : Found) (steps : List (Vec Step)) (ns : Neighbours) → AreRacing s x steps ns → (f : Machine)
+    → slice_get (states_of x) ns.place ≡ Some f → (g : List Event) × Knows s g f
+some_events s x steps ns are f at = are.found.known ns.place f at
+
+pub step-requires : goal.step-requires
+step-requires c =
+    let s = c.requires.0 in
+    let are = c.requires.1 in
+    let x = c.args.found.now in
+    let ns = c.args.neighbours in
+    let f = c.at.result.now in
+    let g = some_events s x c.args.steps.now ns are f c.at.ensures in
+    record {
+      plan = s;
+      lawful = are.lawful.lawful;
+      events = g.0;
+      knows = knows_like s g.0 f c.in_ok-state.state c.in_ok-state.ensures g.1;
+      next = first_next s x c.args.steps.now ns are f c.at.ensures g.0 g.1;
+    }
+
+pub next-requires-clause-processor : goal.next-requires-clause-processor
+next-requires-clause-processor c =
+    let s = c.requires.0 in
+    let are = c.requires.1 in
+    let x = c.args.found.now in
+    let ns = c.args.neighbours in
+    let f = c.at.result.now in
+    let g = some_events s x c.args.steps.now ns are f c.at.ensures in
+    second_row s x c.args.steps.now ns are f c.at.ensures g.0 g.1
+
+pub next-requires-clause-running : goal.next-requires-clause-running
+next-requires-clause-running c =
+    let s = c.requires.0 in
+    let are = c.requires.1 in
+    let x = c.args.found.now in
+    let ns = c.args.neighbours in
+    let f = c.at.result.now in
+    let g = some_events s x c.args.steps.now ns are f c.at.ensures in
+    record {
+      plan = s;
+      lawful = are.lawful;
+      events = did g.0 ns.first.processor ns.first.kind;
+      knows =
+          c.in_ok-step.ensures s g.0 (knows_like s g.0 f c.in_ok-state.state c.in_ok-state.ensures g.1)
+          (first_next s x c.args.steps.now ns are f c.at.ensures g.0 g.1)
+          (first_small s x c.args.steps.now ns are f c.at.ensures g.0 g.1);
+    }
+
+pub unwrap-kind-requires : goal.unwrap-kind-requires
+unwrap-kind-requires c =
+    let s = c.requires.0 in
+    let are = c.requires.1 in
+    let x = c.args.found.now in
+    let ns = c.args.neighbours in
+    let f = c.at.result.now in
+    let g = some_events s x c.args.steps.now ns are f c.at.ensures in
+    let r = races s x c.args.steps.now ns are f c.at.ensures g.0 g.1 in
+    let knows =
+    c.in_ok-step.ensures s g.0 (knows_like s g.0 f c.in_ok-state.state c.in_ok-state.ensures g.1)
+    (first_next s x c.args.steps.now ns are f c.at.ensures g.0 g.1)
+    (first_small s x c.args.steps.now ns are f c.at.ensures g.0 g.1) in
+    let is = (c.next.ensures s (did g.0 ns.first.processor ns.first.kind) are.lawful knows r.kind).1 r.beginning in
+    subst IsSome (sym is) refl
+
+pub returns : goal.returns
+returns c = λ s are.
+    let x = c.args.found.now in
+    let ns = c.args.neighbours in
+    let f = c.at.result.now in
+    let g = c.in_ok-events.events.items in
+    let known = c.in_ok-events.ensures s are.found f c.at.ensures in
+    let r = races s x c.args.steps.now ns are f c.at.ensures g known in
+    let knows =
+    c.in_ok-step.ensures s g (knows_like s g f c.in_ok-state.state c.in_ok-state.ensures known)
+    (first_next s x c.args.steps.now ns are f c.at.ensures g known)
+    (first_small s x c.args.steps.now ns are f c.at.ensures g known) in
+    let is = (c.next.ensures s (did g ns.first.processor ns.first.kind) are.lawful knows r.kind).1 r.beginning in
+    let same = same_Some c.unwrap-kind.result r.kind (sym c.unwrap-kind.ensures ∙ is) in
+    let before = did g ns.first.processor ns.first.kind in
+    let items =
+    c.in_ok-push-2.ensures.items
+    ∙ ap (λ (es : List Event). es ++ event ns.second.processor c.unwrap-kind.result ∷ []) c.in_ok-push.ensures.items
+    ∙ ap (λ (k : Kind). did before ns.second.processor k) same in
+    subst (IsRacingBeginning s) (sym items)
+    (record { beginning = r.beginning; first = length g; second = length g + 1; race = r.race })

@@ -1,0 +1,126 @@
+use Rattle.std.proofs.Common.{ℕ, ◌≡◌, ◌+◌, Some, length, slice_get, refl, sym, ap, subst, ◌∙◌, arith}
+use Rattle.std.proofs.lemmas.Bool.{false≢true}
+use Rattle.std.proofs.lemmas.Option.{same_Some}
+use Rattle.lrc_script.specs.Plan.{Plan}
+use Rattle.beginnings.specs.declared.step.Step.{Step}
+use Rattle.explore.specs.declared.found.Found.{Found}
+use Rattle.explore.specs.declared.machine.Machine.{Machine}
+use Rattle.explore.specs.declared.search.Search.{Search}
+use Rattle.explore.specs.Found.{states_of}
+use Rattle.explore.specs.Followed.{AreFollowed, MayFollowAll}
+use Rattle.explore.specs.Machines.{Knows}
+use Rattle.explore.specs.Nexts.{AreNexts}
+use Rattle.explore.specs.Searched.{IsNoted, MayLook, MayNote}
+use Rattle.explore.proofs.Searched.{looked, noted_kept, noted_skips}
+use Rattle.explore.proofs.search.Search.look_at.Goals.{then-is_over+in_ok-note_end, else-is_over}
+use Rattle.explore.proofs.search.Search.look_at.Goals as goal
+
+pub nexts_of-nexts-requires : goal.nexts_of-nexts-requires
+nexts_of-nexts-requires c =
+    let s = c.requires.0 in
+    let may = c.requires.1 in
+    let g = may.searched.found.known c.args.place c.at.result.now c.at.ensures in
+    record { plan = s; lawful = may.lawful; events = g.0; knows = g.1 }
+
+pub returns-in-Some : goal.returns-in-Some
+returns-in-Some c = λ s may.
+    let f = c.at.result.now in
+    let nexts = c.nexts_of-nexts.ensures s may.lawful in
+    let conflict = c.in-Some.ensures in
+    record {
+      lawful = may.lawful;
+      found = may.searched.found;
+      are = record {
+        within = may.more;
+        apart = conflict.apart;
+        conflict = conflict.conflict;
+        first = λ m at g knows.
+            let mine = subst (λ x. Knows s g x) (same_Some m f (sym at ∙ c.at.ensures)) knows in
+            (nexts g mine c.in-Some.first.processor c.in-Some.first.kind).0 conflict.first;
+        second = λ m at g knows.
+            let mine = subst (λ x. Knows s g x) (same_Some m f (sym at ∙ c.at.ensures)) knows in
+            (nexts g mine c.in-Some.second.processor c.in-Some.second.kind).0 conflict.second;
+      };
+    }
+
+pub note_end-requires : goal.note_end-requires
+note_end-requires c =
+    let s = c.requires.0 in
+    let may = c.requires.1 in
+    let f = c.at.result.now in
+    let nexts = c.nexts_of-nexts.ensures s may.lawful in (
+      s,
+      record {
+        lawful = may.lawful;
+        found = may.searched.found;
+        within = may.more;
+        over = λ m at g p k knows next.
+            let mine = subst (λ x. Knows s g x) (same_Some m f (sym at ∙ c.at.ensures)) knows in
+            c.is_over.ensures.0 c.if-is_over.true p k ((nexts g mine p k).1 next);
+        noted = may.searched.noted;
+      },
+    )
+
+pub follow_all-requires : goal.follow_all-requires
+follow_all-requires c =
+    let s = c.requires.0 in
+    let may = c.requires.1 in
+    let f = c.at.result.now in
+    let same : c.if-is_over.self.found ≡ c.args.self.now.found = elim c.if-is_over.branch [
+      | then-is_over+in_ok-note_end w ↦ ap (λ (z : Search). z.found) w.self-is ∙ w.in_ok-note_end.ensures.found
+      | else-is_over w ↦ ap (λ (z : Search). z.found) w.self-is
+    ] in (
+      s,
+      subst (λ x. MayFollowAll s x c.args.place c.nexts_of-nexts.result) (sym same)
+          (record {
+            lawful = may.lawful.lawful;
+            found = may.searched.found;
+            within = may.more;
+            next = λ m at.
+                subst (λ x. AreNexts s x c.nexts_of-nexts.result) (same_Some f m (sym c.at.ensures ∙ at))
+                (c.nexts_of-nexts.ensures s may.lawful);
+          }),
+    )
+
+pub returns : goal.returns
+returns c = λ s may.
+    let x = c.args.self.now in
+    let place = c.args.place in
+    let f = c.at.result.now in
+    let nexts = c.nexts_of-nexts.result in
+    let are = c.nexts_of-nexts.ensures s may.lawful in
+    let new = c.follow_all.new.self in
+    let same : c.if-is_over.self.found ≡ x.found = elim c.if-is_over.branch [
+      | then-is_over+in_ok-note_end w ↦ ap (λ (z : Search). z.found) w.self-is ∙ w.in_ok-note_end.ensures.found
+      | else-is_over w ↦ ap (λ (z : Search). z.found) w.self-is
+    ] in
+    let each : (m : Machine) → slice_get (states_of x.found) place ≡ Some m → AreNexts s m nexts =
+    (λ m at. subst (λ y. AreNexts s y nexts) (same_Some f m (sym c.at.ensures ∙ at)) are) in
+    let may_follow : MayFollowAll s x.found place nexts =
+    record { lawful = may.lawful.lawful; found = may.searched.found; within = may.more; next = each } in
+    let followed =
+    subst (λ y. AreFollowed s y new place (length nexts)) same
+    (c.in_ok-follow_all.ensures s (subst (λ y. MayFollowAll s y place nexts) (sym same) may_follow)) in
+    let noted : IsNoted s c.if-is_over.self (place + 1) = elim c.if-is_over.branch [
+      | then-is_over+in_ok-note_end w ↦
+          subst (λ z. IsNoted s z (place + 1)) (sym w.self-is) (w.in_ok-note_end.ensures.noted s (record {
+            lawful = may.lawful;
+            found = may.searched.found;
+            within = may.more;
+            over = λ m at g p k knows next.
+                let mine = subst (λ y. Knows s g y) (same_Some m f (sym at ∙ c.at.ensures)) knows in
+                c.is_over.ensures.0 w.if-is_over.true p k ((are g mine p k).1 next);
+            noted = may.searched.noted;
+          }))
+      | else-is_over w ↦
+          subst (λ z. IsNoted s z (place + 1)) (sym w.self-is)
+          (noted_skips s (states_of x.found) place f c.at.ensures may.lawful.lawful.but_uneven.one_each
+          (λ g knows none.
+          false≢true (sym w.if-is_over.false ∙ c.is_over.ensures.1 (λ p k is. none p k ((are g knows p k).0 is)))) x refl
+          may.searched.noted)
+    ] in
+    let z : Search = record { found = new; outcomes = c.if-is_over.self.outcomes; hang = c.if-is_over.self.hang } in
+    let more = may.more in
+    looked s x z c.args.steps.now place nexts may each c.in_default.ensures followed
+    (noted_kept s (states_of x.found) (states_of new) (place + 1) followed.keeps (omega arith) c.if-is_over.self z
+    (ap states_of same) refl refl refl noted)

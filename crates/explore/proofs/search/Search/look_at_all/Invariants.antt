@@ -1,0 +1,9 @@
+use Rattle.std.proofs.Common.{◌<◌}
+use Rattle.lrc_script.specs.Plan.{Plan}
+use Rattle.explore.specs.Machines.{AreLawfulSteps}
+use Rattle.explore.specs.Searched.{IsSearched}
+use Rattle.explore.proofs.search.Search.look_at_all.Given as goal
+
+abbrev pub invariant-loop-place : goal.invariant-loop-place
+invariant-loop-place l = (s : Plan) → AreLawfulSteps s l.steps → IsSearched s l.initial.self 0
+    → IsSearched s l.self l.place

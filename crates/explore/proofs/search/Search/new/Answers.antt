@@ -1,0 +1,9 @@
+use Rattle.std.proofs.Common.{refl}
+use Rattle.lrc_script.specs.Plan.{plan_of}
+use Rattle.explore.proofs.Searched.{begun}
+use Rattle.explore.proofs.search.Search.new.Goals as goal
+
+pub returns : goal.returns
+returns c =
+    let s = plan_of c.args.script.now in
+    begun s _ (c.in_ok-new-2.ensures s c.in_ok-new.ensures) c.new-3.ensures.empty refl

@@ -1,0 +1,88 @@
+use Rattle.std.proofs.Common.{◌≡◌, ℕ, ◌<◌, ◌^◌, List, Option, Some, Bool, IsTrue, false, ◌↔◌, slice_index, slice_index_or, slice_set, subst, sym, ◌∙◌, arith}
+use Rattle.std.specs.Prelude.{None}
+use Rattle.std.proofs.Math.ListN.{length-set}
+use Rattle.journal.specs.declared.event.Event.{Event}
+use Rattle.journal.specs.Did.{did, event}
+use Rattle.journal.specs.Events.{is_arrive, is_depart}
+use Rattle.journal.specs.WellFormed.{Holds}
+use Rattle.judge.specs.Tells.{IsSet}
+use Rattle.judge.proofs.Noting.{count_small, counts_next, holders_next, sets_next}
+use Rattle.judge.proofs.Refusing.{lax_allowed}
+use Rattle.explore.specs.Waiting.{AreWaits, IsDue}
+use Rattle.explore.proofs.Asked.{waits_next}
+use Rattle.explore.proofs.Queued.{asked_next}
+use Rattle.explore.specs.declared.waiting.Waiting.{Waiting}
+use Rattle.journal.specs.declared.event.Kind.{Kind}
+use Rattle.explore.proofs.waiting.Waiting.note.Goals as goal
+
+due_small : (x : Waiting) (p : ℕ) (k : Kind) → IsDue x p k → p < 16
+due_small x p k due = let few = due.small.processors in let lt = due.may_follow.processor in omega arith
+
+-- counts are below the number of events
+arrivals_small : (x : Waiting) (p q : ℕ) (k : Kind) → IsDue x p k → slice_index x.arrivals q < 2 ^ 22
+arrivals_small x p q k due =
+    let is = due.tells.arrivals q in
+    let le = count_small is_arrive due.events q in
+    let few = due.few in
+    omega arith
+
+departures_small : (x : Waiting) (p q : ℕ) (k : Kind) → IsDue x p k → slice_index x.departures q < 2 ^ 22
+departures_small x p q k due =
+    let is = due.tells.departures q in
+    let le = count_small is_depart due.events q in
+    let few = due.few in
+    omega arith
+
+-- what is read is what the lemmas speak of
+holder_is : (h : List Event) (l q : ℕ) (new : List (Option ℕ)) (o : Option ℕ) → slice_index_or new l None ≡ o
+    → (o ≡ Some q) ↔ Holds h q l → (slice_index_or new l None ≡ Some q) ↔ Holds h q l
+holder_is h l q new o is tells = subst (λ x. (x ≡ Some q) ↔ Holds h q l) (sym is) tells
+
+flag_is : (h : List Event) (f : ℕ) (new : List Bool) (b : Bool) → slice_index_or new f false ≡ b
+    → IsTrue b ↔ IsSet h f → IsTrue (slice_index_or new f false) ↔ IsSet h f
+flag_is h f new b is tells = subst (λ x. IsTrue x ↔ IsSet h f) (sym is) tells
+
+pub count-requires : goal.count-requires
+count-requires c =
+    let x = c.args.self.now in
+    let p = c.args.processor in
+    record {
+      processor = due_small x p c.args.kind c.requires;
+      arrivals_room = arrivals_small x p p c.args.kind c.requires;
+      departures_room = departures_small x p p c.args.kind c.requires;
+    }
+
+pub hold-requires : goal.hold-requires
+hold-requires c = (c.requires.sizes, c.requires.small, c.requires.may_follow.in_range)
+
+pub set-requires : goal.set-requires
+set-requires c = (c.requires.sizes, c.requires.small, c.requires.may_follow.in_range)
+
+pub bounds-self-processor : goal.bounds-self-processor
+bounds-self-processor c = due_small c.args.self.now c.args.processor c.args.kind c.requires
+
+pub returns : goal.returns
+returns c = λ s j tells may small.
+    let x = c.args.self.now in
+    let p = c.args.processor in
+    let k = c.args.kind in
+    let long = tells.long in
+    record {
+      long = length-set x.waits p c.awaited_after.result ∙ long;
+      arrivals_long = c.count.ensures.arrivals_long ∙ tells.arrivals_long;
+      departures_long = c.count.ensures.departures_long ∙ tells.departures_long;
+      holders_long = c.hold.ensures.long ∙ tells.holders_long;
+      flags_long = c.set.ensures.long ∙ tells.flags_long;
+      waits =
+          subst (λ o. AreWaits (did j p k) (slice_set x.waits p o)) (sym c.awaited_after.ensures)
+          (waits_next j p k x.waits (omega arith) tells.waits);
+      arrivals = counts_next is_arrive j (event p k) x.arrivals c.count.new.arrivals c.count.ensures.arrivals tells.arrivals;
+      departures =
+          counts_next is_depart j (event p k) x.departures c.count.new.departures c.count.ensures.departures
+          tells.departures;
+      holders = λ l q.
+          holder_is (did j p k) l q c.hold.new.holders _ (c.hold.ensures.holders l)
+          (holders_next s j p k l _ (lax_allowed s j p k may.allowed) (tells.holders l) q);
+      flags = λ f. flag_is (did j p k) f c.set.new.flags _ (c.set.ensures.flags f) (sets_next j p k f _ (tells.flags f));
+      asked = asked_next s j p k x.asked.items c.queue.new.asked.items may small tells.asked c.in_ok-queue.ensures;
+    }

@@ -1,0 +1,11 @@
+pub mod Outcomes
+pub mod Explored
+pub mod Waiting
+pub mod Machines
+pub mod Found
+pub mod Nexts
+pub mod Followed
+pub mod States
+pub mod Racing
+pub mod Searched
+pub mod Prelude

@@ -1,0 +1,74 @@
+-- A script's run on one flat memory, as a machine has it.
+use Rattle.std.specs.Prelude.{ℕ, ◌≡◌, ◌<◌, ◌≤◌, false, List, [], ◌∷◌, length, map, replicate, slice_get, slice_index, Some}
+use Rattle.std.specs.Global.{Vec}
+use Rattle.journal.specs.declared.event.Event.{Event}
+use Rattle.journal.specs.declared.event.Kind.{Kind}
+use Rattle.journal.specs.declared.event.Kind.TheVariants.{Load}
+use Rattle.journal.specs.Did.{did}
+use Rattle.journal.specs.Flat.{memory_after}
+use Rattle.journal.specs.WellFormed.{KindInRange}
+use Rattle.lrc_script.specs.Plan.{Plan}
+use Rattle.lrc_script.specs.Lawful.{addresses, IsLawful}
+use Rattle.follows.specs.Follows.{calls_of, is_fetch, sizes_of}
+use Rattle.beginnings.specs.declared.step.Step.{Step}
+use Rattle.beginnings.specs.declared.step.Step.TheVariants.{Call, Adds}
+use Rattle.explore.specs.declared.machine.Machine.{Machine}
+use Rattle.beginnings.specs.Beginnings.{IsFlatBeginning}
+use Rattle.beginnings.specs.Calling.{AreStepsOf}
+use Rattle.explore.specs.Outcomes.{AreReplies}
+use Rattle.explore.specs.Waiting.{IsLikeWaiting, TellsWaiting}
+
+-- what vectors have, without where they lie in memory
+abbrev pub items_of : List (Vec ℕ) → List (List ℕ)
+items_of vs = map (λ (v : Vec ℕ). v.items) vs
+
+-- the last of these words, or this one
+abbrev pub last_or : ℕ → List ℕ → ℕ
+last_or word [] = word
+last_or word (w ∷ words) = last_or w words
+
+-- the machine has done these events of the script
+pub record Knows (s : Plan) (g : List Event) (m : Machine) : Type 0 where
+  pub beginning : IsFlatBeginning s g
+  pub long : length m.done ≡ 16
+  pub done : (p : ℕ) → p < 16 → slice_index m.done p ≡ length (calls_of g p)
+  pub replies : AreReplies s g (items_of m.replies.items)
+  pub memory : m.memory.items ≡ memory_after (replicate (addresses s) 0) g
+  pub waiting : TellsWaiting g m.waiting
+
+-- two machines are in the same state
+pub record IsLike (m n : Machine) : Type 0 where
+  pub done : n.done ≡ m.done
+  pub replies : items_of n.replies.items ≡ items_of m.replies.items
+  pub memory : n.memory.items ≡ m.memory.items
+  pub waiting : IsLikeWaiting m.waiting n.waiting
+
+-- the numbers of the step are the script's, and it is no fetch
+abbrev pub IsProper : Plan → Step → Type 0
+IsProper s (Call k) = KindInRange (sizes_of s) k × (is_fetch k ≡ false)
+IsProper s (Adds a v) = a < addresses s
+
+-- of the step the memory has the word, where it loads one
+abbrev pub HasWord : ℕ → Step → Type 0
+HasWord size (Call (Load a v)) = a < size
+HasWord size _ = Unit {0}
+
+-- these are the steps of a lawful script
+pub record AreLawfulSteps (s : Plan) (steps : List (Vec Step)) : Type 0 where
+  pub lawful : IsLawful s
+  pub are : AreStepsOf s steps
+
+-- the machine has done some events of a lawful script, whose steps are these
+pub record IsRunning (m : Machine) (steps : List (Vec Step)) : Type 0 where
+  pub plan : Plan
+  pub lawful : AreLawfulSteps plan steps
+  pub events : List Event
+  pub knows : Knows plan events m
+
+-- p may do this after some events of a lawful script
+pub record IsStepOf (m : Machine) (p : ℕ) (k : Kind) : Type 0 where
+  pub plan : Plan
+  pub lawful : IsLawful plan
+  pub events : List Event
+  pub knows : Knows plan events m
+  pub next : IsFlatBeginning plan (did events p k)

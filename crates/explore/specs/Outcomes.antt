@@ -1,0 +1,23 @@
+-- What a run of a script on one flat memory shows.
+use Rattle.std.specs.Prelude.{ℕ, ◌≡◌, ◌<◌, Some, List, [], ◌∷◌, length, slice_get}
+use Rattle.journal.specs.declared.event.Event.{Event}
+use Rattle.journal.specs.declared.event.Kind.{Kind}
+use Rattle.journal.specs.declared.event.Kind.TheVariants.{Load}
+use Rattle.lrc_script.specs.Plan.{Plan}
+use Rattle.follows.specs.Follows.{calls_of}
+use Rattle.beginnings.specs.Beginnings.{IsWhole}
+
+-- what the loads among these calls answered, in order
+abbrev pub replies_in : List Kind → List ℕ
+replies_in [] = []
+replies_in (Load a v ∷ kinds) = v ∷ replies_in kinds
+replies_in (_ ∷ kinds) = replies_in kinds
+
+-- of each processor, what its loads answered; the last ones of processor 0 show the words
+pub record AreReplies (s : Plan) (g : List Event) (replies : List (List ℕ)) : Type 0 where
+  pub long : length replies ≡ s.processors
+  pub each : (p : ℕ) → p < s.processors → slice_get replies p ≡ Some (replies_in (calls_of g p))
+
+-- some whole run shows this
+abbrev pub IsOutcome : Plan → List (List ℕ) → Type 0
+IsOutcome s replies = (g : List Event) × IsWhole s g × AreReplies s g replies

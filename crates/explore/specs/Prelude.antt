@@ -1,0 +1,3 @@
+-- The words that contracts name, passed on from one place. Declares nothing.
+pub use Rattle.explore.specs.Outcomes.{IsOutcome}
+pub use Rattle.explore.specs.Explored.{IsExplored}

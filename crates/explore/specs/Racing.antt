@@ -1,0 +1,26 @@
+-- Two next events that conflict, and what comes of them.
+use Rattle.std.specs.Prelude.{ℕ, List}
+use Rattle.std.specs.Global.{Vec}
+use Rattle.journal.specs.declared.event.Event.{Event}
+use Rattle.journal.specs.Races.{Race}
+use Rattle.lrc_script.specs.Plan.{Plan}
+use Rattle.beginnings.specs.declared.step.Step.{Step}
+use Rattle.beginnings.specs.Beginnings.{IsFlatBeginning}
+use Rattle.explore.specs.declared.found.Found.{Found}
+use Rattle.explore.specs.declared.neighbours.Neighbours.{Neighbours}
+use Rattle.explore.specs.Found.{AreFound, states_of}
+use Rattle.explore.specs.Machines.{AreLawfulSteps}
+use Rattle.explore.specs.Nexts.{AreNeighbours}
+
+-- two next events of a lawful script conflict
+pub record AreRacing (s : Plan) (x : Found) (steps : List (Vec Step)) (neighbours : Neighbours) : Type 0 where
+  pub lawful : AreLawfulSteps s steps
+  pub found : AreFound s x
+  pub are : AreNeighbours s (states_of x) neighbours
+
+-- a beginning that races
+pub record IsRacingBeginning (s : Plan) (g : List Event) : Type 0 where
+  pub beginning : IsFlatBeginning s g
+  pub first : ℕ
+  pub second : ℕ
+  pub race : Race g first second

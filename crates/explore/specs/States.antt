@@ -1,0 +1,19 @@
+-- How many states a script has.
+use Rattle.std.specs.Prelude.{ℕ, ◌<◌, List}
+use Rattle.journal.specs.declared.event.Event.{Event}
+use Rattle.lrc_script.specs.Plan.{Plan}
+use Rattle.beginnings.specs.Beginnings.{IsFlatBeginning}
+use Rattle.explore.specs.declared.machine.Machine.{Machine}
+use Rattle.explore.specs.Machines.{Knows}
+
+-- one machine can have done either: what each processor has done, the words, and who waits for what are the same
+pub record IsOneState (s : Plan) (g h : List Event) : Type 0 where
+  pub machine : Machine
+  pub first : Knows s g machine
+  pub second : Knows s h machine
+
+-- the script has as many states at least: beginnings of which no two come to one state
+pub record HasStates (s : Plan) (n : ℕ) : Type 0 where
+  pub beginning : ℕ → List Event
+  pub are : (i : ℕ) → i < n → IsFlatBeginning s (beginning i)
+  pub apart : (i k : ℕ) → i < k → k < n → ¬ IsOneState s (beginning i) (beginning k)

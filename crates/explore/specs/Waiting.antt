@@ -1,0 +1,92 @@
+-- What is kept of who waits for what, by the events so far.
+use Rattle.std.specs.Prelude.{ℕ, ◌≡◌, ◌↔◌, ◌<◌, ◌==◌, not, false, IsTrue, Option, Some, None, List, [], ◌∷◌, ◌++◌, filter, length, slice_get, slice_index, slice_index_or}
+use Rattle.lists.specs.Places.{Has, InOrder}
+use Rattle.journal.specs.declared.event.Event.{Event}
+use Rattle.journal.specs.declared.event.Kind.{Kind}
+use Rattle.journal.specs.declared.event.Kind.TheVariants.{Ask, Acquire}
+use Rattle.lists.specs.Limits.{most_held}
+use Rattle.journal.specs.Did.{event}
+use Rattle.journal.specs.Sizes.{Sizes}
+use Rattle.journal.specs.Events.{count_of, is_arrive, is_depart}
+use Rattle.journal.specs.WellFormed.{Holds, KindInRange, LastIs, MayFollow}
+use Rattle.judge.specs.Sizes.{AreSmall}
+use Rattle.judge.specs.Tells.{IsSet}
+use Rattle.judge.specs.Why.{WaitsFor}
+use Rattle.explore.specs.declared.waiting.Waiting.{Waiting}
+
+-- of each processor what it waits for, where it waits
+abbrev pub AreWaits : List Event → List (Option Kind) → Type 0
+AreWaits g waits = (p : ℕ) (k : Kind) → (slice_index_or waits p None ≡ Some k) ↔ WaitsFor g p k
+
+-- p's last event asks for a lock, at place i
+abbrev pub AsksAt : List Event → ℕ → ℕ → Type 0
+AsksAt j p i = (l : ℕ) × LastIs j p i (Ask l)
+
+-- these are the processors that wait for a lock, in the order of their asks
+pub record AreAsked (j : List Event) (asked : List ℕ) : Type 0 where
+  pub each : (p : ℕ) → Has asked p ↔ ((i : ℕ) × AsksAt j p i)
+  pub order : InOrder (λ p q. (i k : ℕ) → AsksAt j p i → AsksAt j q k → i < k) asked
+  pub small : (p : ℕ) → Has asked p → p < 16
+
+-- what is kept tells these events
+pub record TellsWaiting (j : List Event) (x : Waiting) : Type 0 where
+  pub long : length x.waits ≡ 16
+  pub arrivals_long : length x.arrivals ≡ 16
+  pub departures_long : length x.departures ≡ 16
+  pub holders_long : length x.holders ≡ 32
+  pub flags_long : length x.flags ≡ 32
+  pub waits : AreWaits j x.waits
+  pub arrivals : (p : ℕ) → slice_index x.arrivals p ≡ count_of is_arrive j p
+  pub departures : (p : ℕ) → slice_index x.departures p ≡ count_of is_depart j p
+  pub holders : (l q : ℕ) → (slice_index_or x.holders l None ≡ Some q) ↔ Holds j q l
+  pub flags : (f : ℕ) → IsTrue (slice_index_or x.flags f false) ↔ IsSet j f
+  pub asked : AreAsked j x.asked.items
+
+-- both tell the same
+pub record IsLikeWaiting (x y : Waiting) : Type 0 where
+  pub waits : y.waits ≡ x.waits
+  pub arrivals : y.arrivals ≡ x.arrivals
+  pub departures : y.departures ≡ x.departures
+  pub holders : y.holders ≡ x.holders
+  pub flags : y.flags ≡ x.flags
+  pub asked : y.asked.items ≡ x.asked.items
+
+-- in a cluster of so many processors, p's event of this kind is in range, and this tells some events
+pub record IsPossible (x : Waiting) (processors p : ℕ) (k : Kind) : Type 0 where
+  pub sizes : Sizes
+  pub small : AreSmall sizes
+  pub processors_are : sizes.processors ≡ processors
+  pub processor : p < processors
+  pub in_range : KindInRange sizes k
+  pub events : List Event
+  pub tells : TellsWaiting events x
+
+-- p's event of this kind may come after events that this tells, which are few
+pub record IsDue (x : Waiting) (p : ℕ) (k : Kind) : Type 0 where
+  pub sizes : Sizes
+  pub small : AreSmall sizes
+  pub events : List Event
+  pub tells : TellsWaiting events x
+  pub may_follow : MayFollow sizes events (event p k)
+  pub few : length events < most_held
+
+-- these without p
+abbrev pub without : List ℕ → ℕ → List ℕ
+without asked p = filter (λ q. not (q == p)) asked
+
+-- who waits for a lock, after p's event of this kind
+abbrev pub AreAskedAfter : List ℕ → List ℕ → ℕ → Kind → Type 0
+AreAskedAfter old new p (Ask l) = new ≡ old ++ p ∷ []
+AreAskedAfter old new p (Acquire l) = new ≡ without old p
+AreAskedAfter old new p _ = new ≡ old
+
+-- q waits for l
+abbrev pub AwaitsLock : List (Option Kind) → ℕ → ℕ → Type 0
+AwaitsLock waits q l = slice_index_or waits q None ≡ Some (Acquire l)
+
+-- q is the first of these that waits for l
+pub record IsFirstOf (asked : List ℕ) (waits : List (Option Kind)) (l q : ℕ) : Type 0 where
+  pub place : ℕ
+  pub at : slice_get asked place ≡ Some q
+  pub awaits : AwaitsLock waits q l
+  pub first : (k r : ℕ) → k < place → slice_get asked k ≡ Some r → ¬ AwaitsLock waits r l

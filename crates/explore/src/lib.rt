@@ -1,0 +1,21 @@
+//! All schedules of a script on one flat memory: whether it races, whether it can hang, and what it can show.
+//!
+//! **What contracts see.** `IsExplored` is what an answer says, in the words of crate `beginnings`: no beginning races, these
+//! are the outcomes of the whole runs, each once, and this is a hang or there is none; or here is a race. Inside, a
+//! `Machine` knows events (`Knows`), so two machines that are found equal go on alike; `Found` has the states, each once,
+//! with where it comes from (`AreFound`); `Search` has looked at the first of them (`IsSearched`).
+//!
+//! **What is proved.** `explore` answers what `IsExplored` says. `Waiting` tells exactly whether an event may follow.
+#![tactic(auto)]
+
+mod explored;
+mod found;
+mod machine;
+mod neighbours;
+mod racing;
+mod search;
+mod waiting;
+
+pub use explored::{Explored, Hang, Outcome, RacyEvents, Verdict};
+pub use search::explore;
+pub use waiting::Waiting;

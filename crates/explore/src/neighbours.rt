@@ -1,0 +1,92 @@
+//! What may come next after a state, and whether two of these events conflict.
+ghost use Rattle.std.specs.Prelude.{◌≡◌, ◌≢◌, ◌↔◌, ℕ, ◌<◌, IsTrue, MatchOption, None, Some, length, slice_index_or};
+ghost use Rattle.journal.specs.declared.event.Kind.{Kind as AKind};
+ghost use Rattle.journal.specs.Prelude.{Conflict, event};
+ghost use Rattle.lrc_script.specs.Prelude.{Plan};
+ghost use Rattle.explore.specs.Machines.{AreLawfulSteps, IsRunning};
+ghost use Rattle.explore.specs.Nexts.{AreNexts, IsConflict};
+
+use crate::machine::Machine;
+use beginnings::Step;
+use journal::{Event, Kind};
+
+/// Two events of two processors that conflict, and the place of a state after which either may come next.
+#[derive(Clone, Copy)]
+pub struct Neighbours {
+    pub place: usize,
+    pub first: Event,
+    pub second: Event,
+}
+
+/// What each processor may do next.
+pub fn nexts_of(state: &Machine, steps: &[Vec<Step>]) -> [Option<Kind>; 16]
+    requires { IsRunning state.now steps.now }
+    ensures { (s : Plan) → AreLawfulSteps s steps.now → AreNexts s state.now result }
+{
+    let mut nexts = [None; 16];
+    for processor in 0..steps.len() {
+        nexts[processor] = state.next(steps, processor);
+    }
+    nexts
+}
+
+/// Whether nobody may do anything.
+pub fn is_over(nexts: &[Option<Kind>]) -> bool
+    ensures { IsTrue result ↔ ((p : ℕ) (k : AKind) → slice_index_or nexts.now p None ≢ Some k) }
+{
+    for processor in 0..nexts.len() {
+        if let Some(_) = nexts[processor] {
+            return false;
+        }
+    }
+    true
+}
+
+/// Whether events of these kinds conflict: one address, and a store at least on one side.
+fn conflicts(first: Kind, second: Kind) -> bool
+    ensures { (p q : ℕ) → IsTrue result ↔ Conflict (event p first) (event q second) }
+{
+    match (first, second) {
+        (Kind::Load(a, _), Kind::Store(b, _)) => a == b,
+        (Kind::Store(a, _), Kind::Load(b, _) | Kind::Store(b, _)) => a == b,
+        _ => false,
+    }
+}
+
+/// The first other processor whose next event conflicts with this one.
+fn neighbour_of(nexts: &[Option<Kind>], processor: usize, kind: Kind) -> Option<(usize, Kind)>
+    requires { slice_index_or nexts.now processor None ≡ Some kind }
+    ensures { MatchOption result ((q : ℕ) (b : AKind) → ¬ IsConflict nexts.now processor q kind b)
+        (λ r. IsConflict nexts.now processor r.0 kind r.1) }
+{
+    for other in 0..nexts.len() {
+        if let Some(next) = nexts[other] {
+            if other != processor && conflicts(kind, next) {
+                return Some((other, next));
+            }
+        }
+    }
+    None
+}
+
+/// The first two next events that conflict, by two processors.
+pub fn neighbours_in(nexts: &[Option<Kind>]) -> Option<(Event, Event)>
+    ensures { MatchOption result ((p q : ℕ) (a b : AKind) → ¬ IsConflict nexts.now p q a b)
+        (λ r. IsConflict nexts.now r.0.processor r.1.processor r.0.kind r.1.kind) }
+{
+    for processor in 0..nexts.len() {
+        if let Some(kind) = nexts[processor] {
+            if let Some((other, next)) = neighbour_of(nexts, processor, kind) {
+                let first = Event { processor, kind };
+                return Some((
+                    first,
+                    Event {
+                        processor: other,
+                        kind: next,
+                    },
+                ));
+            }
+        }
+    }
+    None
+}

@@ -1,0 +1,207 @@
+//! The search: each state of a script on one flat memory is looked at once.
+ghost use Rattle.std.specs.Prelude.{◌≡◌, ◌≢◌, ◌↔◌, ℕ, ◌+◌, ◌<◌, ◌≤◌, IfOk, OnOk, IsTrue, List, MatchOption, None, Some, length, map, slice_get};
+ghost use Rattle.journal.specs.declared.event.Event.{Event as AnEvent};
+ghost use Rattle.lrc_script.specs.Prelude.{IsLawful, Plan, plan_of};
+ghost use Rattle.beginnings.specs.Prelude.{IsHang};
+ghost use Rattle.explore.specs.Explored.{IsExplored, IsHangOf, IsVerdictOn, replies_of};
+ghost use Rattle.explore.specs.Found.{AreFound, states_of};
+ghost use Rattle.explore.specs.Machines.{AreLawfulSteps};
+ghost use Rattle.explore.specs.Searched.{Hangs, IsAmong, IsLookedAt, IsLookedThrough, IsNoted, IsSearched, MayLook};
+ghost use Rattle.explore.specs.Searched.{MayNote};
+
+use crate::explored::{Explored, Hang, Outcome, Verdict};
+use crate::found::Found;
+use crate::machine::Machine;
+use crate::neighbours::{Neighbours, is_over, neighbours_in, nexts_of};
+use crate::racing::racy_events;
+use beginnings::{Step, steps_of_script};
+use indexmap::IndexSet;
+use lrc_script::script::Script;
+use std::alloc::{AllocError, Global};
+
+/// What a search has found so far.
+#[derive(Drop)]
+pub struct Search {
+    found: Found,
+    /// What the whole runs among them show.
+    outcomes: IndexSet<Outcome>,
+    /// The place of a state that hangs.
+    hang: Option<usize>,
+}
+
+/// Adds an outcome, if it is a new one. The only error is running out of memory.
+fn add_outcome(outcomes: &mut IndexSet<Outcome>, outcome: Outcome) -> Result<(), AllocError>
+    ensures { OnOk result (IsAmong (map replies_of outcomes.old.keys) (map replies_of outcomes.new.keys)
+        (replies_of outcome)) }
+{
+    outcomes.insert(outcome)?;
+    Ok(())
+}
+
+/// Whether more states were found than were to be looked at.
+fn is_past(states: usize, most: usize) -> bool
+    ensures { IsTrue result ↔ (most < states) }
+{
+    states > most
+}
+
+/// The outcomes as a list. The only error is running out of memory.
+fn listed(alloc: Global, outcomes: IndexSet<Outcome>) -> Result<Vec<Outcome>, AllocError>
+    ensures { IfOk result (λ v. v.items ≡ outcomes.keys) }
+{
+    outcomes.into_iter().collect(alloc)
+}
+
+impl Search {
+    /// The first state alone. The only error is running out of memory.
+    fn new(alloc: Global, script: &Script) -> Result<Search, AllocError>
+        requires { IsLawful (plan_of script.now) }
+        ensures { IfOk result (λ x. IsSearched (plan_of script.now) x 0) }
+    {
+        Ok(Search {
+            found: Found::new(alloc, Machine::new(alloc, script)?)?,
+            outcomes: IndexSet::new(alloc),
+            hang: None,
+        })
+    }
+
+    /// Takes note of a state after which nothing may come next: it is whole, or it hangs.
+    fn note_end(&mut self, steps: &[Vec<Step>], place: usize) -> Result<(), AllocError>
+        requires { (s : Plan) × MayNote s self.old steps.now place }
+        ensures found { OnOk result (self.new.found ≡ self.old.found) }
+        ensures noted { OnOk result ((s : Plan) → MayNote s self.old steps.now place → IsNoted s self.new (place + 1)) }
+    {
+        let state = self.found.at(place);
+        if state.is_whole(steps) {
+            let replies = state.replies()?;
+            return add_outcome(&mut self.outcomes, Outcome { replies });
+        }
+        self.hang = Some(self.hang.unwrap_or(place));
+        Ok(())
+    }
+
+    /// Looks at the state at this place: the two events that conflict, if there are such; else what comes next is
+    /// found, and what there is to note is noted.
+    fn look_at(
+        &mut self,
+        steps: &[Vec<Step>],
+        place: usize,
+    ) -> Result<Option<Neighbours>, AllocError>
+        requires { (s : Plan) × MayLook s self.old steps.now place }
+        ensures { IfOk result (λ o. (s : Plan) → MayLook s self.old steps.now place
+            → IsLookedAt s self.new steps.now (place + 1) o) }
+    {
+        let nexts = nexts_of(self.found.at(place), steps);
+        if let Some((first, second)) = neighbours_in(&nexts) {
+            return Ok(Some(Neighbours {
+                place,
+                first,
+                second,
+            }));
+        }
+        if is_over(&nexts) {
+            self.note_end(steps, place)?;
+        }
+        self.found.follow_all(place, &nexts)?;
+        Ok(None)
+    }
+
+    /// Looks at each state that there is, until two events conflict or more than `most` states are found.
+    fn look_at_all(
+        &mut self,
+        steps: &[Vec<Step>],
+        most: usize,
+    ) -> Result<Option<Neighbours>, AllocError>
+        requires { (s : Plan) × AreLawfulSteps s steps.now × IsSearched s self.old 0 }
+        ensures { IfOk result (λ o. (s : Plan) → AreLawfulSteps s steps.now → IsSearched s self.old 0
+            → IsLookedThrough s self.new steps.now most o) }
+    {
+        for place in 0..most {
+            let states = self.found.len();
+            if is_past(states, most) {
+                return Ok(None);
+            }
+            if place == states {
+                return Ok(None);
+            }
+            if let Some(neighbours) = self.look_at(steps, place)? {
+                return Ok(Some(neighbours));
+            }
+        }
+        Ok(None)
+    }
+
+    /// The state at this place, as a hang. The only error is running out of memory.
+    fn hang_at(&self, alloc: Global, processors: usize, place: usize) -> Result<Hang, AllocError>
+        requires few { processors ≤ 16 }
+        requires hangs { (s : Plan) × AreFound s self.now.found × Hangs s (states_of self.now.found) place }
+        ensures { IfOk result (λ h. (s : Plan) → s.processors ≡ processors → AreFound s self.now.found
+            → Hangs s (states_of self.now.found) place → IsHangOf s h) }
+    {
+        Ok(Hang {
+            events: self.found.events_to(alloc, place)?,
+            waits: self.found.at(place).waits(alloc, processors)?,
+        })
+    }
+
+    /// The hang that was noted, if there is one. The only error is running out of memory.
+    fn hang(&self, alloc: Global, script: &Script) -> Result<Option<Hang>, AllocError>
+        requires lawful { IsLawful (plan_of script.now) }
+        requires searched { IsSearched (plan_of script.now) self.now (length (states_of self.now.found)) }
+        ensures { IfOk result (λ o. MatchOption o ((g : List AnEvent) → ¬ IsHang (plan_of script.now) g)
+            (IsHangOf (plan_of script.now))) }
+    {
+        match self.hang {
+            Some(place) => Ok(Some(self.hang_at(alloc, script.processors, place)?)),
+            None => Ok(None),
+        }
+    }
+
+    /// What is so where no two events conflict, and all states have been looked at. The only error is running out of
+    /// memory.
+    fn verdict(self, alloc: Global, script: &Script) -> Result<Verdict, AllocError>
+        requires lawful { IsLawful (plan_of script.now) }
+        requires searched { IsSearched (plan_of script.now) self (length (states_of self.found)) }
+        ensures { IfOk result (λ v. (most states : ℕ) → IsVerdictOn (plan_of script.now) most states v) }
+    {
+        let hang = self.hang(alloc, script)?;
+        let Search {
+            found: _,
+            outcomes,
+            hang: _,
+        } = self;
+        Ok(Verdict::RaceFree {
+            outcomes: listed(alloc, outcomes)?,
+            hang,
+        })
+    }
+}
+
+/// Looks at all states of the script on one flat memory, and says whether it races, what it can show, and whether it can
+/// hang. Where it finds more than `most` states, and none of which two next events conflict, it gives up
+/// (`Verdict::Undecided`). The only error is running out of memory.
+///
+/// A state is what each processor has done, with the replies to its loads, the words, and who waits for what. Two
+/// accesses that conflict and may both come next make a race; where no state has such, no run races (by the law of
+/// neighbours in crate `beginnings`), on one flat memory or on the real one.
+pub fn explore(alloc: Global, script: &Script, most: usize) -> Result<Explored, AllocError>
+    requires { IsLawful (plan_of script.now) }
+    ensures { IfOk result (IsExplored (plan_of script.now) most) }
+{
+    let steps = steps_of_script(alloc, script)?;
+    let mut search = Search::new(alloc, script)?;
+    let neighbours = search.look_at_all(&steps, most)?;
+    let states = search.found.len();
+    let verdict = match neighbours {
+        Some(neighbours) => Verdict::Racy(racy_events(
+            alloc,
+            script,
+            &steps,
+            &search.found,
+            neighbours,
+        )?),
+        None if is_past(states, most) => Verdict::Undecided,
+        None => search.verdict(alloc, script)?,
+    };
+    Ok(Explored { states, verdict })
+}

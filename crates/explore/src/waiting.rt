@@ -1,0 +1,284 @@
+//! Who waits for what, and what has come.
+ghost use Rattle.std.specs.Prelude.{◌≡◌, ◌↔◌, ℕ, ◌+◌, ◌<◌, ◌≤◌, ◌^◌, ◌==◌, ◌&&◌, [], ◌∷◌, ◌++◌, IsTrue};
+ghost use Rattle.std.specs.Prelude.{All, List, IfOk, MatchOption, OnOk, cond, false, length, slice_index, slice_index_or};
+ghost use Rattle.lists.specs.Prelude.{Has};
+ghost use Rattle.journal.specs.declared.event.Event.{Event as AnEvent};
+ghost use Rattle.journal.specs.declared.event.Kind.{Kind as AKind};
+ghost use Rattle.journal.specs.declared.event.Kind.TheVariants.{Ask};
+ghost use Rattle.journal.specs.Sizes.{Sizes as TheSizes};
+ghost use Rattle.journal.specs.WellFormed.{Allowed, KindInRange, LastIs, MayBeGranted, MayFollow};
+ghost use Rattle.journal.specs.Prelude.{Holds, awaited, count_of, did, event, is_arrive, is_depart, is_taking};
+ghost use Rattle.judge.specs.Prelude.{AreSmall, WaitsFor, holder_after, set_after};
+ghost use Rattle.explore.specs.Waiting.{AreAskedAfter, AwaitsLock, IsDue, IsFirstOf, IsLikeWaiting, IsPossible, TellsWaiting, without};
+
+use journal::Kind;
+use std::alloc::{AllocError, Global};
+
+/// What the processors of a cluster wait for, and what of it has come.
+#[derive(Drop, PartialEq, Eq)]
+#[derive_where(Hash)]
+pub struct Waiting {
+    /// What each processor waits for.
+    #[derive_where(skip(Hash))]
+    waits: [Option<Kind>; 16],
+    /// How often each has arrived at the barrier.
+    arrivals: [u32; 16],
+    /// How often it has departed.
+    departures: [u32; 16],
+    /// Who holds each lock.
+    holders: [Option<usize>; 32],
+    /// Which flags are set.
+    flags: [bool; 32],
+    /// Who waits for a lock, in the order of their asks.
+    asked: Vec<usize>,
+}
+
+/// What comes next after an event of this kind, where its processor waits then.
+fn awaited_after(kind: Kind) -> Option<Kind>
+    ensures { result ≡ awaited kind }
+{
+    match kind {
+        Kind::Ask(lock) => Some(Kind::Acquire(lock)),
+        Kind::Arrive => Some(Kind::Depart),
+        Kind::Watch(flag) => Some(Kind::Await(flag)),
+        _ => None,
+    }
+}
+
+/// Whether an event of this kind ends a wait.
+fn takes(kind: Kind) -> bool
+    ensures { result ≡ is_taking kind }
+{
+    match kind {
+        Kind::Acquire(_) | Kind::Depart | Kind::Await(_) => true,
+        _ => false,
+    }
+}
+
+/// Whether the two kinds are the same.
+fn is_same(a: Kind, b: Kind) -> bool
+    ensures { IsTrue result ↔ (a ≡ b) }
+{
+    a == b
+}
+
+/// Counts the event where it is an arrival or a departure.
+fn count(arrivals: &mut [u32; 16], departures: &mut [u32; 16], processor: usize, kind: Kind)
+    requires processor { processor < 16 }
+    requires arrivals_room { slice_index arrivals.old processor < 2 ^ 22 }
+    requires departures_room { slice_index departures.old processor < 2 ^ 22 }
+    ensures arrivals { (q : ℕ) → slice_index arrivals.new q
+        ≡ slice_index arrivals.old q + cond ((processor == q) && is_arrive kind) 1 0 }
+    ensures departures { (q : ℕ) → slice_index departures.new q
+        ≡ slice_index departures.old q + cond ((processor == q) && is_depart kind) 1 0 }
+    ensures arrivals_long { length arrivals.new ≡ length arrivals.old }
+    ensures departures_long { length departures.new ≡ length departures.old }
+{
+    match kind {
+        Kind::Arrive => arrivals[processor] += 1,
+        Kind::Depart => departures[processor] += 1,
+        _ => {}
+    }
+}
+
+/// Takes note of who acquires or releases a lock.
+fn hold(holders: &mut [Option<usize>; 32], processor: usize, kind: Kind)
+    requires { (s : TheSizes) × AreSmall s × KindInRange s kind }
+    ensures holders { (l : ℕ) → slice_index_or holders.new l None
+        ≡ holder_after (slice_index_or holders.old l None) l processor kind }
+    ensures long { length holders.new ≡ length holders.old }
+{
+    match kind {
+        Kind::Acquire(lock) => holders[lock] = Some(processor),
+        Kind::Release(lock) => holders[lock] = None,
+        _ => {}
+    }
+}
+
+/// Takes note of a flag that is set.
+fn set(flags: &mut [bool; 32], kind: Kind)
+    requires { (s : TheSizes) × AreSmall s × KindInRange s kind }
+    ensures flags { (f : ℕ) → slice_index_or flags.new f false
+        ≡ set_after (slice_index_or flags.old f false) f kind }
+    ensures long { length flags.new ≡ length flags.old }
+{
+    if let Kind::Set(flag) = kind {
+        flags[flag] = true;
+    }
+}
+
+/// Takes the processor out.
+fn leave(asked: &mut Vec<usize>, processor: usize)
+    ensures { asked.new.items ≡ without asked.old.items processor }
+{
+    asked.retain(|other| *other != processor);
+}
+
+/// Puts who asks for a lock at the end, and takes out who acquires one.
+fn queue(asked: &mut Vec<usize>, processor: usize, kind: Kind) -> Result<(), AllocError>
+    ensures { OnOk result (AreAskedAfter asked.old.items asked.new.items processor kind) }
+{
+    match kind {
+        Kind::Ask(_) => asked.push(processor)?,
+        Kind::Acquire(_) => leave(asked, processor),
+        _ => {}
+    }
+    Ok(())
+}
+
+/// The first of these processors that waits for the lock.
+fn first_of(asked: &[usize], waits: &[Option<Kind>; 16], lock: usize) -> Option<usize>
+    requires { All (λ q. q < 16) asked.now }
+    ensures { MatchOption result ((q : ℕ) → Has asked.now q → ¬ AwaitsLock waits.now q lock)
+        (IsFirstOf asked.now waits.now lock) }
+{
+    for processor in asked {
+        if waits[*processor] == Some(Kind::Acquire(lock)) {
+            return Some(*processor);
+        }
+    }
+    None
+}
+
+impl Waiting {
+    /// Before the first event.
+    pub fn new(alloc: Global) -> Waiting
+        ensures { TellsWaiting [] result }
+    {
+        Waiting {
+            waits: [None; 16],
+            arrivals: [0; 16],
+            departures: [0; 16],
+            holders: [None; 32],
+            flags: [false; 32],
+            asked: Vec::new(alloc),
+        }
+    }
+
+    /// Another one that tells the same. The only error is running out of memory.
+    pub fn copy(&self) -> Result<Waiting, AllocError>
+        ensures { IfOk result (IsLikeWaiting self.now) }
+    {
+        Ok(Waiting {
+            waits: self.waits,
+            arrivals: self.arrivals,
+            departures: self.departures,
+            holders: self.holders,
+            flags: self.flags,
+            asked: self.asked.clone()?,
+        })
+    }
+
+    /// What the processor waits for.
+    pub fn of(&self, processor: usize) -> Option<Kind>
+        requires { processor < 16 }
+        ensures { (j : List AnEvent) → TellsWaiting j self.now
+            → (k : AKind) → (result ≡ Some k) ↔ WaitsFor j processor k }
+    {
+        self.waits[processor]
+    }
+
+    /// Whether the lock, for which the processor waits, is free, and nobody asked for it earlier.
+    fn may_acquire(&self, processor: usize, lock: usize) -> bool
+        requires lock { lock < 32 }
+        requires tells { (j : List AnEvent) × TellsWaiting j self.now }
+        ensures { (j : List AnEvent) → TellsWaiting j self.now → (i : ℕ)
+            → LastIs j processor i (Ask lock) → IsTrue result ↔ MayBeGranted j i lock }
+    {
+        if let Some(_) = self.holders[lock] {
+            return false;
+        }
+        match first_of(&self.asked, &self.waits, lock) {
+            Some(first) => first == processor,
+            None => false,
+        }
+    }
+
+    /// Whether all processors have arrived more often than this one has departed.
+    fn may_depart(&self, processors: usize, processor: usize) -> bool
+        requires processors { processors ≤ 16 }
+        requires processor { processor < 16 }
+        ensures { (j : List AnEvent) → TellsWaiting j self.now → IsTrue result ↔ ((q : ℕ)
+            → q < processors → count_of is_depart j processor + 1 ≤ count_of is_arrive j q) }
+    {
+        let departures = self.departures[processor];
+        for other in 0..processors {
+            if self.arrivals[other] <= departures {
+                return false;
+            }
+        }
+        true
+    }
+
+    /// Whether the processor holds the lock.
+    fn holds(&self, processor: usize, lock: usize) -> bool
+        requires { lock < 32 }
+        ensures { (j : List AnEvent) → TellsWaiting j self.now → IsTrue result ↔ Holds j processor lock }
+    {
+        match self.holders[lock] {
+            Some(holder) => holder == processor,
+            None => false,
+        }
+    }
+
+    /// Whether this, for which the processor waits, has come.
+    fn has_come(&self, processors: usize, processor: usize, kind: Kind) -> bool
+        requires { IsPossible self.now processors processor kind }
+        ensures { (s : TheSizes) (j : List AnEvent) → s.processors ≡ processors
+            → TellsWaiting j self.now → WaitsFor j processor kind
+            → IsTrue result ↔ Allowed s j processor kind }
+    {
+        match kind {
+            Kind::Acquire(lock) => self.may_acquire(processor, lock),
+            Kind::Depart => self.may_depart(processors, processor),
+            Kind::Await(flag) => self.flags[flag],
+            _ => false,
+        }
+    }
+
+    /// Whether the processor, which waits for nothing, may do this.
+    fn may_begin(&self, processor: usize, kind: Kind) -> bool
+        requires { (s : TheSizes) × AreSmall s × KindInRange s kind }
+        ensures { (s : TheSizes) (j : List AnEvent) → TellsWaiting j self.now
+            → ((k : AKind) → ¬ WaitsFor j processor k)
+            → IsTrue result ↔ Allowed s j processor kind }
+    {
+        if takes(kind) {
+            return false;
+        }
+        match kind {
+            Kind::Ask(lock) => !self.holds(processor, lock),
+            Kind::Release(lock) => self.holds(processor, lock),
+            _ => true,
+        }
+    }
+
+    /// Whether the processor's next event may be this.
+    pub fn may_follow(&self, processors: usize, processor: usize, kind: Kind) -> bool
+        requires { IsPossible self.now processors processor kind }
+        ensures { (s : TheSizes) (j : List AnEvent) → s.processors ≡ processors
+            → KindInRange s kind → TellsWaiting j self.now
+            → IsTrue result ↔ MayFollow s j (event processor kind) }
+    {
+        match self.waits[processor] {
+            Some(awaited) => is_same(awaited, kind) && self.has_come(processors, processor, kind),
+            None => self.may_begin(processor, kind),
+        }
+    }
+
+    /// Takes note of the processor's next event. The only error is running out of memory, after which this may tell
+    /// no events.
+    pub fn note(&mut self, processor: usize, kind: Kind) -> Result<(), AllocError>
+        requires { IsDue self.old processor kind }
+        ensures { OnOk result ((s : TheSizes) (j : List AnEvent) → TellsWaiting j self.old
+            → MayFollow s j (event processor kind) → processor < 16
+            → TellsWaiting (did j processor kind) self.new) }
+    {
+        queue(&mut self.asked, processor, kind)?;
+        count(&mut self.arrivals, &mut self.departures, processor, kind);
+        hold(&mut self.holders, processor, kind);
+        set(&mut self.flags, kind);
+        self.waits[processor] = awaited_after(kind);
+        Ok(())
+    }
+}

@@ -1,0 +1,23 @@
+-- The lines of the events so far, and of one more.
+-- The lines of two lists are those of the first one and then those of the second one, numbered on (`lines_append` of
+-- lrc_report). Here the second one has one event.
+use Rattle.std.proofs.Common.{◌≡◌, ◌∙◌, ◌+◌, ℕ, List, [], ◌∷◌, ◌++◌, add-one, length, take, sym, ap, append-nil, arith}
+use Rattle.std.specs.Prelude.{Some, slice_get}
+use Rattle.std.proofs.lemmas.List.{length-take-le}
+use Rattle.std.proofs.lemmas.Option.{slice_get_within}
+use Rattle.lists.proofs.Places.{take-suc_at}
+use Rattle.journal.specs.declared.event.Event.{Event}
+use Rattle.lrc_report.specs.ReportText.{event_line, event_lines}
+use Rattle.lrc_report.proofs.Lines.{lines_append}
+
+-- one more
+pub lines_more : (xs : List Event) (i : ℕ) (x : Event) → slice_get xs i ≡ Some x
+    → event_lines 0 (take i xs) ++ event_line i x ≡ event_lines 0 (take (i + 1) xs)
+lines_more xs i x at =
+    let within = slice_get_within xs i x at in
+    let place : 0 + length (take i xs) ≡ i = omega (arith, length-take-le i xs (omega arith)) in
+    sym
+    (ap (event_lines 0) (ap (λ n. take n xs) (add-one i) ∙ take-suc_at xs i x at)
+    ∙ lines_append 0 (take i xs) (x ∷ [])
+    ∙ ap (λ l. event_lines 0 (take i xs) ++ l)
+    (append-nil (event_line (0 + length (take i xs)) x) ∙ ap (λ n. event_line n x) place))

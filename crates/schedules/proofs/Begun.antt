@@ -1,0 +1,224 @@
+-- What begins a script that doesn't race on one flat memory.
+-- Up to its first race an explained history replays, so that without its fetches the part before the race begins the script on
+-- one flat memory. The access that races, with the reply that it has there, makes that longer, and races there too.
+use Rattle.std.proofs.Common.{ℕ, zero, suc, ◌≡◌, ◌<◌, List, [], ◌∷◌, ◌++◌, false, Some, map, length, take, drop, replicate, slice_get, refl, sym, ap, subst, ◌∙◌, take-append-drop, append-nil, arith}
+use Rattle.std.specs.Prelude.{not}
+use Rattle.std.proofs.lemmas.Bool.{cond-true}
+use Rattle.std.proofs.lemmas.List.{map-append, length-replicate}
+use Rattle.std.proofs.lemmas.List.Elements.{filter-append}
+use Rattle.std.proofs.lemmas.Option.{none-some, slice_get-get_or}
+use Rattle.lists.proofs.LastWrites.{length-written}
+use Rattle.lists.proofs.Places.{take-suc_at}
+use Rattle.journal.specs.declared.event.Event.{Event}
+use Rattle.journal.specs.declared.event.Kind.{Kind}
+use Rattle.journal.specs.declared.event.Kind.TheVariants.{Load, Fetch}
+use Rattle.journal.specs.Did.{did, event}
+use Rattle.journal.specs.Events.{address_of}
+use Rattle.journal.specs.Flat.{flat_write, memory_after, AnswersWord, Replays}
+use Rattle.journal.specs.Loads.{Explained}
+use Rattle.journal.specs.Races.{Race, RaceFree}
+use Rattle.journal.specs.WellFormed.{KindInRange, Does, MayFollow, WellFormed}
+use Rattle.journal.proofs.Flat.FlatMemory.{flat_memory, flat_up_to}
+use Rattle.journal.proofs.Journals.WellFormed.{each_push, well_formed_take}
+use Rattle.lrc_script.specs.declared.script.Instruction.{Instruction}
+use Rattle.lrc_script.specs.Plan.{Plan, head_plan}
+use Rattle.lrc_script.specs.Lawful.{addresses}
+use Rattle.follows.specs.Begins.{BeginsScript, BeginsSection}
+use Rattle.follows.specs.Follows.{sizes_of, calls_of, is_fetch, Follows, FollowsSection}
+use Rattle.follows.specs.Like.{valueless, without_value, IsLike}
+use Rattle.follows.proofs.Beginnings.{begins_front}
+use Rattle.follows.proofs.Calls.{calls_of-append, calls_of-own}
+use Rattle.follows.proofs.Fetchless.Embeds.{fetchless, fetchless_of}
+use Rattle.follows.proofs.Fetchless.Order.{race_back}
+use Rattle.follows.proofs.Fetchless.Runs.{no_fetch_in, fetchless_run}
+use Rattle.follows.proofs.Fetchless.WellFormed.{well_formed_back}
+use Rattle.follows.proofs.Like.Order.{race_like}
+use Rattle.follows.proofs.Like.WellFormed.{well_formed_like}
+use Rattle.follows.proofs.Recomputing.Replaying.{fetch_like}
+use Rattle.beginnings.specs.declared.step.Step.{Step}
+use Rattle.beginnings.specs.declared.step.Step.TheVariants.{Call, Adds}
+use Rattle.beginnings.specs.Beginnings.{IsFlatBeginning, IsFlatRaceFree}
+use Rattle.beginnings.specs.Calling.{IsStep, IsCalledNext, last_reply, section_steps, shown_by}
+use Rattle.beginnings.proofs.Beginnings.{next_begins}
+use Rattle.beginnings.proofs.Calling.{begins_push}
+use Rattle.beginnings.proofs.Neighbours.LastRace.{race_take}
+use Rattle.beginnings.proofs.Neighbours.Replies.{replied, replied_replyless}
+use Rattle.schedules.specs.Laws.{BegunLaw}
+use Rattle.schedules.proofs.Calls.{calls_same}
+
+-- what follows a script begins it
+pub follows_begins : (s : Plan) (g : List Event) → Follows s g → BeginsScript s g
+follows_begins s g follows p section at = record {
+  rest = [];
+  follows = subst (FollowsSection section (shown_by s p)) (sym (append-nil (calls_of g p))) (follows p section at);
+}
+
+-- a front of what begins a script does so
+begun_front : (s : Plan) (g more : List Event) → BeginsScript s (g ++ more) → BeginsScript s g
+begun_front s g more begins p section at =
+    begins_front section (shown_by s p) (calls_of g p) (calls_of more p)
+    (subst (BeginsSection section (shown_by s p)) (calls_of-append g more p) (begins p section at))
+
+-- what replays and begins the script does so on one flat memory, its fetches aside
+pub flat_part : (s : Plan) (h : List Event) → WellFormed (sizes_of s) h → BeginsScript s h
+    → Replays (replicate (addresses s) 0) h → IsFlatBeginning s (fetchless h)
+flat_part s h well begins replays =
+    -- each history follows a script that has no section
+    let bare = head_plan s.processors s.pages s.words s.locks s.flags in
+    let follows : Follows bare h = λ p section at. absurd (none-some section at) in
+    let run = fetchless_run bare h (record { well_formed = well; follows = follows; replays = replays }) in
+    record {
+      well_formed = run.well_formed;
+      begins = λ p section at.
+          subst (BeginsSection section (shown_by s p)) (sym (calls_same p h)) (begins p section at);
+      replays = run.replays;
+      no_fetch = no_fetch_in h;
+    }
+
+-- a call at the end stays there
+pub fetchless_push : (h : List Event) (p : ℕ) (k : Kind) → is_fetch k ≡ false
+    → fetchless (did h p k) ≡ did (fetchless h) p k
+fetchless_push h p k call =
+    filter-append (λ (e : Event). not (is_fetch e.kind)) h (event p k ∷ [])
+    ∙ ap (λ es. fetchless h ++ es) (cond-true (not (is_fetch k)) (event p k ∷ []) [] (ap not call))
+
+-- the call with the word of this memory is the same but for its value
+replied_like : (memory : List ℕ) (k : Kind) → valueless k ≡ valueless (replied memory k)
+replied_like memory (Load a v) = refl
+replied_like memory _ = refl
+
+like_push : (g : List Event) (p : ℕ) (k l : Kind) → valueless k ≡ valueless l → IsLike (did g p k) (did g p l)
+like_push g p k l same =
+    map-append without_value g (event p k ∷ []) ∙ ap (λ x. map without_value g ++ event p x ∷ []) same
+    ∙ sym (map-append without_value g (event p l ∷ []))
+
+-- its step says it too
+step_replied : (reply : ℕ) (step : Step) (k : Kind) (memory : List ℕ) → IsStep reply step k
+    → IsStep reply step (replied memory k)
+step_replied reply (Call c) k memory is = replied_replyless memory k ∙ is
+step_replied reply (Adds a v) k memory is = ap (replied memory) is
+
+-- and it answers its word
+word_replied : (s : Plan) (memory : List ℕ) (k : Kind) → length memory ≡ addresses s → KindInRange (sizes_of s) k
+    → AnswersWord memory (replied memory k)
+word_replied s memory (Load a v) long inside = slice_get-get_or memory a 0 (subst (λ n. a < n) (sym long) inside)
+word_replied s memory _ long inside = tt
+
+-- a call after what replays makes its flat part longer, with the reply that it has there
+module _ (s : Plan) (h : List Event) (p : ℕ) (k : Kind) (replays : Replays (replicate (addresses s) 0) h)
+    (well : WellFormed (sizes_of s) (did h p k)) (begins : BeginsScript s (did h p k)) (call : is_fetch k ≡ false) where
+  abbrev pub memory : List ℕ
+  memory = memory_after (replicate (addresses s) 0) (fetchless h)
+
+  long : length memory ≡ addresses s
+  long = length-written (λ (e : Event). flat_write e.kind) (replicate (addresses s) 0) (fetchless h)
+      ∙ length-replicate (addresses s) 0
+
+  before : IsFlatBeginning s (fetchless h)
+  before =
+      flat_part s h ((each_push (sizes_of s) h (event p k)).0 well).0 (begun_front s h (event p k ∷ []) begins) replays
+
+  may : MayFollow (sizes_of s) (fetchless h) (event p (replied memory k))
+  may =
+      let there = well_formed_back (sizes_of s) (fetchless (did h p k)) (did h p k) (fetchless_of (did h p k)) well in
+      let here = subst (WellFormed (sizes_of s)) (fetchless_push h p k call) there in
+      let like = like_push (fetchless h) p k (replied memory k) (replied_like memory k) in
+      let same = well_formed_like (sizes_of s) (did (fetchless h) p k) (did (fetchless h) p (replied memory k)) like here in
+      ((each_push (sizes_of s) (fetchless h) (event p (replied memory k))).0 same).1
+
+  called : (section : List Instruction) → slice_get s.sections p ≡ Some section
+      → IsCalledNext (section_steps section (shown_by s p)) (calls_of (fetchless h) p) (replied memory k)
+  called section at =
+      let own = subst (BeginsSection section (shown_by s p)) (calls_of-own h p k call) (begins p section at) in
+      let is = ((begins_push section (shown_by s p) (calls_of h p) k).0 own).1 in
+      subst (λ calls. IsCalledNext (section_steps section (shown_by s p)) calls (replied memory k)) (sym (calls_same p h))
+      (record { step = is.step; at = is.at; is = step_replied (last_reply (calls_of h p)) is.step k memory is.is })
+
+  pub call_replied : is_fetch (replied memory k) ≡ false
+  call_replied = sym (fetch_like k (replied memory k) (replied_like memory k)) ∙ call
+
+  pub longer : IsFlatBeginning s (did (fetchless h) p (replied memory k))
+  longer =
+      (next_begins s (fetchless h) p (replied memory k)).1 (
+        before,
+        record {
+          may_follow = may;
+          calls = record { call = call_replied; next = called };
+          answers = word_replied s memory k long ((each_push (sizes_of s) h (event p k)).0 well).1.in_range;
+        },
+      )
+
+-- what has an address is no fetch
+access_calls : (k : Kind) (a : ℕ) → address_of k ≡ Some a → is_fetch k ≡ false
+access_calls (Fetch w n r d) a at = absurd (none-some a at)
+access_calls _ a at = refl
+
+-- a history of a script of which no flat beginning races
+module _ (s : Plan) (free : IsFlatRaceFree s) (h : List Event) (well : WellFormed (sizes_of s) h)
+    (explained : Explained h) (begins : BeginsScript s h) where
+  in_range : (i p a v : ℕ) → Does h i p (Load a v) → a < addresses s
+  in_range i p a v does = (well i (event p (Load a v)) does).in_range
+
+  -- no race is the first
+  race_at : (m k : ℕ) → Race h m k → ((i n : ℕ) → n < k → ¬ Race h i n) → ⊥
+  race_at m k race none = free (fetchless now) (subst (IsFlatBeginning s) (sym pushed) flat) again.0 again.1 again.2
+    where
+      p : ℕ
+      p = race.second.processor
+
+      c : Kind
+      c = race.second.kind
+
+      replays : Replays (replicate (addresses s) 0) (take k h)
+      replays = flat_up_to (addresses s) h k in_range explained none
+
+      front : take (suc k) h ≡ did (take k h) p c
+      front = take-suc_at h k race.second race.second_at
+
+      well_now : WellFormed (sizes_of s) (did (take k h) p c)
+      well_now = subst (WellFormed (sizes_of s)) front (well_formed_take (sizes_of s) h (suc k) well)
+
+      begins_now : BeginsScript s (did (take k h) p c)
+      begins_now =
+          subst (BeginsScript s) front
+          (begun_front s (take (suc k) h) (drop (suc k) h)
+          (subst (BeginsScript s) (sym (take-append-drop (suc k) h)) begins))
+
+      call : is_fetch c ≡ false
+      call = access_calls c race.conflict.address race.conflict.second
+
+      reply : Kind
+      reply = replied (memory s (take k h) p c replays well_now begins_now call) c
+
+      now : List Event
+      now = did (take k h) p reply
+
+      flat : IsFlatBeginning s (did (fetchless (take k h)) p reply)
+      flat = longer s (take k h) p c replays well_now begins_now call
+
+      pushed : fetchless now ≡ did (fetchless (take k h)) p reply
+      pushed = fetchless_push (take k h) p reply (call_replied s (take k h) p c replays well_now begins_now call)
+
+      race_now : Race now m k
+      race_now =
+          let like = like_push (take k h) p c reply
+          (replied_like (memory s (take k h) p c replays well_now begins_now call) c) in
+          (race_like (did (take k h) p c) now m k like).0
+          (subst (λ es. Race es m k) front (race_take h m k race))
+
+      again : (i n : ℕ) × Race (fetchless now) i n
+      again = race_back (fetchless now) now (fetchless_of now) m k race_now
+
+  no_race : (n m k : ℕ) → k < n → ¬ Race h m k
+  no_race zero m k less race = absurd (omega (arith, less))
+  no_race (suc n) m k less race = race_at m k race (λ i j before. no_race n i j (omega (arith, less, before)))
+
+  pub race_free : RaceFree h
+  race_free m k race = no_race (suc k) m k (omega arith) race
+
+  pub replays_whole : Replays (replicate (addresses s) 0) h
+  replays_whole = flat_memory (addresses s) h in_range explained race_free
+
+pub begun_law : BegunLaw
+begun_law s h free well explained begins =
+    (race_free s free h well explained begins, replays_whole s free h well explained begins)

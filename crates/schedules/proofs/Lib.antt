@@ -1,0 +1,5 @@
+mod Begun
+mod Calls
+mod Going
+mod Reports
+mod Waiting
