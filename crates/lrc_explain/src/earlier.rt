@@ -1,0 +1,74 @@
+//! The store that stands last before each access, whether or not it is ordered before it.
+ghost use Rattle.std.specs.Prelude.{◌≤◌, ◌<◌, List, length};
+ghost use Rattle.lists.specs.Prelude.{most_held, most_processors};
+ghost use Rattle.journal.specs.declared.event.Event.{Event};
+ghost use Rattle.journal.specs.Prelude.{AddressInRange, AddressesInRange, ProcessorsInRange};
+ghost use Rattle.sources.specs.Prelude.{Tells};
+
+use journal::{Event, Kind};
+use sources::Sources;
+use std::alloc::{AllocError, Global};
+
+/// The last store to the address of an access that stands before it in the history, by whomever.
+#[derive(Clone, Copy, Debug, PartialEq, Eq)]
+pub struct Earlier {
+    /// Where it stands.
+    pub place: usize,
+    /// Whether it happens before the access.
+    pub is_ordered: bool,
+}
+
+/// The last store to the address of the event, where it is an access that comes next.
+fn earlier_at(sources: &Sources, last: &[Option<usize>], event: Event) -> Option<Earlier>
+    requires tells { (j : List Event) × Tells j sources.now }
+    requires processor { event.processor < sources.now.processors }
+    requires address { AddressInRange sources.now.addresses event.kind }
+{
+    let (Kind::Load(address, _) | Kind::Store(address, _)) = event.kind else {
+        return None;
+    };
+    let Some(Some(place)) = last.get(address) else {
+        return None;
+    };
+    let latest = sources.before(event.processor, address);
+    Some(Earlier {
+        place: *place,
+        is_ordered: latest.contains(&Some(*place)),
+    })
+}
+
+/// Keeps the place of the event, where it is a store.
+fn keep_store(last: &mut [Option<usize>], place: usize, kind: Kind) {
+    if let Kind::Store(address, _) = kind {
+        if let Some(kept) = last.get_mut(address) {
+            *kept = Some(place);
+        }
+    }
+}
+
+/// Of each event of a history, in order: the last store to its address before it, where it is an access and there is such a
+/// store; else None. The only error is running out of memory.
+///
+/// It takes time as `why::loads` does.
+pub fn stores_before(
+    alloc: Global,
+    processors: usize,
+    addresses: usize,
+    events: &[Event],
+) -> Result<Vec<Option<Earlier>>, AllocError>
+    requires few { length events.now ≤ most_held }
+    requires few_processors { processors ≤ most_processors }
+    requires addresses { AddressesInRange addresses events.now }
+    requires processors { ProcessorsInRange processors events.now }
+{
+    let mut sources = Sources::new(alloc, processors, addresses)?;
+    let mut last = vec![in alloc; None; addresses]?;
+    let mut found = Vec::with_capacity(alloc, events.len())?;
+    for place in 0..events.len() {
+        let event = events[place];
+        found.push(earlier_at(&sources, &last, event))?;
+        keep_store(&mut last, place, event.kind);
+        sources.note(events, place)?;
+    }
+    Ok(found)
+}

@@ -1,0 +1,29 @@
+ghost use Rattle.std.specs.Prelude.{◌≡◌};
+
+use std::alloc::AllocError;
+use thiserror::Error;
+
+/// Why a run wasn't told.
+#[derive(Clone, Copy, Debug, PartialEq, Eq, Error)]
+pub enum ExplainFault {
+    /// A write failed or took no byte, or the flush failed. A beginning of the text may be written.
+    #[error("output failed")]
+    Output,
+    /// A growth was refused. Nothing was written.
+    #[error("out of memory")]
+    NoMemory,
+    /// The journal has a processor that isn't one of so many, or they are more than 16, or its events are too many. No run
+    /// of a script has such a journal. Nothing was written.
+    #[error("journal out of range")]
+    OutOfRange,
+}
+
+impl From<AllocError> for ExplainFault {
+    ghost use Rattle.lrc_explain.specs.declared.fault.ExplainFault.TheVariants as fault;
+
+    ghost from_gives = { λ _ r. r ≡ fault.NoMemory };
+
+    fn from(_error: AllocError) -> ExplainFault {
+        ExplainFault::NoMemory
+    }
+}

@@ -1,0 +1,81 @@
+//! The events that are told, and how they are numbered.
+ghost use Rattle.std.specs.Prelude.{◌<◌, ◌≤◌, IsTrue, length};
+ghost use Rattle.lists.specs.Prelude.{most_held, most_processors};
+ghost use Rattle.journal.specs.Prelude.{AddressInRange, AddressesInRange, ProcessorsInRange};
+
+use journal::{Event, Journal, Kind, MOST_HELD, MOST_PROCESSORS};
+use std::alloc::{AllocError, Global};
+
+/// How the events of a history are numbered: on from those that were cut off.
+#[derive(Clone, Copy)]
+pub struct Numbers {
+    /// How many events were cut off.
+    pub cut: u64,
+    /// How many arrivals in front stand for them.
+    pub opening: usize,
+}
+
+impl Numbers {
+    /// The number of the event at this place of the history.
+    pub fn of(self, place: usize) -> u64 {
+        let left = place.saturating_sub(self.opening);
+        self.cut.saturating_add(left as u64)
+    }
+
+    /// Whether the event at this place stands for some that were cut off.
+    pub fn is_cut(self, place: usize) -> bool {
+        place < self.opening
+    }
+}
+
+/// The journal's numbers, where it is of so many processors.
+pub fn numbers_of(processors: usize, journal: &Journal) -> Numbers {
+    let cut = journal.cut_events();
+    let opening = if cut == 0 { 0 } else { processors };
+    Numbers { cut, opening }
+}
+
+/// The events of the journal, behind so many arrivals: where something was cut off, one of each processor, since each had
+/// arrived and none gone on.
+pub fn history_of(
+    alloc: Global,
+    opening: usize,
+    journal: &Journal,
+) -> Result<Vec<Event>, AllocError> {
+    let mut history = Vec::new(alloc);
+    for processor in 0..opening {
+        history.push(Event {
+            processor,
+            kind: Kind::Arrive,
+        })?;
+    }
+    history.extend_from_slice(journal.events())?;
+    Ok(history)
+}
+
+/// Whether a history of these sizes can have the event.
+fn is_in_range(event: Event, processors: usize, addresses: usize) -> bool
+    ensures processor { IsTrue result → event.processor < processors }
+    ensures address { IsTrue result → AddressInRange addresses event.kind }
+{
+    let in_range = match event.kind {
+        Kind::Load(address, _) | Kind::Store(address, _) => address < addresses,
+        _ => true,
+    };
+    in_range && event.processor < processors
+}
+
+/// Whether it can have all of them.
+pub fn are_in_range(events: &[Event], processors: usize, addresses: usize) -> bool
+    ensures few { IsTrue result → length events.now ≤ most_held }
+    ensures few_processors { IsTrue result → processors ≤ most_processors }
+    ensures processors { IsTrue result → ProcessorsInRange processors events.now }
+    ensures addresses { IsTrue result → AddressesInRange addresses events.now }
+{
+    for event in events {
+        if !is_in_range(*event, processors, addresses) {
+            return false;
+        }
+    }
+    events.len() <= MOST_HELD && processors <= MOST_PROCESSORS
+}

@@ -1,0 +1,202 @@
+//! Which pages go stale by an event that takes, and whose records a fetch brings.
+ghost use Rattle.std.specs.Prelude.{ℕ, ◌≤◌, IsTrue, length};
+ghost use Rattle.lists.specs.Prelude.{most_held};
+ghost use Rattle.journal.specs.declared.event.Event.{Event};
+ghost use Rattle.journal.specs.Events.{At};
+ghost use Rattle.judge.specs.Prelude.{AreSmall, IsWithin, sizes_of};
+
+use crate::fault::ExplainFault;
+use crate::notes::Count;
+use journal::{Event, Kind, MOST_HELD};
+use judge::Sizes;
+use std::alloc::{AllocError, Global};
+use std::fmt;
+use why::{Due, dues};
+
+/// How many pages a memory has at most.
+pub const MOST_PAGES: usize = 64;
+
+/// How many locks a memory has at most, and how many flags.
+const MOST_LOCKS: usize = 32;
+
+/// How many pages of an event are told at most.
+const MOST_TOLD: usize = 3;
+
+/// Whether a history of these sizes can have all of the events.
+fn are_within(events: &[Event], sizes: Sizes) -> bool
+    ensures small { IsTrue result → AreSmall (sizes_of sizes) }
+    ensures few { IsTrue result → length events.now ≤ most_held }
+    ensures within { IsTrue result → (k : ℕ) (e : Event) → At events.now k e → IsWithin (sizes_of sizes) e }
+{
+    if !sizes.are_small() {
+        return false;
+    }
+    for event in events {
+        if !sizes.have_event(*event) {
+            return false;
+        }
+    }
+    events.len() <= MOST_HELD
+}
+
+/// Of each event, the records that it tells of, where a page has so many words. OutOfRange where that many words don't
+/// make pages of the addresses, or a memory of these sizes can't have the events.
+pub fn dues_of(
+    alloc: Global,
+    processors: usize,
+    addresses: usize,
+    words: usize,
+    events: &[Event],
+) -> Result<Vec<Vec<Due>>, ExplainFault> {
+    if words == 0 || addresses % words != 0 {
+        return Err(ExplainFault::OutOfRange);
+    }
+    let sizes = Sizes {
+        processors,
+        pages: addresses / words,
+        words,
+        locks: MOST_LOCKS,
+        flags: MOST_LOCKS,
+    };
+    if !are_within(events, sizes) {
+        return Err(ExplainFault::OutOfRange);
+    }
+    Ok(dues(alloc, sizes, events)?)
+}
+
+/// Which copies of pages are stale, as far as is known.
+#[derive(Drop)]
+pub struct Stale {
+    /// Of each page, whether each processor's copy is.
+    marks: Vec<[bool; 16]>,
+}
+
+impl Stale {
+    /// None of so many pages.
+    pub fn new(alloc: Global, pages: usize) -> Result<Stale, AllocError> {
+        Ok(Stale {
+            marks: vec![in alloc; [false; 16]; pages]?,
+        })
+    }
+
+    /// Whether the processor's copy of the page is.
+    fn is(&self, page: usize, processor: usize) -> bool {
+        let marks = &self.marks;
+        match marks.get(page) {
+            Some(row) => row.get(processor) == Some(&true),
+            None => false,
+        }
+    }
+
+    /// Marks the processor's copy of the page, or not.
+    fn put(&mut self, page: usize, processor: usize, is_stale: bool) {
+        if let Some(row) = self.marks.get_mut(page) {
+            if let Some(mark) = row.get_mut(processor) {
+                *mark = is_stale;
+            }
+        }
+    }
+
+    /// Takes note of the event, which tells of these records.
+    pub fn note(&mut self, event: Event, dues: &[Due]) {
+        if let Kind::Fetch { page, .. } = event.kind {
+            self.put(page, event.processor, false);
+            return;
+        }
+        for due in dues {
+            self.put(due.page, event.processor, true);
+        }
+    }
+}
+
+/// Whose records a fetch brings. Empty where nobody's are known.
+#[derive(Clone, Copy)]
+pub struct Writers<'a> {
+    pub dues: &'a [Due],
+    /// Whether some are from before the cut.
+    pub has_older: bool,
+}
+
+impl fmt::Display for Writers<'_> {
+    fn fmt<W: fmt::Write>(&self, f: &mut fmt::Formatter<W>) -> fmt::Result {
+        let count = self.dues.len();
+        for (index, due) in self.dues.iter().enumerate() {
+            let is_last = !self.has_older && index.saturating_add(1) == count;
+            let front = match index {
+                0 => ", of",
+                _ if is_last => " and",
+                _ => ",",
+            };
+            write!(f, "{front} p{}", due.writer)?;
+        }
+        match (self.has_older, count) {
+            (false, _) => Ok(()),
+            (true, 0) => f.write_str(", from before the cut"),
+            (true, _) => f.write_str(" and from before the cut"),
+        }
+    }
+}
+
+/// Which pages go stale by an event that takes.
+#[derive(Clone, Copy)]
+pub struct GoneStale<'a> {
+    pub processor: usize,
+    /// The records that it brings word of, by rising pages.
+    pub dues: &'a [Due],
+    /// Which copies were stale before it.
+    pub stale: &'a Stale,
+    /// Whether something was cut off, so that nobody knows which copies were stale.
+    pub is_cut: bool,
+}
+
+impl GoneStale<'_> {
+    /// Says the first records of a page, the one of this number.
+    fn put_page<W: fmt::Write>(
+        &self,
+        f: &mut fmt::Formatter<W>,
+        due: Due,
+        number: usize,
+    ) -> fmt::Result {
+        if number > 1 {
+            f.write_str("; ")?;
+        }
+        let Due {
+            page,
+            writer,
+            records,
+        } = due;
+        let records = Count(records, "record");
+        if self.is_cut || self.stale.is(page, self.processor) {
+            write!(f, "page {page} lacks {records} more of p{writer}")
+        } else {
+            write!(f, "page {page} goes stale: {records} of p{writer}")
+        }
+    }
+}
+
+impl fmt::Display for GoneStale<'_> {
+    fn fmt<W: fmt::Write>(&self, f: &mut fmt::Formatter<W>) -> fmt::Result {
+        let mut pages: usize = 0;
+        let mut last = None;
+        for due in self.dues {
+            let is_next = last != Some(due.page);
+            if is_next {
+                pages = pages.saturating_add(1);
+                last = Some(due.page);
+            }
+            if pages > MOST_TOLD {
+                continue;
+            }
+            if is_next {
+                self.put_page(f, *due, pages)?;
+            } else {
+                write!(f, ", {} of p{}", due.records, due.writer)?;
+            }
+        }
+        if pages > MOST_TOLD {
+            let more = Count(pages.saturating_sub(MOST_TOLD), "more page");
+            write!(f, "; {more}")?;
+        }
+        Ok(())
+    }
+}

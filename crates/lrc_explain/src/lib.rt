@@ -1,0 +1,28 @@
+//! The text of the command `lrc explain`: a run of a script by turns, told for a person.
+//!
+//! **What contracts see.** `end_text` of specs/Texts: the lines that a report's text consists of without its journal, and
+//! nothing of a run that can't go on. A writer by the bytes that it was given (`contents`).
+//!
+//! **What is proved.** `render` and `render_pages` answer Ok only where they wrote one text that ends with `end_text`: the shown words, the
+//! verdict and the traffic, byte for byte as `lrc_report` prints them. After NoMemory and OutOfRange nothing was written.
+//! The loads' sources, the ways to them, the race and the records that are told are those of crate `why`.
+//!
+//! **What is only tested** (in `lrc_explain_tests`): the rest of the text, and that the text is one write.
+#![tactic(auto)]
+
+mod earlier;
+mod fault;
+mod halting;
+mod held;
+mod history;
+mod journey;
+mod label;
+mod lacks;
+mod layout;
+mod notes;
+mod racing;
+mod rendering;
+mod story;
+
+pub use fault::ExplainFault;
+pub use rendering::{render, render_pages};

@@ -1,0 +1,114 @@
+//! Writes what is told of a run.
+ghost use Rattle.std.specs.Prelude.{◌≡◌, ◌++◌, IfErr, IfOk, OnOk, false};
+ghost use Rattle.std.specs.Io.KnownBytes.{Appends};
+ghost use Rattle.lrc_report.specs.Prelude.{report_text};
+ghost use Rattle.lrc_explain.specs.declared.fault.ExplainFault.TheVariants.{Output};
+ghost use Rattle.lrc_explain.specs.Prelude.{IsToldText, IsWritten, IsUnwritten};
+
+use crate::fault::ExplainFault;
+use crate::story::{halted_story, story_of};
+use lrc_report::Report;
+use lrc_report::render::render as render_report;
+use runs::Ended;
+use std::alloc::Global;
+use std::io::Write;
+
+/// Adds the report's lines. The only error is running out of memory.
+fn put_report(text: &mut Vec<u8>, report: &Report) -> Result<(), ExplainFault>
+    ensures { OnOk result (text.new.items ≡ text.old.items ++ report_text report.now false) }
+{
+    match render_report(report, false, text) {
+        Ok(()) => Ok(()),
+        Err(_) => Err(ExplainFault::NoMemory),
+    }
+}
+
+/// The text of a run of so many processors, whose pages have so many words, where that is known.
+fn text_of(
+    alloc: Global,
+    processors: usize,
+    words: Option<usize>,
+    ended: &Ended,
+) -> Result<Vec<u8>, ExplainFault>
+    ensures { IfOk result (λ v. IsToldText ended.now v.items) }
+{
+    match ended {
+        Ended::Whole(report) => {
+            let story = story_of(alloc, processors, words, &report.journal)?;
+            let mut text = story.text.into_bytes();
+            put_report(&mut text, report)?;
+            Ok(text)
+        }
+        Ended::Halted(halt) => {
+            let text = halted_story(alloc, processors, words, &halt.journal)?;
+            Ok(text.into_bytes())
+        }
+    }
+}
+
+/// Writes the text and flushes the writer.
+fn write_text<W: Write>(text: &[u8], out: &mut W) -> Result<(), ExplainFault>
+    ensures written { OnOk result (Appends (W.contents out.old) (W.contents out.new) text.now) }
+    ensures fault { IfErr result (λ e. e ≡ Output) }
+{
+    match out.write_all(text) {
+        Ok(()) => match out.flush() {
+            Ok(()) => Ok(()),
+            Err(_) => Err(ExplainFault::Output),
+        },
+        Err(_) => Err(ExplainFault::Output),
+    }
+}
+
+/// Tells a run of so many processors, in one write where the writer takes all of it, and flushes the writer.
+///
+/// First comes `cut N` where N events were cut off, then a line of lanes' titles, and a line for each event that is left:
+/// its number, what it did in its processor's lane, and to the right why. Then come the sentences on the first race, where
+/// there is one. At the end stand the report's lines without its journal; of a run that can't go on, for what each
+/// processor waits, with those that wait for each other in a circle in one line.
+///
+/// A lane is as wide as its longest label, but at most 16. Where there are more than eight processors, labels are short
+/// and a lane is at most 10 wide, so that sixteen lanes and numbers of eight digits take 200 columns. A longer label runs
+/// on. What stands to the right of the lanes doesn't count.
+///
+/// It takes time and memory as `why::explain` does, and memory for the whole text.
+///
+/// # Errors
+///
+/// Output where a write or the flush fails; NoMemory and OutOfRange, after which nothing was written.
+pub fn render<W: Write>(
+    alloc: Global,
+    processors: usize,
+    ended: &Ended,
+    out: &mut W,
+) -> Result<(), ExplainFault>
+    ensures written { OnOk result (IsWritten (W.contents out.old) (W.contents out.new) ended.now) }
+    ensures unwritten { IfErr result (IsUnwritten (W.contents out.old) (W.contents out.new)) }
+{
+    let text = text_of(alloc, processors, None, ended)?;
+    write_text(&text, out)
+}
+
+/// Tells a run as `render` does, and besides, where a page has `words` words: of each event that takes, which pages go
+/// stale by it, by how many records of whom; and of each fetch, whose records it brings. Of the pages at most three are
+/// told. What was cut off isn't told: a page may lack records from before the cut besides.
+///
+/// It takes time as `why::dues` does besides.
+///
+/// # Errors
+///
+/// Those of `render`; OutOfRange also where the addresses aren't pages of so many words, at most 64 of 64, and where the
+/// journal has a lock or a flag past 31.
+pub fn render_pages<W: Write>(
+    alloc: Global,
+    processors: usize,
+    words: usize,
+    ended: &Ended,
+    out: &mut W,
+) -> Result<(), ExplainFault>
+    ensures written { OnOk result (IsWritten (W.contents out.old) (W.contents out.new) ended.now) }
+    ensures unwritten { IfErr result (IsUnwritten (W.contents out.old) (W.contents out.new)) }
+{
+    let text = text_of(alloc, processors, Some(words), ended)?;
+    write_text(&text, out)
+}

@@ -1,0 +1,35 @@
+-- The layout of a picture.
+use Rattle.std.specs.Prelude.{ℕ, ◌≡◌, ◌+◌, ◌*◌, ◌<◌, ◌≤◌, IfSome, List, Option, length}
+use Rattle.std.specs.Global.{Vec}
+use Rattle.lists.specs.Limits.{most_held, most_processors}
+use Rattle.journal.specs.declared.event.Event.{Event}
+use Rattle.journal.specs.Events.{At}
+use Rattle.journal.specs.InRange.{ProcessorsInRange}
+use Rattle.lrc_picture.specs.declared.grid.Grid.{Grid}
+use Rattle.lrc_picture.specs.declared.layout.Layout.{Layout}
+use Rattle.lrc_picture.specs.Arrows.{ArePlaces}
+use Rattle.lrc_picture.specs.Label.{label_text}
+use Rattle.lrc_picture.specs.Marks.{AreMarks}
+
+-- these events of n processors can be drawn, with these places that lead to each
+pub record CanBeDrawn (n : ℕ) (j : List Event) (incoming : List (Vec ℕ)) : Type 0 where
+  pub few : length j ≤ most_held
+  pub few_processors : n ≤ most_processors
+  pub processors : ProcessorsInRange n j
+  pub places : ArePlaces (length j) incoming
+
+-- a lane for each of n processors, a row for each event and one more, and lanes so far from each other that the longest
+-- label fits in between, at eight pixels a byte
+pub record IsGridOf (n : ℕ) (j : List Event) (g : Grid) : Type 0 where
+  pub lanes : g.lanes ≡ n
+  pub rows : length j < g.rows
+  pub wide : (k : ℕ) (e : Event) → At j k e → length (label_text e.kind) * 8 + 40 ≤ g.step
+
+-- such a grid, and a mark for each event
+pub record IsLayoutOf (n : ℕ) (j : List Event) (l : Layout) : Type 0 where
+  pub grid : IsGridOf n j l.grid
+  pub marks : AreMarks l.grid j l.marks.items
+
+-- both places lie below n
+abbrev pub IsWithin : ℕ → Option (ℕ × ℕ) → Type 0
+IsWithin n o = IfSome o (λ r. (r.0 < n) × (r.1 < n))

@@ -1,0 +1,88 @@
+//! Where the lanes and rows of a picture lie, in pixels.
+ghost use Rattle.std.specs.Prelude.{◌≡◌, ◌≤◌, ◌^◌};
+ghost use Rattle.lists.specs.Prelude.{most_processors};
+
+/// A point of the picture, in pixels from its left upper corner.
+#[derive(Clone, Copy, Debug, PartialEq, Eq)]
+pub struct Point {
+    /// To the right.
+    pub x: usize,
+    /// Downwards.
+    pub y: usize,
+}
+
+/// How many lanes and rows a picture has, and how far the lanes are from each other. A lane is a processor's line with the
+/// labels to its right; a row is an event's.
+#[derive(Clone, Copy, Debug, PartialEq, Eq)]
+pub struct Grid {
+    /// How many lanes there are.
+    pub lanes: usize,
+    /// How many rows there are.
+    pub rows: usize,
+    /// From a lane to the next, in pixels.
+    pub step: usize,
+    pub ghost lanes_few: { lanes ≤ most_processors },
+    pub ghost rows_few: { rows ≤ 2 ^ 22 },
+    pub ghost step_small: { step ≤ 2 ^ 12 },
+}
+
+/// Where the first lane is.
+const LEFT: usize = 104;
+
+/// Where the first row is.
+const TOP: usize = 56;
+
+/// From a row to the next.
+const ROW: usize = 24;
+
+/// How wide the legend is, with the room to its left.
+const LEGEND: usize = 380;
+
+/// What is below the last row.
+const BOTTOM: usize = 16;
+
+impl Grid {
+    ghost use Rattle.lrc_picture.specs.Grid.{crossing, height_of, width_of, x_of, y_of};
+
+    /// Where the line of this processor is; for the number of lanes, where the legend begins.
+    pub fn lane_x(self, processor: usize) -> usize
+        requires { processor ≤ self.lanes }
+        ensures { result ≡ x_of self processor }
+    {
+        LEFT + processor * self.step
+    }
+
+    /// Where the events of this row are.
+    pub fn row_y(self, row: usize) -> usize
+        requires { row ≤ self.rows }
+        ensures { result ≡ y_of self row }
+    {
+        TOP + row * ROW
+    }
+
+    /// Where the line of this processor and this row meet.
+    pub fn point(self, processor: usize, row: usize) -> Point
+        requires lane { processor ≤ self.lanes }
+        requires row { row ≤ self.rows }
+        ensures { result ≡ crossing self processor row }
+    {
+        Point {
+            x: self.lane_x(processor),
+            y: self.row_y(row),
+        }
+    }
+
+    /// How wide the picture is.
+    pub fn width(self) -> usize
+        ensures { result ≡ width_of self }
+    {
+        self.lane_x(self.lanes) + LEGEND
+    }
+
+    /// How high the picture is.
+    pub fn height(self) -> usize
+        ensures { result ≡ height_of self }
+    {
+        self.row_y(self.rows) + BOTTOM
+    }
+}

@@ -1,0 +1,73 @@
+//! The layout of a picture: what stands where.
+ghost use Rattle.std.specs.Prelude.{◌≤◌, IfOk, length};
+ghost use Rattle.lists.specs.Prelude.{most_held, most_processors};
+ghost use Rattle.lrc_picture.specs.Prelude.{CanBeDrawn, IsGridOf, IsLayoutOf};
+
+use crate::arrows::{Arrow, arrows};
+use crate::bars::{Line, bars};
+use crate::grid::Grid;
+use crate::label::widest;
+use crate::marks::{Mark, marks};
+use journal::Event;
+use std::alloc::{AllocError, Global};
+
+/// What stands where in a picture.
+#[derive(Drop)]
+pub struct Layout {
+    pub grid: Grid,
+    /// A mark for each event, in order.
+    pub marks: Vec<Mark>,
+    /// The arrows to events that were let through by another processor's.
+    pub arrows: Vec<Arrow>,
+    /// The bars of the barrier.
+    pub bars: Vec<Line>,
+}
+
+/// How many characters a lane's head has at most.
+const HEAD: usize = 12;
+
+/// How wide a character is at most, in pixels.
+const CHARACTER: usize = 8;
+
+/// The room between a lane and its labels and behind these, in pixels.
+const GAP: usize = 40;
+
+/// How many rows the legend has.
+const LEGEND_ROWS: usize = 11;
+
+/// The grid of the picture of these events. The only error is running out of memory.
+fn grid_of(alloc: Global, processors: usize, events: &[Event]) -> Result<Grid, AllocError>
+    requires few { length events.now ≤ most_held }
+    requires few_processors { processors ≤ most_processors }
+    ensures { IfOk result (IsGridOf processors events.now) }
+{
+    let label = widest(alloc, events)?;
+    Ok(Grid {
+        lanes: processors,
+        rows: (events.len() + 1).max(LEGEND_ROWS),
+        step: GAP + label.max(HEAD) * CHARACTER,
+    })
+}
+
+/// The layout of the picture of these events of so many processors: `incoming` names for each event the places of those
+/// that let it through. The only error is running out of memory. It takes time in the order of the events and the places.
+pub fn lay_out(
+    alloc: Global,
+    processors: usize,
+    events: &[Event],
+    incoming: &[Vec<usize>],
+) -> Result<Layout, AllocError>
+    requires { CanBeDrawn processors events.now incoming.now }
+    ensures { IfOk result (IsLayoutOf processors events.now) }
+{
+    let grid = grid_of(alloc, processors, events)?;
+    let marks = marks(alloc, grid, events)?;
+    let arrows = arrows(alloc, grid, events, incoming)?;
+    let bars = bars(alloc, grid, events)?;
+    Ok(Layout {
+        grid,
+        marks,
+        arrows,
+        bars,
+    })
+}

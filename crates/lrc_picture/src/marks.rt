@@ -1,0 +1,72 @@
+//! The marks of a picture.
+ghost use Rattle.std.specs.Prelude.{◌≡◌, ◌<◌, ◌≤◌, IfOk, length};
+ghost use Rattle.journal.specs.Prelude.{ProcessorsInRange};
+ghost use Rattle.lrc_picture.specs.Prelude.{AreMarks, mark_for, shape_for};
+
+use crate::grid::{Grid, Point};
+use journal::{Event, Kind};
+use std::alloc::{AllocError, Global};
+
+/// How a mark looks.
+#[derive(Clone, Copy, Debug, PartialEq, Eq)]
+pub enum Shape {
+    /// A circle, filled: a store.
+    Disc,
+    /// A circle: a load.
+    Ring,
+    /// A short bar: a fetch.
+    Dash,
+    /// A square: an event that begins to wait.
+    Frame,
+    /// A square, filled: an event that others wait for.
+    Block,
+    /// A triangle: the end of a wait.
+    Wedge,
+}
+
+/// The mark of an event.
+#[derive(Clone, Copy, Debug, PartialEq, Eq)]
+pub struct Mark {
+    pub at: Point,
+    pub shape: Shape,
+}
+
+/// How the mark of such an event looks.
+fn shape_of(kind: Kind) -> Shape
+    ensures { result ≡ shape_for kind }
+{
+    match kind {
+        Kind::Store(_, _) => Shape::Disc,
+        Kind::Load(_, _) => Shape::Ring,
+        Kind::Fetch { .. } => Shape::Dash,
+        Kind::Ask(_) | Kind::Watch(_) => Shape::Frame,
+        Kind::Release(_) | Kind::Set(_) | Kind::Arrive => Shape::Block,
+        Kind::Acquire(_) | Kind::Await(_) | Kind::Depart => Shape::Wedge,
+    }
+}
+
+/// The mark of the event in this row.
+fn mark_of(grid: Grid, row: usize, event: Event) -> Mark
+    requires lane { event.processor ≤ grid.lanes }
+    requires row { row ≤ grid.rows }
+    ensures { result ≡ mark_for grid row event }
+{
+    Mark {
+        at: grid.point(event.processor, row),
+        shape: shape_of(event.kind),
+    }
+}
+
+/// The marks of the events in order, each in a row of its own on its processor's line. The only error is running out of
+/// memory.
+pub fn marks(alloc: Global, grid: Grid, events: &[Event]) -> Result<Vec<Mark>, AllocError>
+    requires lanes { ProcessorsInRange grid.lanes events.now }
+    requires rows { length events.now ≤ grid.rows }
+    ensures { IfOk result (λ v. AreMarks grid events.now v.items) }
+{
+    let mut marks = Vec::with_capacity(alloc, events.len())?;
+    for row in 0..events.len() {
+        marks.push(mark_of(grid, row, events[row]))?;
+    }
+    Ok(marks)
+}
