@@ -110,7 +110,7 @@ impl<T: Turn<Book, Rule> + Drop> Desk<T> {
         Ok(say(out, said)?)
     }
 
-    /// Makes the call so often.
+    /// Makes the call that many times.
     fn repeat<R: Wait, W: Write>(
         &mut self,
         rt: &R,

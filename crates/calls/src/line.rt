@@ -9,9 +9,9 @@ use std::str::SplitAsciiWhitespace;
 pub enum Action {
     /// Nothing: the line is empty, or a comment.
     Nothing,
-    /// A cluster of so many processors, pages, words, locks and flags.
+    /// A cluster, by how many processors, pages, words a page, locks and flags it has.
     Open([usize; 5]),
-    /// The processor's call, so often.
+    /// The processor's call, that many times.
     Repeat(usize, usize, Call),
     /// The processor's call, once.
     Make(usize, Call),
@@ -19,7 +19,7 @@ pub enum Action {
     See(usize, Question),
     /// The cluster's end.
     Finish,
-    /// A journal of so many processors and addresses.
+    /// A journal, by how many processors and addresses it has.
     Begin(usize, usize),
     /// An event at its end, at this place.
     Append(u64, Event),

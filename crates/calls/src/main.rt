@@ -47,7 +47,7 @@ use std::sync::Wait;
 use std::{fs, io};
 use turn::{ArrayLock, TicketLock, Turn};
 
-/// An array lock that each processor may enter so often only.
+/// An array lock that each processor may enter only a few times.
 type FewArray = ArrayLock<Book, Rule, 4096>;
 
 /// The same with tickets.

@@ -1,5 +1,5 @@
 -- What the getters of clap's matches read, by the rows.
-use Rattle.std.proofs.Common.{◌≡◌, ◌⊎◌, ◌∙◌, ◌<◌, ◌≤◌, ◌^◌, ℕ, Bool, true, false, List, Option, Some, None, Result, Ok, Err, [], ◌∷◌, inl, refl, subst, sym, ap, ap₂, codes, arith}
+use Rattle.std.proofs.Common.{◌≡◌, ◌⊎◌, ◌∙◌, ◌<◌, ◌≤◌, ◌^◌, ℕ, Bool, true, false, List, Option, Some, None, Result, Ok, Err, [], ◌∷◌, inl, refl, subst, sym, ap, ap₂, codes}
 use Rattle.std.specs.Prelude.{◌||◌, IfOk, option_map}
 use Rattle.std.specs.Option.{option_map_or}
 use Rattle.std.specs.Str.{bytes_eq}
@@ -12,7 +12,7 @@ use Rattle.clap.proofs.WalkLemmas.{first_value-rows, one_text-rows}
 use Rattle.clap.specs.Values.{kind_of}
 use Rattle.clap.specs.declared.builder.value_parser.ValueParser.{ValueParser}
 use Rattle.clap.specs.declared.error.kind.ErrorKind.TheVariants.{OutOfMemory}
-use Rattle.lrc_options.specs.CommandLine.{IsNumberRead, IsNumberGiven, IsSeedGiven, IsFlagGiven, IsRefusedBy, TakesNames, number_of, most_tries, default_tries, most_seed}
+use Rattle.lrc_options.specs.CommandLine.{IsNumberRead, IsNumberGiven, IsSeedGiven, IsFlagGiven, IsRefusedBy, TakesNames, number_of, most_seed}
 
 -- a text that is a number is read as that
 number_reads : {E : Type 0} (t : Text) (G : List ℕ → Result ℕ E → Type 0) (r : Option ℕ) → ReadsOne G t r
@@ -32,35 +32,35 @@ number_read G f id r none value parses = record {
 }
 
 -- a number in range
-pub tries_in : (given : Option Text) (n : ℕ) → IsNumberRead given (Some n) → 1 ≤ n → n ≤ most_tries
-    → IsNumberGiven 1 most_tries default_tries given n
-tries_in given n r least most = record {
+pub number_in : (least most default : ℕ) (given : Option Text) (n : ℕ) → IsNumberRead given (Some n) → least ≤ n
+    → n ≤ most → IsNumberGiven least most default given n
+number_in least most default given n r above below = record {
   read = λ t is within. same_Some n (number_of t) (r.read t is within.0 within.1);
   default_is = λ is. absurd (cc (r.none is));
-  least_is = least;
-  most_is = most;
+  least_is = above;
+  most_is = below;
 }
 
 -- a number out of range
-pub tries_out : (given : Option Text) (n : ℕ) → IsNumberRead given (Some n) → (1 ≤ n → n ≤ most_tries → ⊥)
-    → IsNumberGiven 1 most_tries default_tries given 1000000
-tries_out given n r out = record {
+pub number_out : (least most default : ℕ) (given : Option Text) (n : ℕ) → IsNumberRead given (Some n)
+    → (least ≤ n → n ≤ most → ⊥) → least ≤ default → default ≤ most → IsNumberGiven least most default given default
+number_out least most default given n r out above below = record {
   read = λ t is within.
       let same = same_Some n (number_of t) (r.read t is within.0 within.1) in
       absurd (out (rw same within.2) (rw same within.3));
   default_is = λ is. refl;
-  least_is = omega arith;
-  most_is = omega arith;
+  least_is = above;
+  most_is = below;
 }
 
 -- no number
-pub tries_none : (given : Option Text) → IsNumberRead given None
-    → IsNumberGiven 1 most_tries default_tries given 1000000
-tries_none given r = record {
+pub number_none : (least most default : ℕ) (given : Option Text) → IsNumberRead given None → least ≤ default
+    → default ≤ most → IsNumberGiven least most default given default
+number_none least most default given r above below = record {
   read = λ t is within. absurd (cc (r.read t is within.0 within.1));
   default_is = λ is. refl;
-  least_is = omega arith;
-  most_is = omega arith;
+  least_is = above;
+  most_is = below;
 }
 
 -- a seed in range

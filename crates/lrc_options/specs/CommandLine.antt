@@ -11,11 +11,14 @@ use Rattle.clap.specs.declared.builder.value_parser.ValueParser.{ValueParser}
 use Rattle.clap.specs.declared.builder.value_parser.ValueParser.TheVariants as vp
 use Rattle.clap.specs.declared.error.Error.{Error}
 use Rattle.lrc_options.specs.declared.options.Asked.{Asked}
-use Rattle.lrc_options.specs.declared.options.Asked.TheVariants.{Script, Trace}
+use Rattle.lrc_options.specs.declared.options.Asked.TheVariants.{Explain, Explore, Sample, Script, Trace}
+use Rattle.lrc_options.specs.declared.options.ExplainOptions.{ExplainOptions}
+use Rattle.lrc_options.specs.declared.options.ExploreOptions.{ExploreOptions}
 use Rattle.lrc_options.specs.declared.options.Options.{Options}
+use Rattle.lrc_options.specs.declared.options.SampleOptions.{SampleOptions}
 use Rattle.lrc_options.specs.declared.options.TraceOptions.{TraceOptions}
 
--- the limits and the default of `--tries`, and the limit of `--seed`
+-- the limits and the default of `--tries`, the limit of `--seed`, `--seeds` and `--most`, and the defaults of the latter two
 abbrev pub most_tries : ℕ
 most_tries = 1000000000
 
@@ -24,6 +27,12 @@ default_tries = 1000000
 
 abbrev pub most_seed : ℕ
 most_seed = 2 ^ 32 - 1
+
+abbrev pub default_seeds : ℕ
+default_seeds = 1000
+
+abbrev pub default_most : ℕ
+default_most = 1000000
 
 -- an option with a value
 abbrev pub option_rule : Text → Rule
@@ -36,28 +45,58 @@ tries_rule =
 abbrev pub seed_rule : Rule
 seed_rule = record (option_rule (codes "seed")) { parser = Some (vp.Unsigned 0 most_seed) }
 
+abbrev pub seeds_rule : Rule
+seeds_rule =
+    record (option_rule (codes "seeds")) { parser = Some (vp.Unsigned 1 most_seed); defaults = codes "1000" ∷ [] }
+
+abbrev pub most_rule : Rule
+most_rule =
+    record (option_rule (codes "most")) { parser = Some (vp.Unsigned 0 most_seed); defaults = codes "1000000" ∷ [] }
+
 abbrev pub lock_rule : ValueParser → Rule
 lock_rule locks = record (option_rule (codes "lock")) { parser = Some locks; defaults = codes "array" ∷ [] }
 
-abbrev pub journal_rule : Rule
-journal_rule = record (new_rule (codes "journal")) { long = Some (codes "journal"); action = Some SetTrue }
+-- an option without a value
+abbrev pub flag_rule : Text → Rule
+flag_rule id = record (new_rule id) { long = Some id; action = Some SetTrue }
 
--- a command on a script's file, with one option of its own, `--lock` and `--journal`
+abbrev pub journal_rule : Rule
+journal_rule = flag_rule (codes "journal")
+
+abbrev pub svg_rule : Rule
+svg_rule = flag_rule (codes "svg")
+
+-- a command on a script's file, with one option of its own and `--lock`, which takes what this parser lets through
 abbrev pub script_app : Text → Rule → ValueParser → App
 script_app name own locks =
-    with_rule (with_rule (with_rule (with_rule (new_app name) (new_rule (codes "FILE"))) own) (lock_rule locks))
-    journal_rule
+    with_rule (with_rule (with_rule (new_app name) (new_rule (codes "FILE"))) own) (lock_rule locks)
 
--- `lrc run` and `lrc step`; `--lock` takes what this parser lets through
+-- the same with a flag
+abbrev pub flagged_app : Text → Rule → ValueParser → Rule → App
+flagged_app name own locks flag = with_rule (script_app name own locks) flag
+
+-- `lrc run` and `lrc step`
 abbrev pub run_app : ValueParser → App
-run_app locks = script_app (codes "run") tries_rule locks
+run_app locks = flagged_app (codes "run") tries_rule locks journal_rule
 
 abbrev pub step_app : ValueParser → App
-step_app locks = script_app (codes "step") seed_rule locks
+step_app locks = flagged_app (codes "step") seed_rule locks journal_rule
+
+-- `lrc explain`
+abbrev pub explain_app : ValueParser → App
+explain_app locks = flagged_app (codes "explain") seed_rule locks svg_rule
+
+-- `lrc sample`
+abbrev pub sample_app : ValueParser → App
+sample_app locks = script_app (codes "sample") seeds_rule locks
+
+-- `lrc explore`
+abbrev pub explore_app : App
+explore_app = with_rule (with_rule (new_app (codes "explore")) (new_rule (codes "FILE"))) most_rule
 
 -- `lrc check`
 abbrev pub lax_rule : Rule
-lax_rule = record (new_rule (codes "lax")) { long = Some (codes "lax"); action = Some SetTrue }
+lax_rule = flag_rule (codes "lax")
 
 abbrev pub check_app : App
 check_app = with_rule (with_rule (new_app (codes "check")) (new_rule (codes "FILE"))) lax_rule
@@ -66,7 +105,13 @@ check_app = with_rule (with_rule (new_app (codes "check")) (new_rule (codes "FIL
 abbrev pub lrc_app : ValueParser → App
 lrc_app locks = on_top (λ s. record s { subcommand_required = true; has_version = true })
     (with_subcommand
+    (with_subcommand
+    (with_subcommand
+    (with_subcommand
     (with_subcommand (with_subcommand (new_app (codes "lrc")) (run_app locks).top) (step_app locks).top)
+    (explain_app locks).top)
+    (sample_app locks).top)
+    explore_app.top)
     check_app.top)
 
 -- the parser takes these names and no others
@@ -117,10 +162,39 @@ pub record AreTraceOptionsOf (rows : List Row) (o : TraceOptions) : Type 0 where
   pub file : option_map (λ f. string_bytes f) o.file ≡ first_of (codes "FILE") rows
   pub lax : IsFlagGiven (one_of (codes "lax") rows) o.lax
 
+-- whether the ticket lock is asked for
+abbrev pub ticket_of : List Row → Bool
+ticket_of rows = option_map_or (λ t. bytes_eq t (codes "ticket")) (first_of (codes "lock") rows) false
+
+-- the options that the rows of `sample` give
+pub record AreSampleOptionsOf (rows : List Row) (o : SampleOptions) : Type 0 where
+  pub file : option_map (λ f. string_bytes f) o.file ≡ first_of (codes "FILE") rows
+  pub seeds : IsNumberGiven 1 most_seed default_seeds (one_of (codes "seeds") rows) o.seeds
+  pub ticket : o.ticket ≡ ticket_of rows
+
+-- the options that the rows of `explore` give
+pub record AreExploreOptionsOf (rows : List Row) (o : ExploreOptions) : Type 0 where
+  pub file : option_map (λ f. string_bytes f) o.file ≡ first_of (codes "FILE") rows
+  pub most : IsNumberGiven 0 most_seed default_most (one_of (codes "most") rows) o.most
+
+-- the options that the rows of `explain` give
+pub record AreExplainOptionsOf (rows : List Row) (o : ExplainOptions) : Type 0 where
+  pub file : option_map (λ f. string_bytes f) o.file ≡ first_of (codes "FILE") rows
+  pub seed : IsSeedGiven (one_of (codes "seed") rows) o.seed
+  pub ticket : o.ticket ≡ ticket_of rows
+  pub picture : IsFlagGiven (one_of (codes "svg") rows) o.picture
+
 -- what a command's name and its rows ask for
 abbrev pub AreAskedOf : Text → List Row → Asked → Type 0
-AreAskedOf name rows (Script o) = (bytes_eq name (codes "check") ≡ false) × AreOptionsOf name rows o
+AreAskedOf name rows (Explain o) = (bytes_eq name (codes "explain") ≡ true) × AreExplainOptionsOf rows o
+AreAskedOf name rows (Sample o) = (bytes_eq name (codes "sample") ≡ true) × AreSampleOptionsOf rows o
+AreAskedOf name rows (Explore o) = (bytes_eq name (codes "explore") ≡ true) × AreExploreOptionsOf rows o
 AreAskedOf name rows (Trace o) = (bytes_eq name (codes "check") ≡ true) × AreTraceOptionsOf rows o
+AreAskedOf name rows (Script o) = (bytes_eq name (codes "explain") ≡ false)
+    × (bytes_eq name (codes "sample") ≡ false)
+    × (bytes_eq name (codes "explore") ≡ false)
+    × (bytes_eq name (codes "check") ≡ false)
+    × AreOptionsOf name rows o
 
 -- what the words ask for, by the matches of a simple command, which find no fault in them
 pub record AreGiven (words : List Text) (o : Asked) : Type 0 where

@@ -4,11 +4,15 @@ ghost use Rattle.std.specs.Option.{option_map_or};
 ghost use Rattle.std.specs.Str.{bytes_eq};
 ghost use Rattle.clap.specs.Words.{first_of, one_of, rows_of, found_of};
 ghost use Rattle.lrc_options.specs.CommandLine.{IsNumberRead, IsNumberGiven, IsSeedGiven, IsFlagGiven, AreAskedOf, AreOptionsOf};
-ghost use Rattle.lrc_options.specs.CommandLine.{AreTraceOptionsOf};
-ghost use Rattle.lrc_options.specs.CommandLine.{AreGiven, IsRefusedBy, most_tries, default_tries};
+ghost use Rattle.lrc_options.specs.CommandLine.{AreExplainOptionsOf, AreExploreOptionsOf, AreSampleOptionsOf};
+ghost use Rattle.lrc_options.specs.CommandLine.{AreTraceOptionsOf, default_most, ticket_of};
+ghost use Rattle.lrc_options.specs.CommandLine.{AreGiven, IsRefusedBy, most_tries, most_seed, default_tries, default_seeds};
 
 use crate::command::{LOCKS, MOST_SEED, MOST_TRIES, lrc_command};
-use crate::options::{Asked, DEFAULT_TRIES, Options, TraceOptions};
+use crate::options::{
+    Asked, DEFAULT_MOST, DEFAULT_SEEDS, DEFAULT_TRIES, ExplainOptions, ExploreOptions, Options,
+    SampleOptions, TraceOptions,
+};
 use crate::tips::with_tip;
 use clap::{ArgMatches, Error};
 use std::alloc::{AllocError, Global};
@@ -41,10 +45,31 @@ fn seed_of(matches: &ArgMatches<'_>) -> Option<u64>
     }
 }
 
+/// The number given for `--seeds`, or the default.
+fn seeds_of(matches: &ArgMatches<'_>) -> u32
+    ensures { IsNumberGiven 1 most_seed default_seeds
+        (one_of (codes "seeds") (rows_of (found_of matches.now))) result }
+{
+    match number_of(matches, "seeds") {
+        Some(seeds) if 1 <= seeds && seeds <= MOST_SEED => seeds as u32,
+        _ => DEFAULT_SEEDS,
+    }
+}
+
+/// The number given for `--most`, or the default.
+fn most_of(matches: &ArgMatches<'_>) -> u32
+    ensures { IsNumberGiven 0 most_seed default_most
+        (one_of (codes "most") (rows_of (found_of matches.now))) result }
+{
+    match number_of(matches, "most") {
+        Some(most) if most <= MOST_SEED => most as u32,
+        _ => DEFAULT_MOST,
+    }
+}
+
 /// Whether the ticket lock is asked for.
 fn is_ticket(matches: &ArgMatches<'_>) -> bool
-    ensures { result ≡ option_map_or (λ t. bytes_eq t (codes "ticket"))
-        (first_of (codes "lock") (rows_of (found_of matches.now))) false }
+    ensures { result ≡ ticket_of (rows_of (found_of matches.now)) }
 {
     match matches.get_str("lock") {
         Some(lock) => lock == "ticket",
@@ -57,6 +82,13 @@ fn wants_journal(matches: &ArgMatches<'_>) -> bool
     ensures { IsFlagGiven (one_of (codes "journal") (rows_of (found_of matches.now))) result }
 {
     matches.get_flag("journal")
+}
+
+/// Whether a picture is asked for.
+fn wants_picture(matches: &ArgMatches<'_>) -> bool
+    ensures { IsFlagGiven (one_of (codes "svg") (rows_of (found_of matches.now))) result }
+{
+    matches.get_flag("svg")
 }
 
 /// Whether what only this memory asks is to be left out.
@@ -92,6 +124,42 @@ fn options_of(alloc: Global, name: &str, matches: &ArgMatches<'_>) -> Result<Opt
     })
 }
 
+/// The options that the matches of `explain` give.
+fn explain_options_of(alloc: Global, matches: &ArgMatches<'_>) -> Result<ExplainOptions, AllocError>
+    ensures { IfOk result (AreExplainOptionsOf (rows_of (found_of matches.now))) }
+{
+    let file = file_of(alloc, matches)?;
+    Ok(ExplainOptions {
+        file,
+        seed: seed_of(matches),
+        ticket: is_ticket(matches),
+        picture: wants_picture(matches),
+    })
+}
+
+/// The options that the matches of `sample` give.
+fn sample_options_of(alloc: Global, matches: &ArgMatches<'_>) -> Result<SampleOptions, AllocError>
+    ensures { IfOk result (AreSampleOptionsOf (rows_of (found_of matches.now))) }
+{
+    let file = file_of(alloc, matches)?;
+    Ok(SampleOptions {
+        file,
+        seeds: seeds_of(matches),
+        ticket: is_ticket(matches),
+    })
+}
+
+/// The options that the matches of `explore` give.
+fn explore_options_of(alloc: Global, matches: &ArgMatches<'_>) -> Result<ExploreOptions, AllocError>
+    ensures { IfOk result (AreExploreOptionsOf (rows_of (found_of matches.now))) }
+{
+    let file = file_of(alloc, matches)?;
+    Ok(ExploreOptions {
+        file,
+        most: most_of(matches),
+    })
+}
+
 /// The options that the matches of `check` give.
 fn trace_options_of(alloc: Global, matches: &ArgMatches<'_>) -> Result<TraceOptions, AllocError>
     ensures { IfOk result (AreTraceOptionsOf (rows_of (found_of matches.now))) }
@@ -107,7 +175,13 @@ fn trace_options_of(alloc: Global, matches: &ArgMatches<'_>) -> Result<TraceOpti
 fn asked_of(alloc: Global, name: &str, matches: &ArgMatches<'_>) -> Result<Asked, AllocError>
     ensures { IfOk result (AreAskedOf name.now (rows_of (found_of matches.now))) }
 {
-    if name == "check" {
+    if name == "explain" {
+        Ok(Asked::Explain(explain_options_of(alloc, matches)?))
+    } else if name == "sample" {
+        Ok(Asked::Sample(sample_options_of(alloc, matches)?))
+    } else if name == "explore" {
+        Ok(Asked::Explore(explore_options_of(alloc, matches)?))
+    } else if name == "check" {
         Ok(Asked::Trace(trace_options_of(alloc, matches)?))
     } else {
         Ok(Asked::Script(options_of(alloc, name, matches)?))
@@ -115,7 +189,8 @@ fn asked_of(alloc: Global, name: &str, matches: &ArgMatches<'_>) -> Result<Asked
 }
 
 /// Reads the words, the program's name first: `lrc run [FILE] [--tries N] [--lock KIND] [--journal]`,
-/// `lrc step [FILE] [--seed N] [--lock KIND] [--journal]` or `lrc check [FILE] [--lax]`.
+/// `lrc step [FILE] [--seed N] [--lock KIND] [--journal]`, `lrc explain [FILE] [--seed N] [--lock KIND] [--svg]`,
+/// `lrc sample [FILE] [--seeds N] [--lock KIND]`, `lrc explore [FILE] [--most N]` or `lrc check [FILE] [--lax]`.
 ///
 /// # Errors
 ///

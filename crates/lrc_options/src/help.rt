@@ -15,7 +15,7 @@ p 1\\nacquire 0\\nadd 0 1\\nrelease 0\\nshow 0\\n' | lrc step --journal
 
 Statuses: 0 done; 2 the script or the trace is refused; 3 no progress; 4 a limit, want of memory, a
 thread that couldn't be started, or a failed write; 5 usage, or the file can't be read; 6 the trace
-isn't faithful.";
+isn't faithful; 7 a search was given up.";
 
 /// What a script says, and what is printed of it.
 pub(crate) const SCRIPT: &str = "A script, a line each:
@@ -44,6 +44,47 @@ What is printed:
     arrive, depart         came to a barrier; went on from it
     set F                  set flag F
     watch F, await F       began to wait for flag F; found it set";
+
+/// What is printed of a run that is told.
+pub(crate) const EXPLAIN: &str = "The script is as `lrc run --help` tells it. What is printed:
+  a line for each event    its number, what it did, in its processor's column, and why: which store a load
+                           answers, what a fetch brought, for whom a processor waits
+  a race                   the first one: its two events, and what the second had heard of the first
+  word, verdict, traffic   as `lrc step` prints them; where no processor gets on, what each waits for
+
+Statuses: 0 done; 2 the script is refused; 3 no progress: the run is told so far; 4 a limit, running out of
+memory, or a failed write; 5 usage, or the file can't be read.";
+
+/// What is printed of a script's runs under many seeds.
+pub(crate) const SAMPLE: &str =
+    "The script is as `lrc run --help` tells it. What is printed, the most frequent result first:
+  runs R                   there were R runs, each as `lrc step` makes it
+  result K S RESULT        K of them came to this; the first one had seed S, or `-` for none. RESULT is one of
+    race-free words A V .. replies pP V ..
+                           address A has V in the end, and the loads of processor P answered V .., in order, as
+                           far as the journal has them
+    racy words ..          the same of a run with a race
+    stuck P                no processor got on, and P is the least that waits
+
+Statuses: 0 done, whatever the results; 2 the script is refused; 4 a limit, running out of memory, or a
+failed write; 5 usage, or the file can't be read.";
+
+/// What is printed of all schedules of a script.
+pub(crate) const EXPLORE: &str =
+    "The script is as `lrc run --help` tells it. All orders of its events on one flat memory are looked at; where
+none of them races, each run of the script is one of them. What is printed:
+  verdict race-free under every schedule
+    outcomes N             whole runs have N results, a line each:
+      word A V  replies pP: V ..
+                             address A has V in the end, and the loads of processor P answered V .., in order
+    hangs never            or `hangs`, then the events of a schedule that can't go on, and who waits for what
+  verdict racy             then the events of a schedule that races, and its two accesses behind `race`
+  states N                 N states were found
+  verdict undecided after N states
+                           the search was given up; nothing else is printed
+
+Statuses: 0 done, whatever the verdict; 2 the script is refused; 4 running out of memory, or a failed
+write; 5 usage, or the file can't be read; 7 undecided.";
 
 /// What a trace is, and what is printed of it.
 pub(crate) const TRACE: &str =

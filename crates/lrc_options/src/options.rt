@@ -5,8 +5,47 @@
 pub enum Asked {
     /// A script is to be run, by `run` or `step`.
     Script(Options),
+    /// A run of a script by turns is to be told, by `explain`.
+    Explain(ExplainOptions),
+    /// A script is to be run by turns under many seeds, by `sample`.
+    Sample(SampleOptions),
+    /// All schedules of a script are to be looked at, by `explore`.
+    Explore(ExploreOptions),
     /// A trace is to be judged, by `check`.
     Trace(TraceOptions),
+}
+
+/// Which run of a script is to be told, and how.
+#[derive(Drop)]
+pub struct ExplainOptions {
+    /// The file to read the script from, or None for standard input.
+    pub file: Option<String>,
+    /// What the orders of the rounds are drawn from, or None for 0, 1, .. in each.
+    pub seed: Option<u64>,
+    /// Whether the book's lock is the ticket lock, and not the array lock.
+    pub ticket: bool,
+    /// Whether a picture of the run is printed, as an SVG file, and not its text.
+    pub picture: bool,
+}
+
+/// How a script is to be sampled.
+#[derive(Drop)]
+pub struct SampleOptions {
+    /// The file to read the script from, or None for standard input.
+    pub file: Option<String>,
+    /// How many seeds the script is run with, beside the run without one: those from 0 on. It is 1 at least.
+    pub seeds: u32,
+    /// Whether the book's lock is the ticket lock, and not the array lock.
+    pub ticket: bool,
+}
+
+/// How far all schedules of a script are to be looked at.
+#[derive(Drop)]
+pub struct ExploreOptions {
+    /// The file to read the script from, or None for standard input.
+    pub file: Option<String>,
+    /// How many states are looked at before the search is given up.
+    pub most: u32,
 }
 
 /// How a trace is to be judged.
@@ -20,6 +59,12 @@ pub struct TraceOptions {
 
 /// The tries where none are given.
 pub(crate) const DEFAULT_TRIES: u64 = 1_000_000;
+
+/// The seeds where none are given.
+pub(crate) const DEFAULT_SEEDS: u32 = 1000;
+
+/// The states where no number is given.
+pub(crate) const DEFAULT_MOST: u32 = 1_000_000;
 
 /// How a script is to be run.
 #[derive(Drop)]

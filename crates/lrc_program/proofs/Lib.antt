@@ -1,4 +1,3 @@
 pub mod Reading
 pub mod Serving
 pub mod Statuses
-pub mod Judging

@@ -3,7 +3,7 @@ use Rattle.std.proofs.Common.{◌≡◌, ◌≢◌, ◌∙◌, ℕ, inl, inr, sy
 use Rattle.runs.specs.declared.cause.Cause.{Cause}
 use Rattle.runs.specs.declared.cause.Cause.TheVariants.{Stuck, Gate, Thread, Refused}
 use Rattle.lrc_program.specs.declared.fault.ProgramFault.{ProgramFault}
-use Rattle.lrc_program.specs.declared.fault.ProgramFault.TheVariants.{Words, Unreadable, Script, Trace, Long, Run, Output, NoMemory}
+use Rattle.lrc_program.specs.declared.fault.ProgramFault.TheVariants.{Words, Unreadable, Script, Run, Output, NoMemory}
 use Rattle.lrc_program.specs.Statuses.{status_of_cause, status_of, IsStatusOf, IsScripts, IsBeforeOutput}
 
 -- a run's fault has status 3 or 4
@@ -21,34 +21,28 @@ cause_others Thread is = absurd (omega (arith, is))
 cause_others (Refused refused) is = absurd (omega (arith, is))
 
 -- a fault has some status
-some : (fault : ProgramFault) → status_of fault ≢ 0
+pub some : (fault : ProgramFault) → status_of fault ≢ 0
 some (Words reason) is = absurd (omega (arith, is))
 some (Unreadable reason) is = absurd (omega (arith, is))
 some (Script line fault) is = absurd (omega (arith, is))
-some (Trace line fault) is = absurd (omega (arith, is))
-some Long is = absurd (omega (arith, is))
 some (Run fault) is = cause_some fault.cause is
 some Output is = absurd (omega (arith, is))
 some NoMemory is = absurd (omega (arith, is))
 
 -- status 2 is the script's
-scripts : (fault : ProgramFault) → status_of fault ≡ 2 → IsScripts fault
+pub scripts : (fault : ProgramFault) → status_of fault ≡ 2 → IsScripts fault
 scripts (Words reason) is = absurd (omega (arith, is))
 scripts (Unreadable reason) is = absurd (omega (arith, is))
 scripts (Script line fault) is = tt
-scripts (Trace line fault) is = tt
-scripts Long is = absurd (omega (arith, is))
 scripts (Run fault) is = absurd (cause_others fault.cause is)
 scripts Output is = absurd (omega (arith, is))
 scripts NoMemory is = absurd (omega (arith, is))
 
 -- a fault of the output has status 4
-before : (fault : ProgramFault) → status_of fault ≢ 4 → IsBeforeOutput fault
+pub before : (fault : ProgramFault) → status_of fault ≢ 4 → IsBeforeOutput fault
 before (Words reason) isnt = tt
 before (Unreadable reason) isnt = tt
 before (Script line fault) isnt = tt
-before (Trace line fault) isnt = tt
-before Long isnt = tt
 before (Run fault) isnt = tt
 before Output isnt = absurd (isnt refl)
 before NoMemory isnt = tt
@@ -67,25 +61,3 @@ told_script fault status (inr none) is = absurd (omega (arith, none, is))
 pub told_before : (fault : ProgramFault) (status : ℕ) → IsStatusOf fault status → status ≢ 4 → IsBeforeOutput fault
 told_before fault status (inl its) isnt = before fault (λ is. isnt (its ∙ is))
 told_before fault status (inr none) isnt = absurd (isnt none)
-
--- nor 6, which is that of a trace that isn't faithful
-cause_not_6 : (cause : Cause) → status_of_cause cause ≢ 6
-cause_not_6 Stuck is = absurd (omega (arith, is))
-cause_not_6 Gate is = absurd (omega (arith, is))
-cause_not_6 Thread is = absurd (omega (arith, is))
-cause_not_6 (Refused refused) is = absurd (omega (arith, is))
-
-not_6 : (fault : ProgramFault) → status_of fault ≢ 6
-not_6 (Words reason) is = absurd (omega (arith, is))
-not_6 (Unreadable reason) is = absurd (omega (arith, is))
-not_6 (Script line fault) is = absurd (omega (arith, is))
-not_6 (Trace line fault) is = absurd (omega (arith, is))
-not_6 Long is = absurd (omega (arith, is))
-not_6 (Run fault) is = cause_not_6 fault.cause is
-not_6 Output is = absurd (omega (arith, is))
-not_6 NoMemory is = absurd (omega (arith, is))
-
--- what is told of a fault isn't 6
-pub told_not_6 : (fault : ProgramFault) (status : ℕ) → IsStatusOf fault status → status ≢ 6
-told_not_6 fault status (inl its) is = not_6 fault (sym its ∙ is)
-told_not_6 fault status (inr none) is = absurd (omega (arith, none, is))

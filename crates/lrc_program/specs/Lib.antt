@@ -1,4 +1,3 @@
 pub mod Served
 pub mod Statuses
-pub mod Judged
 pub mod Prelude

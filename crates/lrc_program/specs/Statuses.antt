@@ -3,7 +3,7 @@ use Rattle.std.specs.Prelude.{ℕ, ◌≡◌, ◌⊎◌, ⊤}
 use Rattle.runs.specs.declared.cause.Cause.{Cause}
 use Rattle.runs.specs.declared.cause.Cause.TheVariants.{Stuck}
 use Rattle.lrc_program.specs.declared.fault.ProgramFault.{ProgramFault}
-use Rattle.lrc_program.specs.declared.fault.ProgramFault.TheVariants.{Words, Unreadable, Script, Trace, Run, Output, NoMemory}
+use Rattle.lrc_program.specs.declared.fault.ProgramFault.TheVariants.{Words, Unreadable, Script, Run, Output, NoMemory}
 
 -- a run without progress has a status of its own
 abbrev pub status_of_cause : Cause → ℕ
@@ -15,7 +15,6 @@ abbrev pub status_of : ProgramFault → ℕ
 status_of (Words reason) = 5
 status_of (Unreadable reason) = 5
 status_of (Script line fault) = 2
-status_of (Trace line fault) = 2
 status_of (Run fault) = status_of_cause fault.cause
 status_of _ = 4
 
@@ -23,10 +22,9 @@ status_of _ = 4
 abbrev pub IsStatusOf : ProgramFault → ℕ → Type 0
 IsStatusOf fault status = (status ≡ status_of fault) ⊎ (status ≡ status_of NoMemory)
 
--- the fault is the script's, or the trace's
+-- the fault is the script's
 abbrev pub IsScripts : ProgramFault → Type 0
 IsScripts (Script line fault) = ⊤
-IsScripts (Trace line fault) = ⊤
 IsScripts _ = ⊥
 
 -- the fault came before anything was written

@@ -1,20 +1,16 @@
 //! Why the program ends without a report.
 ghost use Rattle.std.specs.Prelude.{◌≡◌, ◌≢◌};
 ghost use Rattle.lrc_script.specs.declared.fault.ScriptFault.TheVariants.{NoMemory};
-ghost use Rattle.lrc_check.specs.Prelude.{IsTraces};
-ghost use Rattle.lrc_check.specs.Prelude.{IsBeforeOutput as IsBeforeText};
-ghost use Rattle.lrc_program.specs.Prelude.{IsBeforeOutput, IsScripts, status_of};
+ghost use Rattle.lrc_program.specs.Prelude.{IsScripts, status_of};
 ghost use Rattle.lrc_program.specs.declared.fault.ProgramFault.TheVariants as program;
 
 use book::Refused;
-use lrc_check::CheckFault;
 use lrc_report::render::OutFault;
 use lrc_script::fault::ScriptFault;
 use runs::{Cause, RunFault};
 use std::alloc::{AllocError, Global};
 use std::io::ErrorKind;
 use std::{fmt, io};
-use traces::fault::TraceFault;
 
 /// Why the program ends without a report.
 #[derive(Clone, Copy)]
@@ -25,10 +21,6 @@ pub enum ProgramFault {
     Unreadable(io::Error),
     /// The script has a fault, in this line.
     Script(usize, ScriptFault),
-    /// The trace has a fault, in this line.
-    Trace(usize, TraceFault),
-    /// There are more bytes than any trace has.
-    Long,
     /// A processor went no further.
     Run(RunFault),
     /// A write failed.
@@ -45,8 +37,6 @@ impl fmt::Display for ProgramFault {
             ProgramFault::Words(reason) => write!(f, "cannot read the words: {reason}"),
             ProgramFault::Unreadable(reason) => write!(f, "cannot read standard input: {reason}"),
             ProgramFault::Script(line, fault) => write!(f, "line {line}: {fault}"),
-            ProgramFault::Trace(line, fault) => write!(f, "line {line}: {fault}"),
-            ProgramFault::Long => f.write_str("trace too long"),
             ProgramFault::Run(fault) => fault.fmt(f),
             ProgramFault::Output => f.write_str("output failed"),
             ProgramFault::NoMemory => f.write_str("out of memory"),
@@ -66,24 +56,21 @@ impl ProgramFault {
         }
     }
 
-    /// The exit status: 5 for words, a script or a trace that can't be read, 2 for a script or a trace that is refused,
-    /// 3 for a run without progress, else 4.
+    /// The exit status: 5 for words or a script that can't be read, 2 for a script that is refused, 3 for a run
+    /// without progress, else 4.
     pub fn status(self) -> u8
         ensures { result ≡ status_of self }
     {
         match self {
             ProgramFault::Words(_) | ProgramFault::Unreadable(_) => 5,
-            ProgramFault::Script(..) | ProgramFault::Trace(..) => 2,
+            ProgramFault::Script(..) => 2,
             ProgramFault::Run(
                 RunFault {
                     cause: Cause::Stuck,
                     ..
                 },
             ) => 3,
-            ProgramFault::Long
-            | ProgramFault::Run(_)
-            | ProgramFault::Output
-            | ProgramFault::NoMemory => 4,
+            ProgramFault::Run(_) | ProgramFault::Output | ProgramFault::NoMemory => 4,
         }
     }
 }
@@ -115,19 +102,6 @@ impl From<(usize, ScriptFault)> for ProgramFault {
         match fault {
             ScriptFault::NoMemory => ProgramFault::NoMemory,
             _ => ProgramFault::Script(line, fault),
-        }
-    }
-}
-
-impl From<CheckFault> for ProgramFault {
-    ghost from_gives = { λ given fault. (IsScripts fault → IsTraces given)
-        × (IsBeforeOutput fault → IsBeforeText given) };
-
-    fn from(fault: CheckFault) -> ProgramFault {
-        match fault {
-            CheckFault::Trace(line, fault) => ProgramFault::Trace(line, fault),
-            CheckFault::Output => ProgramFault::Output,
-            CheckFault::NoMemory => ProgramFault::NoMemory,
         }
     }
 }

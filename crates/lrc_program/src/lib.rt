@@ -1,5 +1,4 @@
-//! What the program `lrc` does with a script: reads it, has it run, and writes the report or says why there is none; and
-//! with a trace: reads it, judges it, and writes what was found.
+//! What the program `lrc` does with a script: reads it, has it run, and writes the report or says why there is none.
 //!
 //! **What contracts see.** A reader by the bytes that it has left (`remaining`), a writer by those that it was given
 //! (`contents`). A run's `Report` is one of a script's plan (`IsReportOf` of `runs`). What its text is, and what options
@@ -10,14 +9,10 @@
 //! and the text of its report was written, and nothing else (`IsServed`); 2 only where it is no script's text
 //! (`IsNoScript`); and but for 4 a report is written whole or not at all. Each fault has its status (`status_of`).
 //!
-//! `check_program` judges a trace: it answers 0 only where the source had the text of a faithful one, 6 only where it
-//! had one that isn't faithful, 2 only where it had none.
-//!
 //! **What is only tested**, by whole runs of the program. The texts of faults, help and usage, which fault is met, that
 //! the lock and the seed that the words ask for are used, and that no call allocates without need. No contract sees what a
 //! file or a standard stream has.
 #![tactic(auto)]
 
-pub mod checking;
 pub mod fault;
 pub mod program;

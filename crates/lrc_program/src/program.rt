@@ -1,5 +1,5 @@
 //! The program over its reader and its writers.
-ghost use Rattle.std.specs.Prelude.{◌≡◌, ◌≢◌, ◌<◌, IfErr, IfOk, OnOk};
+ghost use Rattle.std.specs.Prelude.{◌≡◌, ◌≢◌, ◌<◌, ◌⊎◌, IfErr, IfOk, OnOk};
 ghost use Rattle.std.specs.Io.KnownBytes.{Keeps};
 ghost use Rattle.lrc_script.specs.Prelude.{IsLawful, plan_of};
 ghost use Rattle.runs.specs.Prelude.{IsReportOf};
@@ -11,7 +11,7 @@ use lrc_report::Report;
 use lrc_report::render::render;
 use lrc_script::script::{MOST_BYTES, Script, parse};
 use runs::{Lock, RunFault, Runs};
-use std::alloc::Global;
+use std::alloc::{AllocError, Global};
 use std::io::{Read, Write};
 use std::sync::Wait;
 use std::thread::Threads;
@@ -44,7 +44,7 @@ fn report_of<T: Runs, R: Threads + Wait + Sync>(
 }
 
 /// Reads a script: all that the source has.
-fn read_script<S: Read>(alloc: Global, source: &mut S) -> Result<Script, ProgramFault>
+pub fn read_script<S: Read>(alloc: Global, source: &mut S) -> Result<Script, ProgramFault>
     ensures read { IfOk result (λ s. IsRead (S.remaining source.old) (plan_of s)) }
     ensures refused { IfErr result (λ fault. IsScripts fault → IsNoScript (S.remaining source.old)) }
 {
@@ -96,22 +96,30 @@ fn run_script<T: Runs, R: Threads + Wait + Sync, S: Read, W: Write>(
     print_report(runs, rt, alloc, options, &script, out)
 }
 
-/// Says on `err` in one write why the program ends without a report on the file's script, and answers the fault's
-/// exit status. Where there is no memory for the line, it says that, with the status of that.
-pub fn say<E: Write>(alloc: Global, file: Option<&str>, fault: ProgramFault, err: &mut E) -> u8
-    ensures { IsStatusOf fault result }
+/// Says the line on `err` in one write, and answers the status. Where there was no memory for the line, it says that,
+/// with the status of that.
+pub fn say_line<E: Write>(line: Result<String, AllocError>, status: u8, err: &mut E) -> u8
+    ensures { (result ≡ status) ⊎ (result ≡ 4) }
 {
     // Where standard error takes nothing, the status still tells.
-    match fault.line(alloc, file) {
+    match line {
         Ok(line) => {
             let _ = err.write_all(line.as_bytes());
-            fault.status()
+            status
         }
         Err(_) => {
             let _ = err.write_all(b"lrc: out of memory\n");
             ProgramFault::NoMemory.status()
         }
     }
+}
+
+/// Says on `err` in one write why the program ends without a report on the file's script, and answers the fault's
+/// exit status. Where there is no memory for the line, it says that, with the status of that.
+pub fn say<E: Write>(alloc: Global, file: Option<&str>, fault: ProgramFault, err: &mut E) -> u8
+    ensures { IsStatusOf fault result }
+{
+    say_line(fault.line(alloc, file), fault.status(), err)
 }
 
 /// Runs the script of `source` as the options say: writes its report to `out`, or one line to `err`, and

@@ -13,6 +13,6 @@ exchanged (suc i) g xs = exchanged i (pcg32 g).1 (swap xs (suc i) ((pcg32 g).0 %
 abbrev pub ordered : Lcg → List ℕ → List ℕ × Lcg
 ordered g xs = exchanged (length xs - 1) g xs
 
--- all of these are processors of so many
+-- all of these are numbers of processors, of which there are n
 abbrev pub AreBelow : ℕ → List ℕ → Type 0
 AreBelow n xs = All (λ p. p < n) xs

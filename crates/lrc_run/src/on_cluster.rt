@@ -1,15 +1,15 @@
 //! What runs scripts: on a cluster, with the lock that is asked for.
 ghost use Rattle.std.specs.Prelude.{◌<◌, IfOk};
 ghost use Rattle.lrc_script.specs.Prelude.{IsLawful, plan_of};
-ghost use Rattle.runs.specs.Prelude.{IsReportOf};
+ghost use Rattle.runs.specs.Prelude.{IsEndOf, IsReportOf};
 
 use crate::gate::Open;
 use crate::running::{run, run_with};
-use crate::steps::{step, step_with};
+use crate::steps::{step, step_as_far, step_as_far_with, step_with};
 use cluster::TicketBookLock;
 use lrc_report::Report;
 use lrc_script::script::Script;
-use runs::{Lock, RunFault, Runs};
+use runs::{Ended, Lock, RunFault, Runs};
 use std::alloc::Global;
 use std::sync::Wait;
 use std::thread::Threads;
@@ -44,6 +44,20 @@ impl Runs for OnCluster {
         match lock {
             Lock::Array => step(rt, alloc, script, seed),
             Lock::Ticket => step_with::<TicketBookLock, R>(rt, alloc, script, seed),
+        }
+    }
+
+    fn step_as_far<R: Wait>(
+        &self,
+        rt: &R,
+        alloc: Global,
+        script: &Script,
+        lock: Lock,
+        seed: Option<u64>,
+    ) -> Result<Ended, RunFault> {
+        match lock {
+            Lock::Array => step_as_far(rt, alloc, script, seed),
+            Lock::Ticket => step_as_far_with::<TicketBookLock, R>(rt, alloc, script, seed),
         }
     }
 }

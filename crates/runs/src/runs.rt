@@ -2,9 +2,10 @@
 ghost use Rattle.std.specs.Prelude.{◌<◌, IfOk};
 ghost use Rattle.std.specs.Thread.{IsSync};
 ghost use Rattle.lrc_script.specs.Prelude.{IsLawful, plan_of};
-ghost use Rattle.runs.specs.Prelude.{IsReportOf};
+ghost use Rattle.runs.specs.Prelude.{IsEndOf, IsReportOf};
 
 use crate::cause::RunFault;
+use crate::ended::Ended;
 use lrc_report::Report;
 use lrc_script::script::Script;
 use std::alloc::Global;
@@ -20,7 +21,7 @@ pub enum Lock {
     Ticket,
 }
 
-/// Runs lawful scripts. Whatever it answers is a report of the script.
+/// Runs lawful scripts. Whatever report it answers is one of the script.
 pub trait Runs {
     /// Runs the script with a thread for each processor, started by this handle. What a processor waits for is tried for `tries` times in a row.
     fn run<R: Threads + Wait + Sync>(
@@ -47,4 +48,16 @@ pub trait Runs {
     ) -> Result<Report, RunFault>
         requires { IsLawful (plan_of script.now) }
         ensures { IfOk result (IsReportOf (plan_of script.now)) };
+
+    /// Runs the script as `step` does, but that a run that can't go on is no fault: it answers the journal so far.
+    fn step_as_far<R: Wait>(
+        &self,
+        rt: &R,
+        alloc: Global,
+        script: &Script,
+        lock: Lock,
+        seed: Option<u64>,
+    ) -> Result<Ended, RunFault>
+        requires { IsLawful (plan_of script.now) }
+        ensures { IfOk result (IsEndOf (plan_of script.now)) };
 }

@@ -6,3 +6,4 @@ pub mod Prelude
 pub mod Replies
 pub mod Samples
 pub mod Tally
+pub mod Texts

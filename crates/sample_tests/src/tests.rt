@@ -2,12 +2,12 @@
 ghost use Rattle.std.specs.Prelude.{◌<◌, IfOk};
 ghost use Rattle.std.specs.Thread.{IsSync};
 ghost use Rattle.lrc_script.specs.Prelude.{IsLawful, plan_of};
-ghost use Rattle.runs.specs.Prelude.{IsReportOf};
+ghost use Rattle.runs.specs.Prelude.{IsEndOf, IsReportOf};
 
 use journal::{Event, Journal, Kind};
 use lrc_report::Report;
 use lrc_script::script::{Script, parse};
-use runs::{Cause, Lock, RunFault, Runs};
+use runs::{Cause, Ended, Lock, RunFault, Runs};
 use sample::Line;
 use sample::outcome::{Answers, Outcome};
 use sample::sampling::{Sampled, sample};
@@ -66,6 +66,20 @@ impl Runs for Sticks {
         Err(RunFault {
             processor: processor_of(lock, seed),
             cause,
+        })
+    }
+
+    fn step_as_far<R: Wait>(
+        &self,
+        _rt: &R,
+        _alloc: Global,
+        _script: &Script,
+        _lock: Lock,
+        _seed: Option<u64>,
+    ) -> Result<Ended, RunFault> {
+        Err(RunFault {
+            processor: 0,
+            cause: Cause::Gate,
         })
     }
 }

@@ -1,8 +1,8 @@
 //! Lawful scripts, drawn.
 
-use crate::random::below;
 use lrc_script::draw::{free, guarded};
 use lrc_script::script::{Instruction, Script};
+use plain::random::below;
 use rand_core::SeedableRng;
 use rand_core::utils::NextWord;
 use rand_pcg::Pcg32;

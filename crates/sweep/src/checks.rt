@@ -4,12 +4,12 @@ use crate::calls::{are_last_replies, recomputed};
 use crate::cuts::is_idle;
 use crate::flat::flat_run;
 use crate::flaw::{Flaw, expect, expect_nowhere};
-use crate::gaps::wrong_place;
 use crate::rebuilt::journal_of;
-use crate::table::Table;
 use journal::{Event, Journal, Kind, Traffic};
 use lrc_report::Report;
 use lrc_script::script::{Instruction, Script};
+use plain::gaps::wrong_place;
+use plain::table::Table;
 use std::alloc::{AllocError, Global};
 
 /// What the events cost, added up.

@@ -3,9 +3,9 @@ ghost use Rattle.std.specs.Prelude.{IfOk};
 ghost use Rattle.lrc_script.specs.Prelude.{IsLawful, plan_of};
 
 use crate::flaw::Flaw;
-use crate::random::one_in;
 use crate::reports::read_again;
 use lrc_script::script::{Instruction, Script};
+use plain::random::one_in;
 use rand_core::SeedableRng;
 use rand_pcg::Pcg32;
 use std::alloc::{AllocError, Global};

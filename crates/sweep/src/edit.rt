@@ -1,6 +1,6 @@
 //! One byte, word or line of a text changed, dropped or doubled.
 
-use crate::random::below;
+use plain::random::below;
 use rand_core::utils::NextWord;
 use rand_pcg::Pcg32;
 use std::alloc::{AllocError, Global};

@@ -4,11 +4,11 @@ ghost use Rattle.lrc_script.specs.Prelude.{IsLawful, plan_of};
 
 use crate::checks::{are_same, check, check_cuts};
 use crate::cuts::{Marks, read_with};
-use crate::draws::Drawing;
 use crate::flaw::{Flaw, expect};
 use crate::reports::{Lock, step_report, threads_report};
 use lrc_report::Report;
 use lrc_script::script::Script;
+use plain::draws::Drawing;
 use std::alloc::Global;
 use std::sync::Wait;
 use std::thread::Threads;

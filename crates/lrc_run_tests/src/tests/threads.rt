@@ -129,7 +129,7 @@ fn stuck_at_a_flag_after_one_try(rt: HostRuntime) -> Result<(), Fail> {
     fails(&rt, rt.alloc(), text, &Open, 1, 0, Cause::Stuck)
 }
 
-/// What comes of a processor that tries three times, where the lock lets it enter so often.
+/// What comes of a processor that tries three times, where the lock lets it enter that many times.
 fn fault_of_three<T: Turn<Book, Rule> + Drop + Send + Sync, R: Threads + Wait + Sync>(
     rt: &R,
     alloc: Global,

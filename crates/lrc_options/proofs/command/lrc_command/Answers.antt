@@ -19,10 +19,16 @@ returns-clause-app c =
     ∙ ap₂ with_subcommand start (ap (λ (a : App). a.top) c.in_ok-run_command.ensures.app) in
     let with_step = c.in_ok-subcommand-2.ensures.shape c.in_ok-step_command.ensures.globals
     ∙ ap₂ with_subcommand with_run (ap (λ (a : App). a.top) c.in_ok-step_command.ensures.app) in
-    if_ok_map c.subcommand-3.result
+    let with_explain = c.in_ok-subcommand-3.ensures.shape c.in_ok-explain_command.ensures.globals
+    ∙ ap₂ with_subcommand with_step (ap (λ (a : App). a.top) c.in_ok-explain_command.ensures.app) in
+    let with_sample = c.in_ok-subcommand-4.ensures.shape c.in_ok-sample_command.ensures.globals
+    ∙ ap₂ with_subcommand with_explain (ap (λ (a : App). a.top) c.in_ok-sample_command.ensures.app) in
+    let with_explore = c.in_ok-subcommand-5.ensures.shape c.in_ok-explore_command.ensures.globals
+    ∙ ap₂ with_subcommand with_sample (ap (λ (a : App). a.top) c.in_ok-explore_command.ensures.app) in
+    if_ok_map c.subcommand-6.result
     (λ made adds. adds.shape c.in_ok-check_command.ensures.globals
-    ∙ ap₂ with_subcommand with_step (ap (λ (a : App). a.top) c.in_ok-check_command.ensures.app))
-    c.subcommand-3.ensures
+    ∙ ap₂ with_subcommand with_explore (ap (λ (a : App). a.top) c.in_ok-check_command.ensures.app))
+    c.subcommand-6.ensures
 
 pub returns-clause-globals : goal.returns-clause-globals
 returns-clause-globals c =
@@ -38,10 +44,16 @@ returns-clause-globals c =
     still_local _ _ _ c.in_ok-subcommand.ensures.globals start c.in_ok-run_command.ensures.globals in
     let with_step =
     still_local _ _ _ c.in_ok-subcommand-2.ensures.globals with_run c.in_ok-step_command.ensures.globals in
-    if_ok_map c.subcommand-3.result
-    (λ made adds. still_local _ _ _ adds.globals with_step c.in_ok-check_command.ensures.globals)
-    c.subcommand-3.ensures
+    let with_explain =
+    still_local _ _ _ c.in_ok-subcommand-3.ensures.globals with_step c.in_ok-explain_command.ensures.globals in
+    let with_sample =
+    still_local _ _ _ c.in_ok-subcommand-4.ensures.globals with_explain c.in_ok-sample_command.ensures.globals in
+    let with_explore =
+    still_local _ _ _ c.in_ok-subcommand-5.ensures.globals with_sample c.in_ok-explore_command.ensures.globals in
+    if_ok_map c.subcommand-6.result
+    (λ made adds. still_local _ _ _ adds.globals with_explore c.in_ok-check_command.ensures.globals)
+    c.subcommand-6.ensures
 
 pub returns-clause-wants : goal.returns-clause-wants
 returns-clause-wants c =
-    if_ok_map c.subcommand-3.result (λ made is. ap (λ (a : App). a.top.subcommand_required) is) (returns-clause-app c)
+    if_ok_map c.subcommand-6.result (λ made is. ap (λ (a : App). a.top.subcommand_required) is) (returns-clause-app c)

@@ -15,10 +15,8 @@ returns-clause-app c =
     let start : app_of c.after_help.result ≡ app_of c.about.result = ap app_of_fields c.after_help.ensures in
     let one = c.in_ok-arg.ensures.shape file_own ∙ ap₂ with_rule (start ∙ about ∙ c.new-2.ensures.app) file_is in
     let two = c.in_ok-arg-2.ensures.shape c.requires ∙ ap (λ (a : App). with_rule a (rule_of c.args.own)) one in
-    let three = c.in_ok-arg-3.ensures.shape c.lock_arg.ensures.own ∙ ap₂ with_rule two c.lock_arg.ensures.rule in
-    if_ok_map c.arg-4.result
-    (λ made adds. adds.shape c.journal_arg.ensures.own ∙ ap₂ with_rule three c.journal_arg.ensures.rule)
-    c.arg-4.ensures
+    if_ok_map c.arg-3.result
+    (λ made adds. adds.shape c.lock_arg.ensures.own ∙ ap₂ with_rule two c.lock_arg.ensures.rule) c.arg-3.ensures
 
 pub returns-clause-globals : goal.returns-clause-globals
 returns-clause-globals c =
@@ -29,6 +27,4 @@ returns-clause-globals c =
     ap (λ (f : Command-F Command). f.has_globals) c.after_help.ensures ∙ about in
     let one = still_local _ _ _ c.in_ok-arg.ensures.globals start file_own in
     let two = still_local _ _ _ c.in_ok-arg-2.ensures.globals one c.requires in
-    let three = still_local _ _ _ c.in_ok-arg-3.ensures.globals two c.lock_arg.ensures.own in
-    if_ok_map c.arg-4.result (λ made adds. still_local _ _ _ adds.globals three c.journal_arg.ensures.own)
-    c.arg-4.ensures
+    if_ok_map c.arg-3.result (λ made adds. still_local _ _ _ adds.globals two c.lock_arg.ensures.own) c.arg-3.ensures

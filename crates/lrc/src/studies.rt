@@ -1,0 +1,98 @@
+//! The files of the commands that study a script or a trace.
+
+use crate::progress::Counted;
+use lrc_options::options::{ExplainOptions, ExploreOptions, SampleOptions, TraceOptions};
+use lrc_program::fault::ProgramFault;
+use lrc_program::program::say;
+use lrc_run::OnCluster;
+use lrc_study::checking::check_program;
+use lrc_study::explaining::explain_program;
+use lrc_study::exploring::explore_program;
+use lrc_study::sampling::sample_program;
+use std::fs::File;
+use std::sync::Wait;
+
+/// Judges the trace of the file, or of standard input where no file is given.
+pub(crate) fn check_file(rt: &HostRuntime, options: &TraceOptions) -> u8 {
+    let alloc = rt.alloc();
+    let (mut out, mut err) = (rt.stdout(), rt.stderr());
+    match options.file.as_deref() {
+        None => check_program(alloc, options, &mut rt.stdin(), &mut out, &mut err),
+        Some(path) => match File::open(rt, path) {
+            Ok(mut source) => check_program(alloc, options, &mut source, &mut out, &mut err),
+            Err(error) => say(alloc, Some(path), ProgramFault::from(error), &mut err),
+        },
+    }
+}
+
+/// Explains a run of the file's script, or of that of standard input where no file is given.
+pub(crate) fn explain_file<R: Wait>(rt: &HostRuntime, handle: &R, options: &ExplainOptions) -> u8 {
+    let alloc = rt.alloc();
+    let (mut out, mut err) = (rt.stdout(), rt.stderr());
+    match options.file.as_deref() {
+        None => explain_program(
+            &OnCluster,
+            handle,
+            alloc,
+            options,
+            &mut rt.stdin(),
+            &mut out,
+            &mut err,
+        ),
+        Some(path) => match File::open(rt, path) {
+            Ok(mut source) => explain_program(
+                &OnCluster,
+                handle,
+                alloc,
+                options,
+                &mut source,
+                &mut out,
+                &mut err,
+            ),
+            Err(error) => say(alloc, Some(path), ProgramFault::from(error), &mut err),
+        },
+    }
+}
+
+/// Samples the file's script, or that of standard input where no file is given.
+pub(crate) fn sample_file<R: Wait>(rt: &HostRuntime, handle: &R, options: &SampleOptions) -> u8 {
+    let alloc = rt.alloc();
+    let (mut out, mut err) = (rt.stdout(), rt.stderr());
+    let runs = Counted::new(rt, OnCluster, u64::from(options.seeds) + 1);
+    match options.file.as_deref() {
+        None => sample_program(
+            &runs,
+            handle,
+            alloc,
+            options,
+            &mut rt.stdin(),
+            &mut out,
+            &mut err,
+        ),
+        Some(path) => match File::open(rt, path) {
+            Ok(mut source) => sample_program(
+                &runs,
+                handle,
+                alloc,
+                options,
+                &mut source,
+                &mut out,
+                &mut err,
+            ),
+            Err(error) => say(alloc, Some(path), ProgramFault::from(error), &mut err),
+        },
+    }
+}
+
+/// Looks at all schedules of the file's script, or of that of standard input where no file is given.
+pub(crate) fn explore_file(rt: &HostRuntime, options: &ExploreOptions) -> u8 {
+    let alloc = rt.alloc();
+    let (mut out, mut err) = (rt.stdout(), rt.stderr());
+    match options.file.as_deref() {
+        None => explore_program(alloc, options, &mut rt.stdin(), &mut out, &mut err),
+        Some(path) => match File::open(rt, path) {
+            Ok(mut source) => explore_program(alloc, options, &mut source, &mut out, &mut err),
+            Err(error) => say(alloc, Some(path), ProgramFault::from(error), &mut err),
+        },
+    }
+}

@@ -1,0 +1,4 @@
+pub mod Statuses
+pub mod Judging
+pub mod Serving
+pub mod Pictures

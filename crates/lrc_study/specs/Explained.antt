@@ -1,0 +1,38 @@
+-- What the program does with a script that is explained.
+use Rattle.std.specs.Prelude.{ℕ, ◌≡◌, ◌++◌, ⊤, Bool, true, false, List, Option, length}
+use Rattle.journal.specs.declared.event.Event.{Event}
+use Rattle.lrc_script.specs.Plan.{Plan}
+use Rattle.runs.specs.declared.ended.Ended.{Ended}
+use Rattle.runs.specs.declared.ended.Ended.TheVariants.{Halted, Whole}
+use Rattle.runs.specs.Ends.{IsEndOf}
+use Rattle.lrc_explain.specs.Texts.{IsWritten}
+use Rattle.lrc_program.specs.Served.{IsRead}
+
+-- whether it is a run that can't go on
+abbrev pub is_halted : Ended → Bool
+is_halted (Whole report) = false
+is_halted (Halted halt) = true
+
+-- what is told of a run was written; of its picture nothing is said
+abbrev pub IsTold : Bool → Option (List ℕ) → Option (List ℕ) → Ended → Type 0
+IsTold true old new ended = ⊤
+IsTold false old new ended = IsWritten old new ended
+
+-- the script was run, as far as it goes, and the run was told or drawn
+pub record IsRunTold (picture halted : Bool) (script : Plan) (old new : Option (List ℕ)) : Type 0 where
+  pub ended : Ended
+  pub end : IsEndOf script ended
+  pub halted_is : is_halted ended ≡ halted
+  pub told : IsTold picture old new ended
+
+-- so was the script that the source had
+pub record IsExplained (picture halted : Bool) (source old new : Option (List ℕ)) : Type 0 where
+  pub script : Plan
+  pub read : IsRead source script
+  pub run : IsRunTold picture halted script old new
+
+-- a history is these events behind so many others
+pub record IsBehind (opening : ℕ) (events history : List Event) : Type 0 where
+  pub front : List Event
+  pub long : length front ≡ opening
+  pub whole : history ≡ front ++ events
