@@ -1,0 +1,189 @@
+"""What can be told of scripts by hand; and the enumeration's parts, each tried against another one."""
+import random
+
+import scripts
+import texts
+from schedules import Enumeration, Memory, enumerate_all, first_race
+
+MESSAGE = "cluster 2 1 2 0 1/p 0/store 0 5/set 0/p 1/await 0/load 0/show 0/"
+COUNTER = "cluster 2 1 1 1/p 0/acquire 0/add 0 1/release 0/p 1/acquire 0/add 0 1/release 0/show 0/"
+BUFFERING = "cluster 2 1 2 0/p 0/store 0 1/load 1/p 1/store 1 1/load 0/show 0/"
+CROSSED = ("cluster 2 1 1 2/p 0/acquire 0/acquire 1/release 1/release 0/"
+           "p 1/acquire 1/acquire 0/release 0/release 1/show 0/")
+CHAIN = ("cluster 3 1 1 2/p 0/acquire 0/store 0 9/release 0/p 1/acquire 1/acquire 0/release 0/release 1/"
+         "p 2/acquire 1/load 0/release 1/show 0/")
+
+# A script, its verdict, its outcomes as the text has them, and whether it hangs; of a racy one None.
+BY_HAND = [
+    (MESSAGE, "race-free", ["word 0 5  replies p1: 5"], False),
+    (COUNTER, "race-free", ["word 0 2  replies p0: 0  p1: 1", "word 0 2  replies p0: 1  p1: 0"], False),
+    (BUFFERING, "racy", None, None),
+    # Each lock has one of two before the other, or both wait.
+    (CROSSED, "race-free", ["word 0 0"], True),
+    # Where processor 2 has lock 1 first, nothing orders its load after the store.
+    (CHAIN, "racy", None, None),
+    # Nobody sets the flag.
+    ("cluster 1 1 1 0 1/p 0/await 0/show 0/", "race-free", [], True),
+    # Whoever has the lock keeps it, and waits at the closing barrier.
+    ("cluster 2 1 1 1/p 0/acquire 0/p 1/acquire 0/show 0/", "race-free", [], True),
+    # It races before it hangs.
+    ("cluster 2 1 1 0 1/p 0/store 0 1/await 0/p 1/load 0/await 0/show 0/", "racy", None, None),
+    # The race comes only behind a wait that never ends.
+    ("cluster 2 1 1 0 1/p 0/await 0/store 0 1/p 1/await 0/load 0/show 0/", "race-free", [], True),
+    # One store first, or the other.
+    ("cluster 2 1 1 1/p 0/acquire 0/store 0 1/release 0/p 1/acquire 0/store 0 2/release 0/show 0/", "race-free",
+     ["word 0 1", "word 0 2"], False),
+    # Two locks order nothing between each other.
+    ("cluster 2 1 1 2/p 0/acquire 0/store 0 1/release 0/p 1/acquire 1/store 0 2/release 1/show 0/", "racy", None, None),
+    # Before a barrier and after it; a flag that was set behind the barrier.
+    ("cluster 2 1 2 0/p 0/store 0 5/barrier/load 1/p 1/store 1 6/barrier/load 0/show 1 0/", "race-free",
+     ["word 1 6  word 0 5  replies p0: 6  p1: 5"], False),
+    # Who has arrived early doesn't know what is stored behind its arrival.
+    ("cluster 2 1 1 0/p 0/barrier/store 0 5/p 1/barrier/load 0/show 0/", "racy", None, None),
+    # The same addresses, but one word each; loads alone.
+    ("cluster 3 1 2 0/p 0/store 0 1/p 1/store 1 2/p 2/cut/show 0 1/", "race-free", ["word 0 1  word 1 2"], False),
+    ("cluster 3 1 1 0/p 0/load 0/p 1/load 0/p 2/load 0/show 0/", "race-free",
+     ["word 0 0  replies p0: 0  p1: 0  p2: 0"], False),
+    # By way of a third processor.
+    ("cluster 3 1 1 0 2/p 0/store 0 3/set 0/p 1/await 0/set 1/p 2/await 1/add 0 4294967295/show 0/", "race-free",
+     ["word 0 2  replies p2: 3"], False),
+    # A flag that two set: who awaits it may know the one alone.
+    ("cluster 3 1 1 0 1/p 0/store 0 3/set 0/p 1/set 0/p 2/await 0/load 0/show 0/", "racy", None, None),
+]
+
+
+def is_as_by_hand(row):
+    text, verdict, outcomes, hangs = row
+    script = scripts.read(text.replace("/", "\n"))
+    found = enumerate_all(script)
+    if script.text() != text.replace("/", "\n") or (found.race is None) != (verdict == "race-free"):
+        return False
+    if found.race is not None:
+        return True
+    lines = [texts.outcome_line(texts.shown_of(script, replies)).strip() for replies in sorted(found.outcomes)]
+    return lines == outcomes and (found.hang is not None) == hangs
+
+
+def is_one_walk(seed):
+    """A schedule by chance: the enumeration's rules let on whom the plain ones let on, with the same events, and its bits
+    tell the first race where the definition does."""
+    script, draws = scripts.draw(seed), random.Random(seed)
+    memory, enumeration = Memory(script), Enumeration(script)
+    state, events, racy = enumeration.start(), [], None
+    while True:
+        may = [memory.may(processor) for processor in range(script.processors)]
+        if may != [enumeration.may(state, processor) for processor in range(script.processors)]:
+            return False
+        may = [event for event in may if event is not None]
+        if not may:
+            break
+        event = draws.choice(may)
+        if racy is None and enumeration.races(state, event.processor):
+            racy = len(events)
+        memory.do(event)
+        state = enumeration.after(state, event)
+        events.append(event)
+    race = first_race(events)
+    return racy == (None if race is None else race[1]) and list(map(tuple, memory.replies)) == list(state.replies)
+
+
+def every_path(script, most):
+    """What all schedules come to, without any state that is met once; None where there are more than so many events."""
+    outcomes, racy, hangs, left = set(), False, False, [most]
+
+    def go_on(events):
+        nonlocal racy, hangs
+        left[0] -= 1
+        memory = Memory(script)
+        for event in events:
+            memory.do(event)
+        may = [event for processor in range(script.processors) if (event := memory.may(processor)) is not None]
+        if not may:
+            racy = racy or first_race(events) is not None
+            if memory.is_whole():
+                outcomes.add(tuple(map(tuple, memory.replies)))
+            else:
+                hangs = True
+        for event in may:
+            if left[0] > 0:
+                go_on(events + [event])
+
+    go_on([])
+    return (racy, hangs, outcomes) if left[0] > 0 else None
+
+
+def is_every_path(seed, most):
+    """Whether the enumeration finds what every path shows. None where there are too many paths."""
+    script = scripts.draw(seed)
+    wanted = every_path(script, most)
+    if wanted is None:
+        return None
+    found = enumerate_all(script)
+    racy, hangs, outcomes = wanted
+    return racy if found.race is not None else (False, found.hang is not None, found.outcomes) == (racy, hangs, outcomes)
+
+
+def damages(script, found):
+    """The text of what was found, damaged: what is wrong with it, and the text."""
+    lines = texts.write(script, found).splitlines()
+
+    def without(place):
+        return lines[:place] + lines[place + 1:]
+
+    if found.race is not None:
+        race = lines.index("race")
+        yield "race-free", ["verdict race-free under every schedule", "outcomes 0", "hangs never", lines[-1]]
+        yield "a schedule cut short", without(race - 1)
+        yield "events missing at its beginning", lines[:1] + lines[2:]
+        yield "one event for both", lines[:race + 1] + [lines[race + 2]] * 2 + lines[race + 3:]
+        return
+    yield "racy", ["verdict racy", *lines[2:]]
+    yield "given up", ["verdict undecided after 1 states"]
+    count = len(found.outcomes)
+    if count:
+        yield "an outcome left out", [lines[0], f"outcomes {count - 1}", *lines[3:]]
+        yield "an outcome twice", [lines[0], f"outcomes {count + 1}", lines[2], *lines[2:]]
+        yield "another word", [*lines[:2], lines[2].replace("word ", "word 1", 1), *lines[3:]]
+    if count > 1:
+        yield "another order", [*lines[:2], lines[3], lines[2], *lines[4:]]
+    if found.hang is None:
+        yield "a hang", [("hangs" if line == "hangs never" else line) for line in lines]
+    else:
+        place = lines.index("hangs")
+        yield "no hang", lines[:place] + ["hangs never", lines[-1]]
+        yield "a hang that can go on", without(len(lines) - 2 - len([it for it in lines if it.startswith("processor ")]))
+        yield "a wait left out", without(len(lines) - 2)
+
+
+def is_refused(script, found, lines):
+    """Whether the damaged text is refused."""
+    try:
+        texts.judge(script, found, "".join(line + "\n" for line in lines))
+    except texts.Wrong:
+        return True
+    return False
+
+
+def is_judged(seed):
+    """Whether the right text of a drawn script is let through, and each damaged one is refused."""
+    script = scripts.draw(seed)
+    found = enumerate_all(script)
+    try:
+        texts.judge(script, found, texts.write(script, found))
+    except texts.Wrong:
+        return False
+    return all(is_refused(script, found, lines) for _, lines in damages(script, found))
+
+
+def trials():
+    """What is tried, and whether it held."""
+    for row in BY_HAND:
+        yield f"by hand: {row[0]}", is_as_by_hand(row)
+    for seed in range(200):
+        yield f"a walk of script {seed}", is_one_walk(seed)
+    for seed in range(100):
+        held = is_every_path(seed, 1000)
+        if held is not None:
+            yield f"every path of script {seed}", held
+    for seed in range(100):
+        yield f"texts of script {seed}", is_judged(seed)

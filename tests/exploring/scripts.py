@@ -1,0 +1,188 @@
+"""Scripts: their text, the calls that they say, and small ones drawn by a seed."""
+import random
+from dataclasses import dataclass
+
+MOST_INSTRUCTIONS = 6
+# Methods of `Drawing`; what stands here more than once is drawn as often.
+STYLES = ("anything",) * 4 + ("guarded",) * 4 + ("nested", "nested", "apart", "signalled", "chained")
+# How many locks and flags a style needs.
+LEAST = {"guarded": (1, 0), "nested": (2, 0), "signalled": (0, 1), "chained": (0, 2)}
+
+
+@dataclass(frozen=True)
+class Script:
+    processors: int
+    pages: int
+    words: int
+    locks: int
+    flags: int
+    sections: tuple  # of each processor its instructions: ("load", A), ("store", A, V), ("barrier",), ..
+    shown: tuple
+
+    @property
+    def addresses(self):
+        return self.pages * self.words
+
+    def text(self):
+        sizes = [self.processors, self.pages, self.words, self.locks] + ([self.flags] if self.flags else [])
+        lines = ["cluster " + " ".join(map(str, sizes))]
+        for processor, section in enumerate(self.sections):
+            lines.append(f"p {processor}")
+            lines += [" ".join(map(str, instruction)) for instruction in section]
+        lines.append("show " + " ".join(map(str, self.shown)))
+        return "".join(line + "\n" for line in lines)
+
+    def calls(self, processor):
+        """What the processor calls. `add` is a load, and a store of its reply and V ("adds"). After the section come the
+        closing barrier, and at processor 0 a load of each shown address."""
+        calls = []
+        for instruction in self.sections[processor]:
+            calls += calls_of(*instruction)
+        shown = self.shown if processor == 0 else ()
+        return calls + [("arrive",), ("depart",)] + [("load", address) for address in shown]
+
+    def is_lawful(self):
+        """What the drawing doesn't keep by itself: each lock is acquired where it isn't held and released where it is,
+        and all sections have as many barriers."""
+        barriers = {sum(it == ("barrier",) for it in section) for section in self.sections}
+        return len(barriers) == 1 and all(locks_are_lawful(section) for section in self.sections)
+
+
+def calls_of(name, *numbers):
+    """The calls of an instruction."""
+    if name == "add":
+        return [("load", numbers[0]), ("adds", *numbers)]
+    two = {"acquire": ("ask", "acquire"), "barrier": ("arrive", "depart"), "await": ("watch", "await"), "cut": ()}
+    return [(call, *numbers) for call in two.get(name, (name,))]
+
+
+def locks_are_lawful(section):
+    held = set()
+    for name, *numbers in section:
+        if name == "acquire":
+            if numbers[0] in held:
+                return False
+            held.add(numbers[0])
+        elif name == "release":
+            if numbers[0] not in held:
+                return False
+            held.remove(numbers[0])
+    return True
+
+
+def read(text):
+    """The script of a lawful text."""
+    lines = [line.split(" ") for line in text.splitlines()]
+    sizes = [int(word) for word in lines[0][1:]]
+    sections = []
+    for word, *numbers in lines[1:-1]:
+        if word == "p":
+            sections.append([])
+        else:
+            sections[-1].append((word, *map(int, numbers)))
+    flags = sizes[4] if len(sizes) == 5 else 0
+    return Script(*sizes[:4], flags, tuple(map(tuple, sections)), tuple(int(word) for word in lines[-1][1:]))
+
+
+class Drawing:
+    """Draws a script's instructions, once its sizes are drawn."""
+
+    def __init__(self, seed):
+        self.draws = random.Random(seed)
+        self.style = self.draws.choice(STYLES)
+        self.processors = self.draws.choice((1, 2, 2, 2, 2, 3, 3, 3))
+        self.pages, self.words = self.draws.choice((1, 1, 2)), self.draws.randint(1, 2)
+        least_locks, least_flags = LEAST.get(self.style, (0, 0))
+        self.locks, self.flags = self.draws.randint(least_locks, 2), self.draws.randint(least_flags, 2)
+
+    def address(self):
+        return self.draws.randrange(self.pages * self.words)
+
+    def access(self, address=None):
+        address = self.address() if address is None else address
+        name = self.draws.choice(("load", "load", "store", "add"))
+        return (name, address) if name == "load" else (name, address, self.draws.randint(1, 3))
+
+    def anything(self, processor):
+        """Any instructions, without order between the processors' accesses but by chance."""
+        kinds = ["access"] * 4 + ["barrier", "cut"] + ["lock"] * (self.locks > 0) * 2 + ["flag"] * (self.flags > 0)
+        section = []
+        for _ in range(self.draws.randint(1, 4)):
+            kind = self.draws.choice(kinds)
+            if kind == "access":
+                section.append(self.access())
+            elif kind == "lock":
+                lock = self.draws.randrange(self.locks)
+                section += [("acquire", lock), self.access(), ("release", lock)]
+            elif kind == "flag":
+                section.append((self.draws.choice(("set", "await")), self.draws.randrange(self.flags)))
+            elif kind == "barrier":
+                section.append(("barrier",))
+            else:
+                section.append(("cut",))
+        return section
+
+    def guarded(self, processor):
+        """Each access of an address under the address's lock."""
+        section = []
+        for _ in range(self.draws.choice((1, 1, 2))):
+            address = self.address()
+            lock = address % self.locks
+            section += [("acquire", lock), self.access(address), ("release", lock)]
+        return section
+
+    def nested(self, processor):
+        """Accesses under two locks, taken in the one order or in the other; some are kept."""
+        first = self.draws.randrange(2)
+        section = [("acquire", first), ("acquire", 1 - first), self.access()]
+        return section + [("release", lock) for lock in (first, 1 - first) if self.draws.random() < 0.8]
+
+    def apart(self, processor):
+        """Each processor has addresses of its own up to a barrier, and loads any after it."""
+        mine = [it for it in range(self.pages * self.words) if it % self.processors == processor]
+        before = [self.access(self.draws.choice(mine)) for _ in range(self.draws.randint(0, 3)) if mine]
+        after = [("load", self.address()) for _ in range(self.draws.randint(0, 2))]
+        return before + [("barrier",)] + after
+
+    def signalled(self, processor):
+        """Processor 0 stores and sets; the others await and load. Some await what nobody sets."""
+        flag = 0 if self.draws.random() < 0.8 else self.draws.randrange(self.flags)
+        accesses = [self.access() for _ in range(self.draws.randint(1, 2))]
+        if processor == 0:
+            return accesses + [("set", flag)]
+        return [("await", flag)] + [("load", it[1]) if self.draws.random() < 0.8 else it for it in accesses]
+
+    def chained(self, processor):
+        """An order by way of flags: each processor awaits one and sets the next."""
+        section = [("await", (processor - 1) % 2)] if processor else []
+        section += [self.access() for _ in range(self.draws.randint(1, 2))]
+        return section + [("set", processor % 2)]
+
+    def section_of(self, style, processor):
+        section = getattr(self, style)(processor)
+        if section and self.draws.random() < 0.1:
+            section.pop(self.draws.randrange(len(section)))
+        if self.draws.random() < 0.15:
+            section.insert(self.draws.randint(0, len(section)), self.access())
+        return section[:MOST_INSTRUCTIONS]
+
+    def sections(self):
+        """Sections, with barriers put at the end of those that have too few."""
+        sections = [self.section_of(self.style, processor) for processor in range(self.processors)]
+        most = max(section.count(("barrier",)) for section in sections)
+        return [section + [("barrier",)] * (most - section.count(("barrier",))) for section in sections]
+
+    def script(self):
+        sections = self.sections()
+        shown = [self.address() for _ in range(self.draws.randint(1, 2))]
+        return Script(self.processors, self.pages, self.words, self.locks, self.flags,
+                      tuple(map(tuple, sections)), tuple(shown))
+
+
+def draw(seed):
+    """A small lawful script: the first that comes by this seed."""
+    drawing = Drawing(seed)
+    while True:
+        script = drawing.script()
+        if script.is_lawful() and max(map(len, script.sections)) <= MOST_INSTRUCTIONS:
+            return script

@@ -1,0 +1,191 @@
+"""The text of `lrc explore`: read, written by the enumeration's own findings, and judged by them."""
+import re
+from dataclasses import dataclass
+
+from schedules import Event, Memory, first_race
+
+NUMBERS = {"load": 2, "store": 2, "ask": 1, "acquire": 1, "release": 1, "arrive": 0, "depart": 0,
+           "set": 1, "watch": 1, "await": 1}
+
+
+class Wrong(Exception):
+    """What is wrong with a text."""
+
+
+@dataclass
+class Answer:
+    """What a text says."""
+    verdict: str  # "race-free", "racy", "undecided"
+    outcomes: list = None  # (words, replies) of each, as `shown_of` has them
+    hang: list = None  # events
+    waits: list = None  # lines
+    race: list = None  # events
+    racing: list = None  # the two lines
+
+
+class Lines:
+    """A text's lines, one after the other."""
+
+    def __init__(self, text):
+        if not text.endswith("\n"):
+            raise Wrong("the text doesn't end with a line feed")
+        self.lines = text[:-1].split("\n")
+
+    def next(self, pattern):
+        """The next line's parts; it has to be of this pattern."""
+        line = self.lines.pop(0) if self.lines else "the end"
+        parts = re.fullmatch(pattern, line)
+        if parts is None:
+            raise Wrong(f"{line!r} where {pattern!r} has to stand")
+        return parts
+
+    def while_begins(self, front):
+        lines = []
+        while self.lines and self.lines[0].startswith(front):
+            lines.append(self.lines.pop(0))
+        return lines
+
+    def end(self):
+        self.next(r"states [1-9][0-9]*")
+        if self.lines:
+            raise Wrong(f"{self.lines[0]!r} behind the end")
+
+
+def read(text):
+    """What the text says. Wrong where it isn't of the form that docs/SCRIPTS.md has."""
+    lines = Lines(text)
+    verdict = lines.next(r"verdict (race-free) under every schedule|verdict (racy)|verdict (undecided) after [0-9]+ states")
+    answer = Answer(next(part for part in verdict.groups() if part))
+    if answer.verdict == "undecided":
+        if lines.lines:
+            raise Wrong("more than a line")
+        return answer
+    if answer.verdict == "racy":
+        answer.race = read_events(lines)
+        lines.next("race")
+        answer.racing = [lines.next("event .*")[0], lines.next("event .*")[0]]
+    else:
+        count = int(lines.next(r"outcomes (0|[1-9][0-9]*)")[1])
+        answer.outcomes = [read_outcome(lines.next("  (word .*)")[1]) for _ in range(count)]
+        if lines.next("hangs never|hangs")[0] == "hangs":
+            answer.hang = read_events(lines)
+            answer.waits = lines.while_begins("processor ")
+    lines.end()
+    return answer
+
+
+def read_events(lines):
+    events = []
+    for place, line in enumerate(lines.while_begins("event ")):
+        word, number, processor, kind, *numbers = line.split(" ")
+        event = Event(int(processor), kind, tuple(map(int, numbers)))
+        if NUMBERS.get(kind) != len(numbers) or event.line(place) != line:
+            raise Wrong(f"{line!r} is no event's line at place {place}")
+        events.append(event)
+    return events
+
+
+def read_outcome(line):
+    """The shown words of an outcome's line, and what the loads answered."""
+    words, _, replies = line.partition("  replies ")
+    shown = [tuple(map(int, part.split(" ")[1:])) for part in words.split("  ")]
+    answered = []
+    for part in replies.split("  ") if replies else []:
+        processor, *rest = part.split(" ")
+        answered.append((int(processor.removeprefix("p").removesuffix(":")), tuple(map(int, rest))))
+    if outcome_line((tuple(shown), tuple(answered))) != "  " + line:
+        raise Wrong(f"{line!r} is no outcome's line")
+    return tuple(shown), tuple(answered)
+
+
+def shown_of(script, replies):
+    """The shown addresses with their words, and for each processor that loads what its own loads answered."""
+    count = len(replies[0]) - len(script.shown)
+    words = tuple(zip(script.shown, replies[0][count:]))
+    own = [replies[0][:count], *replies[1:]]
+    return words, tuple((processor, answers) for processor, answers in enumerate(own) if answers)
+
+
+def outcome_line(outcome):
+    words, replies = outcome
+    parts = ["word {} {}".format(*it) for it in words]
+    own = [f"p{processor}: " + " ".join(map(str, answers)) for processor, answers in replies]
+    return "  " + "  ".join(parts) + ("  replies " + "  ".join(own) if own else "")
+
+
+def ran(script, events):
+    """The memory after the events. Wrong where they are no schedule of the script."""
+    memory = Memory(script)
+    for place, event in enumerate(events):
+        if not event.processor < script.processors or memory.may(event.processor) != event:
+            raise Wrong(f"{event.line(place)!r} can't come there")
+        memory.do(event)
+    return memory
+
+
+def wait_lines(memory):
+    """What each processor waits for in a memory where nothing can come."""
+    waits = [(processor, memory.waits(processor)) for processor in range(memory.script.processors)]
+    return [f"processor {processor} waits {wait}" for processor, wait in waits if wait is not None]
+
+
+def write(script, found):
+    """The text of what the enumeration found."""
+    if found.race is not None:
+        places = first_race(found.race)
+        ends = ["race"] + [found.race[place].line(place) for place in places]
+        lines = ["verdict racy", *event_lines(found.race), *ends]
+    else:
+        lines = ["verdict race-free under every schedule", f"outcomes {len(found.outcomes)}"]
+        lines += [outcome_line(shown_of(script, replies)) for replies in sorted(found.outcomes)]
+        if found.hang is None:
+            lines.append("hangs never")
+        else:
+            lines += ["hangs", *event_lines(found.hang), *wait_lines(ran(script, found.hang))]
+    return "".join(line + "\n" for line in lines + [f"states {found.states}"])
+
+
+def event_lines(events):
+    return [event.line(place) for place, event in enumerate(events)]
+
+
+def judge(script, found, text):
+    """Wrong where the text says anything else of the script than the enumeration found."""
+    answer = read(text)
+    verdict = "race-free" if found.race is None else "racy"
+    if answer.verdict != verdict:
+        raise Wrong(f"{answer.verdict} where {verdict} is found")
+    if verdict == "racy":
+        judge_race(script, answer)
+    else:
+        judge_outcomes(script, found, answer)
+        judge_hang(script, found, answer)
+
+
+def judge_race(script, answer):
+    """The events have to be a schedule whose last event is the first that races, with the named one."""
+    ran(script, answer.race)
+    race = first_race(answer.race)
+    if race is None or race[1] != len(answer.race) - 1:
+        raise Wrong(f"the schedule's first race is {race}")
+    if answer.racing != [answer.race[place].line(place) for place in race]:
+        raise Wrong(f"{answer.racing} are no race's events")
+
+
+def judge_outcomes(script, found, answer):
+    wanted = [shown_of(script, replies) for replies in sorted(found.outcomes)]
+    if sorted(answer.outcomes) != sorted(wanted):
+        raise Wrong(f"outcomes {answer.outcomes} where {wanted} are found")
+    if answer.outcomes != wanted:
+        raise Wrong(f"outcomes in another order than {wanted}")
+
+
+def judge_hang(script, found, answer):
+    if (answer.hang is None) != (found.hang is None):
+        raise Wrong("a hang" if found.hang is None else "no hang")
+    if answer.hang is not None:
+        memory = ran(script, answer.hang)
+        if not memory.is_stuck():
+            raise Wrong("the schedule that hangs can go on")
+        if answer.waits != wait_lines(memory):
+            raise Wrong(f"{answer.waits} where {wait_lines(memory)} are found")
