@@ -1,8 +1,9 @@
-//! Processors over one book behind a Mutex: lazy release consistency with timestamps, closed intervals, write notices
+//! Processors over one book behind a lock: lazy release consistency with timestamps, closed intervals, write notices
 //! and records of changed words.
 
+use crate::locks::Guarded;
 use std::collections::VecDeque;
-use std::sync::{Arc, Mutex};
+use std::sync::Arc;
 use std::thread;
 use std::time::Instant;
 
@@ -94,7 +95,7 @@ struct Book {
 }
 
 pub struct Cluster {
-    book: Mutex<Book>,
+    book: Guarded<Book>,
 }
 
 #[derive(Clone, Copy, PartialEq)]
@@ -104,9 +105,29 @@ enum Awaits {
     Meeting,
 }
 
+/// Divides addresses by the words of a page, 1 to 64, by a multiplication: exact below 4,096, which no address passes.
+#[derive(Clone, Copy)]
+struct Divisor {
+    words: usize,
+    reciprocal: u64,
+}
+
+impl Divisor {
+    fn new(words: usize) -> Divisor {
+        Divisor { words, reciprocal: (1 << 32) / words as u64 + 1 }
+    }
+
+    /// The page of an address, and the offset in it.
+    fn split(self, address: usize) -> (usize, usize) {
+        let page = (address as u64 * self.reciprocal >> 32) as usize;
+        (page, address - page * self.words)
+    }
+}
+
 pub struct Processor {
     number: u8,
-    words: usize,
+    addresses: usize,
+    words: Divisor,
     block: Vec<Event>,
     copies: Vec<Copy>,
     stored: u64,
@@ -169,8 +190,13 @@ impl Book {
         self.post(p, time);
     }
 
-    fn trim(&mut self) {
+    /// Drops what everybody has, after `p`, which alone has learnt something, had this time before: so only of owners of
+    /// whom it learnt.
+    fn trim(&mut self, p: usize, before: &Time) {
         for (owner, intervals) in self.intervals.iter_mut().enumerate() {
+            if self.times[p][owner] == before[owner] {
+                continue;
+            }
             let seen = self.times.iter().map(|time| time[owner]).min().unwrap_or(0);
             while intervals.front().is_some_and(|first| first.number <= seen) {
                 intervals.pop_front();
@@ -180,7 +206,19 @@ impl Book {
 }
 
 impl Cluster {
+    /// With one Mutex round the book.
     pub fn new(processors: usize, pages: usize, words: usize, locks: usize) -> (Cluster, Vec<Processor>) {
+        Cluster::with(processors, pages, words, locks, false)
+    }
+
+    /// With a Mutex, or with the row lock, which lets threads in by the order of drawing.
+    pub fn with(
+        processors: usize,
+        pages: usize,
+        words: usize,
+        locks: usize,
+        in_order: bool,
+    ) -> (Cluster, Vec<Processor>) {
         let book = Book {
             journal: Vec::with_capacity(BLOCK * processors),
             closed: 0,
@@ -195,7 +233,8 @@ impl Cluster {
         };
         let all = (0..processors).map(|number| Processor {
             number: number as u8,
-            words,
+            addresses: pages * words,
+            words: Divisor::new(words),
             block: Vec::with_capacity(BLOCK),
             copies: (0..pages)
                 .map(|_| Copy { words: vec![0; words], dirty: 0, valid: true, missing: Vec::new() })
@@ -205,11 +244,11 @@ impl Cluster {
             held: 0,
             awaits: Awaits::Nothing,
         });
-        (Cluster { book: Mutex::new(book) }, all.collect())
+        (Cluster { book: Guarded::new(book, in_order.then_some(processors)) }, all.collect())
     }
 
     pub fn flush(&self, m: &mut Processor) -> Result<(), Refused> {
-        let mut book = self.book.lock().unwrap();
+        let mut book = self.book.lock();
         book.room(m.block.len())?;
         book.journal.extend_from_slice(&m.block);
         drop(book);
@@ -228,7 +267,7 @@ impl Cluster {
             return Err(Refused::Waiting);
         }
         let records = m.harvest();
-        let mut book = self.book.lock().unwrap();
+        let mut book = self.book.lock();
         book.close(m.number, &m.block, event(m.number, ASK, l as u32, 0), records)?;
         if book.locks[l].holder.is_none() {
             book.grant(m.number, l);
@@ -246,7 +285,7 @@ impl Cluster {
             return Err(Refused::NotHeld);
         }
         let records = m.harvest();
-        let mut book = self.book.lock().unwrap();
+        let mut book = self.book.lock();
         book.close(m.number, &m.block, event(m.number, RELEASE, l as u32, 0), records)?;
         book.locks[l].time = book.times[m.number as usize];
         book.locks[l].holder = None;
@@ -264,7 +303,7 @@ impl Cluster {
             return Err(Refused::Waiting);
         }
         let records = m.harvest();
-        let mut book = self.book.lock().unwrap();
+        let mut book = self.book.lock();
         book.close(m.number, &m.block, event(m.number, ARRIVE, 0, 0), records)?;
         let time = book.times[m.number as usize];
         join(&mut book.meeting, &time);
@@ -288,15 +327,16 @@ impl Cluster {
             Awaits::Lock(l) => event(m.number, ACQUIRE, l, 0),
             Awaits::Meeting => event(m.number, DEPART, 0, 0),
         };
-        let mut book = self.book.lock().unwrap();
+        let mut book = self.book.lock();
         let Some(message) = book.messages[m.number as usize].take() else {
             return Err(Refused::NotYet);
         };
         book.room(1)?;
         book.journal.push(last);
+        let before = book.times[m.number as usize];
         join(&mut book.times[m.number as usize], &message.time);
         if !message.records.is_empty() {
-            book.trim();
+            book.trim(m.number as usize, &before);
         }
         drop(book);
         join(&mut m.time, &message.time);
@@ -310,7 +350,7 @@ impl Cluster {
 
     /// The journal, with the open blocks at its end.
     pub fn finish(self, all: Vec<Processor>) -> Vec<Event> {
-        let mut journal = self.book.into_inner().unwrap().journal;
+        let mut journal = self.book.into_inner().journal;
         all.iter().for_each(|m| journal.extend_from_slice(&m.block));
         journal
     }
@@ -318,11 +358,14 @@ impl Cluster {
 
 impl Processor {
     pub fn page_of(&self, address: usize) -> usize {
-        address / self.words
+        self.words.split(address).0
     }
 
     fn admit(&self, address: usize) -> Result<(usize, usize), Refused> {
-        let (page, offset) = (address / self.words, address % self.words);
+        if address >= self.addresses {
+            return Err(Refused::OutOfRange);
+        }
+        let (page, offset) = self.words.split(address);
         let Some(copy) = self.copies.get(page) else {
             return Err(Refused::OutOfRange);
         };

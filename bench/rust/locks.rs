@@ -2,7 +2,9 @@
 
 use std::cell::UnsafeCell;
 use std::hint::spin_loop;
+use std::ops::{Deref, DerefMut};
 use std::sync::atomic::{AtomicU64, Ordering};
+use std::sync::{Mutex, MutexGuard};
 use std::thread;
 
 const PAUSES: u32 = 128;
@@ -25,45 +27,127 @@ pub trait Queue: Sync {
     fn leave(&self, number: u64);
 }
 
+/// A word on lines of its own, so that a write of it disturbs nobody who waits for another one.
+#[repr(align(128))]
+struct Line(AtomicU64);
+
+impl Line {
+    fn new() -> Line {
+        Line(AtomicU64::new(0))
+    }
+}
+
 pub struct Tickets {
-    next: AtomicU64,
-    serving: AtomicU64,
+    next: Line,
+    serving: Line,
 }
 
 impl Queue for Tickets {
     fn new(_seats: usize) -> Self {
-        Tickets { next: AtomicU64::new(0), serving: AtomicU64::new(0) }
+        Tickets { next: Line::new(), serving: Line::new() }
     }
 
     fn enter(&self) -> u64 {
-        let number = self.next.fetch_add(1, Ordering::Relaxed);
-        wait(&self.serving, number);
+        let number = self.next.0.fetch_add(1, Ordering::Relaxed);
+        wait(&self.serving.0, number);
         number
     }
 
     fn leave(&self, number: u64) {
-        self.serving.store(number + 1, Ordering::Release);
+        self.serving.0.store(number + 1, Ordering::Release);
     }
 }
 
+/// As many words as there are seats, or more: a power of two, so that a number's place is a mask away.
 pub struct Row {
-    next: AtomicU64,
-    words: Box<[AtomicU64]>,
+    next: Line,
+    words: Box<[Line]>,
+}
+
+impl Row {
+    fn at(&self, number: u64) -> &AtomicU64 {
+        &self.words[number as usize & (self.words.len() - 1)].0
+    }
 }
 
 impl Queue for Row {
     fn new(seats: usize) -> Self {
-        Row { next: AtomicU64::new(0), words: (0..seats).map(|_| AtomicU64::new(0)).collect() }
+        Row { next: Line::new(), words: (0..seats.next_power_of_two()).map(|_| Line::new()).collect() }
     }
 
     fn enter(&self) -> u64 {
-        let number = self.next.fetch_add(1, Ordering::Relaxed);
-        wait(&self.words[number as usize % self.words.len()], number);
+        let number = self.next.0.fetch_add(1, Ordering::Relaxed);
+        wait(self.at(number), number);
         number
     }
 
     fn leave(&self, number: u64) {
-        self.words[(number + 1) as usize % self.words.len()].store(number + 1, Ordering::Release);
+        self.at(number + 1).store(number + 1, Ordering::Release);
+    }
+}
+
+/// A value that one thread at a time gets at: whoever std's Mutex lets in, or in the order of drawing.
+pub enum Guarded<T> {
+    ByMutex(Mutex<T>),
+    InOrder(Row, UnsafeCell<T>),
+}
+
+unsafe impl<T: Send> Sync for Guarded<T> {}
+
+pub enum Held<'a, T> {
+    ByMutex(MutexGuard<'a, T>),
+    InOrder(&'a Row, u64, &'a UnsafeCell<T>),
+}
+
+impl<T> Guarded<T> {
+    /// For so many threads where they are let in by the order of drawing.
+    pub fn new(value: T, in_order: Option<usize>) -> Self {
+        match in_order {
+            None => Guarded::ByMutex(Mutex::new(value)),
+            Some(threads) => Guarded::InOrder(Row::new(threads), UnsafeCell::new(value)),
+        }
+    }
+
+    pub fn lock(&self) -> Held<'_, T> {
+        match self {
+            Guarded::ByMutex(mutex) => Held::ByMutex(mutex.lock().unwrap()),
+            Guarded::InOrder(row, value) => Held::InOrder(row, row.enter(), value),
+        }
+    }
+
+    pub fn into_inner(self) -> T {
+        match self {
+            Guarded::ByMutex(mutex) => mutex.into_inner().unwrap(),
+            Guarded::InOrder(_, value) => value.into_inner(),
+        }
+    }
+}
+
+impl<T> Deref for Held<'_, T> {
+    type Target = T;
+
+    fn deref(&self) -> &T {
+        match self {
+            Held::ByMutex(guard) => guard,
+            Held::InOrder(_, _, value) => unsafe { &*value.get() },
+        }
+    }
+}
+
+impl<T> DerefMut for Held<'_, T> {
+    fn deref_mut(&mut self) -> &mut T {
+        match self {
+            Held::ByMutex(guard) => guard,
+            Held::InOrder(_, _, value) => unsafe { &mut *value.get() },
+        }
+    }
+}
+
+impl<T> Drop for Held<'_, T> {
+    fn drop(&mut self) {
+        if let Held::InOrder(row, number, _) = self {
+            row.leave(*number);
+        }
     }
 }
 

@@ -3,7 +3,8 @@
 //!
 //! `plain WORK TIMES [THREADS|FILE]` and `plain WORK EVENTS TIMES` take the words of `bench`.
 //! `plain whole FILE [--journal]` does what `lrc step FILE [--journal]` does, and prints the same.
-//! It uses std alone, events of 16 bytes, and one Mutex round what the processors share.
+//! It uses std alone, events of 16 bytes, and one Mutex round what the processors share; `run_in_order` has a lock in its
+//! place that lets threads in by the order of drawing, as the product's do.
 
 mod book;
 mod journal;
@@ -31,7 +32,7 @@ fn main() {
         "barrier" => println!("{}", book::barrier(many, times)),
         "fetch" => println!("{}", book::fetches(times)),
         "parse" => println!("{}", script::parses(words.get(3).map_or("", String::as_str), times)),
-        "step" | "run" => println!("{}", run::runs(work, words.get(3).map_or("", String::as_str), times)),
+        "step" | "run" | "run_in_order" => println!("{}", run::runs(work, words.get(3).map_or("", String::as_str), times)),
         "whole" => run::whole(words.get(2).map_or("", String::as_str), words.len() > 3),
         "build" | "append" | "first_race" | "replay" | "traffic" | "copy" => journal::measure(work, times, many),
         _ => {

@@ -137,14 +137,15 @@ fn conclude(cluster: Cluster, mut all: Vec<Processor>, script: &Script) -> Resul
     Ok(Report { shown, racy, traffic, journal })
 }
 
-fn new_cluster(script: &Script) -> (Cluster, Vec<Processor>) {
+fn new_cluster(script: &Script, in_order: bool) -> (Cluster, Vec<Processor>) {
     let sizes = &script.sizes;
-    Cluster::new(sizes.processors as usize, sizes.pages as usize, sizes.words as usize, sizes.locks as usize)
+    let (processors, pages) = (sizes.processors as usize, sizes.pages as usize);
+    Cluster::with(processors, pages, sizes.words as usize, sizes.locks as usize, in_order)
 }
 
 /// All processors by turns on one thread, in the order of their numbers.
 pub fn step(script: &Script) -> Result<Report, Refused> {
-    let (cluster, mut processors) = new_cluster(script);
+    let (cluster, mut processors) = new_cluster(script, false);
     let mut all = vec![Progress::Next(0); processors.len()];
     while all.iter().any(|progress| *progress != Progress::Passed) {
         let mut any = false;
@@ -183,8 +184,8 @@ fn walk(cluster: &Cluster, m: &mut Processor, section: &[Instruction]) -> Result
 }
 
 /// Each processor on a thread of its own.
-pub fn run(script: &Script) -> Result<Report, Refused> {
-    let (cluster, mut processors) = new_cluster(script);
+pub fn run(script: &Script, in_order: bool) -> Result<Report, Refused> {
+    let (cluster, mut processors) = new_cluster(script, in_order);
     let shared = &cluster;
     thread::scope(|scope| {
         let started: Vec<_> = processors
@@ -323,7 +324,7 @@ pub fn runs(work: &str, file: &str, times: usize) -> usize {
     for _ in 0..times {
         count = match work {
             "step" => step(&script).expect("a report").journal.len(),
-            _ => run(&script).expect("a report").shown.len(),
+            _ => run(&script, work == "run_in_order").expect("a report").shown.len(),
         };
     }
     count

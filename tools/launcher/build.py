@@ -8,7 +8,7 @@ import time
 
 from . import plan, rooms
 from .look import Look
-from .places import HOME, ROOMS, SIGNALS, Failed, Stopped, say
+from .places import ROOMS, SIGNALS, Failed, Stopped, say
 from .progress import Progress
 from .runs import Run
 
@@ -85,7 +85,7 @@ class Build:
             rooms.leave(crate)
             self.waiting.remove(crate)
             self.progress.proved(crate, self.waiting, self.spent())
-        self.begin(self.crates[-1], ["run", "--jobs", "JOBS", "--", "--help"], HOME)
+        self.begin(self.crates[-1], ["run", "--jobs", "JOBS", "--", "--help"], self.crates[-1].folder)
         self.end_one()
         self.progress.say(f"{self.progress.so_far()} proved and built")
 
@@ -110,14 +110,14 @@ class Build:
             self.progress.clear()
 
 
-def build(rt, crates, words):
-    """Proves and builds, and leaves nothing behind but what was proved, whatever comes between."""
+def build(rt, program, crates, words):
+    """Proves and builds the program, and leaves nothing behind but what was proved, whatever comes between."""
     made = Build(rt, crates)
     try:
         if rooms.begin(crates):
             say("taking up what a build that died has proved")
         made.progress.begin()
-        made.look.begin(rt, words)
+        made.look.begin(rt, program, words)
         if signal.getsignal(signal.SIGTSTP) == signal.SIG_DFL:
             signal.signal(signal.SIGTSTP, made.pause)
         made.prove()

@@ -1,4 +1,4 @@
-"""Whether the program is built from the sources as they are, by the toolchain as it is.
+"""Whether a program is built from the sources as they are, by the toolchain as it is.
 
 The stamp beside the program says from what it was built: the toolchain's files and version, a sum of all sources, and
 a list of the sources with their times and sizes. Only where something of the list has changed is the sum taken.
@@ -6,20 +6,21 @@ a list of the sources with their times and sizes. Only where something of the li
 import os
 import time
 
-from .places import PROGRAM, ROOT, STAMP
+from .places import ROOT
 
 # A file that is younger than this when the list is made may change once more without another time, in nanoseconds.
 YOUNG = 2_000_000_000
 
 
 class Stamp:
-    """What the program was built from, as its file says: empty where there is none."""
+    """What a program was built from, as its file says: empty where there is none."""
 
-    def __init__(self):
+    def __init__(self, program):
         """Reads the file."""
+        self.file = program.stamp
         self.toolchain = self.version = self.sum = self.sources = ""
         try:
-            with open(STAMP, encoding="utf-8", errors="surrogateescape") as file:
+            with open(self.file, encoding="utf-8", errors="surrogateescape") as file:
                 rows, _, self.sources = file.read().partition("\n\n")
             self.toolchain, self.version, self.sum = rows.split("\n")
         except (OSError, ValueError):
@@ -27,9 +28,9 @@ class Stamp:
 
     def keep(self):
         """Writes the file, whole or not at all."""
-        with open(f"{STAMP}.new", "w", encoding="utf-8", errors="surrogateescape") as file:
+        with open(f"{self.file}.new", "w", encoding="utf-8", errors="surrogateescape") as file:
             file.write(f"{self.toolchain}\n{self.version}\n{self.sum}\n\n{self.sources}")
-        os.replace(f"{STAMP}.new", STAMP)
+        os.replace(f"{self.file}.new", self.file)
 
 
 def toolchain_of(rt):
@@ -64,25 +65,29 @@ def sum_of_sources(version, crates):
     return made.hexdigest()
 
 
-def taken(toolchain, version, crates):
-    """The stamp of the sources as they are now."""
-    stamp = Stamp()
+def taken(program, toolchain, version, crates):
+    """The program's stamp of the sources as they are now."""
+    stamp = Stamp(program)
     stamp.toolchain, stamp.version = toolchain, version
     stamp.sources, stamp.sum = list_of_sources(crates), sum_of_sources(version, crates)
     return stamp
 
 
-def is_unchanged(crates, toolchain):
+def is_unchanged(program, toolchain, crates):
     """Whether the program is there, and neither the toolchain nor a source has another time or size."""
-    stamp = Stamp()
+    if not program.is_there():
+        return False
+    stamp = Stamp(program)
     is_same = stamp.sources and stamp.toolchain == toolchain and stamp.sources == list_of_sources(crates)
-    return bool(is_same) and os.path.isfile(PROGRAM)
+    return bool(is_same)
 
 
-def is_built(toolchain, version, crates):
+def is_built(program, toolchain, version, crates):
     """Whether the program is built from the same sources, whatever their times. Then their times are noted."""
-    stamp, now = Stamp(), taken(toolchain, version, crates)
-    if not os.path.isfile(PROGRAM) or stamp.sum != now.sum:
+    if not program.is_there():
+        return False
+    stamp, now = Stamp(program), taken(program, toolchain, version, crates)
+    if stamp.sum != now.sum:
         return False
     try:
         now.keep()

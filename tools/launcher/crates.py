@@ -1,4 +1,4 @@
-"""The crates that the program stands on, their sources and weights."""
+"""The crates that a program stands on, their sources and weights."""
 import os
 
 from .places import ROOT, WEIGHTS
@@ -42,8 +42,9 @@ def listed():
     return found
 
 
-def crates_of_program():
-    """The crates that the program stands on, each after those that it uses, and then its own."""
+def crates_of(program):
+    """The crates that the program stands on, each after those that it uses, and then its own; none where crates.txt
+    doesn't list it."""
     lines, found = listed(), {}
 
     def visit(name):
@@ -53,7 +54,7 @@ def crates_of_program():
             found[name] = Crate(name, line, [crate for crate in below if crate])
         return found.get(name)
 
-    visit("lrc")
+    visit(program.name)
     return list(found.values())
 
 

@@ -4,11 +4,11 @@ import re
 import signal
 import stat
 
-from .places import HOME, PROGRAM, say, write
+from .places import say, write
 from .runs import Run, family, tell
 
 # The options that take the word after them.
-OPTIONS = ("--tries", "--seed", "--lock")
+OPTIONS = ("--tries", "--seed", "--seeds", "--lock", "--most")
 HELP = ("help", "--help", "-h")
 # What the FILE is called where the program is tried.
 NAME = "script.lrc"
@@ -63,11 +63,11 @@ class Look:
     def __init__(self):
         self.run = None
 
-    def begin(self, rt, words):
-        """Starts it, where nothing is built yet and it can be done."""
-        given = tried(words) if words[:1] != ["prove"] and not os.path.isfile(PROGRAM) else None
+    def begin(self, rt, program, words):
+        """Starts it, where the program isn't built yet and it can be done."""
+        given = tried(words) if words[:1] != ["prove"] and not program.is_there() else None
         if given:
-            self.run = Run("first-look", [rt, "try", *given[0]], HOME, stdin=given[1], is_look=True)
+            self.run = Run("first-look", [rt, "try", *given[0]], program.home, stdin=given[1], is_look=True)
             os.close(given[1])
 
     def show(self, progress):

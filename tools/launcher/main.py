@@ -1,12 +1,12 @@
-"""The whole: builds the program where it isn't built, and then becomes it."""
+"""The whole: builds a program where it isn't built, and then becomes it."""
 import errno
 import os
 import signal
 import sys
 
 from .built import is_built, is_unchanged, taken, toolchain_of
-from .crates import crates_of_program, weigh
-from .places import HOME, NOT_POSSIBLE, NOT_PROVED, PROGRAM, SIGNALS, TURN, Failed, Stopped, say
+from .crates import crates_of, weigh
+from .places import CORE, CORE_COMMANDS, NOT_POSSIBLE, NOT_PROVED, SIGNALS, TURN, WHOLE, Failed, Stopped, say
 
 
 def command():
@@ -54,7 +54,7 @@ def turn():
     """Waits until no other build is at work here, and returns what keeps others out until it is closed."""
     import fcntl
 
-    os.makedirs(f"{HOME}/out", exist_ok=True)
+    os.makedirs(f"{WHOLE.home}/out", exist_ok=True)
     held = os.open(TURN, os.O_RDWR | os.O_CREAT, 0o666)
     try:
         fcntl.flock(held, fcntl.LOCK_EX | fcntl.LOCK_NB)
@@ -71,40 +71,64 @@ def turn():
     return held
 
 
-def make(rt, toolchain, crates, words):
-    """Builds the program where it isn't built from the sources as they are."""
+def that_do(words):
+    """The programs that do what the words ask for, each with its crates, the one with all commands first."""
+    programs = [WHOLE, CORE] if words[:1] and words[0] in CORE_COMMANDS else [WHOLE]
+    found = [(program, crates_of(program)) for program in programs]
+    return [(program, crates) for program, crates in found if crates]
+
+
+def built(programs, toolchain, version):
+    """The first of the programs that is built from the sources as they are; None where none is."""
+    return next((program for program, crates in programs if is_built(program, toolchain, version, crates)), None)
+
+
+def make(rt, toolchain, programs, words):
+    """Builds the last of these programs where none is built from the sources as they are. Returns the one that is."""
     hold_standard_streams()
     version = version_of(rt)
     if version is None:
         raise OSError(f"the Rattle toolchain doesn't run ({rt} version)")
-    if is_built(toolchain, version, crates):
-        return
+    program = built(programs, toolchain, version)
+    if program:
+        return program
     held = turn()
-    # It may be built by now.
-    if not is_built(toolchain, version, crates):
+    # One may be built by now.
+    program = built(programs, toolchain, version)
+    if not program:
         from .build import build
 
+        program, crates = programs[-1]
         weigh(crates)
-        stamp = taken(toolchain, version, crates)
-        build(rt, crates, words)
+        os.makedirs(f"{program.home}/out", exist_ok=True)
+        stamp = taken(program, toolchain, version, crates)
+        build(rt, program, crates, words)
         stamp.keep()
     os.close(held)
+    return program
+
+
+def program_for(words):
+    """The program that does what the words ask for, built where something changed."""
+    rt = command()
+    if rt is None:
+        raise OSError("the Rattle toolchain (its command rt) is missing")
+    programs, toolchain = that_do(words), toolchain_of(rt)
+    for program, crates in programs:
+        if is_unchanged(program, toolchain, crates):
+            return program
+    listen()
+    return make(rt, toolchain, programs, words)
 
 
 def run(words):
     """Builds where something changed, and then becomes the program."""
-    rt = command()
-    if rt is None:
-        raise OSError("the Rattle toolchain (its command rt) is missing")
-    crates, toolchain = crates_of_program(), toolchain_of(rt)
-    if not is_unchanged(crates, toolchain):
-        listen()
-        make(rt, toolchain, crates, words)
+    program = program_for(words)
     if words[:1] == ["prove"]:
         sys.exit(0)
     for it in (signal.SIGPIPE, signal.SIGXFSZ):
         signal.signal(it, signal.SIG_DFL)
-    os.execv(PROGRAM, [PROGRAM, *words])
+    os.execv(program.file, [WHOLE.file, *words])
 
 
 def end_by(number):

@@ -3,12 +3,27 @@ import os
 import signal
 
 ROOT = os.path.dirname(os.path.dirname(os.path.dirname(os.path.realpath(__file__))))
-HOME = f"{ROOT}/crates/lrc"
-PROGRAM = f"{HOME}/out/lrc"
-STAMP = f"{HOME}/out/built"
 WEIGHTS = f"{ROOT}/tools/weights"
+
+
+class Program:
+    """A program of the repository: its crate's name and folder, where it is built, and what it was built from."""
+
+    def __init__(self, name):
+        self.name = name
+        self.home = f"{ROOT}/crates/{name}"
+        self.file = f"{self.home}/out/{name}"
+        self.stamp = f"{self.home}/out/built"
+
+    def is_there(self):
+        return os.path.isfile(self.file)
+
+
+# The program with all commands; and the one with these alone, which stands on fewer crates and so is built sooner.
+WHOLE, CORE = Program("lrc"), Program("lrc_core")
+CORE_COMMANDS = ("run", "step")
 # What a build keeps to itself lies where no run of the toolchain looks for crates: `rt ci` refuses a second crates.txt.
-OWN = f"{ROOT}/.git" if os.path.isdir(f"{ROOT}/.git") else f"{HOME}/out"
+OWN = f"{ROOT}/.git" if os.path.isdir(f"{ROOT}/.git") else f"{WHOLE.home}/out"
 ROOMS = f"{OWN}/lrc-rooms"
 TURN = f"{OWN}/lrc-turn"
 # The signals that end a build in order.
