@@ -1,13 +1,13 @@
-//! Tests of the book, as lists of steps.
+//! Tests of the book, as lists of steps. What is seen as well through a cluster is in `tests/calls`: the limits, who waits
+//! for what, audits, and what a cut leaves.
 ghost use Rattle.std.specs.Prelude.{◌≡◌, ◌<◌, ◌≤◌, length};
 
 mod cuts;
-mod limits;
 mod rows;
 mod texts;
 
 use crate::Told;
-use Call::{Arrive, Ask, Audit, HandIn, Last, Release, Set, Take, Watch};
+use Call::{Arrive, Ask, Audit, HandIn, Release, Set, Take, Watch};
 use Step::{CutFails, Cuts, Does, Gets, IsDue, Keeps, Refuses};
 use Words::{One, Two};
 use book::Refused;
@@ -29,7 +29,6 @@ const NONE: &[Store] = &[];
 enum Call {
     HandIn(usize),
     Audit(usize),
-    Last(usize),
     Ask(usize),
     Release(usize),
     Arrive,
@@ -163,7 +162,6 @@ fn make_once(
     let block = block_of(alloc, p, loads_of(call), stores)?;
     match call {
         HandIn(_) => told.hand_in(p, &block)?,
-        Last(_) => told.last(p, &block)?,
         Audit(_) => return Ok(Answer::Copy(told.audit(p, &block)?)),
         Ask(l) => told.ask(p, l, &block)?,
         Release(l) => told.release(p, l, &block)?,
@@ -177,7 +175,7 @@ fn make_once(
 
 fn loads_of(call: Call) -> usize {
     match call {
-        HandIn(loads) | Audit(loads) | Last(loads) => loads,
+        HandIn(loads) | Audit(loads) => loads,
         _ => 0,
     }
 }
@@ -225,17 +223,6 @@ fn copy_of(told: &mut Told, alloc: Global, p: usize, loads: usize) -> Result<Jou
         Answer::Copy(journal) => Ok(journal),
         _ => Err(Refused::NotYet),
     }
-}
-
-/// Whether an audit of `p` answers a journal with these events left.
-fn audit_has(
-    told: &mut Told,
-    alloc: Global,
-    p: usize,
-    loads: usize,
-    wanted: &[Event],
-) -> Result<bool, Refused> {
-    Ok(has_events(&copy_of(told, alloc, p, loads)?, wanted))
 }
 
 fn name_of(message: &Message) -> &'static str {

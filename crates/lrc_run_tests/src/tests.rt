@@ -1,6 +1,5 @@
 //! Runs of whole scripts.
 
-mod cuts;
 mod faults;
 mod steps;
 mod threads;

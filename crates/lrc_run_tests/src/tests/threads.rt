@@ -1,4 +1,4 @@
-//! Scripts with each processor on a thread of its own.
+//! Scripts with each processor on a thread of its own: gates, and locks of few entries.
 ghost use Rattle.std.specs.Prelude.{◌<◌, ◌≤◌, ◌^◌};
 
 use book::{Book, Refused};
@@ -31,25 +31,6 @@ fn both<R: Threads + Wait + Sync, G: Gate + Sync>(
     Ok((array, ticket))
 }
 
-/// Whether the report shows these words, and says that they are racy or not.
-fn says(report: &Report, words: &[(usize, u32)], racy: bool) -> bool {
-    report.shown.as_slice() == words && report.racy == racy
-}
-
-/// Runs a script that shows these words and is racy or not.
-fn shows<R: Threads + Wait + Sync + Abort>(
-    rt: &R,
-    alloc: Global,
-    text: &[u8],
-    words: &[(usize, u32)],
-    racy: bool,
-) -> Result<(), Fail> {
-    let (array, ticket) = both(rt, alloc, text, &Open, 1_000_000)?;
-    assert!(rt; says(&array?, words, racy));
-    assert!(rt; says(&ticket?, words, racy));
-    Ok(())
-}
-
 /// Runs a script that ends with this fault.
 fn fails<R: Threads + Wait + Sync + Abort, G: Gate + Sync>(
     rt: &R,
@@ -67,66 +48,6 @@ fn fails<R: Threads + Wait + Sync + Abort, G: Gate + Sync>(
     assert!(rt; array.err() == Some(fault));
     assert!(rt; ticket.err() == Some(fault));
     Ok(())
-}
-
-#[test]
-fn a_barrier(rt: HostRuntime) -> Result<(), Fail> {
-    let text = b"cluster 2 1 2 0\np 0\nstore 0 5\nbarrier\np 1\nbarrier\nload 0\nshow 0\n";
-    shows(&rt, rt.alloc(), text, &[(0, 5)], false)
-}
-
-#[test]
-fn a_counter_under_a_lock(rt: HostRuntime) -> Result<(), Fail> {
-    let text =
-        b"cluster 3 1 1 1\np 0\nacquire 0\nadd 0 1\nrelease 0\np 1\nacquire 0\nadd 0 1\nrelease 0\np 2\nacquire 0\nadd 0 1\nrelease 0\nshow 0\n";
-    shows(&rt, rt.alloc(), text, &[(0, 3)], false)
-}
-
-#[test]
-fn a_flag(rt: HostRuntime) -> Result<(), Fail> {
-    let text = b"cluster 2 1 2 0 1\np 0\nstore 0 5\nset 0\np 1\nawait 0\nadd 0 2\nshow 0\n";
-    shows(&rt, rt.alloc(), text, &[(0, 7)], false)
-}
-
-#[test]
-fn words_of_one_page(rt: HostRuntime) -> Result<(), Fail> {
-    let text =
-        b"cluster 4 1 4 0\np 0\nstore 0 1\np 1\nstore 1 2\np 2\nstore 2 3\np 3\nstore 3 4\nshow 3 0 1 2\n";
-    shows(
-        &rt,
-        rt.alloc(),
-        text,
-        &[(3, 4), (0, 1), (1, 2), (2, 3)],
-        false,
-    )
-}
-
-#[test]
-fn a_race(rt: HostRuntime) -> Result<(), Fail> {
-    let text = b"cluster 2 1 1 0\np 0\nload 0\np 1\nstore 0 4\nshow 0\n";
-    shows(&rt, rt.alloc(), text, &[(0, 4)], true)
-}
-
-#[test]
-fn one_try_is_enough_alone(rt: HostRuntime) -> Result<(), Fail> {
-    let alloc = rt.alloc();
-    let text = b"cluster 1 1 1 1\np 0\nacquire 0\nstore 0 7\nrelease 0\nshow 0\n";
-    let (array, ticket) = both(&rt, alloc, text, &Open, 1)?;
-    assert!(&rt; says(&array?, &[(0, 7)], false));
-    assert!(&rt; says(&ticket?, &[(0, 7)], false));
-    Ok(())
-}
-
-#[test]
-fn stuck_at_a_lock(rt: HostRuntime) -> Result<(), Fail> {
-    let text = b"cluster 2 1 1 1\np 0\nacquire 0\np 1\nacquire 0\nshow 0\n";
-    fails(&rt, rt.alloc(), text, &Open, 1000, 0, Cause::Stuck)
-}
-
-#[test]
-fn stuck_at_a_flag_after_one_try(rt: HostRuntime) -> Result<(), Fail> {
-    let text = b"cluster 1 1 1 0 1\np 0\nawait 0\nshow 0\n";
-    fails(&rt, rt.alloc(), text, &Open, 1, 0, Cause::Stuck)
 }
 
 /// What comes of a processor that tries three times, where the lock lets it enter that many times.
