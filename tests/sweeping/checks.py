@@ -1,5 +1,5 @@
-"""What is checked of a report: by the table of what happens before what, one flat memory, and the script's sections."""
-from flaw import Flaw, expect, expect_nowhere
+"""What is checked of a report: by the table of what happens before what, one flat memory, and the sections."""
+from flaw import expect, expect_nowhere
 from drawing import WORD, is_idle
 from gaps import Gaps
 from rules import first_refused, out_of_range
@@ -78,8 +78,8 @@ def ways(script, events, is_cut):
 
 
 def recomputed(script, base, events, is_cut=False):
-    """The events with the replies and sums that they would have on one flat memory that begins with the base's words. A
-    flaw where an event isn't what its section does next."""
+    """The events with the replies and sums that they would have on one flat memory that begins with the base's
+    words. A flaw where an event isn't what its section does next."""
     own, memory, flat = ways(script, events, is_cut), list(base), []
     for place, event in enumerate(events):
         other = own[event.processor].advance(memory, event)
@@ -145,8 +145,8 @@ def ends_episode(processors, events):
 
 
 def base_of(whole, history, report):
-    """The base of a report whose script has cuts: what the events cut off leave of a memory of zeros. The history is that
-    of the same script with idle loads in the place of its cuts."""
+    """The base of a report whose script has cuts: what the events cut off leave of a memory of zeros. The history is
+    that of the same script with idle loads in the place of its cuts."""
     others = tuple(event for event in history.events if not is_idle(whole, event))
     taken, left = others[:report.cut], others[report.cut:]
     expect(left == report.events, "the events that are left are the last ones of the history")
@@ -163,19 +163,10 @@ def check_same(history, report):
 
 
 def inferred_base(script, report):
-    """The base that the loads tell of, where it isn't known: of each address what the first load answers that has no store
-    in its past. Each other load has to answer by it."""
+    """The base that the loads tell of, where it isn't known: of each address what the first load answers that has no
+    store in its past. Each other load has to answer by it."""
     table, base = Table(report.events, report.cut > 0), {}
     for place, event in enumerate(report.events):
         if event.kind == "load" and not table.latest_stores(event.numbers[0], place):
             base.setdefault(*event.numbers)
     return [base.get(address, 0) if report.cut else 0 for address in range(script.addresses)]
-
-
-def is_flaw(check, *arguments):
-    """Whether the check finds a flaw."""
-    try:
-        check(*arguments)
-    except Flaw:
-        return True
-    return False

@@ -1,8 +1,8 @@
 """Lawful scripts, each drawn by its number: guarded, free, mixed and of any sizes; and with cuts in them.
 
 No schedule of a mixed script is stuck. In each phase between two barriers
-- the flags come first, by rising number, before any lock is asked for. Each flag has a phase and a processor that sets it
-  first, and nobody awaits it in an earlier phase. So who is to set a flag waits only for lesser ones before that;
+- the flags come first, by rising number, before any lock is asked for. Each flag has a phase and a processor that
+  sets it first, and nobody awaits it in an earlier phase. So who is to set a flag waits only for lesser ones before;
 - locks are asked for by rising number, so who holds one waits only for greater ones;
 - a lock that is kept over the phase's end has one keeper, and nobody else asks for it in that phase.
 """
@@ -47,7 +47,8 @@ def item(draws, shape):
 
 def simple(draws, piece, most):
     """A script whose phases have up to so many pieces."""
-    shape = Shape(draws.randint(1, 4), draws.randint(1, 3), draws.randint(1, 4), draws.randint(1, 3), draws.randrange(3))
+    sizes = [draws.randint(1, most) for most in (4, 3, 4, 3)]
+    shape = Shape(*sizes, draws.randrange(3))
     sections = []
     for _ in range(shape.processors):
         phases = [[it for _ in range(draws.randint(0, most)) for it in piece(draws, shape)]
@@ -136,8 +137,8 @@ class Section:
             self.accesses(2)
 
     def nest(self, keepers):
-        """Asks by rising number for some locks that nobody keeps over the phase's end, with accesses between. Of those
-        that are held from an earlier phase all have to be lesser."""
+        """Asks by rising number for some locks that nobody keeps over the phase's end, with accesses between. What is
+        held from an earlier phase has to be lesser."""
         for lock, keeper in enumerate(keepers):
             if keeper is None and all(it < lock for it in self.held) and one_in(self.draws, 2):
                 self.acquire(lock)
@@ -165,8 +166,8 @@ class Section:
 
 
 def mixed(number):
-    """Up to sixteen processors, flags, several locks at once, and locks held over barriers. Of an even number each address
-    is accessed only by who holds its lock or has awaited its flag, and only added to and loaded."""
+    """Up to sixteen processors, flags, several locks at once, and locks held over barriers. Of an even number each
+    address is accessed only by who holds its lock or has awaited its flag, and only added to and loaded."""
     draws = random.Random(f"mixed {number}")
     plan = Plan(draws, number % 2 == 0)
     sections = [Section(draws, plan, processor) for processor in range(plan.processors)]
@@ -230,8 +231,8 @@ def of_any_sizes(number):
 
 
 def marked(script, number, mark):
-    """The script with one page more, which nobody stores to, and with marks at drawn places: after some of its barriers,
-    and now and then before another instruction."""
+    """The script with one page more, which nobody stores to, and with marks at drawn places: after some of its
+    barriers, and now and then before another instruction."""
     draws = random.Random(f"marks {number}")
     sections = []
     for section in script.sections:
@@ -247,9 +248,9 @@ def with_cuts(script, number):
 
 
 def with_idle_loads(script, number):
-    """The script with a load of the page that nobody stores to in the place of each cut. A load takes a turn as a cut does,
-    costs nothing and orders nothing. So under each schedule of `step` its journal is the history of the script with the
-    cuts, but for these loads."""
+    """The script with a load of the page that nobody stores to in the place of each cut. A load takes a turn as a cut
+    does, costs nothing and orders nothing. So under each schedule of `step` its journal is the history of the script
+    with the cuts, but for these loads."""
     return marked(script, number, ("load", script.addresses))
 
 

@@ -3,8 +3,8 @@
 # Bytes that scripts have, and some that they don't.
 BYTES = [bytes((byte,)) for byte in b"0123456789 \n\t\r-+pabcdehklorstuw\x00\xff"]
 # Words that scripts have, and some that they almost have.
-WORDS = (b"cluster p load store add acquire release barrier set await cut show 0 1 2 3 4 7 15 16 17 31 32 33 63 64 65 4095 4096 "
-         b"4294967295 4294967296 00 01 -1 +1 1x Show").split()
+WORDS = (b"cluster p load store add acquire release barrier set await cut show 0 1 2 3 4 7 15 16 17 31 32 33 63 64 "
+         b"65 4095 4096 4294967295 4294967296 00 01 -1 +1 1x Show").split()
 
 
 def edit(draws, parts, others):

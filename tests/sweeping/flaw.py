@@ -16,3 +16,12 @@ def expect_nowhere(place, events, what):
     if place is not None:
         event = events[place].line(place) if place < len(events) else "the end"
         raise Flaw(f"at {event}: it doesn't hold that {what}")
+
+
+def is_flaw(check, *arguments):
+    """Whether the check finds a flaw."""
+    try:
+        check(*arguments)
+    except Flaw:
+        return True
+    return False

@@ -17,13 +17,15 @@ class Gaps:
 
     def __init__(self, table, words):
         self.table, self.words = table, words
-        self.intervals = [self.interval_of(place) for place in range(len(table.events))]
+        self.closing = sum(1 << place for place, event in enumerate(table.events) if event.kind in CLOSING)
+
+    def own_before(self, place):
+        """The events of the event's processor before it."""
+        return self.table.own[self.table.events[place].processor] & (1 << place) - 1
 
     def interval_of(self, place):
         """How many intervals the event's processor has closed before it."""
-        events = self.table.events
-        return sum(events[earlier].kind in CLOSING
-                   for earlier in places_of(self.table.own[events[place].processor] & (1 << place) - 1))
+        return bin(self.own_before(place) & self.closing).count("1")
 
     def page_of(self, place):
         """The page that an access or a fetch is of."""
@@ -33,14 +35,14 @@ class Gaps:
     def past_of_last_fetch(self, place):
         """What happens before the processor's last fetch of the page before a place."""
         events, page = self.table.events, self.page_of(place)
-        for earlier in reversed(list(places_of(self.table.own[events[place].processor] & (1 << place) - 1))):
+        for earlier in reversed(list(places_of(self.own_before(place)))):
             if events[earlier].kind == "fetch" and events[earlier].numbers[0] == page:
                 return self.table.rows[earlier]
         return 0
 
     def lacked(self, place):
-        """The stores that the copy of the page lacks just before an access or a fetch: those of others in its past, but not
-        in the past of its processor's last fetch of the page."""
+        """The stores that the copy of the page lacks just before an access or a fetch: those of others in its past,
+        but not in the past of its processor's last fetch of the page."""
         table, page = self.table, self.page_of(place)
         stores = 0
         for address in range(page * self.words, (page + 1) * self.words):
@@ -50,7 +52,7 @@ class Gaps:
 
     def due(self, place):
         """What a fetch at a place has to count: a record is of an interval, and has each word once."""
-        stores = [(self.table.events[store], self.intervals[store]) for store in places_of(self.lacked(place))]
+        stores = [(self.table.events[store], self.interval_of(store)) for store in places_of(self.lacked(place))]
         return Counts(len({event.processor for event, _ in stores}),
                       len({(event.processor, interval) for event, interval in stores}),
                       len({(event.processor, interval, event.numbers[0]) for event, interval in stores}))
@@ -64,6 +66,6 @@ class Gaps:
         return event.kind not in ("load", "store") or not self.lacked(place)
 
     def wrong_place(self):
-        """The first place at which a copy is accessed that lacks something, or a fetch brings nothing or counts something
-        else than what is missing."""
+        """The first place at which a copy is accessed that lacks something, or a fetch brings nothing or counts
+        something else than what is missing."""
         return next((place for place in range(len(self.table.events)) if not self.is_right(place)), None)

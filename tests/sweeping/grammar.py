@@ -1,11 +1,12 @@
-"""A plain slow reader of scripts, written over the grammar of docs/SCRIPTS.md: each line is looked at behind all lines
-before it, as they stand there, by the rows of the faults' table one after the other."""
+"""A plain slow reader of scripts, written over the grammar of docs/SCRIPTS.md: each line is looked at behind all
+lines before it, as they stand there, by the rows of the faults' table one after the other."""
 import re
 from typing import NamedTuple
 
 TRUNCATED, UNEVEN = "file ends too early", "number of barriers differs"
 # How many numbers an instruction has.
-NUMBERS = {b"load": 1, b"store": 2, b"add": 2, b"acquire": 1, b"release": 1, b"barrier": 0, b"set": 1, b"await": 1, b"cut": 0}
+NUMBERS = {b"load": 1, b"store": 2, b"add": 2, b"acquire": 1, b"release": 1, b"barrier": 0, b"set": 1, b"await": 1,
+           b"cut": 0}
 
 
 class Sizes(NamedTuple):
@@ -69,7 +70,7 @@ def has_wrong_words(front, line):
         return len(words) != 1
     if keyword == b"show":
         return front.sections() != front.sizes.processors or not words
-    return front.sections() == 0 or NUMBERS.get(keyword) != len(words)
+    return len(front.lines) == 1 or NUMBERS.get(keyword) != len(words)
 
 
 def has_no_number(front, line):
@@ -160,7 +161,7 @@ def uneven(lines):
 
 
 def read(text):
-    """None where the bytes are a lawful script's text. Else the number of the first line with a fault, and the fault."""
+    """None where the bytes are a lawful script's text. Else the number of the first line with a fault, and that."""
     *whole, rest = text.split(b"\n")
     lines = [line.split(b" ") for line in whole]
     sizes = None

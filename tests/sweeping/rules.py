@@ -92,8 +92,8 @@ WAITS = {"acquire": "its processor waits for lock {}", "await": "its processor w
 
 
 def why_not(sizes, before, event, lax=False):
-    """Why the event may not come after these events, none of which is refused itself; None where it may. Lax, a lock may
-    be granted to whoever waits for it. What the event names is within the sizes."""
+    """Why the event may not come after these events, none of which is refused itself; None where it may. Lax, a lock
+    may be granted to whoever waits for it. What the event names is within the sizes."""
     wait = awaited(before, event.processor)
     if wait is None:
         return not_called(before, event)

@@ -18,8 +18,8 @@ def places_of(bits):
 
 
 def episodes_of(events, has_base):
-    """Of each arrival and departure how often its processor has done so, this time included. Where events were cut off,
-    each processor's last arrival among those counts: as the first."""
+    """Of each arrival and departure how often its processor has done so, this time included. Where events were cut
+    off, each processor's last arrival among those counts, as the first."""
     counts, episodes = Counter(), []
     for event in events:
         counts[event.processor, event.kind] += 1

@@ -1,4 +1,4 @@
-"""Right answers of the program, each with one thing turned: what has to be refused, so that a check that can't fail is seen."""
+"""Right answers of the program with one thing turned. They have to be refused, so a check that can't fail is seen."""
 import re
 
 import grammar
@@ -6,7 +6,9 @@ from running import Answer
 
 # What no drawn script stores.
 STRANGE = 4000000001
-PLAIN = Answer(0, "word 0 0\nverdict race-free\ntraffic 2 0 0\nevent 0 0 arrive\nevent 1 0 depart\nevent 2 0 load 0 0\n", "")
+# The whole report of a script that does nothing.
+PLAIN = ("word 0 0\nverdict race-free\ntraffic 2 0 0\n"
+         "event 0 0 arrive\nevent 1 0 depart\nevent 2 0 load 0 0\n")
 
 
 def replaced(pattern, new):
@@ -81,13 +83,14 @@ def other_fault(answer):
 REFUSED = instead(2, "", "lrc: line 1: line not understood\n")
 STUCK = instead(3, "", "lrc: processor 0: no progress\n")
 # Of each kind of answer its turns, with their names.
-TEXTS = (("a later line", later_line), ("another fault", other_fault), ("a text read", instead(0, *PLAIN[1:])),
+TEXTS = (("a later line", later_line), ("another fault", other_fault), ("a text read", instead(0, PLAIN)),
          ("a text refused", REFUSED), ("another address", replaced("^word ", "word 9")))
 REPORTS = (
     ("a reply", replaced("(load [0-9]+) [0-9]+$", rf"\1 {STRANGE}")),
     ("a stored value", replaced("(store [0-9]+) [0-9]+$", rf"\1 {STRANGE}")),
-    ("a shown word", one_more("^word [0-9]+ ")), ("the verdict", other_verdict), ("the messages", one_more("^traffic ")),
-    ("the records", one_more("^traffic [0-9]+ ")), ("the words", one_more("^traffic [0-9]+ [0-9]+ ")),
+    ("a shown word", one_more("^word [0-9]+ ")), ("the verdict", other_verdict),
+    ("the messages", one_more("^traffic ")), ("the records", one_more("^traffic [0-9]+ ")),
+    ("the words", one_more("^traffic [0-9]+ [0-9]+ ")),
     ("a fetch's page", one_more(" fetch ")), ("a fetch's writers", one_more(" fetch [0-9]+ ")),
     ("a fetch's records", one_more(" fetch [0-9]+ [0-9]+ ")),
     ("a fetch's words", one_more(" fetch [0-9]+ [0-9]+ [0-9]+ ")), ("a fetch left out", without(".* fetch ")),
@@ -97,6 +100,8 @@ REPORTS = (
 )
 TRACES = (("the verdict", other_verdict), ("the place", one_more("^unfaithful ")),
           ("the reason", replaced("^because .*$", "because nobody has stored it")),
-          ("a due count", one_more("has to count ")), ("the messages", one_more("^traffic ")), ("a later line", later_line),
+          ("a due count", one_more("has to count ")), ("the messages", one_more("^traffic ")),
+          ("a later line", later_line),
           ("a faithful trace", instead(0, "events 1\nfaithful\nverdict race-free\ntraffic 0 0 0\n")),
-          ("a trace refused", instead(6, "events 1\nunfaithful 0\nevent 0 0 load 0 1\nbecause it may answer 0 alone\n")))
+          ("a trace refused", instead(6, "events 1\nunfaithful 0\nevent 0 0 release 0\n"
+                                         "because its processor does not hold the lock\n")))

@@ -9,10 +9,10 @@ from table import Table
 
 
 class Found(NamedTuple):
-    """What is found of a trace: its kind, the place of the first wrong event, and why it is wrong, as lines."""
+    """What is found of a trace: its kind, the place of the first wrong event, and what is told of it, as lines."""
     kind: str
-    place: int = None
-    why: tuple = ()
+    place: int
+    lines: tuple
 
 
 def wrong_load(table, place):
@@ -37,11 +37,11 @@ def wrong_fetch(gaps, place):
     return Found("miscounted", place, (why,))
 
 
-def first_wrong(sizes, events, lax):
-    """The first wrong load or fetch of events each of which may follow what stands before it."""
-    table = Table(events)
-    gaps = Gaps(table, sizes.words)
-    for place, event in enumerate(events):
+def first_wrong(table, words, lax):
+    """The first wrong load or fetch of events each of which may follow what stands before it, in pages of so many
+    words."""
+    gaps = Gaps(table, words)
+    for place, event in enumerate(table.events):
         wrong = None
         if event.kind == "load":
             wrong = wrong_load(table, place)
@@ -52,6 +52,14 @@ def first_wrong(sizes, events, lax):
     return None
 
 
+def faithful(table, lax):
+    """What is found of a trace without a wrong event."""
+    race, events = table.first_race(), table.events
+    return Found("faithful", None, (
+        "faithful", *["unjudged counts order"] * lax, "verdict race-free" if race is None else "verdict racy",
+        *[events[place].line(place) for place in race or ()], "traffic {} {} {}".format(*cost_of(events))))
+
+
 def find(sizes, events, lax):
     """What is to be found of a trace."""
     for place, event in enumerate(events):
@@ -59,29 +67,21 @@ def find(sizes, events, lax):
         if fault is not None:
             return Found("no trace", place, (f"lrc: line {place + 2}: {fault}",))
     refused = first_refused(sizes, events, lax)
-    wrong = first_wrong(sizes, events[:refused[0]] if refused else events, lax)
+    table = Table(events if refused is None else events[:refused[0]])
+    wrong = first_wrong(table, sizes.words, lax)
     if wrong is None and refused is not None:
         return Found("ill formed", refused[0], (f"because {refused[1]}",))
-    return wrong or Found("faithful")
+    return wrong or faithful(table, lax)
 
 
-def faithful_lines(events, lax):
-    race = Table(events).first_race()
-    return ["faithful", *["unjudged counts order"] * lax, "verdict race-free" if race is None else "verdict racy",
-            *[events[place].line(place) for place in race or ()], "traffic {} {} {}".format(*cost_of(events))]
-
-
-def answer_to(sizes, events, lax):
-    """What is found of a trace, and what the program has to answer."""
-    found = find(sizes, events, lax)
+def answer_to(found, events):
+    """What the program has to answer, where this is found of a trace."""
     if found.kind == "no trace":
-        return found, Answer(2, "", found.why[0] + "\n")
-    if found.kind == "faithful":
-        lines = faithful_lines(events, lax)
-    else:
-        lines = [f"unfaithful {found.place}", events[found.place].line(found.place), *found.why]
-    text = "".join(line + "\n" for line in [f"events {len(events)}", *lines])
-    return found, Answer(0 if found.kind == "faithful" else 6, text, "")
+        return Answer(2, "", found.lines[0] + "\n")
+    head = [f"events {len(events)}"]
+    if found.kind != "faithful":
+        head += [f"unfaithful {found.place}", events[found.place].line(found.place)]
+    return Answer(0 if found.kind == "faithful" else 6, "".join(line + "\n" for line in [*head, *found.lines]), "")
 
 
 def text_of(sizes, events):
