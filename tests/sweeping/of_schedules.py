@@ -32,9 +32,9 @@ def on_threads(program, script, lock="array"):
 
 def note(found, sort, report):
     """Takes note of what a report has."""
-    fetches = sum(event.kind == "fetch" for event in report.events)
-    counts = {"reports": 1, "racy": report.racy, "cut": report.cut > 0, "events": len(report.events), "fetches": fetches}
-    for name, count in counts.items():
+    fetches = [event for event in report.events if event.kind == "fetch"]
+    for name, count in (("reports", 1), ("racy", report.racy), ("cut", report.cut > 0),
+                        ("events", len(report.events)), ("fetches", len(fetches))):
         found.seen[sort, name] += count
 
 
