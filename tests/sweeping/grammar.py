@@ -1,5 +1,6 @@
 """A plain slow reader of scripts, written over the grammar of docs/SCRIPTS.md: each line is looked at behind all
 lines before it, as they stand there, by the rows of the faults' table one after the other."""
+import functools
 import re
 from typing import NamedTuple
 
@@ -41,6 +42,7 @@ class Front(NamedTuple):
         return False
 
 
+@functools.lru_cache(maxsize=None)
 def number(word):
     """The number of a word; None where it is none."""
     if re.fullmatch(rb"0|[1-9][0-9]*", word) is None or int(word) > 4294967295:

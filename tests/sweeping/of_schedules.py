@@ -30,6 +30,11 @@ def on_threads(program, script, lock="array"):
     return program.call(script.text(), "run", "--journal", "--tries", TRIES, "--lock", lock)
 
 
+def name_of(sort):
+    """What a sort of scripts is called: a drawing's name, and whether there are cuts."""
+    return sort[0] + (" with cuts" if sort[1] else "")
+
+
 def note(found, sort, report):
     """Takes note of what a report has."""
     fetches = [event for event in report.events if event.kind == "fetch"]
@@ -39,7 +44,7 @@ def note(found, sort, report):
 
 
 class Case:
-    """A script of a sort, which is a drawing's name and whether there are cuts; and how its answers are checked."""
+    """A script of a sort, and how its answers are checked."""
 
     def __init__(self, program, sort, number, is_turning):
         name, has_cuts = sort
@@ -97,10 +102,10 @@ class Case:
 def sweep(program, sort, number, is_threaded, is_turning):
     """Checks the reports of the script of a number, under some schedules."""
     case = Case(program, sort, number, is_turning)
-    shown, found = case.script.text(), case.found
+    shown, found, name = case.script.text(), case.found, f"{name_of(sort)}, script {number}"
     found.seen[sort, "scripts"] += 1
     for seed in seeds_of(case.script):
-        found.trial(f"{sort} script {number}, seed {seed}", shown, case.try_turns, seed)
+        found.trial(f"{name}, seed {seed}", shown, case.try_turns, seed)
     for lock in ("array", "ticket") if is_threaded else ():
-        found.trial(f"{sort} script {number} on threads, {lock} lock", shown, case.try_threads, lock)
+        found.trial(f"{name}, on threads, {lock} lock", shown, case.try_threads, lock)
     return found

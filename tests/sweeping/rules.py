@@ -1,4 +1,5 @@
 """Whether an event may come next, by the rules of docs/MEMORY.md: all is looked for among the events before it."""
+from collections import Counter
 
 # What ends the wait that an event begins.
 ENDS = {"ask": "acquire", "arrive": "depart", "watch": "await"}
@@ -48,9 +49,9 @@ def first_ask(before, lock):
     return None
 
 
-def count_of(before, processor, kind):
-    """How often the processor did this."""
-    return sum(event.kind == kind and event.processor == processor for event in before)
+def counts_of(before, kind):
+    """How often each processor did this."""
+    return Counter(event.processor for event in before if event.kind == kind)
 
 
 def not_granted(before, event, lax):
@@ -69,8 +70,8 @@ def not_let_on(sizes, before, event, lax):
     if event.kind == "acquire":
         return not_granted(before, event, lax)
     if event.kind == "depart":
-        episode = count_of(before, event.processor, "depart")
-        late = [it for it in range(sizes.processors) if count_of(before, it, "arrive") <= episode]
+        episode, arrivals = counts_of(before, "depart")[event.processor], counts_of(before, "arrive")
+        late = [it for it in range(sizes.processors) if arrivals[it] <= episode]
         return f"processor {late[0]} has not arrived" if late else None
     is_set = any(it.kind == "set" and it.numbers == event.numbers for it in before)
     return None if is_set else "nobody has set the flag"

@@ -28,26 +28,33 @@ def episodes_of(events, has_base):
     return episodes
 
 
-def sources(event, episode):
-    """What an event has edges from: earlier events that are noted by one of these words."""
-    yield "processor", event.processor
+def sources_of(event, episode, noted):
+    """The earlier events from which an edge leads to an event."""
+    sources = noted["processor", event.processor]
     if event.kind in EDGES:
-        yield EDGES[event.kind], *event.numbers
+        sources |= noted[(EDGES[event.kind], *event.numbers)]
     if event.kind == "depart":
-        yield "arrive", episode
+        sources |= noted["arrive", episode]
+    return sources
+
+
+def with_past(sources, rows):
+    """Some places and what happens before them. One that is there already has brought what happens before it."""
+    row = 0
+    while sources & ~row:
+        last = (sources & ~row).bit_length() - 1
+        row |= rows[last] | 1 << last
+    return row
 
 
 def rows_of(events, has_base):
     """Of each place the set of those that happen before it."""
-    noted, rows = defaultdict(list), []
+    noted, rows = defaultdict(int), []
     for place, (event, episode) in enumerate(zip(events, episodes_of(events, has_base))):
-        row = 0
-        for source in (it for word in sources(event, episode) for it in noted[word]):
-            row |= rows[source] | 1 << source
-        rows.append(row)
-        noted["processor", event.processor].append(place)
+        rows.append(with_past(sources_of(event, episode, noted), rows))
+        noted["processor", event.processor] |= 1 << place
         if event.kind in ("release", "set", "arrive"):
-            noted[(event.kind, *(event.numbers or (episode,)))].append(place)
+            noted[(event.kind, *(event.numbers or (episode,)))] |= 1 << place
     return rows
 
 

@@ -3,6 +3,7 @@ import drawing
 import grammar
 import turns
 import ways
+from of_schedules import name_of
 from of_traces import AS_IT_IS, FLAT
 
 SORTS = [(name, has_cuts) for name in drawing.DRAWINGS for has_cuts in (False, True)]
@@ -24,10 +25,6 @@ WANTED = {
 }
 TURNS = {"texts": turns.TEXTS, "reports": turns.REPORTS, "cut reports": turns.REPORTS, "traces": turns.TRACES}
 COUNTED = ("reports", "racy", "cut", "events", "fetches")
-
-
-def name_of(sort):
-    return sort[0] + (" with cuts" if sort[1] else "")
 
 
 def counts(seen, *sort, of):

@@ -4,9 +4,11 @@ from dataclasses import replace
 from rules import ENDS, place_of_last
 
 
-def other(draws, number, most):
-    """Another number of those up to the greatest."""
-    return (number + draws.randint(1, most)) % (most + 1)
+def other(draws, number, count):
+    """Another number below the count; now and then, or where there is no other, the count, which is no such number."""
+    if count == 1 or draws.randrange(4) == 0:
+        return count
+    return (number + draws.randint(1, count - 1)) % count
 
 
 def other_word(draws, word):
