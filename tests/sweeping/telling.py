@@ -1,0 +1,85 @@
+"""What was seen, told in lines; and what has to be seen, so that a sweep that sees nothing is seen."""
+import drawing
+import grammar
+import turns
+import ways
+from of_schedules import name_of
+from of_traces import AS_IT_IS, FLAT
+
+SORTS = [(name, has_cuts) for name in drawing.DRAWINGS for has_cuts in (False, True)]
+VERDICTS = ("faithful", "no trace", "ill formed", "unexplained", "miscounted")
+# Of each way to make a trace the verdicts that have to come.
+WANTED = {
+    AS_IT_IS: ("faithful",),
+    "a reply changed": ("faithful", "unexplained"),
+    "two neighbours swapped": ("faithful", "ill formed", "unexplained", "miscounted"),
+    "a fetch dropped": ("faithful", "miscounted"),
+    "an ask dropped": ("ill formed",),
+    "a grant too early": ("ill formed",),
+    "a count changed": ("miscounted",),
+    "an event given to another processor": VERDICTS,
+    "an event doubled": ("faithful", "ill formed", "miscounted"),
+    "a store's value changed": ("faithful", "unexplained"),
+    "a lock's number changed": ("no trace", "ill formed"),
+    FLAT: ("unexplained",),
+}
+TURNS = {"texts": turns.TEXTS, "reports": turns.REPORTS, "cut reports": turns.REPORTS, "traces": turns.TRACES}
+COUNTED = ("reports", "racy", "cut", "events", "fetches")
+
+
+def counts(seen, *sort, of):
+    """Each number of a sort, with what it counts."""
+    return ", ".join(f"{seen[(*sort, what)]} {what}" for what in of)
+
+
+def lines_of_texts(seen):
+    yield "texts: " + counts(seen, "texts", of=("scripts", "edited", "read", "stuck"))
+    for fault in grammar.FAULTS:
+        yield f"texts: {seen['texts', fault]} refused: {fault}"
+
+
+def line_of_way(seen, way):
+    traces = sum(seen["traces", way, verdict] for verdict in VERDICTS)
+    return (f"traces, {way}: {traces}, {counts(seen, 'traces', way, of=VERDICTS)}; "
+            f"{seen['traces', way, 'at the change']} found at the change itself; "
+            f"lax {seen['lax traces', way, 'faithful']} faithful")
+
+
+def lines_of_turns(seen):
+    for kind, all_turns in TURNS.items():
+        numbers = ", ".join(f"{name} {seen['turned', kind, name]}" for name, _ in all_turns)
+        yield f"turned {kind}, to be refused: {numbers}"
+
+
+def lines(seen):
+    """What was seen."""
+    yield from lines_of_texts(seen)
+    for sort in SORTS:
+        yield f"{name_of(sort)}: {counts(seen, sort, of=('scripts', *COUNTED, 'on threads'))}"
+    yield f"traces: {counts(seen, 'traces', of=('scripts', *COUNTED, 'on threads'))}"
+    for way in WANTED:
+        yield line_of_way(seen, way)
+    yield from lines_of_turns(seen)
+
+
+def wanted_of_sort(sort):
+    name, has_cuts = sort
+    kinds = ["reports", "fetches", "on threads", *["racy"] * (name != "guarded"), *["cut"] * has_cuts]
+    return [(sort, kind) for kind in kinds]
+
+
+def wanted():
+    """What has to be seen. Of reports without cuts no more events can be cut off."""
+    yield from (("texts", what) for what in ("scripts", "edited", "read", "stuck", *grammar.FAULTS))
+    for sort in SORTS:
+        yield from wanted_of_sort(sort)
+    for way in (AS_IT_IS, *(name for name, _, _ in ways.WAYS), FLAT):
+        yield from (("traces", way, verdict) for verdict in WANTED[way])
+    for kind, all_turns in TURNS.items():
+        yield from (("turned", kind, name) for name, turn in all_turns
+                    if kind != "reports" or turn is not turns.more_cut_off)
+
+
+def missing(seen):
+    """What has to be seen and wasn't."""
+    return [what for what in wanted() if not seen[what]]
