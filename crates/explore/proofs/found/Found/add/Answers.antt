@@ -14,5 +14,5 @@ returns-else-is_new c =
       place = c.in_ok-is_new.field-0-0;
       state = h.0;
       at = subst (λ ks. slice_get ks c.in_ok-is_new.field-0-0 ≡ Some h.0) kept h.1;
-      like = machine_like _ (λ a b e. search rules) c.args.state h.0 h.2;
+      like = machine_like _ _ (λ a b e. search rules) (λ a b e. search rules) c.args.state h.0 h.2;
     })

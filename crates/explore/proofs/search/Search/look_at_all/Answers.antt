@@ -5,13 +5,13 @@ use Rattle.explore.proofs.Machines.{none_of}
 use Rattle.explore.proofs.search.Search.look_at_all.Goals as goal
 
 pub returns-then-is_past : goal.returns-then-is_past
-returns-then-is_past c = λ s lawful searched. record {
+returns-then-is_past g c = λ s lawful searched. record {
   found = (c.loop-place.invariant s lawful searched).found;
   searched = λ few. absurd (let over = c.is_past.ensures.0 c.if-is_past.true in let is = c.len-states.ensures.count in omega arith);
 }
 
 pub returns-then-place-states : goal.returns-then-place-states
-returns-then-place-states c = λ s lawful searched. record {
+returns-then-place-states g c = λ s lawful searched. record {
   found = (c.loop-place.invariant s lawful searched).found;
   searched = λ few.
       subst (IsSearched s c.loop-place.self) (c.if-place-states.true ∙ c.len-states.ensures.count)
@@ -19,7 +19,7 @@ returns-then-place-states c = λ s lawful searched. record {
 }
 
 pub look_at-requires : goal.look_at-requires
-look_at-requires c =
+look_at-requires g c =
     let s = c.requires.0 in
     let searched = c.loop-place.invariant s c.requires.1 c.requires.2 in
     let within = searched.within in
@@ -29,7 +29,7 @@ look_at-requires c =
     (s, record { lawful = c.requires.1; searched = searched; more = lt })
 
 pub loop-place-preserved : goal.loop-place-preserved
-loop-place-preserved c = λ s lawful searched.
+loop-place-preserved g c = λ s lawful searched.
     let old = c.loop-place.invariant s lawful searched in
     let within = old.within in
     let is = c.len-states.ensures.count in
@@ -40,7 +40,7 @@ loop-place-preserved c = λ s lawful searched.
     (c.in_ok-neighbours.ensures s (record { lawful = lawful; searched = old; more = lt }))
 
 pub returns : goal.returns
-returns c = λ s lawful searched.
+returns g c = λ s lawful searched.
     let old = c.loop-place.invariant s lawful searched in
     record {
       found = old.found;

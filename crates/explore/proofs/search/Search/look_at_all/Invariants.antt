@@ -5,5 +5,5 @@ use Rattle.explore.specs.Searched.{IsSearched}
 use Rattle.explore.proofs.search.Search.look_at_all.Given as goal
 
 abbrev pub invariant-loop-place : goal.invariant-loop-place
-invariant-loop-place l = (s : Plan) → AreLawfulSteps s l.steps → IsSearched s l.initial.self 0
+invariant-loop-place g l = (s : Plan) → AreLawfulSteps s l.steps → IsSearched s l.initial.self 0
     → IsSearched s l.self l.place
