@@ -1,5 +1,5 @@
 -- What an answer says of all runs of a script on one flat memory.
-use Rattle.std.specs.Prelude.{ℕ, ◌≡◌, ◌+◌, ◌<◌, ◌↔◌, MatchOption, Option, List, map, length}
+use Rattle.std.specs.Prelude.{ℕ, ◌≡◌, ◌+◌, ◌<◌, ◌≤◌, ◌↔◌, MatchOption, Option, List, map, length}
 use Rattle.std.specs.Global.{Vec}
 use Rattle.lists.specs.Places.{Has, IsOnce}
 use Rattle.journal.specs.declared.event.Event.{Event}
@@ -51,7 +51,9 @@ IsVerdictOn s most states (verdict.RaceFree outcomes hang) = IsRaceFreeWith s ou
 IsVerdictOn s most states (verdict.Racy racy) = IsRacy s racy
 IsVerdictOn s most states verdict.Undecided = states_to_look_at s most < states
 
--- what an answer says, where so many states were asked for: the script has as many as were found, and the verdict
+-- what an answer says, where so many states were asked for: the script has as many as were found, which are no more than
+-- those to be looked at and what comes next after one, and the verdict
 pub record IsExplored (s : Plan) (most : ℕ) (answer : Explored) : Type 0 where
   pub states : HasStates s answer.states
+  pub few : answer.states ≤ states_to_look_at s most + 16
   pub verdict : IsVerdictOn s most answer.states answer.verdict

@@ -58,7 +58,8 @@ impl Search {
     /// The first state alone. The only error is running out of memory.
     fn new(alloc: Global, script: &Script) -> Result<Search, AllocError>
         requires { IsLawful (plan_of script.now) }
-        ensures { IfOk result (λ x. IsSearched (plan_of script.now) x 0) }
+        ensures searched { IfOk result (λ x. IsSearched (plan_of script.now) x 0) }
+        ensures few { IfOk result (λ x. length (states_of x.found) ≤ 1) }
     {
         Ok(Search {
             found: Found::new(alloc, Machine::new(alloc, script)?)?,
@@ -90,8 +91,10 @@ impl Search {
         place: usize,
     ) -> Result<Option<Neighbours>, AllocError>
         requires { (s : Plan) × MayLook s self.old steps.now place }
-        ensures { IfOk result (λ o. (s : Plan) → MayLook s self.old steps.now place
+        ensures looked { IfOk result (λ o. (s : Plan) → MayLook s self.old steps.now place
             → IsLookedAt s self.new steps.now (place + 1) o) }
+        ensures few { IfOk result (λ _. (s : Plan) → MayLook s self.old steps.now place
+            → length (states_of self.new.found) ≤ length (states_of self.old.found) + 16) }
     {
         let nexts = nexts_of(self.found.at(place), steps);
         if let Some((first, second)) = neighbours_in(&nexts) {
@@ -116,8 +119,10 @@ impl Search {
         progress: &mut P,
     ) -> Result<Option<Neighbours>, AllocError>
         requires { (s : Plan) × AreLawfulSteps s steps.now × IsSearched s self.old 0 }
-        ensures { IfOk result (λ o. (s : Plan) → AreLawfulSteps s steps.now → IsSearched s self.old 0
+        ensures looked { IfOk result (λ o. (s : Plan) → AreLawfulSteps s steps.now → IsSearched s self.old 0
             → IsLookedThrough s self.new steps.now most o) }
+        ensures few { IfOk result (λ _. (s : Plan) → AreLawfulSteps s steps.now → IsSearched s self.old 0
+            → length (states_of self.old.found) ≤ 1 → length (states_of self.new.found) ≤ most + 16) }
     {
         for place in 0..most {
             let states = self.found.len();

@@ -153,6 +153,7 @@ fn large_states(rt: HostRuntime) -> Result<(), Fail> {
 }
 
 /// Keeps what it was told last.
+#[derive(Drop)]
 struct Last(usize);
 
 impl Progress for Last {

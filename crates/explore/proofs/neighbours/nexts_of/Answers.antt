@@ -31,8 +31,11 @@ loop-processor-preserved c =
       others = λ p le. get_or-set_other xs n p o None (omega arith) ∙ old.others p (omega arith);
     }
 
-pub returns : goal.returns
-returns c = λ s lawful g knows p k.
+pub returns-clause-long : goal.returns-clause-long
+returns-clause-long c = c.loop-processor.invariant.long
+
+pub returns-clause-nexts : goal.returns-clause-nexts
+returns-clause-nexts c = λ s lawful g knows p k.
     let old = c.loop-processor.invariant in
     elim (cases_lt p c.loop-processor.processor) [
       | inl lt ↦ old.each s g p k lawful knows lt

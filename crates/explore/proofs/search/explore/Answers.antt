@@ -18,7 +18,7 @@ verdict-requires-clause-searched g c =
     let is = c.len-states.ensures.count in
     let through =
     subst (λ o. IsLookedThrough s c.look_at_all.new.self c.deref.result.now most o) c.in-None.is
-    (c.in_ok-neighbours.ensures s lawful c.in_ok-search.ensures) in
+    (c.in_ok-neighbours.ensures.looked s lawful c.in_ok-search.ensures.searched) in
     through.searched (elim (cases_lt most c.len-states.result) [
       | inl past ↦ absurd (few past)
       | inr le ↦ omega (arith, le)
@@ -34,7 +34,12 @@ returns g c =
       states =
           c.len-states.ensures.states s
           (through_found s c.look_at_all.new.self c.deref.result.now most c.in_ok-neighbours.neighbours
-          (c.in_ok-neighbours.ensures s lawful c.in_ok-search.ensures));
+          (c.in_ok-neighbours.ensures.looked s lawful c.in_ok-search.ensures.searched));
+      few = (
+          let found = c.in_ok-neighbours.ensures.few s lawful c.in_ok-search.ensures.searched c.in_ok-search.ensures.few in
+          let is = c.len-states.ensures.count in
+          let looked_at = c.states_to_look_at-most.ensures in
+          omega (arith, found, is, looked_at));
       verdict = elim c.match-neighbours.branch [
         | in-Some+in_ok-racy_events-in-Some w ↦
             subst (IsVerdictOn s c.args.most c.len-states.result) (sym w.verdict-is) w.in_ok-racy_events-in-Some.ensures
