@@ -11,12 +11,13 @@ use Rattle.lrc_script.specs.Plan.{Plan}
 use Rattle.follows.specs.Begins.{BeginsScript, BeginsSection}
 use Rattle.follows.specs.Follows.{sizes_of, calls_of, is_fetch, FollowsSection}
 use Rattle.follows.proofs.Fetchless.Embeds.{fetchless, fetchless_of}
+use Rattle.follows.proofs.Fetchless.Runs.{calls_same}
 use Rattle.beginnings.specs.Beginnings.{IsFlatBeginning, IsHang}
 use Rattle.beginnings.specs.Calling.{shown_by}
 use Rattle.explore.specs.Explored.{IsRaceFreeWith}
 use Rattle.schedules.specs.Laws.{NeverStuckLaw}
 use Rattle.schedules.proofs.Begun.{fetchless_push, flat_part, replays_whole}
-use Rattle.schedules.proofs.Calls.{calls_same, counts_same}
+use Rattle.schedules.proofs.Calls.{counts_same}
 use Rattle.schedules.proofs.Reports.{found}
 use Rattle.schedules.proofs.Waiting.{follow_there}
 
