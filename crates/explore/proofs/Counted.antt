@@ -1,7 +1,6 @@
 -- How many states are found: as many as the script has at least.
-use Rattle.std.proofs.Common.{ℕ, ◌≡◌, ◌<◌, Bool, true, false, ◌&&◌, List, [], ◌∷◌, Option, Some, length, slice_get, refl, sym, ap, subst, ◌∙◌, arith}
+use Rattle.std.proofs.Common.{ℕ, ◌≡◌, Bool, true, false, List, [], ◌∷◌, Option, Some, length, slice_get, refl, sym, subst, ◌∙◌, arith}
 use Rattle.std.specs.Prelude.{None, nat_eq}
-use Rattle.std.specs.Global.{Vec}
 use Rattle.std.specs.List.{IsDistinct}
 use Rattle.std.specs.Option.{option_eq}
 use Rattle.std.specs.Cmp.Lexicographic.{pointwise}
@@ -16,8 +15,8 @@ use Rattle.explore.specs.declared.found.Found.{Found}
 use Rattle.explore.specs.declared.machine.Machine.{Machine}
 use Rattle.explore.specs.declared.waiting.Waiting.{Waiting}
 use Rattle.explore.specs.Found.{AreFound, states_of}
-use Rattle.explore.specs.Machines.{IsLike, Knows, items_of}
-use Rattle.explore.specs.States.{HasStates, IsOneState}
+use Rattle.explore.specs.Machines.{IsLike, Knows}
+use Rattle.explore.specs.States.{HasStates}
 use Rattle.explore.specs.Waiting.{IsLikeWaiting}
 use Rattle.explore.proofs.Determined.{apart_at, same_machine}
 use Rattle.explore.proofs.Equals.{machine_eq, rows_eq, waiting_eq}

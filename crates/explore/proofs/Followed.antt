@@ -1,6 +1,6 @@
 -- What is found, with a state more.
 -- A state that is there stays at its place; a new one comes from an earlier one, and what it comes to is known.
-use Rattle.std.proofs.Common.{ℕ, zero, suc, ◌≡◌, ◌+◌, ◌<◌, ◌≤◌, inl, inr, List, [], ◌∷◌, ◌++◌, Option, Some, length, slice_get, refl, sym, ap, subst, ◌∙◌, length-append, arith}
+use Rattle.std.proofs.Common.{ℕ, zero, suc, ◌≡◌, ◌<◌, ◌≤◌, inl, inr, List, [], ◌∷◌, ◌++◌, Option, Some, length, slice_get, refl, sym, ap, subst, ◌∙◌, length-append, arith}
 use Rattle.std.specs.Prelude.{None}
 use Rattle.std.proofs.lemmas.Option.{same_Some, none-some, slice_get_within}
 use Rattle.lists.proofs.Places.{push_cases, slice_get-append_left, slice_get-last}
@@ -12,8 +12,8 @@ use Rattle.beginnings.specs.Beginnings.{IsFlatBeginning}
 use Rattle.explore.specs.declared.found.Found.{Found}
 use Rattle.explore.specs.declared.found.Origin.{Origin}
 use Rattle.explore.specs.declared.machine.Machine.{Machine}
-use Rattle.explore.specs.Found.{AreFound, ComesFrom, GoesOn, IsAdded, IsAfter, IsFollowed, IsKnown, Keeps, WasPushed, WasThere, states_of}
-use Rattle.explore.specs.Machines.{IsLike, Knows}
+use Rattle.explore.specs.Found.{AreFound, ComesFrom, GoesOn, IsAdded, IsFollowed, IsKnown, Keeps, WasPushed, WasThere, states_of}
+use Rattle.explore.specs.Machines.{Knows}
 use Rattle.explore.proofs.Likes.{knows_like}
 
 -- states that are pushed on

@@ -1,8 +1,7 @@
 -- Machines in the same state: they know the same.
-use Rattle.std.proofs.Common.{ℕ, ◌≡◌, ◌+◌, ◌<◌, ◌↔◌, List, Option, Bool, IsTrue, Some, length, slice_index, slice_index_or, false, refl, sym, subst, ◌∙◌, ap}
+use Rattle.std.proofs.Common.{ℕ, ◌≡◌, ◌+◌, ◌<◌, ◌↔◌, List, Option, Bool, IsTrue, Some, length, slice_index, slice_index_or, false, sym, subst, ◌∙◌, ap}
 use Rattle.std.specs.Prelude.{None}
 use Rattle.journal.specs.declared.event.Event.{Event}
-use Rattle.journal.specs.declared.event.Kind.{Kind}
 use Rattle.journal.specs.Events.{count_of, is_arrive, is_depart}
 use Rattle.journal.specs.WellFormed.{Holds}
 use Rattle.judge.specs.Tells.{IsSet}
@@ -10,7 +9,7 @@ use Rattle.lrc_script.specs.Plan.{Plan}
 use Rattle.follows.specs.Follows.{calls_of}
 use Rattle.explore.specs.declared.machine.Machine.{Machine}
 use Rattle.explore.specs.declared.waiting.Waiting.{Waiting}
-use Rattle.explore.specs.Machines.{IsLike, Knows, items_of}
+use Rattle.explore.specs.Machines.{IsLike, Knows}
 use Rattle.explore.specs.Outcomes.{AreReplies}
 use Rattle.explore.specs.Waiting.{AreAsked, IsLikeWaiting, TellsWaiting}
 use Rattle.explore.specs.Waits.{AreKept, arrivals_open, seated}

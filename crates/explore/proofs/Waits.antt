@@ -1,5 +1,5 @@
 -- What is kept of who waits for what and who holds a lock, and what of it is counted.
-use Rattle.std.proofs.Common.{◌≡◌, ◌≢◌, ℕ, ◌+◌, ◌<◌, ◌==◌, ◌&&◌, inl, inr, true, false, Bool, cond, List, [], ◌∷◌, length, Option, Some, slice_index_or, slice_set, refl, sym, ap, subst, ◌∙◌, get_or-set_same, get_or-set_other, arith}
+use Rattle.std.proofs.Common.{◌≡◌, ◌≢◌, ℕ, ◌+◌, ◌<◌, ◌==◌, ◌&&◌, inl, inr, Bool, cond, List, [], ◌∷◌, length, Option, Some, slice_index_or, slice_set, refl, sym, ap, subst, ◌∙◌, get_or-set_same, get_or-set_other, arith}
 use Rattle.std.specs.Prelude.{None}
 use Rattle.std.proofs.lemmas.Bool.{cases_eq, eq-eqb, ne_eqb}
 use Rattle.std.proofs.lemmas.Option.{none-some, same_Some}
@@ -9,8 +9,6 @@ use Rattle.journal.specs.declared.event.Kind.TheVariants as kind
 use Rattle.journal.specs.Did.{did, event}
 use Rattle.journal.specs.Events.{count_of, is_arrive, is_depart}
 use Rattle.journal.specs.Waits.{awaited}
-use Rattle.journal.specs.Sizes.{Sizes}
-use Rattle.journal.specs.WellFormed.{MayFollow}
 use Rattle.journal.proofs.Order.Places.{count_of-append}
 use Rattle.judge.specs.Why.{WaitsFor}
 use Rattle.explore.specs.declared.wait.Wait.{Wait}

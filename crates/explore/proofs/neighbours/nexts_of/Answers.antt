@@ -1,4 +1,4 @@
-use Rattle.std.proofs.Common.{ℕ, ◌≡◌, ◌<◌, ◌≤◌, ◌↔◌, List, Option, Some, length, slice_index_or, slice_set, get_or-set_same, get_or-set_other, refl, sym, subst, ◌∙◌, inl, inr, arith}
+use Rattle.std.proofs.Common.{◌≡◌, ◌↔◌, Some, slice_index_or, slice_set, get_or-set_same, get_or-set_other, sym, subst, ◌∙◌, inl, inr, arith}
 use Rattle.std.specs.Prelude.{None}
 use Rattle.std.proofs.Math.ListN.{length-set}
 use Rattle.std.proofs.lemmas.Bool.{cases_eq, cases_lt}

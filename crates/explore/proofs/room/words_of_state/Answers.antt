@@ -1,11 +1,9 @@
-use Rattle.std.proofs.Common.{ℕ, ◌≡◌, ◌+◌, ◌*◌, ◌<◌, ◌≤◌, List, [], length, map, take, get_or, Some, slice_get, sym, ap, subst, ◌∙◌, slice_index_or, arith}
-use Rattle.std.specs.Prelude.{sum_by}
+use Rattle.std.proofs.Common.{ℕ, ◌≡◌, ◌<◌, ◌≤◌, [], length, sym, ap, subst, ◌∙◌, slice_index_or, arith}
 use Rattle.std.proofs.lemmas.List.Elements.{All-get_or}
 use Rattle.std.proofs.lemmas.Option.{same_Some, slice_get-get_or, slice_get_within}
 use Rattle.std.proofs.lemmas.List.Sums.{count_by-le-length, sum_by_more}
-use Rattle.lrc_script.specs.declared.script.Instruction.{Instruction}
 use Rattle.lrc_script.specs.Plan.{Plan, plan_of}
-use Rattle.lrc_script.specs.Lawful.{IsLawful, IsSection, addresses}
+use Rattle.lrc_script.specs.Lawful.{IsLawful, IsSection}
 use Rattle.explore.specs.Room.{is_loading, loads_in}
 use Rattle.beginnings.proofs.Steps.{section_at}
 use Rattle.explore.proofs.Machines.{read_at}

@@ -1,6 +1,5 @@
-use Rattle.std.proofs.Common.{◌≡◌, ◌<◌, inl, inr, length, subst, sym, ◌∙◌, arith}
+use Rattle.std.proofs.Common.{◌<◌, inl, inr, subst, sym, ◌∙◌, arith}
 use Rattle.std.proofs.lemmas.Bool.{cases_lt, false≢true}
-use Rattle.std.specs.Prelude.{None}
 use Rattle.lrc_script.specs.Plan.{plan_of}
 use Rattle.explore.specs.Explored.{IsVerdictOn}
 use Rattle.explore.specs.Machines.{AreLawfulSteps}

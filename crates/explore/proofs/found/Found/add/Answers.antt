@@ -1,4 +1,4 @@
-use Rattle.std.proofs.Common.{rules, ◌≡◌, Bool, true, inl, refl, sym, subst, ◌∙◌, ap, Some, slice_get}
+use Rattle.std.proofs.Common.{rules, ◌≡◌, inl, refl, subst, Some, slice_get}
 use Rattle.explore.proofs.Equals.{kept_keys, machine_like}
 use Rattle.explore.proofs.found.Found.add.Goals as goal
 

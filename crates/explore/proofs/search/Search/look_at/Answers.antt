@@ -1,16 +1,13 @@
-use Rattle.std.proofs.Common.{ℕ, ◌≡◌, ◌+◌, Some, length, slice_get, refl, sym, ap, subst, ◌∙◌, arith}
+use Rattle.std.proofs.Common.{◌≡◌, ◌+◌, Some, length, slice_get, refl, sym, ap, subst, ◌∙◌, arith}
 use Rattle.std.proofs.lemmas.Bool.{false≢true}
 use Rattle.std.proofs.lemmas.Option.{same_Some}
-use Rattle.lrc_script.specs.Plan.{Plan}
-use Rattle.beginnings.specs.declared.step.Step.{Step}
-use Rattle.explore.specs.declared.found.Found.{Found}
 use Rattle.explore.specs.declared.machine.Machine.{Machine}
 use Rattle.explore.specs.declared.search.Search.{Search}
 use Rattle.explore.specs.Found.{states_of}
 use Rattle.explore.specs.Followed.{AreFollowed, MayFollowAll}
 use Rattle.explore.specs.Machines.{Knows}
 use Rattle.explore.specs.Nexts.{AreNexts}
-use Rattle.explore.specs.Searched.{IsNoted, MayLook, MayNote}
+use Rattle.explore.specs.Searched.{IsNoted}
 use Rattle.explore.proofs.Searched.{looked, noted_kept, noted_skips}
 use Rattle.explore.proofs.search.Search.look_at.Goals.{then-is_over+in_ok-note_end, else-is_over}
 use Rattle.explore.proofs.search.Search.look_at.Goals as goal

@@ -1,7 +1,7 @@
 use Rattle.std.proofs.Common.{ℕ, ◌≡◌, ◌+◌, ◌<◌, ◌≤◌, ◌↔◌, inl, inr, Bool, false, IsTrue, length, subst, sym, ◌∙◌, arith}
 use Rattle.std.proofs.lemmas.Bool.{cases_lt, false≢true}
 use Rattle.explore.specs.Found.{states_of}
-use Rattle.explore.specs.Searched.{IsLookedAt, IsSearched, MayLook}
+use Rattle.explore.specs.Searched.{IsLookedAt, IsSearched}
 use Rattle.explore.proofs.Machines.{none_of}
 use Rattle.explore.proofs.search.Search.look_at_all.Goals as goal
 

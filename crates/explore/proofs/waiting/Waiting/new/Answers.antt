@@ -2,10 +2,8 @@ use Rattle.std.proofs.Common.{zero, suc, ◌≡◌, ℕ, ◌+◌, ap, ◌↔◌,
 use Rattle.std.specs.Prelude.{None}
 use Rattle.std.proofs.lemmas.Bool.{false≢true}
 use Rattle.std.proofs.lemmas.Option.{none-some}
-use Rattle.journal.specs.declared.event.Kind.{Kind}
 use Rattle.journal.specs.WellFormed.{Holds}
 use Rattle.judge.specs.Tells.{IsSet}
-use Rattle.judge.specs.Why.{WaitsFor}
 use Rattle.lists.proofs.Joined.{has-nil, in_order-nil}
 use Rattle.lists.proofs.Sets.{index-zeros}
 use Rattle.explore.specs.Waiting.{AreAsked}
