@@ -26,7 +26,7 @@ use Rattle.beginnings.specs.Laws.{EmptyLaw, FrontLaw, IsNext, NeverRacesLaw, Nex
 use Rattle.beginnings.proofs.Calling.{begins_empty, begins_push, follows_length}
 
 -- what follows a script begins it
-follows_begins : (s : Plan) (g : List Event) → Follows s g → BeginsScript s g
+pub follows_begins : (s : Plan) (g : List Event) → Follows s g → BeginsScript s g
 follows_begins s g follows p section at = record {
   rest = [];
   follows = subst (FollowsSection section (shown_by s p)) (sym (append-nil (calls_of g p))) (follows p section at);
@@ -56,12 +56,16 @@ replays_front start g more replays i p a v does =
     subst (λ es. slice_get (memory_after start es) a ≡ Some v) (take-append-le i g more (omega arith))
     (replays i p a v (at_longer g more i (event p (Load a v)) does))
 
+-- a front of what begins a script does so
+pub script_front : (s : Plan) (g more : List Event) → BeginsScript s (g ++ more) → BeginsScript s g
+script_front s g more begins p section at =
+    begins_front section (shown_by s p) (calls_of g p) (calls_of more p)
+    (subst (BeginsSection section (shown_by s p)) (calls_of-append g more p) (begins p section at))
+
 pub front_begins : FrontLaw
 front_begins s g more h = record {
   well_formed = well_formed_front (sizes_of s) g more h.well_formed;
-  begins = λ p section at.
-      begins_front section (shown_by s p) (calls_of g p) (calls_of more p)
-      (subst (BeginsSection section (shown_by s p)) (calls_of-append g more p) (h.begins p section at));
+  begins = script_front s g more h.begins;
   replays = replays_front (replicate (addresses s) 0) g more h.replays;
   no_fetch = λ i e at. h.no_fetch i e (at_longer g more i e at);
 }

@@ -16,8 +16,12 @@ use Rattle.journal.specs.WellFormed.{Answers, Holds, LastIs, MayBeGranted, MayFo
 use Rattle.journal.proofs.Order.Places.{at_within}
 use Rattle.journal.proofs.Journals.WellFormed.{last_unique, last_now, last_longer, last_shorter}
 use Rattle.judge.specs.Why.{WaitsFor}
-use Rattle.explore.specs.Waiting.{AreWaits, AsksAt, AwaitsLock, IsFirstOf, TellsWaiting}
+use Rattle.explore.specs.Waiting.{AsksAt, AwaitsLock, IsFirstOf, TellsWaiting}
+use Rattle.explore.specs.Waits.{AreKept, ending, seated}
+use Rattle.explore.specs.declared.wait.Wait.{Wait}
+use Rattle.explore.specs.declared.wait.Seat.{Seat}
 use Rattle.explore.specs.declared.waiting.Waiting.{Waiting}
+use Rattle.explore.proofs.Waits.{ending_lock}
 
 -- who asks for a lock waits for it
 asks_waits : (j : List Event) (p i l : ℕ) → LastIs j p i (Ask l) → WaitsFor j p (Acquire l)
@@ -48,7 +52,8 @@ first_asked j x p i l q tells mine found = (there, back)
     place_of r k last = (tells.asked.each r).1 (k, (l, last))
 
     awaits_of : (r k : ℕ) → LastIs j r k (Ask l) → AwaitsLock x.waits r l
-    awaits_of r k last = (tells.waits r (Acquire l)).1 (asks_waits j r k l last)
+    awaits_of r k last =
+        ending_lock (slice_index_or x.waits r None) l ((tells.waits r (Acquire l)).1 (asks_waits j r k l last))
 
     not_before : (r k : ℕ) → LastIs j r k (Ask l) → (has : Has x.asked.items r) → has.0 < found.place → ⊥
     not_before r k last has lt = found.first has.0 r lt has.1 (awaits_of r k last)
@@ -72,7 +77,7 @@ first_asked j x p i l q tells mine found = (there, back)
 
     back : ((k r : ℕ) → k < i → ¬ LastIs j r k (Ask l)) → q ≡ p
     back none =
-        let theirs = waits_asks j q l ((tells.waits q (Acquire l)).0 found.awaits) in
+        let theirs = waits_asks j q l ((tells.waits q (Acquire l)).0 (ap ending found.awaits)) in
         let has = place_of p i mine in
         elim (cases_order has.0 found.place) [
           | inl same ↦ sym (same_Some p q (sym has.1 ∙ ap (slice_get x.asked.items) same ∙ found.at))
@@ -88,11 +93,11 @@ first_asked j x p i l q tells mine found = (there, back)
 -- nobody holds the lock
 pub nobody_holds : (j : List Event) (x : Waiting) (l : ℕ) → TellsWaiting j x → slice_index_or x.holders l None ≡ None
     → (q : ℕ) → ¬ Holds j q l
-nobody_holds j x l tells none q holds = none-some q (sym none ∙ (tells.holders l q).1 holds)
+nobody_holds j x l tells none q holds = none-some q (sym (ap seated none) ∙ (tells.holders l q).1 holds)
 
-pub somebody_holds : (j : List Event) (x : Waiting) (l q i : ℕ) → TellsWaiting j x
-    → slice_index_or x.holders l None ≡ Some q → ¬ MayBeGranted j i l
-somebody_holds j x l q i tells some may = may.free q ((tells.holders l q).0 some)
+pub somebody_holds : (j : List Event) (x : Waiting) (l : ℕ) (seat : Seat) (i : ℕ) → TellsWaiting j x
+    → slice_index_or x.holders l None ≡ Some seat → ¬ MayBeGranted j i l
+somebody_holds j x l seat i tells some may = may.free seat.0 ((tells.holders l seat.0).0 (ap seated some))
 
 -- these are processors
 pub asked_small : (asked : List ℕ) → ((p : ℕ) → Has asked p → p < 16) → All (λ p. p < 16) asked
@@ -136,16 +141,16 @@ waits_other j p q k b apart = (
 )
 
 -- what is waited for after one more event
-pub waits_next : (j : List Event) (p : ℕ) (k : Kind) (waits : List (Option Kind)) → p < length waits → AreWaits j waits
-    → AreWaits (did j p k) (slice_set waits p (awaited k))
-waits_next j p k waits within old q b = elim (cases_eq q p) [
+pub waits_next : (j : List Event) (p : ℕ) (k : Kind) (waits : List (Option Wait)) (w : Option Wait) → p < length waits
+    → ending w ≡ awaited k → AreKept j waits → AreKept (did j p k) (slice_set waits p w)
+waits_next j p k waits w within ends old q b = elim (cases_eq q p) [
   | inl is ↦
-      subst (λ r. (slice_index_or (slice_set waits p (awaited k)) r None ≡ Some b) ↔ WaitsFor (did j p k) r b) (sym is)
-      (subst (λ o. (o ≡ Some b) ↔ WaitsFor (did j p k) p b) (sym (get_or-set_same waits p (awaited k) None within))
-      (waits_own j p k b))
+      subst (λ r. (ending (slice_index_or (slice_set waits p w) r None) ≡ Some b) ↔ WaitsFor (did j p k) r b) (sym is)
+      (subst (λ o. (o ≡ Some b) ↔ WaitsFor (did j p k) p b)
+      (sym (ap ending (get_or-set_same waits p w None within) ∙ ends)) (waits_own j p k b))
   | inr isnt ↦
       (let other = waits_other j p q k b (λ same. isnt (sym same)) in
-      subst (λ o. (o ≡ Some b) ↔ WaitsFor (did j p k) q b) (sym (get_or-set_other waits p q (awaited k) None isnt))
+      subst (λ o. (ending o ≡ Some b) ↔ WaitsFor (did j p k) q b) (sym (get_or-set_other waits p q w None isnt))
       ((λ is. other.0 ((old q b).0 is)), (λ w. (old q b).1 (other.1 w))))
 ]
 
@@ -196,4 +201,5 @@ first_may j x p i l q tells mine none found = (
 pub nobody_asked : (j : List Event) (x : Waiting) (p i l : ℕ) → TellsWaiting j x → LastIs j p i (Ask l)
     → ((q : ℕ) → Has x.asked.items q → ¬ AwaitsLock x.waits q l) → ⊥
 nobody_asked j x p i l tells mine none =
-    none p ((tells.asked.each p).1 (i, (l, mine))) ((tells.waits p (Acquire l)).1 (asks_waits j p i l mine))
+    none p ((tells.asked.each p).1 (i, (l, mine)))
+    (ending_lock (slice_index_or x.waits p None) l ((tells.waits p (Acquire l)).1 (asks_waits j p i l mine)))

@@ -2,7 +2,7 @@
 use Rattle.std.proofs.Common.{ℕ, ◌≡◌, List, [], ◌∷◌, Result, Ok, Err, refl, ap₂}
 use Rattle.std.specs.Prelude.{IfOk, MatchResult}
 use Rattle.std.specs.Global.{Vec}
-use Rattle.std.specs.List.{AllZip, each_same}
+use Rattle.std.specs.List.{AllZip}
 use Rattle.explore.specs.Machines.{items_of}
 
 -- what is so of a value where the call succeeds

@@ -1,7 +1,6 @@
 -- How many states are found: as many as the script has at least.
-use Rattle.std.proofs.Common.{ℕ, ◌≡◌, ◌<◌, Bool, true, false, ◌&&◌, List, [], ◌∷◌, Option, Some, length, slice_get, refl, sym, ap, subst, ◌∙◌, arith}
+use Rattle.std.proofs.Common.{ℕ, ◌≡◌, Bool, true, false, List, [], ◌∷◌, Option, Some, length, slice_get, refl, sym, subst, ◌∙◌, arith}
 use Rattle.std.specs.Prelude.{None, nat_eq}
-use Rattle.std.specs.Global.{Vec}
 use Rattle.std.specs.List.{IsDistinct}
 use Rattle.std.specs.Option.{option_eq}
 use Rattle.std.specs.Cmp.Lexicographic.{pointwise}
@@ -9,14 +8,15 @@ use Rattle.std.proofs.lemmas.Bool.{and_from, eq-eqb, false≢true}
 use Rattle.std.proofs.lemmas.Option.{none-some, same_Some}
 use mathlib.Core.Bool.{beq}
 use Rattle.journal.specs.declared.event.Event.{Event}
-use Rattle.journal.specs.declared.event.Kind.{Kind}
+use Rattle.explore.specs.declared.wait.Wait.{Wait}
+use Rattle.explore.specs.declared.wait.Seat.{Seat}
 use Rattle.lrc_script.specs.Plan.{Plan}
 use Rattle.explore.specs.declared.found.Found.{Found}
 use Rattle.explore.specs.declared.machine.Machine.{Machine}
 use Rattle.explore.specs.declared.waiting.Waiting.{Waiting}
 use Rattle.explore.specs.Found.{AreFound, states_of}
-use Rattle.explore.specs.Machines.{IsLike, Knows, items_of}
-use Rattle.explore.specs.States.{HasStates, IsOneState}
+use Rattle.explore.specs.Machines.{IsLike, Knows}
+use Rattle.explore.specs.States.{HasStates}
 use Rattle.explore.specs.Waiting.{IsLikeWaiting}
 use Rattle.explore.proofs.Determined.{apart_at, same_machine}
 use Rattle.explore.proofs.Equals.{machine_eq, rows_eq, waiting_eq}
@@ -42,17 +42,17 @@ own_bool : (b : Bool) → beq b b ≡ true
 own_bool true = refl
 own_bool false = refl
 
-module _ (E : Kind → Kind → Bool) (own : (k : Kind) → E k k ≡ true) where
-  like_waiting : (x y : Waiting) → IsLikeWaiting x y → waiting_eq E x y ≡ true
+module _ (E : Wait → Wait → Bool) (F : Seat → Seat → Bool) (own : (w : Wait) → E w w ≡ true)
+    (own_seat : (s : Seat) → F s s ≡ true) where
+  like_waiting : (x y : Waiting) → IsLikeWaiting x y → waiting_eq E F x y ≡ true
   like_waiting x y like =
       and_from _ _ (itself (option_eq E) (own_option E own) x.waits y.waits like.waits)
       (and_from _ _ (itself nat_eq own_number x.arrivals y.arrivals like.arrivals)
-      (and_from _ _ (itself nat_eq own_number x.departures y.departures like.departures)
-      (and_from _ _ (itself (option_eq nat_eq) (own_option nat_eq own_number) x.holders y.holders like.holders)
+      (and_from _ _ (itself (option_eq F) (own_option F own_seat) x.holders y.holders like.holders)
       (and_from _ _ (itself beq own_bool x.flags y.flags like.flags)
-      (itself nat_eq own_number x.asked.items y.asked.items like.asked)))))
+      (itself nat_eq own_number x.asked.items y.asked.items like.asked))))
 
-  like_equal : (m n : Machine) → IsLike m n → machine_eq E m n ≡ true
+  like_equal : (m n : Machine) → IsLike m n → machine_eq E F m n ≡ true
   like_equal m n like =
       and_from _ _ (itself nat_eq own_number m.done n.done like.done)
       (and_from _ _ (rows_eq m.replies.items n.replies.items (sym like.replies))
@@ -67,14 +67,13 @@ module _ (E : Kind → Kind → Bool) (own : (k : Kind) → E k k ≡ true) wher
     waiting = record {
       waits = second.waiting.waits ∙ first.waiting.waits;
       arrivals = second.waiting.arrivals ∙ first.waiting.arrivals;
-      departures = second.waiting.departures ∙ first.waiting.departures;
       holders = second.waiting.holders ∙ first.waiting.holders;
       flags = second.waiting.flags ∙ first.waiting.flags;
       asked = second.waiting.asked ∙ first.waiting.asked;
     };
   }
 
-  module _ (s : Plan) (x : Found) (found : AreFound s x) (unique : IsDistinct (machine_eq E) (states_of x)) where
+  module _ (s : Plan) (x : Found) (found : AreFound s x) (unique : IsDistinct (machine_eq E F) (states_of x)) where
     -- some events that come to the state at a place
     events_of : (i : ℕ) (o : Option Machine) → slice_get (states_of x) i ≡ o → List Event
     events_of i None is = []
@@ -101,5 +100,5 @@ module _ (E : Kind → Kind → Bool) (own : (k : Kind) → E k k ≡ true) wher
           let like =
           like_trans m.0 one.machine n.0 (same_machine s _ m.0 one.machine mine one.first)
           (same_machine s _ one.machine n.0 one.second theirs) in
-          false≢true (sym (apart_at (machine_eq E) (states_of x) unique i k m.0 n.0 less m.1 n.1) ∙ like_equal m.0 n.0 like);
+          false≢true (sym (apart_at (machine_eq E F) (states_of x) unique i k m.0 n.0 less m.1 n.1) ∙ like_equal m.0 n.0 like);
     }

@@ -1,21 +1,21 @@
 -- What a machine knows says what it is, so machines in different states know different events.
 -- Each part of a machine is read off the events: counts and words at once, what processors wait for place by place, and
 -- who asked as a list in the order of the asks, which is one list.
-use Rattle.std.proofs.Common.{ℕ, zero, suc, ◌≡◌, ◌<◌, ◌≤◌, ◌↔◌, ◌⊎◌, inl, inr, Bool, true, false, IsTrue, List, [], ◌∷◌, Option, Some, length, slice_get, slice_index, slice_index_or, refl, sym, ap, ap₂, subst, ◌∙◌, arith}
+use Rattle.std.proofs.Common.{ℕ, zero, suc, ◌≡◌, ◌<◌, ◌↔◌, inl, inr, Bool, true, false, IsTrue, List, [], ◌∷◌, Option, Some, length, slice_get, slice_index_or, refl, sym, ap₂, subst, ◌∙◌, arith}
 use Rattle.std.specs.Prelude.{None}
 use Rattle.std.specs.List.{AllByRecursion, IsDistinct}
-use Rattle.std.proofs.lemmas.Bool.{cases_lt, false≢true}
-use Rattle.std.proofs.lemmas.Option.{none-some, same_Some, slice_get_within}
+use Rattle.std.proofs.lemmas.Bool.{false≢true}
+use Rattle.std.proofs.lemmas.Option.{none-some, same_Some}
 use Rattle.lists.specs.Places.{Has, InOrder}
 use Rattle.lists.proofs.Joined.{has-cons, has-nil}
 use Rattle.journal.specs.declared.event.Event.{Event}
-use Rattle.journal.specs.declared.event.Kind.{Kind}
 use Rattle.lrc_script.specs.Plan.{Plan}
 use Rattle.explore.specs.declared.machine.Machine.{Machine}
 use Rattle.explore.specs.declared.waiting.Waiting.{Waiting}
 use Rattle.explore.specs.Machines.{IsLike, Knows, items_of}
 use Rattle.explore.specs.Waiting.{AreAsked, AsksAt, IsLikeWaiting, TellsWaiting}
 use Rattle.explore.proofs.Queued.{AskedBefore}
+use Rattle.explore.proofs.Waits.{ending_once, seated_once}
 use Rattle.explore.proofs.Searched.{same_replies}
 
 -- lists that read the same are the same
@@ -101,13 +101,11 @@ both first second = ((λ a. second.1 (first.0 a)), (λ c. first.1 (second.0 c)))
 same_waiting : (g : List Event) (x y : Waiting) → TellsWaiting g x → TellsWaiting g y → IsLikeWaiting x y
 same_waiting g x y first second = record {
   waits = same_read None y.waits x.waits (second.long ∙ sym first.long)
-      (λ p lt. same_option _ _ (λ k. both (second.waits p k) (first.waits p k)));
+      (λ p lt. ending_once _ _ (same_option _ _ (λ k. both (second.waits p k) (first.waits p k))));
   arrivals = same_read 0 y.arrivals x.arrivals (second.arrivals_long ∙ sym first.arrivals_long)
       (λ p lt. second.arrivals p ∙ sym (first.arrivals p));
-  departures = same_read 0 y.departures x.departures (second.departures_long ∙ sym first.departures_long)
-      (λ p lt. second.departures p ∙ sym (first.departures p));
   holders = same_read None y.holders x.holders (second.holders_long ∙ sym first.holders_long)
-      (λ l lt. same_option _ _ (λ q. both (second.holders l q) (first.holders l q)));
+      (λ l lt. seated_once _ _ (same_option _ _ (λ q. both (second.holders l q) (first.holders l q))));
   flags = same_read false y.flags x.flags (second.flags_long ∙ sym first.flags_long)
       (λ f lt. same_bool _ _ (both (second.flags f) (first.flags f)));
   asked = same_asked g y.asked.items x.asked.items second.asked first.asked;

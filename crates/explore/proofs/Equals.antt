@@ -5,13 +5,14 @@ use Rattle.std.specs.Global.{Vec}
 use Rattle.std.specs.Option.{option_eq}
 use Rattle.std.specs.Cmp.Lexicographic.{pointwise, same_text}
 use Rattle.std.specs.List.{list_any}
-use Rattle.std.proofs.lemmas.Bool.{and_from, and_parts, eqb-true, false≢true}
+use Rattle.std.proofs.lemmas.Bool.{and_from, and_parts, false≢true}
 use Rattle.std.proofs.lemmas.Cmp.{nat_list_eq_equiv}
 use Rattle.std.proofs.lemmas.List.{map-append}
 use Rattle.lists.specs.Places.{Has}
 use Rattle.lists.proofs.Joined.{has-cons, has-nil}
 use mathlib.Core.Bool.{beq}
-use Rattle.journal.specs.declared.event.Kind.{Kind}
+use Rattle.explore.specs.declared.wait.Wait.{Wait}
+use Rattle.explore.specs.declared.wait.Seat.{Seat}
 use Rattle.explore.specs.declared.machine.Machine.{Machine}
 use Rattle.explore.specs.declared.waiting.Waiting.{Waiting}
 use Rattle.explore.specs.declared.explored.Outcome.{Outcome}
@@ -56,12 +57,12 @@ same_bool false true h = absurd (false≢true h)
 same_bool false false h = refl
 
 -- what `==` tests
-module _ (E : Kind → Kind → Bool) where
+module _ (E : Wait → Wait → Bool) (F : Seat → Seat → Bool) where
   abbrev pub waiting_eq : Waiting → Waiting → Bool
   waiting_eq x y =
       pointwise (option_eq E) x.waits y.waits && (pointwise nat_eq x.arrivals y.arrivals
-      && (pointwise nat_eq x.departures y.departures && (pointwise (option_eq nat_eq) x.holders y.holders
-      && (pointwise beq x.flags y.flags && pointwise nat_eq x.asked.items y.asked.items))))
+      && (pointwise (option_eq F) x.holders y.holders
+      && (pointwise beq x.flags y.flags && pointwise nat_eq x.asked.items y.asked.items)))
 
   abbrev pub machine_eq : Machine → Machine → Bool
   machine_eq m n =
@@ -69,30 +70,28 @@ module _ (E : Kind → Kind → Bool) where
       && (pointwise (λ (v w : Vec ℕ). pointwise nat_eq v.items w.items) m.replies.items n.replies.items
       && (pointwise nat_eq m.memory.items n.memory.items && waiting_eq m.waiting n.waiting))
 
-module _ (E : Kind → Kind → Bool) (same_kind : (a b : Kind) → E a b ≡ true → b ≡ a) where
-  waiting_like : (x y : Waiting) → waiting_eq E x y ≡ true → IsLikeWaiting x y
+module _ (E : Wait → Wait → Bool) (F : Seat → Seat → Bool) (same_wait : (a b : Wait) → E a b ≡ true → b ≡ a)
+    (same_seat : (a b : Seat) → F a b ≡ true → b ≡ a) where
+  waiting_like : (x y : Waiting) → waiting_eq E F x y ≡ true → IsLikeWaiting x y
   waiting_like x y h =
       let a = and_parts (pointwise (option_eq E) x.waits y.waits) _ h in
       let b = and_parts (pointwise nat_eq x.arrivals y.arrivals) _ a.1 in
-      let c = and_parts (pointwise nat_eq x.departures y.departures) _ b.1 in
-      let d = and_parts (pointwise (option_eq nat_eq) x.holders y.holders) _ c.1 in
-      let e = and_parts (pointwise beq x.flags y.flags) (pointwise nat_eq x.asked.items y.asked.items) d.1 in
+      let c = and_parts (pointwise (option_eq F) x.holders y.holders) _ b.1 in
+      let d = and_parts (pointwise beq x.flags y.flags) (pointwise nat_eq x.asked.items y.asked.items) c.1 in
       record {
-        waits = same_list (option_eq E) (same_option E same_kind) x.waits y.waits a.0;
+        waits = same_list (option_eq E) (same_option E same_wait) x.waits y.waits a.0;
         arrivals = same_numbers x.arrivals y.arrivals b.0;
-        departures = same_numbers x.departures y.departures c.0;
-        holders =
-            same_list (option_eq nat_eq) (same_option nat_eq (λ k l is. sym (eqb-true k l is))) x.holders y.holders d.0;
-        flags = same_list beq same_bool x.flags y.flags e.0;
-        asked = same_numbers x.asked.items y.asked.items e.1;
+        holders = same_list (option_eq F) (same_option F same_seat) x.holders y.holders c.0;
+        flags = same_list beq same_bool x.flags y.flags d.0;
+        asked = same_numbers x.asked.items y.asked.items d.1;
       }
 
-  pub machine_like : (m n : Machine) → machine_eq E m n ≡ true → IsLike m n
+  pub machine_like : (m n : Machine) → machine_eq E F m n ≡ true → IsLike m n
   machine_like m n h =
       let a = and_parts (pointwise nat_eq m.done n.done) _ h in
       let rows : Vec ℕ → Vec ℕ → Bool = λ v w. pointwise nat_eq v.items w.items in
       let b = and_parts (pointwise rows m.replies.items n.replies.items) _ a.1 in
-      let c = and_parts (pointwise nat_eq m.memory.items n.memory.items) (waiting_eq E m.waiting n.waiting) b.1 in
+      let c = and_parts (pointwise nat_eq m.memory.items n.memory.items) (waiting_eq E F m.waiting n.waiting) b.1 in
       record {
         done = same_numbers m.done n.done a.0;
         replies =

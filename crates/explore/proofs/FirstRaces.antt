@@ -1,12 +1,9 @@
 -- Two next events that conflict race, and a history is cut after its first race.
-use Rattle.std.proofs.Common.{ℕ, ◌≡◌, ◌+◌, ◌<◌, ◌≤◌, List, [], ◌∷◌, ◌++◌, Option, Some, length, take, drop, refl, sym, ap, subst, ◌∙◌, arith}
+use Rattle.std.proofs.Common.{ℕ, ◌≡◌, ◌+◌, ◌<◌, List, ◌++◌, Option, Some, length, take, drop, refl, sym, subst, ◌∙◌, arith}
 use Rattle.std.specs.Prelude.{None, IsSome, MatchOption}
-use Rattle.std.specs.Global.{Vec}
 use Rattle.std.proofs.lemmas.List.{length-take, take-append-drop}
 use Rattle.journal.specs.declared.event.Event.{Event}
-use Rattle.journal.specs.declared.event.Kind.{Kind}
-use Rattle.journal.specs.Did.{did, event}
-use Rattle.journal.specs.Races.{IsFirstRace, Race, RaceFree}
+use Rattle.journal.specs.Races.{IsFirstRace, Race}
 use Rattle.journal.proofs.Bases.Races.{race_shorter}
 use Rattle.journal.proofs.Order.HappensBefore.{shorter}
 use Rattle.journal.proofs.Order.Places.{at_longer, at_within}

@@ -1,6 +1,6 @@
 -- What is found, with a state more.
 -- A state that is there stays at its place; a new one comes from an earlier one, and what it comes to is known.
-use Rattle.std.proofs.Common.{ℕ, zero, suc, ◌≡◌, ◌+◌, ◌<◌, ◌≤◌, inl, inr, List, [], ◌∷◌, ◌++◌, Option, Some, length, slice_get, refl, sym, ap, subst, ◌∙◌, length-append, arith}
+use Rattle.std.proofs.Common.{ℕ, zero, suc, ◌≡◌, ◌<◌, ◌≤◌, inl, inr, List, [], ◌∷◌, ◌++◌, Option, Some, length, slice_get, refl, sym, ap, subst, ◌∙◌, length-append, arith}
 use Rattle.std.specs.Prelude.{None}
 use Rattle.std.proofs.lemmas.Option.{same_Some, none-some, slice_get_within}
 use Rattle.lists.proofs.Places.{push_cases, slice_get-append_left, slice_get-last}
@@ -12,8 +12,8 @@ use Rattle.beginnings.specs.Beginnings.{IsFlatBeginning}
 use Rattle.explore.specs.declared.found.Found.{Found}
 use Rattle.explore.specs.declared.found.Origin.{Origin}
 use Rattle.explore.specs.declared.machine.Machine.{Machine}
-use Rattle.explore.specs.Found.{AreFound, ComesFrom, GoesOn, IsAdded, IsAfter, IsFollowed, IsKnown, Keeps, WasPushed, WasThere, states_of}
-use Rattle.explore.specs.Machines.{IsLike, Knows}
+use Rattle.explore.specs.Found.{AreFound, ComesFrom, GoesOn, IsAdded, IsFollowed, IsKnown, Keeps, WasPushed, WasThere, states_of}
+use Rattle.explore.specs.Machines.{Knows}
 use Rattle.explore.proofs.Likes.{knows_like}
 
 -- states that are pushed on
@@ -133,6 +133,7 @@ followed s x y place p k f m old at goes steps (inl was) = record {
       let same = same_Some h f (sym here ∙ at) in
       let mine = subst (Knows s g) same knows in
       there_known s x y m was (did g p k) (steps g mine (goes g mine));
+  few = (let same = ap (λ (ms : List Machine). length ms) was.states in omega (arith, same));
 }
 followed s x y place p k f m old at goes steps (inr pushed) = record {
   keeps = pushed_keeps s x y m _ pushed;
@@ -148,7 +149,24 @@ followed s x y place p k f m old at goes steps (inr pushed) = record {
   known = λ h g here knows.
       let mine = subst (Knows s g) (same_Some h f (sym here ∙ at)) knows in
       pushed_known s x y m _ pushed (did g p k) (steps g mine (goes g mine));
+  few = (
+      let more = ap (λ (ms : List Machine). length ms) pushed.states in
+      let one = length-append (states_of x) (m ∷ []) in
+      omega (arith, more, one));
 }
+
+-- one state is added to none
+pub first_few : (x y : Found) (m : Machine) (o : Option Origin) → states_of x ≡ [] → IsAdded x y m o
+    → length (states_of y) ≤ 1
+first_few x y m o none (inl was) =
+    let same = ap (λ (ms : List Machine). length ms) was.states in
+    let no = ap (λ (ms : List Machine). length ms) none in
+    omega (arith, same, no)
+first_few x y m o none (inr pushed) =
+    let more = ap (λ (ms : List Machine). length ms) pushed.states in
+    let one = length-append (states_of x) (m ∷ []) in
+    let no = ap (λ (ms : List Machine). length ms) none in
+    omega (arith, more, one, no)
 
 -- the first state alone
 pub first_found : (s : Plan) (x y : Found) (m : Machine) → states_of x ≡ [] → x.origins.items ≡ [] → Knows s [] m

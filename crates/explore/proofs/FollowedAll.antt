@@ -1,5 +1,5 @@
 -- What is found after a state, an event at a time.
-use Rattle.std.proofs.Common.{ℕ, ◌≡◌, ◌≢◌, ◌+◌, ◌<◌, inl, inr, List, Option, Some, length, slice_get, slice_index_or, refl, sym, ap, subst, ◌∙◌, arith}
+use Rattle.std.proofs.Common.{ℕ, ◌≡◌, ◌≢◌, ◌+◌, ◌<◌, inl, inr, List, Option, Some, length, slice_get, slice_index_or, sym, ap, subst, ◌∙◌, arith}
 use Rattle.std.specs.Prelude.{None}
 use Rattle.std.proofs.lemmas.Bool.{cases_eq}
 use Rattle.std.proofs.lemmas.Option.{same_Some, slice_get_within}
@@ -20,6 +20,7 @@ module _ (s : Plan) (x y : Found) (place : ℕ) (nexts : List (Option Kind)) (ma
     keeps = λ k m at. at;
     found = may.found;
     known = λ m g p k lt. absurd (omega arith);
+    few = omega arith;
   }
 
   -- the state at the place is still there
@@ -73,6 +74,7 @@ module _ (s : Plan) (x y : Found) (place : ℕ) (nexts : List (Option Kind)) (ma
               (subst (λ i. IsKnown s (states_of z) (did g n i)) same known))
           | inr isnt ↦ known_kept s (states_of y) (states_of z) _ followed.keeps (old.known m g p j (omega arith) at knows next)
         ];
+        few = (let one = followed.few in let before = old.few in omega (arith, one, before));
       }
 
     -- a processor that may do nothing
@@ -85,4 +87,5 @@ module _ (s : Plan) (x y : Found) (place : ℕ) (nexts : List (Option Kind)) (ma
             absurd (none j (ap (λ q. slice_index_or nexts q None) (sym is) ∙ (may.next m at g knows p j).1 next))
         | inr isnt ↦ old.known m g p j (omega arith) at knows next
       ];
+      few = (let before = old.few in omega (arith, before));
     }

@@ -1,15 +1,14 @@
 -- How long beginnings of a lawful script are.
 -- Each event is a call of its processor, a processor's calls are no more than its steps, and an instruction has two
 -- steps at most. So a journal can hold them all.
-use Rattle.std.proofs.Common.{ℕ, zero, suc, ◌≡◌, ◌≢◌, ◌+◌, ◌*◌, ◌<◌, ◌≤◌, inl, inr, List, [], ◌∷◌, ◌++◌, Bool, true, false, cond, ◌==◌, All, length, Some, slice_get, slice_index_or, refl, sym, ap, subst, ◌∙◌, length-append, append-nil, arith}
+use Rattle.std.proofs.Common.{ℕ, zero, suc, ◌≡◌, ◌≢◌, ◌+◌, ◌*◌, ◌<◌, ◌≤◌, inl, inr, List, [], ◌∷◌, ◌++◌, Bool, true, false, cond, ◌==◌, length, slice_index_or, refl, sym, ap, subst, length-append, append-nil, arith}
 use Rattle.std.proofs.lemmas.Bool.{cases_eq}
-use Rattle.std.proofs.lemmas.Option.{same_Some, slice_get-get_or, slice_get_within}
+use Rattle.std.proofs.lemmas.Option.{slice_get-get_or}
 use Rattle.std.proofs.lemmas.List.Elements.{All-get_or}
 use Rattle.lists.specs.Limits.{most_held}
 use Rattle.lists.proofs.Places.{push_induction}
 use Rattle.journal.specs.declared.event.Event.{Event}
 use Rattle.journal.specs.declared.event.Kind.{Kind}
-use Rattle.journal.specs.Did.{did, event}
 use Rattle.journal.specs.InRange.{ProcessorsInRange}
 use Rattle.journal.proofs.Order.Places.{at_last, at_longer}
 use Rattle.lrc_script.specs.declared.script.Instruction.{Instruction}

@@ -1,3 +1,4 @@
+pub mod Waits
 pub mod Asked
 pub mod Queued
 pub mod Following

@@ -1,8 +1,7 @@
 -- Machines in the same state: they know the same.
-use Rattle.std.proofs.Common.{ℕ, ◌≡◌, ◌<◌, ◌↔◌, List, Option, Bool, IsTrue, Some, length, slice_index, slice_index_or, false, refl, sym, subst, ◌∙◌, ap}
+use Rattle.std.proofs.Common.{ℕ, ◌≡◌, ◌+◌, ◌<◌, ◌↔◌, List, Option, Bool, IsTrue, Some, length, slice_index, slice_index_or, false, sym, subst, ◌∙◌, ap}
 use Rattle.std.specs.Prelude.{None}
 use Rattle.journal.specs.declared.event.Event.{Event}
-use Rattle.journal.specs.declared.event.Kind.{Kind}
 use Rattle.journal.specs.Events.{count_of, is_arrive, is_depart}
 use Rattle.journal.specs.WellFormed.{Holds}
 use Rattle.judge.specs.Tells.{IsSet}
@@ -10,21 +9,27 @@ use Rattle.lrc_script.specs.Plan.{Plan}
 use Rattle.follows.specs.Follows.{calls_of}
 use Rattle.explore.specs.declared.machine.Machine.{Machine}
 use Rattle.explore.specs.declared.waiting.Waiting.{Waiting}
-use Rattle.explore.specs.Machines.{IsLike, Knows, items_of}
+use Rattle.explore.specs.Machines.{IsLike, Knows}
 use Rattle.explore.specs.Outcomes.{AreReplies}
-use Rattle.explore.specs.Waiting.{AreAsked, AreWaits, IsLikeWaiting, TellsWaiting}
+use Rattle.explore.specs.Waiting.{AreAsked, IsLikeWaiting, TellsWaiting}
+use Rattle.explore.specs.Waits.{AreKept, arrivals_open, seated}
+use Rattle.explore.specs.declared.wait.Wait.{Wait}
+use Rattle.explore.specs.declared.wait.Seat.{Seat}
 
 tells_like : (g : List Event) (x y : Waiting) → IsLikeWaiting x y → TellsWaiting g x → TellsWaiting g y
 tells_like g x y like tells = record {
-  long = ap (λ (ws : List (Option Kind)). length ws) like.waits ∙ tells.long;
+  long = ap (λ (ws : List (Option Wait)). length ws) like.waits ∙ tells.long;
   arrivals_long = ap (λ (ns : List ℕ). length ns) like.arrivals ∙ tells.arrivals_long;
-  departures_long = ap (λ (ns : List ℕ). length ns) like.departures ∙ tells.departures_long;
-  holders_long = ap (λ (hs : List (Option ℕ)). length hs) like.holders ∙ tells.holders_long;
+  holders_long = ap (λ (hs : List (Option Seat)). length hs) like.holders ∙ tells.holders_long;
   flags_long = ap (λ (bs : List Bool). length bs) like.flags ∙ tells.flags_long;
-  waits = subst (AreWaits g) (sym like.waits) tells.waits;
+  waits = subst (AreKept g) (sym like.waits) tells.waits;
   arrivals = subst (λ ns. (p : ℕ) → slice_index ns p ≡ count_of is_arrive g p) (sym like.arrivals) tells.arrivals;
-  departures = subst (λ ns. (p : ℕ) → slice_index ns p ≡ count_of is_depart g p) (sym like.departures) tells.departures;
-  holders = subst (λ hs. (l q : ℕ) → (slice_index_or hs l None ≡ Some q) ↔ Holds g q l) (sym like.holders) tells.holders;
+  departures =
+      subst (λ ws. (p : ℕ) → count_of is_depart g p + arrivals_open (slice_index_or ws p None) ≡ count_of is_arrive g p)
+      (sym like.waits) tells.departures;
+  holders =
+      subst (λ hs. (l q : ℕ) → (seated (slice_index_or hs l None) ≡ Some q) ↔ Holds g q l) (sym like.holders)
+      tells.holders;
   flags = subst (λ bs. (f : ℕ) → IsTrue (slice_index_or bs f false) ↔ IsSet g f) (sym like.flags) tells.flags;
   asked = subst (AreAsked g) (sym like.asked) tells.asked;
 }

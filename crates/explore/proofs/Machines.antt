@@ -1,9 +1,9 @@
 -- What a machine may do next, and what it knows after that.
-use Rattle.std.proofs.Common.{ℕ, zero, suc, ◌≡◌, ◌≢◌, ◌+◌, ◌*◌, ◌<◌, ◌≤◌, ◌↔◌, inl, inr, List, [], ◌∷◌, ◌++◌, Bool, true, false, cond, ◌==◌, All, length, fold, filter, map, replicate, Option, Some, slice_get, slice_index, slice_index_or, slice_set, get_or-set_same, get_or-set_other, refl, sym, ap, subst, ◌∙◌, length-append, arith}
+use Rattle.std.proofs.Common.{ℕ, zero, suc, ◌≡◌, ◌≢◌, ◌+◌, ◌<◌, ◌≤◌, ◌↔◌, inl, inr, List, [], ◌∷◌, Bool, true, false, cond, ◌==◌, All, length, replicate, Option, Some, slice_get, slice_index, slice_index_or, slice_set, get_or-set_same, get_or-set_other, refl, sym, ap, subst, ◌∙◌, length-append, arith}
 use Rattle.std.specs.Prelude.{None, ◌%◌, ◌^◌}
 use Rattle.std.specs.Global.{Vec}
-use Rattle.std.proofs.lemmas.Bool.{cases_eq, false≢true}
-use Rattle.std.proofs.lemmas.Option.{none-some, same_Some, slice_get-get_or, slice_get_within}
+use Rattle.std.proofs.lemmas.Bool.{cases_eq}
+use Rattle.std.proofs.lemmas.Option.{same_Some, slice_get-get_or, slice_get_within}
 use Rattle.std.proofs.lemmas.List.{length-replicate}
 use Rattle.std.proofs.lemmas.List.Elements.{All-get_or}
 use Rattle.lists.specs.Writes.{wrote}
@@ -18,7 +18,7 @@ use Rattle.journal.specs.Sizes.{Sizes}
 use Rattle.journal.specs.WellFormed.{KindInRange, MayFollow}
 use Rattle.lrc_script.specs.declared.script.Instruction.{Instruction}
 use Rattle.lrc_script.specs.Plan.{Plan}
-use Rattle.lrc_script.specs.Lawful.{addresses, IsInRange, IsLawful, IsSection}
+use Rattle.lrc_script.specs.Lawful.{addresses, IsLawful, IsSection}
 use Rattle.follows.specs.Follows.{calls_of, is_fetch, sizes_of}
 use Rattle.follows.proofs.Calls.{calls_of-own, calls_of-other}
 use Rattle.judge.specs.Sizes.{AreSmall}
@@ -27,8 +27,7 @@ use Rattle.beginnings.specs.declared.step.Step.{Step}
 use Rattle.beginnings.specs.declared.step.Step.TheVariants.{Call, Adds}
 use Rattle.explore.specs.declared.machine.Machine.{Machine}
 use Rattle.beginnings.specs.Beginnings.{IsFlatBeginning}
-use Rattle.beginnings.specs.Calling.{AreStepsOf, IsCalledNext, IsStep, last_reply, replyless, reply_after, section_steps, shown_by}
-use Rattle.beginnings.specs.Laws.{IsNext}
+use Rattle.beginnings.specs.Calling.{AreStepsOf, IsCalledNext, IsStep, last_reply, replyless, section_steps, shown_by}
 use Rattle.explore.specs.Machines.{AreLawfulSteps, HasWord, IsProper, Knows}
 use Rattle.beginnings.proofs.Beginnings.{next_begins}
 use Rattle.explore.proofs.Proper.{proper_section}

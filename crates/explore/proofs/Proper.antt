@@ -1,5 +1,5 @@
 -- Steps of lawful scripts: their numbers are in range, and none is a fetch.
-use Rattle.std.proofs.Common.{ℕ, ◌≡◌, ◌<◌, inl, inr, false, List, [], ◌∷◌, ◌++◌, All, cond, true, Some, length, slice_get, ◌==◌, Bool, refl, sym, subst, ◌∙◌, ap}
+use Rattle.std.proofs.Common.{ℕ, ◌<◌, inl, inr, List, [], ◌∷◌, ◌++◌, All, refl, subst}
 use Rattle.std.proofs.lemmas.List.Elements.{All-head, All-tail}
 use Rattle.lists.specs.Places.{Has}
 use Rattle.lists.proofs.Joined.{has-nil, has-cons, has-append}
@@ -7,10 +7,10 @@ use Rattle.journal.specs.declared.event.Kind.TheVariants as kind
 use Rattle.lrc_script.specs.declared.script.Instruction.{Instruction}
 use Rattle.lrc_script.specs.declared.script.Instruction.TheVariants.{Load, Store, Add, Acquire, Release, Barrier, Set, Await, Cut}
 use Rattle.lrc_script.specs.Plan.{Plan}
-use Rattle.lrc_script.specs.Lawful.{addresses, IsInRange, IsLawful, IsSection}
+use Rattle.lrc_script.specs.Lawful.{addresses, IsInRange}
 use Rattle.beginnings.specs.declared.step.Step.{Step}
 use Rattle.beginnings.specs.declared.step.Step.TheVariants.{Call, Adds}
-use Rattle.beginnings.specs.Calling.{load_steps, section_steps, shown_by, steps_of, steps_of_all}
+use Rattle.beginnings.specs.Calling.{load_steps, section_steps, steps_of, steps_of_all}
 use Rattle.explore.specs.Machines.{IsProper}
 
 -- each of these steps is proper

@@ -1,7 +1,7 @@
 -- What a search knows, state by state.
 -- What was noted of the first states stays so as states are pushed on. One more state is either followed, where its next
 -- events are found, or ends: then it is whole and shows an outcome, or it hangs.
-use Rattle.std.proofs.Common.{ℕ, zero, suc, ◌≡◌, ◌≢◌, ◌+◌, ◌<◌, ◌≤◌, ◌↔◌, ◌⊎◌, inl, inr, List, [], ◌∷◌, ◌++◌, Option, Some, length, map, slice_get, slice_index_or, refl, sym, ap, subst, ◌∙◌, arith}
+use Rattle.std.proofs.Common.{ℕ, zero, suc, ◌≡◌, ◌≢◌, ◌+◌, ◌<◌, ◌≤◌, ◌↔◌, ◌⊎◌, inl, inr, List, [], ◌∷◌, Option, Some, length, map, slice_get, refl, sym, ap, subst, ◌∙◌, arith}
 use Rattle.std.specs.Prelude.{None, MatchOption, unwrap_or}
 use Rattle.std.specs.Global.{Vec}
 use Rattle.std.proofs.lemmas.Bool.{cases_eq, cases_lt}
@@ -13,9 +13,7 @@ use Rattle.lists.proofs.Places.{push_induction}
 use Rattle.lists.proofs.Sets.{same_places}
 use Rattle.journal.specs.declared.event.Event.{Event}
 use Rattle.journal.specs.declared.event.Kind.{Kind}
-use Rattle.journal.specs.Did.{did, event}
-use Rattle.journal.specs.Races.{Conflict}
-use Rattle.lrc_script.specs.declared.script.Instruction.{Instruction}
+use Rattle.journal.specs.Did.{did}
 use Rattle.lrc_script.specs.Plan.{Plan}
 use Rattle.follows.specs.Follows.{calls_of, Follows}
 use Rattle.beginnings.specs.declared.step.Step.{Step}
@@ -23,17 +21,15 @@ use Rattle.beginnings.specs.Beginnings.{IsFlatBeginning, IsHang}
 use Rattle.beginnings.specs.Laws.{HasNoNeighbours}
 use Rattle.beginnings.specs.Calling.{section_steps, shown_by}
 use Rattle.beginnings.proofs.Beginnings.{next_begins, whole_done}
-use Rattle.explore.specs.declared.explored.Outcome.{Outcome}
-use Rattle.explore.specs.declared.found.Found.{Found}
 use Rattle.explore.specs.declared.machine.Machine.{Machine}
 use Rattle.explore.specs.declared.neighbours.Neighbours.{Neighbours}
 use Rattle.explore.specs.declared.search.Search.{Search}
 use Rattle.explore.specs.Explored.{AreOutcomes, replies_of}
 use Rattle.explore.specs.Followed.{AreFollowed}
 use Rattle.explore.specs.Found.{AreFound, IsKnown, Keeps, states_of}
-use Rattle.explore.specs.Machines.{AreLawfulSteps, Knows, items_of}
-use Rattle.explore.specs.Nexts.{AreNexts, IsConflict, IsOver}
-use Rattle.explore.specs.Outcomes.{AreReplies, replies_in}
+use Rattle.explore.specs.Machines.{Knows, items_of}
+use Rattle.explore.specs.Nexts.{AreNexts, IsConflict}
+use Rattle.explore.specs.Outcomes.{AreReplies}
 use Rattle.explore.specs.Searched.{AreShown, Hangs, IsAmong, IsClosed, IsNoted, IsQuiet, IsLookedThrough, IsSearched, IsShownBy, MayLook, MayNote, NoneHangs}
 use Rattle.explore.proofs.Followed.{known_kept}
 use Rattle.explore.proofs.Machines.{next_within, some_at}

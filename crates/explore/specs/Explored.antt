@@ -1,5 +1,5 @@
 -- What an answer says of all runs of a script on one flat memory.
-use Rattle.std.specs.Prelude.{ℕ, ◌≡◌, ◌+◌, ◌<◌, ◌↔◌, MatchOption, Option, List, map, length}
+use Rattle.std.specs.Prelude.{ℕ, ◌≡◌, ◌+◌, ◌<◌, ◌≤◌, ◌↔◌, MatchOption, Option, List, map, length}
 use Rattle.std.specs.Global.{Vec}
 use Rattle.lists.specs.Places.{Has, IsOnce}
 use Rattle.journal.specs.declared.event.Event.{Event}
@@ -13,6 +13,7 @@ use Rattle.explore.specs.declared.explored.Verdict.{Verdict}
 use Rattle.explore.specs.declared.explored.Verdict.TheVariants as verdict
 use Rattle.beginnings.specs.Beginnings.{IsFlatBeginning, IsFlatRaceFree, IsHang}
 use Rattle.explore.specs.Outcomes.{IsOutcome}
+use Rattle.explore.specs.Room.{states_to_look_at}
 use Rattle.explore.specs.States.{HasStates}
 use Rattle.explore.specs.Waiting.{AreWaits}
 
@@ -44,13 +45,15 @@ pub record IsRaceFreeWith (s : Plan) (outcomes : List Outcome) (hang : Option Ha
   pub shows : AreOutcomes s (map replies_of outcomes)
   pub hangs : MatchOption hang ((g : List Event) → ¬ IsHang s g) (IsHangOf s)
 
--- what is so by the verdict; a search is given up only where there are more states than it was to look at
+-- what is so by the verdict; a search is given up only where there are more states than were asked for, or than fit
 abbrev pub IsVerdictOn : Plan → ℕ → ℕ → Verdict → Type 0
 IsVerdictOn s most states (verdict.RaceFree outcomes hang) = IsRaceFreeWith s outcomes.items hang
 IsVerdictOn s most states (verdict.Racy racy) = IsRacy s racy
-IsVerdictOn s most states verdict.Undecided = most < states
+IsVerdictOn s most states verdict.Undecided = states_to_look_at s most < states
 
--- what an answer says, where so many states were to be looked at: the script has as many as were found, and the verdict
+-- what an answer says, where so many states were asked for: the script has as many as were found, which are no more than
+-- those to be looked at and what comes next after one, and the verdict
 pub record IsExplored (s : Plan) (most : ℕ) (answer : Explored) : Type 0 where
   pub states : HasStates s answer.states
+  pub few : answer.states ≤ states_to_look_at s most + 16
   pub verdict : IsVerdictOn s most answer.states answer.verdict

@@ -1,5 +1,5 @@
 -- What is found after a state.
-use Rattle.std.specs.Prelude.{ℕ, ◌≡◌, ◌<◌, Option, Some, List, length, slice_get}
+use Rattle.std.specs.Prelude.{ℕ, ◌≡◌, ◌+◌, ◌<◌, ◌≤◌, Option, Some, List, length, slice_get}
 use Rattle.journal.specs.declared.event.Event.{Event}
 use Rattle.journal.specs.declared.event.Kind.{Kind}
 use Rattle.journal.specs.Did.{did}
@@ -25,3 +25,4 @@ pub record AreFollowed (s : Plan) (x y : Found) (place n : ℕ) : Type 0 where
   pub found : AreFound s y
   pub known : (m : Machine) (g : List Event) (p : ℕ) (k : Kind) → p < n → slice_get (states_of x) place ≡ Some m
       → Knows s g m → IsFlatBeginning s (did g p k) → IsKnown s (states_of y) (did g p k)
+  pub few : length (states_of y) ≤ length (states_of x) + n

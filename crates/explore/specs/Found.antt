@@ -1,8 +1,8 @@
 -- What a search keeps of the states that it has found.
-use Rattle.std.specs.Prelude.{ℕ, ◌≡◌, ◌<◌, ◌⊎◌, Option, Some, None, List, [], ◌∷◌, ◌++◌, length, slice_get}
+use Rattle.std.specs.Prelude.{ℕ, ◌≡◌, ◌+◌, ◌<◌, ◌≤◌, ◌⊎◌, Option, Some, None, List, [], ◌∷◌, ◌++◌, length, slice_get}
 use Rattle.journal.specs.declared.event.Event.{Event}
 use Rattle.journal.specs.declared.event.Kind.{Kind}
-use Rattle.journal.specs.Did.{did, event}
+use Rattle.journal.specs.Did.{did}
 use Rattle.lrc_script.specs.Plan.{Plan}
 use Rattle.beginnings.specs.Beginnings.{IsFlatBeginning}
 use Rattle.explore.specs.declared.found.Found.{Found}
@@ -71,3 +71,4 @@ pub record IsFollowed (s : Plan) (x y : Found) (place p : ℕ) (k : Kind) : Type
   pub found : AreFound s y
   pub known : (m : Machine) (g : List Event) → slice_get (states_of x) place ≡ Some m → Knows s g m
       → IsKnown s (states_of y) (did g p k)
+  pub few : length (states_of y) ≤ length (states_of x) + 1

@@ -1,5 +1,7 @@
 pub mod Outcomes
+pub mod Room
 pub mod Explored
+pub mod Waits
 pub mod Waiting
 pub mod Machines
 pub mod Found

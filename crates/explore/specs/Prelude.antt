@@ -1,3 +1,4 @@
 -- The words that contracts name, passed on from one place. Declares nothing.
 pub use Rattle.explore.specs.Outcomes.{IsOutcome}
+pub use Rattle.explore.specs.Room.{states_that_fit}
 pub use Rattle.explore.specs.Explored.{IsExplored}

@@ -1,5 +1,5 @@
 -- What a search knows after it has looked at some of the states that it has found.
-use Rattle.std.specs.Prelude.{ℕ, ◌≡◌, ◌≢◌, ◌+◌, ◌<◌, ◌≤◌, ◌↔◌, ◌⊎◌, MatchOption, Option, Some, None, List, [], ◌∷◌, ◌++◌, length, map, slice_get, slice_index_or}
+use Rattle.std.specs.Prelude.{ℕ, ◌≡◌, ◌≢◌, ◌<◌, ◌≤◌, ◌↔◌, ◌⊎◌, MatchOption, Option, Some, List, [], ◌∷◌, ◌++◌, length, map, slice_get}
 use Rattle.std.specs.Global.{Vec}
 use Rattle.lists.specs.Places.{Has, IsOnce}
 use Rattle.journal.specs.declared.event.Event.{Event}
@@ -7,16 +7,14 @@ use Rattle.journal.specs.declared.event.Kind.{Kind}
 use Rattle.journal.specs.Did.{did, event}
 use Rattle.journal.specs.Races.{Conflict}
 use Rattle.lrc_script.specs.Plan.{Plan}
-use Rattle.lrc_script.specs.Lawful.{IsLawful}
 use Rattle.follows.specs.Follows.{Follows}
 use Rattle.beginnings.specs.declared.step.Step.{Step}
 use Rattle.beginnings.specs.Beginnings.{IsFlatBeginning, IsHang}
-use Rattle.explore.specs.declared.found.Found.{Found}
 use Rattle.explore.specs.declared.machine.Machine.{Machine}
 use Rattle.explore.specs.declared.neighbours.Neighbours.{Neighbours}
 use Rattle.explore.specs.declared.search.Search.{Search}
 use Rattle.explore.specs.Explored.{replies_of}
-use Rattle.explore.specs.Found.{AreFound, IsKnown, Keeps, states_of}
+use Rattle.explore.specs.Found.{AreFound, IsKnown, states_of}
 use Rattle.explore.specs.Machines.{AreLawfulSteps, Knows}
 use Rattle.explore.specs.Nexts.{IsOver}
 use Rattle.explore.specs.Racing.{AreRacing}

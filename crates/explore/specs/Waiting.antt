@@ -1,9 +1,11 @@
 -- What is kept of who waits for what, by the events so far.
-use Rattle.std.specs.Prelude.{ℕ, ◌≡◌, ◌↔◌, ◌<◌, ◌==◌, not, false, IsTrue, Option, Some, None, List, [], ◌∷◌, ◌++◌, filter, length, slice_get, slice_index, slice_index_or}
+use Rattle.std.specs.Prelude.{ℕ, ◌≡◌, ◌↔◌, ◌+◌, ◌<◌, ◌==◌, not, false, IsTrue, Option, Some, None, List, [], ◌∷◌, ◌++◌, filter, length, slice_get, slice_index, slice_index_or}
 use Rattle.lists.specs.Places.{Has, InOrder}
 use Rattle.journal.specs.declared.event.Event.{Event}
 use Rattle.journal.specs.declared.event.Kind.{Kind}
 use Rattle.journal.specs.declared.event.Kind.TheVariants.{Ask, Acquire}
+use Rattle.explore.specs.declared.wait.Wait.{Wait}
+use Rattle.explore.specs.declared.wait.Wait.TheVariants.{Lock}
 use Rattle.lists.specs.Limits.{most_held}
 use Rattle.journal.specs.Did.{event}
 use Rattle.journal.specs.Sizes.{Sizes}
@@ -13,6 +15,7 @@ use Rattle.judge.specs.Sizes.{AreSmall}
 use Rattle.judge.specs.Tells.{IsSet}
 use Rattle.judge.specs.Why.{WaitsFor}
 use Rattle.explore.specs.declared.waiting.Waiting.{Waiting}
+use Rattle.explore.specs.Waits.{AreKept, arrivals_open, seated}
 
 -- of each processor what it waits for, where it waits
 abbrev pub AreWaits : List Event → List (Option Kind) → Type 0
@@ -32,13 +35,12 @@ pub record AreAsked (j : List Event) (asked : List ℕ) : Type 0 where
 pub record TellsWaiting (j : List Event) (x : Waiting) : Type 0 where
   pub long : length x.waits ≡ 16
   pub arrivals_long : length x.arrivals ≡ 16
-  pub departures_long : length x.departures ≡ 16
   pub holders_long : length x.holders ≡ 32
   pub flags_long : length x.flags ≡ 32
-  pub waits : AreWaits j x.waits
+  pub waits : AreKept j x.waits
   pub arrivals : (p : ℕ) → slice_index x.arrivals p ≡ count_of is_arrive j p
-  pub departures : (p : ℕ) → slice_index x.departures p ≡ count_of is_depart j p
-  pub holders : (l q : ℕ) → (slice_index_or x.holders l None ≡ Some q) ↔ Holds j q l
+  pub departures : (p : ℕ) → count_of is_depart j p + arrivals_open (slice_index_or x.waits p None) ≡ count_of is_arrive j p
+  pub holders : (l q : ℕ) → (seated (slice_index_or x.holders l None) ≡ Some q) ↔ Holds j q l
   pub flags : (f : ℕ) → IsTrue (slice_index_or x.flags f false) ↔ IsSet j f
   pub asked : AreAsked j x.asked.items
 
@@ -46,7 +48,6 @@ pub record TellsWaiting (j : List Event) (x : Waiting) : Type 0 where
 pub record IsLikeWaiting (x y : Waiting) : Type 0 where
   pub waits : y.waits ≡ x.waits
   pub arrivals : y.arrivals ≡ x.arrivals
-  pub departures : y.departures ≡ x.departures
   pub holders : y.holders ≡ x.holders
   pub flags : y.flags ≡ x.flags
   pub asked : y.asked.items ≡ x.asked.items
@@ -81,11 +82,11 @@ AreAskedAfter old new p (Acquire l) = new ≡ without old p
 AreAskedAfter old new p _ = new ≡ old
 
 -- q waits for l
-abbrev pub AwaitsLock : List (Option Kind) → ℕ → ℕ → Type 0
-AwaitsLock waits q l = slice_index_or waits q None ≡ Some (Acquire l)
+abbrev pub AwaitsLock : List (Option Wait) → ℕ → ℕ → Type 0
+AwaitsLock waits q l = slice_index_or waits q None ≡ Some (Lock l)
 
 -- q is the first of these that waits for l
-pub record IsFirstOf (asked : List ℕ) (waits : List (Option Kind)) (l q : ℕ) : Type 0 where
+pub record IsFirstOf (asked : List ℕ) (waits : List (Option Wait)) (l q : ℕ) : Type 0 where
   pub place : ℕ
   pub at : slice_get asked place ≡ Some q
   pub awaits : AwaitsLock waits q l

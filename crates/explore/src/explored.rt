@@ -13,7 +13,7 @@ pub enum Verdict {
     },
     /// Two accesses can race.
     Racy(RacyEvents),
-    /// The search was given up: there are more states than it was to look at.
+    /// The search was given up: there are more states than were asked for, or than fit.
     Undecided,
 }
 

@@ -1,5 +1,5 @@
 //! The states that a search has found, and where each was found first.
-ghost use Rattle.std.specs.Prelude.{◌≡◌, ℕ, ◌<◌, [], List, Some, IfOk, OnOk, length, option_copied, slice_get};
+ghost use Rattle.std.specs.Prelude.{◌≡◌, ℕ, ◌<◌, ◌≤◌, [], List, Some, IfOk, OnOk, length, option_copied, slice_get};
 ghost use Rattle.journal.specs.declared.event.Event.{Event as AnEvent};
 ghost use Rattle.lrc_script.specs.Prelude.{Plan};
 ghost use Rattle.explore.specs.declared.machine.Machine.{Machine as AMachine};
@@ -32,7 +32,8 @@ pub struct Found {
 impl Found {
     /// The first state alone. The only error is running out of memory.
     pub fn new(alloc: Global, first: Machine) -> Result<Found, AllocError>
-        ensures { IfOk result (λ x. (s : Plan) → Knows s [] first → AreFound s x) }
+        ensures found { IfOk result (λ x. (s : Plan) → Knows s [] first → AreFound s x) }
+        ensures few { IfOk result (λ x. length (states_of x) ≤ 1) }
     {
         let mut found = Found {
             states: IndexSet::new(alloc),

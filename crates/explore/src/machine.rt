@@ -24,7 +24,7 @@ use std::alloc::{AllocError, Global};
 #[derive(Drop, PartialEq, Eq, Hash)]
 pub struct Machine {
     /// How many calls each processor has made.
-    done: [usize; 16],
+    done: [u16; 16],
     /// What the loads of each have answered, in order.
     replies: Vec<Vec<u32>>,
     /// The words of the memory.
@@ -127,7 +127,7 @@ impl Machine {
             → (k : AKind) → (result ≡ Some k) ↔ IsFlatBeginning s (did g processor k) }
     {
         let row = &steps[processor];
-        let done = self.done[processor];
+        let done = self.done[processor] as usize;
         if done >= row.len() {
             return None;
         }
@@ -161,7 +161,7 @@ impl Machine {
             → IsTrue result ↔ Follows s g }
     {
         for processor in 0..steps.len() {
-            if self.done[processor] < steps[processor].len() {
+            if (self.done[processor] as usize) < steps[processor].len() {
                 return false;
             }
         }

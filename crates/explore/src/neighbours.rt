@@ -21,7 +21,8 @@ pub struct Neighbours {
 /// What each processor may do next.
 pub fn nexts_of(state: &Machine, steps: &[Vec<Step>]) -> [Option<Kind>; 16]
     requires { IsRunning state.now steps.now }
-    ensures { (s : Plan) → AreLawfulSteps s steps.now → AreNexts s state.now result }
+    ensures nexts { (s : Plan) → AreLawfulSteps s steps.now → AreNexts s state.now result }
+    ensures long { length result ≡ 16 }
 {
     let mut nexts = [None; 16];
     for processor in 0..steps.len() {

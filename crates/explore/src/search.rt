@@ -13,7 +13,9 @@ use crate::explored::{Explored, Hang, Outcome, Verdict};
 use crate::found::Found;
 use crate::machine::Machine;
 use crate::neighbours::{Neighbours, is_over, neighbours_in, nexts_of};
+use crate::progress::Progress;
 use crate::racing::racy_events;
+use crate::room::states_to_look_at;
 use beginnings::{Step, steps_of_script};
 use indexmap::IndexSet;
 use lrc_script::script::Script;
@@ -56,7 +58,8 @@ impl Search {
     /// The first state alone. The only error is running out of memory.
     fn new(alloc: Global, script: &Script) -> Result<Search, AllocError>
         requires { IsLawful (plan_of script.now) }
-        ensures { IfOk result (λ x. IsSearched (plan_of script.now) x 0) }
+        ensures searched { IfOk result (λ x. IsSearched (plan_of script.now) x 0) }
+        ensures few { IfOk result (λ x. length (states_of x.found) ≤ 1) }
     {
         Ok(Search {
             found: Found::new(alloc, Machine::new(alloc, script)?)?,
@@ -88,8 +91,10 @@ impl Search {
         place: usize,
     ) -> Result<Option<Neighbours>, AllocError>
         requires { (s : Plan) × MayLook s self.old steps.now place }
-        ensures { IfOk result (λ o. (s : Plan) → MayLook s self.old steps.now place
+        ensures looked { IfOk result (λ o. (s : Plan) → MayLook s self.old steps.now place
             → IsLookedAt s self.new steps.now (place + 1) o) }
+        ensures few { IfOk result (λ _. (s : Plan) → MayLook s self.old steps.now place
+            → length (states_of self.new.found) ≤ length (states_of self.old.found) + 16) }
     {
         let nexts = nexts_of(self.found.at(place), steps);
         if let Some((first, second)) = neighbours_in(&nexts) {
@@ -107,17 +112,21 @@ impl Search {
     }
 
     /// Looks at each state that there is, until two events conflict or more than `most` states are found.
-    fn look_at_all(
+    fn look_at_all<P: Progress>(
         &mut self,
         steps: &[Vec<Step>],
         most: usize,
+        progress: &mut P,
     ) -> Result<Option<Neighbours>, AllocError>
         requires { (s : Plan) × AreLawfulSteps s steps.now × IsSearched s self.old 0 }
-        ensures { IfOk result (λ o. (s : Plan) → AreLawfulSteps s steps.now → IsSearched s self.old 0
+        ensures looked { IfOk result (λ o. (s : Plan) → AreLawfulSteps s steps.now → IsSearched s self.old 0
             → IsLookedThrough s self.new steps.now most o) }
+        ensures few { IfOk result (λ _. (s : Plan) → AreLawfulSteps s steps.now → IsSearched s self.old 0
+            → length (states_of self.old.found) ≤ 1 → length (states_of self.new.found) ≤ most + 16) }
     {
         for place in 0..most {
             let states = self.found.len();
+            progress.found(states);
             if is_past(states, most) {
                 return Ok(None);
             }
@@ -181,16 +190,26 @@ impl Search {
 /// hang. Where it finds more than `most` states, and none of which two next events conflict, it gives up
 /// (`Verdict::Undecided`). The only error is running out of memory.
 ///
+/// It gives up, too, where it finds more states than fit (`states_that_fit`): those of which each has as many words as the
+/// memory, and a reply to each load that the script's sections make, and which have 2^27 words together. So the memory that
+/// it takes is bounded, whatever the script. While it looks, `progress` is told how many states were found.
+///
 /// A state is what each processor has done, with the replies to its loads, the words, and who waits for what. Two
 /// accesses that conflict and may both come next make a race; where no state has such, no run races (by the law of
 /// neighbours in crate `beginnings`), on one flat memory or on the real one.
-pub fn explore(alloc: Global, script: &Script, most: usize) -> Result<Explored, AllocError>
+pub fn explore<P: Progress>(
+    alloc: Global,
+    script: &Script,
+    most: usize,
+    progress: &mut P,
+) -> Result<Explored, AllocError>
     requires { IsLawful (plan_of script.now) }
     ensures { IfOk result (IsExplored (plan_of script.now) most) }
 {
     let steps = steps_of_script(alloc, script)?;
     let mut search = Search::new(alloc, script)?;
-    let neighbours = search.look_at_all(&steps, most)?;
+    let most = states_to_look_at(script, most);
+    let neighbours = search.look_at_all(&steps, most, progress)?;
     let states = search.found.len();
     let verdict = match neighbours {
         Some(neighbours) => Verdict::Racy(racy_events(

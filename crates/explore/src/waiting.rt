@@ -4,13 +4,15 @@ ghost use Rattle.std.specs.Prelude.{All, List, IfOk, MatchOption, OnOk, cond, fa
 ghost use Rattle.lists.specs.Prelude.{Has};
 ghost use Rattle.journal.specs.declared.event.Event.{Event as AnEvent};
 ghost use Rattle.journal.specs.declared.event.Kind.{Kind as AKind};
-ghost use Rattle.journal.specs.declared.event.Kind.TheVariants.{Ask};
+ghost use Rattle.journal.specs.declared.event.Kind.TheVariants.{Ask, Depart};
 ghost use Rattle.journal.specs.Sizes.{Sizes as TheSizes};
 ghost use Rattle.journal.specs.WellFormed.{Allowed, KindInRange, LastIs, MayBeGranted, MayFollow};
-ghost use Rattle.journal.specs.Prelude.{Holds, awaited, count_of, did, event, is_arrive, is_depart, is_taking};
+ghost use Rattle.journal.specs.Prelude.{Holds, count_of, did, event, is_arrive, is_depart, is_taking};
 ghost use Rattle.judge.specs.Prelude.{AreSmall, WaitsFor, holder_after, set_after};
 ghost use Rattle.explore.specs.Waiting.{AreAskedAfter, AwaitsLock, IsDue, IsFirstOf, IsLikeWaiting, IsPossible, TellsWaiting, without};
+ghost use Rattle.explore.specs.Waits.{seated};
 
+use crate::wait::{Seat, Wait, end_of};
 use journal::Kind;
 use std::alloc::{AllocError, Global};
 
@@ -20,29 +22,15 @@ use std::alloc::{AllocError, Global};
 pub struct Waiting {
     /// What each processor waits for.
     #[derive_where(skip(Hash))]
-    waits: [Option<Kind>; 16],
-    /// How often each has arrived at the barrier.
+    waits: [Option<Wait>; 16],
+    /// How often each has arrived at the barrier. It has departed as often, unless it waits there.
     arrivals: [u32; 16],
-    /// How often it has departed.
-    departures: [u32; 16],
     /// Who holds each lock.
-    holders: [Option<usize>; 32],
+    holders: [Option<Seat>; 32],
     /// Which flags are set.
     flags: [bool; 32],
     /// Who waits for a lock, in the order of their asks.
     asked: Vec<usize>,
-}
-
-/// What comes next after an event of this kind, where its processor waits then.
-fn awaited_after(kind: Kind) -> Option<Kind>
-    ensures { result ≡ awaited kind }
-{
-    match kind {
-        Kind::Ask(lock) => Some(Kind::Acquire(lock)),
-        Kind::Arrive => Some(Kind::Depart),
-        Kind::Watch(flag) => Some(Kind::Await(flag)),
-        _ => None,
-    }
 }
 
 /// Whether an event of this kind ends a wait.
@@ -62,34 +50,29 @@ fn is_same(a: Kind, b: Kind) -> bool
     a == b
 }
 
-/// Counts the event where it is an arrival or a departure.
-fn count(arrivals: &mut [u32; 16], departures: &mut [u32; 16], processor: usize, kind: Kind)
+/// Counts the event where it is an arrival.
+fn count(arrivals: &mut [u32; 16], processor: usize, kind: Kind)
     requires processor { processor < 16 }
-    requires arrivals_room { slice_index arrivals.old processor < 2 ^ 22 }
-    requires departures_room { slice_index departures.old processor < 2 ^ 22 }
+    requires room { slice_index arrivals.old processor < 2 ^ 22 }
     ensures arrivals { (q : ℕ) → slice_index arrivals.new q
         ≡ slice_index arrivals.old q + cond ((processor == q) && is_arrive kind) 1 0 }
-    ensures departures { (q : ℕ) → slice_index departures.new q
-        ≡ slice_index departures.old q + cond ((processor == q) && is_depart kind) 1 0 }
-    ensures arrivals_long { length arrivals.new ≡ length arrivals.old }
-    ensures departures_long { length departures.new ≡ length departures.old }
+    ensures long { length arrivals.new ≡ length arrivals.old }
 {
-    match kind {
-        Kind::Arrive => arrivals[processor] += 1,
-        Kind::Depart => departures[processor] += 1,
-        _ => {}
+    if let Kind::Arrive = kind {
+        arrivals[processor] += 1;
     }
 }
 
 /// Takes note of who acquires or releases a lock.
-fn hold(holders: &mut [Option<usize>; 32], processor: usize, kind: Kind)
-    requires { (s : TheSizes) × AreSmall s × KindInRange s kind }
-    ensures holders { (l : ℕ) → slice_index_or holders.new l None
-        ≡ holder_after (slice_index_or holders.old l None) l processor kind }
+fn hold(holders: &mut [Option<Seat>; 32], processor: usize, kind: Kind)
+    requires processor { processor < 16 }
+    requires in_range { (s : TheSizes) × AreSmall s × KindInRange s kind }
+    ensures holders { (l : ℕ) → seated (slice_index_or holders.new l None)
+        ≡ holder_after (seated (slice_index_or holders.old l None)) l processor kind }
     ensures long { length holders.new ≡ length holders.old }
 {
     match kind {
-        Kind::Acquire(lock) => holders[lock] = Some(processor),
+        Kind::Acquire(lock) => holders[lock] = Some(Seat::of(processor)),
         Kind::Release(lock) => holders[lock] = None,
         _ => {}
     }
@@ -127,13 +110,14 @@ fn queue(asked: &mut Vec<usize>, processor: usize, kind: Kind) -> Result<(), All
 }
 
 /// The first of these processors that waits for the lock.
-fn first_of(asked: &[usize], waits: &[Option<Kind>; 16], lock: usize) -> Option<usize>
-    requires { All (λ q. q < 16) asked.now }
+fn first_of(asked: &[usize], waits: &[Option<Wait>; 16], lock: usize) -> Option<usize>
+    requires small { All (λ q. q < 16) asked.now }
+    requires lock { lock < 32 }
     ensures { MatchOption result ((q : ℕ) → Has asked.now q → ¬ AwaitsLock waits.now q lock)
         (IsFirstOf asked.now waits.now lock) }
 {
     for processor in asked {
-        if waits[*processor] == Some(Kind::Acquire(lock)) {
+        if waits[*processor] == Some(Wait::Lock(lock as u8)) {
             return Some(*processor);
         }
     }
@@ -148,7 +132,6 @@ impl Waiting {
         Waiting {
             waits: [None; 16],
             arrivals: [0; 16],
-            departures: [0; 16],
             holders: [None; 32],
             flags: [false; 32],
             asked: Vec::new(alloc),
@@ -162,7 +145,6 @@ impl Waiting {
         Ok(Waiting {
             waits: self.waits,
             arrivals: self.arrivals,
-            departures: self.departures,
             holders: self.holders,
             flags: self.flags,
             asked: self.asked.clone()?,
@@ -175,7 +157,7 @@ impl Waiting {
         ensures { (j : List AnEvent) → TellsWaiting j self.now
             → (k : AKind) → (result ≡ Some k) ↔ WaitsFor j processor k }
     {
-        self.waits[processor]
+        end_of(self.waits[processor])
     }
 
     /// Whether the lock, for which the processor waits, is free, and nobody asked for it earlier.
@@ -194,16 +176,17 @@ impl Waiting {
         }
     }
 
-    /// Whether all processors have arrived more often than this one has departed.
+    /// Whether all processors have arrived as often as this one, which waits at the barrier.
     fn may_depart(&self, processors: usize, processor: usize) -> bool
         requires processors { processors ≤ 16 }
         requires processor { processor < 16 }
-        ensures { (j : List AnEvent) → TellsWaiting j self.now → IsTrue result ↔ ((q : ℕ)
-            → q < processors → count_of is_depart j processor + 1 ≤ count_of is_arrive j q) }
+        ensures { (j : List AnEvent) → TellsWaiting j self.now → WaitsFor j processor Depart
+            → IsTrue result ↔ ((q : ℕ) → q < processors
+            → count_of is_depart j processor + 1 ≤ count_of is_arrive j q) }
     {
-        let departures = self.departures[processor];
+        let arrivals = self.arrivals[processor];
         for other in 0..processors {
-            if self.arrivals[other] <= departures {
+            if self.arrivals[other] < arrivals {
                 return false;
             }
         }
@@ -216,7 +199,7 @@ impl Waiting {
         ensures { (j : List AnEvent) → TellsWaiting j self.now → IsTrue result ↔ Holds j processor lock }
     {
         match self.holders[lock] {
-            Some(holder) => holder == processor,
+            Some(holder) => holder.processor() == processor,
             None => false,
         }
     }
@@ -260,7 +243,7 @@ impl Waiting {
             → KindInRange s kind → TellsWaiting j self.now
             → IsTrue result ↔ MayFollow s j (event processor kind) }
     {
-        match self.waits[processor] {
+        match self.of(processor) {
             Some(awaited) => is_same(awaited, kind) && self.has_come(processors, processor, kind),
             None => self.may_begin(processor, kind),
         }
@@ -275,10 +258,10 @@ impl Waiting {
             → TellsWaiting (did j processor kind) self.new) }
     {
         queue(&mut self.asked, processor, kind)?;
-        count(&mut self.arrivals, &mut self.departures, processor, kind);
+        count(&mut self.arrivals, processor, kind);
         hold(&mut self.holders, processor, kind);
         set(&mut self.flags, kind);
-        self.waits[processor] = awaited_after(kind);
+        self.waits[processor] = Wait::after(kind);
         Ok(())
     }
 }

@@ -2,7 +2,7 @@
 ghost use Rattle.std.specs.Prelude.{IfOk};
 ghost use Rattle.lrc_script.specs.Prelude.{IsLawful, plan_of};
 
-use explore::{Explored, Outcome, Verdict, explore};
+use explore::{Explored, Outcome, Progress, Silent, Verdict, explore};
 use lrc_script::script::{Script, parse};
 use std::alloc::{AllocError, Global};
 use std::process::Abort;
@@ -88,7 +88,7 @@ fn check<R: Abort>(
     text: &str,
 ) -> Result<(), Fail> {
     let script = script_of(alloc, bytes)?;
-    let explored = explore(alloc, &script, most)?;
+    let explored = explore(alloc, &script, most, &mut Silent)?;
     let told = text_of(alloc, &explored)?;
     assert_eq!(rt; told.as_str(), text);
     Ok(())
@@ -128,4 +128,47 @@ fn given_up(rt: HostRuntime) -> Result<(), Fail> {
     check(&rt, alloc, SEVEN, 0, "1 undecided")?;
     check(&rt, alloc, SEVEN, 4, "5 undecided")?;
     check(&rt, alloc, SEVEN, 5, "5 race-free; [7];")
+}
+
+/// A script of two processors, each with so many loads of one word.
+fn many_loads(alloc: Global, loads: usize) -> Result<String, AllocError> {
+    let mut text = String::new(alloc);
+    text.push_str("cluster 2 1 1 0\n")?;
+    for head in ["p 0\n", "p 1\n"] {
+        text.push_str(head)?;
+        for _ in 0..loads {
+            text.push_str("load 0\n")?;
+        }
+    }
+    text.push_str("show 0\n")?;
+    Ok(text)
+}
+
+/// Where states have many words, only as many are looked at as have 2^27 words together, however many were asked for.
+#[test]
+fn large_states(rt: HostRuntime) -> Result<(), Fail> {
+    let alloc = rt.alloc();
+    let text = many_loads(alloc, 10_000)?;
+    check(&rt, alloc, text.as_bytes(), 1_000_000, "6711 undecided")
+}
+
+/// Keeps what it was told last.
+#[derive(Drop)]
+struct Last(usize);
+
+impl Progress for Last {
+    fn found(&mut self, states: usize) {
+        self.0 = states;
+    }
+}
+
+/// The search says how many states it has found.
+#[test]
+fn says_states(rt: HostRuntime) -> Result<(), Fail> {
+    let alloc = rt.alloc();
+    let script = script_of(alloc, SEVEN)?;
+    let mut last = Last(0);
+    explore(alloc, &script, 1000, &mut last)?;
+    assert_eq!(rt; last.0, 5);
+    Ok(())
 }

@@ -1,9 +1,11 @@
-//! How many runs of a sample are done, said on standard error where that is a terminal.
+//! How far a command is, said on standard error where that is a terminal: how many runs of a sample are done, how many
+//! states a search has found.
 ghost use Rattle.std.specs.Prelude.{◌<◌, IfOk};
 ghost use Rattle.std.specs.Thread.{IsSync};
 ghost use Rattle.lrc_script.specs.Prelude.{IsLawful, plan_of};
 ghost use Rattle.runs.specs.Prelude.{IsEndOf, IsReportOf};
 
+use explore::Progress;
 use lrc_report::Report;
 use lrc_script::script::Script;
 use runs::{Ended, Lock, RunFault, Runs};
@@ -17,52 +19,94 @@ use std::time::Instant;
 /// For how many seconds nothing is said.
 const PAUSE: u64 = 2;
 
-/// Runs scripts as `runs` does, and says now and then how many runs by turns are done of so many.
+/// When to say how far a command is: now and then, where standard error is a terminal.
 #[derive(Drop)]
-pub(crate) struct Counted<'a, T> {
+struct Pauses<'a> {
     rt: &'a HostRuntime,
-    runs: T,
-    total: u64,
-    done: Cell<u64>,
-    /// When that was said last, or when the count began. None where it isn't said at all.
+    /// When something was said last, or when the command began. None where nothing is said at all.
     said: Cell<Option<Instant>>,
 }
 
-impl<'a, T> Counted<'a, T> {
-    /// Counts so many runs from 0 on. Where standard error is no terminal, or there is no clock, it says nothing.
-    pub(crate) fn new(rt: &'a HostRuntime, runs: T, total: u64) -> Counted<'a, T> {
+impl<'a> Pauses<'a> {
+    /// Begins with a pause. Where standard error is no terminal, or there is no clock, it never ends.
+    fn new(rt: &'a HostRuntime) -> Pauses<'a> {
         let said = if rt.stderr().is_terminal() {
             Instant::now(rt).ok()
         } else {
             None
         };
-        Counted {
+        Pauses {
             rt,
-            runs,
-            total,
-            done: Cell::new(0),
             said: Cell::new(said),
         }
     }
 
-    /// Counts one run more.
-    fn count(&self) {
-        let done = self.done.get().saturating_add(1);
-        self.done.set(done);
-        if let Some(said) = self.said.get() {
-            self.say(done, said);
+    /// Whether the pause is over; then the next one begins.
+    fn is_over(&self) -> bool {
+        let Some(said) = self.said.get() else {
+            return false;
+        };
+        let Ok(now) = Instant::now(self.rt) else {
+            return false;
+        };
+        if now.saturating_duration_since(said).as_secs() < PAUSE {
+            return false;
+        }
+        self.said.set(Some(now));
+        true
+    }
+}
+
+/// Says now and then how many states a search has found.
+#[derive(Drop)]
+pub(crate) struct Found<'a> {
+    pauses: Pauses<'a>,
+}
+
+impl<'a> Found<'a> {
+    /// Says nothing yet.
+    pub(crate) fn new(rt: &'a HostRuntime) -> Found<'a> {
+        Found {
+            pauses: Pauses::new(rt),
+        }
+    }
+}
+
+impl Progress for Found<'_> {
+    fn found(&mut self, states: usize) {
+        if self.pauses.is_over() {
+            let _ = eprintln!(self.pauses.rt; "lrc: {states} states");
+        }
+    }
+}
+
+/// Runs scripts as `runs` does, and says now and then how many runs by turns are done of so many.
+#[derive(Drop)]
+pub(crate) struct Counted<'a, T> {
+    pauses: Pauses<'a>,
+    runs: T,
+    total: u64,
+    done: Cell<u64>,
+}
+
+impl<'a, T> Counted<'a, T> {
+    /// Counts so many runs from 0 on.
+    pub(crate) fn new(rt: &'a HostRuntime, runs: T, total: u64) -> Counted<'a, T> {
+        Counted {
+            pauses: Pauses::new(rt),
+            runs,
+            total,
+            done: Cell::new(0),
         }
     }
 
-    /// Says how many runs are done, where nothing was said since then for long enough.
-    fn say(&self, done: u64, said: Instant) {
-        let Ok(now) = Instant::now(self.rt) else {
-            return;
-        };
-        if now.saturating_duration_since(said).as_secs() >= PAUSE {
+    /// Counts one run more, and says how many are done where the pause is over.
+    fn count(&self) {
+        let done = self.done.get().saturating_add(1);
+        self.done.set(done);
+        if self.pauses.is_over() {
             let total = self.total;
-            let _ = eprintln!(self.rt; "lrc: {done} of {total} runs");
-            self.said.set(Some(now));
+            let _ = eprintln!(self.pauses.rt; "lrc: {done} of {total} runs");
         }
     }
 }

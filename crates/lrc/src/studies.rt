@@ -1,6 +1,6 @@
 //! The files of the commands that study a script or a trace.
 
-use crate::progress::Counted;
+use crate::progress::{Counted, Found};
 use lrc_options::options::{ExplainOptions, ExploreOptions, SampleOptions, TraceOptions};
 use lrc_program::fault::ProgramFault;
 use lrc_program::program::say;
@@ -88,10 +88,20 @@ pub(crate) fn sample_file<R: Wait>(rt: &HostRuntime, handle: &R, options: &Sampl
 pub(crate) fn explore_file(rt: &HostRuntime, options: &ExploreOptions) -> u8 {
     let alloc = rt.alloc();
     let (mut out, mut err) = (rt.stdout(), rt.stderr());
+    let mut found = Found::new(rt);
     match options.file.as_deref() {
-        None => explore_program(alloc, options, &mut rt.stdin(), &mut out, &mut err),
+        None => explore_program(
+            alloc,
+            options,
+            &mut rt.stdin(),
+            &mut out,
+            &mut err,
+            &mut found,
+        ),
         Some(path) => match File::open(rt, path) {
-            Ok(mut source) => explore_program(alloc, options, &mut source, &mut out, &mut err),
+            Ok(mut source) => {
+                explore_program(alloc, options, &mut source, &mut out, &mut err, &mut found)
+            }
             Err(error) => say(alloc, Some(path), ProgramFault::from(error), &mut err),
         },
     }

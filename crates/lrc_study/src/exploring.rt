@@ -6,7 +6,7 @@ ghost use Rattle.lrc_program.specs.Prelude.{IsNoScript};
 ghost use Rattle.lrc_study.specs.Prelude.{IsBeforeAnswer, IsInputs, IsSearchWritten, IsSearched, is_decided};
 
 use crate::fault::StudyFault;
-use explore::{Verdict, explore};
+use explore::{Progress, Verdict, explore};
 use lrc_explore::render;
 use lrc_options::options::ExploreOptions;
 use lrc_program::program::read_script;
@@ -28,11 +28,12 @@ fn is_decided(verdict: &Verdict) -> bool
 }
 
 /// Looks at all schedules of a script, and writes what was found. Answers whether the search came to its end.
-fn print_search<W: Write>(
+fn print_search<W: Write, P: Progress>(
     alloc: Global,
     options: &ExploreOptions,
     script: &Script,
     out: &mut W,
+    progress: &mut P,
 ) -> Result<bool, StudyFault>
     requires { IsLawful (plan_of script.now) }
     ensures written { IfOk result (λ decided. IsSearchWritten options.now.most decided
@@ -41,17 +42,18 @@ fn print_search<W: Write>(
     ensures early { IfErr result
         (λ fault. IsBeforeAnswer fault → Keeps (W.contents out.old) (W.contents out.new)) }
 {
-    let explored = explore(alloc, script, options.most as usize)?;
+    let explored = explore(alloc, script, options.most as usize, progress)?;
     render(alloc, script, &explored, out)?;
     Ok(is_decided(&explored.verdict))
 }
 
 /// Reads a script, looks at all its schedules, and writes what was found.
-fn explore_script<S: Read, W: Write>(
+fn explore_script<S: Read, W: Write, P: Progress>(
     alloc: Global,
     options: &ExploreOptions,
     source: &mut S,
     out: &mut W,
+    progress: &mut P,
 ) -> Result<bool, StudyFault>
     ensures searched { IfOk result (λ decided. IsSearched options.now.most decided
         (S.remaining source.old) (W.contents out.old) (W.contents out.new)) }
@@ -60,22 +62,23 @@ fn explore_script<S: Read, W: Write>(
         (λ fault. IsBeforeAnswer fault → Keeps (W.contents out.old) (W.contents out.new)) }
 {
     let script = read_script(alloc, source)?;
-    print_search(alloc, options, &script, out)
+    print_search(alloc, options, &script, out, progress)
 }
 
 /// Looks at all schedules of the script of `source`, and writes what was found to `out`, or one line to `err`; answers the
-/// exit status. The file that the options name isn't opened here.
-pub fn explore_program<S: Read, W: Write, E: Write>(
+/// exit status. The file that the options name isn't opened here. `progress` is told now and then how many states were found.
+pub fn explore_program<S: Read, W: Write, E: Write, P: Progress>(
     alloc: Global,
     options: &ExploreOptions,
     source: &mut S,
     out: &mut W,
     err: &mut E,
+    progress: &mut P,
 ) -> u8
     // All schedules of the script that was read were looked at, and what was found was written, whole.
     ensures decided { result ≡ 0 → IsSearched options.now.most true (S.remaining source.old)
         (W.contents out.old) (W.contents out.new) }
-    // The search was given up after as many states as the options say, and that was written.
+    // The search was given up after as many states as the options say, or as fit, and that was written.
     ensures undecided { result ≡ 7 → IsSearched options.now.most false (S.remaining source.old)
         (W.contents out.old) (W.contents out.new) }
     // What is refused as a script is none.
@@ -87,7 +90,7 @@ pub fn explore_program<S: Read, W: Write, E: Write>(
     ensures quiet { result ≡ 0 → Keeps (E.contents err.old) (E.contents err.new) }
     ensures quiet_too { result ≡ 7 → Keeps (E.contents err.old) (E.contents err.new) }
 {
-    match explore_script(alloc, options, source, out) {
+    match explore_script(alloc, options, source, out, progress) {
         Ok(true) => 0,
         Ok(false) => UNDECIDED,
         Err(fault) => fault.say(alloc, options.file.as_deref(), err),

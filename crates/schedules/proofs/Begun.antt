@@ -21,16 +21,15 @@ use Rattle.journal.specs.WellFormed.{KindInRange, Does, MayFollow, WellFormed}
 use Rattle.journal.proofs.Flat.FlatMemory.{flat_memory, flat_up_to}
 use Rattle.journal.proofs.Journals.WellFormed.{each_push, well_formed_take}
 use Rattle.lrc_script.specs.declared.script.Instruction.{Instruction}
-use Rattle.lrc_script.specs.Plan.{Plan, head_plan}
+use Rattle.lrc_script.specs.Plan.{Plan}
 use Rattle.lrc_script.specs.Lawful.{addresses}
 use Rattle.follows.specs.Begins.{BeginsScript, BeginsSection}
 use Rattle.follows.specs.Follows.{sizes_of, calls_of, is_fetch, Follows, FollowsSection}
 use Rattle.follows.specs.Like.{valueless, without_value, IsLike}
-use Rattle.follows.proofs.Beginnings.{begins_front}
-use Rattle.follows.proofs.Calls.{calls_of-append, calls_of-own}
+use Rattle.follows.proofs.Calls.{calls_of-own}
 use Rattle.follows.proofs.Fetchless.Embeds.{fetchless, fetchless_of}
-use Rattle.follows.proofs.Fetchless.Order.{race_back}
-use Rattle.follows.proofs.Fetchless.Runs.{no_fetch_in, fetchless_run}
+use Rattle.follows.proofs.Fetchless.Order.{access_calls, race_back}
+use Rattle.follows.proofs.Fetchless.Runs.{calls_same, no_fetch_in, replays_back}
 use Rattle.follows.proofs.Fetchless.WellFormed.{well_formed_back}
 use Rattle.follows.proofs.Like.Order.{race_like}
 use Rattle.follows.proofs.Like.WellFormed.{well_formed_like}
@@ -39,39 +38,21 @@ use Rattle.beginnings.specs.declared.step.Step.{Step}
 use Rattle.beginnings.specs.declared.step.Step.TheVariants.{Call, Adds}
 use Rattle.beginnings.specs.Beginnings.{IsFlatBeginning, IsFlatRaceFree}
 use Rattle.beginnings.specs.Calling.{IsStep, IsCalledNext, last_reply, section_steps, shown_by}
-use Rattle.beginnings.proofs.Beginnings.{next_begins}
+use Rattle.beginnings.proofs.Beginnings.{next_begins, script_front}
 use Rattle.beginnings.proofs.Calling.{begins_push}
 use Rattle.beginnings.proofs.Neighbours.LastRace.{race_take}
-use Rattle.beginnings.proofs.Neighbours.Replies.{replied, replied_replyless}
+use Rattle.beginnings.proofs.Neighbours.Replies.{replied, step_replied}
 use Rattle.schedules.specs.Laws.{BegunLaw}
-use Rattle.schedules.proofs.Calls.{calls_same}
-
--- what follows a script begins it
-pub follows_begins : (s : Plan) (g : List Event) → Follows s g → BeginsScript s g
-follows_begins s g follows p section at = record {
-  rest = [];
-  follows = subst (FollowsSection section (shown_by s p)) (sym (append-nil (calls_of g p))) (follows p section at);
-}
-
--- a front of what begins a script does so
-begun_front : (s : Plan) (g more : List Event) → BeginsScript s (g ++ more) → BeginsScript s g
-begun_front s g more begins p section at =
-    begins_front section (shown_by s p) (calls_of g p) (calls_of more p)
-    (subst (BeginsSection section (shown_by s p)) (calls_of-append g more p) (begins p section at))
 
 -- what replays and begins the script does so on one flat memory, its fetches aside
 pub flat_part : (s : Plan) (h : List Event) → WellFormed (sizes_of s) h → BeginsScript s h
     → Replays (replicate (addresses s) 0) h → IsFlatBeginning s (fetchless h)
 flat_part s h well begins replays =
-    -- each history follows a script that has no section
-    let bare = head_plan s.processors s.pages s.words s.locks s.flags in
-    let follows : Follows bare h = λ p section at. absurd (none-some section at) in
-    let run = fetchless_run bare h (record { well_formed = well; follows = follows; replays = replays }) in
     record {
-      well_formed = run.well_formed;
+      well_formed = well_formed_back (sizes_of s) (fetchless h) h (fetchless_of h) well;
       begins = λ p section at.
           subst (BeginsSection section (shown_by s p)) (sym (calls_same p h)) (begins p section at);
-      replays = run.replays;
+      replays = replays_back h (replicate (addresses s) 0) replays;
       no_fetch = no_fetch_in h;
     }
 
@@ -92,12 +73,6 @@ like_push g p k l same =
     map-append without_value g (event p k ∷ []) ∙ ap (λ x. map without_value g ++ event p x ∷ []) same
     ∙ sym (map-append without_value g (event p l ∷ []))
 
--- its step says it too
-step_replied : (reply : ℕ) (step : Step) (k : Kind) (memory : List ℕ) → IsStep reply step k
-    → IsStep reply step (replied memory k)
-step_replied reply (Call c) k memory is = replied_replyless memory k ∙ is
-step_replied reply (Adds a v) k memory is = ap (replied memory) is
-
 -- and it answers its word
 word_replied : (s : Plan) (memory : List ℕ) (k : Kind) → length memory ≡ addresses s → KindInRange (sizes_of s) k
     → AnswersWord memory (replied memory k)
@@ -116,7 +91,7 @@ module _ (s : Plan) (h : List Event) (p : ℕ) (k : Kind) (replays : Replays (re
 
   before : IsFlatBeginning s (fetchless h)
   before =
-      flat_part s h ((each_push (sizes_of s) h (event p k)).0 well).0 (begun_front s h (event p k ∷ []) begins) replays
+      flat_part s h ((each_push (sizes_of s) h (event p k)).0 well).0 (script_front s h (event p k ∷ []) begins) replays
 
   may : MayFollow (sizes_of s) (fetchless h) (event p (replied memory k))
   may =
@@ -148,11 +123,6 @@ module _ (s : Plan) (h : List Event) (p : ℕ) (k : Kind) (replays : Replays (re
         },
       )
 
--- what has an address is no fetch
-access_calls : (k : Kind) (a : ℕ) → address_of k ≡ Some a → is_fetch k ≡ false
-access_calls (Fetch w n r d) a at = absurd (none-some a at)
-access_calls _ a at = refl
-
 -- a history of a script of which no flat beginning races
 module _ (s : Plan) (free : IsFlatRaceFree s) (h : List Event) (well : WellFormed (sizes_of s) h)
     (explained : Explained h) (begins : BeginsScript s h) where
@@ -181,7 +151,7 @@ module _ (s : Plan) (free : IsFlatRaceFree s) (h : List Event) (well : WellForme
       begins_now : BeginsScript s (did (take k h) p c)
       begins_now =
           subst (BeginsScript s) front
-          (begun_front s (take (suc k) h) (drop (suc k) h)
+          (script_front s (take (suc k) h) (drop (suc k) h)
           (subst (BeginsScript s) (sym (take-append-drop (suc k) h)) begins))
 
       call : is_fetch c ≡ false

@@ -3,3 +3,5 @@ mod Calls
 mod Going
 mod Reports
 mod Waiting
+mod Deciding
+mod Onward

@@ -4,6 +4,7 @@
 use Rattle.std.proofs.Common.{ℕ, zero, suc, ◌≡◌, ◌<◌, List, [], ◌∷◌, ◌++◌, Bool, true, false, map, length, Option, Some, slice_get, refl, sym, ap, subst, ◌∙◌, arith}
 use Rattle.std.specs.Prelude.{IsTrue}
 use Rattle.std.specs.Global.{Vec}
+use Rattle.std.proofs.lemmas.Bool.{false_from_ne_true}
 use Rattle.std.proofs.lemmas.Option.{same_Some, slice_get_within}
 use Rattle.journal.specs.declared.event.Event.{Event}
 use Rattle.journal.specs.declared.event.Kind.{Kind}
@@ -12,7 +13,9 @@ use Rattle.lrc_script.specs.Plan.{Plan}
 use Rattle.follows.specs.Begins.{BeginsScript}
 use Rattle.follows.specs.Follows.{calls_of, load_of, FollowsSection}
 use Rattle.follows.proofs.Fetchless.Embeds.{fetchless}
+use Rattle.follows.proofs.Fetchless.Runs.{calls_same}
 use Rattle.beginnings.specs.Beginnings.{IsWhole}
+use Rattle.beginnings.proofs.Beginnings.{follows_begins}
 use Rattle.beginnings.specs.Calling.{shown_by}
 use Rattle.runs.specs.Reports.{AreLastReplies}
 use Rattle.explore.specs.declared.explored.Hang.{Hang}
@@ -20,8 +23,7 @@ use Rattle.explore.specs.declared.explored.Outcome.{Outcome}
 use Rattle.explore.specs.Explored.{IsRaceFreeWith, IsVerdictOn}
 use Rattle.explore.specs.Outcomes.{AreReplies, replies_in}
 use Rattle.schedules.specs.Laws.{EndsWith, IsFoundRaceFree, ReportLaw}
-use Rattle.schedules.proofs.Begun.{flat_part, follows_begins, race_free, replays_whole}
-use Rattle.schedules.proofs.Calls.{calls_same}
+use Rattle.schedules.proofs.Begun.{flat_part, race_free, replays_whole}
 
 -- these words of each processor below n, in order
 abbrev rows : (ℕ → List ℕ) → ℕ → List (List ℕ)
@@ -66,11 +68,6 @@ ends_shown calls shown last = record {
   are = ap replies_in last.ends ∙ replies_end last.front shown;
 }
 
--- what isn't true is false
-false_by : (b : Bool) → ¬ IsTrue b → b ≡ false
-false_by false none = refl
-false_by true none = absurd (none refl)
-
 -- a script that was found race-free is
 pub found : (s : Plan) (outcomes : Vec Outcome) (hang : Option Hang) → IsFoundRaceFree s outcomes hang
     → IsRaceFreeWith s outcomes.items hang
@@ -78,7 +75,7 @@ found s outcomes hang f = subst (IsVerdictOn s f.most f.answer.states) f.verdict
 
 pub report_law : ReportLaw
 report_law s outcomes hang r f is = record {
-  race_free = false_by r.racy
+  race_free = false_from_ne_true r.racy
       (λ yes. let race = is.tells.racy.0 yes in
       race_free s free.race_free h is.tells.well_formed is.tells.explained begins race.0 race.1 race.2);
   listed = record {

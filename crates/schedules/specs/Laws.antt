@@ -10,7 +10,7 @@ use Rattle.journal.specs.Loads.{Explained}
 use Rattle.journal.specs.Races.{RaceFree}
 use Rattle.journal.specs.WellFormed.{WellFormed}
 use Rattle.lrc_script.specs.Plan.{Plan}
-use Rattle.lrc_script.specs.Lawful.{addresses}
+use Rattle.lrc_script.specs.Lawful.{IsLawful, addresses}
 use Rattle.lrc_report.specs.declared.report.Report.{Report}
 use Rattle.follows.specs.Begins.{BeginsScript}
 use Rattle.follows.specs.Follows.{sizes_of, is_fetch, Follows}
@@ -61,14 +61,31 @@ abbrev pub ReportLaw : Type 0
 ReportLaw = (s : Plan) (outcomes : Vec Outcome) (hang : Option Hang) (r : Report) → IsFoundRaceFree s outcomes hang
     → (is : IsReportOf s r) → IsForetold s outcomes.items r is.history
 
--- the history has begun the script and isn't whole, and no call may come next; fetches are no calls
-pub record IsStuck (s : Plan) (h : List Event) : Type 0 where
+-- the history has begun the script, and isn't whole
+pub record IsUnfinished (s : Plan) (h : List Event) : Type 0 where
   pub well_formed : WellFormed (sizes_of s) h
   pub explained : Explained h
   pub begins : BeginsScript s h
   pub unfinished : ¬ Follows s h
+
+-- and no call may come next; fetches are no calls
+pub record IsStuck (s : Plan) (h : List Event) : Type 0 where
+  pub begun : IsUnfinished s h
   pub stuck : (p : ℕ) (k : Kind) → is_fetch k ≡ false → WellFormed (sizes_of s) (did h p k) → ¬ BeginsScript s (did h p k)
 
 -- where a search finds a script race-free and no hang, no history of it is stuck
 abbrev pub NeverStuckLaw : Type 0
 NeverStuckLaw = (s : Plan) (outcomes : Vec Outcome) (h : List Event) → IsFoundRaceFree s outcomes None → ¬ IsStuck s h
+
+-- this call may come next
+pub record GoesOn (s : Plan) (h : List Event) : Type 0 where
+  pub processor : ℕ
+  pub kind : Kind
+  pub call : is_fetch kind ≡ false
+  pub well_formed : WellFormed (sizes_of s) (did h processor kind)
+  pub begins : BeginsScript s (did h processor kind)
+
+-- where a search finds a lawful script race-free and no hang, each history of it that isn't whole may go on by some call
+abbrev pub GoesOnLaw : Type 0
+GoesOnLaw = (s : Plan) (outcomes : Vec Outcome) (h : List Event) → IsLawful s → IsFoundRaceFree s outcomes None
+    → IsUnfinished s h → GoesOn s h

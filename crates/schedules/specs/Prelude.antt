@@ -1,2 +1,2 @@
 -- The words that contracts name, passed on from one place. Declares nothing.
-pub use Rattle.schedules.specs.Laws.{BegunLaw, NeverStuckLaw, ReportLaw}
+pub use Rattle.schedules.specs.Laws.{BegunLaw, GoesOnLaw, NeverStuckLaw, ReportLaw}

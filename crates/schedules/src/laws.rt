@@ -1,5 +1,5 @@
 //! Laws, as contracts of functions that do nothing: the check proves each by its name.
-ghost use Rattle.schedules.specs.Prelude.{BegunLaw, NeverStuckLaw, ReportLaw};
+ghost use Rattle.schedules.specs.Prelude.{BegunLaw, GoesOnLaw, NeverStuckLaw, ReportLaw};
 
 /// An explained history that begins a script, of which no beginning on one flat memory races, has no race and replays, also
 /// where it ends before the script does. So `race_free_law` of crate `follows` holds of runs that are stuck or halted, too.
@@ -18,4 +18,11 @@ pub fn report_law()
 /// of the script, or some call may come next, fetches aside. Which thread goes on, and when, no law says.
 pub fn never_stuck_law()
     ensures { NeverStuckLaw }
+{}
+
+/// Where a search finds a lawful script race-free and no hang, each well formed and explained history that begins it, and
+/// isn't whole, goes on: there is a call that may come next. It is the next call of some processor's section, with the reply
+/// that a load of it has on one flat memory. That a thread makes it no law says.
+pub fn goes_on_law()
+    ensures { GoesOnLaw }
 {}

@@ -81,7 +81,7 @@ follows_replied s h q (Load w v) memory may = record {
 follows_replied s h q _ memory may = may
 
 -- a step says its call whatever the reply is
-step_replied : (reply : ℕ) (step : Step) (k : Kind) (memory : List ℕ) → IsStep reply step k
+pub step_replied : (reply : ℕ) (step : Step) (k : Kind) (memory : List ℕ) → IsStep reply step k
     → IsStep reply step (replied memory k)
 step_replied reply (Call c) k memory is = replied_replyless memory k ∙ is
 step_replied reply (Adds a v) k memory is = ap (replied memory) is

@@ -67,7 +67,7 @@ count_first : (is : Kind → Bool) (e : Event) (es : List Event) (p : ℕ)
     → count_of is (e ∷ es) p ≡ count_of is (e ∷ []) p + count_of is es p
 count_first is e es p = count_of-append is (e ∷ []) es p
 
-count_fetch : (is : Kind → Bool) (e : Event) (p : ℕ) → NoneFetches is → is_fetch e.kind ≡ true
+pub count_fetch : (is : Kind → Bool) (e : Event) (p : ℕ) → NoneFetches is → is_fetch e.kind ≡ true
     → count_of is (e ∷ []) p ≡ 0
 count_fetch is e p none fetches = cases (e.processor == p)
   where

@@ -50,7 +50,7 @@ before_there g h x (edge {i} {k} e) = edge (edge_there g h x i k e)
 before_there g h x (on {i} {m} {k} b e) = on (before_there g h x b) (edge_there g h x m k e)
 
 -- what has an address is no fetch
-access_calls : (k : Kind) (a : ℕ) → address_of k ≡ Some a → is_fetch k ≡ false
+pub access_calls : (k : Kind) (a : ℕ) → address_of k ≡ Some a → is_fetch k ≡ false
 access_calls (Fetch w n r d) a at = absurd (none-some a at)
 access_calls _ a at = refl
 

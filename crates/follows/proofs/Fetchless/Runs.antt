@@ -26,7 +26,7 @@ no_fetch_in = by_events (λ g h. HasNoFetch g) (λ i e at. absurd (none-some e a
     call e h is x (suc i) f at = x i f at
 
 -- each processor's calls are the same
-calls_same : (p : ℕ) (h : List Event) → calls_of (fetchless h) p ≡ calls_of h p
+pub calls_same : (p : ℕ) (h : List Event) → calls_of (fetchless h) p ≡ calls_of h p
 calls_same p = by_events (λ g h. calls_of g p ≡ calls_of h p) refl fetch call
   where
     fetch : (e : Event) (h : List Event) → is_fetch e.kind ≡ true → calls_of (fetchless h) p ≡ calls_of h p
@@ -62,7 +62,7 @@ fetch_writes memory (Store a v) is = absurd (cc)
 fetch_writes memory _ is = refl
 
 -- what replays does so without its fetches
-replays_back : (h : List Event) (memory : List ℕ) → Replays memory h → Replays memory (fetchless h)
+pub replays_back : (h : List Event) (memory : List ℕ) → Replays memory h → Replays memory (fetchless h)
 replays_back = by_events (λ g h. (memory : List ℕ) → Replays memory h → Replays memory g)
     (λ memory replays. replays) fetch call
   where

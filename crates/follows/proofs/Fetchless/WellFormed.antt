@@ -15,7 +15,7 @@ use Rattle.follows.proofs.Fetchless.Embeds.{Embeds, IsFetchlessOf, CountsSame, e
 use Rattle.follows.proofs.Fetchless.Order.{no_arrival, no_departure}
 
 -- a call that waits
-abbrev waits : Kind → Bool
+abbrev pub waits : Kind → Bool
 waits (Ask l) = true
 waits Arrive = true
 waits (Watch f) = true
@@ -56,7 +56,7 @@ none_below s h p i k well waiting does no_call (suc bound) m f below after at mi
     no_call m f after at (no_fetch_at s h p i k m f well waiting does after at mine earlier) mine
 
 -- p waits in the whole where it does without the fetches
-last_there : (s : Sizes) (g h : List Event) (x : Embeds g h) (p i : ℕ) (k : Kind) → WellFormed s h → waits k ≡ true
+pub last_there : (s : Sizes) (g h : List Event) (x : Embeds g h) (p i : ℕ) (k : Kind) → WellFormed s h → waits k ≡ true
     → LastIs g p i k → LastIs h p (x.place i) k
 last_there s g h x p i k well waiting l =
     record {
@@ -73,7 +73,7 @@ last_there s g h x p i k well waiting l =
         l.last b.0 f (rises_back g h x i b.0 (omega arith)) b.2
 
 -- and without the fetches where it waits in the whole
-last_back : (g h : List Event) (x : Embeds g h) (p n : ℕ) (k : Kind) → is_fetch k ≡ false → LastIs h p n k
+pub last_back : (g h : List Event) (x : Embeds g h) (p n : ℕ) (k : Kind) → is_fetch k ≡ false → LastIs h p n k
     → (i : ℕ) × (x.place i ≡ n) × LastIs g p i k
 last_back g h x p n k call l =
     let b = x.back n (event p k) l.does call in
@@ -86,7 +86,7 @@ last_back g h x p n k call l =
       },
     )
 
-holds_there : (g h : List Event) (x : Embeds g h) (p l : ℕ) → Holds g p l → Holds h p l
+pub holds_there : (g h : List Event) (x : Embeds g h) (p l : ℕ) → Holds g p l → Holds h p l
 holds_there g h x p l held =
     record {
       place = x.place held.place;
@@ -97,7 +97,7 @@ holds_there g h x p l held =
           held.keeps b.0 (rises_back g h x held.place b.0 (omega arith)) b.2;
     }
 
-holds_back : (g h : List Event) (x : Embeds g h) (p l : ℕ) → Holds h p l → Holds g p l
+pub holds_back : (g h : List Event) (x : Embeds g h) (p l : ℕ) → Holds h p l → Holds g p l
 holds_back g h x p l held =
     let b = x.back held.place (event p (Acquire l)) held.acquires refl in
     let place : x.place b.0 ≡ held.place = b.1 in

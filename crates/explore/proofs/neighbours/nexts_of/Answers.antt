@@ -1,4 +1,4 @@
-use Rattle.std.proofs.Common.{ℕ, ◌≡◌, ◌<◌, ◌≤◌, ◌↔◌, List, Option, Some, length, slice_index_or, slice_set, get_or-set_same, get_or-set_other, refl, sym, subst, ◌∙◌, inl, inr, arith}
+use Rattle.std.proofs.Common.{◌≡◌, ◌↔◌, Some, slice_index_or, slice_set, get_or-set_same, get_or-set_other, sym, subst, ◌∙◌, inl, inr, arith}
 use Rattle.std.specs.Prelude.{None}
 use Rattle.std.proofs.Math.ListN.{length-set}
 use Rattle.std.proofs.lemmas.Bool.{cases_eq, cases_lt}
@@ -31,8 +31,11 @@ loop-processor-preserved c =
       others = λ p le. get_or-set_other xs n p o None (omega arith) ∙ old.others p (omega arith);
     }
 
-pub returns : goal.returns
-returns c = λ s lawful g knows p k.
+pub returns-clause-long : goal.returns-clause-long
+returns-clause-long c = c.loop-processor.invariant.long
+
+pub returns-clause-nexts : goal.returns-clause-nexts
+returns-clause-nexts c = λ s lawful g knows p k.
     let old = c.loop-processor.invariant in
     elim (cases_lt p c.loop-processor.processor) [
       | inl lt ↦ old.each s g p k lawful knows lt

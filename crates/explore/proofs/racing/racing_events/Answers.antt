@@ -1,11 +1,10 @@
-use Rattle.std.proofs.Common.{ℕ, ◌≡◌, ◌≢◌, ◌+◌, ◌<◌, ◌++◌, [], ◌∷◌, List, Some, length, slice_get, refl, sym, ap, subst, ◌∙◌, arith}
+use Rattle.std.proofs.Common.{◌≡◌, ◌+◌, ◌<◌, ◌++◌, [], ◌∷◌, List, Some, length, slice_get, refl, sym, ap, subst, ◌∙◌, arith}
 use Rattle.std.specs.Prelude.{IsSome}
 use Rattle.std.specs.Global.{Vec}
 use Rattle.std.proofs.lemmas.Option.{same_Some}
 use Rattle.journal.specs.declared.event.Event.{Event}
 use Rattle.journal.specs.declared.event.Kind.{Kind}
 use Rattle.journal.specs.Did.{did, event}
-use Rattle.journal.specs.Races.{Race}
 use Rattle.lrc_script.specs.Plan.{Plan}
 use Rattle.beginnings.specs.declared.step.Step.{Step}
 use Rattle.beginnings.specs.Beginnings.{IsFlatBeginning}
@@ -15,10 +14,10 @@ use Rattle.explore.specs.declared.found.Found.{Found}
 use Rattle.explore.specs.declared.machine.Machine.{Machine}
 use Rattle.explore.specs.declared.neighbours.Neighbours.{Neighbours}
 use Rattle.explore.specs.Found.{states_of}
-use Rattle.explore.specs.Machines.{IsLike, Knows}
+use Rattle.explore.specs.Machines.{Knows}
 use Rattle.explore.specs.Racing.{AreRacing, IsRacingBeginning}
 use Rattle.explore.proofs.Likes.{knows_like}
-use Rattle.explore.proofs.Machines.{next_within, rows_few, rows_many}
+use Rattle.explore.proofs.Machines.{next_within, rows_many}
 use Rattle.explore.proofs.racing.racing_events.Goals as goal
 
 module _ (s : Plan) (x : Found) (steps : List (Vec Step)) (ns : Neighbours) (are : AreRacing s x steps ns) (f : Machine)

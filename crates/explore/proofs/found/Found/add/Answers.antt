@@ -1,4 +1,4 @@
-use Rattle.std.proofs.Common.{rules, ◌≡◌, Bool, true, inl, refl, sym, subst, ◌∙◌, ap, Some, slice_get}
+use Rattle.std.proofs.Common.{rules, ◌≡◌, inl, refl, subst, Some, slice_get}
 use Rattle.explore.proofs.Equals.{kept_keys, machine_like}
 use Rattle.explore.proofs.found.Found.add.Goals as goal
 
@@ -14,5 +14,5 @@ returns-else-is_new c =
       place = c.in_ok-is_new.field-0-0;
       state = h.0;
       at = subst (λ ks. slice_get ks c.in_ok-is_new.field-0-0 ≡ Some h.0) kept h.1;
-      like = machine_like _ (λ a b e. search rules) c.args.state h.0 h.2;
+      like = machine_like _ _ (λ a b e. search rules) (λ a b e. search rules) c.args.state h.0 h.2;
     })

@@ -1,4 +1,4 @@
-use Rattle.std.proofs.Common.{ℕ, ◌≡◌, ◌<◌, ◌++◌, List, Some, length, reverse, slice_get}
+use Rattle.std.proofs.Common.{◌≡◌, ◌<◌, ◌++◌, List, Some, length, reverse, slice_get}
 use Rattle.lrc_script.specs.Plan.{Plan}
 use Rattle.journal.specs.declared.event.Event.{Event}
 use Rattle.explore.specs.declared.machine.Machine.{Machine}

@@ -1,4 +1,4 @@
-use Rattle.std.proofs.Common.{◌+◌, sym, subst, arith}
+use Rattle.std.proofs.Common.{◌+◌, sym, subst}
 use Rattle.explore.specs.Followed.{AreFollowed}
 use Rattle.explore.proofs.FollowedAll.{goes_on, may_step, nobody_followed, none_followed, one_followed, small_still, within_still}
 use Rattle.explore.proofs.found.Found.follow_all.Goals.{in-Some+in_ok-follow, in_default}

@@ -6,4 +6,4 @@ use Rattle.explore.proofs.found.Found.len.Goals as goal
 pub returns-clause-states : goal.returns-clause-states
 returns-clause-states c = λ s found.
     subst (HasStates s) (sym c.len.ensures.len)
-    (has_states _ (λ k. search rules) s c.args.self.now found c.len.ensures.unique)
+    (has_states _ _ (λ w. search rules) (λ t. search rules) s c.args.self.now found c.len.ensures.unique)

@@ -1,13 +1,12 @@
-use Rattle.std.proofs.Common.{ℕ, ◌≡◌, ◌<◌, ◌≤◌, List, Some, length, slice_get, slice_index, slice_index_or, refl, sym, ap, subst, ◌∙◌, inl, inr, arith}
+use Rattle.std.proofs.Common.{ℕ, ◌≡◌, ◌<◌, ◌≤◌, List, Some, length, slice_get, slice_index, refl, sym, ap, ◌∙◌, inl, inr, arith}
 use Rattle.std.specs.Global.{Vec}
 use Rattle.std.proofs.lemmas.Bool.{cases_eq, false≢true}
 use Rattle.std.proofs.lemmas.Option.{same_Some, slice_get_within}
 use Rattle.journal.specs.declared.event.Event.{Event}
-use Rattle.lrc_script.specs.declared.script.Instruction.{Instruction}
 use Rattle.lrc_script.specs.Plan.{Plan}
 use Rattle.follows.specs.Follows.{calls_of}
 use Rattle.beginnings.specs.declared.step.Step.{Step}
-use Rattle.beginnings.specs.Calling.{section_steps, shown_by}
+use Rattle.beginnings.specs.Calling.{shown_by}
 use Rattle.beginnings.specs.Laws.{AreAllDone}
 use Rattle.beginnings.proofs.Beginnings.{whole_done}
 use Rattle.explore.specs.declared.machine.Machine.{Machine}

@@ -1,5 +1,4 @@
-use Rattle.std.proofs.Common.{ℕ, ◌≡◌, ◌≢◌, ◌<◌, ◌≤◌, ◌↔◌, List, Some, length, slice_get, slice_index, refl, sym, ap, subst, ◌∙◌, arith}
-use Rattle.std.specs.Prelude.{None}
+use Rattle.std.proofs.Common.{ℕ, ◌≡◌, ◌<◌, ◌≤◌, ◌↔◌, List, Some, length, slice_get, slice_index, refl, sym, ap, subst, ◌∙◌, arith}
 use Rattle.std.specs.Global.{Vec}
 use Rattle.std.proofs.lemmas.Bool.{false≢true}
 use Rattle.std.proofs.lemmas.Option.{none-some, same_Some}
@@ -14,7 +13,7 @@ use Rattle.beginnings.specs.declared.step.Step.{Step}
 use Rattle.beginnings.specs.Beginnings.{IsFlatBeginning}
 use Rattle.beginnings.specs.Calling.{IsStep, last_reply}
 use Rattle.explore.specs.declared.machine.Machine.{Machine}
-use Rattle.explore.specs.Machines.{AreLawfulSteps, HasWord, Knows}
+use Rattle.explore.specs.Machines.{AreLawfulSteps, Knows}
 use Rattle.explore.proofs.Machines.{at_step, memory_long, past_steps, read_at, row_of, row_proper, rows_few, rows_many, sizes_small, step_range, step_word}
 use Rattle.explore.proofs.machine.Machine.next.Goals as goal
 

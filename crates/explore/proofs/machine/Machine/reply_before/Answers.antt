@@ -1,4 +1,4 @@
-use Rattle.std.proofs.Common.{ℕ, ◌≡◌, ◌<◌, length, ap, ◌∙◌, arith}
+use Rattle.std.proofs.Common.{◌<◌, ap, ◌∙◌, arith}
 use Rattle.explore.specs.Machines.{last_or}
 use Rattle.explore.proofs.Machines.{read_at}
 use Rattle.explore.proofs.Replies.{last_told, length-items_of}

@@ -1,5 +1,5 @@
-use Rattle.std.proofs.Common.{Some, length, subst, sym, refl}
-use Rattle.std.specs.Prelude.{None, MatchOption}
+use Rattle.std.proofs.Common.{length, subst, refl}
+use Rattle.std.specs.Prelude.{MatchOption}
 use Rattle.lrc_script.specs.Plan.{plan_of}
 use Rattle.explore.specs.Found.{states_of}
 use Rattle.explore.specs.Searched.{Hangs, NoneHangs}

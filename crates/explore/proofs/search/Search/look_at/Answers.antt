@@ -1,16 +1,13 @@
-use Rattle.std.proofs.Common.{ℕ, ◌≡◌, ◌+◌, Some, length, slice_get, refl, sym, ap, subst, ◌∙◌, arith}
+use Rattle.std.proofs.Common.{◌≡◌, ◌+◌, Some, length, slice_get, refl, sym, ap, subst, ◌∙◌, arith}
 use Rattle.std.proofs.lemmas.Bool.{false≢true}
 use Rattle.std.proofs.lemmas.Option.{same_Some}
-use Rattle.lrc_script.specs.Plan.{Plan}
-use Rattle.beginnings.specs.declared.step.Step.{Step}
-use Rattle.explore.specs.declared.found.Found.{Found}
 use Rattle.explore.specs.declared.machine.Machine.{Machine}
 use Rattle.explore.specs.declared.search.Search.{Search}
 use Rattle.explore.specs.Found.{states_of}
 use Rattle.explore.specs.Followed.{AreFollowed, MayFollowAll}
 use Rattle.explore.specs.Machines.{Knows}
 use Rattle.explore.specs.Nexts.{AreNexts}
-use Rattle.explore.specs.Searched.{IsNoted, MayLook, MayNote}
+use Rattle.explore.specs.Searched.{IsNoted}
 use Rattle.explore.proofs.Searched.{looked, noted_kept, noted_skips}
 use Rattle.explore.proofs.search.Search.look_at.Goals.{then-is_over+in_ok-note_end, else-is_over}
 use Rattle.explore.proofs.search.Search.look_at.Goals as goal
@@ -22,10 +19,10 @@ nexts_of-nexts-requires c =
     let g = may.searched.found.known c.args.place c.at.result.now c.at.ensures in
     record { plan = s; lawful = may.lawful; events = g.0; knows = g.1 }
 
-pub returns-in-Some : goal.returns-in-Some
-returns-in-Some c = λ s may.
+pub returns-in-Some-clause-looked : goal.returns-in-Some-clause-looked
+returns-in-Some-clause-looked c = λ s may.
     let f = c.at.result.now in
-    let nexts = c.nexts_of-nexts.ensures s may.lawful in
+    let nexts = c.nexts_of-nexts.ensures.nexts s may.lawful in
     let conflict = c.in-Some.ensures in
     record {
       lawful = may.lawful;
@@ -48,7 +45,7 @@ note_end-requires c =
     let s = c.requires.0 in
     let may = c.requires.1 in
     let f = c.at.result.now in
-    let nexts = c.nexts_of-nexts.ensures s may.lawful in (
+    let nexts = c.nexts_of-nexts.ensures.nexts s may.lawful in (
       s,
       record {
         lawful = may.lawful;
@@ -78,17 +75,43 @@ follow_all-requires c =
             within = may.more;
             next = λ m at.
                 subst (λ x. AreNexts s x c.nexts_of-nexts.result) (same_Some f m (sym c.at.ensures ∙ at))
-                (c.nexts_of-nexts.ensures s may.lawful);
+                (c.nexts_of-nexts.ensures.nexts s may.lawful);
           }),
     )
 
-pub returns : goal.returns
-returns c = λ s may.
+pub returns-clause-few : goal.returns-clause-few
+returns-clause-few c = λ s may.
+    let x = c.args.self.now.found in
+    let place = c.args.place in
+    let f = c.at.result.now in
+    let nexts = c.nexts_of-nexts.result in
+    let new = c.follow_all.new.self in
+    let same : c.if-is_over.self.found ≡ x = elim c.if-is_over.branch [
+      | then-is_over+in_ok-note_end w ↦ ap (λ (z : Search). z.found) w.self-is ∙ w.in_ok-note_end.ensures.found
+      | else-is_over w ↦ ap (λ (z : Search). z.found) w.self-is
+    ] in
+    let may_follow : MayFollowAll s x place nexts = record {
+      lawful = may.lawful.lawful;
+      found = may.searched.found;
+      within = may.more;
+      next = λ m at.
+          subst (λ y. AreNexts s y nexts) (same_Some f m (sym c.at.ensures ∙ at))
+          (c.nexts_of-nexts.ensures.nexts s may.lawful);
+    } in
+    let followed =
+    subst (λ y. AreFollowed s y new place (length nexts)) same
+    (c.in_ok-follow_all.ensures s (subst (λ y. MayFollowAll s y place nexts) (sym same) may_follow)) in
+    let few = followed.few in
+    let long = c.nexts_of-nexts.ensures.long in
+    omega (arith, few, long)
+
+pub returns-clause-looked : goal.returns-clause-looked
+returns-clause-looked c = λ s may.
     let x = c.args.self.now in
     let place = c.args.place in
     let f = c.at.result.now in
     let nexts = c.nexts_of-nexts.result in
-    let are = c.nexts_of-nexts.ensures s may.lawful in
+    let are = c.nexts_of-nexts.ensures.nexts s may.lawful in
     let new = c.follow_all.new.self in
     let same : c.if-is_over.self.found ≡ x.found = elim c.if-is_over.branch [
       | then-is_over+in_ok-note_end w ↦ ap (λ (z : Search). z.found) w.self-is ∙ w.in_ok-note_end.ensures.found

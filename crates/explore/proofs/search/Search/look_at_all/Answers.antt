@@ -1,27 +1,47 @@
-use Rattle.std.proofs.Common.{◌≡◌, ◌+◌, ◌<◌, length, subst, sym, ◌∙◌, arith}
+use Rattle.std.proofs.Common.{ℕ, ◌≡◌, ◌+◌, ◌<◌, ◌≤◌, ◌↔◌, inl, inr, Bool, false, IsTrue, length, subst, sym, ◌∙◌, arith}
+use Rattle.std.proofs.lemmas.Bool.{cases_lt, false≢true}
 use Rattle.explore.specs.Found.{states_of}
-use Rattle.explore.specs.Searched.{IsLookedAt, IsSearched, MayLook}
+use Rattle.explore.specs.Searched.{IsLookedAt, IsSearched}
 use Rattle.explore.proofs.Machines.{none_of}
 use Rattle.explore.proofs.search.Search.look_at_all.Goals as goal
 
-pub returns-then-is_past : goal.returns-then-is_past
-returns-then-is_past c = λ s lawful searched. record {
-  found = (c.loop-place.invariant s lawful searched).found;
+-- the states are no more than these
+not_past : (most states : ℕ) (past : Bool) → IsTrue past ↔ (most < states) → past ≡ false → states ≤ most
+not_past most states past tells isnt = elim (cases_lt most states) [
+  | inl over ↦ absurd (false≢true (sym isnt ∙ tells.1 over))
+  | inr le ↦ omega (arith, le)
+]
+
+pub returns-then-is_past-clause-looked : goal.returns-then-is_past-clause-looked
+returns-then-is_past-clause-looked g c = λ s lawful searched. record {
+  found = (c.loop-place.invariant.searched s lawful searched).found;
   searched = λ few. absurd (let over = c.is_past.ensures.0 c.if-is_past.true in let is = c.len-states.ensures.count in omega arith);
 }
 
-pub returns-then-place-states : goal.returns-then-place-states
-returns-then-place-states c = λ s lawful searched. record {
-  found = (c.loop-place.invariant s lawful searched).found;
+pub returns-then-place-states-clause-looked : goal.returns-then-place-states-clause-looked
+returns-then-place-states-clause-looked g c = λ s lawful searched. record {
+  found = (c.loop-place.invariant.searched s lawful searched).found;
   searched = λ few.
       subst (IsSearched s c.loop-place.self) (c.if-place-states.true ∙ c.len-states.ensures.count)
-      (c.loop-place.invariant s lawful searched);
+      (c.loop-place.invariant.searched s lawful searched);
 }
 
+pub loop-place-init : goal.loop-place-init
+loop-place-init g c = record {
+  searched = λ s lawful searched. searched;
+  few = λ s lawful searched one. omega (arith, one);
+}
+
+pub returns-then-is_past-clause-few : goal.returns-then-is_past-clause-few
+returns-then-is_past-clause-few g c = c.loop-place.invariant.few
+
+pub returns-then-place-states-clause-few : goal.returns-then-place-states-clause-few
+returns-then-place-states-clause-few g c = c.loop-place.invariant.few
+
 pub look_at-requires : goal.look_at-requires
-look_at-requires c =
+look_at-requires g c =
     let s = c.requires.0 in
-    let searched = c.loop-place.invariant s c.requires.1 c.requires.2 in
+    let searched = c.loop-place.invariant.searched s c.requires.1 c.requires.2 in
     let within = searched.within in
     let is = c.len-states.ensures.count in
     let isnt = c.if-place-states.false in
@@ -29,19 +49,41 @@ look_at-requires c =
     (s, record { lawful = c.requires.1; searched = searched; more = lt })
 
 pub loop-place-preserved : goal.loop-place-preserved
-loop-place-preserved c = λ s lawful searched.
-    let old = c.loop-place.invariant s lawful searched in
+loop-place-preserved g c = record {
+  searched = λ s lawful searched.
+      let old = c.loop-place.invariant.searched s lawful searched in
+      let within = old.within in
+      let is = c.len-states.ensures.count in
+      let isnt = c.if-place-states.false in
+      let lt : c.loop-place.place < length (states_of c.loop-place.self.found) = omega (arith, within, is, isnt) in
+      subst (λ o. IsLookedAt s c.look_at.new.self c.args.steps.now (c.loop-place.place + 1) o)
+      (none_of c.in_ok-neighbours.field-0 c.in_default.not-Some)
+      (c.in_ok-neighbours.ensures.looked s (record { lawful = lawful; searched = old; more = lt }));
+  few = λ s lawful searched one.
+      let old = c.loop-place.invariant.searched s lawful searched in
+      let within = old.within in
+      let is = c.len-states.ensures.count in
+      let isnt = c.if-place-states.false in
+      let lt : c.loop-place.place < length (states_of c.loop-place.self.found) = omega (arith, within, is, isnt) in
+      let under = not_past c.args.most c.len-states.result c.is_past.result c.is_past.ensures c.if-is_past.false in
+      let more = c.in_ok-neighbours.ensures.few s (record { lawful = lawful; searched = old; more = lt }) in
+      omega (arith, more, under, is);
+}
+
+pub returns-in-Some-clause-few : goal.returns-in-Some-clause-few
+returns-in-Some-clause-few g c = λ s lawful searched one.
+    let old = c.loop-place.invariant.searched s lawful searched in
     let within = old.within in
     let is = c.len-states.ensures.count in
     let isnt = c.if-place-states.false in
-    let lt : c.loop-place.place < length (states_of c.loop-place.self.found) = omega arith in
-    subst (λ o. IsLookedAt s c.look_at.new.self c.args.steps.now (c.loop-place.place + 1) o)
-    (none_of c.in_ok-neighbours.field-0 c.in_default.not-Some)
-    (c.in_ok-neighbours.ensures s (record { lawful = lawful; searched = old; more = lt }))
+    let lt : c.loop-place.place < length (states_of c.loop-place.self.found) = omega (arith, within, is, isnt) in
+    let under = not_past c.args.most c.len-states.result c.is_past.result c.is_past.ensures c.if-is_past.false in
+    let more = c.in_ok-neighbours.ensures.few s (record { lawful = lawful; searched = old; more = lt }) in
+    omega (arith, more, under, is)
 
-pub returns : goal.returns
-returns c = λ s lawful searched.
-    let old = c.loop-place.invariant s lawful searched in
+pub returns-clause-looked : goal.returns-clause-looked
+returns-clause-looked g c = λ s lawful searched.
+    let old = c.loop-place.invariant.searched s lawful searched in
     record {
       found = old.found;
       searched = λ few.
@@ -50,3 +92,6 @@ returns c = λ s lawful searched.
           let end : c.loop-place.place ≡ length (states_of c.loop-place.self.found) = omega arith in
           subst (IsSearched s c.loop-place.self) end old;
     }
+
+pub returns-clause-few : goal.returns-clause-few
+returns-clause-few g c = c.loop-place.invariant.few

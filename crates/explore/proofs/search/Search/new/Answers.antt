@@ -6,4 +6,7 @@ use Rattle.explore.proofs.search.Search.new.Goals as goal
 pub returns : goal.returns
 returns c =
     let s = plan_of c.args.script.now in
-    begun s _ (c.in_ok-new-2.ensures s c.in_ok-new.ensures) c.new-3.ensures.empty refl
+    record {
+      searched = begun s _ (c.in_ok-new-2.ensures.found s c.in_ok-new.ensures) c.new-3.ensures.empty refl;
+      few = c.in_ok-new-2.ensures.few;
+    }

@@ -1,9 +1,6 @@
-use Rattle.std.proofs.Common.{◌≡◌, ◌+◌, ap, sym, subst, ◌∙◌, refl, Some, arith}
-use Rattle.std.specs.Prelude.{unwrap_or}
+use Rattle.std.proofs.Common.{ap, sym, subst, ◌∙◌, refl, Some}
 use Rattle.std.proofs.lemmas.Bool.{false≢true}
 use Rattle.std.proofs.lemmas.Result.{on_ok_weaker}
-use Rattle.lists.specs.Places.{Has}
-use Rattle.explore.specs.Explored.{replies_of}
 use Rattle.explore.specs.Searched.{IsAmong}
 use Rattle.explore.proofs.Searched.{noted_hangs, noted_whole}
 use Rattle.explore.proofs.search.Search.note_end.Goals as goal

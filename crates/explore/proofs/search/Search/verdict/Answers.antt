@@ -1,4 +1,4 @@
-use Rattle.std.proofs.Common.{◌≡◌, map, subst, sym, ap}
+use Rattle.std.proofs.Common.{map, subst, sym}
 use Rattle.lrc_script.specs.Plan.{plan_of}
 use Rattle.beginnings.proofs.Neighbours.Law.{neighbours}
 use Rattle.explore.specs.Explored.{AreOutcomes, replies_of}

@@ -18,7 +18,7 @@ returns-in-Depart c = λ s j many tells waits.
     let is = c.in-Depart.is in
     subst (λ k. IsTrue c.may_depart.result ↔ Allowed s j p k) (sym is)
     (depart_allowed s j p c.args.processors c.may_depart.result many (subst (WaitsFor j p) is waits)
-    (c.may_depart.ensures j tells))
+    (c.may_depart.ensures j tells (subst (WaitsFor j p) is waits)))
 
 pub returns-in-Await : goal.returns-in-Await
 returns-in-Await c = λ s j many tells waits.

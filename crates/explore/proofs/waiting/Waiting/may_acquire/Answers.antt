@@ -6,9 +6,12 @@ use Rattle.explore.proofs.Asked.{asked_small, first_may, nobody_asked, somebody_
 use Rattle.explore.proofs.waiting.Waiting.may_acquire.Goals as goal
 
 pub first_of-requires : goal.first_of-requires
-first_of-requires c =
-    subst (All (λ q. q < 16)) (sym c.deref.ensures.value)
-    (asked_small c.args.self.now.asked.items c.requires.tells.1.asked.small)
+first_of-requires c = record {
+  small =
+      subst (All (λ q. q < 16)) (sym c.deref.ensures.value)
+      (asked_small c.args.self.now.asked.items c.requires.tells.1.asked.small);
+  lock = c.requires.lock;
+}
 
 pub returns-in-Some : goal.returns-in-Some
 returns-in-Some c = λ j tells i last. (

@@ -11,7 +11,7 @@ returns-then-is_same c = λ s j many range tells.
     let p = c.args.processor in
     let k = c.args.kind in
     let waits =
-    subst (WaitsFor j p) (c.if-is_same.ensures.0 refl) ((tells.waits p c.in-Some.awaited).0 c.in-Some.is) in
+    subst (WaitsFor j p) (c.if-is_same.ensures.0 refl) ((c.of.ensures j tells c.in-Some.awaited).0 c.in-Some.is) in
     let within = subst (λ n. p < n) (sym many) c.requires.processor in
     let come = c.has_come.ensures s j many tells waits in
     let follows = waiting_follows s j p k within range waits in
@@ -22,13 +22,13 @@ returns-else-is_same c = λ s j many range tells. (
   λ yes. absurd (false≢true (sym c.if-is_same.false ∙ yes)),
   λ may. c.is_same.ensures.1
       (waits_only s j c.args.processor c.in-Some.awaited c.args.kind
-      ((tells.waits c.args.processor c.in-Some.awaited).0 c.in-Some.is) may),
+      ((c.of.ensures j tells c.in-Some.awaited).0 c.in-Some.is) may),
 )
 
 pub returns-in-None : goal.returns-in-None
 returns-in-None c = λ s j many range tells.
     let p = c.args.processor in
-    let idle : (b : Kind) → ¬ WaitsFor j p b = λ b waits. none-some b (sym c.in-None.is ∙ (tells.waits p b).1 waits) in
+    let idle : (b : Kind) → ¬ WaitsFor j p b = λ b waits. none-some b (sym c.in-None.is ∙ (c.of.ensures j tells b).1 waits) in
     let within = subst (λ n. p < n) (sym many) c.requires.processor in
     let begins = c.may_begin.ensures s j tells idle in
     let follows = idle_follows s j p c.args.kind within range idle in

@@ -1,14 +1,13 @@
-use Rattle.std.proofs.Common.{zero, suc, ◌≡◌, ℕ, ◌↔◌, IsTrue, false, [], Some, replicate, slice_index_or, subst, sym, refl, ◌∙◌}
+use Rattle.std.proofs.Common.{zero, suc, ◌≡◌, ℕ, ◌+◌, ap, ◌↔◌, IsTrue, false, [], Some, replicate, slice_index_or, subst, sym, refl, ◌∙◌}
 use Rattle.std.specs.Prelude.{None}
 use Rattle.std.proofs.lemmas.Bool.{false≢true}
 use Rattle.std.proofs.lemmas.Option.{none-some}
-use Rattle.journal.specs.declared.event.Kind.{Kind}
 use Rattle.journal.specs.WellFormed.{Holds}
 use Rattle.judge.specs.Tells.{IsSet}
-use Rattle.judge.specs.Why.{WaitsFor}
 use Rattle.lists.proofs.Joined.{has-nil, in_order-nil}
 use Rattle.lists.proofs.Sets.{index-zeros}
 use Rattle.explore.specs.Waiting.{AreAsked}
+use Rattle.explore.specs.Waits.{AreKept, arrivals_open, ending, seated}
 use Rattle.explore.proofs.waiting.Waiting.new.Goals as goal
 
 -- a list of one item over and over, with that past its end
@@ -17,15 +16,15 @@ always zero p d = refl
 always (suc n) zero d = refl
 always (suc n) (suc p) d = always n p d
 
-no_wait : (p : ℕ) (k : Kind) → (slice_index_or (replicate 16 None) p None ≡ Some k) ↔ WaitsFor [] p k
+no_wait : AreKept [] (replicate 16 None)
 no_wait p k = (
-  λ is. absurd (none-some k (sym (always 16 p None) ∙ is)),
+  λ is. absurd (none-some k (sym (ap ending (always 16 p None)) ∙ is)),
   λ waits. absurd (none-some _ waits.last.does),
 )
 
-no_holder : (l q : ℕ) → (slice_index_or (replicate 32 None) l None ≡ Some q) ↔ Holds [] q l
+no_holder : (l q : ℕ) → (seated (slice_index_or (replicate 32 None) l None) ≡ Some q) ↔ Holds [] q l
 no_holder l q = (
-  λ is. absurd (none-some q (sym (always 32 l None) ∙ is)),
+  λ is. absurd (none-some q (sym (ap seated (always 32 l None)) ∙ is)),
   λ holds. absurd (none-some _ holds.acquires),
 )
 
@@ -43,12 +42,11 @@ pub returns : goal.returns
 returns c = record {
   long = refl;
   arrivals_long = refl;
-  departures_long = refl;
   holders_long = refl;
   flags_long = refl;
   waits = no_wait;
   arrivals = index-zeros 16;
-  departures = index-zeros 16;
+  departures = λ p. ap (λ o. 0 + arrivals_open o) (always 16 p None);
   holders = no_holder;
   flags = no_flag;
   asked = subst (AreAsked []) (sym c.new.ensures.items) none_asked;

@@ -1,17 +1,25 @@
-use Rattle.std.proofs.Common.{◌≡◌, ℕ, ◌<◌, ◌^◌, List, Option, Some, Bool, IsTrue, false, ◌↔◌, slice_index, slice_index_or, slice_set, subst, sym, ◌∙◌, arith}
+use Rattle.std.proofs.Common.{◌≡◌, ℕ, ◌<◌, ◌^◌, List, Option, Some, Bool, IsTrue, false, ◌↔◌, slice_index, slice_index_or, subst, sym, refl, ◌∙◌, arith}
 use Rattle.std.specs.Prelude.{None}
 use Rattle.std.proofs.Math.ListN.{length-set}
 use Rattle.journal.specs.declared.event.Event.{Event}
 use Rattle.journal.specs.Did.{did, event}
-use Rattle.journal.specs.Events.{is_arrive, is_depart}
+use Rattle.journal.specs.Events.{is_arrive}
 use Rattle.journal.specs.WellFormed.{Holds}
 use Rattle.judge.specs.Tells.{IsSet}
 use Rattle.judge.proofs.Noting.{count_small, counts_next, holders_next, sets_next}
 use Rattle.judge.proofs.Refusing.{lax_allowed}
-use Rattle.explore.specs.Waiting.{AreWaits, IsDue}
+use Rattle.explore.specs.Waiting.{IsDue}
+use Rattle.explore.specs.Waits.{seated}
 use Rattle.explore.proofs.Asked.{waits_next}
+use Rattle.explore.proofs.Following.{taking_waits, waits_only}
+use Rattle.explore.proofs.Waits.{departures_next}
 use Rattle.explore.proofs.Queued.{asked_next}
 use Rattle.explore.specs.declared.waiting.Waiting.{Waiting}
+use Rattle.explore.specs.declared.wait.Seat.{Seat}
+use Rattle.journal.specs.declared.event.Kind.TheVariants.{Depart}
+use Rattle.journal.specs.Sizes.{Sizes}
+use Rattle.journal.specs.WellFormed.{MayFollow}
+use Rattle.judge.specs.Why.{WaitsFor}
 use Rattle.journal.specs.declared.event.Kind.{Kind}
 use Rattle.explore.proofs.waiting.Waiting.note.Goals as goal
 
@@ -26,16 +34,15 @@ arrivals_small x p q k due =
     let few = due.few in
     omega arith
 
-departures_small : (x : Waiting) (p q : ℕ) (k : Kind) → IsDue x p k → slice_index x.departures q < 2 ^ 22
-departures_small x p q k due =
-    let is = due.tells.departures q in
-    let le = count_small is_depart due.events q in
-    let few = due.few in
-    omega arith
+-- who departs has waited for that
+departs_waits : (s : Sizes) (j : List Event) (p : ℕ) (k : Kind) → MayFollow s j (event p k) → k ≡ Depart
+    → WaitsFor j p Depart
+departs_waits s j p Depart may is = taking_waits s j p Depart refl may.allowed
+departs_waits s j p k may is = absurd cc
 
 -- what is read is what the lemmas speak of
-holder_is : (h : List Event) (l q : ℕ) (new : List (Option ℕ)) (o : Option ℕ) → slice_index_or new l None ≡ o
-    → (o ≡ Some q) ↔ Holds h q l → (slice_index_or new l None ≡ Some q) ↔ Holds h q l
+holder_is : (h : List Event) (l q : ℕ) (new : List (Option Seat)) (o : Option ℕ) → seated (slice_index_or new l None) ≡ o
+    → (o ≡ Some q) ↔ Holds h q l → (seated (slice_index_or new l None) ≡ Some q) ↔ Holds h q l
 holder_is h l q new o is tells = subst (λ x. (x ≡ Some q) ↔ Holds h q l) (sym is) tells
 
 flag_is : (h : List Event) (f : ℕ) (new : List Bool) (b : Bool) → slice_index_or new f false ≡ b
@@ -48,12 +55,17 @@ count-requires c =
     let p = c.args.processor in
     record {
       processor = due_small x p c.args.kind c.requires;
-      arrivals_room = arrivals_small x p p c.args.kind c.requires;
-      departures_room = departures_small x p p c.args.kind c.requires;
+      room = arrivals_small x p p c.args.kind c.requires;
     }
 
 pub hold-requires : goal.hold-requires
-hold-requires c = (c.requires.sizes, c.requires.small, c.requires.may_follow.in_range)
+hold-requires c = record {
+  processor = due_small c.args.self.now c.args.processor c.args.kind c.requires;
+  in_range = (c.requires.sizes, c.requires.small, c.requires.may_follow.in_range);
+}
+
+pub after-requires : goal.after-requires
+after-requires c = (c.requires.sizes, c.requires.small, c.requires.may_follow.in_range)
 
 pub set-requires : goal.set-requires
 set-requires c = (c.requires.sizes, c.requires.small, c.requires.may_follow.in_range)
@@ -68,18 +80,15 @@ returns c = λ s j tells may small.
     let k = c.args.kind in
     let long = tells.long in
     record {
-      long = length-set x.waits p c.awaited_after.result ∙ long;
-      arrivals_long = c.count.ensures.arrivals_long ∙ tells.arrivals_long;
-      departures_long = c.count.ensures.departures_long ∙ tells.departures_long;
+      long = length-set x.waits p c.after.result ∙ long;
+      arrivals_long = c.count.ensures.long ∙ tells.arrivals_long;
       holders_long = c.hold.ensures.long ∙ tells.holders_long;
       flags_long = c.set.ensures.long ∙ tells.flags_long;
-      waits =
-          subst (λ o. AreWaits (did j p k) (slice_set x.waits p o)) (sym c.awaited_after.ensures)
-          (waits_next j p k x.waits (omega arith) tells.waits);
+      waits = waits_next j p k x.waits c.after.result (omega arith) c.after.ensures tells.waits;
       arrivals = counts_next is_arrive j (event p k) x.arrivals c.count.new.arrivals c.count.ensures.arrivals tells.arrivals;
       departures =
-          counts_next is_depart j (event p k) x.departures c.count.new.departures c.count.ensures.departures
-          tells.departures;
+          departures_next j p k x.waits c.after.result (omega arith) c.after.ensures
+          (λ b waits. waits_only s j p b k waits may) (departs_waits s j p k may) tells.waits tells.departures;
       holders = λ l q.
           holder_is (did j p k) l q c.hold.new.holders _ (c.hold.ensures.holders l)
           (holders_next s j p k l _ (lax_allowed s j p k may.allowed) (tells.holders l) q);

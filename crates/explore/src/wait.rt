@@ -1,0 +1,77 @@
+//! What a processor waits for, and who holds a lock: each in a few bytes, since each state has many.
+ghost use Rattle.std.specs.Prelude.{◌≡◌, ◌<◌, Some};
+ghost use Rattle.journal.specs.Sizes.{Sizes as TheSizes};
+ghost use Rattle.journal.specs.WellFormed.{KindInRange};
+ghost use Rattle.journal.specs.Prelude.{awaited};
+ghost use Rattle.judge.specs.Prelude.{AreSmall};
+ghost use Rattle.explore.specs.Waits.{end_of, ending, seated};
+
+use journal::Kind;
+
+/// What a processor waits for.
+#[derive(Clone, Copy, PartialEq, Eq)]
+pub enum Wait {
+    /// A lock that it has asked for.
+    Lock(u8),
+    /// The others, at the barrier.
+    Barrier,
+    /// A flag that it watches.
+    Flag(u8),
+}
+
+impl Wait {
+    /// The event that ends the wait.
+    fn end(self) -> Kind
+        ensures { result ≡ end_of self }
+    {
+        match self {
+            Wait::Lock(lock) => Kind::Acquire(lock as usize),
+            Wait::Barrier => Kind::Depart,
+            Wait::Flag(flag) => Kind::Await(flag as usize),
+        }
+    }
+
+    /// What the processor of an event of this kind waits for after it, if it waits.
+    pub fn after(kind: Kind) -> Option<Wait>
+        requires { (s : TheSizes) × AreSmall s × KindInRange s kind }
+        ensures { ending result ≡ awaited kind }
+    {
+        match kind {
+            Kind::Ask(lock) => Some(Wait::Lock(lock as u8)),
+            Kind::Arrive => Some(Wait::Barrier),
+            Kind::Watch(flag) => Some(Wait::Flag(flag as u8)),
+            _ => None,
+        }
+    }
+}
+
+/// The event that ends the wait, if there is one.
+pub fn end_of(wait: Option<Wait>) -> Option<Kind>
+    ensures { result ≡ ending wait }
+{
+    match wait {
+        Some(wait) => Some(wait.end()),
+        None => None,
+    }
+}
+
+/// A processor, by its number.
+#[derive(Clone, Copy, PartialEq, Eq, Hash)]
+pub struct Seat(u8);
+
+impl Seat {
+    /// The seat of this processor.
+    pub fn of(processor: usize) -> Seat
+        requires { processor < 16 }
+        ensures { seated (Some result) ≡ Some processor }
+    {
+        Seat(processor as u8)
+    }
+
+    /// The processor whose seat this is.
+    pub fn processor(self) -> usize
+        ensures { seated (Some self) ≡ Some result }
+    {
+        self.0 as usize
+    }
+}
