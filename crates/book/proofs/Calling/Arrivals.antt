@@ -250,25 +250,49 @@ read_after times p q own old t lt there read mine others = elim (cases_eq q p) [
   | inr apart ↦ others apart ∙ read ∙ same_default times q t [] there ∙ sym (get_or-set_other times p q own [] apart)
 ]
 
+-- the departures ns: to those before q, ms, comes one, m, for q, whose timestamp is old
+pub record IsDeparting (c : Closings) (u : List ℕ) (times : List (List ℕ)) (q : ℕ) (ns : List Letter) : Type 0 where
+  pub old : List ℕ
+  pub ms : List Letter
+  pub m : Letter
+  pub made : ms ≡ map (departure_to c u) (take q times)
+  pub less : q < length times
+  pub read : old ≡ slice_index_or times q []
+  pub one : m ≡ departure_to c u old
+  pub more : ns ≡ ms ++ m ∷ []
+
 -- one more departure is made
-pub departing_step : (c : Closings) (u : List ℕ) (times : List (List ℕ)) (q : ℕ) (old : List ℕ) (ms ns : List Letter)
-    (m : Letter) → ms ≡ map (departure_to c u) (take q times) → q < length times → old ≡ slice_index_or times q []
-    → m ≡ departure_to c u old → ns ≡ ms ++ m ∷ []
-    → ns ≡ map (departure_to c u) (take (q + 1) times)
-departing_step c u times q old ms ns m made less is one more =
-    let at = slice_get-get_or times q [] less ∙ ap (λ (t : List ℕ). Some t) (sym is) in
+pub departing_step : {c : Closings} {u : List ℕ} {times : List (List ℕ)} {q : ℕ} {ns : List Letter}
+    → IsDeparting c u times q ns → ns ≡ map (departure_to c u) (take (q + 1) times)
+departing_step {c} {u} {times} {q} {ns} step =
+    let old = step.old in
+    let at = slice_get-get_or times q [] step.less ∙ ap (λ (t : List ℕ). Some t) (sym step.read) in
     let next : q + 1 ≡ suc q = omega arith in
-    more ∙ ap (λ (xs : List Letter). xs ++ m ∷ []) made
-    ∙ ap (λ (x : Letter). map (departure_to c u) (take q times) ++ x ∷ []) one
+    step.more ∙ ap (λ (xs : List Letter). xs ++ step.m ∷ []) step.made
+    ∙ ap (λ (x : Letter). map (departure_to c u) (take q times) ++ x ∷ []) step.one
     ∙ sym (map-append (departure_to c u) (take q times) (old ∷ []))
     ∙ ap (λ (ts : List (List ℕ)). map (departure_to c u) ts)
     (sym (take-suc_at times q old at) ∙ ap (λ (n : ℕ). take n times) (sym next))
 
+-- the departures ms, with the episode's time u, where p's arrival at the time own completes it
+pub record AreDepartures (c : Closings) (b : Episodes) (times : List (List ℕ)) (p : ℕ) (own : List ℕ)
+    (ms : List Letter) : Type 0 where
+  pub u : List ℕ
+  pub full : Bool
+  pub is : full ≡ is_full (joined b p own)
+  pub all : full ≡ true
+  pub time : u ≡ join b.gathered own
+  pub made : ms ≡ map (departure_to c u) times
+
 -- the departures, where the arrival completes the episode, and none where it doesn't
-pub departures_are : (c : Closings) (b : Episodes) (times : List (List ℕ)) (p : ℕ) (own u : List ℕ) (full : Bool)
-    (ms : List Letter) → full ≡ is_full (joined b p own) → full ≡ true → u ≡ join b.gathered own
-    → ms ≡ map (departure_to c u) times → Some ms ≡ departures_to c b times p own
-departures_are c b times p own u full ms is all time made = cc
+pub departures_are : {c : Closings} {b : Episodes} {times : List (List ℕ)} {p : ℕ} {own : List ℕ} {ms : List Letter}
+    → AreDepartures c b times p own ms → Some ms ≡ departures_to c b times p own
+departures_are {c} {b} {times} {p} {own} {ms} are =
+    let is = are.is in
+    let all = are.all in
+    let time = are.time in
+    let made = are.made in
+    cc
 
 pub none_depart : (c : Closings) (b : Episodes) (times : List (List ℕ)) (p : ℕ) (own : List ℕ) (full : Bool)
     → full ≡ is_full (joined b p own) → full ≡ false → None ≡ departures_to c b times p own

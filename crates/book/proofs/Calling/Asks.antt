@@ -50,21 +50,31 @@ flag_long : (n : ℕ) (h : List Event) (f : ℕ) (o : Option (List ℕ)) (t : Li
 flag_long n h f None t is long = tt
 flag_long n h f (Some u) t is long = is.1.long ∙ sym long
 
-pub set_read : (old b : State) (p f : ℕ) (k : Kind) (block : List Event) (records : List Changes)
-    (o : Option (List ℕ)) (t : List ℕ) → MayCall old p block → f < length old.flags
-    → b ≡ closed_by (handed_in old block) p k records
-    → o ≡ slice_index_or b.flags f o → t ≡ slice_index_or b.times p t → IsSetRead old p f o t
-set_read old b p f k block records o t may range is flag time =
+-- p's set of f: b is the book when the interval is closed, o and t the flag and p's timestamp in it
+pub record IsSetting (old b : State) (p f : ℕ) (block : List Event) (records : List Changes) (o : Option (List ℕ))
+    (t : List ℕ) : Type 0 where
+  pub may : MayCall old p block
+  pub range : f < length old.flags
+  pub closed : b ≡ closed_by (handed_in old block) p (Set f) records
+  pub flag : o ≡ slice_index_or b.flags f o
+  pub time : t ≡ slice_index_or b.times p t
+
+pub set_read : {old b : State} {p f : ℕ} {block : List Event} {records : List Changes} {o : Option (List ℕ)}
+    {t : List ℕ} → IsSetting old b p f block records o t → IsSetRead old p f o t
+set_read {old} {b} {p} {f} {block} {records} {o} {t} setting =
+    let may = setting.may in
+    let range = setting.range in
+    let is = setting.closed in
     let s = may.by.sizes in
     let h = may.by.history in
     let told = may.by.told in
     let st = standing old p block may in
     let now : o ≡ slice_index_or old.flags f None =
-    flag ∙ ap (λ (x : State). slice_index_or x.flags f o) is ∙ same_default old.flags f o None range in
+    setting.flag ∙ ap (λ (x : State). slice_index_or x.flags f o) is ∙ same_default old.flags f o None range in
     let lt : p < length (slice_set old.times p (tick (time_of old p) p)) = let e =
     length-set old.times p (tick (time_of old p) p) in let w = st.times in omega arith in
     let own : t ≡ tick (time_of old p) p =
-    time ∙ ap (λ (x : State). slice_index_or x.times p t) is
+    setting.time ∙ ap (λ (x : State). slice_index_or x.times p t) is
     ∙ same_default (slice_set old.times p (tick (time_of old p) p)) p t [] lt ∙ own_ticked old p st.times in
     let long = (own_stamp s h old p told (is_processor s h old p None told may.hands_in.idle)).long in
     let flags_long = told.flags.long in
@@ -78,11 +88,15 @@ set_read old b p f k block records o t may range is flag time =
           ∙ long);
     }
 
-pub set_is : (old b : State) (p f : ℕ) (block : List Event) (records : List Changes) (o : Option (List ℕ))
-    (t r : List ℕ) → b ≡ closed_by (handed_in old block) p (Set f) records → IsSetRead old p f o t
-    → r ≡ flag_joined o t
+pub set_is : {old b : State} {p f : ℕ} {block : List Event} {records : List Changes} {o : Option (List ℕ)}
+    {t : List ℕ} → IsSetting old b p f block records o t → (r : List ℕ) → r ≡ flag_joined o t
     → record b { flags = slice_set b.flags f (Some r) } ≡ book_set (handed_in old block) p f records
-set_is old b p f block records o t r is read made = rw is (cc)
+set_is {old} {b} {p} {f} {block} {records} {o} {t} setting r made =
+    let is = setting.closed in
+    let read = set_read setting in
+    let flag = read.flag in
+    let time = read.time in
+    rw is (cc)
 
 -- what an ask rests on
 pub record IsAsking (b : State) (p l : ℕ) : Type 0 where

@@ -146,48 +146,60 @@ others_time : (b : State) (p r : ℕ) (u : List ℕ) → r ≢ p
     → slice_index_or b.times r [] ≡ slice_index_or (slice_set b.times p u) r []
 others_time b p r u apart = sym (get_or-set_other b.times p r u [] apart)
 
+-- p's release of l: b is the book when the interval is closed, t the timestamp that stays with the lock
+pub record IsLeaving (old b : State) (p l : ℕ) (block : List Event) (records : List Changes) (t : List ℕ) : Type 0 where
+  pub may : MayRelease old p l block
+  pub closed : b ≡ closed_by (handed_in old block) p (Release l) records
+  pub time : t ≡ tick (time_of old p) p
+
+-- the grant of who is next, as it is made before the interval is closed
+abbrev pub grant_before : State → ℕ → ℕ → List Changes → List ℕ → Option (ℕ × Letter)
+grant_before old p l records t =
+    option_map (addressed_grant (pushed old.closed (open_interval old p records)) old.times t)
+    (slice_get (lock_at old.locks l).queue 0)
+
 -- p releases the lock at this time
-module _ (old b : State) (p l : ℕ) (block : List Event) (records : List Changes) (t : List ℕ)
-    (is : b ≡ closed_by (handed_in old block) p (Release l) records) (time : t ≡ tick (time_of old p) p) where
+module _ {old b : State} {p l : ℕ} {block : List Event} {records : List Changes} {t : List ℕ}
+    (leaving : IsLeaving old b p l block records t) where
   released_is : (locks : Locks) (transit : List (Option Letter))
       → locks ≡ with_lock b.locks l (released (lock_at b.locks l) t)
       → transit ≡ mail_passed_on b (lock_at b.locks l).queue t
       → record b { locks = locks; transit = transit } ≡ book_released (handed_in old block) p l records
-  released_is locks transit line mail = rw is (let now = rw is at line in let post = rw is at mail in cc)
+  released_is locks transit line mail =
+      let is = leaving.closed in
+      let time = leaving.time in
+      rw is (let now = rw is at line in let post = rw is at mail in cc)
 
   -- what stands of the grant when the interval is closed
-  grant_made : (o : Option (ℕ × Letter)) → MayRelease old p l block
-      → o ≡ option_map (addressed_grant (pushed old.closed (open_interval old p records)) old.times t)
-      (slice_get (lock_at old.locks l).queue 0)
+  grant_made : (o : Option (ℕ × Letter)) → o ≡ grant_before old p l records t
       → (o ≡ option_map (addressed_grant b.closed old.times t) (slice_get (lock_at b.locks l).queue 0))
       × ((q : ℕ) → slice_get (lock_at b.locks l).queue 0 ≡ Some q → slice_index_or old.times q [] ≡ time_of b q)
-  grant_made o may made =
+  grant_made o made =
       subst (λ (x : State).
       (o ≡ option_map (addressed_grant x.closed old.times t) (slice_get (lock_at x.locks l).queue 0))
       × ((q : ℕ) → slice_get (lock_at x.locks l).queue 0 ≡ Some q → slice_index_or old.times q [] ≡ time_of x q))
-      (sym is)
-      (made, λ q at. others_time old p q (tick (time_of old p) p) ((releasing old p l block may).next q at).apart)
+      (sym leaving.closed) (
+        made,
+        λ q at. others_time old p q (tick (time_of old p) p)
+            ((releasing old p l block leaving.may).next q at).apart,
+      )
 
   -- a release whose grant is posted
   pub released_granted : (locks : Locks) (transit : List (Option Letter)) (r : ℕ) (m : Letter)
-      → MayRelease old p l block → locks ≡ with_lock b.locks l (released (lock_at b.locks l) t)
-      → transit ≡ slice_set b.transit r (Some m)
-      → Some (r, m) ≡ option_map (addressed_grant (pushed old.closed (open_interval old p records)) old.times t)
-      (slice_get (lock_at old.locks l).queue 0)
+      → locks ≡ with_lock b.locks l (released (lock_at b.locks l) t) → transit ≡ slice_set b.transit r (Some m)
+      → Some (r, m) ≡ grant_before old p l records t
       → record b { locks = locks; transit = transit } ≡ book_released (handed_in old block) p l records
-  released_granted locks transit r m may line post made =
-      let grant = grant_made (Some (r, m)) may made in
+  released_granted locks transit r m line post made =
+      let grant = grant_made (Some (r, m)) made in
       released_is locks transit line
       (post ∙ passed_some b (lock_at b.locks l).queue t old.times r m grant.1 grant.0)
 
   -- a release that nobody waits for
-  pub released_alone : (locks : Locks) → MayRelease old p l block
-      → locks ≡ with_lock b.locks l (released (lock_at b.locks l) t)
-      → None ≡ option_map (addressed_grant (pushed old.closed (open_interval old p records)) old.times t)
-      (slice_get (lock_at old.locks l).queue 0)
+  pub released_alone : (locks : Locks) → locks ≡ with_lock b.locks l (released (lock_at b.locks l) t)
+      → None ≡ grant_before old p l records t
       → record b { locks = locks } ≡ book_released (handed_in old block) p l records
-  released_alone locks may line made =
-      let grant = grant_made None may made in
+  released_alone locks line made =
+      let grant = grant_made None made in
       released_is locks b.transit line (passed_none b (lock_at b.locks l).queue t old.times grant.0)
 
 pub next_sent : (b : State) (p l : ℕ) (o : Option ℕ) → IsReleasing b p l → o ≡ slice_get (lock_at b.locks l).queue 0
@@ -202,11 +214,23 @@ grant_to_whom c times t [] r m made = absurd (none-some (r, m) (sym made))
 grant_to_whom c times t (q ∷ queue) r m made =
     ap (λ (x : ℕ × Letter). Some x.0) (sym (same_Some (r, m) (addressed_grant c times t q) made))
 
+-- a grant g, made of what a release reads before its interval is closed: the interval, who is next, the timestamps
+pub record IsGrantRead (b : State) (p l : ℕ) (records : List Changes) (t : List ℕ) (g : Option (ℕ × Letter))
+    : Type 0 where
+  pub interval : ClosedInterval
+  pub times : List (List ℕ)
+  pub next : Option ℕ
+  pub opened : interval ≡ open_interval b p records
+  pub all : times ≡ b.times
+  pub first : next ≡ slice_get (lock_at b.locks l).queue 0
+  pub made : g ≡ option_map (addressed_grant (pushed b.closed interval) times t) next
+
 -- the grant as it was made, read off the book before the call
-pub grant_read : (old b : State) (p l : ℕ) (records : List Changes) (i : ClosedInterval) (times : List (List ℕ))
-    (t : List ℕ) (o : Option ℕ) (g : Option (ℕ × Letter)) → b ≡ old → times ≡ b.times → i ≡ open_interval b p records
-    → o ≡ slice_get (lock_at b.locks l).queue 0
-    → g ≡ option_map (addressed_grant (pushed b.closed i) times t) o
-    → g ≡ option_map (addressed_grant (pushed old.closed (open_interval old p records)) old.times t)
-    (slice_get (lock_at old.locks l).queue 0)
-grant_read old b p l records i times t o g same all opened next made = cc
+pub grant_read : {b old : State} {p l : ℕ} {records : List Changes} {t : List ℕ} {g : Option (ℕ × Letter)}
+    → IsGrantRead b p l records t g → b ≡ old → g ≡ grant_before old p l records t
+grant_read {b} {old} {p} {l} {records} {t} {g} read same =
+    let opened = read.opened in
+    let all = read.all in
+    let first = read.first in
+    let made = read.made in
+    cc

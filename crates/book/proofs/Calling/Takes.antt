@@ -259,17 +259,25 @@ brings_is b p k m waits is =
 pub waits_flag : (b now : State) (p f : ℕ) → b ≡ now → MayTake now p (Await f) → IsReceiving b p (Await f)
 waits_flag b now p f same may = subst (λ x. IsReceiving x p (Await f)) (sym same) (receiving now p (Await f) may)
 
+-- of p, which waits for f, its timestamp own is read, and of f, which is set, its timestamp
+pub record IsSignalRead (b now : State) (p f : ℕ) (own time : List ℕ) : Type 0 where
+  pub o : Option (List ℕ)
+  pub same : b ≡ now
+  pub may : MayTake now p (Await f)
+  pub own_is : own ≡ slice_index_or b.times p own
+  pub flag_is : o ≡ slice_index_or b.flags f o
+  pub set : o ≡ Some time
+
 -- what was read of one who waits for a flag that is set
-pub signalled : (b now : State) (p f : ℕ) (own time : List ℕ) (o : Option (List ℕ)) → b ≡ now
-    → MayTake now p (Await f) → own ≡ slice_index_or b.times p own → o ≡ slice_index_or b.flags f o → o ≡ Some time
+pub signalled : {b now : State} {p f : ℕ} {own time : List ℕ} → IsSignalRead b now p f own time
     → IsSignalled now p f own time
-signalled b now p f own time o same may own_is flag_is set =
-    let w = waits_flag b now p f same may in
+signalled {b} {now} {p} {f} {own} {time} reads =
+    let w = waits_flag b now p f reads.same reads.may in
     let flag = w.flag f refl in
-    let read = own_read b.times p own w.times own_is in
+    let read = own_read b.times p own w.times reads.own_is in
     let at : slice_index_or b.flags f None ≡ Some time =
-    sym (same_default b.flags f o None flag.within) ∙ sym flag_is ∙ set in
-    subst (λ (x : State). IsSignalled x p f own time) same (record {
+    sym (same_default b.flags f reads.o None flag.within) ∙ sym reads.flag_is ∙ reads.set in
+    subst (λ (x : State). IsSignalled x p f own time) reads.same (record {
       keeps = subst (λ (t : List ℕ). KeepsBetween b.closed t time) (sym read) (flag.keeps time at);
       brings = ap (λ (t : List ℕ). between b.closed t time) read
           ∙ ap (λ (x : Option (List ℕ)). sent_with

@@ -5,7 +5,7 @@ use Rattle.interval.specs.Closings.{KeepsBetween, pushed, between}
 use Rattle.transit.specs.Letters.{Letter, letter}
 use Rattle.book.specs.Transitions.{departure_to}
 use Rattle.transit.specs.Letters.Kind.{departure}
-use Rattle.book.proofs.Calling.Arrivals.{read_after, departing_step}
+use Rattle.book.proofs.Calling.Arrivals.{read_after, IsDeparting, departing_step}
 use Rattle.book.proofs.messages.departures.Goals.{After-time_after-old}
 use Rattle.book.proofs.messages.departures.Goals as goal
 
@@ -43,6 +43,16 @@ loop-q-preserved c =
     (between (pushed c.args.closed.now c.args.interval.now) c.time_after-old.result.now c.args.time.now) t)
     c.copy-time.ensures in
     let more = ap (map letter) c.in_ok-push.ensures.items ∙ map-append letter c.loop-q.departures.items _ in
-    departing_step (pushed c.args.closed.now c.args.interval.now)
-    c.args.time.now _ c.loop-q.q c.time_after-old.result.now (map letter c.loop-q.departures.items)
-    (map letter c.push.new.self.items) m c.loop-q.invariant (omega arith) is one more
+    let step : IsDeparting (pushed c.args.closed.now c.args.interval.now) c.args.time.now
+    (slice_set c.args.times.now c.args.interval.now.owner c.args.own.now) c.loop-q.q
+    (map letter c.push.new.self.items) = record {
+      old = c.time_after-old.result.now;
+      ms = map letter c.loop-q.departures.items;
+      m = m;
+      made = c.loop-q.invariant;
+      less = omega arith;
+      read = is;
+      one = one;
+      more = more;
+    } in
+    departing_step step

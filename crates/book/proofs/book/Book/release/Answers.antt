@@ -15,7 +15,7 @@ use Rattle.book.specs.Holding.{state_of}
 use Rattle.book.specs.declared.book.Book.TheInside.{Inside}
 use Rattle.book.proofs.Parts.History.{happened_fits}
 use Rattle.book.proofs.Calling.Calls.{stands, still_open, opens_roomy, closed_roomy}
-use Rattle.book.proofs.Calling.Releases.{IsReleasing, releases, releasing, next_sent, grant_read, grant_to_whom, released_granted, released_alone}
+use Rattle.book.proofs.Calling.Releases.{IsReleasing, IsLeaving, IsGrantRead, releases, releasing, next_sent, grant_before, grant_read, grant_to_whom, released_granted, released_alone}
 use Rattle.book.proofs.book.Book.release.Goals.{After-parts, After-closing_time-time, After-parts-2, In_ok-grant, in-Some, in_default}
 use Rattle.book.proofs.book.Book.release.Goals as goal
 
@@ -100,15 +100,19 @@ addressed_if g = option_map addressed g
 
 -- the grant and who is to have it, read off the book before the call
 made : (c : In_ok-grant) → option_map addressed c.in_ok-grant.grant
-    ≡ option_map (addressed_grant
-    (pushed c.args.self.now.closed (open_interval c.args.self.now c.args.p (map arc_value c.args.records.items)))
-    c.args.self.now.times c.closing_time-time.result) (slice_get (lock_at c.args.self.now.locks c.args.l).queue 0)
+    ≡ grant_before c.args.self.now c.args.p c.args.l (map arc_value c.args.records.items) c.closing_time-time.result
 made c =
-    grant_read c.args.self.now (state_of c.parts.inside) c.args.p c.args.l (map arc_value c.args.records.items)
-    c.open_interval-interval.result c.deref.result.now c.closing_time-time.result c.next.result
-    (option_map addressed c.in_ok-grant.grant)
-    (c.parts.view_is ∙ c.deref_mut-parts.ensures.value ∙ c.self.view_is) c.deref.ensures.value
-    c.open_interval-interval.ensures c.next.ensures c.in_ok-grant.ensures
+    let read : IsGrantRead (state_of c.parts.inside) c.args.p c.args.l (map arc_value c.args.records.items)
+    c.closing_time-time.result (option_map addressed c.in_ok-grant.grant) = record {
+      interval = c.open_interval-interval.result;
+      times = c.deref.result.now;
+      next = c.next.result;
+      opened = c.open_interval-interval.ensures;
+      all = c.deref.ensures.value;
+      first = c.next.ensures;
+      made = c.in_ok-grant.ensures;
+    } in
+    grant_read read (c.parts.view_is ∙ c.deref_mut-parts.ensures.value ∙ c.self.view_is)
 
 pub post-requires : goal.post-requires
 post-requires c =
@@ -124,20 +128,21 @@ post-requires c =
 pub returns : goal.returns
 returns c =
     let at = goal.at.returns c in
-    let records = map arc_value c.args.records.items in
-    let time = c.closing_time-time.ensures
-    ∙ ap (λ (b : State). tick (time_of b c.args.p) c.args.p) (same at.After-parts) in
+    let leaving : IsLeaving c.args.self.now (state_of c.parts-2.inside) c.args.p c.args.l c.args.block.now
+    (map arc_value c.args.records.items) c.closing_time-time.result = record {
+      may = c.requires.call;
+      closed = closed at.After-parts-2;
+      time = c.closing_time-time.ensures
+          ∙ ap (λ (b : State). tick (time_of b c.args.p) c.args.p) (same at.After-parts);
+    } in
     record {
       ok = elim c.match-grant-4.branch [
         | in-Some x ↦ ap (λ (i : Inside). i.parts.value) x.self-inside-is
-            ∙ released_granted c.args.self.now (state_of c.parts-2.inside) c.args.p c.args.l c.args.block.now records
-            c.closing_time-time.result (closed at.After-parts-2) time c.release.new.self x.post.new.self
-            x.in-Some.next (letter x.in-Some.message) c.requires.call c.release.ensures.locks x.post.ensures
-            (sym (ap addressed_if x.in-Some.is) ∙ made at.In_ok-grant)
+            ∙ released_granted leaving c.release.new.self x.post.new.self x.in-Some.next (letter x.in-Some.message)
+            c.release.ensures.locks x.post.ensures (sym (ap addressed_if x.in-Some.is) ∙ made at.In_ok-grant)
         | in_default x ↦ ap (λ (i : Inside). i.parts.value) x.self-inside-is
-            ∙ released_alone c.args.self.now (state_of c.parts-2.inside) c.args.p c.args.l c.args.block.now records
-            c.closing_time-time.result (closed at.After-parts-2) time c.release.new.self c.requires.call
-            c.release.ensures.locks (sym (ap addressed_if x.in_default.is) ∙ made at.In_ok-grant)
+            ∙ released_alone leaving c.release.new.self c.release.ensures.locks
+            (sym (ap addressed_if x.in_default.is) ∙ made at.In_ok-grant)
       ];
       err = search rules;
       full = search rules;

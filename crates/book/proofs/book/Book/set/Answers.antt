@@ -4,7 +4,7 @@ use Rattle.journal.specs.declared.event.Kind.TheVariants.{Set}
 use Rattle.book.specs.Holding.{state_of}
 use Rattle.book.specs.Transitions.{handed_in, closed_by}
 use Rattle.book.proofs.Calling.Calls.{opens, still_open, closed_since}
-use Rattle.book.proofs.Calling.Asks.{IsSetRead, still_timed, set_read, set_is}
+use Rattle.book.proofs.Calling.Asks.{IsSetting, still_timed, set_read, set_is}
 use Rattle.book.proofs.book.Book.set.Goals.{After-deref_mut-parts, After-parts, After-index-2}
 use Rattle.book.proofs.book.Book.set.Goals as goal
 
@@ -40,27 +40,28 @@ index-requires-2 c =
     omega (arith, lt, c.parts.inside.times.ok.0)
 
 -- the flag and p's timestamp, as they are read
-read : (c : After-index-2) → state_of c.parts.inside
+setting : (c : After-index-2) → state_of c.parts.inside
     ≡ closed_by (handed_in c.args.self.now c.args.block.now) c.args.p (Set c.args.f)
     (map arc_value c.args.records.items)
-    → IsSetRead c.args.self.now c.args.p c.args.f c.index.result.now c.index-2.result.now
-read c is =
-    set_read c.args.self.now (state_of c.parts.inside) c.args.p c.args.f (Set c.args.f) c.args.block.now
-    (map arc_value c.args.records.items)
-    c.index.result.now c.index-2.result.now c.requires.call c.requires.flag is c.index.ensures c.index-2.ensures
+    → IsSetting c.args.self.now (state_of c.parts.inside) c.args.p c.args.f c.args.block.now
+    (map arc_value c.args.records.items) c.index.result.now c.index-2.result.now
+setting c is = record {
+  may = c.requires.call;
+  range = c.requires.flag;
+  closed = is;
+  flag = c.index.ensures;
+  time = c.index-2.ensures;
+}
 
 pub with_set-time-requires : goal.with_set-time-requires
 with_set-time-requires c =
-    let at = goal.at.with_set-time-requires c in (read at.After-index-2 (closed at.After-parts)).long
+    let at = goal.at.with_set-time-requires c in (set_read (setting at.After-index-2 (closed at.After-parts))).long
 
 pub returns : goal.returns
 returns c =
     let at = goal.at.returns c in
-    let is = closed at.After-parts in
     record {
-      ok = set_is c.args.self.now (state_of c.parts.inside) c.args.p c.args.f c.args.block.now
-          (map arc_value c.args.records.items) c.index.result.now c.index-2.result.now c.with_set-time.result is
-          (read at.After-index-2 is) c.with_set-time.ensures;
+      ok = set_is (setting at.After-index-2 (closed at.After-parts)) c.with_set-time.result c.with_set-time.ensures;
       err = search rules;
       full = search rules;
       only = search rules;

@@ -6,7 +6,7 @@ use Rattle.interval.specs.Closings.{pushed}
 use Rattle.transit.specs.Letters.{letter}
 use Rattle.book.specs.State.{State}
 use Rattle.book.specs.Transitions.{departure_to}
-use Rattle.book.proofs.Calling.Arrivals.{departures_are, none_depart}
+use Rattle.book.proofs.Calling.Arrivals.{AreDepartures, departures_are, none_depart}
 use Rattle.book.proofs.protocol.Protocol.departures_with.Goals.{After-completes-is_last}
 use Rattle.book.proofs.protocol.Protocol.departures_with.Goals as goal
 
@@ -28,14 +28,20 @@ returns-then-not-is_last c =
 
 pub returns : goal.returns
 returns c =
-    departures_are (pushed c.args.self.now.closed c.args.interval.now) c.args.self.now.barrier
-    (slice_set c.args.self.now.times c.args.interval.now.owner c.args.own.now)
-    c.args.interval.now.owner c.args.own.now c.time_with-time.result c.completes-is_last.result
-    (map letter c.in_ok-all.all.items) (full (goal.at.returns c).After-completes-is_last) c.if-not-is_last.false
-    (c.time_with-time.ensures.value ∙ ap (λ (b : State). join b.barrier.gathered c.args.own.now) c.self.view_is)
-    (c.in_ok-all.ensures
-    ∙ ap (λ (ts : List (List ℕ)). map
-    (departure_to (pushed c.self.inside.closed c.args.interval.now) c.time_with-time.result)
-    (slice_set ts c.args.interval.now.owner c.args.own.now)) c.deref.ensures.value
-    ∙ ap (λ (b : State). map (departure_to (pushed b.closed c.args.interval.now) c.time_with-time.result)
-    (slice_set b.times c.args.interval.now.owner c.args.own.now)) c.self.view_is)
+    let are : AreDepartures (pushed c.args.self.now.closed c.args.interval.now) c.args.self.now.barrier
+    (slice_set c.args.self.now.times c.args.interval.now.owner c.args.own.now) c.args.interval.now.owner
+    c.args.own.now (map letter c.in_ok-all.all.items) = record {
+      u = c.time_with-time.result;
+      full = c.completes-is_last.result;
+      is = full (goal.at.returns c).After-completes-is_last;
+      all = c.if-not-is_last.false;
+      time = c.time_with-time.ensures.value
+          ∙ ap (λ (b : State). join b.barrier.gathered c.args.own.now) c.self.view_is;
+      made = c.in_ok-all.ensures
+          ∙ ap (λ (ts : List (List ℕ)). map
+          (departure_to (pushed c.self.inside.closed c.args.interval.now) c.time_with-time.result)
+          (slice_set ts c.args.interval.now.owner c.args.own.now)) c.deref.ensures.value
+          ∙ ap (λ (b : State). map (departure_to (pushed b.closed c.args.interval.now) c.time_with-time.result)
+          (slice_set b.times c.args.interval.now.owner c.args.own.now)) c.self.view_is;
+    } in
+    departures_are are

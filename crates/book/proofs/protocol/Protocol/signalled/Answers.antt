@@ -1,6 +1,6 @@
 use Rattle.std.proofs.Common.{refl, sym, arith}
 use Rattle.book.specs.Holding.{state_of}
-use Rattle.book.proofs.Calling.Takes.{waits_flag, signalled}
+use Rattle.book.proofs.Calling.Takes.{waits_flag, IsSignalRead, signalled}
 use Rattle.book.proofs.protocol.Protocol.signalled.Goals as goal
 
 pub index-requires : goal.index-requires
@@ -15,6 +15,13 @@ index-requires-2 c =
 
 pub returns-clause-set : goal.returns-clause-set
 returns-clause-set c =
-    signalled (state_of c.self.inside) c.args.self.now c.args.p c.args.f c.index-2.result.now c.in_ok-time.time.now
-    c.index.result.now
-    c.self.view_is c.requires.call c.index-2.ensures c.index.ensures (sym c.in_ok-time.ensures.value)
+    let reads : IsSignalRead (state_of c.self.inside) c.args.self.now c.args.p c.args.f c.index-2.result.now
+    c.in_ok-time.time.now = record {
+      o = c.index.result.now;
+      same = c.self.view_is;
+      may = c.requires.call;
+      own_is = c.index-2.ensures;
+      flag_is = c.index.ensures;
+      set = sym c.in_ok-time.ensures.value;
+    } in
+    signalled reads
