@@ -13,7 +13,7 @@ pub(crate) const AFTER: &str = "Example:
   printf 'cluster 2 1 1 1\\np 0\\nacquire 0\\nadd 0 1\\nrelease 0\\n\
 p 1\\nacquire 0\\nadd 0 1\\nrelease 0\\nshow 0\\n' | lrc step --journal
 
-Statuses: 0 done; 2 the script or the trace is refused; 3 no progress; 4 a limit, want of memory, a
+Statuses: 0 done; 2 the script or the trace is refused; 3 no progress; 4 a limit, out of memory, a
 thread that couldn't be started, or a failed write; 5 usage, or the file can't be read; 6 the trace
 isn't faithful; 7 a search was given up.";
 
@@ -101,5 +101,5 @@ What is printed:
     event I B ..            the event
     because ..              why; where a load may answer stores of others, their events follow
 
-Statuses: 0 faithful, racy or not; 2 no trace; 4 a limit, want of memory, or a failed write; 5 usage, or
+Statuses: 0 faithful, racy or not; 2 no trace; 4 a limit, out of memory, or a failed write; 5 usage, or
 the file can't be read; 6 unfaithful.";
