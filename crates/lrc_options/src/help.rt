@@ -103,3 +103,27 @@ What is printed:
 
 Statuses: 0 faithful, racy or not; 2 no trace; 4 a limit, out of memory, or a failed write; 5 usage, or
 the file can't be read; 6 unfaithful.";
+
+/// What the options are for.
+pub(crate) const TRIES: &str = "a thread gives up after N consecutive answers that it must wait";
+
+pub(crate) const SEED: &str =
+    "draws the order of each round, in place of 0, 1, ..; up to 4294967295";
+
+pub(crate) const SEEDS: &str =
+    "runs it without a seed, and with the seeds 0 to N - 1; N is up to 4294967295";
+
+pub(crate) const MOST: &str = "gives up after N states; N is up to 4294967295";
+
+/// What the flags do.
+pub(crate) const JOURNAL: &str = "prints a line for each event too";
+
+pub(crate) const SVG: &str = "draws the run in place of its text: prints an SVG file";
+
+pub(crate) const LAX: &str =
+    "leaves out what only this memory asks: the order of a lock's asks, and counts of fetches";
+
+/// The file that a command reads.
+pub(crate) const SCRIPT_FILE: &str = "the script; standard input where it isn't given";
+
+pub(crate) const TRACE_FILE: &str = "the trace; standard input where it isn't given";
