@@ -101,11 +101,14 @@ fn chain(rt: HostRuntime) -> Result<(), Fail> {
     Ok(())
 }
 
-/// A word counts once in each interval, whatever is stored there; a page's words are its own; what was fetched is not
-/// fetched again; what nothing brings isn't counted, nor one's own.
-#[test]
-fn words(rt: HostRuntime) -> Result<(), Fail> {
-    let start = [
+/// The same where processor 1 makes these fetches, after others' intervals of which it has waited for some.
+fn tells_of<R: Abort + AllocGlobal>(
+    rt: &R,
+    fetches: [Kind; 3],
+    want: Option<Miscounted>,
+) -> Result<(), Fail> {
+    let [first, second, third] = fetches;
+    let events = [
         by(1, Kind::Store(2, 9)),
         by(0, Kind::Store(0, 1)),
         by(0, Kind::Store(1, 1)),
@@ -119,7 +122,17 @@ fn words(rt: HostRuntime) -> Result<(), Fail> {
         by(0, Kind::Store(2, 5)),
         by(1, Kind::Watch(0)),
         by(1, Kind::Await(0)),
+        by(1, first),
+        by(1, second),
+        by(1, third),
     ];
+    tells(rt, &events, want)
+}
+
+/// A word counts once in each interval, whatever is stored there; a page's words are its own; what was fetched is not
+/// fetched again; what nothing brings isn't counted, nor one's own.
+#[test]
+fn words(rt: HostRuntime) -> Result<(), Fail> {
     for (fetches, want) in [
         (
             [fetch(0, 2, 3, 4), fetch(1, 1, 1, 1), fetch(0, 0, 0, 0)],
@@ -142,14 +155,7 @@ fn words(rt: HostRuntime) -> Result<(), Fail> {
             due(14, 1, 1, 1),
         ),
     ] {
-        let mut events = Vec::new(rt.alloc());
-        for event in start {
-            events.push(event)?;
-        }
-        for kind in fetches {
-            events.push(by(1, kind))?;
-        }
-        tells(&rt, &events, want)?;
+        tells_of(&rt, fetches, want)?;
     }
     Ok(())
 }

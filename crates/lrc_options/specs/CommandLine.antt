@@ -38,20 +38,21 @@ default_most = 1000000
 abbrev pub option_rule : Text → Rule
 option_rule id = record (new_rule id) { long = Some id; value_names = 1 }
 
+-- one whose value is a number in this range
+abbrev pub number_rule : Text → ℕ → ℕ → Rule
+number_rule id least most = record (option_rule id) { parser = Some (vp.Unsigned least most) }
+
 abbrev pub tries_rule : Rule
-tries_rule =
-    record (option_rule (codes "tries")) { parser = Some (vp.Unsigned 1 most_tries); defaults = codes "1000000" ∷ [] }
+tries_rule = record (number_rule (codes "tries") 1 most_tries) { defaults = codes "1000000" ∷ [] }
 
 abbrev pub seed_rule : Rule
-seed_rule = record (option_rule (codes "seed")) { parser = Some (vp.Unsigned 0 most_seed) }
+seed_rule = number_rule (codes "seed") 0 most_seed
 
 abbrev pub seeds_rule : Rule
-seeds_rule =
-    record (option_rule (codes "seeds")) { parser = Some (vp.Unsigned 1 most_seed); defaults = codes "1000" ∷ [] }
+seeds_rule = record (number_rule (codes "seeds") 1 most_seed) { defaults = codes "1000" ∷ [] }
 
 abbrev pub most_rule : Rule
-most_rule =
-    record (option_rule (codes "most")) { parser = Some (vp.Unsigned 0 most_seed); defaults = codes "1000000" ∷ [] }
+most_rule = record (number_rule (codes "most") 0 most_seed) { defaults = codes "1000000" ∷ [] }
 
 abbrev pub lock_rule : ValueParser → Rule
 lock_rule locks = record (option_rule (codes "lock")) { parser = Some locks; defaults = codes "array" ∷ [] }
@@ -66,10 +67,13 @@ journal_rule = flag_rule (codes "journal")
 abbrev pub svg_rule : Rule
 svg_rule = flag_rule (codes "svg")
 
--- a command on a script's file, with one option of its own and `--lock`, which takes what this parser lets through
+-- a command on a file, with one option of its own
+abbrev pub file_app : Text → Rule → App
+file_app name own = with_rule (with_rule (new_app name) (new_rule (codes "FILE"))) own
+
+-- the same with `--lock`, which takes what this parser lets through
 abbrev pub script_app : Text → Rule → ValueParser → App
-script_app name own locks =
-    with_rule (with_rule (with_rule (new_app name) (new_rule (codes "FILE"))) own) (lock_rule locks)
+script_app name own locks = with_rule (file_app name own) (lock_rule locks)
 
 -- the same with a flag
 abbrev pub flagged_app : Text → Rule → ValueParser → Rule → App
@@ -92,14 +96,14 @@ sample_app locks = script_app (codes "sample") seeds_rule locks
 
 -- `lrc explore`
 abbrev pub explore_app : App
-explore_app = with_rule (with_rule (new_app (codes "explore")) (new_rule (codes "FILE"))) most_rule
+explore_app = file_app (codes "explore") most_rule
 
 -- `lrc check`
 abbrev pub lax_rule : Rule
 lax_rule = flag_rule (codes "lax")
 
 abbrev pub check_app : App
-check_app = with_rule (with_rule (new_app (codes "check")) (new_rule (codes "FILE"))) lax_rule
+check_app = file_app (codes "check") lax_rule
 
 -- `lrc`, which wants a command and has a version
 abbrev pub lrc_app : ValueParser → App

@@ -3,12 +3,14 @@ ghost use Rattle.std.specs.Prelude.{◌≡◌, IfOk, false, true};
 ghost use Rattle.clap.specs.Words.{app_of, rule_of};
 ghost use Rattle.clap.specs.declared.builder.command.Command.TheViews.{out-Command};
 ghost use Rattle.clap.specs.declared.builder.value_parser.ValueParser.TheVariants as vp;
-ghost use Rattle.lrc_options.specs.CommandLine.{tries_rule, seed_rule, seeds_rule, lock_rule, journal_rule};
-ghost use Rattle.lrc_options.specs.CommandLine.{check_app, explain_app, explore_app, flagged_app, lax_rule, most_rule};
-ghost use Rattle.lrc_options.specs.CommandLine.{sample_app};
-ghost use Rattle.lrc_options.specs.CommandLine.{script_app, run_app, step_app, svg_rule, lrc_app};
+ghost use Rattle.lrc_options.specs.CommandLine.{flag_rule, lock_rule, most_rule, number_rule, seed_rule, seeds_rule};
+ghost use Rattle.lrc_options.specs.CommandLine.{check_app, explain_app, explore_app, file_app, flagged_app, lrc_app};
+ghost use Rattle.lrc_options.specs.CommandLine.{run_app, sample_app, script_app, step_app, tries_rule};
 
-use crate::help::{ABOUT, AFTER, EXPLAIN, EXPLORE, SAMPLE, SCRIPT, TRACE, VERSION};
+use crate::help::{
+    ABOUT, AFTER, EXPLAIN, EXPLORE, JOURNAL, LAX, MOST, SAMPLE, SCRIPT, SCRIPT_FILE, SEED, SEEDS,
+    SVG, TRACE, TRACE_FILE, TRIES, VERSION,
+};
 use clap::builder::ValueParser;
 use clap::{Arg, ArgAction, Command};
 use std::alloc::{AllocError, Global};
@@ -22,17 +24,24 @@ pub(crate) const MOST_SEED: u64 = u32::MAX as u64;
 /// The locks that may stand round the book, the one that is taken where none is given first.
 pub(crate) static LOCKS: [&str; 2] = ["array", "ticket"];
 
+/// The option of this name whose value is a number in this range.
+fn number_arg<'a>(alloc: Global, name: &'a str, least: u64, most: u64, help: &'a str) -> Arg<'a>
+    ensures rule { rule_of result ≡ number_rule name.entry.now least most }
+    ensures own { result.global ≡ false }
+{
+    Arg::new(alloc, name)
+        .long(name)
+        .value_name("N")
+        .value_parser(ValueParser::unsigned(least, most))
+        .help(help)
+}
+
 /// `--tries N`.
 fn tries_arg<'a>(alloc: Global) -> Arg<'a>
     ensures rule { rule_of result ≡ tries_rule }
     ensures own { result.global ≡ false }
 {
-    Arg::new(alloc, "tries")
-        .long("tries")
-        .value_name("N")
-        .value_parser(ValueParser::unsigned(1, MOST_TRIES))
-        .default_value("1000000")
-        .help("a thread gives up after N consecutive answers that it must wait")
+    number_arg(alloc, "tries", 1, MOST_TRIES, TRIES).default_value("1000000")
 }
 
 /// `--seed N`.
@@ -40,11 +49,7 @@ fn seed_arg<'a>(alloc: Global) -> Arg<'a>
     ensures rule { rule_of result ≡ seed_rule }
     ensures own { result.global ≡ false }
 {
-    Arg::new(alloc, "seed")
-        .long("seed")
-        .value_name("N")
-        .value_parser(ValueParser::unsigned(0, MOST_SEED))
-        .help("draws the order of each round, in place of 0, 1, ..; up to 4294967295")
+    number_arg(alloc, "seed", 0, MOST_SEED, SEED)
 }
 
 /// `--seeds N`.
@@ -52,12 +57,7 @@ fn seeds_arg<'a>(alloc: Global) -> Arg<'a>
     ensures rule { rule_of result ≡ seeds_rule }
     ensures own { result.global ≡ false }
 {
-    Arg::new(alloc, "seeds")
-        .long("seeds")
-        .value_name("N")
-        .value_parser(ValueParser::unsigned(1, MOST_SEED))
-        .default_value("1000")
-        .help("runs it without a seed, and with the seeds 0 to N - 1; N is up to 4294967295")
+    number_arg(alloc, "seeds", 1, MOST_SEED, SEEDS).default_value("1000")
 }
 
 /// `--most N`.
@@ -65,12 +65,7 @@ fn most_arg<'a>(alloc: Global) -> Arg<'a>
     ensures rule { rule_of result ≡ most_rule }
     ensures own { result.global ≡ false }
 {
-    Arg::new(alloc, "most")
-        .long("most")
-        .value_name("N")
-        .value_parser(ValueParser::unsigned(0, MOST_SEED))
-        .default_value("1000000")
-        .help("gives up after N states; N is up to 4294967295")
+    number_arg(alloc, "most", 0, MOST_SEED, MOST).default_value("1000000")
 }
 
 /// `--lock KIND`.
@@ -86,39 +81,36 @@ fn lock_arg<'a>(alloc: Global, locks: &'a [&'a str]) -> Arg<'a>
         .help("which lock stands round the book")
 }
 
-/// `--journal`.
-fn journal_arg<'a>(alloc: Global) -> Arg<'a>
-    ensures rule { rule_of result ≡ journal_rule }
+/// The flag of this name.
+fn flag_arg<'a>(alloc: Global, name: &'a str, help: &'a str) -> Arg<'a>
+    ensures rule { rule_of result ≡ flag_rule name.entry.now }
     ensures own { result.global ≡ false }
 {
-    Arg::new(alloc, "journal")
-        .long("journal")
+    Arg::new(alloc, name)
+        .long(name)
         .action(ArgAction::SetTrue)
-        .help("prints a line for each event too")
+        .help(help)
 }
 
-/// `--svg`.
-fn svg_arg<'a>(alloc: Global) -> Arg<'a>
-    ensures rule { rule_of result ≡ svg_rule }
-    ensures own { result.global ≡ false }
+/// A command on a file, which this text describes, with an option of its own.
+fn file_command<'a>(
+    alloc: Global,
+    name: &'a str,
+    about: &'a str,
+    after: &'a str,
+    file: &'a str,
+    own: Arg<'a>,
+) -> Result<Command<'a>, AllocError>
+    requires { own.global ≡ false }
+    ensures app { IfOk result (λ c. app_of c ≡ file_app name.entry.now (rule_of own.entry)) }
+    ensures globals { IfOk result (λ c. (out-Command c).has_globals ≡ false) }
 {
-    Arg::new(alloc, "svg")
-        .long("svg")
-        .action(ArgAction::SetTrue)
-        .help("draws the run in place of its text: prints an SVG file")
-}
-
-/// `--lax`.
-fn lax_arg<'a>(alloc: Global) -> Arg<'a>
-    ensures rule { rule_of result ≡ lax_rule }
-    ensures own { result.global ≡ false }
-{
-    Arg::new(alloc, "lax")
-        .long("lax")
-        .action(ArgAction::SetTrue)
-        .help(
-            "leaves out what only this memory asks: the order of a lock's asks, and counts of fetches",
-        )
+    let file = Arg::new(alloc, "FILE").help(file);
+    Command::new(alloc, name)
+        .about(about)
+        .after_help(after)
+        .arg(file)?
+        .arg(own)
 }
 
 /// A command on a script's file, with an option of its own and `--lock`.
@@ -135,13 +127,7 @@ fn script_command<'a>(
         ≡ script_app name.entry.now (rule_of own.entry) (vp.Names locks.entry)) }
     ensures globals { IfOk result (λ c. (out-Command c).has_globals ≡ false) }
 {
-    let file = Arg::new(alloc, "FILE").help("the script; standard input where it isn't given");
-    Command::new(alloc, name)
-        .about(about)
-        .after_help(after)
-        .arg(file)?
-        .arg(own)?
-        .arg(lock_arg(alloc, locks))
+    file_command(alloc, name, about, after, SCRIPT_FILE, own)?.arg(lock_arg(alloc, locks))
 }
 
 /// The same with a flag.
@@ -169,7 +155,7 @@ fn run_command<'a>(alloc: Global, locks: &'a [&'a str]) -> Result<Command<'a>, A
     ensures globals { IfOk result (λ c. (out-Command c).has_globals ≡ false) }
 {
     let about = "Runs each processor on a thread of its own";
-    let (own, flag) = (tries_arg(alloc), journal_arg(alloc));
+    let (own, flag) = (tries_arg(alloc), flag_arg(alloc, "journal", JOURNAL));
     flagged_command(alloc, "run", about, SCRIPT, own, locks, flag)
 }
 
@@ -179,7 +165,7 @@ fn step_command<'a>(alloc: Global, locks: &'a [&'a str]) -> Result<Command<'a>, 
     ensures globals { IfOk result (λ c. (out-Command c).has_globals ≡ false) }
 {
     let about = "Runs the processors by turns on one thread: the same words give the same report";
-    let (own, flag) = (seed_arg(alloc), journal_arg(alloc));
+    let (own, flag) = (seed_arg(alloc), flag_arg(alloc, "journal", JOURNAL));
     flagged_command(alloc, "step", about, SCRIPT, own, locks, flag)
 }
 
@@ -189,7 +175,7 @@ fn explain_command<'a>(alloc: Global, locks: &'a [&'a str]) -> Result<Command<'a
     ensures globals { IfOk result (λ c. (out-Command c).has_globals ≡ false) }
 {
     let about = "Runs the processors as step does, and tells the run event by event";
-    let (own, flag) = (seed_arg(alloc), svg_arg(alloc));
+    let (own, flag) = (seed_arg(alloc), flag_arg(alloc, "svg", SVG));
     flagged_command(alloc, "explain", about, EXPLAIN, own, locks, flag)
 }
 
@@ -207,14 +193,16 @@ fn explore_command<'a>(alloc: Global) -> Result<Command<'a>, AllocError>
     ensures app { IfOk result (λ c. app_of c ≡ explore_app) }
     ensures globals { IfOk result (λ c. (out-Command c).has_globals ≡ false) }
 {
-    let file = Arg::new(alloc, "FILE").help("the script; standard input where it isn't given");
-    Command::new(alloc, "explore")
-        .about(
-            "Looks at all schedules of a script: whether it can race or hang, and what it can show",
-        )
-        .after_help(EXPLORE)
-        .arg(file)?
-        .arg(most_arg(alloc))
+    let about =
+        "Looks at all schedules of a script: whether it can race or hang, and what it can show";
+    file_command(
+        alloc,
+        "explore",
+        about,
+        EXPLORE,
+        SCRIPT_FILE,
+        most_arg(alloc),
+    )
 }
 
 /// `lrc check`.
@@ -222,12 +210,15 @@ fn check_command<'a>(alloc: Global) -> Result<Command<'a>, AllocError>
     ensures app { IfOk result (λ c. app_of c ≡ check_app) }
     ensures globals { IfOk result (λ c. (out-Command c).has_globals ≡ false) }
 {
-    let file = Arg::new(alloc, "FILE").help("the trace; standard input where it isn't given");
-    Command::new(alloc, "check")
-        .about("Judges a trace, of anyone's making: whether such a memory could have made it")
-        .after_help(TRACE)
-        .arg(file)?
-        .arg(lax_arg(alloc))
+    let about = "Judges a trace, of anyone's making: whether such a memory could have made it";
+    file_command(
+        alloc,
+        "check",
+        about,
+        TRACE,
+        TRACE_FILE,
+        flag_arg(alloc, "lax", LAX),
+    )
 }
 
 /// The command that the words are read by.

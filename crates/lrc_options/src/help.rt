@@ -13,7 +13,7 @@ pub(crate) const AFTER: &str = "Example:
   printf 'cluster 2 1 1 1\\np 0\\nacquire 0\\nadd 0 1\\nrelease 0\\n\
 p 1\\nacquire 0\\nadd 0 1\\nrelease 0\\nshow 0\\n' | lrc step --journal
 
-Statuses: 0 done; 2 the script or the trace is refused; 3 no progress; 4 a limit, want of memory, a
+Statuses: 0 done; 2 the script or the trace is refused; 3 no progress; 4 a limit, out of memory, a
 thread that couldn't be started, or a failed write; 5 usage, or the file can't be read; 6 the trace
 isn't faithful; 7 a search was given up.";
 
@@ -101,5 +101,29 @@ What is printed:
     event I B ..            the event
     because ..              why; where a load may answer stores of others, their events follow
 
-Statuses: 0 faithful, racy or not; 2 no trace; 4 a limit, want of memory, or a failed write; 5 usage, or
+Statuses: 0 faithful, racy or not; 2 no trace; 4 a limit, out of memory, or a failed write; 5 usage, or
 the file can't be read; 6 unfaithful.";
+
+/// What the options are for.
+pub(crate) const TRIES: &str = "a thread gives up after N consecutive answers that it must wait";
+
+pub(crate) const SEED: &str =
+    "draws the order of each round, in place of 0, 1, ..; up to 4294967295";
+
+pub(crate) const SEEDS: &str =
+    "runs it without a seed, and with the seeds 0 to N - 1; N is up to 4294967295";
+
+pub(crate) const MOST: &str = "gives up after N states; N is up to 4294967295";
+
+/// What the flags do.
+pub(crate) const JOURNAL: &str = "prints a line for each event too";
+
+pub(crate) const SVG: &str = "draws the run in place of its text: prints an SVG file";
+
+pub(crate) const LAX: &str =
+    "leaves out what only this memory asks: the order of a lock's asks, and counts of fetches";
+
+/// The file that a command reads.
+pub(crate) const SCRIPT_FILE: &str = "the script; standard input where it isn't given";
+
+pub(crate) const TRACE_FILE: &str = "the trace; standard input where it isn't given";

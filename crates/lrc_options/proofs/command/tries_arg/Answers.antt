@@ -1,28 +1,10 @@
-use Rattle.std.proofs.Common.{ap, codes, [], ◌∷◌, Some}
+use Rattle.std.proofs.Common.{ap, codes, [], ◌∷◌}
 use Rattle.clap.specs.Words.{Rule}
-use Rattle.clap.specs.declared.builder.value_parser.ValueParser.TheVariants as vp
-use Rattle.lrc_options.specs.CommandLine.{most_tries}
 use Rattle.lrc_options.proofs.command.tries_arg.Goals as goal
 
 pub returns-clause-rule : goal.returns-clause-rule
 returns-clause-rule c =
-    rw (
-      c.help.ensures,
-      c.default_value.ensures,
-      c.value_parser.ensures.others,
-      c.value_parser.ensures.given.1,
-      c.value_parser.ensures.given.2,
-      c.unsigned.ensures,
-      c.value_name.ensures,
-      c.long.ensures,
-    ) (ap (λ (r : Rule). record r {
-      long = Some (codes "tries");
-      value_names = 1;
-      defaults = codes "1000000" ∷ [];
-      parser = Some (vp.Unsigned 1 most_tries);
-    }) c.new.ensures.rule)
+    rw c.default_value.ensures (ap (λ (r : Rule). record r { defaults = codes "1000000" ∷ [] }) c.number_arg.ensures.rule)
 
 pub returns-clause-own : goal.returns-clause-own
-returns-clause-own c =
-    rw (c.help.ensures, c.default_value.ensures, c.value_parser.ensures.others, c.value_name.ensures, c.long.ensures)
-    c.new.ensures.optional.1
+returns-clause-own c = rw c.default_value.ensures c.number_arg.ensures.own

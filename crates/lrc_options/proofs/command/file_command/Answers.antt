@@ -1,11 +1,11 @@
 use Rattle.std.proofs.Common.{◌≡◌, ◌∙◌, ap, ap₂, codes, rules, false}
-use Rattle.clap.specs.Words.{app_of, new_rule, rule_of, with_rule}
+use Rattle.clap.specs.Words.{App, app_of, new_rule, rule_of, with_rule}
 use Rattle.clap.specs.Simple.{app_of_fields}
 use Rattle.clap.specs.declared.builder.command.Command.{Command}
 use Rattle.clap.specs.declared.builder.command.Command.TheOpen.{Command-F}
 use Rattle.clap.specs.declared.builder.command.Command.TheViews.{out-Command}
 use Rattle.lrc_options.proofs.CommandLine.{if_ok_map, still_local}
-use Rattle.lrc_options.proofs.command.check_command.Goals as goal
+use Rattle.lrc_options.proofs.command.file_command.Goals as goal
 
 pub returns-clause-app : goal.returns-clause-app
 returns-clause-app c =
@@ -15,7 +15,7 @@ returns-clause-app c =
     let start : app_of c.after_help.result ≡ app_of c.about.result = ap app_of_fields c.after_help.ensures in
     let one = c.in_ok-arg.ensures.shape file_own ∙ ap₂ with_rule (start ∙ about ∙ c.new-2.ensures.app) file_is in
     if_ok_map c.arg-2.result
-    (λ made adds. adds.shape c.lax_arg.ensures.own ∙ ap₂ with_rule one c.lax_arg.ensures.rule) c.arg-2.ensures
+    (λ made adds. adds.shape c.requires ∙ ap (λ (a : App). with_rule a (rule_of c.args.own)) one) c.arg-2.ensures
 
 pub returns-clause-globals : goal.returns-clause-globals
 returns-clause-globals c =
@@ -25,4 +25,4 @@ returns-clause-globals c =
     let start : (out-Command c.after_help.result).has_globals ≡ false =
     ap (λ (f : Command-F Command). f.has_globals) c.after_help.ensures ∙ about in
     let one = still_local _ _ _ c.in_ok-arg.ensures.globals start file_own in
-    if_ok_map c.arg-2.result (λ made adds. still_local _ _ _ adds.globals one c.lax_arg.ensures.own) c.arg-2.ensures
+    if_ok_map c.arg-2.result (λ made adds. still_local _ _ _ adds.globals one c.requires) c.arg-2.ensures

@@ -1,8 +1,7 @@
-use Rattle.std.proofs.Common.{ap, codes, Some}
+use Rattle.std.proofs.Common.{ap, Some}
 use Rattle.clap.specs.Words.{Rule}
 use Rattle.clap.specs.declared.builder.value_parser.ValueParser.TheVariants as vp
-use Rattle.lrc_options.specs.CommandLine.{most_seed}
-use Rattle.lrc_options.proofs.command.seed_arg.Goals as goal
+use Rattle.lrc_options.proofs.command.number_arg.Goals as goal
 
 pub returns-clause-rule : goal.returns-clause-rule
 returns-clause-rule c =
@@ -15,9 +14,9 @@ returns-clause-rule c =
       c.value_name.ensures,
       c.long.ensures,
     ) (ap (λ (r : Rule). record r {
-      long = Some (codes "seed");
+      long = Some c.args.name.now;
       value_names = 1;
-      parser = Some (vp.Unsigned 0 most_seed);
+      parser = Some (vp.Unsigned c.args.least c.args.most);
     }) c.new.ensures.rule)
 
 pub returns-clause-own : goal.returns-clause-own
