@@ -1,19 +1,18 @@
 -- What begins a script that doesn't race on one flat memory.
 -- Up to its first race an explained history replays, so that without its fetches the part before the race begins the script on
 -- one flat memory. The access that races, with the reply that it has there, makes that longer, and races there too.
-use Rattle.std.proofs.Common.{ℕ, zero, suc, ◌≡◌, ◌<◌, List, [], ◌∷◌, ◌++◌, false, Some, map, length, take, drop, replicate, slice_get, refl, sym, ap, subst, ◌∙◌, take-append-drop, append-nil, arith}
+use Rattle.std.proofs.Common.{ℕ, zero, suc, ◌≡◌, ◌<◌, List, [], ◌∷◌, ◌++◌, false, Some, map, length, take, drop, replicate, slice_get, refl, sym, ap, subst, ◌∙◌, take-append-drop, arith}
 use Rattle.std.specs.Prelude.{not}
 use Rattle.std.proofs.lemmas.Bool.{cond-true}
 use Rattle.std.proofs.lemmas.List.{map-append, length-replicate}
 use Rattle.std.proofs.lemmas.List.Elements.{filter-append}
-use Rattle.std.proofs.lemmas.Option.{none-some, slice_get-get_or}
+use Rattle.std.proofs.lemmas.Option.{slice_get-get_or}
 use Rattle.lists.proofs.LastWrites.{length-written}
 use Rattle.lists.proofs.Places.{take-suc_at}
 use Rattle.journal.specs.declared.event.Event.{Event}
 use Rattle.journal.specs.declared.event.Kind.{Kind}
-use Rattle.journal.specs.declared.event.Kind.TheVariants.{Load, Fetch}
+use Rattle.journal.specs.declared.event.Kind.TheVariants.{Load}
 use Rattle.journal.specs.Did.{did, event}
-use Rattle.journal.specs.Events.{address_of}
 use Rattle.journal.specs.Flat.{flat_write, memory_after, AnswersWord, Replays}
 use Rattle.journal.specs.Loads.{Explained}
 use Rattle.journal.specs.Races.{Race, RaceFree}
@@ -24,7 +23,7 @@ use Rattle.lrc_script.specs.declared.script.Instruction.{Instruction}
 use Rattle.lrc_script.specs.Plan.{Plan}
 use Rattle.lrc_script.specs.Lawful.{addresses}
 use Rattle.follows.specs.Begins.{BeginsScript, BeginsSection}
-use Rattle.follows.specs.Follows.{sizes_of, calls_of, is_fetch, Follows, FollowsSection}
+use Rattle.follows.specs.Follows.{sizes_of, calls_of, is_fetch}
 use Rattle.follows.specs.Like.{valueless, without_value, IsLike}
 use Rattle.follows.proofs.Calls.{calls_of-own}
 use Rattle.follows.proofs.Fetchless.Embeds.{fetchless, fetchless_of}
@@ -34,10 +33,8 @@ use Rattle.follows.proofs.Fetchless.WellFormed.{well_formed_back}
 use Rattle.follows.proofs.Like.Order.{race_like}
 use Rattle.follows.proofs.Like.WellFormed.{well_formed_like}
 use Rattle.follows.proofs.Recomputing.Replaying.{fetch_like}
-use Rattle.beginnings.specs.declared.step.Step.{Step}
-use Rattle.beginnings.specs.declared.step.Step.TheVariants.{Call, Adds}
 use Rattle.beginnings.specs.Beginnings.{IsFlatBeginning, IsFlatRaceFree}
-use Rattle.beginnings.specs.Calling.{IsStep, IsCalledNext, last_reply, section_steps, shown_by}
+use Rattle.beginnings.specs.Calling.{IsCalledNext, last_reply, section_steps, shown_by}
 use Rattle.beginnings.proofs.Beginnings.{next_begins, script_front}
 use Rattle.beginnings.proofs.Calling.{begins_push}
 use Rattle.beginnings.proofs.Neighbours.LastRace.{race_take}

@@ -1,5 +1,5 @@
 -- Whether a processor may call something next on one flat memory is decided: its section says which call that would be.
-use Rattle.std.proofs.Common.{ℕ, ◌≡◌, ◌+◌, ◌<◌, ◌≤◌, ◌↔◌, inl, inr, ◌⊎◌, Bool, true, false, List, length, replicate, Option, Some, slice_get, refl, sym, subst, ◌∙◌, arith}
+use Rattle.std.proofs.Common.{ℕ, ◌≡◌, ◌+◌, ◌↔◌, inl, inr, ◌⊎◌, false, List, length, replicate, Option, Some, slice_get, refl, sym, subst, ◌∙◌, arith}
 use Rattle.std.specs.Prelude.{None, ◌%◌, ◌^◌}
 use Rattle.std.proofs.lemmas.Bool.{cases_Bool, cases_lt, false≢true}
 use Rattle.std.proofs.lemmas.Option.{none-some, same_Some}
@@ -72,21 +72,29 @@ module _ (s : Plan) (g : List Event) (p : ℕ) (flat : IsFlatBeginning s g) wher
     by_call (inl c) = elim (decided_and (decided_follow (sizes_of s) g p c.call) (no_fetch c.call)) [
       | inl both ↦
           (let is = (c.says c.call).0 refl in
-          inl (c.call, (next_begins s g p c.call).1 (flat, record {
-            may_follow = both.0;
-            calls = record {
-              call = both.1;
-              next = λ other there.
-                  subst (λ y. IsCalledNext (section_steps y (shown_by s p)) (calls_of g p) c.call)
-                  (same_Some section other (sym at ∙ there)) (record { step = x; at = here; is = is.0 });
-            };
-            answers = is.1;
-          })))
+          inl (
+            c.call,
+            (next_begins s g p c.call).1 (
+              flat,
+              record {
+                may_follow = both.0;
+                calls = record {
+                  call = both.1;
+                  next = λ other there.
+                      subst (λ y. IsCalledNext (section_steps y (shown_by s p)) (calls_of g p) c.call)
+                      (same_Some section other (sym at ∙ there)) (record { step = x; at = here; is = is.0 });
+                };
+                answers = is.1;
+              },
+            ),
+          ))
       | inr none ↦ inr (λ next.
           let all = next_of next.0 next.1 in
           let is = (c.says next.0).1 (said next.0 next.1) in
-          none (subst (λ k. MayFollow (sizes_of s) g (event p k)) (sym is) all.may_follow,
-          subst (λ k. is_fetch k ≡ false) (sym is) all.calls.call))
+          none (
+            subst (λ k. MayFollow (sizes_of s) g (event p k)) (sym is) all.may_follow,
+            subst (λ k. is_fetch k ≡ false) (sym is) all.calls.call,
+          ))
     ]
 
   by_step : (section : List Instruction) → slice_get s.sections p ≡ Some section → (o : Option Step)

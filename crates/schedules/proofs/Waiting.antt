@@ -1,6 +1,6 @@
 -- What may follow a history without its fetches may follow the history.
 -- A processor that waits fetches nothing before it has taken what it waits for, so that its last call is its last event.
-use Rattle.std.proofs.Common.{ℕ, ◌≡◌, ◌+◌, ◌<◌, List, refl, arith}
+use Rattle.std.proofs.Common.{ℕ, ◌≡◌, ◌+◌, List, refl, arith}
 use Rattle.journal.specs.declared.event.Event.{Event}
 use Rattle.journal.specs.declared.event.Kind.{Kind}
 use Rattle.journal.specs.declared.event.Kind.TheVariants.{Ask, Acquire, Release, Arrive, Depart, Set, Watch, Await}
@@ -8,7 +8,6 @@ use Rattle.journal.specs.Did.{event}
 use Rattle.journal.specs.Events.{count_of, is_arrive, is_depart}
 use Rattle.journal.specs.Sizes.{Sizes}
 use Rattle.journal.specs.WellFormed.{LastIs, MayBeGranted, AllArrived, Answers, Allowed, MayFollow, WellFormed}
-
 use Rattle.follows.proofs.Fetchless.Embeds.{Embeds, CountsSame, rises_back}
 use Rattle.follows.proofs.Fetchless.Order.{no_arrival, no_departure}
 use Rattle.follows.proofs.Fetchless.WellFormed.{holds_back, holds_there, last_back, last_there}
