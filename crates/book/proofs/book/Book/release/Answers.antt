@@ -9,7 +9,7 @@ use Rattle.transit.specs.declared.message.Message.{Message}
 use Rattle.vtime.specs.Times.{tick}
 use Rattle.interval.specs.Closings.{pushed}
 use Rattle.book.specs.State.{State, time_of}
-use Rattle.book.specs.Transitions.{addressed, addressed_grant, handed_in, open_interval, closed_by}
+use Rattle.book.specs.Transitions.{addressed, handed_in, open_interval, closed_by}
 use Rattle.book.specs.Calls.{MayBeSent}
 use Rattle.book.specs.Holding.{state_of}
 use Rattle.book.specs.declared.book.Book.TheInside.{Inside}
