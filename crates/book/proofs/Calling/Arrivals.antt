@@ -239,15 +239,24 @@ pub departures_made : (old b : State) (p : ℕ) (records : List Changes) (i : Cl
     → o ≡ departures_to (pushed old.closed (open_interval old p records)) old.barrier (slice_set old.times p t) p t
 departures_made old b p records i t o same opened made = cc
 
+-- old is the timestamp of q once p has closed its interval at the time own: p's own, another's, t, as it was
+pub record IsTimeAfter (times : List (List ℕ)) (p q : ℕ) (own old : List ℕ) : Type 0 where
+  pub t : List ℕ
+  pub closer : p < length times
+  pub there : q < length times
+  pub read : t ≡ slice_index_or times q t
+  pub mine : q ≡ p → old ≡ own
+  pub others : q ≢ p → old ≡ t
+
 -- each one's timestamp once p has closed its interval
-pub read_after : (times : List (List ℕ)) (p q : ℕ) (own old t : List ℕ) → p < length times → q < length times
-    → t ≡ slice_index_or times q t → (q ≡ p → old ≡ own) → (q ≢ p → old ≡ t)
+pub read_after : {times : List (List ℕ)} {p q : ℕ} {own old : List ℕ} → IsTimeAfter times p q own old
     → old ≡ slice_index_or (slice_set times p own) q []
-read_after times p q own old t lt there read mine others = elim (cases_eq q p) [
+read_after {times} {p} {q} {own} {old} after = elim (cases_eq q p) [
   | inl is ↦ (
       let P : ℕ → Type 0 = λ x. own ≡ slice_index_or (slice_set times p own) x [] in
-      mine is ∙ subst P (sym is) (sym (get_or-set_same times p own [] lt)))
-  | inr apart ↦ others apart ∙ read ∙ same_default times q t [] there ∙ sym (get_or-set_other times p q own [] apart)
+      after.mine is ∙ subst P (sym is) (sym (get_or-set_same times p own [] after.closer)))
+  | inr apart ↦ after.others apart ∙ after.read ∙ same_default times q after.t [] after.there
+      ∙ sym (get_or-set_other times p q own [] apart)
 ]
 
 -- the departures ns: to those before q, ms, comes one, m, for q, whose timestamp is old

@@ -162,23 +162,39 @@ pub roomy : (b : Inside) (now : State) (log : Log) → log ≡ record b.journal 
     → record (state_of b) { journal = record log { room = b.owing } } ≡ now
 roomy b now log made same = ap (λ (l : Log). record (state_of b) { journal = record l { room = b.owing } }) made ∙ same
 
--- the book after a closing event, as of the book before the call
-pub closed_since : (b now c : State) (block : List Event) (p : ℕ) (k : Kind) (i : ClosedInterval)
-    (records : List Changes) → b ≡ now → i ≡ open_interval b p records
-    → c ≡ closed_by (handed_in b block) p k i.records → c ≡ closed_by (handed_in now block) p k records
-closed_since b now c block p k i records same opened closed =
-    closed ∙ closed_records b block p k i records opened
-    ∙ ap (λ (x : State). closed_by (handed_in x block) p k records) same
+-- p's interval i is closed with these records: b is the book before that, as it is now, and c after it
+pub record HasClosedSince (b now c : State) (block : List Event) (p : ℕ) (k : Kind) (records : List Changes)
+    : Type 0 where
+  pub i : ClosedInterval
+  pub same : b ≡ now
+  pub opened : i ≡ open_interval b p records
+  pub closed : c ≡ closed_by (handed_in b block) p k i.records
 
--- and where room was made first
-pub closed_roomy : (b : Inside) (now c : State) (log : Log) (block : List Event) (p : ℕ) (k : Kind)
-    (i : ClosedInterval) (records : List Changes) → log ≡ record b.journal { room = log.room } → state_of b ≡ now
-    → i ≡ open_interval (state_of b) p records
-    → c ≡ closed_by (handed_in (record (state_of b) { journal = record log { room = b.owing } }) block) p k i.records
-    → c ≡ closed_by (handed_in now block) p k records
-closed_roomy b now c log block p k i records made same opened closed =
-    closed_since (record (state_of b) { journal = record log { room = b.owing } }) now c block p k i records
-    (roomy b now log made same) opened closed
+-- the book after a closing event, as of the book before the call
+pub closed_since : {b now c : State} {block : List Event} {p : ℕ} {k : Kind} {records : List Changes}
+    → HasClosedSince b now c block p k records → c ≡ closed_by (handed_in now block) p k records
+closed_since {b} {now} {c} {block} {p} {k} {records} is =
+    is.closed ∙ closed_records b block p k is.i records is.opened
+    ∙ ap (λ (x : State). closed_by (handed_in x block) p k records) is.same
+
+-- and where room was made in the journal first
+pub record HasClosedRoomy (b : Inside) (now c : State) (block : List Event) (p : ℕ) (k : Kind) (records : List Changes)
+    : Type 0 where
+  pub log : Log
+  pub i : ClosedInterval
+  pub made : log ≡ record b.journal { room = log.room }
+  pub same : state_of b ≡ now
+  pub opened : i ≡ open_interval (state_of b) p records
+  pub closed : c
+      ≡ closed_by (handed_in (record (state_of b) { journal = record log { room = b.owing } }) block) p k i.records
+
+pub closed_roomy : {b : Inside} {now c : State} {block : List Event} {p : ℕ} {k : Kind} {records : List Changes}
+    → HasClosedRoomy b now c block p k records → c ≡ closed_by (handed_in now block) p k records
+closed_roomy {b} {now} {c} {block} {p} {k} {records} is =
+    let since : HasClosedSince (record (state_of b) { journal = record is.log { room = b.owing } }) now c block p k
+    records =
+    record { i = is.i; same = roomy b now is.log is.made is.same; opened = is.opened; closed = is.closed } in
+    closed_since since
 
 -- so p's interval is open then
 pub opens_roomy : (b : Inside) (now : State) (log : Log) (block : List Event) (p : ℕ)

@@ -24,18 +24,28 @@ fill : {A : Type 0} (n : ℕ) (ys : List (Option A)) (v : Option A)
 fill zero ys v = refl
 fill (suc n) ys v = ap (λ zs. None ∷ zs) (fill n ys v)
 
--- one more message is sent, the last one that was left
-pub posting_step : (all left rest : List Letter) (old new : List (Option Letter)) (m : Letter) (n : ℕ)
-    → IsPosting all left old → left ≡ rest ++ m ∷ [] → n ≡ length rest → new ≡ slice_set old n (Some m)
+-- the last message that was left, m, is sent to its place n: old and new are the mail before that and after it
+pub record PostsOne (all rest : List Letter) (new : List (Option Letter)) : Type 0 where
+  pub left : List Letter
+  pub old : List (Option Letter)
+  pub m : Letter
+  pub n : ℕ
+  pub is : IsPosting all left old
+  pub split : left ≡ rest ++ m ∷ []
+  pub at : n ≡ length rest
+  pub set : new ≡ slice_set old n (Some m)
+
+-- one more message is sent
+pub posting_step : {all rest : List Letter} {new : List (Option Letter)} → PostsOne all rest new
     → IsPosting all rest new
-posting_step all left rest old new m n is split at set = record {
-  sent = m ∷ is.sent;
-  parts = is.parts ∙ ap (λ xs. xs ++ is.sent) split ∙ append_assoc rest (m ∷ []) is.sent;
+posting_step {all} {rest} {new} step = record {
+  sent = step.m ∷ step.is.sent;
+  parts = step.is.parts ∙ ap (λ xs. xs ++ step.is.sent) step.split ∙ append_assoc rest (step.m ∷ []) step.is.sent;
   posted =
-      let more = ap (λ (xs : List Letter). length xs) split ∙ length_push rest m in
-      let long : length left ≡ suc (length rest) = omega arith in
-      set ∙ ap (λ k. slice_set old k (Some m)) at
-      ∙ ap (λ ms. slice_set ms (length rest) (Some m))
-      (is.posted ∙ ap (λ k. replicate k None ++ map (λ (x : Letter). Some x) is.sent) long)
-      ∙ fill (length rest) (map (λ (x : Letter). Some x) is.sent) (Some m);
+      let more = ap (λ (xs : List Letter). length xs) step.split ∙ length_push rest step.m in
+      let long : length step.left ≡ suc (length rest) = omega arith in
+      step.set ∙ ap (λ k. slice_set step.old k (Some step.m)) step.at
+      ∙ ap (λ ms. slice_set ms (length rest) (Some step.m))
+      (step.is.posted ∙ ap (λ k. replicate k None ++ map (λ (x : Letter). Some x) step.is.sent) long)
+      ∙ fill (length rest) (map (λ (x : Letter). Some x) step.is.sent) (Some step.m);
 }

@@ -232,21 +232,38 @@ took_is b p k m new is =
     takes_on (Await f) takes = refl
     takes_on _ takes = absurd cc
 
+-- r is read of the book: whether what p waits for has come
+pub record IsComeRead (b now : State) (p : ℕ) (k : Kind) (r : Bool) : Type 0 where
+  pub flags : List (Option (List ℕ))
+  pub same : b ≡ now
+  pub waits : IsReceiving b p k
+  pub flags_are : flags ≡ b.flags
+  pub is : r ≡ has_come flags b.transit p k
+
 -- what was read of what has come tells whether p is ready
-pub comes : (b now : State) (p : ℕ) (k : Kind) (flags : List (Option (List ℕ))) (r : Bool) → b ≡ now
-    → IsReceiving b p k → flags ≡ b.flags → r ≡ has_come flags b.transit p k → (s : Sizes) (h : List Event)
+pub comes : {b now : State} {p : ℕ} {k : Kind} {r : Bool} → IsComeRead b now p k r → (s : Sizes) (h : List Event)
     → IsTold s h now → (r ≡ true) ↔ Ready s h p
-comes b now p k flags r same w flags_are is s h told =
-    let come = w.come s h (subst (λ x. IsTold s h x) (sym same) told) in
+comes {b} {now} {p} {k} {r} read s h told =
+    let come = read.waits.come s h (subst (λ x. IsTold s h x) (sym read.same) told) in
     let all : r ≡ has_come b.flags b.transit p k =
-    is ∙ ap (λ (fs : List (Option (List ℕ))). has_come fs b.transit p k) flags_are in
+    read.is ∙ ap (λ (fs : List (Option (List ℕ))). has_come fs b.transit p k) read.flags_are in
     ((λ e. come.0 (sym all ∙ e)), (λ ready. all ∙ come.1 ready))
 
--- the message that was received, read off the book before the call
-pub received_is : (b now : State) (p : ℕ) (k : Kind) (flags : List (Option (List ℕ))) (own : List ℕ) (m : Letter)
-    → b ≡ now → flags ≡ b.flags → own ≡ time_of b p → message_among b.closed flags b.transit own p k ≡ Some m
-    → message_for now p k ≡ Some m
-received_is b now p k flags own m same flags_are own_is is = cc
+-- the message m is found for p, by the flags and p's timestamp as they are read of the book
+pub record IsFound (b : State) (p : ℕ) (k : Kind) (m : Letter) : Type 0 where
+  pub flags : List (Option (List ℕ))
+  pub own : List ℕ
+  pub flags_are : flags ≡ b.flags
+  pub own_is : own ≡ time_of b p
+  pub is : message_among b.closed flags b.transit own p k ≡ Some m
+
+-- the message that was received
+pub received_is : {b : State} {p : ℕ} {k : Kind} {m : Letter} → IsFound b p k m → message_for b p k ≡ Some m
+received_is {b} {p} {k} {m} found =
+    let flags_are = found.flags_are in
+    let own_is = found.own_is in
+    let is = found.is in
+    cc
 
 -- what a message brings is what was due
 pub brings_is : (b : State) (p : ℕ) (k : Kind) (m : Letter) → slice_get b.awaits p ≡ Some (Some k)

@@ -5,7 +5,7 @@ use Rattle.interval.specs.Closings.{KeepsBetween, pushed, between}
 use Rattle.transit.specs.Letters.{Letter, letter}
 use Rattle.book.specs.Transitions.{departure_to}
 use Rattle.transit.specs.Letters.Kind.{departure}
-use Rattle.book.proofs.Calling.Arrivals.{read_after, IsDeparting, departing_step}
+use Rattle.book.proofs.Calling.Arrivals.{IsTimeAfter, read_after, IsDeparting, departing_step}
 use Rattle.book.proofs.messages.departures.Goals.{After-time_after-old}
 use Rattle.book.proofs.messages.departures.Goals as goal
 
@@ -18,10 +18,16 @@ read : (c : After-time_after-old) → c.time_after-old.result.now
     ≡ slice_index_or (slice_set c.args.times.now c.args.interval.now.owner c.args.own.now) c.loop-q.q []
 read c =
     let owner = ap (λ (i : ClosedInterval). i.owner) c.interval.view_is in
-    read_after c.args.times.now c.args.interval.now.owner c.loop-q.q c.args.own.now c.time_after-old.result.now
-    c.index-times-q.result c.requires.processor c.loop-q-test.true c.index-times-q.is
-    (λ is. c.time_after-old.ensures.owner (is ∙ sym owner))
-    (λ apart. c.time_after-old.ensures.others (λ is. apart (is ∙ owner)))
+    let after : IsTimeAfter c.args.times.now c.args.interval.now.owner c.loop-q.q c.args.own.now
+    c.time_after-old.result.now = record {
+      t = c.index-times-q.result;
+      closer = c.requires.processor;
+      there = c.loop-q-test.true;
+      read = c.index-times-q.is;
+      mine = λ is. c.time_after-old.ensures.owner (is ∙ sym owner);
+      others = λ apart. c.time_after-old.ensures.others (λ is. apart (is ∙ owner));
+    } in
+    read_after after
 
 pub between_after-requires-clause-kept : goal.between_after-requires-clause-kept
 between_after-requires-clause-kept c =

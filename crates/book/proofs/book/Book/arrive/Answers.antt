@@ -15,7 +15,7 @@ use Rattle.book.specs.Calls.{MayBeSent}
 use Rattle.book.specs.Holding.{state_of}
 use Rattle.book.specs.declared.book.Book.TheInside.{Inside}
 use Rattle.book.proofs.Parts.History.{happened_fits}
-use Rattle.book.proofs.Calling.Calls.{IsStanding, stands, still_open, opens_roomy, closed_roomy}
+use Rattle.book.proofs.Calling.Calls.{IsStanding, stands, still_open, opens_roomy, HasClosedRoomy, closed_roomy}
 use Rattle.book.proofs.Calling.Arrivals.{IsArriving, arrives, arriving, departures_made, none_waits, arrived_met, arrived_alone}
 use Rattle.book.proofs.book.Book.arrive.Goals.{After-parts, After-closing_time-time, In_ok-departures, After-parts-2, in-Some, in_default}
 use Rattle.book.proofs.book.Book.arrive.Goals as goal
@@ -104,10 +104,16 @@ departures_with-requires-clause-all c =
 closed : (c : After-parts-2) → state_of c.parts-2.inside
     ≡ closed_by (handed_in c.args.self.now c.args.block.now) c.args.p Arrive (map arc_value c.args.records.items)
 closed c =
-    closed_roomy c.parts.inside c.args.self.now _ _ c.args.block.now c.args.p Arrive _ _
-    c.in_ok-make_room.ensures.same (c.parts.view_is ∙ c.deref_mut-parts.ensures.value ∙ c.self.view_is)
-    c.open_interval-interval.ensures
-    (c.parts-2.view_is ∙ c.in_ok-close.ensures.ok)
+    let is : HasClosedRoomy c.parts.inside c.args.self.now (state_of c.parts-2.inside) c.args.block.now c.args.p
+    Arrive (map arc_value c.args.records.items) = record {
+      log = c.make_room.new.journal;
+      i = c.open_interval-interval.result;
+      made = c.in_ok-make_room.ensures.same;
+      same = c.parts.view_is ∙ c.deref_mut-parts.ensures.value ∙ c.self.view_is;
+      opened = c.open_interval-interval.ensures;
+      closed = c.parts-2.view_is ∙ c.in_ok-close.ensures.ok;
+    } in
+    closed_roomy is
 
 pub arrive-requires-clause-away : goal.arrive-requires-clause-away
 arrive-requires-clause-away c =

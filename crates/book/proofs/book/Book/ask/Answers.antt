@@ -10,7 +10,7 @@ use Rattle.book.specs.State.{State}
 use Rattle.book.specs.Transitions.{handed_in, closed_by, if_free, grant_from}
 use Rattle.book.specs.Holding.{state_of}
 use Rattle.book.specs.declared.book.Book.TheInside.{Inside}
-use Rattle.book.proofs.Calling.Calls.{stands, still_open, opens_roomy, closed_roomy}
+use Rattle.book.proofs.Calling.Calls.{stands, still_open, opens_roomy, HasClosedRoomy, closed_roomy}
 use Rattle.book.proofs.Calling.Asks.{IsAsking, asking, asked_granted, asked_waits}
 use Rattle.book.proofs.book.Book.ask.Goals.{After-parts, After-parts-2, In_ok-grant, in-Some, in_default}
 use Rattle.book.proofs.book.Book.ask.Goals as goal
@@ -49,10 +49,16 @@ closed : (c : After-parts-2) → state_of c.parts-2.inside
     ≡ closed_by (handed_in c.args.self.now c.args.block.now) c.args.p (Ask c.args.l)
     (map arc_value c.args.records.items)
 closed c =
-    closed_roomy c.parts.inside c.args.self.now _ _ c.args.block.now c.args.p (Ask c.args.l) _ _
-    c.in_ok-make_room.ensures.same (c.parts.view_is ∙ c.deref_mut-parts.ensures.value ∙ c.self.view_is)
-    c.open_interval-interval.ensures
-    (c.parts-2.view_is ∙ c.in_ok-close.ensures.ok)
+    let is : HasClosedRoomy c.parts.inside c.args.self.now (state_of c.parts-2.inside) c.args.block.now c.args.p
+    (Ask c.args.l) (map arc_value c.args.records.items) = record {
+      log = c.make_room.new.journal;
+      i = c.open_interval-interval.result;
+      made = c.in_ok-make_room.ensures.same;
+      same = c.parts.view_is ∙ c.deref_mut-parts.ensures.value ∙ c.self.view_is;
+      opened = c.open_interval-interval.ensures;
+      closed = c.parts-2.view_is ∙ c.in_ok-close.ensures.ok;
+    } in
+    closed_roomy is
 
 pub ask-requires-clause-processor : goal.ask-requires-clause-processor
 ask-requires-clause-processor c =

@@ -4,7 +4,7 @@ use Rattle.std.specs.Option.{option_map}
 use Rattle.book.specs.Awaiting.{kind_of}
 use Rattle.book.specs.Holding.{state_of}
 use Rattle.book.specs.State.{State}
-use Rattle.book.proofs.Calling.Takes.{IsReceiving, reading, comes, receiving, not_idle}
+use Rattle.book.proofs.Calling.Takes.{IsReceiving, reading, IsComeRead, comes, receiving, not_idle}
 use Rattle.book.proofs.book.Book.is_ready.Goals.{In-Some}
 use Rattle.book.proofs.book.Book.is_ready.Goals.{After-parts}
 use Rattle.book.proofs.book.Book.is_ready.Goals as goal
@@ -48,7 +48,12 @@ has_come-requires-clause-flag c f is =
 
 pub returns : goal.returns
 returns c s h told =
-    comes _ c.args.self.now c.args.p (kind_of c.in-Some.awaited)
-    c.deref.result.now c.has_come.result (same (goal.at.returns c).After-parts) (waits (goal.at.returns c).In-Some)
-    c.deref.ensures.value
-    c.has_come.ensures s h told
+    let read : IsComeRead (state_of c.parts.inside) c.args.self.now c.args.p (kind_of c.in-Some.awaited)
+    c.has_come.result = record {
+      flags = c.deref.result.now;
+      same = same (goal.at.returns c).After-parts;
+      waits = waits (goal.at.returns c).In-Some;
+      flags_are = c.deref.ensures.value;
+      is = c.has_come.ensures;
+    } in
+    comes read s h told

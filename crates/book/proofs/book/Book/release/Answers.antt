@@ -9,12 +9,12 @@ use Rattle.transit.specs.declared.message.Message.{Message}
 use Rattle.vtime.specs.Times.{tick}
 use Rattle.interval.specs.Closings.{pushed}
 use Rattle.book.specs.State.{State, time_of}
-use Rattle.book.specs.Transitions.{addressed, addressed_grant, handed_in, open_interval, closed_by}
+use Rattle.book.specs.Transitions.{addressed, handed_in, open_interval, closed_by}
 use Rattle.book.specs.Calls.{MayBeSent}
 use Rattle.book.specs.Holding.{state_of}
 use Rattle.book.specs.declared.book.Book.TheInside.{Inside}
 use Rattle.book.proofs.Parts.History.{happened_fits}
-use Rattle.book.proofs.Calling.Calls.{stands, still_open, opens_roomy, closed_roomy}
+use Rattle.book.proofs.Calling.Calls.{stands, still_open, opens_roomy, HasClosedRoomy, closed_roomy}
 use Rattle.book.proofs.Calling.Releases.{IsReleasing, IsLeaving, IsGrantRead, releases, releasing, next_sent, grant_before, grant_read, grant_to_whom, released_granted, released_alone}
 use Rattle.book.proofs.book.Book.release.Goals.{After-parts, After-closing_time-time, After-parts-2, In_ok-grant, in-Some, in_default}
 use Rattle.book.proofs.book.Book.release.Goals as goal
@@ -76,10 +76,16 @@ closed : (c : After-parts-2) → state_of c.parts-2.inside
     ≡ closed_by (handed_in c.args.self.now c.args.block.now) c.args.p (Release c.args.l)
     (map arc_value c.args.records.items)
 closed c =
-    closed_roomy c.parts.inside c.args.self.now _ _ c.args.block.now c.args.p (Release c.args.l) _ _
-    c.in_ok-make_room.ensures.same (c.parts.view_is ∙ c.deref_mut-parts.ensures.value ∙ c.self.view_is)
-    c.open_interval-interval.ensures
-    (c.parts-2.view_is ∙ c.in_ok-close.ensures.ok)
+    let is : HasClosedRoomy c.parts.inside c.args.self.now (state_of c.parts-2.inside) c.args.block.now c.args.p
+    (Release c.args.l) (map arc_value c.args.records.items) = record {
+      log = c.make_room.new.journal;
+      i = c.open_interval-interval.result;
+      made = c.in_ok-make_room.ensures.same;
+      same = c.parts.view_is ∙ c.deref_mut-parts.ensures.value ∙ c.self.view_is;
+      opened = c.open_interval-interval.ensures;
+      closed = c.parts-2.view_is ∙ c.in_ok-close.ensures.ok;
+    } in
+    closed_roomy is
 
 pub release-requires-clause-holder : goal.release-requires-clause-holder
 release-requires-clause-holder c =

@@ -3,7 +3,7 @@ use Rattle.std.specs.Arc.{arc_value}
 use Rattle.journal.specs.declared.event.Kind.TheVariants.{Set}
 use Rattle.book.specs.Holding.{state_of}
 use Rattle.book.specs.Transitions.{handed_in, closed_by}
-use Rattle.book.proofs.Calling.Calls.{opens, still_open, closed_since}
+use Rattle.book.proofs.Calling.Calls.{opens, still_open, HasClosedSince, closed_since}
 use Rattle.book.proofs.Calling.Asks.{IsSetting, still_timed, set_read, set_is}
 use Rattle.book.proofs.book.Book.set.Goals.{After-deref_mut-parts, After-parts, After-index-2}
 use Rattle.book.proofs.book.Book.set.Goals as goal
@@ -28,10 +28,14 @@ closed : (c : After-parts) → state_of c.parts.inside
     ≡ closed_by (handed_in c.args.self.now c.args.block.now) c.args.p (Set c.args.f)
     (map arc_value c.args.records.items)
 closed c =
-    closed_since c.deref_mut-parts.result.now c.args.self.now _ c.args.block.now c.args.p (Set c.args.f)
-    c.open_interval-interval.result (map arc_value c.args.records.items)
-    (c.deref_mut-parts.ensures.value ∙ c.self.view_is) c.open_interval-interval.ensures
-    (c.parts.view_is ∙ c.in_ok-close.ensures.ok)
+    let is : HasClosedSince c.deref_mut-parts.result.now c.args.self.now (state_of c.parts.inside) c.args.block.now
+    c.args.p (Set c.args.f) (map arc_value c.args.records.items) = record {
+      i = c.open_interval-interval.result;
+      same = c.deref_mut-parts.ensures.value ∙ c.self.view_is;
+      opened = c.open_interval-interval.ensures;
+      closed = c.parts.view_is ∙ c.in_ok-close.ensures.ok;
+    } in
+    closed_since is
 
 pub index-requires-2 : goal.index-requires-2
 index-requires-2 c =

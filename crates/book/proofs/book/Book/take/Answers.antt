@@ -18,7 +18,7 @@ use Rattle.book.specs.State.{State, time_of}
 use Rattle.book.specs.Transitions.{trimmed_by, book_taken}
 use Rattle.book.specs.Told.{IsTold}
 use Rattle.book.proofs.Calling.Calls.{own_read}
-use Rattle.book.proofs.Calling.Takes.{IsReceiving, reading, may_trim, log_is, taking_address, took_is, comes, received_is, brings_is, receiving, not_idle}
+use Rattle.book.proofs.Calling.Takes.{IsReceiving, reading, may_trim, log_is, taking_address, took_is, IsComeRead, comes, IsFound, received_is, brings_is, receiving, not_idle}
 use Rattle.book.proofs.book.Book.take.Goals.{In-Some, After-has_come, After-index-2, In_ok-message, After-index_mut}
 use Rattle.book.proofs.book.Book.take.Goals.{After-parts}
 use Rattle.book.proofs.book.Book.take.Goals as goal
@@ -56,9 +56,15 @@ waits c =
 come : (c : After-has_come) → IsReceiving (state_of c.parts.inside) c.args.p (kind_of c.in-Some.awaited)
     → (s : Sizes) (h : List Event) → IsTold s h c.args.self.now → (c.has_come.result ≡ true) ↔ Ready s h c.args.p
 come c w =
-    comes _ c.args.self.now c.args.p (kind_of c.in-Some.awaited)
-    c.deref.result.now c.has_come.result (c.parts.view_is ∙ c.deref_mut-parts.ensures.value ∙ c.self.view_is) w
-    c.deref.ensures.value c.has_come.ensures
+    let read : IsComeRead (state_of c.parts.inside) c.args.self.now c.args.p (kind_of c.in-Some.awaited)
+    c.has_come.result = record {
+      flags = c.deref.result.now;
+      same = c.parts.view_is ∙ c.deref_mut-parts.ensures.value ∙ c.self.view_is;
+      waits = w;
+      flags_are = c.deref.ensures.value;
+      is = c.has_come.ensures;
+    } in
+    comes read
 
 -- p's timestamp, as it was read
 own : (c : After-index-2) → IsReceiving (state_of c.parts.inside) c.args.p (kind_of c.in-Some.awaited)
@@ -75,9 +81,15 @@ received : (c : In_ok-message) → c.index-2.result.now ≡ time_of (state_of c.
     → message_for (state_of c.parts.inside) c.args.p (kind_of c.in-Some.awaited) ≡ Some
     (letter c.in_ok-message.message)
 received c is =
-    received_is (state_of c.parts.inside) (state_of c.parts.inside) c.args.p (kind_of c.in-Some.awaited)
-    c.deref-2.result.now c.index-2.result.now (letter c.in_ok-message.message) refl c.deref-2.ensures.value is
-    c.in_ok-message.ensures.ok
+    let found : IsFound (state_of c.parts.inside) c.args.p (kind_of c.in-Some.awaited)
+    (letter c.in_ok-message.message) = record {
+      flags = c.deref-2.result.now;
+      own = c.index-2.result.now;
+      flags_are = c.deref-2.ensures.value;
+      own_is = is;
+      is = c.in_ok-message.ensures.ok;
+    } in
+    received_is found
 
 pub has_come-requires-clause-processor : goal.has_come-requires-clause-processor
 has_come-requires-clause-processor c = (waits (goal.at.has_come-requires-clause-processor c).In-Some).transit
