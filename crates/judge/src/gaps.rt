@@ -180,7 +180,7 @@ impl Gaps {
             result.writers result.records result.words }
     {
         let mut due = Counts::none();
-        for by in 0..16 {
+        for by in 0..self.sizes.processors {
             due = due.and(self.part(processor, page, by), by);
         }
         due

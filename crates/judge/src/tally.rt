@@ -26,12 +26,28 @@ fn no_numbers(alloc: Global, count: usize) -> Result<Vec<Vec<u32>>, AllocError>
     Ok(rows)
 }
 
-/// How many of these numbers, which do not fall, are below the limit.
-fn below(row: &[u32], limit: u32) -> usize
+/// How many of these numbers, which do not fall, are below the limit, looked for by halving.
+fn halve(row: &[u32], limit: u32) -> usize
     requires { InOrder (λ k m. k ≤ m) row.now }
     ensures { result ≡ count_by (λ k. nat_lt k limit) row.now }
 {
     row.partition_point(|number| *number < limit)
+}
+
+/// How many of these numbers, which do not fall, are below the limit. Mostly all are, so the last is looked at first.
+fn below(row: &[u32], limit: u32) -> usize
+    requires { InOrder (λ k m. k ≤ m) row.now }
+    ensures { result ≡ count_by (λ k. nat_lt k limit) row.now }
+{
+    let count = row.len();
+    if count == 0 {
+        return 0;
+    }
+    if row[count - 1] < limit {
+        count
+    } else {
+        halve(row, limit)
+    }
 }
 
 impl Tally {

@@ -4,9 +4,9 @@ ghost use Rattle.std.specs.Io.KnownBytes.{Appends, Keeps};
 ghost use Rattle.traces.specs.Prelude.{IsNoTrace};
 ghost use Rattle.judge.specs.Prelude.{AreSmall};
 ghost use Rattle.judge.specs.Prelude.{sizes_of as judged_sizes};
-ghost use Rattle.traces.specs.Prelude.{head, sizes_of};
+ghost use Rattle.traces.specs.Prelude.{IsTrace, head, sizes_of, text};
 ghost use Rattle.lrc_script.specs.Prelude.{AreSizes};
-ghost use Rattle.lrc_check.specs.Prelude.{IsBeforeOutput, IsFoundOf, IsTraces};
+ghost use Rattle.lrc_check.specs.Prelude.{IsBeforeOutput, IsChecked, IsFoundOf, IsTraces};
 
 use crate::checked::Checked;
 use crate::fault::CheckFault;
@@ -15,7 +15,7 @@ use crate::text::text_of;
 use lrc_report::render::OutFault;
 use std::alloc::Global;
 use std::io::Write;
-use traces::trace::read;
+use traces::trace::{Trace, read};
 
 /// The trace's sizes, as they are judged by.
 fn sizes_for(sizes: traces::trace::Sizes) -> judge::Sizes
@@ -45,6 +45,35 @@ fn write<W: Write>(out: &mut W, bytes: &[u8]) -> Result<(), OutFault>
     }
 }
 
+/// Reads the trace that has these bytes as its text, which is let go of then.
+fn read_text(alloc: Global, bytes: Vec<u8>) -> Result<Trace, CheckFault>
+    ensures found { IfOk result (λ t. IsTrace (sizes_of t.sizes) t.events.items
+        × (bytes.items ≡ text (sizes_of t.sizes) t.events.items)) }
+    ensures refused { IfErr result (λ fault. IsTraces fault → IsNoTrace bytes.items) }
+{
+    let trace = read(alloc, &bytes)?;
+    Ok(trace)
+}
+
+/// Judges the trace, and writes what was found.
+fn tell<W: Write>(
+    alloc: Global,
+    trace: &Trace,
+    lax: bool,
+    out: &mut W,
+) -> Result<Checked, CheckFault>
+    requires { IsTrace (sizes_of trace.now.sizes) trace.now.events.items }
+    ensures found { IfOk result (IsChecked lax (sizes_of trace.now.sizes) trace.now.events.items) }
+    ensures refused { IfErr result (λ fault. IsTraces fault → ⊥) }
+    ensures early { IfErr result
+        (λ fault. IsBeforeOutput fault → Keeps (W.contents out.old) (W.contents out.new)) }
+{
+    let found = judge_history(alloc, sizes_for(trace.sizes), &trace.events, lax)?;
+    let text = text_of(alloc, &trace.events, &found, lax)?;
+    write(out, &text)?;
+    Ok(found)
+}
+
 /// Judges the trace that has these bytes as its text, and writes what was found. `lax` leaves out what only this
 /// memory asks: that a lock's asks are granted in their order, and that fetches count their gaps.
 ///
@@ -66,8 +95,26 @@ pub fn check<W: Write>(
         (λ fault. IsBeforeOutput fault → Keeps (W.contents out.old) (W.contents out.new)) }
 {
     let trace = read(alloc, bytes)?;
-    let found = judge_history(alloc, sizes_for(trace.sizes), &trace.events, lax)?;
-    let text = text_of(alloc, bytes, trace.events.len(), &found, lax)?;
-    write(out, &text)?;
-    Ok(found)
+    tell(alloc, &trace, lax, out)
+}
+
+/// The same of a text that it may let go of: it does so as soon as the trace is read, and judges without it. So it
+/// takes at most what the text and the events take, or what the events and the judging take, where that is more.
+///
+/// # Errors
+///
+/// As those of `check`.
+pub fn check_text<W: Write>(
+    alloc: Global,
+    bytes: Vec<u8>,
+    lax: bool,
+    out: &mut W,
+) -> Result<Checked, CheckFault>
+    ensures found { IfOk result (IsFoundOf lax bytes.items) }
+    ensures refused { IfErr result (λ fault. IsTraces fault → IsNoTrace bytes.items) }
+    ensures early { IfErr result
+        (λ fault. IsBeforeOutput fault → Keeps (W.contents out.old) (W.contents out.new)) }
+{
+    let trace = read_text(alloc, bytes)?;
+    tell(alloc, &trace, lax, out)
 }

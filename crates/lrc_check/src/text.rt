@@ -1,34 +1,53 @@
 //! The text of what was found of a trace.
 
 use crate::checked::{Checked, Unexplained};
-use journal::{Kind, Traffic};
+use journal::{Event, Kind, Traffic};
 use judge::{IllFormed, Miscounted, Why};
-use lrc_script::line::split_line;
 use std::alloc::{AllocError, Global};
 
-/// The line with this number, counted from 0, of these lines, without its line feed.
-fn line_at(lines: &[u8], number: usize) -> &[u8] {
-    let mut rest = lines;
-    for _ in 0..number {
-        match split_line(rest) {
-            Some((_, after)) => rest = after,
-            None => return rest,
-        }
+/// What is said of an event that has no number, or one: its name, and the number.
+fn named(alloc: Global, kind: Kind) -> Result<String, AllocError> {
+    match kind {
+        Kind::Ask(lock) => format!(in alloc; "ask {lock}"),
+        Kind::Acquire(lock) => format!(in alloc; "acquire {lock}"),
+        Kind::Release(lock) => format!(in alloc; "release {lock}"),
+        Kind::Set(flag) => format!(in alloc; "set {flag}"),
+        Kind::Watch(flag) => format!(in alloc; "watch {flag}"),
+        Kind::Await(flag) => format!(in alloc; "await {flag}"),
+        Kind::Depart => String::from_str(alloc, "depart"),
+        _ => String::from_str(alloc, "arrive"),
     }
-    match split_line(rest) {
-        Some((line, _)) => line,
-        None => rest,
+}
+
+/// What is said of an event of this kind.
+fn kind_of(alloc: Global, kind: Kind) -> Result<String, AllocError> {
+    match kind {
+        Kind::Load(address, value) => format!(in alloc; "load {address} {value}"),
+        Kind::Store(address, value) => format!(in alloc; "store {address} {value}"),
+        Kind::Fetch {
+            writers,
+            page,
+            records,
+            words,
+        } => format!(in alloc; "fetch {page} {writers} {records} {words}"),
+        _ => named(alloc, kind),
     }
 }
 
 /// Adds the line of the event at this place, as the trace has it.
-fn put_event(text: &mut Vec<u8>, bytes: &[u8], place: usize) -> Result<(), AllocError> {
-    let events = match split_line(bytes) {
-        Some((_, events)) => events,
-        None => bytes,
+fn put_event(
+    text: &mut Vec<u8>,
+    alloc: Global,
+    events: &[Event],
+    place: usize,
+) -> Result<(), AllocError> {
+    let Some(event) = events.get(place) else {
+        return Ok(());
     };
-    text.extend_from_slice(line_at(events, place))?;
-    text.push(b'\n')?;
+    let processor = event.processor;
+    let kind = kind_of(alloc, event.kind)?;
+    let line = format!(in alloc; "event {place} {processor} {kind}\n")?;
+    text.extend_from_slice(line.as_bytes())?;
     Ok(())
 }
 
@@ -71,10 +90,10 @@ fn reason(alloc: Global, why: Why) -> Result<String, AllocError> {
 fn put_ill_formed(
     text: &mut Vec<u8>,
     alloc: Global,
-    bytes: &[u8],
+    events: &[Event],
     fault: IllFormed,
 ) -> Result<(), AllocError> {
-    put_event(text, bytes, fault.place)?;
+    put_event(text, alloc, events, fault.place)?;
     let why = reason(alloc, fault.why)?;
     text.extend_from_slice(b"because ")?;
     text.extend_from_slice(why.as_bytes())?;
@@ -83,8 +102,13 @@ fn put_ill_formed(
 }
 
 /// Adds the load's line, and what it may answer.
-fn put_unexplained(text: &mut Vec<u8>, bytes: &[u8], load: &Unexplained) -> Result<(), AllocError> {
-    put_event(text, bytes, load.place)?;
+fn put_unexplained(
+    text: &mut Vec<u8>,
+    alloc: Global,
+    events: &[Event],
+    load: &Unexplained,
+) -> Result<(), AllocError> {
+    put_event(text, alloc, events, load.place)?;
     if load.latest == [None; 16] {
         text.extend_from_slice(b"because it may answer 0 alone\n")?;
         return Ok(());
@@ -92,7 +116,7 @@ fn put_unexplained(text: &mut Vec<u8>, bytes: &[u8], load: &Unexplained) -> Resu
     text.extend_from_slice(b"because it may answer only what was stored by\n")?;
     for place in &load.latest {
         if let Some(place) = *place {
-            put_event(text, bytes, place)?;
+            put_event(text, alloc, events, place)?;
         }
     }
     Ok(())
@@ -102,10 +126,10 @@ fn put_unexplained(text: &mut Vec<u8>, bytes: &[u8], load: &Unexplained) -> Resu
 fn put_miscounted(
     text: &mut Vec<u8>,
     alloc: Global,
-    bytes: &[u8],
+    events: &[Event],
     fetch: Miscounted,
 ) -> Result<(), AllocError> {
-    put_event(text, bytes, fetch.place)?;
+    put_event(text, alloc, events, fetch.place)?;
     let Miscounted {
         writers,
         records,
@@ -122,15 +146,16 @@ fn put_miscounted(
 /// Adds the verdict, with the two events of the first race.
 fn put_verdict(
     text: &mut Vec<u8>,
-    bytes: &[u8],
+    alloc: Global,
+    events: &[Event],
     race: Option<(usize, usize)>,
 ) -> Result<(), AllocError> {
     match race {
         None => text.extend_from_slice(b"verdict race-free\n")?,
         Some((first, second)) => {
             text.extend_from_slice(b"verdict racy\n")?;
-            put_event(text, bytes, first)?;
-            put_event(text, bytes, second)?;
+            put_event(text, alloc, events, first)?;
+            put_event(text, alloc, events, second)?;
         }
     }
     Ok(())
@@ -178,25 +203,23 @@ fn opening(alloc: Global, count: usize, found: &Checked) -> Result<Vec<u8>, Allo
     Ok(text)
 }
 
-/// The text of what was found of the trace with these bytes and so many events. The only error is running out of
-/// memory.
+/// The text of what was found of the trace with these events. The only error is running out of memory.
 pub(crate) fn text_of(
     alloc: Global,
-    bytes: &[u8],
-    count: usize,
+    events: &[Event],
     found: &Checked,
     lax: bool,
 ) -> Result<Vec<u8>, AllocError> {
-    let mut text = opening(alloc, count, found)?;
+    let mut text = opening(alloc, events.len(), found)?;
     match *found {
         Checked::Faithful { race, traffic } => {
             put_unjudged(&mut text, lax)?;
-            put_verdict(&mut text, bytes, race)?;
+            put_verdict(&mut text, alloc, events, race)?;
             put_traffic(&mut text, alloc, traffic)?;
         }
-        Checked::IllFormed(fault) => put_ill_formed(&mut text, alloc, bytes, fault)?,
-        Checked::Unexplained(load) => put_unexplained(&mut text, bytes, &load)?,
-        Checked::Miscounted(fetch) => put_miscounted(&mut text, alloc, bytes, fetch)?,
+        Checked::IllFormed(fault) => put_ill_formed(&mut text, alloc, events, fault)?,
+        Checked::Unexplained(load) => put_unexplained(&mut text, alloc, events, &load)?,
+        Checked::Miscounted(fetch) => put_miscounted(&mut text, alloc, events, fetch)?,
     }
     Ok(text)
 }

@@ -1,5 +1,5 @@
 -- The latest stores of a load are what it may answer.
-use Rattle.std.proofs.Common.{◌≡◌, ℕ, zero, suc, ◌+◌, ◌<◌, ◌≤◌, inl, inr, ◌↔◌, List, [], ◌∷◌, ◌++◌, length, Option, Some, slice_get, subst, refl, ap, ◌∙◌, ◌≢◌, arith, take, drop, take-append-drop, sym}
+use Rattle.std.proofs.Common.{◌≡◌, ℕ, zero, suc, ◌+◌, ◌<◌, ◌≤◌, inl, inr, ◌↔◌, List, [], ◌∷◌, ◌++◌, length, subst, refl, ap, ◌∙◌, ◌≢◌, arith, take, drop, take-append-drop, sym}
 use Rattle.std.proofs.lemmas.List.{length-take-le}
 use Rattle.lists.proofs.Places.{take-suc_at}
 use Rattle.journal.specs.declared.event.Event.{Event}
@@ -69,20 +69,19 @@ latest_at j p a v q i x =
     (subst (λ n. Does (did j p (Load a v)) n q (Store a x.value)) x.place
     (subst (λ n. Does (did j p (Load a v)) x.store.place n (Store a x.value)) x.by x.store.stores))
 
-module _ (j : List Event) (p a v : ℕ) (marks : List (Option ℕ))
-    (tells : (q i : ℕ) → (slice_get marks q ≡ Some (Some i)) ↔ IsLatest (did j p (Load a v)) (length j) a q i) where
+module _ (j : List Event) (p a v : ℕ) (Marked : ℕ → ℕ → Type 0)
+    (tells : (q i : ℕ) → Marked q i ↔ IsLatest (did j p (Load a v)) (length j) a q i) where
   abbrev IsNext : Type 0
   IsNext = IsAnswer (did j p (Load a v)) (length j) a v
 
   -- a marked place is one of the journal
-  pub marked_within : (q i : ℕ) → slice_get marks q ≡ Some (Some i) → i < length j
+  pub marked_within : (q i : ℕ) → Marked q i → i < length j
   marked_within q i at =
       let x = (tells q i).0 at in
       at_within j i (event q (Store a x.value)) (latest_at j p a v q i x)
 
   -- the value of a marked store may be answered
-  pub marked_answer : (q i b : ℕ) (e : Event) → slice_get marks q ≡ Some (Some i) → At j i e → e.kind ≡ Store b v
-      → IsNext
+  pub marked_answer : (q i b : ℕ) (e : Event) → Marked q i → At j i e → e.kind ≡ Store b v → IsNext
   marked_answer q i b e at there is =
       let x = (tells q i).0 at in
       let same = at_same j i (event q (Store a x.value)) e (latest_at j p a v q i x) there in
@@ -90,8 +89,8 @@ module _ (j : List Event) (p a v : ℕ) (marks : List (Option ℕ))
       inr (subst (LatestStore (did j p (Load a v)) (length j) a) value x.store)
 
   -- where there is a mark, no other value may
-  pub other_answer : (q i : ℕ) → slice_get marks q ≡ Some (Some i)
-      → ((r k : ℕ) (e : Event) → slice_get marks r ≡ Some (Some k) → At j k e → (b : ℕ) → e.kind ≢ Store b v)
+  pub other_answer : (q i : ℕ) → Marked q i
+      → ((r k : ℕ) (e : Event) → Marked r k → At j k e → (b : ℕ) → e.kind ≢ Store b v)
       → ¬ IsNext
   other_answer q i at others (inl x) =
       let l = (tells q i).0 at in
@@ -103,7 +102,7 @@ module _ (j : List Event) (p a v : ℕ) (marks : List (Option ℕ))
       refl
 
   -- and where there is none, just 0 may
-  pub free_answer : ((q i : ℕ) → slice_get marks q ≢ Some (Some i)) → IsNext ↔ (v ≡ 0)
+  pub free_answer : ((q i : ℕ) → ¬ Marked q i) → IsNext ↔ (v ≡ 0)
   free_answer none = (there, back)
     where
       there : IsNext → v ≡ 0

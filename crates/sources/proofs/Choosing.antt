@@ -24,6 +24,8 @@ use Rattle.journal.proofs.Times.Uses.{ordered_before}
 use Rattle.sources.specs.declared.stored.Stored.{Stored}
 use Rattle.sources.specs.Latest.{IsLatest}
 use Rattle.sources.specs.Last.{IsLast, AreLast, IsFollowed, IsUnfollowed}
+use Rattle.sources.specs.declared.sources.Sources.{Sources}
+use Rattle.sources.specs.Tells.{Tells}
 
 -- an event happens before one of another processor that takes nothing exactly where its timestamp before that counts
 -- the interval; of one processor the same event is meant
@@ -227,3 +229,11 @@ marks_next times last latest i o within old now q n lt = elim (cases_eq q i) [
       let was = old q n (omega arith) in
       ((λ at. was.0 (sym same ∙ at)), (λ u. same ∙ was.1 u)))
 ]
+
+-- the history's processors are few
+pub few_processors : (j : List Event) (s : Sources) → Tells j s → ProcessorsInRange 16 j
+few_processors j s tells i e at =
+    let few = tells.clocks.few in
+    let present = tells.present in
+    let lt = tells.processors i e at in
+    omega arith

@@ -172,10 +172,11 @@ impl Sources {
         ensures { IsTrue result
             ↔ IsAnswer (did events.now processor (Load address value)) (length events.now) address value }
     {
-        let places = self.before(processor, address);
+        let last = self.last_stores(processor, address);
+        let joined = self.joined(&last);
         let mut is_free = true;
-        for place in &places {
-            if let Some(place) = *place {
+        for by in 0..self.processors {
+            if let Some(place) = unfollowed(&last, &joined, by) {
                 if is_store_of(events[place], value) {
                     return true;
                 }

@@ -1,43 +1,30 @@
-use Rattle.std.proofs.Common.{◌≡◌, ℕ, ◌<◌, ◌≤◌, inl, inr, List, Some, slice_get, slice_index_or, subst, nat_lt, true, false, rules, arith, sym}
-use Rattle.std.proofs.lemmas.Bool.{cases_eq}
+use Rattle.std.proofs.Common.{◌≡◌, ℕ, ◌-◌, ◌<◌, ◌≤◌, inl, inr, List, Some, length, slice_get, slice_index_or, count_by, nat_lt, true, subst, sym, arith}
+use Rattle.std.proofs.lemmas.Bool.{cases_eq, lt-ltb}
 use Rattle.std.proofs.lemmas.Option.{slice_get-get_or, slice_get_within, get_or_from_slice_get}
-use Rattle.std.proofs.lemmas.List.Sorted.{IsPartitionPoint-from_clause, IsPartitionedBy-ltb}
-use Rattle.std.specs.List.Sorted.{IsNonDecreasingBy, IsPartitionPoint}
 use Rattle.lists.specs.Places.{InOrder}
 use Rattle.judge.proofs.Rows.{count_point}
 use Rattle.judge.proofs.tally.below.Goals as goal
 
--- the numbers do not fall
-rises : (row : List ℕ) → InOrder (λ (k m : ℕ). k ≤ m) row → IsNonDecreasingBy (λ (k : ℕ). k) row
-rises row up i j d le lt = elim (cases_eq i j) [
-  | inl is ↦ subst (λ k. slice_index_or row i d ≤ slice_index_or row k d) is (omega arith)
-  | inr isnt ↦ up i j (slice_index_or row i d) (slice_index_or row j d) (omega arith)
-      (slice_get-get_or row i d (omega arith)) (slice_get-get_or row j d lt)
-]
+-- none of the numbers is above the last one
+to_last : (row : List ℕ) (n k d : ℕ) → InOrder (λ (x y : ℕ). x ≤ y) row → slice_get row n ≡ Some k
+    → k ≤ slice_index_or row (length row - 1) d
+to_last row n k d up at =
+    let within = slice_get_within row n k at in
+    elim (cases_eq n (length row - 1)) [
+      | inl is ↦
+          (let same : slice_index_or row n d ≡ k = get_or_from_slice_get row n k d at in
+          subst (λ i. k ≤ slice_index_or row i d) is (omega (arith, same)))
+      | inr isnt ↦ up n (length row - 1) k (slice_index_or row (length row - 1) d) (omega arith) at
+          (slice_get-get_or row (length row - 1) d (omega arith))
+    ]
 
--- those below the limit stand before this place
-abbrev IsPoint : List ℕ → ℕ → ℕ → Type 0
-IsPoint row limit i =
-    IsPartitionPoint (λ (k : ℕ). nat_lt k limit ≡ true) (λ (k : ℕ). nat_lt k limit ≡ false) row i
+-- where the last number is below the limit, all are
+all_below : (row : List ℕ) (limit d : ℕ) → InOrder (λ (x y : ℕ). x ≤ y) row
+    → slice_index_or row (length row - 1) d < limit → length row ≡ count_by (λ k. nat_lt k limit) row
+all_below row limit d up less =
+    sym (count_point row limit (length row) (omega arith)
+    (λ n k lt at. lt-ltb k limit (let le = to_last row n k d up at in omega arith))
+    (λ n k le at. absurd (let within = slice_get_within row n k at in omega arith)))
 
-low : (row : List ℕ) (limit i : ℕ) → IsPoint row limit i → (n k : ℕ) → n < i → slice_get row n ≡ Some k
-    → nat_lt k limit ≡ true
-low row limit i point n k lt at =
-    subst (λ (x : ℕ). nat_lt x limit ≡ true) (get_or_from_slice_get row n k k at)
-    (point.0 n k (omega arith) lt)
-
-high : (row : List ℕ) (limit i : ℕ) → IsPoint row limit i → (n k : ℕ) → i ≤ n → slice_get row n ≡ Some k
-    → nat_lt k limit ≡ false
-high row limit i point n k le at =
-    subst (λ (x : ℕ). nat_lt x limit ≡ false) (get_or_from_slice_get row n k k at)
-    (point.1 n k le (slice_get_within row n k at))
-
-pub returns : goal.returns
-returns c =
-    let row = c.args.row.now in
-    let limit = c.args.limit in
-    let parted = IsPartitionedBy-ltb (λ (k : ℕ). k) row limit (rises row c.requires) in
-    let point = IsPartitionPoint-from_clause (λ (k : ℕ). nat_lt k limit) _ _
-    c.partition_point.ensures.partitioned parted (λ a r q k. search rules) in
-    sym (count_point row limit c.partition_point.result c.partition_point.ensures.bound
-    (low row limit c.partition_point.result point) (high row limit c.partition_point.result point))
+pub returns-then-row-count : goal.returns-then-row-count
+returns-then-row-count c = all_below c.args.row.now c.args.limit _ c.requires c.if-row-count.true

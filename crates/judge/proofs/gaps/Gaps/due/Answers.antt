@@ -8,6 +8,7 @@ use Rattle.judge.proofs.gaps.Gaps.due.Goals as goal
 
 pub loop-by-init : goal.loop-by-init
 loop-by-init c = record {
+  present = c.requires.tells.1.long.sizes.processors;
   few = (let none = c.none-due.ensures in
       let P : Counts → Type 0 = λ x. AreFew 0 x in
       subst P (sym none) (record { writers = omega arith; records = omega arith; words = omega arith }));
@@ -20,6 +21,7 @@ loop-by-init c = record {
 
 pub loop-by-preserved : goal.loop-by-preserved
 loop-by-preserved c = record {
+  present = c.loop-by.invariant.present;
   few = c.and-due.ensures.few;
   counts = λ j tells.
       (let s = sizes_of c.args.self.now.sizes in

@@ -1,4 +1,4 @@
-use Rattle.std.proofs.Common.{◌<◌, List}
+use Rattle.std.proofs.Common.{◌<◌, ◌≤◌, List}
 use Rattle.journal.specs.declared.event.Event.{Event}
 use Rattle.judge.specs.Gaps.{AreFew, CountsAmong, TellsGaps}
 use Rattle.judge.specs.Sizes.{sizes_of}
@@ -6,6 +6,7 @@ use Rattle.judge.proofs.gaps.Gaps.due.Given as goal
 
 abbrev pub invariant-loop-by : goal.invariant-loop-by
 invariant-loop-by l = record {
+  present : l.self.sizes.processors ≤ 16;
   few : AreFew l.by l.due;
   counts : (j : List Event) → TellsGaps j l.self
       → CountsAmong (sizes_of l.self.sizes) j l.processor l.page (λ q. q < l.by) l.due.writers l.due.records

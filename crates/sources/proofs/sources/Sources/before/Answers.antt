@@ -1,4 +1,4 @@
-use Rattle.std.proofs.Common.{ℕ, inl, inr, List, Some, refl, sym, ◌∙◌, arith, length-set}
+use Rattle.std.proofs.Common.{ℕ, inl, inr, Some, refl, sym, ◌∙◌, arith, length-set}
 use Rattle.std.specs.Prelude.{None}
 use Rattle.std.proofs.lemmas.Bool.{cases_lt}
 use Rattle.std.proofs.lemmas.Option.{none-some}
@@ -6,19 +6,8 @@ use Rattle.lists.proofs.Sets.{slice_get-replicate_found, slice_get-set_other}
 use Rattle.journal.specs.declared.event.Event.{Event}
 use Rattle.journal.specs.declared.event.Kind.TheVariants.{Store}
 use Rattle.journal.specs.Did.{event}
-use Rattle.journal.specs.InRange.{ProcessorsInRange}
-use Rattle.sources.specs.declared.sources.Sources.{Sources}
-use Rattle.sources.specs.Tells.{Tells}
-use Rattle.sources.proofs.Choosing.{IsGiven, marks_next, unfollowed_latest, latest_unfollowed}
+use Rattle.sources.proofs.Choosing.{IsGiven, few_processors, marks_next, unfollowed_latest, latest_unfollowed}
 use Rattle.sources.proofs.sources.Sources.before.Goals as goal
-
--- the history's processors are few
-few_processors : (j : List Event) (s : Sources) → Tells j s → ProcessorsInRange 16 j
-few_processors j s tells i e at =
-    let few = tells.clocks.few in
-    let present = tells.present in
-    let lt = tells.processors i e at in
-    omega arith
 
 pub joined-joined-requires : goal.joined-joined-requires
 joined-joined-requires c = λ r s at.
