@@ -3,51 +3,17 @@
 use crate::checked::{Checked, Unexplained};
 use journal::{Event, Kind, Traffic};
 use judge::{IllFormed, Miscounted, Why};
+use lrc_report::{Line, render};
 use std::alloc::{AllocError, Global};
 
-/// What is said of an event that has no number, or one: its name, and the number.
-fn named(alloc: Global, kind: Kind) -> Result<String, AllocError> {
-    match kind {
-        Kind::Ask(lock) => format!(in alloc; "ask {lock}"),
-        Kind::Acquire(lock) => format!(in alloc; "acquire {lock}"),
-        Kind::Release(lock) => format!(in alloc; "release {lock}"),
-        Kind::Set(flag) => format!(in alloc; "set {flag}"),
-        Kind::Watch(flag) => format!(in alloc; "watch {flag}"),
-        Kind::Await(flag) => format!(in alloc; "await {flag}"),
-        Kind::Depart => String::from_str(alloc, "depart"),
-        _ => String::from_str(alloc, "arrive"),
-    }
-}
-
-/// What is said of an event of this kind.
-fn kind_of(alloc: Global, kind: Kind) -> Result<String, AllocError> {
-    match kind {
-        Kind::Load(address, value) => format!(in alloc; "load {address} {value}"),
-        Kind::Store(address, value) => format!(in alloc; "store {address} {value}"),
-        Kind::Fetch {
-            writers,
-            page,
-            records,
-            words,
-        } => format!(in alloc; "fetch {page} {writers} {records} {words}"),
-        _ => named(alloc, kind),
-    }
-}
-
 /// Adds the line of the event at this place, as the trace has it.
-fn put_event(
-    text: &mut Vec<u8>,
-    alloc: Global,
-    events: &[Event],
-    place: usize,
-) -> Result<(), AllocError> {
+fn put_event(text: &mut Vec<u8>, events: &[Event], place: usize) -> Result<(), AllocError> {
     let Some(event) = events.get(place) else {
         return Ok(());
     };
-    let processor = event.processor;
-    let kind = kind_of(alloc, event.kind)?;
-    let line = format!(in alloc; "event {place} {processor} {kind}\n")?;
-    text.extend_from_slice(line.as_bytes())?;
+    let mut line = Line::new();
+    render::put_event(&mut line, place as u64, event);
+    text.extend_from_slice(line.bytes())?;
     Ok(())
 }
 
@@ -93,7 +59,7 @@ fn put_ill_formed(
     events: &[Event],
     fault: IllFormed,
 ) -> Result<(), AllocError> {
-    put_event(text, alloc, events, fault.place)?;
+    put_event(text, events, fault.place)?;
     let why = reason(alloc, fault.why)?;
     text.extend_from_slice(b"because ")?;
     text.extend_from_slice(why.as_bytes())?;
@@ -104,11 +70,10 @@ fn put_ill_formed(
 /// Adds the load's line, and what it may answer.
 fn put_unexplained(
     text: &mut Vec<u8>,
-    alloc: Global,
     events: &[Event],
     load: &Unexplained,
 ) -> Result<(), AllocError> {
-    put_event(text, alloc, events, load.place)?;
+    put_event(text, events, load.place)?;
     if load.latest == [None; 16] {
         text.extend_from_slice(b"because it may answer 0 alone\n")?;
         return Ok(());
@@ -116,7 +81,7 @@ fn put_unexplained(
     text.extend_from_slice(b"because it may answer only what was stored by\n")?;
     for place in &load.latest {
         if let Some(place) = *place {
-            put_event(text, alloc, events, place)?;
+            put_event(text, events, place)?;
         }
     }
     Ok(())
@@ -129,7 +94,7 @@ fn put_miscounted(
     events: &[Event],
     fetch: Miscounted,
 ) -> Result<(), AllocError> {
-    put_event(text, alloc, events, fetch.place)?;
+    put_event(text, events, fetch.place)?;
     let Miscounted {
         writers,
         records,
@@ -146,7 +111,6 @@ fn put_miscounted(
 /// Adds the verdict, with the two events of the first race.
 fn put_verdict(
     text: &mut Vec<u8>,
-    alloc: Global,
     events: &[Event],
     race: Option<(usize, usize)>,
 ) -> Result<(), AllocError> {
@@ -154,8 +118,8 @@ fn put_verdict(
         None => text.extend_from_slice(b"verdict race-free\n")?,
         Some((first, second)) => {
             text.extend_from_slice(b"verdict racy\n")?;
-            put_event(text, alloc, events, first)?;
-            put_event(text, alloc, events, second)?;
+            put_event(text, events, first)?;
+            put_event(text, events, second)?;
         }
     }
     Ok(())
@@ -214,11 +178,11 @@ pub(crate) fn text_of(
     match *found {
         Checked::Faithful { race, traffic } => {
             put_unjudged(&mut text, lax)?;
-            put_verdict(&mut text, alloc, events, race)?;
+            put_verdict(&mut text, events, race)?;
             put_traffic(&mut text, alloc, traffic)?;
         }
         Checked::IllFormed(fault) => put_ill_formed(&mut text, alloc, events, fault)?,
-        Checked::Unexplained(load) => put_unexplained(&mut text, alloc, events, &load)?,
+        Checked::Unexplained(load) => put_unexplained(&mut text, events, &load)?,
         Checked::Miscounted(fetch) => put_miscounted(&mut text, alloc, events, fetch)?,
     }
     Ok(text)

@@ -15,4 +15,5 @@ mod report;
 #[cfg(test)]
 mod tests;
 
+pub use line::Line;
 pub use report::Report;

@@ -152,9 +152,9 @@ fn put_kind(line: &mut Line, kind: Kind)
     }
 }
 
-/// Makes the line of the event at a place.
+/// Makes the line of the event at a place, as a journal has it: `event PLACE PROCESSOR KIND ..`.
 #[inline]
-fn put_event(line: &mut Line, place: u64, event: &Event)
+pub fn put_event(line: &mut Line, place: u64, event: &Event)
     ensures { line.new ≡ event_line place event.now }
 {
     line.clear();
