@@ -3,7 +3,7 @@
 //! **What contracts see.** `end_text` of specs/Texts: the lines that a report's text consists of without its journal, and
 //! nothing of a run that can't go on. A writer by the bytes that it was given (`contents`).
 //!
-//! **What is proved.** `render` and `render_pages` answer Ok only where they wrote one text that ends with `end_text`: the shown words, the
+//! **What is proved.** `render` answers Ok only where it wrote a text that ends with `end_text`: the shown words, the
 //! verdict and the traffic, byte for byte as `lrc_report` prints them. After NoMemory and OutOfRange nothing was written.
 //! The loads' sources, the ways to them, the race and the records that are told are those of crate `why`.
 //!
@@ -25,4 +25,4 @@ mod rendering;
 mod story;
 
 pub use fault::ExplainFault;
-pub use rendering::{render, render_pages};
+pub use rendering::render;

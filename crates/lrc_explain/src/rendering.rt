@@ -67,48 +67,32 @@ fn write_text<W: Write>(text: &[u8], out: &mut W) -> Result<(), ExplainFault>
 /// there is one. At the end stand the report's lines without its journal; of a run that can't go on, for what each
 /// processor waits, with those that wait for each other in a circle in one line.
 ///
+/// Where `words` says how many words a page has, there stands besides, of each event that takes, which pages go stale by
+/// it, by how many records of whom; and of each fetch, whose records it brings. Of the pages at most three are told. What
+/// was cut off isn't told: a page may lack records from before the cut besides. With None no pages are told.
+///
 /// A lane is as wide as its longest label, but at most 16. Where there are more than eight processors, labels are short
 /// and a lane is at most 10 wide, so that sixteen lanes and numbers of eight digits take 200 columns. A longer label runs
 /// on. What stands to the right of the lanes doesn't count.
 ///
-/// It takes time and memory as `why::explain` does, and memory for the whole text.
+/// It takes time and memory as `why::explain` does, with `words` time as `why::dues` does besides, and memory for the
+/// whole text.
 ///
 /// # Errors
 ///
-/// Output where a write or the flush fails; NoMemory and OutOfRange, after which nothing was written.
+/// Output where a write or the flush fails. NoMemory and OutOfRange, after which nothing was written: OutOfRange where the
+/// run isn't one of so many processors; and with `words` also where the addresses aren't pages of so many words, at most
+/// 64 of 64, and where the journal has a lock or a flag past 31.
 pub fn render<W: Write>(
     alloc: Global,
     processors: usize,
+    words: Option<usize>,
     ended: &Ended,
     out: &mut W,
 ) -> Result<(), ExplainFault>
     ensures written { OnOk result (IsWritten (W.contents out.old) (W.contents out.new) ended.now) }
     ensures unwritten { IfErr result (IsUnwritten (W.contents out.old) (W.contents out.new)) }
 {
-    let text = text_of(alloc, processors, None, ended)?;
-    write_text(&text, out)
-}
-
-/// Tells a run as `render` does, and besides, where a page has `words` words: of each event that takes, which pages go
-/// stale by it, by how many records of whom; and of each fetch, whose records it brings. Of the pages at most three are
-/// told. What was cut off isn't told: a page may lack records from before the cut besides.
-///
-/// It takes time as `why::dues` does besides.
-///
-/// # Errors
-///
-/// Those of `render`; OutOfRange also where the addresses aren't pages of so many words, at most 64 of 64, and where the
-/// journal has a lock or a flag past 31.
-pub fn render_pages<W: Write>(
-    alloc: Global,
-    processors: usize,
-    words: usize,
-    ended: &Ended,
-    out: &mut W,
-) -> Result<(), ExplainFault>
-    ensures written { OnOk result (IsWritten (W.contents out.old) (W.contents out.new) ended.now) }
-    ensures unwritten { IfErr result (IsUnwritten (W.contents out.old) (W.contents out.new)) }
-{
-    let text = text_of(alloc, processors, Some(words), ended)?;
+    let text = text_of(alloc, processors, words, ended)?;
     write_text(&text, out)
 }

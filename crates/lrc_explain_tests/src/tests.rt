@@ -6,7 +6,7 @@ mod cases;
 
 use cases::{CASES, Case};
 use journal::{Event, Journal, Kind, MOST_HELD, MOST_PROCESSORS, Traffic};
-use lrc_explain::{ExplainFault, render, render_pages};
+use lrc_explain::{ExplainFault, render};
 use lrc_report::Report;
 use runs::{Ended, Halt};
 use std::alloc::Global;
@@ -88,10 +88,7 @@ fn run_of(alloc: Global, case: Case) -> Result<Ended, Fail> {
 fn has_text(alloc: Global, case: Case) -> Result<bool, Fail> {
     let run = run_of(alloc, case)?;
     let mut out = Vec::new(alloc);
-    let answer = match case.words {
-        Some(words) => render_pages(alloc, case.processors, words, &run, &mut out),
-        None => render(alloc, case.processors, &run, &mut out),
-    };
+    let answer = render(alloc, case.processors, case.words, &run, &mut out);
     Ok(answer.is_ok() && out.as_slice() == case.text.as_bytes())
 }
 
@@ -131,7 +128,7 @@ fn answer_of(
 ) -> Result<(Result<(), ExplainFault>, u32), Fail> {
     let run = run_of(alloc, case)?;
     let mut out = Counts { writes: 0, fails };
-    let answer = render(alloc, processors, &run, &mut out);
+    let answer = render(alloc, processors, None, &run, &mut out);
     Ok((answer, out.writes))
 }
 
@@ -147,7 +144,7 @@ fn pages(rt: HostRuntime) -> Result<(), Fail> {
             fails: false,
         };
         let writes = u32::from(want.is_ok());
-        assert!(&rt; render_pages(alloc, 2, words, &run, &mut out) == want);
+        assert!(&rt; render(alloc, 2, Some(words), &run, &mut out) == want);
         assert!(&rt; out.writes == writes);
     }
     Ok(())

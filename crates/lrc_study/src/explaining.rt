@@ -8,7 +8,7 @@ ghost use Rattle.lrc_study.specs.Prelude.{IsBeforeAnswer, IsExplained, IsInputs,
 use crate::drawing::draw;
 use crate::fault::{HALTED, StudyFault};
 use crate::locks::lock_of;
-use lrc_explain::render_pages;
+use lrc_explain::render;
 use lrc_options::options::ExplainOptions;
 use lrc_program::fault::ProgramFault;
 use lrc_program::program::{read_script, say_line};
@@ -50,7 +50,7 @@ fn print_end<W: Write>(
     if picture {
         return draw(alloc, script.processors, ended, out);
     }
-    render_pages(alloc, script.processors, script.words, ended, out)?;
+    render(alloc, script.processors, Some(script.words), ended, out)?;
     Ok(())
 }
 

@@ -14,7 +14,7 @@ use judge::{Gaps, Sizes};
 use std::alloc::{AllocError, Global};
 
 /// Records of a page that a copy lacks. A record is what one interval of its processor changes in one page.
-#[derive(Clone, Copy, Debug, PartialEq, Eq)]
+#[derive(Clone, Copy)]
 pub struct Due {
     /// The page.
     pub page: usize,

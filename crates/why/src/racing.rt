@@ -15,7 +15,7 @@ use journal::{Clocks, Event, Journal};
 use std::alloc::{AllocError, Global};
 
 /// The first race of a history.
-#[derive(Clone, Copy, Debug, PartialEq, Eq)]
+#[derive(Clone, Copy, PartialEq, Eq)]
 pub struct FirstRace {
     /// The place of the access that comes first.
     pub first: usize,

@@ -1,5 +1,5 @@
 /// Where the value that a load answers comes from.
-#[derive(Clone, Copy, Debug, PartialEq, Eq)]
+#[derive(Clone, Copy, PartialEq, Eq)]
 pub enum Source {
     /// From the store at this place: it is of the load's past and of its address, no other store to that address happens
     /// after it in that past, and its value is the reply.

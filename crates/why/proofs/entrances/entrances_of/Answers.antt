@@ -2,7 +2,18 @@ use Rattle.std.proofs.Common.{◌≡◌, ℕ, Some, slice_get, ◌∙◌, length
 use Rattle.std.specs.Global.{Vec}
 use Rattle.why.specs.Entrances.{AreEntrances}
 use Rattle.why.proofs.Entering.{rows_next}
+use Rattle.journal.specs.InRange.{ProcessorsInRange}
 use Rattle.why.proofs.entrances.entrances_of.Goals as goal
+
+pub take_step-requires-clause-processors : goal.take_step-requires-clause-processors
+take_step-requires-clause-processors c =
+    subst (λ n. ProcessorsInRange n c.args.events.now) (sym c.loop-place.invariant.present) c.requires.processors
+
+pub entrances-requires-clause-processors : goal.entrances-requires-clause-processors
+entrances-requires-clause-processors c = λ k e at.
+    (let low = c.requires.processors k e at in
+    let few = c.requires.few_processors in
+    omega arith)
 
 pub loop-place-preserved : goal.loop-place-preserved
 loop-place-preserved c =

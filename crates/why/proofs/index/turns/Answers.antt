@@ -25,6 +25,19 @@ own events place next lt long low are =
     are (here events place).processor (slice_index_or next (here events place).processor zero)
     (slice_get-get_or next (here events place).processor zero (omega arith))
 
+pub offset_bounds-next-event : goal.offset_bounds-next-event
+offset_bounds-next-event c =
+    let events = c.args.events.now in
+    let at = slice_get-get_or events c.loop-place.place (event 0 (Load 0 0)) c.loop-place-test.true in
+    let low = c.requires.processors c.loop-place.place (here events c.loop-place.place) at in
+    omega arith
+
+pub bounds-next-event : goal.bounds-next-event
+bounds-next-event c =
+    let events = c.args.events.now in
+    let at = slice_get-get_or events c.loop-place.place (event 0 (Load 0 0)) c.loop-place-test.true in
+    c.requires.processors c.loop-place.place (here events c.loop-place.place) at
+
 pub offset_bounds-next-event-in-loop-place : goal.offset_bounds-next-event-in-loop-place
 offset_bounds-next-event-in-loop-place c =
     let events = c.args.events.now in

@@ -1,4 +1,4 @@
-use Rattle.std.proofs.Common.{ℕ, ◌+◌, List, slice_index, slice_index_or, take, subst, sym, refl, ◌∙◌, arith}
+use Rattle.std.proofs.Common.{ℕ, ◌+◌, ◌<◌, List, length, slice_index, slice_index_or, take, subst, sym, refl, ◌∙◌, arith}
 use Rattle.std.proofs.lemmas.Bool.{false≢true}
 use Rattle.std.proofs.lemmas.List.{length-set}
 use Rattle.std.proofs.lemmas.Option.{slice_get-get_or}
@@ -6,6 +6,7 @@ use Rattle.journal.specs.declared.event.Event.{Event}
 use Rattle.journal.specs.declared.event.Kind.TheVariants.{Load}
 use Rattle.journal.specs.Did.{event}
 use Rattle.journal.specs.Events.{count_of, is_arrive, is_depart}
+use Rattle.journal.specs.InRange.{ProcessorsInRange}
 use Rattle.why.specs.Edges.{EdgeFromOther, LetsOn}
 use Rattle.why.proofs.LetsOn.{AreEdgesBelow, counts_next, edges_all, edges_next, edges_other, leads, led}
 use Rattle.why.proofs.leading.edges.Goals as goal
@@ -14,6 +15,30 @@ use Rattle.why.proofs.leading.edges.Goals.{then-from-to+then-lets_on+in_ok-push,
 -- the event at this place
 abbrev here : List Event → ℕ → Event
 here events place = slice_index_or events place (event 0 (Load 0 0))
+
+-- the processor of an event before the place is one of sixteen
+low : (events : List Event) (place i : ℕ) → i < place → place < length events → ProcessorsInRange 16 events
+    → (here events i).processor < 16
+low events place i lt inside range =
+    range i (here events i) (slice_get-get_or events i (event 0 (Load 0 0)) (omega arith))
+
+pub offset_bounds-arrivals-from : goal.offset_bounds-arrivals-from
+offset_bounds-arrivals-from c =
+    let is = low c.args.events.now c.args.place c.loop-i.i c.loop-i-test.true c.requires.place c.requires.processors in
+    omega arith
+
+pub bounds-arrivals-from : goal.bounds-arrivals-from
+bounds-arrivals-from c =
+    low c.args.events.now c.args.place c.loop-i.i c.loop-i-test.true c.requires.place c.requires.processors
+
+pub offset_bounds-arrivals-from-in-loop-i : goal.offset_bounds-arrivals-from-in-loop-i
+offset_bounds-arrivals-from-in-loop-i c =
+    let is = low c.args.events.now c.args.place c.loop-i.i c.loop-i-test.true c.requires.place c.requires.processors in
+    omega arith
+
+pub bounds-arrivals-from-in-loop-i : goal.bounds-arrivals-from-in-loop-i
+bounds-arrivals-from-in-loop-i c =
+    low c.args.events.now c.args.place c.loop-i.i c.loop-i-test.true c.requires.place c.requires.processors
 
 pub loop-i-preserved : goal.loop-i-preserved
 loop-i-preserved c =

@@ -1,7 +1,18 @@
 use Rattle.std.proofs.Common.{◌≡◌, ◌∙◌, length, subst, sym, arith}
 use Rattle.why.specs.News.{AreIncoming, AreNews}
 use Rattle.why.proofs.Fresh.{incoming_next}
+use Rattle.journal.specs.InRange.{ProcessorsInRange}
 use Rattle.why.proofs.news.incoming.Goals as goal
+
+pub take_step-requires-clause-processors : goal.take_step-requires-clause-processors
+take_step-requires-clause-processors c =
+    subst (λ n. ProcessorsInRange n c.args.events.now) (sym c.loop-place.invariant.present) c.requires.processors
+
+pub news-requires-clause-processors : goal.news-requires-clause-processors
+news-requires-clause-processors c = λ k e at.
+    (let low = c.requires.processors k e at in
+    let few = c.requires.few_processors in
+    omega arith)
 
 pub loop-place-preserved : goal.loop-place-preserved
 loop-place-preserved c =

@@ -1,4 +1,4 @@
-use Rattle.std.proofs.Common.{◌≡◌, slice_index_or, take, subst, ap, arith}
+use Rattle.std.proofs.Common.{◌≡◌, slice_index_or, take, subst, ap, arith, sym}
 use Rattle.std.proofs.lemmas.Option.{slice_get-get_or, slice_get_within}
 use Rattle.journal.specs.declared.event.Event.{Event}
 use Rattle.journal.specs.declared.event.Kind.TheVariants.{Load}
@@ -7,7 +7,30 @@ use Rattle.journal.specs.Times.{IsTimeOf}
 use Rattle.journal.specs.Entries.{entry}
 use Rattle.journal.proofs.Order.Places.{at_same}
 use Rattle.journal.proofs.Times.Uses.{ordered_before}
+use Rattle.journal.specs.InRange.{ProcessorsInRange}
 use Rattle.why.proofs.racing.heard.Goals as goal
+
+pub note-requires-clause-processors : goal.note-requires-clause-processors
+note-requires-clause-processors c =
+    subst (λ n. ProcessorsInRange n c.args.events.now) (sym c.loop-place.invariant.present) c.requires.processors
+
+pub note-requires-clause-place : goal.note-requires-clause-place
+note-requires-clause-place c =
+    let within = slice_get_within c.args.events.now c.args.second c.requires.second.0 c.requires.second.1 in
+    let lt = c.loop-place-test.true in
+    omega arith
+
+pub offset_bounds-events-second : goal.offset_bounds-events-second
+offset_bounds-events-second c =
+    let within = slice_get_within c.args.events.now c.args.second c.requires.second.0 c.requires.second.1 in
+    omega arith
+
+pub bounds-events-second : goal.bounds-events-second
+bounds-events-second c = slice_get_within c.args.events.now c.args.second c.requires.second.0 c.requires.second.1
+
+pub last_heard-requires-clause-place : goal.last_heard-requires-clause-place
+last_heard-requires-clause-place c =
+    slice_get_within c.args.events.now c.args.second c.requires.second.0 c.requires.second.1
 
 pub last_heard-requires-clause-tells : goal.last_heard-requires-clause-tells
 last_heard-requires-clause-tells c = λ i a does lt.

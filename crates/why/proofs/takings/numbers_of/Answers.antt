@@ -1,13 +1,39 @@
-use Rattle.std.proofs.Common.{◌≡◌, length, slice_index_or, ◌∙◌, arith}
+use Rattle.std.proofs.Common.{◌≡◌, ◌<◌, ℕ, List, length, slice_index_or, ◌∙◌, arith}
 use Rattle.std.proofs.lemmas.List.{length-set}
 use Rattle.std.proofs.lemmas.Option.{slice_get-get_or, slice_get_within}
 use Rattle.journal.specs.declared.event.Event.{Event}
 use Rattle.journal.specs.declared.event.Kind.TheVariants.{Load}
 use Rattle.journal.specs.Did.{event}
 use Rattle.journal.specs.Events.{is_closing}
+use Rattle.journal.specs.InRange.{ProcessorsInRange}
 use Rattle.why.proofs.LetsOn.{counts_next}
 use Rattle.why.proofs.Takes.{numbers_next}
 use Rattle.why.proofs.takings.numbers_of.Goals as goal
+
+-- the event at this place
+abbrev here : List Event → ℕ → Event
+here events place = slice_index_or events place (event 0 (Load 0 0))
+
+-- its processor is one of sixteen
+low : (events : List Event) (place : ℕ) → place < length events → ProcessorsInRange 16 events
+    → (here events place).processor < 16
+low events place lt range = range place (here events place) (slice_get-get_or events place (event 0 (Load 0 0)) lt)
+
+pub offset_bounds-closed-event : goal.offset_bounds-closed-event
+offset_bounds-closed-event c =
+    let is = low c.args.events.now c.loop-place.place c.loop-place-test.true c.requires.processors in
+    omega arith
+
+pub bounds-closed-event : goal.bounds-closed-event
+bounds-closed-event c = low c.args.events.now c.loop-place.place c.loop-place-test.true c.requires.processors
+
+pub offset_bounds-closed-event-in-loop-place : goal.offset_bounds-closed-event-in-loop-place
+offset_bounds-closed-event-in-loop-place c =
+    let is = low c.args.events.now c.loop-place.place c.loop-place-test.true c.requires.processors in
+    omega arith
+
+pub bounds-closed-event-in-loop-place : goal.bounds-closed-event-in-loop-place
+bounds-closed-event-in-loop-place c = low c.args.events.now c.loop-place.place c.loop-place-test.true c.requires.processors
 
 pub loop-place-preserved : goal.loop-place-preserved
 loop-place-preserved c =
