@@ -138,15 +138,15 @@ fn flagged_command<'a>(
     after: &'a str,
     own: Arg<'a>,
     locks: &'a [&'a str],
-    flag: Arg<'a>,
+    flag: &'a str,
+    help: &'a str,
 ) -> Result<Command<'a>, AllocError>
-    requires own { own.global ≡ false }
-    requires flag { flag.global ≡ false }
+    requires { own.global ≡ false }
     ensures app { IfOk result (λ c. app_of c
-        ≡ flagged_app name.entry.now (rule_of own.entry) (vp.Names locks.entry) (rule_of flag.entry)) }
+        ≡ flagged_app name.entry.now (rule_of own.entry) (vp.Names locks.entry) (flag_rule flag.entry.now)) }
     ensures globals { IfOk result (λ c. (out-Command c).has_globals ≡ false) }
 {
-    script_command(alloc, name, about, after, own, locks)?.arg(flag)
+    script_command(alloc, name, about, after, own, locks)?.arg(flag_arg(alloc, flag, help))
 }
 
 /// `lrc run`.
@@ -155,8 +155,8 @@ fn run_command<'a>(alloc: Global, locks: &'a [&'a str]) -> Result<Command<'a>, A
     ensures globals { IfOk result (λ c. (out-Command c).has_globals ≡ false) }
 {
     let about = "Runs each processor on a thread of its own";
-    let (own, flag) = (tries_arg(alloc), flag_arg(alloc, "journal", JOURNAL));
-    flagged_command(alloc, "run", about, SCRIPT, own, locks, flag)
+    let own = tries_arg(alloc);
+    flagged_command(alloc, "run", about, SCRIPT, own, locks, "journal", JOURNAL)
 }
 
 /// `lrc step`.
@@ -165,8 +165,8 @@ fn step_command<'a>(alloc: Global, locks: &'a [&'a str]) -> Result<Command<'a>, 
     ensures globals { IfOk result (λ c. (out-Command c).has_globals ≡ false) }
 {
     let about = "Runs the processors by turns on one thread: the same words give the same report";
-    let (own, flag) = (seed_arg(alloc), flag_arg(alloc, "journal", JOURNAL));
-    flagged_command(alloc, "step", about, SCRIPT, own, locks, flag)
+    let own = seed_arg(alloc);
+    flagged_command(alloc, "step", about, SCRIPT, own, locks, "journal", JOURNAL)
 }
 
 /// `lrc explain`.
@@ -175,8 +175,8 @@ fn explain_command<'a>(alloc: Global, locks: &'a [&'a str]) -> Result<Command<'a
     ensures globals { IfOk result (λ c. (out-Command c).has_globals ≡ false) }
 {
     let about = "Runs the processors as step does, and tells the run event by event";
-    let (own, flag) = (seed_arg(alloc), flag_arg(alloc, "svg", SVG));
-    flagged_command(alloc, "explain", about, EXPLAIN, own, locks, flag)
+    let own = seed_arg(alloc);
+    flagged_command(alloc, "explain", about, EXPLAIN, own, locks, "svg", SVG)
 }
 
 /// `lrc sample`.
