@@ -5,7 +5,7 @@
 //!   `asked` and `released` (specs/Lock).
 //! - Proved: each call is what these words say, and the line at a lock stays orderly (`IsOrderly`): nobody
 //!   stands in it twice, and somebody is queued only where the lock is held.
-//! - Only tested: that `new` wants no memory needlessly. That no other call takes any is read off the code.
+//! - Only tested: that `new` allocates only what it needs. That no other call allocates is read off the code.
 #![tactic(auto)]
 
 mod locks;

@@ -3,7 +3,7 @@
 //! - Contracts see a `Message` as a `Letter` (kind, timestamp, notices; specs/Letters), and `Transit` as a
 //!   list with a letter or none for each processor, read by `mail` (specs/Mail).
 //! - Proved: what is taken is what was posted, and each call is what these words say.
-//! - Only tested: that `new` wants no memory needlessly. That no other call takes any is read off the code.
+//! - Only tested: that `new` allocates only what it needs. That no other call allocates is read off the code.
 #![tactic(auto)]
 
 mod message;
