@@ -5,7 +5,7 @@ ghost use Rattle.lrc_study.specs.Prelude.{IsBeforeAnswer, IsFaithfulTrace, IsInp
 ghost use Rattle.lrc_study.specs.Prelude.{IsUnfaithfulTrace, is_faithful_of};
 
 use crate::fault::StudyFault;
-use lrc_check::{Checked, check};
+use lrc_check::{Checked, check_text};
 use lrc_options::options::TraceOptions;
 use std::alloc::Global;
 use std::io::{Read, Write};
@@ -52,7 +52,7 @@ fn check_trace<S: Read, W: Write>(
         (λ fault. IsBeforeAnswer fault → Keeps (W.contents out.old) (W.contents out.new)) }
 {
     let bytes = read_trace(alloc, source)?;
-    let found = check(alloc, &bytes, lax, out)?;
+    let found = check_text(alloc, bytes, lax, out)?;
     Ok(is_faithful(&found))
 }
 

@@ -5,6 +5,6 @@ use Rattle.lrc_study.proofs.checking.check_trace.Goals as goal
 
 pub returns-clause-judged : goal.returns-clause-judged
 returns-clause-judged g c =
-    let found = rw c.deref.ensures.value at c.in_ok-found.ensures.found in
+    let found = c.in_ok-found.ensures.found in
     subst (IsJudgedAs c.args.lax _) (sym c.is_faithful.ensures)
     (judged_as c.args.lax _ _ c.in_ok-found.found c.in_ok-bytes.ensures.read found)
