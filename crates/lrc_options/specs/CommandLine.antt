@@ -105,18 +105,20 @@ lax_rule = flag_rule (codes "lax")
 abbrev pub check_app : App
 check_app = file_app (codes "check") lax_rule
 
--- `lrc`, which wants a command and has a version
+-- `lrc`, which wants a command and has a version, with the commands that print a report
+abbrev pub with_runs_app : ValueParser → App
+with_runs_app locks = with_subcommand
+    (with_subcommand (on_top (λ s. record s { subcommand_required = true; has_version = true }) (new_app (codes "lrc")))
+    (run_app locks).top) (step_app locks).top
+
+-- the same with the commands that study runs
+abbrev pub with_studies_app : ValueParser → App
+with_studies_app locks = with_subcommand (with_subcommand (with_runs_app locks) (explain_app locks).top)
+    (sample_app locks).top
+
+-- `lrc` with all its commands
 abbrev pub lrc_app : ValueParser → App
-lrc_app locks = on_top (λ s. record s { subcommand_required = true; has_version = true })
-    (with_subcommand
-    (with_subcommand
-    (with_subcommand
-    (with_subcommand
-    (with_subcommand (with_subcommand (new_app (codes "lrc")) (run_app locks).top) (step_app locks).top)
-    (explain_app locks).top)
-    (sample_app locks).top)
-    explore_app.top)
-    check_app.top)
+lrc_app locks = with_subcommand (with_subcommand (with_studies_app locks) explore_app.top) check_app.top
 
 -- the parser takes these names and no others
 abbrev pub TakesNames : List Text → ValueParser → Type 0

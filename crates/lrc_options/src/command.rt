@@ -6,6 +6,7 @@ ghost use Rattle.clap.specs.declared.builder.value_parser.ValueParser.TheVariant
 ghost use Rattle.lrc_options.specs.CommandLine.{flag_rule, lock_rule, most_rule, number_rule, seed_rule, seeds_rule};
 ghost use Rattle.lrc_options.specs.CommandLine.{check_app, explain_app, explore_app, file_app, flagged_app, lrc_app};
 ghost use Rattle.lrc_options.specs.CommandLine.{run_app, sample_app, script_app, step_app, tries_rule};
+ghost use Rattle.lrc_options.specs.CommandLine.{with_runs_app, with_studies_app};
 
 use crate::help::{
     ABOUT, AFTER, EXPLAIN, EXPLORE, JOURNAL, LAX, MOST, SAMPLE, SCRIPT, SCRIPT_FILE, SEED, SEEDS,
@@ -221,6 +222,30 @@ fn check_command<'a>(alloc: Global) -> Result<Command<'a>, AllocError>
     )
 }
 
+/// `lrc` with the commands that print a report.
+fn with_runs<'a>(alloc: Global, locks: &'a [&'a str]) -> Result<Command<'a>, AllocError>
+    ensures app { IfOk result (λ c. app_of c ≡ with_runs_app (vp.Names locks.entry)) }
+    ensures globals { IfOk result (λ c. (out-Command c).has_globals ≡ false) }
+{
+    Command::new(alloc, "lrc")
+        .about(ABOUT)
+        .after_help(AFTER)
+        .version(VERSION)
+        .subcommand_required(true)
+        .subcommand(run_command(alloc, locks)?)?
+        .subcommand(step_command(alloc, locks)?)
+}
+
+/// The same with the commands that study runs.
+fn with_studies<'a>(alloc: Global, locks: &'a [&'a str]) -> Result<Command<'a>, AllocError>
+    ensures app { IfOk result (λ c. app_of c ≡ with_studies_app (vp.Names locks.entry)) }
+    ensures globals { IfOk result (λ c. (out-Command c).has_globals ≡ false) }
+{
+    with_runs(alloc, locks)?
+        .subcommand(explain_command(alloc, locks)?)?
+        .subcommand(sample_command(alloc, locks)?)
+}
+
 /// The command that the words are read by.
 pub(crate) fn lrc_command<'a>(
     alloc: Global,
@@ -230,15 +255,7 @@ pub(crate) fn lrc_command<'a>(
     ensures globals { IfOk result (λ c. (out-Command c).has_globals ≡ false) }
     ensures wants { IfOk result (λ c. (out-Command c).subcommand_required ≡ true) }
 {
-    Command::new(alloc, "lrc")
-        .about(ABOUT)
-        .after_help(AFTER)
-        .version(VERSION)
-        .subcommand_required(true)
-        .subcommand(run_command(alloc, locks)?)?
-        .subcommand(step_command(alloc, locks)?)?
-        .subcommand(explain_command(alloc, locks)?)?
-        .subcommand(sample_command(alloc, locks)?)?
+    with_studies(alloc, locks)?
         .subcommand(explore_command(alloc)?)?
         .subcommand(check_command(alloc)?)
 }

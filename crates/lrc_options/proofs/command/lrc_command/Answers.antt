@@ -1,59 +1,25 @@
-use Rattle.std.proofs.Common.{◌≡◌, ◌∙◌, ap, ap₂, true, false}
-use Rattle.clap.specs.Words.{App, app_of, with_subcommand}
-use Rattle.clap.specs.Simple.{app_of_fields, on_top}
-use Rattle.clap.specs.declared.builder.command.Command.{Command}
-use Rattle.clap.specs.declared.builder.command.Command.TheOpen.{Command-F}
-use Rattle.clap.specs.declared.builder.command.Command.TheViews.{out-Command}
+use Rattle.std.proofs.Common.{◌∙◌, ap, ap₂}
+use Rattle.clap.specs.Words.{App, with_subcommand}
 use Rattle.lrc_options.proofs.CommandLine.{if_ok_map, still_local}
 use Rattle.lrc_options.proofs.command.lrc_command.Goals as goal
 
 pub returns-clause-app : goal.returns-clause-app
 returns-clause-app c =
-    let about : app_of c.about.result ≡ app_of c.new.result = ap app_of_fields c.about.ensures in
-    let after : app_of c.after_help.result ≡ app_of c.about.result = ap app_of_fields c.after_help.ensures in
-    let version = ap app_of_fields c.version.ensures
-    ∙ ap (on_top (λ s. record s { has_version = true })) (after ∙ about ∙ c.new.ensures.app) in
-    let start = ap app_of_fields c.subcommand_required.ensures
-    ∙ ap (on_top (λ s. record s { subcommand_required = true })) version in
-    let with_run = c.in_ok-subcommand.ensures.shape c.in_ok-run_command.ensures.globals
-    ∙ ap₂ with_subcommand start (ap (λ (a : App). a.top) c.in_ok-run_command.ensures.app) in
-    let with_step = c.in_ok-subcommand-2.ensures.shape c.in_ok-step_command.ensures.globals
-    ∙ ap₂ with_subcommand with_run (ap (λ (a : App). a.top) c.in_ok-step_command.ensures.app) in
-    let with_explain = c.in_ok-subcommand-3.ensures.shape c.in_ok-explain_command.ensures.globals
-    ∙ ap₂ with_subcommand with_step (ap (λ (a : App). a.top) c.in_ok-explain_command.ensures.app) in
-    let with_sample = c.in_ok-subcommand-4.ensures.shape c.in_ok-sample_command.ensures.globals
-    ∙ ap₂ with_subcommand with_explain (ap (λ (a : App). a.top) c.in_ok-sample_command.ensures.app) in
-    let with_explore = c.in_ok-subcommand-5.ensures.shape c.in_ok-explore_command.ensures.globals
-    ∙ ap₂ with_subcommand with_sample (ap (λ (a : App). a.top) c.in_ok-explore_command.ensures.app) in
-    if_ok_map c.subcommand-6.result
+    let first = c.in_ok-subcommand.ensures.shape c.in_ok-explore_command.ensures.globals
+    ∙ ap₂ with_subcommand c.in_ok-with_studies.ensures.app (ap (λ (a : App). a.top) c.in_ok-explore_command.ensures.app) in
+    if_ok_map c.subcommand-2.result
     (λ made adds. adds.shape c.in_ok-check_command.ensures.globals
-    ∙ ap₂ with_subcommand with_explore (ap (λ (a : App). a.top) c.in_ok-check_command.ensures.app))
-    c.subcommand-6.ensures
+    ∙ ap₂ with_subcommand first (ap (λ (a : App). a.top) c.in_ok-check_command.ensures.app))
+    c.subcommand-2.ensures
 
 pub returns-clause-globals : goal.returns-clause-globals
 returns-clause-globals c =
-    let about : (out-Command c.about.result).has_globals ≡ false =
-    ap (λ (f : Command-F Command). f.has_globals) c.about.ensures ∙ c.new.ensures.local in
-    let after : (out-Command c.after_help.result).has_globals ≡ false =
-    ap (λ (f : Command-F Command). f.has_globals) c.after_help.ensures ∙ about in
-    let version : (out-Command c.version.result).has_globals ≡ false =
-    ap (λ (f : Command-F Command). f.has_globals) c.version.ensures ∙ after in
-    let start : (out-Command c.subcommand_required.result).has_globals ≡ false =
-    ap (λ (f : Command-F Command). f.has_globals) c.subcommand_required.ensures ∙ version in
-    let with_run =
-    still_local _ _ _ c.in_ok-subcommand.ensures.globals start c.in_ok-run_command.ensures.globals in
-    let with_step =
-    still_local _ _ _ c.in_ok-subcommand-2.ensures.globals with_run c.in_ok-step_command.ensures.globals in
-    let with_explain =
-    still_local _ _ _ c.in_ok-subcommand-3.ensures.globals with_step c.in_ok-explain_command.ensures.globals in
-    let with_sample =
-    still_local _ _ _ c.in_ok-subcommand-4.ensures.globals with_explain c.in_ok-sample_command.ensures.globals in
-    let with_explore =
-    still_local _ _ _ c.in_ok-subcommand-5.ensures.globals with_sample c.in_ok-explore_command.ensures.globals in
-    if_ok_map c.subcommand-6.result
-    (λ made adds. still_local _ _ _ adds.globals with_explore c.in_ok-check_command.ensures.globals)
-    c.subcommand-6.ensures
+    let first = still_local _ _ _ c.in_ok-subcommand.ensures.globals c.in_ok-with_studies.ensures.globals
+    c.in_ok-explore_command.ensures.globals in
+    if_ok_map c.subcommand-2.result
+    (λ made adds. still_local _ _ _ adds.globals first c.in_ok-check_command.ensures.globals)
+    c.subcommand-2.ensures
 
 pub returns-clause-wants : goal.returns-clause-wants
 returns-clause-wants c =
-    if_ok_map c.subcommand-6.result (λ made is. ap (λ (a : App). a.top.subcommand_required) is) (returns-clause-app c)
+    if_ok_map c.subcommand-2.result (λ made is. ap (λ (a : App). a.top.subcommand_required) is) (returns-clause-app c)
