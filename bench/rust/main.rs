@@ -3,10 +3,12 @@
 //!
 //! `plain WORK TIMES [THREADS|FILE]` and `plain WORK EVENTS TIMES` take the words of `bench`.
 //! `plain whole FILE [--journal]` does what `lrc step FILE [--journal]` does, and prints the same.
+//! `plain explore FILE [MOST]` searches all schedules, and prints the verdict and how many states and outcomes there are.
 //! It uses std alone, events of 16 bytes, and one Mutex round what the processors share; `run_in_order` has a lock in its
 //! place that lets threads in by the order of drawing, as the product's do.
 
 mod book;
+mod explore;
 mod journal;
 mod locks;
 mod run;
@@ -33,6 +35,7 @@ fn main() {
         "fetch" => println!("{}", book::fetches(times)),
         "parse" => println!("{}", script::parses(words.get(3).map_or("", String::as_str), times)),
         "step" | "run" | "run_in_order" => println!("{}", run::runs(work, words.get(3).map_or("", String::as_str), times)),
+        "explore" => explore::explore(words.get(2).map_or("", String::as_str), words.get(3).and_then(|most| most.parse().ok()).unwrap_or(1_000_000)),
         "whole" => run::whole(words.get(2).map_or("", String::as_str), words.len() > 3),
         "build" | "append" | "first_race" | "replay" | "traffic" | "copy" => journal::measure(work, times, many),
         _ => {
