@@ -1,9 +1,8 @@
-use Rattle.std.proofs.Common.{ℕ, inl, inr, Some, refl, sym, ◌∙◌, arith, length-set}
+use Rattle.std.proofs.Common.{inl, inr, Some, refl, sym, ◌∙◌, arith, length-set}
 use Rattle.std.specs.Prelude.{None}
 use Rattle.std.proofs.lemmas.Bool.{cases_lt}
 use Rattle.std.proofs.lemmas.Option.{none-some}
 use Rattle.lists.proofs.Sets.{slice_get-replicate_found, slice_get-set_other}
-use Rattle.journal.specs.declared.event.Event.{Event}
 use Rattle.journal.specs.declared.event.Kind.TheVariants.{Store}
 use Rattle.journal.specs.Did.{event}
 use Rattle.sources.proofs.Choosing.{IsGiven, few_processors, marks_next, unfollowed_latest, latest_unfollowed}

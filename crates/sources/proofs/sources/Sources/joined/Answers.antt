@@ -1,11 +1,10 @@
-use Rattle.std.proofs.Common.{◌≡◌, ℕ, ◌<◌, ◌≤◌, max, inl, inr, List, Some, length, slice_get, slice_index, subst, sym, ap, ◌∙◌, arith}
+use Rattle.std.proofs.Common.{ℕ, ◌<◌, ◌≤◌, inl, inr, List, Some, length, slice_get, slice_index, subst, sym, ap, ◌∙◌, arith}
 use Rattle.std.specs.Prelude.{None}
 use Rattle.std.proofs.lemmas.Bool.{cases_eq, cases_lt}
 use Rattle.std.proofs.lemmas.Option.{none-some, same_Some, slice_get_within}
 use Rattle.lists.proofs.Sets.{index-zeros}
 use Rattle.journal.specs.Entries.{entry}
 use Rattle.sources.specs.declared.stored.Stored.{Stored}
-use Rattle.sources.specs.Last.{IsFollowed}
 use Rattle.sources.proofs.Reading.{entry_read, option_at}
 use Rattle.sources.proofs.sources.Sources.joined.Goals as goal
 use Rattle.sources.proofs.sources.Sources.joined.Goals.{in-Some, in_default}
