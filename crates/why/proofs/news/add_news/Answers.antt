@@ -1,13 +1,9 @@
-use Rattle.std.proofs.Common.{◌≡◌, ℕ, ◌+◌, ◌<◌, List, length, slice_index, slice_index_or, subst, sym, refl, arith}
+use Rattle.std.proofs.Common.{ℕ, ◌+◌, length, subst, sym, refl, arith}
 use Rattle.std.specs.Global.{Vec}
 use Rattle.std.proofs.lemmas.Bool.{false≢true}
 use Rattle.std.proofs.lemmas.Option.{slice_get_read, slice_get_within}
-use Rattle.journal.specs.declared.event.Event.{Event}
 use Rattle.journal.specs.Did.{event}
 use Rattle.journal.proofs.Order.Places.{at_within}
-use Rattle.why.specs.Index.{AreClosings, IsClosing}
-use Rattle.why.specs.declared.news.Step.{Step}
-use Rattle.why.specs.News.{IsStep}
 use Rattle.why.proofs.Fresh.{HasBelow, IsOnceIf, below_all, below_next, below_other, closing_read, number_within, once_push}
 use Rattle.why.proofs.news.add_news.Goals as goal
 use Rattle.why.proofs.news.add_news.Goals.{then-leads+in_ok-push, else-leads}
