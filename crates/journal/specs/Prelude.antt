@@ -14,8 +14,8 @@ pub use Rattle.journal.specs.Log.{Log, new_log}
 pub use Rattle.journal.specs.InRange.{AddressInRange, AddressesInRange, ProcessorsInRange}
 pub use Rattle.journal.specs.Holding.{IsHeld, log_of}
 pub use Rattle.journal.specs.Waits.{awaited}
-pub use Rattle.journal.specs.Entries.{IsJoinedAt, entry, map_entry}
-pub use Rattle.journal.specs.Clocks.{AreClocks, Keeps, brought_entry}
+pub use Rattle.journal.specs.Entries.{IsClosedAt, IsJoinedAt, entry, map_entry}
+pub use Rattle.journal.specs.Clocks.{AreClocks, IsArrived}
 pub use Rattle.journal.specs.Accesses.{AreAccesses, AreLoadsAfter, AreWithin, ConflictsAreCounted, IsNoted}
 pub use Rattle.journal.specs.Accesses.{epoch_entry, loads_entry}
 pub use Rattle.journal.specs.Groups.{since}

@@ -2,12 +2,11 @@
 ghost use Rattle.std.specs.Prelude.{◌≡◌, ◌↔◌, ℕ, ◌+◌, ◌-◌, ◌<◌, ◌≤◌, ◌^◌, ◌==◌, ◌&&◌, [], IsTrue, EachIndex, IfOk};
 ghost use Rattle.std.specs.Prelude.{OnOk, cond, max, length, take, slice_get, slice_index, vec_len, true};
 ghost use Rattle.lists.specs.Prelude.{most_held, most_processors};
-ghost use Rattle.journal.specs.Prelude.{is_closing, is_taking, is_arrive, is_depart, ProcessorsInRange, entry};
-ghost use Rattle.journal.specs.Prelude.{brought_entry, Keeps, AreClocks};
+ghost use Rattle.journal.specs.Prelude.{ProcessorsInRange, entry, kept_entry, IsClosedAt, IsJoinedAt, AreClocks};
+ghost use Rattle.journal.specs.Prelude.{IsArrived};
 
-use crate::clock::{Clock, clock_in, join, join_in, tick, zeros};
+use crate::clock::{Clock, join_from, join_in, tick, zeros};
 use crate::event::{Event, Kind};
-use crate::kinds::{closes, departs, is_plain};
 use crate::numbered::Numbered;
 use std::alloc::{AllocError, Global};
 use std::collections::VecDeque;
@@ -33,6 +32,49 @@ fn are_past(counts: &[u32], number: usize) -> bool
     ensures { IsTrue result ↔ EachIndex counts.now (λ k. number < slice_index counts.now k) }
 {
     counts.iter().all(|count| *count as usize > number)
+}
+
+/// Counts one more closing event of the processor in its timestamp.
+fn close(processors: &mut Vec<Clock>, processor: usize)
+    requires processor { processor < 16 }
+    requires long { vec_len processors.old ≡ 16 }
+    requires room { entry processors.old.items processor processor < 2 ^ 22 }
+    ensures long { vec_len processors.new ≡ vec_len processors.old }
+    ensures closed { IsClosedAt (entry processors.old.items) (entry processors.new.items) processor }
+{
+    tick(&mut processors[processor], processor);
+}
+
+/// Joins what is kept under this number into the processor's timestamp.
+#[inline(always)]
+fn take(processors: &mut Vec<Clock>, processor: usize, kept: &Numbered, number: usize)
+    requires { processor < vec_len processors.old }
+    ensures long { vec_len processors.new ≡ vec_len processors.old }
+    ensures joined { IsJoinedAt (entry processors.old.items) (entry processors.new.items) processor
+        (kept_entry kept.now number) }
+{
+    kept.join_into(number, &mut processors[processor]);
+}
+
+/// Counts one more closing event of the processor in its timestamp, and joins that into what is kept under this
+/// number.
+#[inline(always)]
+fn hand_over(
+    processors: &mut Vec<Clock>,
+    processor: usize,
+    kept: &mut Numbered,
+    number: usize,
+) -> Result<(), AllocError>
+    requires processor { processor < 16 }
+    requires long { vec_len processors.old ≡ 16 }
+    requires room { entry processors.old.items processor processor < 2 ^ 22 }
+    ensures long { vec_len processors.new ≡ vec_len processors.old }
+    ensures closed { IsClosedAt (entry processors.old.items) (entry processors.new.items) processor }
+    ensures joined { OnOk result (IsJoinedAt (kept_entry kept.old) (kept_entry kept.new) number
+        (entry processors.new.items processor)) }
+{
+    close(processors, processor);
+    kept.join(number, &processors[processor])
 }
 
 impl Clocks {
@@ -62,99 +104,59 @@ impl Clocks {
         &self.processors[processor]
     }
 
-    /// What the event brings its processor.
-    fn brought(&self, event: Event) -> Clock
-        requires processor { event.processor < 16 }
-        requires left { self.now.gone ≤ slice_index self.now.departures event.processor }
-        ensures { (q : ℕ) → slice_index result q
-            ≡ brought_entry self.now event.processor event.kind q }
+    /// Takes note of the processor's arrival: closes its interval, and joins its timestamp into what the episode
+    /// keeps.
+    fn arrive(&mut self, processor: usize) -> Result<(), AllocError>
+        requires processor { processor < 16 }
+        requires long { vec_len self.old.processors ≡ 16 }
+        requires room { entry self.old.processors.items processor processor < 2 ^ 22 }
+        requires arrivals_room { slice_index self.old.arrivals processor < 2 ^ 22 }
+        ensures rest { self.new ≡ record self.old {
+          processors = self.new.processors;
+          episodes = self.new.episodes;
+          arrivals = self.new.arrivals;
+        } }
+        ensures long { vec_len self.new.processors ≡ vec_len self.old.processors }
+        ensures closed { IsClosedAt (entry self.old.processors.items)
+            (entry self.new.processors.items) processor }
+        ensures arrived { OnOk result (IsArrived self.old self.new processor) }
     {
-        match event.kind {
-            Kind::Acquire(lock) => self.locks.at(lock),
-            Kind::Await(flag) => self.flags.at(flag),
-            Kind::Depart => {
-                let episode = self.departures[event.processor] as usize;
-                clock_in(&self.episodes, episode - self.gone)
-            }
-            _ => [0; 16],
+        close(&mut self.processors, processor);
+        let episode = self.arrivals[processor] as usize;
+        if self.gone <= episode {
+            let own = &self.processors[processor];
+            join_in(&mut self.episodes, episode - self.gone, own)?;
         }
+        self.arrivals[processor] += 1;
+        Ok(())
     }
 
-    /// The timestamp of the event's processor after it.
-    fn own_after(&self, event: Event) -> Clock
-        requires processor { event.processor < 16 }
-        requires long { vec_len self.now.processors ≡ 16 }
-        requires left { self.now.gone ≤ slice_index self.now.departures event.processor }
-        requires room { max (entry self.now.processors.items event.processor event.processor)
-            (brought_entry self.now event.processor event.kind event.processor) < 2 ^ 22 }
-        ensures { (q : ℕ) → slice_index result q
-            ≡ max (entry self.now.processors.items event.processor q)
-            (brought_entry self.now event.processor event.kind q) + cond
-            ((event.processor == q) && is_closing event.kind) 1 0 }
-    {
-        let mut own = self.processors[event.processor];
-        let brought = self.brought(event);
-        join(&mut own, &brought);
-        if closes(event.kind) {
-            tick(&mut own, event.processor);
-        }
-        own
-    }
-
-    /// Joins the timestamp of the event's processor into what its lock, flag or episode keeps.
-    fn keep(&mut self, event: Event, own: &Clock) -> Result<(), AllocError>
-        requires { event.processor < 16 }
-        ensures processors { self.new.processors ≡ self.old.processors }
-        ensures arrivals { self.new.arrivals ≡ self.old.arrivals }
-        ensures departures { self.new.departures ≡ self.old.departures }
-        ensures present { self.new.present ≡ self.old.present }
-        ensures gone { self.new.gone ≡ self.old.gone }
-        ensures keeps { OnOk result (Keeps self.old self.new.locks self.new.flags
-            self.new.episodes.items event.processor (slice_index own.now) event.kind) }
-    {
-        match event.kind {
-            Kind::Release(lock) => self.locks.join(lock, own),
-            Kind::Set(flag) => self.flags.join(flag, own),
-            Kind::Arrive => {
-                let episode = self.arrivals[event.processor] as usize;
-                if episode < self.gone {
-                    Ok(())
-                } else {
-                    join_in(&mut self.episodes, episode - self.gone, own)
-                }
-            }
-            _ => Ok(()),
-        }
-    }
-
-    /// Counts the event where it is an arrival or a departure.
-    fn count(&mut self, event: Event)
-        requires processor { event.processor < 16 }
-        requires arrivals_room { slice_index self.old.arrivals event.processor < 2 ^ 22 }
-        requires departures_room { slice_index self.old.departures event.processor < 2 ^ 22 }
-        ensures processors { self.new.processors ≡ self.old.processors }
-        ensures locks { self.new.locks ≡ self.old.locks }
-        ensures flags { self.new.flags ≡ self.old.flags }
-        ensures episodes { self.new.episodes ≡ self.old.episodes }
-        ensures present { self.new.present ≡ self.old.present }
-        ensures gone { self.new.gone ≡ self.old.gone }
-        ensures arrivals { (q : ℕ) → slice_index self.new.arrivals q
-            ≡ slice_index self.old.arrivals q + cond
-            ((event.processor == q) && is_arrive event.kind) 1 0 }
+    /// Takes note of the processor's departure: joins what the episode keeps into its timestamp.
+    fn depart(&mut self, processor: usize)
+        requires processor { processor < 16 }
+        requires long { vec_len self.old.processors ≡ 16 }
+        requires left { self.old.gone ≤ slice_index self.old.departures processor }
+        requires room { slice_index self.old.departures processor < 2 ^ 22 }
+        ensures rest { self.new ≡ record self.old {
+          processors = self.new.processors;
+          departures = self.new.departures;
+        } }
+        ensures long { vec_len self.new.processors ≡ vec_len self.old.processors }
+        ensures joined { IsJoinedAt (entry self.old.processors.items)
+            (entry self.new.processors.items) processor (entry self.old.episodes.items
+            (slice_index self.old.departures processor - self.old.gone)) }
         ensures departures { (q : ℕ) → slice_index self.new.departures q
-            ≡ slice_index self.old.departures q + cond
-            ((event.processor == q) && is_depart event.kind) 1 0 }
+            ≡ slice_index self.old.departures q + cond (processor == q) 1 0 }
     {
-        match event.kind {
-            Kind::Arrive => self.arrivals[event.processor] += 1,
-            Kind::Depart => self.departures[event.processor] += 1,
-            _ => {}
-        }
+        let episode = self.departures[processor] as usize;
+        let own = &mut self.processors[processor];
+        join_from(own, &self.episodes, episode - self.gone);
+        self.departures[processor] += 1;
     }
 
-    /// Lets go of the first episode that is kept, where the event is the last departure from it.
-    fn let_go(&mut self, event: Event)
-        requires present { event.processor < self.old.present }
+    /// Lets go of the first episode that is kept, where every processor has departed from it.
+    fn let_go(&mut self)
+        requires some { 0 < self.old.present }
         requires few { self.old.present ≤ most_processors }
         ensures processors { self.new.processors ≡ self.old.processors }
         ensures locks { self.new.locks ≡ self.old.locks }
@@ -162,8 +164,7 @@ impl Clocks {
         ensures arrivals { self.new.arrivals ≡ self.old.arrivals }
         ensures departures { self.new.departures ≡ self.old.departures }
         ensures present { self.new.present ≡ self.old.present }
-        ensures goes { is_depart event.kind ≡ true
-            → ((p : ℕ) → p < self.old.present → self.old.gone < slice_index self.old.departures p)
+        ensures goes { ((p : ℕ) → p < self.old.present → self.old.gone < slice_index self.old.departures p)
             → self.new.gone ≡ self.old.gone + 1 }
         ensures left { (p : ℕ) → p < self.old.present
             → self.old.gone ≤ slice_index self.old.departures p
@@ -172,7 +173,7 @@ impl Clocks {
             × (entry self.new.episodes.items (n - self.new.gone) q
             ≡ entry self.old.episodes.items (n - self.old.gone) q) }
     {
-        if departs(event.kind) && are_past(&self.departures[..self.present], self.gone) {
+        if are_past(&self.departures[..self.present], self.gone) {
             let _ = self.episodes.pop_front();
             self.gone += 1;
         }
@@ -189,14 +190,34 @@ impl Clocks {
         ensures present { OnOk result (self.new.present ≡ self.old.present) }
     {
         let event = events[place];
-        if is_plain(event.kind) {
-            return Ok(());
+        let processor = event.processor;
+        match event.kind {
+            Kind::Load(..) | Kind::Store(..) | Kind::Fetch { .. } => Ok(()),
+            Kind::Ask(_) | Kind::Watch(_) => {
+                close(&mut self.processors, processor);
+                Ok(())
+            }
+            Kind::Acquire(lock) => {
+                take(&mut self.processors, processor, &self.locks, lock);
+                Ok(())
+            }
+            Kind::Await(flag) => {
+                take(&mut self.processors, processor, &self.flags, flag);
+                Ok(())
+            }
+            Kind::Release(lock) => hand_over(
+                &mut self.processors,
+                processor,
+                &mut self.locks,
+                lock,
+            ),
+            Kind::Set(flag) => hand_over(&mut self.processors, processor, &mut self.flags, flag),
+            Kind::Arrive => self.arrive(processor),
+            Kind::Depart => {
+                self.depart(processor);
+                self.let_go();
+                Ok(())
+            }
         }
-        let own = self.own_after(event);
-        self.keep(event, &own)?;
-        self.processors[event.processor] = own;
-        self.count(event);
-        self.let_go(event);
-        Ok(())
     }
 }

@@ -1,6 +1,6 @@
 //! What kinds of events do.
-ghost use Rattle.std.specs.Prelude.{◌≡◌, IsTrue, false};
-ghost use Rattle.journal.specs.Prelude.{is_closing, is_taking, is_arrive, is_depart};
+ghost use Rattle.std.specs.Prelude.{◌≡◌, is_some};
+ghost use Rattle.journal.specs.Prelude.{address_of, is_closing, is_arrive, is_depart};
 
 use crate::event::Kind;
 
@@ -14,14 +14,12 @@ pub(crate) fn closes(kind: Kind) -> bool
     }
 }
 
-/// Whether an event of this kind neither closes nor takes.
-pub(crate) fn is_plain(kind: Kind) -> bool
-    ensures closes { IsTrue result → is_closing kind ≡ false }
-    ensures takes { IsTrue result → is_taking kind ≡ false }
-    ensures plain { is_closing kind ≡ false → is_taking kind ≡ false → IsTrue result }
+/// Whether an event of this kind loads or stores.
+pub(crate) fn is_access(kind: Kind) -> bool
+    ensures { result ≡ is_some (address_of kind) }
 {
     match kind {
-        Kind::Load(..) | Kind::Store(..) | Kind::Fetch { .. } => true,
+        Kind::Load(..) | Kind::Store(..) => true,
         _ => false,
     }
 }

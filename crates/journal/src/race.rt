@@ -11,7 +11,7 @@ ghost use Rattle.journal.specs.Prelude.{IsNoted};
 use crate::clock::{Clock, others_are_within, tick, zeros};
 use crate::clocks::Clocks;
 use crate::event::{Event, Kind};
-use crate::kinds::closes;
+use crate::kinds::{closes, is_access};
 use std::alloc::{AllocError, Global};
 
 /// An access, as FastTrack's epoch: who made it, and one more than the number of its interval; 0 where there
@@ -268,12 +268,15 @@ pub fn first_race_of(
     let mut accesses = Accesses::new(alloc, addresses)?;
     for place in 0..events.len() {
         let event = events[place];
-        let time = clocks.of(event.processor);
-        if let Some(first) = accesses.race_at(events, place, event, time) {
-            return Ok(Some((first, place)));
+        if is_access(event.kind) {
+            let time = clocks.of(event.processor);
+            if let Some(first) = accesses.race_at(events, place, event, time) {
+                return Ok(Some((first, place)));
+            }
+            accesses.note(event, time);
+        } else {
+            clocks.note(events, place)?;
         }
-        accesses.note(event, time);
-        clocks.note(events, place)?;
     }
     Ok(None)
 }

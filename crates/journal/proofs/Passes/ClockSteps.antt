@@ -1,7 +1,8 @@
 -- The race checker's timestamps after one more event.
-use Rattle.std.proofs.Common.{◌≡◌, ◌≢◌, ℕ, ◌+◌, ◌<◌, ◌≤◌, ◌-◌, ◌^◌, max, List, [], ◌∷◌, ◌++◌, length, take, inl, inr, Bool, false, cond, ◌==◌, ◌&&◌, slice_index, vec_len, subst, sym, refl, ap, ◌∙◌, add-one, arith}
+use Rattle.std.proofs.Common.{◌≡◌, ◌≢◌, ℕ, ◌+◌, ◌<◌, ◌≤◌, ◌-◌, ◌^◌, max, List, [], ◌∷◌, ◌++◌, length, take, inl, inr, Bool, true, false, cond, ◌==◌, ◌&&◌, slice_index, vec_len, subst, sym, refl, ap, ◌∙◌, add-one, arith}
 use Rattle.std.proofs.lemmas.Bool.{cases_eq, cases_lt}
 use Rattle.std.proofs.lemmas.List.Sums.{count_by-le-length}
+use Rattle.std.specs.Global.{Vec}
 use Rattle.journal.specs.declared.event.Event.{Event}
 use Rattle.journal.specs.declared.event.Kind.{Kind}
 use Rattle.journal.specs.declared.event.Kind.TheVariants.{Acquire, Release, Arrive, Depart, Set, Await}
@@ -11,15 +12,36 @@ use Rattle.journal.specs.Events.{At, count_of, is_closing, is_taking, is_arrive,
 use Rattle.journal.specs.Pasts.{InPast, UpToSome}
 use Rattle.journal.specs.Times.{IsTimeIn, IsTimeOf}
 use Rattle.journal.specs.Brings.{SomeDoes, SomeArrives, Brings}
-use Rattle.journal.specs.Entries.{entry, IsJoinedAt}
+use Rattle.journal.specs.Entries.{entry, IsClosedAt, IsJoinedAt}
 use Rattle.journal.specs.declared.numbered.Numbered.{Numbered}
 use Rattle.journal.specs.Numbered.{kept_entry}
-use Rattle.journal.specs.Clocks.{brought_entry, Keeps, AreClocks}
+use Rattle.journal.specs.Clocks.{AreClocks, IsArrived}
 use Rattle.lists.proofs.Places.{push_cases, take-suc_at}
 use Rattle.journal.proofs.Order.Places.{count_of-append}
 use Rattle.journal.proofs.Times.Times.{time_equal, time_none, count_of-one}
 use Rattle.journal.proofs.Times.Pushes.{time_push, others_keep, own_quiet}
+use Rattle.journal.proofs.Passes.RaceSteps.{cond-and_true, cond-and_false}
 use Rattle.journal.proofs.Times.Kept.{kind_kept, kind_joins, arrivals_kept, arrivals_others, arrival_joins}
+
+-- entry q of what an event of p of this kind brings, by the kept timestamps
+abbrev pub brought_entry : Clocks → ℕ → Kind → ℕ → ℕ
+brought_entry c p (Acquire l) q = kept_entry c.locks l q
+brought_entry c p (Await f) q = kept_entry c.flags f q
+brought_entry c p Depart q = entry c.episodes.items (slice_index c.departures p - c.gone) q
+brought_entry c p _ q = 0
+
+-- what locks, flags and episodes keep, after an event of p of this kind that left p at this timestamp
+abbrev pub Keeps : Clocks → Numbered → Numbered → List (List ℕ) → ℕ → (ℕ → ℕ) → Kind → Type 0
+Keeps c locks flags episodes p own (Release l) =
+    IsJoinedAt (kept_entry c.locks) (kept_entry locks) l own × (flags ≡ c.flags) × (episodes ≡ c.episodes.items)
+Keeps c locks flags episodes p own (Set f) =
+    (locks ≡ c.locks) × IsJoinedAt (kept_entry c.flags) (kept_entry flags) f own × (episodes ≡ c.episodes.items)
+Keeps c locks flags episodes p own Arrive =
+    (locks ≡ c.locks) × (flags ≡ c.flags)
+    × (c.gone ≤ slice_index c.arrivals p
+    → IsJoinedAt (entry c.episodes.items) (entry episodes) (slice_index c.arrivals p - c.gone) own)
+    × (slice_index c.arrivals p < c.gone → episodes ≡ c.episodes.items)
+Keeps c locks flags episodes p own _ = (locks ≡ c.locks) × (flags ≡ c.flags) × (episodes ≡ c.episodes.items)
 
 -- no entry is past the number of events
 pub time_small : (j : List Event) (among : ℕ → Type 0) (t : ℕ → ℕ) (q : ℕ) → IsTimeIn j among t → t q ≤ length j
@@ -119,34 +141,33 @@ gathered_joined j p m xs ys gone own number time joined same a n le = elim (case
       | inr above ↦ (let apart : n - gone ≢ m - gone = omega arith in sym ((joined above).same (n - gone) q apart))
     ]
 
--- what the timestamps become by an event of p of kind k that leaves p at this timestamp
-pub record AreNext (c d : Clocks) (p : ℕ) (k : Kind) (own : ℕ → ℕ) : Type 0 where
+-- what the timestamps become by an event of p of kind k
+record AreNext (c d : Clocks) (p : ℕ) (k : Kind) : Type 0 where
   pub long : vec_len d.processors ≡ 16
   pub present : d.present ≡ c.present
   pub gone : d.gone ≡ c.gone
-  pub time : (q : ℕ)
-      → own q ≡ max (entry c.processors.items p q) (brought_entry c p k q) + cond ((p == q) && is_closing k) 1 0
-  pub mine : (q : ℕ) → entry d.processors.items p q ≡ own q
+  pub own : (q : ℕ)
+      → entry d.processors.items p q
+      ≡ max (entry c.processors.items p q) (brought_entry c p k q) + cond ((p == q) && is_closing k) 1 0
   pub others : (m q : ℕ) → m ≢ p → entry d.processors.items m q ≡ entry c.processors.items m q
-  pub keeps : Keeps c d.locks d.flags d.episodes.items p own k
+  pub keeps : Keeps c d.locks d.flags d.episodes.items p (entry d.processors.items p) k
   pub arrivals : (q : ℕ) → slice_index d.arrivals q ≡ slice_index c.arrivals q + cond ((p == q) && is_arrive k) 1 0
   pub departures : (q : ℕ)
       → slice_index d.departures q ≡ slice_index c.departures q + cond ((p == q) && is_depart k) 1 0
 
-own_time : (j : List Event) (c d : Clocks) (p : ℕ) (k : Kind) (own : ℕ → ℕ) → p < c.present → AreClocks j c
-    → AreNext c d p k own → IsTimeOf (j ++ event p k ∷ []) p own
-own_time j c d p k own h a n =
+own_time : (j : List Event) (c d : Clocks) (p : ℕ) (k : Kind) → p < c.present → AreClocks j c → AreNext c d p k
+    → IsTimeOf (j ++ event p k ∷ []) p (entry d.processors.items p)
+own_time j c d p k h a n =
     time_equal (j ++ event p k ∷ []) (InPast (j ++ event p k ∷ []) p)
-    (λ q. max (entry c.processors.items p q) (brought_entry c p k q) + count_of is_closing (event p k ∷ []) q) own
-    (λ q. omega (arith, n.time q)) (time_push j (event p k) (entry c.processors.items p) (brought_entry c p k)
-    (a.times p (let few = a.few in omega arith)) (brought_time j c p k a h))
+    (λ q. max (entry c.processors.items p q) (brought_entry c p k q) + count_of is_closing (event p k ∷ []) q)
+    (entry d.processors.items p) (λ q. omega (arith, n.own q)) (time_push j (event p k) (entry c.processors.items p)
+    (brought_entry c p k) (a.times p (let few = a.few in omega arith)) (brought_time j c p k a h))
 
-times_next : (j : List Event) (c d : Clocks) (p : ℕ) (k : Kind) (own : ℕ → ℕ) → p < c.present → AreClocks j c
-    → AreNext c d p k own → (m : ℕ) → m < 16 → IsTimeOf (j ++ event p k ∷ []) m (entry d.processors.items m)
-times_next j c d p k own h a n m within = elim (cases_eq m p) [
-  | inl is ↦ subst (λ x. IsTimeOf (j ++ event p k ∷ []) x (entry d.processors.items x)) (sym is) (time_equal
-      (j ++ event p k ∷ []) (InPast (j ++ event p k ∷ []) p) own (entry d.processors.items p)
-      (λ q. sym (n.mine q)) (own_time j c d p k own h a n))
+times_next : (j : List Event) (c d : Clocks) (p : ℕ) (k : Kind) → p < c.present → AreClocks j c → AreNext c d p k
+    → (m : ℕ) → m < 16 → IsTimeOf (j ++ event p k ∷ []) m (entry d.processors.items m)
+times_next j c d p k h a n m within = elim (cases_eq m p) [
+  | inl is ↦ subst (λ x. IsTimeOf (j ++ event p k ∷ []) x (entry d.processors.items x)) (sym is)
+      (own_time j c d p k h a n)
   | inr isnt ↦ time_equal (j ++ event p k ∷ []) (InPast (j ++ event p k ∷ []) m) (entry c.processors.items m)
       (entry d.processors.items m) (λ q. sym (n.others m q isnt)) (others_keep j (event p k ∷ []) m
       (entry c.processors.items m) (λ i f at. one_other (event p k) f m i at (λ same. isnt (sym same)))
@@ -214,18 +235,20 @@ kept_next j c d p k own number time gone a n = record {
 }
 
 -- after the event the timestamps are those of the journal with it
-pub clocks_next : (j : List Event) (c d : Clocks) (p : ℕ) (k : Kind) (own : ℕ → ℕ) → p < c.present → AreClocks j c
-    → AreNext c d p k own → AreClocks (j ++ event p k ∷ []) d
-clocks_next j c d p k own h a n =
+clocks_next : (j : List Event) (c d : Clocks) (p : ℕ) (k : Kind) → p < c.present → AreClocks j c → AreNext c d p k
+    → AreClocks (j ++ event p k ∷ []) d
+clocks_next j c d p k h a n =
     let few = a.few in
-    let kept = kept_next j c d p k own (a.arrivals p (omega arith)) (own_time j c d p k own h a n) n.gone a n.keeps in
+    let kept =
+    kept_next j c d p k (entry d.processors.items p) (a.arrivals p (omega arith)) (own_time j c d p k h a n) n.gone a
+    n.keeps in
     record {
       long = n.long;
       few = (let same = n.present in omega arith);
       left =
           λ q within. (let old = a.left q (let same = n.present in omega arith) in let rise = n.departures q in
           let gone = n.gone in omega arith);
-      times = times_next j c d p k own h a n;
+      times = times_next j c d p k h a n;
       locks = kept.locks;
       flags = kept.flags;
       episodes = kept.episodes;
@@ -286,22 +309,94 @@ pub front_next : (events : List Event) (place : ℕ) (e : Event) → At events p
     → take (place + 1) events ≡ take place events ++ e ∷ []
 front_next events place e at = ap (λ n. take n events) (add-one place) ∙ take-suc_at events place e at
 
--- there is room for one more in each entry
-pub own_room : (j : List Event) (c : Clocks) (p : ℕ) (k : Kind) (q : ℕ) → p < c.present → length j < 2 ^ 22
-    → AreClocks j c → max (entry c.processors.items p q) (brought_entry c p k q) < 2 ^ 22
-own_room j c p k q h few a =
+-- there is room for one more in its own entry
+pub own_room : (j : List Event) (c : Clocks) (p : ℕ) → p < c.present → length j < 2 ^ 22 → AreClocks j c
+    → entry c.processors.items p p < 2 ^ 22
+own_room j c p h few a =
     let few_processors = a.few in
-    let x = time_small j (InPast j p) (entry c.processors.items p) q (a.times p (omega arith)) in
-    let y = time_small j (Brings j p k) (brought_entry c p k) q (brought_time j c p k a h) in
+    let small = time_small j (InPast j p) (entry c.processors.items p) p (a.times p (omega arith)) in
     omega arith
 
-pub keeps_same : (c : Clocks) (p : ℕ) (own : ℕ → ℕ) (k : Kind) (locks flags locks' flags' : Numbered)
-    (episodes episodes' : List (List ℕ))
-    → locks' ≡ locks → flags' ≡ flags → episodes' ≡ episodes → Keeps c locks flags episodes p own k
-    → Keeps c locks' flags' episodes' p own k
-keeps_same c p own k locks flags locks' flags' episodes episodes' x y z h =
-    subst (λ l. Keeps c l flags' episodes' p own k) (sym x) (subst (λ f. Keeps c locks f episodes' p own k) (sym y)
-    (subst (λ e. Keeps c locks flags e p own k) (sym z) h))
+-- the timestamps after an event that closes p's interval, without meeting anybody
+pub closed_next : (j : List Event) (c : Clocks) (times : Vec (List ℕ)) (locks flags : Numbered) (p : ℕ) (k : Kind)
+    → is_closing k ≡ true → ((q : ℕ) → brought_entry c p k q ≡ 0) → is_arrive k ≡ false → is_depart k ≡ false
+    → p < c.present → AreClocks j c → vec_len times ≡ vec_len c.processors
+    → IsClosedAt (entry c.processors.items) (entry times.items) p
+    → Keeps c locks flags c.episodes.items p (entry times.items p) k
+    → AreClocks (j ++ event p k ∷ []) (record c { processors = times; locks = locks; flags = flags })
+closed_next j c times locks flags p k closes nothing stays goes h a long closed keeps =
+    clocks_next j c (record c { processors = times; locks = locks; flags = flags }) p k h a
+    (record {
+      long = long ∙ a.long;
+      present = refl;
+      gone = refl;
+      own =
+          λ q. (let one_more = closed.own q in let none = nothing q in let one = cond-and_true (p == q) (is_closing k) closes
+          in omega arith);
+      others = closed.same;
+      keeps = keeps;
+      arrivals = λ q. (let none = cond-and_false (p == q) (is_arrive k) stays in omega arith);
+      departures = λ q. (let none = cond-and_false (p == q) (is_depart k) goes in omega arith);
+    })
+
+-- after an event that takes what a lock or a flag keeps
+pub taken_next : (j : List Event) (c : Clocks) (times : Vec (List ℕ)) (p : ℕ) (k : Kind) → is_closing k ≡ false
+    → is_arrive k ≡ false → is_depart k ≡ false → p < c.present → AreClocks j c → vec_len times ≡ vec_len c.processors
+    → IsJoinedAt (entry c.processors.items) (entry times.items) p (brought_entry c p k)
+    → Keeps c c.locks c.flags c.episodes.items p (entry times.items p) k
+    → AreClocks (j ++ event p k ∷ []) (record c { processors = times })
+taken_next j c times p k closes stays goes h a long joined keeps =
+    clocks_next j c (record c { processors = times }) p k h a (record {
+      long = long ∙ a.long;
+      present = refl;
+      gone = refl;
+      own =
+          λ q. (let most = joined.joined q in let none = cond-and_false (p == q) (is_closing k) closes in omega arith);
+      others = joined.same;
+      keeps = keeps;
+      arrivals = λ q. (let none = cond-and_false (p == q) (is_arrive k) stays in omega arith);
+      departures = λ q. (let none = cond-and_false (p == q) (is_depart k) goes in omega arith);
+    })
+
+-- after an arrival
+pub arrived_next : (j : List Event) (c d : Clocks) (p : ℕ) → p < c.present → AreClocks j c
+    → d ≡ record c { processors = d.processors; episodes = d.episodes; arrivals = d.arrivals }
+    → vec_len d.processors ≡ vec_len c.processors → IsClosedAt (entry c.processors.items) (entry d.processors.items) p
+    → IsArrived c d p → AreClocks (j ++ event p Arrive ∷ []) d
+arrived_next j c d p h a rest long closed arrived =
+    clocks_next j c d p Arrive h a (record {
+      long = long ∙ a.long;
+      present = ap (λ x. x.present) rest;
+      gone = ap (λ x. x.gone) rest;
+      own = λ q. (let one_more = closed.own q in let one = cond-and_true (p == q) true refl in omega arith);
+      others = closed.same;
+      keeps = (ap (λ x. x.locks) rest, ap (λ x. x.flags) rest, arrived.joined, arrived.gone);
+      arrivals = λ q. (let one = cond-and_true (p == q) true refl in let count = arrived.counted q in omega arith);
+      departures =
+          λ q. (let none = cond-and_false (p == q) false refl in
+          let same = ap (λ x. slice_index x.departures q) rest in omega arith);
+    })
+
+-- after a departure
+pub departed_next : (j : List Event) (c d : Clocks) (p : ℕ) → p < c.present → AreClocks j c
+    → d ≡ record c { processors = d.processors; departures = d.departures }
+    → vec_len d.processors ≡ vec_len c.processors
+    → IsJoinedAt (entry c.processors.items) (entry d.processors.items) p (brought_entry c p Depart)
+    → ((q : ℕ) → slice_index d.departures q ≡ slice_index c.departures q + cond (p == q) 1 0)
+    → AreClocks (j ++ event p Depart ∷ []) d
+departed_next j c d p h a rest long joined counted =
+    clocks_next j c d p Depart h a (record {
+      long = long ∙ a.long;
+      present = ap (λ x. x.present) rest;
+      gone = ap (λ x. x.gone) rest;
+      own = λ q. (let most = joined.joined q in let none = cond-and_false (p == q) false refl in omega arith);
+      others = joined.same;
+      keeps = (ap (λ x. x.locks) rest, ap (λ x. x.flags) rest, ap (λ x. x.episodes.items) rest);
+      arrivals =
+          λ q. (let none = cond-and_false (p == q) false refl in
+          let same = ap (λ x. slice_index x.arrivals q) rest in omega arith);
+      departures = λ q. (let one = cond-and_true (p == q) true refl in let count = counted q in omega arith);
+    })
 
 -- letting go of an episode that every processor has departed from keeps them
 pub clocks_let_go : (j : List Event) (c d : Clocks) → AreClocks j c → d.processors ≡ c.processors → d.locks ≡ c.locks

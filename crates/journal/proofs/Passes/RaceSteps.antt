@@ -2,7 +2,7 @@
 use Rattle.std.proofs.Common.{◌≡◌, ◌≢◌, ℕ, ◌+◌, ◌<◌, ◌≤◌, ◌⊎◌, inl, inr, ◌↔◌, List, [], ◌∷◌, ◌++◌, length, take, drop, take-take, take-append-drop, suc, Bool, true, false, cond, ◌==◌, ◌&&◌, Some, vec_len, subst, sym, refl, ap, ◌∙◌, add-one, arith}
 use Rattle.std.proofs.lemmas.Bool.{cases_eq, cases_lt}
 use Rattle.std.proofs.lemmas.List.{length-take-le}
-use Rattle.std.specs.Prelude.{None}
+use Rattle.std.specs.Prelude.{None, is_some}
 use Rattle.std.proofs.lemmas.Option.{same_Some}
 use Rattle.std.proofs.Math.Seq.{take-append_seam}
 use Rattle.journal.specs.declared.event.Event.{Event}
@@ -31,6 +31,17 @@ access_quiet (Acquire l) a h = absurd cc
 access_quiet Depart a h = absurd cc
 access_quiet (Await f) a h = absurd cc
 access_quiet _ a h = refl
+
+-- an access neither takes nor closes
+pub access_plain : (k : Kind) → is_some (address_of k) ≡ true → (is_taking k ≡ false) × (is_closing k ≡ false)
+access_plain (Load a v) h = (refl, refl)
+access_plain (Store a v) h = (refl, refl)
+access_plain _ h = absurd cc
+
+pub no_access : (k : Kind) → is_some (address_of k) ≡ false → address_of k ≡ None
+no_access (Load a v) h = absurd cc
+no_access (Store a v) h = absurd cc
+no_access _ h = refl
 
 -- of two accesses that conflict, by two processors, the first races with the second exactly where the second's
 -- timestamp doesn't count its interval
@@ -70,6 +81,14 @@ race_events events place i e f at to r =
     let second = at_same events place r.second e r.second_at at in
     subst (λ x. (x.processor ≢ e.processor) × Conflict x e) first
     (subst (λ y. (r.first.processor ≢ y.processor) × Conflict r.first y) second (r.apart, r.conflict))
+
+-- what is no access ends no race
+pub no_race_other : (events : List Event) (place : ℕ) (e : Event) → At events place e → address_of e.kind ≡ None
+    → (i : ℕ) → ¬ Race events i place
+no_race_other events place e at none i r =
+    let both = race_events events place i e r.first at r.first_at r in
+    let some = both.1.second in
+    absurd (cc (none, some))
 
 -- a count one place on
 pub count_next : (is : Kind → Bool) (events : List Event) (i q : ℕ) (f : Event) → At events i f
@@ -394,7 +413,7 @@ next_store j e t addresses a v x y is time kept ordered last_long loads_long not
     ]
 
 -- after an event that is no access
-next_other : (j : List Event) (e : Event) (addresses : ℕ) (x : Accesses) → address_of e.kind ≡ None
+pub next_other : (j : List Event) (e : Event) (addresses : ℕ) (x : Accesses) → address_of e.kind ≡ None
     → AreAccesses j addresses x → AreAccesses (j ++ e ∷ []) addresses x
 next_other j e addresses x is kept = record {
   last_long = kept.last_long;

@@ -3,6 +3,6 @@ use Rattle.journal.proofs.clock.join.Given as goal
 
 abbrev pub invariant-loop-q : goal.invariant-loop-q
 invariant-loop-q l =
-    (length l.clock ≡ 16)
-    × ((k : ℕ) → k < l.q → slice_index l.clock k ≡ max (slice_index l.fn.clock k) (slice_index l.other k))
-    × ((k : ℕ) → l.q ≤ k → slice_index l.clock k ≡ slice_index l.fn.clock k)
+    (length l.joined ≡ 16)
+    × ((k : ℕ) → k < l.q → slice_index l.joined k ≡ max (slice_index l.clock k) (slice_index l.other k))
+    × ((k : ℕ) → l.q ≤ k → slice_index l.joined k ≡ slice_index l.other k)

@@ -1,4 +1,4 @@
-use Rattle.std.proofs.Common.{◌<◌, ◌≡◌, ℕ, inl, inr, take, List, slice_index, slice_index_or, subst, sym, refl, ◌∙◌, arith}
+use Rattle.std.proofs.Common.{◌<◌, ◌≡◌, ℕ, ◌+◌, ap, inl, inr, take, List, slice_index, slice_index_or, subst, sym, refl, ◌∙◌, arith}
 use Rattle.std.proofs.lemmas.Option.{slice_get-get_or, slice_get_within}
 use Rattle.std.proofs.lemmas.List.{length-take-le}
 use Rattle.std.proofs.lemmas.Bool.{cases_lt}
@@ -10,15 +10,25 @@ use Rattle.journal.specs.Times.{IsTimeOf}
 use Rattle.journal.specs.Races.{Race}
 use Rattle.journal.specs.InRange.{AddressInRange, ProcessorsInRange}
 use Rattle.journal.specs.Entries.{entry}
+use Rattle.journal.specs.Clocks.{AreClocks}
 use Rattle.journal.specs.Accesses.{AreAccesses}
 use Rattle.journal.proofs.Times.Times.{time_equal}
-use Rattle.journal.proofs.Passes.ClockSteps.{time_small, front_next}
-use Rattle.journal.proofs.Passes.RaceSteps.{accesses_next, ordered_here}
+use Rattle.journal.proofs.Passes.ClockSteps.{time_small, front_next, clocks_plain}
+use Rattle.journal.proofs.Passes.RaceSteps.{access_plain, no_access, no_race_other, next_other, accesses_next, ordered_here}
 use Rattle.journal.proofs.race.first_race_of.Goals as goal
+use Rattle.journal.proofs.race.first_race_of.Goals.{then-is_access+in_default, else-is_access+in_ok-note}
 
 -- the event at this place
 abbrev here : List Event → ℕ → Event
 here events place = slice_index_or events place (event 0 (Load 0 0))
+
+-- no event up to here ends a race
+no_race_yet : (events : List Event) (place : ℕ) → ((m n : ℕ) → n < place → ¬ Race events m n)
+    → ((i : ℕ) → ¬ Race events i place) → (m n : ℕ) → n < place + 1 → ¬ Race events m n
+no_race_yet events place before here_none m n h r = elim (cases_lt n place) [
+  | inl below ↦ before m n below r
+  | inr le ↦ (let is : n ≡ place = omega arith in here_none m (subst (λ x. Race events m x) is r))
+]
 
 pub of-time-requires : goal.of-time-requires
 of-time-requires c =
@@ -103,32 +113,42 @@ note-requires-clause-loads c =
 
 pub loop-place-preserved : goal.loop-place-preserved
 loop-place-preserved c =
-    let e = here c.args.events.now c.loop-place.place in
-    let at = slice_get-get_or c.args.events.now c.loop-place.place (event 0 (Load 0 0)) (omega arith) in
-    let present = c.requires.processors c.loop-place.place e at in
+    let events = c.args.events.now in
+    let place = c.loop-place.place in
+    let e = here events place in
+    let at = slice_get-get_or events place (event 0 (Load 0 0)) (omega arith) in
+    let present = c.requires.processors place e at in
     let lt : e.processor < 16 = omega (arith, c.requires.few_processors) in
-    let front = take c.loop-place.place c.args.events.now in
-    let time : IsTimeOf front e.processor (slice_index c.of-time.result.now) =
-    time_equal front (InPast front e.processor) (entry c.loop-place.clocks.processors.items e.processor)
-    (slice_index c.of-time.result.now) (λ q. sym (c.of-time.ensures q)) (c.loop-place.invariant.0.times e.processor lt)
-    in
-    let at = slice_get-get_or c.args.events.now c.loop-place.place (event 0 (Load 0 0)) (omega arith) in
-    let here_none : (i : ℕ) → Race c.args.events.now i c.loop-place.place → ⊥ = c.in_default.ensures in
-    let accesses =
-    accesses_next front e (slice_index c.of-time.result.now) c.args.addresses c.loop-place.accesses c.note.new.self
-    time c.loop-place.invariant.1
-    (ordered_here c.args.events.now c.loop-place.place e (slice_index c.of-time.result.now) at time here_none)
-    c.note.ensures.last_long c.note.ensures.loads_long e.kind refl c.note.ensures.noted in (
-      c.in_ok-note.ensures.clocks,
-      subst (λ xs. AreAccesses xs c.args.addresses c.note.new.self)
-          (sym (front_next c.args.events.now c.loop-place.place e at)) accesses,
-      λ m n h r. elim (cases_lt n c.loop-place.place) [
-        | inl below ↦ c.loop-place.invariant.2 m n below r
-        | inr le ↦ (let is : n ≡ c.loop-place.place = omega arith in
-            here_none m (subst (λ x. Race c.args.events.now m x) is r))
-      ],
-      c.in_ok-note.ensures.present ∙ c.loop-place.invariant.3,
-    )
+    let front = take place events in
+    let next = front_next events place e at in
+    elim c.if-is_access.branch [
+      | then-is_access+in_default w ↦ (let plain = access_plain e.kind (sym c.is_access.ensures ∙ w.if-is_access.true) in
+          let clocks = clocks_plain front e c.loop-place.clocks plain.0 plain.1 c.loop-place.invariant.0 in
+          let t = slice_index w.of-time.result.now in
+          let time : IsTimeOf front e.processor t =
+          time_equal front (InPast front e.processor) (entry c.loop-place.clocks.processors.items e.processor) t
+          (λ q. sym (w.of-time.ensures q)) (c.loop-place.invariant.0.times e.processor lt) in
+          let here_none : (i : ℕ) → Race events i place → ⊥ = w.in_default.ensures in
+          let accesses =
+          accesses_next front e t c.args.addresses c.loop-place.accesses w.note.new.self time
+          c.loop-place.invariant.1 (ordered_here events place e t at time here_none) w.note.ensures.last_long
+          w.note.ensures.loads_long e.kind refl w.note.ensures.noted in (
+            subst (λ x. AreClocks (take (place + 1) events) x) (sym w.clocks-is)
+                (subst (λ xs. AreClocks xs c.loop-place.clocks) (sym next) clocks),
+            subst (λ x. AreAccesses (take (place + 1) events) c.args.addresses x) (sym w.accesses-is)
+                (subst (λ xs. AreAccesses xs c.args.addresses w.note.new.self) (sym next) accesses),
+            no_race_yet events place c.loop-place.invariant.2 here_none,
+            ap (λ x. x.present) w.clocks-is ∙ c.loop-place.invariant.3,
+          ))
+      | else-is_access+in_ok-note w ↦ (let none = no_access e.kind (sym c.is_access.ensures ∙ w.if-is_access.false) in
+          let accesses = next_other front e c.args.addresses c.loop-place.accesses none c.loop-place.invariant.1 in (
+            subst (λ x. AreClocks (take (place + 1) events) x) (sym w.clocks-is) w.in_ok-note.ensures.clocks,
+            subst (λ x. AreAccesses (take (place + 1) events) c.args.addresses x) (sym w.accesses-is)
+                (subst (λ xs. AreAccesses xs c.args.addresses c.loop-place.accesses) (sym next) accesses),
+            no_race_yet events place c.loop-place.invariant.2 (no_race_other events place e at none),
+            ap (λ x. x.present) w.clocks-is ∙ (w.in_ok-note.ensures.present ∙ c.loop-place.invariant.3),
+          ))
+    ]
 
 pub returns : goal.returns
 returns c =
@@ -158,15 +178,15 @@ pub race_at-requires-clause-processors : goal.race_at-requires-clause-processors
 race_at-requires-clause-processors c =
     λ i e at. (let present = c.requires.processors i e at in omega (arith, c.requires.few_processors))
 
-pub note-requires-in-loop-place-clause-processors : goal.note-requires-in-loop-place-clause-processors
-note-requires-in-loop-place-clause-processors c =
+pub note-requires-else-is_access-clause-processors : goal.note-requires-else-is_access-clause-processors
+note-requires-else-is_access-clause-processors c =
     subst (λ n. ProcessorsInRange n c.args.events.now) (sym c.loop-place.invariant.3) c.requires.processors
 
-pub note-requires-in-loop-place-clause-so_far : goal.note-requires-in-loop-place-clause-so_far
-note-requires-in-loop-place-clause-so_far c = c.loop-place.invariant.0
+pub note-requires-else-is_access-clause-so_far : goal.note-requires-else-is_access-clause-so_far
+note-requires-else-is_access-clause-so_far c = c.loop-place.invariant.0
 
-pub note-requires-in-loop-place-clause-place : goal.note-requires-in-loop-place-clause-place
-note-requires-in-loop-place-clause-place c = c.loop-place-test.true
+pub note-requires-else-is_access-clause-place : goal.note-requires-else-is_access-clause-place
+note-requires-else-is_access-clause-place c = c.loop-place-test.true
 
-pub note-requires-in-loop-place-clause-few : goal.note-requires-in-loop-place-clause-few
-note-requires-in-loop-place-clause-few c = c.requires.few
+pub note-requires-else-is_access-clause-few : goal.note-requires-else-is_access-clause-few
+note-requires-else-is_access-clause-few c = c.requires.few

@@ -3,7 +3,6 @@ use Rattle.std.proofs.lemmas.List.{get_or-take, length-take}
 use Rattle.std.proofs.lemmas.Grind.{get_or_after_one}
 use Rattle.journal.specs.Entries.{entry}
 use Rattle.journal.proofs.clocks.Clocks.let_go.Goals as goal
-use Rattle.journal.proofs.clocks.Clocks.let_go.Goals.{else-departs-via-then-departs+else-are_past, else-departs-via-else-departs}
 
 -- without the first timestamp, each stands a place earlier
 entry-rest : (xs ys : List (List ℕ)) (gone n q : ℕ) → ys ≡ drop 1 xs → gone + 1 ≤ n
@@ -23,7 +22,7 @@ taken_past counts n gone all i h =
     subst (λ x. gone < x) (sym (get_or-take n counts i 0 lt)) (all i lt)
 
 pub returns-then-are_past-clause-goes : goal.returns-then-are_past-clause-goes
-returns-then-are_past-clause-goes c = λ departs all. refl
+returns-then-are_past-clause-goes c = λ all. refl
 
 pub returns-then-are_past-clause-episodes : goal.returns-then-are_past-clause-episodes
 returns-then-are_past-clause-episodes c = λ n q le. (
@@ -32,17 +31,13 @@ returns-then-are_past-clause-episodes c = λ n q le. (
       c.pop_front.ensures.rest le,
 )
 
-pub returns-else-departs-clause-left : goal.returns-else-departs-clause-left
-returns-else-departs-clause-left c = λ p lt le. le
+pub returns-else-are_past-clause-left : goal.returns-else-are_past-clause-left
+returns-else-are_past-clause-left c = λ p lt le. le
 
-pub returns-else-departs-clause-goes : goal.returns-else-departs-clause-goes
-returns-else-departs-clause-goes c = λ departs all. elim c.else-departs.branch [
-  | else-departs-via-then-departs+else-are_past w ↦
-      (let past =
-      w.are_past.ensures.1
-      (taken_past c.args.self.now.departures c.args.self.now.present c.args.self.now.gone all) in
-      let not_past = w.if-are_past.false in
-      absurd (cc (past, not_past)))
-  | else-departs-via-else-departs w ↦
-      (let is = c.departs.ensures in let isnt = w.if-departs.false in absurd (cc (departs, is, isnt)))
-]
+pub returns-else-are_past-clause-goes : goal.returns-else-are_past-clause-goes
+returns-else-are_past-clause-goes c = λ all.
+    (let past =
+    c.are_past.ensures.1
+    (taken_past c.args.self.now.departures c.args.self.now.present c.args.self.now.gone all) in
+    let not_past = c.if-are_past.false in
+    absurd (cc (past, not_past)))

@@ -1,123 +1,218 @@
-use Rattle.std.proofs.Common.{ℕ, ◌+◌, ◌<◌, ◌^◌, length, take, List, [], ◌∷◌, ◌++◌, slice_index, slice_index_or, subst, sym, refl, ap, ◌∙◌, cond, ◌==◌, ◌&&◌, vec_len, arith}
+use Rattle.std.proofs.Common.{◌≡◌, ℕ, inl, inr, false, ◌+◌, ◌<◌, ◌≤◌, ◌^◌, length, take, List, [], ◌∷◌, ◌++◌, slice_index_or, subst, sym, refl, ap, ◌∙◌, arith}
 use Rattle.std.proofs.lemmas.Option.{slice_get-get_or}
 use Rattle.std.proofs.lemmas.List.{length-take-le}
+use Rattle.std.proofs.lemmas.Result.{on_ok_weaker}
+use Rattle.lists.specs.Limits.{most_held, most_processors}
 use Rattle.journal.specs.declared.event.Event.{Event}
-use Rattle.journal.specs.declared.event.Kind.TheVariants.{Load}
+use Rattle.journal.specs.declared.event.Kind.{Kind}
+use Rattle.journal.specs.declared.event.Kind.TheVariants.{Load, Ask, Acquire, Release, Arrive, Depart, Set, Watch, Await}
+use Rattle.journal.specs.declared.clocks.Clocks.{Clocks}
 use Rattle.journal.specs.Did.{event}
-use Rattle.journal.specs.Events.{is_arrive, is_depart}
+use Rattle.journal.specs.InRange.{ProcessorsInRange}
+use Rattle.journal.specs.Events.{is_taking, is_closing}
 use Rattle.journal.specs.Entries.{entry}
 use Rattle.journal.specs.Clocks.{AreClocks}
-use Rattle.journal.proofs.Passes.Entries.{entry-set_same, entry-set_other}
-use Rattle.journal.proofs.Passes.ClockSteps.{clocks_plain, clocks_next, AreNext, front_next, own_room, keeps_same, clocks_let_go}
+use Rattle.journal.proofs.Passes.ClockSteps.{clocks_plain, closed_next, taken_next, arrived_next, departed_next, front_next, own_room, clocks_let_go}
 use Rattle.journal.proofs.clocks.Clocks.note.Goals as goal
 
 -- the event at this place
 abbrev here : List Event → ℕ → Event
 here events place = slice_index_or events place (event 0 (Load 0 0))
 
-pub returns-then-is_plain-clause-clocks : goal.returns-then-is_plain-clause-clocks
-returns-then-is_plain-clause-clocks c =
-    let e = here c.args.events.now c.args.place in
-    let at = slice_get-get_or c.args.events.now c.args.place (event 0 (Load 0 0)) c.requires.place in
-    subst (λ xs. AreClocks xs c.args.self.now) (sym (front_next c.args.events.now c.args.place e at)) (clocks_plain
-    (take c.args.place c.args.events.now) e c.args.self.now (c.if-is_plain.ensures.takes refl)
-    (c.if-is_plain.ensures.closes refl) c.requires.so_far)
+present : (events : List Event) (place n : ℕ) → place < length events → ProcessorsInRange n events
+    → (here events place).processor < n
+present events place n lt range =
+    range place (here events place) (slice_get-get_or events place (event 0 (Load 0 0)) lt)
 
-pub own_after-own-requires-clause-processor : goal.own_after-own-requires-clause-processor
-own_after-own-requires-clause-processor c =
-    let at = slice_get-get_or c.args.events.now c.args.place (event 0 (Load 0 0)) c.requires.place in
-    let lt = c.requires.processors c.args.place (here c.args.events.now c.args.place) at in
-    let few_processors = c.requires.so_far.few in
+within : (events : List Event) (place : ℕ) (c : Clocks) → place < length events → ProcessorsInRange c.present events
+    → AreClocks (take place events) c → (here events place).processor < 16
+within events place c lt range a =
+    let h = present events place c.present lt range in
+    let few = a.few in
     omega arith
 
-pub own_after-own-requires-clause-room : goal.own_after-own-requires-clause-room
-own_after-own-requires-clause-room c =
-    let e = here c.args.events.now c.args.place in
-    let at = slice_get-get_or c.args.events.now c.args.place (event 0 (Load 0 0)) c.requires.place in
-    let long = length-take-le c.args.place c.args.events.now (omega arith) in
-    let few : length (take c.args.place c.args.events.now) < 2 ^ 22 = omega arith in
-    own_room (take c.args.place c.args.events.now) c.args.self.now e.processor e.kind e.processor
-    (c.requires.processors c.args.place e at) few c.requires.so_far
+room : (events : List Event) (place : ℕ) (c : Clocks) → place < length events
+    → length events ≤ most_held + most_processors → ProcessorsInRange c.present events
+    → AreClocks (take place events) c
+    → entry c.processors.items (here events place).processor (here events place).processor < 2 ^ 22
+room events place c lt few range a =
+    let long = length-take-le place events (omega arith) in
+    let short : length (take place events) < 2 ^ 22 = omega arith in
+    own_room (take place events) c (here events place).processor (present events place c.present lt range) short a
 
-pub own_after-own-requires-clause-left : goal.own_after-own-requires-clause-left
-own_after-own-requires-clause-left c =
-    let at = slice_get-get_or c.args.events.now c.args.place (event 0 (Load 0 0)) c.requires.place in
-    let e = here c.args.events.now c.args.place in
-    c.requires.so_far.left e.processor (c.requires.processors c.args.place e at)
+-- the timestamps after the event are those of the front with it
+next : (events : List Event) (place : ℕ) (k : Kind) (d : Clocks) → place < length events
+    → (here events place).kind ≡ k → AreClocks (take place events ++ event (here events place).processor k ∷ []) d
+    → AreClocks (take (place + 1) events) d
+next events place k d lt is a =
+    let e = here events place in
+    let front = front_next events place e (slice_get-get_or events place (event 0 (Load 0 0)) lt) in
+    let same = ap (λ x. take place events ++ event e.processor x ∷ []) is in
+    subst (λ xs. AreClocks xs d) (sym (front ∙ same)) a
 
-pub keep-requires : goal.keep-requires
-keep-requires c =
-    let at = slice_get-get_or c.args.events.now c.args.place (event 0 (Load 0 0)) c.requires.place in
-    let lt = c.requires.processors c.args.place (here c.args.events.now c.args.place) at in
-    let few_processors = c.requires.so_far.few in
-    omega arith
+pub close-requires-clause-room : goal.close-requires-clause-room
+close-requires-clause-room c =
+    room c.args.events.now c.args.place c.args.self.now c.requires.place c.requires.few c.requires.processors
+    c.requires.so_far
 
-pub index_mut-requires : goal.index_mut-requires
-index_mut-requires c =
-    let at = slice_get-get_or c.args.events.now c.args.place (event 0 (Load 0 0)) c.requires.place in
-    let lt = c.requires.processors c.args.place (here c.args.events.now c.args.place) at in
-    let same = ap (λ v. vec_len v) c.keep.ensures.processors in
+pub take-requires : goal.take-requires
+take-requires c =
+    let lt =
+    within c.args.events.now c.args.place c.args.self.now c.requires.place c.requires.processors c.requires.so_far in
     let long = c.requires.so_far.long in
-    let few_processors = c.requires.so_far.few in
     omega arith
 
-pub count-requires-clause-processor : goal.count-requires-clause-processor
-count-requires-clause-processor c =
-    let at = slice_get-get_or c.args.events.now c.args.place (event 0 (Load 0 0)) c.requires.place in
-    let lt = c.requires.processors c.args.place (here c.args.events.now c.args.place) at in
-    let few_processors = c.requires.so_far.few in
-    omega arith
-
-pub let_go-requires-clause-present : goal.let_go-requires-clause-present
-let_go-requires-clause-present c =
-    let at = slice_get-get_or c.args.events.now c.args.place (event 0 (Load 0 0)) c.requires.place in
-    let lt = c.requires.processors c.args.place (here c.args.events.now c.args.place) at in
-    let same = c.count.ensures.present in
-    let old = c.keep.ensures.present in
-    omega arith
-
-pub returns-clause-clocks : goal.returns-clause-clocks
-returns-clause-clocks c =
-    let e = here c.args.events.now c.args.place in
-    let at = slice_get-get_or c.args.events.now c.args.place (event 0 (Load 0 0)) c.requires.place in
-    let lt = c.requires.processors c.args.place e at in
-    let own = c.own_after-own.result in
-    let old = c.keep.ensures in
-    let write = ap (λ v. v.items) c.count.ensures.processors in
-    let same = ap (λ v. v.items) old.processors in
+pub take-requires-in-Await : goal.take-requires-in-Await
+take-requires-in-Await c =
+    let lt =
+    within c.args.events.now c.args.place c.args.self.now c.requires.place c.requires.processors c.requires.so_far in
     let long = c.requires.so_far.long in
-    let few_processors = c.requires.so_far.few in
-    let inside : e.processor < length c.keep.new.self.processors.items =
-    omega (arith, c.keep.new.self.processors.ok.0, ap (λ v. vec_len v) old.processors) in
-    let next : AreNext c.args.self.now c.count.new.self e.processor e.kind (slice_index own) = record {
-      long = ap (λ v. vec_len v) c.count.ensures.processors ∙ ap (λ v. vec_len v) old.processors ∙ long;
-      present = c.count.ensures.present ∙ old.present;
-      gone = c.count.ensures.gone ∙ old.gone;
-      time = c.own_after-own.ensures;
-      mine =
-          λ q. ap (λ xs. entry xs e.processor q) write
-          ∙ entry-set_same c.keep.new.self.processors.items e.processor own q inside;
-      others =
-          λ m q isnt. ap (λ xs. entry xs m q) write
-          ∙ entry-set_other c.keep.new.self.processors.items e.processor m own q isnt
-          ∙ ap (λ xs. entry xs m q) same;
-      keeps =
-          keeps_same c.args.self.now e.processor (slice_index own) e.kind c.keep.new.self.locks c.keep.new.self.flags
-          c.count.new.self.locks c.count.new.self.flags c.keep.new.self.episodes.items
-          c.count.new.self.episodes.items c.count.ensures.locks c.count.ensures.flags
-          (ap (λ v. v.items) c.count.ensures.episodes) c.in_ok-keep.ensures.keeps;
-      arrivals =
-          λ q. c.count.ensures.arrivals q
-          ∙ ap (λ xs. slice_index xs q + cond ((e.processor == q) && is_arrive e.kind) 1 0) old.arrivals;
-      departures =
-          λ q. c.count.ensures.departures q
-          ∙ ap (λ xs. slice_index xs q + cond ((e.processor == q) && is_depart e.kind) 1 0) old.departures;
-    } in
+    omega arith
+
+pub hand_over-requires-clause-processor : goal.hand_over-requires-clause-processor
+hand_over-requires-clause-processor c =
+    within c.args.events.now c.args.place c.args.self.now c.requires.place c.requires.processors c.requires.so_far
+
+pub hand_over-requires-clause-room : goal.hand_over-requires-clause-room
+hand_over-requires-clause-room c =
+    room c.args.events.now c.args.place c.args.self.now c.requires.place c.requires.few c.requires.processors
+    c.requires.so_far
+
+pub hand_over-requires-in-Set-clause-processor : goal.hand_over-requires-in-Set-clause-processor
+hand_over-requires-in-Set-clause-processor c =
+    within c.args.events.now c.args.place c.args.self.now c.requires.place c.requires.processors c.requires.so_far
+
+pub hand_over-requires-in-Set-clause-room : goal.hand_over-requires-in-Set-clause-room
+hand_over-requires-in-Set-clause-room c =
+    room c.args.events.now c.args.place c.args.self.now c.requires.place c.requires.few c.requires.processors
+    c.requires.so_far
+
+pub arrive-requires-clause-processor : goal.arrive-requires-clause-processor
+arrive-requires-clause-processor c =
+    within c.args.events.now c.args.place c.args.self.now c.requires.place c.requires.processors c.requires.so_far
+
+pub arrive-requires-clause-room : goal.arrive-requires-clause-room
+arrive-requires-clause-room c =
+    room c.args.events.now c.args.place c.args.self.now c.requires.place c.requires.few c.requires.processors
+    c.requires.so_far
+
+pub depart-requires-clause-processor : goal.depart-requires-clause-processor
+depart-requires-clause-processor c =
+    within c.args.events.now c.args.place c.args.self.now c.requires.place c.requires.processors c.requires.so_far
+
+pub depart-requires-clause-left : goal.depart-requires-clause-left
+depart-requires-clause-left c =
+    c.requires.so_far.left (here c.args.events.now c.args.place).processor
+    (present c.args.events.now c.args.place c.args.self.now.present c.requires.place c.requires.processors)
+
+pub returns-in-Load-clause-clocks : goal.returns-in-Load-clause-clocks
+returns-in-Load-clause-clocks c =
+    let events = c.args.events.now in
+    let e = here events c.args.place in
+    let plain : (is_taking e.kind ≡ false) × (is_closing e.kind ≡ false) = elim c.in-Load.is [
+      | inl load ↦ (ap is_taking load.2, ap is_closing load.2)
+      | inr rest ↦ elim rest [
+        | inl store ↦ (ap is_taking store.2, ap is_closing store.2)
+        | inr fetch ↦ (ap is_taking fetch.4, ap is_closing fetch.4)
+      ]
+    ] in
+    next events c.args.place e.kind c.args.self.now c.requires.place refl
+    (clocks_plain (take c.args.place events) e c.args.self.now plain.0 plain.1 c.requires.so_far)
+
+pub returns-in-Ask-clause-clocks : goal.returns-in-Ask-clause-clocks
+returns-in-Ask-clause-clocks c =
+    let events = c.args.events.now in
+    let place = c.args.place in
+    let self = c.args.self.now in
+    let p = (here events place).processor in
+    let lt = present events place self.present c.requires.place c.requires.processors in
+    elim c.in-Ask.is [
+      | inl ask ↦ next events place (Ask ask.0) _ c.requires.place ask.1
+          (closed_next (take place events) self c.close.new.processors self.locks self.flags p (Ask ask.0) refl
+          (λ q. refl) refl refl lt c.requires.so_far c.close.ensures.long c.close.ensures.closed (refl, refl, refl))
+      | inr watch ↦ next events place (Watch watch.0) _ c.requires.place watch.1
+          (closed_next (take place events) self c.close.new.processors self.locks self.flags p (Watch watch.0) refl
+          (λ q. refl) refl refl lt c.requires.so_far c.close.ensures.long c.close.ensures.closed (refl, refl, refl))
+    ]
+
+pub returns-in-Acquire-clause-clocks : goal.returns-in-Acquire-clause-clocks
+returns-in-Acquire-clause-clocks c =
+    let events = c.args.events.now in
+    let place = c.args.place in
+    let self = c.args.self.now in
+    let p = (here events place).processor in
+    let lt = present events place self.present c.requires.place c.requires.processors in
+    next events place (Acquire c.in-Acquire.lock) _ c.requires.place c.in-Acquire.is
+    (taken_next (take place events) self c.take.new.processors p (Acquire c.in-Acquire.lock) refl refl refl lt
+    c.requires.so_far c.take.ensures.long c.take.ensures.joined (refl, refl, refl))
+
+pub returns-in-Await-clause-clocks : goal.returns-in-Await-clause-clocks
+returns-in-Await-clause-clocks c =
+    let events = c.args.events.now in
+    let place = c.args.place in
+    let self = c.args.self.now in
+    let p = (here events place).processor in
+    let lt = present events place self.present c.requires.place c.requires.processors in
+    next events place (Await c.in-Await.flag) _ c.requires.place c.in-Await.is
+    (taken_next (take place events) self c.take-in-Await.new.processors p (Await c.in-Await.flag) refl refl refl lt
+    c.requires.so_far c.take-in-Await.ensures.long c.take-in-Await.ensures.joined (refl, refl, refl))
+
+pub returns-in-Release-clause-clocks : goal.returns-in-Release-clause-clocks
+returns-in-Release-clause-clocks c =
+    let events = c.args.events.now in
+    let place = c.args.place in
+    let self = c.args.self.now in
+    let p = (here events place).processor in
+    let k = Release c.in-Release.lock in
+    let lt = present events place self.present c.requires.place c.requires.processors in
+    on_ok_weaker c.hand_over.result
+    (λ joined. next events place k _ c.requires.place c.in-Release.is
+    (closed_next (take place events) self c.hand_over.new.processors c.hand_over.new.kept self.flags p k refl
+    (λ q. refl) refl refl lt c.requires.so_far c.hand_over.ensures.long c.hand_over.ensures.closed
+    (joined, refl, refl)))
+    c.hand_over.ensures.joined
+
+pub returns-in-Set-clause-clocks : goal.returns-in-Set-clause-clocks
+returns-in-Set-clause-clocks c =
+    let events = c.args.events.now in
+    let place = c.args.place in
+    let self = c.args.self.now in
+    let p = (here events place).processor in
+    let k = Set c.in-Set.flag in
+    let call = c.hand_over-in-Set in
+    let lt = present events place self.present c.requires.place c.requires.processors in
+    on_ok_weaker call.result
+    (λ joined. next events place k _ c.requires.place c.in-Set.is
+    (closed_next (take place events) self call.new.processors self.locks call.new.kept p k refl (λ q. refl) refl refl
+    lt c.requires.so_far call.ensures.long call.ensures.closed (refl, joined, refl)))
+    call.ensures.joined
+
+pub returns-in-Arrive-clause-clocks : goal.returns-in-Arrive-clause-clocks
+returns-in-Arrive-clause-clocks c =
+    let events = c.args.events.now in
+    let place = c.args.place in
+    let self = c.args.self.now in
+    let p = (here events place).processor in
+    let lt = present events place self.present c.requires.place c.requires.processors in
+    let after = c.arrive.ensures in
+    on_ok_weaker c.arrive.result
+    (λ arrived. next events place Arrive c.arrive.new.self c.requires.place c.in-Arrive.is
+    (arrived_next (take place events) self c.arrive.new.self p lt c.requires.so_far after.rest after.long after.closed
+    arrived))
+    after.arrived
+
+pub returns-in-Depart-clause-clocks : goal.returns-in-Depart-clause-clocks
+returns-in-Depart-clause-clocks c =
+    let events = c.args.events.now in
+    let place = c.args.place in
+    let self = c.args.self.now in
+    let p = (here events place).processor in
+    let lt = present events place self.present c.requires.place c.requires.processors in
+    let after = c.depart.ensures in
     let now =
-    clocks_next (take c.args.place c.args.events.now) c.args.self.now c.count.new.self e.processor e.kind
-    (slice_index own) lt c.requires.so_far next in
+    departed_next (take place events) self c.depart.new.self p lt c.requires.so_far after.rest after.long after.joined
+    after.departures in
     let f = c.let_go.ensures in
-    let after =
-    clocks_let_go (take c.args.place c.args.events.now ++ e ∷ []) c.count.new.self c.let_go.new.self now
-    f.processors f.locks f.flags f.arrivals f.departures f.present f.left f.episodes in
-    subst (λ xs. AreClocks xs c.let_go.new.self) (sym (front_next c.args.events.now c.args.place e at)) after
+    next events place Depart c.let_go.new.self c.requires.place c.in-Depart.is
+    (clocks_let_go (take place events ++ event p Depart ∷ []) c.depart.new.self c.let_go.new.self now f.processors
+    f.locks f.flags f.arrivals f.departures f.present f.left f.episodes)
