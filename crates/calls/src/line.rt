@@ -1,22 +1,31 @@
 //! The lines of a list.
 
+use crate::names::Name;
 use cluster_uses::Call;
 use journal::{Event, Kind};
-use std::str::SplitAsciiWhitespace;
 
 /// What a line asks for.
 #[derive(Clone, Copy)]
 pub enum Action {
     /// Nothing: the line is empty, or a comment.
     Nothing,
-    /// A cluster, by how many processors, pages, words a page, locks and flags it has.
-    Open([usize; 5]),
+    /// This is done.
+    Do(Deed),
     /// The processor's call, that many times.
     Repeat(usize, usize, Call),
-    /// The processor's call, once.
-    Make(usize, Call),
     /// What is seen of the processor.
     See(usize, Question),
+    /// What is read of the journal at hand.
+    Read(Reading),
+}
+
+/// What changes the cluster or the journal at hand.
+#[derive(Clone, Copy)]
+pub enum Deed {
+    /// A cluster, by how many processors, pages, words a page, locks and flags it has.
+    Open([usize; 5]),
+    /// The processor's call.
+    Make(usize, Call),
     /// The cluster's end.
     Finish,
     /// A journal, by how many processors and addresses it has.
@@ -25,8 +34,6 @@ pub enum Action {
     Append(u64, Event),
     /// A cut of the journal.
     Cut,
-    /// What is read of the journal at hand.
-    Read(Reading),
 }
 
 /// What is seen of a processor.
@@ -54,237 +61,217 @@ pub enum Reading {
     Gone,
 }
 
+/// More words than a line has that asks for something.
+const MOST_WORDS: usize = 9;
+
+/// The first words of a line, and empty ones behind its last.
+type Words<'l> = [&'l str; MOST_WORDS];
+
+/// A name, and the numbers behind it.
+#[derive(Clone, Copy)]
+struct Phrase {
+    name: Name,
+    numbers: [usize; 5],
+    count: usize,
+}
+
 /// The words of a line.
-type Words<'l> = SplitAsciiWhitespace<'l>;
-
-/// The next word, as a number.
-fn number(words: &mut Words) -> Option<usize> {
-    words.next()?.parse::<usize>().ok()
-}
-
-/// The next two words, as numbers.
-fn pair(words: &mut Words) -> Option<(usize, usize)> {
-    let first = number(words)?;
-    let second = number(words)?;
-    Some((first, second))
-}
-
-/// The next word, as a number; 0 where there is none.
-fn number_or_zero(words: &mut Words) -> Option<usize> {
-    match words.next() {
-        Some(word) => word.parse::<usize>().ok(),
-        None => Some(0),
+fn words_of<'l>(line: &'l str) -> Words<'l> {
+    let mut rest = line.split_ascii_whitespace();
+    let mut words = [""; MOST_WORDS];
+    for place in 0..MOST_WORDS {
+        words[place] = rest.next().unwrap_or("");
     }
+    words
 }
 
-/// The next word, as what a page has at an address.
-fn word(words: &mut Words) -> Option<u32> {
-    words.next()?.parse::<u32>().ok()
+/// A word that is a number.
+fn number(word: &str) -> Option<usize> {
+    word.parse::<usize>().ok()
 }
 
-/// The call without a number that has this name.
-fn plain_call(name: &str) -> Option<Call> {
-    match name {
-        "arrive" => Some(Call::Arrive),
-        "take" => Some(Call::Take),
-        "flush" => Some(Call::Flush),
-        "audit" => Some(Call::Audit),
-        "cut" => Some(Call::Cut),
+/// What a page has at an address.
+fn value(number: usize) -> Option<u32> {
+    u32::try_from(number).ok()
+}
+
+/// The words as a name and numbers, up to the first that is empty.
+fn phrase_of(name: &str, words: &[&str]) -> Option<Phrase> {
+    let mut numbers = [0; 5];
+    let mut count = 0_usize;
+    for word in words {
+        if word.is_empty() {
+            break;
+        }
+        *numbers.get_mut(count)? = number(word)?;
+        count = count.saturating_add(1);
+    }
+    Some(Phrase {
+        name: Name::of(name)?,
+        numbers,
+        count,
+    })
+}
+
+/// A store of what the number says.
+fn store(address: usize, number: usize) -> Option<Call> {
+    Some(Call::Store(address, value(number)?))
+}
+
+/// The call of this name, with these numbers.
+fn call_of(phrase: Phrase) -> Option<Call> {
+    let [first, second, ..] = phrase.numbers;
+    match (phrase.name, phrase.count) {
+        (Name::Load, 1) => Some(Call::Load(first)),
+        (Name::Store, 2) => store(first, second),
+        (Name::Fetch, 1) => Some(Call::Fetch(first)),
+        (Name::Ask, 1) => Some(Call::Ask(first)),
+        (Name::Release, 1) => Some(Call::Release(first)),
+        (Name::Arrive, 0) => Some(Call::Arrive),
+        (Name::Set, 1) => Some(Call::Set(first)),
+        (Name::Watch, 1) => Some(Call::Watch(first)),
+        (Name::Take, 0) => Some(Call::Take),
+        (Name::Flush, 0) => Some(Call::Flush),
+        (Name::Audit, 0) => Some(Call::Audit),
+        (Name::Cut, 0) => Some(Call::Cut),
         _ => None,
     }
 }
 
-/// The call with one number that has this name.
-fn numbered_call(name: &str, number: usize) -> Option<Call> {
-    match name {
-        "load" => Some(Call::Load(number)),
-        "fetch" => Some(Call::Fetch(number)),
-        "ask" => Some(Call::Ask(number)),
-        "release" => Some(Call::Release(number)),
-        "set" => Some(Call::Set(number)),
-        "watch" => Some(Call::Watch(number)),
+/// The question of this name, with these numbers.
+fn question_of(phrase: Phrase) -> Option<Question> {
+    let [first, ..] = phrase.numbers;
+    match (phrase.name, phrase.count) {
+        (Name::Page, 1) => Some(Question::Page(first)),
+        (Name::Valid, 1) => Some(Question::Valid(first)),
+        (Name::Holds, 1) => Some(Question::Holds(first)),
+        (Name::Time, 0) => Some(Question::Time),
+        (Name::Waiting, 0) => Some(Question::Waiting),
+        (Name::Room, 0) => Some(Question::Room),
+        (Name::Number, 0) => Some(Question::Number),
         _ => None,
     }
 }
 
-/// The call of this name, with the numbers that follow.
-fn call_of(name: &str, words: &mut Words) -> Option<Call> {
-    if let Some(call) = plain_call(name) {
-        return Some(call);
-    }
-    let number = number(words)?;
-    if name == "store" {
-        return Some(Call::Store(number, word(words)?));
-    }
-    numbered_call(name, number)
-}
-
-/// The question without a number that has this name.
-fn plain_question(name: &str) -> Option<Question> {
-    match name {
-        "time" => Some(Question::Time),
-        "waiting" => Some(Question::Waiting),
-        "room" => Some(Question::Room),
-        "number" => Some(Question::Number),
+/// What is read of the journal at hand.
+fn reading_of(phrase: Phrase) -> Option<Reading> {
+    let [first, ..] = phrase.numbers;
+    match (phrase.name, phrase.count) {
+        (Name::Events, 0) => Some(Reading::Events),
+        (Name::Count, 0) => Some(Reading::Count),
+        (Name::At, 1) => Some(Reading::At(first)),
+        (Name::Replay, 0) => Some(Reading::Replay),
+        (Name::Race, 0) => Some(Reading::Race),
+        (Name::Traffic, 0) => Some(Reading::Traffic),
+        (Name::Base, 0) => Some(Reading::Base),
+        (Name::Gone, 0) => Some(Reading::Gone),
         _ => None,
     }
 }
 
-/// The question of this name, where one number follows.
-fn question_of(name: &str, words: &mut Words) -> Option<Question> {
-    if let Some(question) = plain_question(name) {
-        return Some(question);
+/// The deed of this name, with these numbers; a cluster has no flags where none are given.
+fn deed_of(phrase: Phrase) -> Option<Deed> {
+    let [first, second, ..] = phrase.numbers;
+    match (phrase.name, phrase.count) {
+        (Name::Cluster, 4 | 5) => Some(Deed::Open(phrase.numbers)),
+        (Name::Finish, 0) => Some(Deed::Finish),
+        (Name::Journal, 2) => Some(Deed::Begin(first, second)),
+        (Name::Cut, 0) => Some(Deed::Cut),
+        _ => None,
     }
-    let number = number(words)?;
-    match name {
-        "page" => Some(Question::Page(number)),
-        "valid" => Some(Question::Valid(number)),
-        "holds" => Some(Question::Holds(number)),
+}
+
+/// A load of what the number says, in a journal.
+fn loaded(address: usize, number: usize) -> Option<Kind> {
+    Some(Kind::Load(address, value(number)?))
+}
+
+/// A store of it.
+fn stored(address: usize, number: usize) -> Option<Kind> {
+    Some(Kind::Store(address, value(number)?))
+}
+
+/// A fetch: the page, and how many writers, records and words.
+fn fetched([page, writers, records, words, _]: [usize; 5]) -> Option<Kind> {
+    Some(Kind::Fetch {
+        writers: value(writers)?,
+        page,
+        records: value(records)?,
+        words: value(words)?,
+    })
+}
+
+/// What an event did.
+fn kind_of(phrase: Phrase) -> Option<Kind> {
+    let [first, second, ..] = phrase.numbers;
+    match (phrase.name, phrase.count) {
+        (Name::Load, 2) => loaded(first, second),
+        (Name::Store, 2) => stored(first, second),
+        (Name::Fetch, 4) => fetched(phrase.numbers),
+        (Name::Ask, 1) => Some(Kind::Ask(first)),
+        (Name::Acquire, 1) => Some(Kind::Acquire(first)),
+        (Name::Release, 1) => Some(Kind::Release(first)),
+        (Name::Arrive, 0) => Some(Kind::Arrive),
+        (Name::Depart, 0) => Some(Kind::Depart),
+        (Name::Set, 1) => Some(Kind::Set(first)),
+        (Name::Watch, 1) => Some(Kind::Watch(first)),
+        (Name::Await, 1) => Some(Kind::Await(first)),
         _ => None,
     }
 }
 
 /// The processor's number in its name.
 fn processor_of(name: &str) -> Option<usize> {
-    name.strip_prefix("p")?.parse::<usize>().ok()
+    number(name.strip_prefix("p")?)
 }
 
 /// What the line of a processor asks for: a question, or a call.
-fn of_processor(p: usize, words: &mut Words) -> Option<Action> {
-    let name = words.next()?;
-    let mut others = words.clone().ok()?;
-    if let Some(question) = question_of(name, &mut others) {
-        *words = others;
-        return Some(Action::See(p, question));
-    }
-    Some(Action::Make(p, call_of(name, words)?))
-}
-
-/// The call whose name is the next word.
-fn next_call(words: &mut Words) -> Option<Call> {
-    let name = words.next()?;
-    call_of(name, words)
-}
-
-/// The processor whose name is the next word.
-fn next_processor(words: &mut Words) -> Option<usize> {
-    processor_of(words.next()?)
-}
-
-/// A repeated call.
-fn repeat(words: &mut Words) -> Option<Action> {
-    let times = number(words)?;
-    let p = next_processor(words)?;
-    Some(Action::Repeat(times, p, next_call(words)?))
-}
-
-/// A cluster's sizes; without flags where no fifth number follows.
-fn open(words: &mut Words) -> Option<Action> {
-    let (processors, pages) = pair(words)?;
-    let (page_words, locks) = pair(words)?;
-    let flags = number_or_zero(words)?;
-    Some(Action::Open([processors, pages, page_words, locks, flags]))
-}
-
-/// A journal's sizes.
-fn begin(words: &mut Words) -> Option<Action> {
-    let (processors, addresses) = pair(words)?;
-    Some(Action::Begin(processors, addresses))
-}
-
-/// The kind of event with one number that has this name.
-fn numbered_kind(name: &str, number: usize) -> Option<Kind> {
-    match name {
-        "ask" => Some(Kind::Ask(number)),
-        "acquire" => Some(Kind::Acquire(number)),
-        "release" => Some(Kind::Release(number)),
-        "set" => Some(Kind::Set(number)),
-        "watch" => Some(Kind::Watch(number)),
-        "await" => Some(Kind::Await(number)),
-        _ => None,
+fn of_processor(p: usize, phrase: Phrase) -> Option<Action> {
+    match question_of(phrase) {
+        Some(question) => Some(Action::See(p, question)),
+        None => Some(Action::Do(Deed::Make(p, call_of(phrase)?))),
     }
 }
 
-/// A fetch of the page, with its numbers of writers, records and words.
-fn fetch(page: usize, words: &mut Words) -> Option<Kind> {
-    let writers = word(words)?;
-    let records = word(words)?;
-    Some(Kind::Fetch {
-        writers,
-        page,
-        records,
-        words: word(words)?,
-    })
-}
-
-/// What an event did.
-fn kind_of(name: &str, words: &mut Words) -> Option<Kind> {
-    match name {
-        "arrive" => return Some(Kind::Arrive),
-        "depart" => return Some(Kind::Depart),
-        _ => {}
-    }
-    let number = number(words)?;
-    match name {
-        "load" => Some(Kind::Load(number, word(words)?)),
-        "store" => Some(Kind::Store(number, word(words)?)),
-        "fetch" => fetch(number, words),
-        _ => numbered_kind(name, number),
+/// What a line of a name with numbers asks for.
+fn of_name(phrase: Phrase) -> Option<Action> {
+    match deed_of(phrase) {
+        Some(deed) => Some(Action::Do(deed)),
+        None => Some(Action::Read(reading_of(phrase)?)),
     }
 }
 
-/// An event at its place.
-fn append(words: &mut Words) -> Option<Action> {
-    let place = words.next()?.parse::<u64>().ok()?;
-    let processor = number(words)?;
-    let name = words.next()?;
-    let kind = kind_of(name, words)?;
-    Some(Action::Append(place, Event { processor, kind }))
+/// A call of the processor with this name, so often.
+fn repeat(times: &str, name: &str, phrase: Phrase) -> Option<Action> {
+    let times = number(times)?;
+    let p = processor_of(name)?;
+    Some(Action::Repeat(times, p, call_of(phrase)?))
 }
 
-/// What is read of the journal at hand.
-fn reading_of(name: &str, words: &mut Words) -> Option<Reading> {
-    match name {
-        "events" => Some(Reading::Events),
-        "count" => Some(Reading::Count),
-        "at" => Some(Reading::At(number(words)?)),
-        "replay" => Some(Reading::Replay),
-        "race" => Some(Reading::Race),
-        "traffic" => Some(Reading::Traffic),
-        "base" => Some(Reading::Base),
-        "gone" => Some(Reading::Gone),
-        _ => None,
-    }
+/// An event at its place, of the processor with this number.
+fn append(place: &str, processor: &str, phrase: Phrase) -> Option<Action> {
+    let place = number(place)? as u64;
+    let processor = number(processor)?;
+    let kind = kind_of(phrase)?;
+    Some(Action::Do(Deed::Append(place, Event { processor, kind })))
 }
 
-/// What the line whose first word this is asks for.
-fn begun_with(name: &str, words: &mut Words) -> Option<Action> {
-    if let Some(p) = processor_of(name) {
-        return of_processor(p, words);
-    }
-    match name {
-        "cluster" => open(words),
-        "repeat" => repeat(words),
-        "finish" => Some(Action::Finish),
-        "journal" => begin(words),
-        "event" => append(words),
-        "cut" => Some(Action::Cut),
-        _ => Some(Action::Read(reading_of(name, words)?)),
+/// What a line asks for whose first word is the name of a processor, or has numbers behind it.
+fn begun_with(name: &str, words: Words) -> Option<Action> {
+    match processor_of(name) {
+        Some(p) => of_processor(p, phrase_of(words[1], &words[2..])?),
+        None => of_name(phrase_of(name, &words[1..])?),
     }
 }
 
 /// What the line asks for; None where that is nothing that the program does.
 pub fn action_of(line: &str) -> Option<Action> {
-    let mut words = line.split_ascii_whitespace();
-    let Some(name) = words.next() else {
-        return Some(Action::Nothing);
-    };
-    if name.starts_with('#') {
-        return Some(Action::Nothing);
+    let words = words_of(line);
+    match words[0] {
+        "" => Some(Action::Nothing),
+        "repeat" => repeat(words[1], words[2], phrase_of(words[3], &words[4..])?),
+        "event" => append(words[1], words[2], phrase_of(words[3], &words[4..])?),
+        name if name.starts_with('#') => Some(Action::Nothing),
+        name => begun_with(name, words),
     }
-    let action = begun_with(name, &mut words)?;
-    if words.next().is_some() {
-        return None;
-    }
-    Some(action)
 }

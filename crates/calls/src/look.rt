@@ -1,8 +1,7 @@
 //! What can be seen of a processor.
 
-use book::{Book, Refused};
+use book::Book;
 use cluster::{Processor, Rule};
-use cluster_uses::Crew;
 use std::alloc::{AllocError, Global};
 use turn::Turn;
 use vtime::VTime;
@@ -58,17 +57,13 @@ fn seen_once<T: Turn<Book, Rule>>(
     })
 }
 
-/// The same of this processor of the crew, also where one growth is refused; None where there is no such processor.
+/// The same, also where one growth is refused.
 pub fn seen_of<T: Turn<Book, Rule>>(
-    crew: &Crew<T>,
+    processor: &Processor<T>,
     alloc: Global,
-    p: usize,
-) -> Result<Option<Look>, AllocError> {
-    let Some(processor) = crew.processor(p) else {
-        return Ok(None);
-    };
-    if let Ok(look) = seen_once(processor, alloc) {
-        return Ok(Some(look));
+) -> Result<Look, AllocError> {
+    match seen_once(processor, alloc) {
+        Ok(look) => Ok(look),
+        Err(_) => seen_once(processor, alloc),
     }
-    Ok(Some(seen_once(processor, alloc)?))
 }

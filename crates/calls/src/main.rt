@@ -29,18 +29,23 @@ ghost use Rattle.std.specs.Prelude.{◌≤◌, ◌^◌};
 mod answer;
 mod desk;
 mod fault;
+mod following;
+mod kept;
 mod line;
 mod look;
+mod names;
 mod options;
 mod print;
 mod written;
 
 use crate::desk::Desk;
 use crate::fault::Fault;
-use crate::line::action_of;
+use crate::following::{perform, read, repeat, see};
+use crate::line::{Action, Deed, action_of};
 use crate::options::{Options, options_of};
 use book::Book;
 use cluster::{BookLock, Rule, TicketBookLock};
+use std::alloc::Global;
 use std::io::{BufWriter, Stdout, Write};
 use std::process::ExitCode;
 use std::sync::Wait;
@@ -55,30 +60,32 @@ type FewTickets = TicketLock<Book, Rule, 4096>;
 
 /// Does a line, which may have nothing in it.
 fn follow<T: Turn<Book, Rule> + Drop, R: Wait, W: Write>(
-    desk: &mut Desk<T>,
-    rt: &R,
+    desk: &mut Desk<'_, T, R>,
     out: &mut W,
     line: &str,
 ) -> Result<(), Fault>
     requires { T.ENTRIES ≤ 2 ^ 40 }
 {
     match action_of(line) {
-        Some(action) => desk.perform(rt, out, action),
         None => Err(Fault::NoCall),
+        Some(Action::Nothing) => Ok(()),
+        Some(Action::Do(deed)) => perform(desk, out, deed),
+        Some(Action::Repeat(times, p, call)) => repeat(desk, out, times, Deed::Make(p, call)),
+        Some(Action::See(p, question)) => see(desk, out, p, question),
+        Some(Action::Read(reading)) => read(desk, out, reading),
     }
 }
 
 /// Does each line; where one fails, answers its number too.
 fn follow_all<T: Turn<Book, Rule> + Drop, R: Wait, W: Write>(
-    desk: &mut Desk<T>,
-    rt: &R,
+    desk: &mut Desk<'_, T, R>,
     out: &mut W,
     text: &str,
 ) -> Result<(), (usize, Fault)>
     requires { T.ENTRIES ≤ 2 ^ 40 }
 {
     for (index, line) in text.lines().enumerate() {
-        if let Err(fault) = follow(desk, rt, out, line) {
+        if let Err(fault) = follow(desk, out, line) {
             return Err((index, fault));
         }
     }
@@ -99,38 +106,46 @@ fn refuse(rt: &HostRuntime, line: usize, fault: Fault) -> u8 {
 
 /// Does the list with a lock of this type. The handle is what waits for a lock.
 fn serve<T: Turn<Book, Rule> + Drop, R: Wait>(
-    rt: &HostRuntime,
+    alloc: Global,
     handle: &R,
     out: &mut BufWriter<Stdout>,
     again: bool,
     text: &str,
-) -> u8
+) -> Result<(), (usize, Fault)>
     requires { T.ENTRIES ≤ 2 ^ 40 }
 {
-    let mut desk = Desk::<T>::new(rt.alloc(), again);
-    let outcome = follow_all(&mut desk, handle, out, text);
-    let flushed = out.flush();
-    match outcome {
-        Err((line, fault)) => refuse(rt, line, fault),
-        Ok(()) if flushed.is_err() => refuse(rt, 0, Fault::Output),
-        Ok(()) => 0,
-    }
+    let mut desk = Desk::<T, R>::new(handle, alloc, again);
+    follow_all(&mut desk, out, text)
 }
 
 /// Does the list with the lock that is asked for.
 fn serve_by<R: Wait>(
-    rt: &HostRuntime,
+    alloc: Global,
     handle: &R,
     options: &Options,
     out: &mut BufWriter<Stdout>,
     text: &str,
-) -> u8 {
+) -> Result<(), (usize, Fault)> {
     let again = options.again;
     match (options.few, options.ticket) {
-        (false, false) => serve::<BookLock, R>(rt, handle, out, again, text),
-        (false, true) => serve::<TicketBookLock, R>(rt, handle, out, again, text),
-        (true, false) => serve::<FewArray, R>(rt, handle, out, again, text),
-        (true, true) => serve::<FewTickets, R>(rt, handle, out, again, text),
+        (false, false) => serve::<BookLock, R>(alloc, handle, out, again, text),
+        (false, true) => serve::<TicketBookLock, R>(alloc, handle, out, again, text),
+        (true, false) => serve::<FewArray, R>(alloc, handle, out, again, text),
+        (true, true) => serve::<FewTickets, R>(alloc, handle, out, again, text),
+    }
+}
+
+/// Writes what is left to write, and answers the status.
+fn conclude(
+    rt: &HostRuntime,
+    out: &mut BufWriter<Stdout>,
+    outcome: Result<(), (usize, Fault)>,
+) -> u8 {
+    let is_written = out.flush().is_ok();
+    match outcome {
+        Err((line, fault)) => refuse(rt, line, fault),
+        Ok(()) if is_written => 0,
+        Ok(()) => refuse(rt, 0, Fault::Output),
     }
 }
 
@@ -153,7 +168,8 @@ fn start<R: Wait>(rt: &HostRuntime, handle: &R, words: &[String]) -> io::Result<
     };
     let text = text_of(rt, options.file)?;
     let mut out = BufWriter::new(rt.alloc(), rt.stdout())?;
-    Ok(serve_by(rt, handle, &options, &mut out, &text))
+    let outcome = serve_by(rt.alloc(), handle, &options, &mut out, &text);
+    Ok(conclude(rt, &mut out, outcome))
 }
 
 /// Reads the program's words, and does what they ask for.

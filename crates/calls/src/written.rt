@@ -3,7 +3,7 @@ ghost use Rattle.std.specs.Prelude.{◌≡◌, ◌<◌, IsTrue};
 ghost use Rattle.journal.specs.Prelude.{AddressInRange};
 
 use book::Refused;
-use journal::{CutFault, Event, Journal, Kind, MOST_HELD};
+use journal::{Event, Journal, Kind, MOST_HELD};
 use std::alloc::{AllocError, Global};
 
 /// A journal with the sizes that it was begun with.
@@ -65,7 +65,7 @@ impl Written {
     }
 
     /// Cuts it.
-    pub fn cut(&mut self) -> Result<(), CutFault> {
-        self.journal.cut()
+    pub fn cut(&mut self) -> Result<(), Refused> {
+        Ok(self.journal.cut()?)
     }
 }

@@ -5,14 +5,15 @@ use Rattle.std.specs.Option.{option_map_or}
 use Rattle.std.specs.Str.{bytes_eq}
 use Rattle.std.specs.Str.Parse.{IsNumeral, ParsesUnsigned, without_leading_plus}
 use Rattle.std.proofs.lemmas.Option.{same_Some}
-use Rattle.clap.specs.Words.{FailsBy, HasKind, IsAmong, Kinds, Row, Text, ReadsOne, first_of, first_value, one_of, one_text, rows_of}
+use Rattle.clap.specs.Words.{App, FailsBy, HasKind, IsAmong, Kinds, Row, Rule, Text, ReadsOne, first_of, first_value, one_of, one_text, rows_of, with_rule}
+use Rattle.clap.specs.declared.builder.command.Command.{Command}
 use Rattle.clap.specs.declared.parser.matches.Found.{Found}
 use Rattle.clap.specs.declared.error.Error.{Error}
 use Rattle.clap.proofs.WalkLemmas.{first_value-rows, one_text-rows}
 use Rattle.clap.specs.Values.{kind_of}
 use Rattle.clap.specs.declared.builder.value_parser.ValueParser.{ValueParser}
 use Rattle.clap.specs.declared.error.kind.ErrorKind.TheVariants.{OutOfMemory}
-use Rattle.lrc_options.specs.CommandLine.{IsNumberRead, IsNumberGiven, IsSeedGiven, IsFlagGiven, IsRefusedBy, TakesNames, number_of, most_seed}
+use Rattle.lrc_options.specs.CommandLine.{IsCommand, IsNumberRead, IsNumberGiven, IsSeedGiven, IsFlagGiven, IsRefusedBy, TakesNames, number_of, most_seed}
 
 -- a text that is a number is read as that
 number_reads : {E : Type 0} (t : Text) (G : List ℕ → Result ℕ E → Type 0) (r : Option ℕ) → ReadsOne G t r
@@ -113,9 +114,18 @@ pub if_ok_map : {T E : Type 0} {P Q : T → Type 0} (r : Result T E) → ((x : T
 if_ok_map (Ok x) follows holds = follows x holds
 if_ok_map (Err e) follows holds = tt
 
+-- and so of what it was
+pub if_ok_was : {T E : Type 0} (P : T → Type 0) (r : Result T E) (x : T) → r ≡ Ok x → IfOk r P → P x
+if_ok_was P r x was holds = rw was at holds
+
 -- a command with one more part takes no argument from above
 pub still_local : (a b r : Bool) → r ≡ (a || b) → a ≡ false → b ≡ false → r ≡ false
 still_local a b r is first second = is ∙ ap₂ (λ x y. x || y) first second
+
+-- a command with a rule is one with the same rule
+pub with_rule_is : {E : Type 0} (r : Result Command E) (a : App) (given rule : Rule) → given ≡ rule
+    → IfOk r (IsCommand (with_rule a given)) → IfOk r (IsCommand (with_rule a rule))
+with_rule_is r a given rule is = subst (λ (x : Rule). IfOk r (IsCommand (with_rule a x))) is
 
 -- two readings of one thing
 abbrev pub both_of : {A : Type 0} → (A → Text) → (A → List Row) → A → Text × List Row

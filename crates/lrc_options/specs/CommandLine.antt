@@ -3,10 +3,12 @@ use Rattle.std.specs.Prelude.{ℕ, ◌≡◌, ◌<◌, ◌≤◌, ◌-◌, ◌^�
 use Rattle.std.specs.Option.{option_map_or}
 use Rattle.std.specs.Str.{bytes_eq}
 use Rattle.std.specs.Str.Parse.{IsNumeral, digits_value, without_leading_plus}
-use Rattle.clap.specs.Words.{App, HasKind, Row, Rule, Text, new_app, new_rule, with_rule, with_subcommand, subcommand_of, first_of, one_of, fault_of}
+use Rattle.clap.specs.Words.{App, app_of, HasKind, Row, Rule, Text, new_app, new_rule, with_rule, with_subcommand, subcommand_of, first_of, one_of, fault_of}
 use Rattle.clap.specs.Simple.{on_top}
 use Rattle.clap.specs.Values.{IsUnsignedIn}
 use Rattle.clap.specs.declared.builder.action.ArgAction.TheVariants.{SetTrue}
+use Rattle.clap.specs.declared.builder.command.Command.{Command}
+use Rattle.clap.specs.declared.builder.command.Command.TheViews.{out-Command}
 use Rattle.clap.specs.declared.builder.value_parser.ValueParser.{ValueParser}
 use Rattle.clap.specs.declared.builder.value_parser.ValueParser.TheVariants as vp
 use Rattle.clap.specs.declared.error.Error.{Error}
@@ -67,13 +69,18 @@ journal_rule = flag_rule (codes "journal")
 abbrev pub svg_rule : Rule
 svg_rule = flag_rule (codes "svg")
 
--- a command on a file, with one option of its own
-abbrev pub file_app : Text → Rule → App
-file_app name own = with_rule (with_rule (new_app name) (new_rule (codes "FILE"))) own
+-- a command of this shape, of which no argument is global
+pub record IsCommand (a : App) (c : Command) : Type 0 where
+  pub shape : app_of c ≡ a
+  pub local : (out-Command c).has_globals ≡ false
 
--- the same with `--lock`, which takes what this parser lets through
+-- a command on a file
+abbrev pub file_app : Text → App
+file_app name = with_rule (new_app name) (new_rule (codes "FILE"))
+
+-- the same with an option of its own and `--lock`, which takes what this parser lets through
 abbrev pub script_app : Text → Rule → ValueParser → App
-script_app name own locks = with_rule (file_app name own) (lock_rule locks)
+script_app name own locks = with_rule (with_rule (file_app name) own) (lock_rule locks)
 
 -- the same with a flag
 abbrev pub flagged_app : Text → Rule → ValueParser → Rule → App
@@ -96,29 +103,24 @@ sample_app locks = script_app (codes "sample") seeds_rule locks
 
 -- `lrc explore`
 abbrev pub explore_app : App
-explore_app = file_app (codes "explore") most_rule
+explore_app = with_rule (file_app (codes "explore")) most_rule
 
 -- `lrc check`
 abbrev pub lax_rule : Rule
 lax_rule = flag_rule (codes "lax")
 
 abbrev pub check_app : App
-check_app = file_app (codes "check") lax_rule
+check_app = with_rule (file_app (codes "check")) lax_rule
 
--- `lrc`, which wants a command and has a version, with the commands that print a report
-abbrev pub with_runs_app : ValueParser → App
-with_runs_app locks = with_subcommand
-    (with_subcommand (on_top (λ s. record s { subcommand_required = true; has_version = true }) (new_app (codes "lrc")))
-    (run_app locks).top) (step_app locks).top
-
--- the same with the commands that study runs
-abbrev pub with_studies_app : ValueParser → App
-with_studies_app locks = with_subcommand (with_subcommand (with_runs_app locks) (explain_app locks).top)
-    (sample_app locks).top
+-- `lrc` without its commands: it wants one, and has a version
+abbrev pub bare_app : App
+bare_app = on_top (λ s. record s { subcommand_required = true; has_version = true }) (new_app (codes "lrc"))
 
 -- `lrc` with all its commands
 abbrev pub lrc_app : ValueParser → App
-lrc_app locks = with_subcommand (with_subcommand (with_studies_app locks) explore_app.top) check_app.top
+lrc_app locks = with_subcommand (with_subcommand (with_subcommand (with_subcommand (with_subcommand (with_subcommand bare_app
+    (run_app locks).top) (step_app locks).top) (explain_app locks).top) (sample_app locks).top) explore_app.top)
+    check_app.top
 
 -- the parser takes these names and no others
 abbrev pub TakesNames : List Text → ValueParser → Type 0

@@ -1,12 +1,12 @@
 //! The command that the program's words are read by.
 ghost use Rattle.std.specs.Prelude.{◌≡◌, IfOk, false, true};
-ghost use Rattle.clap.specs.Words.{app_of, rule_of};
+ghost use Rattle.clap.specs.Words.{App, app_of, rule_of, with_rule, with_subcommand};
 ghost use Rattle.clap.specs.declared.builder.command.Command.TheViews.{out-Command};
 ghost use Rattle.clap.specs.declared.builder.value_parser.ValueParser.TheVariants as vp;
 ghost use Rattle.lrc_options.specs.CommandLine.{flag_rule, lock_rule, most_rule, number_rule, seed_rule, seeds_rule};
-ghost use Rattle.lrc_options.specs.CommandLine.{check_app, explain_app, explore_app, file_app, flagged_app, lrc_app};
-ghost use Rattle.lrc_options.specs.CommandLine.{run_app, sample_app, script_app, step_app, tries_rule};
-ghost use Rattle.lrc_options.specs.CommandLine.{with_runs_app, with_studies_app};
+ghost use Rattle.lrc_options.specs.CommandLine.{IsCommand, bare_app, check_app, explain_app, explore_app, file_app};
+ghost use Rattle.lrc_options.specs.CommandLine.{flagged_app, lrc_app, run_app, sample_app, script_app, step_app};
+ghost use Rattle.lrc_options.specs.CommandLine.{tries_rule};
 
 use crate::help::{
     ABOUT, AFTER, EXPLAIN, EXPLORE, JOURNAL, LAX, MOST, SAMPLE, SCRIPT, SCRIPT_FILE, SEED, SEEDS,
@@ -93,25 +93,44 @@ fn flag_arg<'a>(alloc: Global, name: &'a str, help: &'a str) -> Arg<'a>
         .help(help)
 }
 
-/// A command on a file, which this text describes, with an option of its own.
+/// The command with one more option, where it could be made.
+fn with_option<'a>(
+    command: Result<Command<'a>, AllocError>,
+    option: Arg<'a>,
+) -> Result<Command<'a>, AllocError>
+    requires { option.global ≡ false }
+    ensures { (a : App) → IfOk command.entry (IsCommand a)
+        → IfOk result (IsCommand (with_rule a (rule_of option.entry))) }
+{
+    command?.arg(option)
+}
+
+/// The command with one more below it, where both could be made.
+fn with_command<'a>(
+    above: Result<Command<'a>, AllocError>,
+    below: Result<Command<'a>, AllocError>,
+) -> Result<Command<'a>, AllocError>
+    ensures { (a b : App) → IfOk above.entry (IsCommand a) → IfOk below.entry (IsCommand b)
+        → IfOk result (IsCommand (with_subcommand a b.top)) }
+{
+    above?.subcommand(below?)
+}
+
+/// A command on a file, which this text describes.
 fn file_command<'a>(
     alloc: Global,
     name: &'a str,
     about: &'a str,
     after: &'a str,
     file: &'a str,
-    own: Arg<'a>,
 ) -> Result<Command<'a>, AllocError>
-    requires { own.global ≡ false }
-    ensures app { IfOk result (λ c. app_of c ≡ file_app name.entry.now (rule_of own.entry)) }
-    ensures globals { IfOk result (λ c. (out-Command c).has_globals ≡ false) }
+    ensures { IfOk result (IsCommand (file_app name.entry.now)) }
 {
     let file = Arg::new(alloc, "FILE").help(file);
     Command::new(alloc, name)
         .about(about)
         .after_help(after)
-        .arg(file)?
-        .arg(own)
+        .arg(file)
 }
 
 /// A command on a script's file, with an option of its own and `--lock`.
@@ -124,11 +143,12 @@ fn script_command<'a>(
     locks: &'a [&'a str],
 ) -> Result<Command<'a>, AllocError>
     requires { own.global ≡ false }
-    ensures app { IfOk result (λ c. app_of c
-        ≡ script_app name.entry.now (rule_of own.entry) (vp.Names locks.entry)) }
-    ensures globals { IfOk result (λ c. (out-Command c).has_globals ≡ false) }
+    ensures { IfOk result (IsCommand
+        (script_app name.entry.now (rule_of own.entry) (vp.Names locks.entry))) }
 {
-    file_command(alloc, name, about, after, SCRIPT_FILE, own)?.arg(lock_arg(alloc, locks))
+    let command = file_command(alloc, name, about, after, SCRIPT_FILE);
+    let command = with_option(command, own);
+    with_option(command, lock_arg(alloc, locks))
 }
 
 /// The same with a flag.
@@ -143,17 +163,16 @@ fn flagged_command<'a>(
     help: &'a str,
 ) -> Result<Command<'a>, AllocError>
     requires { own.global ≡ false }
-    ensures app { IfOk result (λ c. app_of c
-        ≡ flagged_app name.entry.now (rule_of own.entry) (vp.Names locks.entry) (flag_rule flag.entry.now)) }
-    ensures globals { IfOk result (λ c. (out-Command c).has_globals ≡ false) }
+    ensures { IfOk result (IsCommand
+        (flagged_app name.entry.now (rule_of own.entry) (vp.Names locks.entry) (flag_rule flag.entry.now))) }
 {
-    script_command(alloc, name, about, after, own, locks)?.arg(flag_arg(alloc, flag, help))
+    let command = script_command(alloc, name, about, after, own, locks);
+    with_option(command, flag_arg(alloc, flag, help))
 }
 
 /// `lrc run`.
 fn run_command<'a>(alloc: Global, locks: &'a [&'a str]) -> Result<Command<'a>, AllocError>
-    ensures app { IfOk result (λ c. app_of c ≡ run_app (vp.Names locks.entry)) }
-    ensures globals { IfOk result (λ c. (out-Command c).has_globals ≡ false) }
+    ensures { IfOk result (IsCommand (run_app (vp.Names locks.entry))) }
 {
     let about = "Runs each processor on a thread of its own";
     let own = tries_arg(alloc);
@@ -162,8 +181,7 @@ fn run_command<'a>(alloc: Global, locks: &'a [&'a str]) -> Result<Command<'a>, A
 
 /// `lrc step`.
 fn step_command<'a>(alloc: Global, locks: &'a [&'a str]) -> Result<Command<'a>, AllocError>
-    ensures app { IfOk result (λ c. app_of c ≡ step_app (vp.Names locks.entry)) }
-    ensures globals { IfOk result (λ c. (out-Command c).has_globals ≡ false) }
+    ensures { IfOk result (IsCommand (step_app (vp.Names locks.entry))) }
 {
     let about = "Runs the processors by turns on one thread: the same words give the same report";
     let own = seed_arg(alloc);
@@ -172,8 +190,7 @@ fn step_command<'a>(alloc: Global, locks: &'a [&'a str]) -> Result<Command<'a>, 
 
 /// `lrc explain`.
 fn explain_command<'a>(alloc: Global, locks: &'a [&'a str]) -> Result<Command<'a>, AllocError>
-    ensures app { IfOk result (λ c. app_of c ≡ explain_app (vp.Names locks.entry)) }
-    ensures globals { IfOk result (λ c. (out-Command c).has_globals ≡ false) }
+    ensures { IfOk result (IsCommand (explain_app (vp.Names locks.entry))) }
 {
     let about = "Runs the processors as step does, and tells the run event by event";
     let own = seed_arg(alloc);
@@ -182,8 +199,7 @@ fn explain_command<'a>(alloc: Global, locks: &'a [&'a str]) -> Result<Command<'a
 
 /// `lrc sample`.
 fn sample_command<'a>(alloc: Global, locks: &'a [&'a str]) -> Result<Command<'a>, AllocError>
-    ensures app { IfOk result (λ c. app_of c ≡ sample_app (vp.Names locks.entry)) }
-    ensures globals { IfOk result (λ c. (out-Command c).has_globals ≡ false) }
+    ensures { IfOk result (IsCommand (sample_app (vp.Names locks.entry))) }
 {
     let about = "Runs the script under many seeds as step does, and tells each kind of result once";
     script_command(alloc, "sample", about, SAMPLE, seeds_arg(alloc), locks)
@@ -191,59 +207,32 @@ fn sample_command<'a>(alloc: Global, locks: &'a [&'a str]) -> Result<Command<'a>
 
 /// `lrc explore`.
 fn explore_command<'a>(alloc: Global) -> Result<Command<'a>, AllocError>
-    ensures app { IfOk result (λ c. app_of c ≡ explore_app) }
-    ensures globals { IfOk result (λ c. (out-Command c).has_globals ≡ false) }
+    ensures { IfOk result (IsCommand explore_app) }
 {
     let about =
         "Looks at all schedules of a script: whether it can race or hang, and what it can show";
-    file_command(
-        alloc,
-        "explore",
-        about,
-        EXPLORE,
-        SCRIPT_FILE,
-        most_arg(alloc),
-    )
+    let command = file_command(alloc, "explore", about, EXPLORE, SCRIPT_FILE);
+    with_option(command, most_arg(alloc))
 }
 
 /// `lrc check`.
 fn check_command<'a>(alloc: Global) -> Result<Command<'a>, AllocError>
-    ensures app { IfOk result (λ c. app_of c ≡ check_app) }
-    ensures globals { IfOk result (λ c. (out-Command c).has_globals ≡ false) }
+    ensures { IfOk result (IsCommand check_app) }
 {
     let about = "Judges a trace, of anyone's making: whether such a memory could have made it";
-    file_command(
-        alloc,
-        "check",
-        about,
-        TRACE,
-        TRACE_FILE,
-        flag_arg(alloc, "lax", LAX),
-    )
+    let command = file_command(alloc, "check", about, TRACE, TRACE_FILE);
+    with_option(command, flag_arg(alloc, "lax", LAX))
 }
 
-/// `lrc` with the commands that print a report.
-fn with_runs<'a>(alloc: Global, locks: &'a [&'a str]) -> Result<Command<'a>, AllocError>
-    ensures app { IfOk result (λ c. app_of c ≡ with_runs_app (vp.Names locks.entry)) }
-    ensures globals { IfOk result (λ c. (out-Command c).has_globals ≡ false) }
+/// `lrc` without its commands.
+fn bare_command<'a>(alloc: Global) -> Command<'a>
+    ensures { IsCommand bare_app result }
 {
     Command::new(alloc, "lrc")
         .about(ABOUT)
         .after_help(AFTER)
         .version(VERSION)
         .subcommand_required(true)
-        .subcommand(run_command(alloc, locks)?)?
-        .subcommand(step_command(alloc, locks)?)
-}
-
-/// The same with the commands that study runs.
-fn with_studies<'a>(alloc: Global, locks: &'a [&'a str]) -> Result<Command<'a>, AllocError>
-    ensures app { IfOk result (λ c. app_of c ≡ with_studies_app (vp.Names locks.entry)) }
-    ensures globals { IfOk result (λ c. (out-Command c).has_globals ≡ false) }
-{
-    with_runs(alloc, locks)?
-        .subcommand(explain_command(alloc, locks)?)?
-        .subcommand(sample_command(alloc, locks)?)
 }
 
 /// The command that the words are read by.
@@ -251,11 +240,14 @@ pub(crate) fn lrc_command<'a>(
     alloc: Global,
     locks: &'a [&'a str],
 ) -> Result<Command<'a>, AllocError>
-    ensures app { IfOk result (λ c. app_of c ≡ lrc_app (vp.Names locks.entry)) }
-    ensures globals { IfOk result (λ c. (out-Command c).has_globals ≡ false) }
+    ensures command { IfOk result (IsCommand (lrc_app (vp.Names locks.entry))) }
     ensures wants { IfOk result (λ c. (out-Command c).subcommand_required ≡ true) }
 {
-    with_studies(alloc, locks)?
-        .subcommand(explore_command(alloc)?)?
-        .subcommand(check_command(alloc)?)
+    let lrc = Ok(bare_command(alloc));
+    let lrc = with_command(lrc, run_command(alloc, locks));
+    let lrc = with_command(lrc, step_command(alloc, locks));
+    let lrc = with_command(lrc, explain_command(alloc, locks));
+    let lrc = with_command(lrc, sample_command(alloc, locks));
+    let lrc = with_command(lrc, explore_command(alloc));
+    with_command(lrc, check_command(alloc))
 }

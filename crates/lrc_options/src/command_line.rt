@@ -176,15 +176,15 @@ fn asked_of(alloc: Global, name: &str, matches: &ArgMatches<'_>) -> Result<Asked
     ensures { IfOk result (AreAskedOf name.now (rows_of (found_of matches.now))) }
 {
     if name == "explain" {
-        Ok(Asked::Explain(explain_options_of(alloc, matches)?))
+        explain_options_of(alloc, matches).map(Asked::Explain)
     } else if name == "sample" {
-        Ok(Asked::Sample(sample_options_of(alloc, matches)?))
+        sample_options_of(alloc, matches).map(Asked::Sample)
     } else if name == "explore" {
-        Ok(Asked::Explore(explore_options_of(alloc, matches)?))
+        explore_options_of(alloc, matches).map(Asked::Explore)
     } else if name == "check" {
-        Ok(Asked::Trace(trace_options_of(alloc, matches)?))
+        trace_options_of(alloc, matches).map(Asked::Trace)
     } else {
-        Ok(Asked::Script(options_of(alloc, name, matches)?))
+        options_of(alloc, name, matches).map(Asked::Script)
     }
 }
 

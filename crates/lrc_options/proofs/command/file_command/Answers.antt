@@ -1,5 +1,5 @@
 use Rattle.std.proofs.Common.{◌≡◌, ◌∙◌, ap, ap₂, codes, rules, false}
-use Rattle.clap.specs.Words.{App, app_of, new_rule, rule_of, with_rule}
+use Rattle.clap.specs.Words.{app_of, new_rule, rule_of, with_rule}
 use Rattle.clap.specs.Simple.{app_of_fields}
 use Rattle.clap.specs.declared.builder.command.Command.{Command}
 use Rattle.clap.specs.declared.builder.command.Command.TheOpen.{Command-F}
@@ -7,22 +7,17 @@ use Rattle.clap.specs.declared.builder.command.Command.TheViews.{out-Command}
 use Rattle.lrc_options.proofs.CommandLine.{if_ok_map, still_local}
 use Rattle.lrc_options.proofs.command.file_command.Goals as goal
 
-pub returns-clause-app : goal.returns-clause-app
-returns-clause-app c =
+pub returns : goal.returns
+returns c =
     let file_is : rule_of c.help-file.result ≡ new_rule (codes "FILE") = search rules in
     let file_own : c.help-file.result.global ≡ false = search rules in
     let about : app_of c.about.result ≡ app_of c.new-2.result = ap app_of_fields c.about.ensures in
     let start : app_of c.after_help.result ≡ app_of c.about.result = ap app_of_fields c.after_help.ensures in
-    let one = c.in_ok-arg.ensures.shape file_own ∙ ap₂ with_rule (start ∙ about ∙ c.new-2.ensures.app) file_is in
-    if_ok_map c.arg-2.result
-    (λ made adds. adds.shape c.requires ∙ ap (λ (a : App). with_rule a (rule_of c.args.own)) one) c.arg-2.ensures
-
-pub returns-clause-globals : goal.returns-clause-globals
-returns-clause-globals c =
-    let file_own : c.help-file.result.global ≡ false = search rules in
-    let about : (out-Command c.about.result).has_globals ≡ false =
+    let about_local : (out-Command c.about.result).has_globals ≡ false =
     ap (λ (f : Command-F Command). f.has_globals) c.about.ensures ∙ c.new-2.ensures.local in
-    let start : (out-Command c.after_help.result).has_globals ≡ false =
-    ap (λ (f : Command-F Command). f.has_globals) c.after_help.ensures ∙ about in
-    let one = still_local _ _ _ c.in_ok-arg.ensures.globals start file_own in
-    if_ok_map c.arg-2.result (λ made adds. still_local _ _ _ adds.globals one c.requires) c.arg-2.ensures
+    let local : (out-Command c.after_help.result).has_globals ≡ false =
+    ap (λ (f : Command-F Command). f.has_globals) c.after_help.ensures ∙ about_local in
+    if_ok_map c.arg.result (λ made adds. record {
+      shape = adds.shape file_own ∙ ap₂ with_rule (start ∙ about ∙ c.new-2.ensures.app) file_is;
+      local = still_local _ _ _ adds.globals local file_own;
+    }) c.arg.ensures

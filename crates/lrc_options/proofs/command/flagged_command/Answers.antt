@@ -1,16 +1,10 @@
-use Rattle.std.proofs.Common.{◌∙◌, ap₂}
-use Rattle.clap.specs.Words.{with_rule}
-use Rattle.lrc_options.proofs.CommandLine.{if_ok_map, still_local}
+use Rattle.clap.specs.Words.{rule_of}
+use Rattle.clap.specs.declared.builder.value_parser.ValueParser.TheVariants as vp
+use Rattle.lrc_options.specs.CommandLine.{script_app}
+use Rattle.lrc_options.proofs.CommandLine.{with_rule_is}
 use Rattle.lrc_options.proofs.command.flagged_command.Goals as goal
 
-pub returns-clause-app : goal.returns-clause-app
-returns-clause-app c =
-    if_ok_map c.arg.result
-    (λ made adds. adds.shape c.flag_arg.ensures.own
-    ∙ ap₂ with_rule c.in_ok-script_command.ensures.app c.flag_arg.ensures.rule) c.arg.ensures
-
-pub returns-clause-globals : goal.returns-clause-globals
-returns-clause-globals c =
-    if_ok_map c.arg.result
-    (λ made adds. still_local _ _ _ adds.globals c.in_ok-script_command.ensures.globals c.flag_arg.ensures.own)
-    c.arg.ensures
+pub returns : goal.returns
+returns c =
+    let script = script_app c.args.name.now (rule_of c.args.own) (vp.Names c.args.locks) in
+    with_rule_is _ script _ _ c.flag_arg.ensures.rule (c.with_option.ensures script c.script_command-command.ensures)

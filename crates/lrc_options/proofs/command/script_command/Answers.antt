@@ -1,16 +1,11 @@
-use Rattle.std.proofs.Common.{◌∙◌, ap₂}
-use Rattle.clap.specs.Words.{with_rule}
-use Rattle.lrc_options.proofs.CommandLine.{if_ok_map, still_local}
+use Rattle.clap.specs.Words.{rule_of, with_rule}
+use Rattle.lrc_options.specs.CommandLine.{file_app}
+use Rattle.lrc_options.proofs.CommandLine.{with_rule_is}
 use Rattle.lrc_options.proofs.command.script_command.Goals as goal
 
-pub returns-clause-app : goal.returns-clause-app
-returns-clause-app c =
-    if_ok_map c.arg.result
-    (λ made adds. adds.shape c.lock_arg.ensures.own
-    ∙ ap₂ with_rule c.in_ok-file_command.ensures.app c.lock_arg.ensures.rule) c.arg.ensures
-
-pub returns-clause-globals : goal.returns-clause-globals
-returns-clause-globals c =
-    if_ok_map c.arg.result
-    (λ made adds. still_local _ _ _ adds.globals c.in_ok-file_command.ensures.globals c.lock_arg.ensures.own)
-    c.arg.ensures
+pub returns : goal.returns
+returns c =
+    let file = file_app c.args.name.now in
+    let own = with_rule file (rule_of c.args.own) in
+    with_rule_is _ own _ _ c.lock_arg.ensures.rule
+    (c.with_option.ensures own (c.with_option-command.ensures file c.file_command-command.ensures))

@@ -8,7 +8,7 @@ use Rattle.lrc_options.proofs.command_line.options.Goals as goal
 
 pub returns-in_ok-asked_of-in-Some-clause-given : goal.returns-in_ok-asked_of-in-Some-clause-given
 returns-in_ok-asked_of-in-Some-clause-given c =
-    let app = c.in_ok-lrc_command.ensures.app in
+    let app = c.in_ok-lrc_command.ensures.command.shape in
     let words = map (λ w. string_bytes w) c.args.words.now in
     let locks_are : map (λ s. s.now) c.as_slice.result.now ≡ codes "array" ∷ codes "ticket" ∷ [] = search rules in
     let entered : subcommand_rows_of c.in-Ok.matches ≡ subcommand_of (lrc_app (vp.Names c.as_slice.result)) words =
@@ -32,7 +32,7 @@ returns-in_err-lrc_command-clause-refused c =
 pub returns-in_ok-with_tip-in-Err-clause-refused : goal.returns-in_ok-with_tip-in-Err-clause-refused
 returns-in_ok-with_tip-in-Err-clause-refused c =
     let words = map (λ w. string_bytes w) c.args.words.now in
-    let app = c.in_ok-lrc_command.ensures.app in
+    let app = c.in_ok-lrc_command.ensures.command.shape in
     let fault = c.in-Err.fault in
     let fails = is_fault _ _ fault c.in-Err.is (c.try_get_matches_from.ensures.kinds (ap is_simple_and_free app)) in
     record {
