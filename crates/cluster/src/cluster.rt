@@ -13,25 +13,25 @@ mod handing;
 mod taking;
 
 use self::finishing::Spare;
-use crate::keeper::Rule;
+use crate::keeper::{BookTurn, Rule};
 use crate::processor::{Parts, Processor};
 use crate::shape::Shape;
 use book::{Book, Refused};
 use std::alloc::{AllocError, Global};
 use std::marker::Model;
 use std::sync::Mutex;
-use turn::{Chair, Turn};
+use turn::Chair;
 
 /// A cluster of processors over one book, behind the lock `T`. Its threads share it by reference.
 #[derive(Drop)]
-pub struct Cluster<T: Turn<Book, Rule>> {
+pub struct Cluster<T: BookTurn> {
     turn: T,
     shape: Shape,
     // Behind a mutex since a chair is not `Sync`, though nobody locks it.
     spare: Mutex<Spare>,
 }
 
-impl<T: Turn<Book, Rule>> Model for Cluster<T> {
+impl<T: BookTurn> Model for Cluster<T> {
     ghost use Rattle.std.specs.Prelude.{◌≡◌};
     ghost use Rattle.replicas.specs.Sound.{AreSizes};
     ghost use Rattle.cluster.specs.Clusters.{Shared, shared};
@@ -43,7 +43,7 @@ impl<T: Turn<Book, Rule>> Model for Cluster<T> {
     ghost invariant = { λ c. (T.size c.turn ≡ c.shape.processors) × AreSizes c.shape };
 }
 
-impl<T: Turn<Book, Rule>> Cluster<T> {
+impl<T: BookTurn> Cluster<T> {
     /// A cluster of these sizes, and its processors in the order of their numbers: 1 to 16 processors, 1 to
     /// 64 pages of 1 to 64 words, and up to 32 locks and flags.
     ///

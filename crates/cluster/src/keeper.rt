@@ -5,11 +5,11 @@ use crate::shape::Shape;
 use book::Book;
 use journal::Event;
 use std::collections::LinkedList;
-use turn::{ArrayLock, Keeper, Outcome, TicketLock};
+use turn::{ArrayLock, Keeper, Outcome, TicketLock, Turn};
 
 /// What one processor knows of the book while it is outside: the sizes of its cluster, the history as its last call
-/// that entered left it, how many of its first events were cut off then, and how many its own cuts took off in all. No
-/// value of it is made: it exists only in proofs.
+/// that entered left it, how many of its first events were cut off then, and how many its own cuts took off in all. It
+/// exists only in proofs.
 pub struct View {
     pub shape: Shape,
     pub seen: LinkedList<Event>,
@@ -42,6 +42,14 @@ impl Outcome<Book, View> for Looking {
 
     ghost then = { Sees };
 }
+
+/// A lock round the book, under this crate's rule. A lock of one's own that meets [`Turn`] gets it by an impl with nothing
+/// in it.
+pub trait BookTurn: Turn<Book, Rule> {}
+
+impl<const ENTRIES: u64> BookTurn for ArrayLock<Book, Rule, ENTRIES> {}
+
+impl<const ENTRIES: u64> BookTurn for TicketLock<Book, Rule, ENTRIES> {}
 
 /// The lock round the book: an array lock of 2^40 entries a processor.
 pub type BookLock = ArrayLock<Book, Rule, 1099511627776>;

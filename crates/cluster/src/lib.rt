@@ -20,7 +20,7 @@ mod processor;
 mod shape;
 
 pub use cluster::Cluster;
-pub use keeper::{BookLock, Rule, TicketBookLock, View};
+pub use keeper::{BookLock, BookTurn, Rule, TicketBookLock, View};
 pub use processor::Processor;
 pub use shape::Shape;
 

@@ -13,7 +13,7 @@ ghost use Rattle.cluster.specs.Prelude.{AreParts, IsNewChair, page_of, has_valid
 ghost use Rattle.cluster.specs.Prelude.{fetch_refusal, event_refusal, arrive_test, ask_test, release_test, flag_test};
 ghost use Rattle.cluster.specs.Prelude.{take_test, closing_test, HasWord, IsStored, IsFetched, Covers, IsApart};
 
-use crate::keeper::Rule;
+use crate::keeper::{BookTurn, Rule};
 use crate::shape::Shape;
 use book::{Book, Refused};
 use journal::{Event, Kind};
@@ -22,7 +22,7 @@ use replicas::{Marks, Replica};
 use std::alloc::{AllocError, Global};
 use std::marker::{Model, PhantomData};
 use std::sync::Arc;
-use turn::{Chair, Turn};
+use turn::Chair;
 use vtime::VTime;
 
 /// Events of an open block at most.
@@ -67,7 +67,7 @@ fn replicas_of(alloc: Global, shape: Shape) -> Result<Vec<Replica>, AllocError>
 /// A processor of a cluster, which one thread owns. Loads, stores and fetches are its own business: they
 /// enter no lock and take no memory.
 #[derive(Drop)]
-pub struct Processor<T: Turn<Book, Rule>> {
+pub struct Processor<T: BookTurn> {
     pub(crate) number: usize,
     pub(crate) shape: Shape,
     pub(crate) chair: Chair<Book, Rule>,
@@ -80,7 +80,7 @@ pub struct Processor<T: Turn<Book, Rule>> {
     turn: PhantomData<T>,
 }
 
-impl<T: Turn<Book, Rule>> Model for Processor<T> {
+impl<T: BookTurn> Model for Processor<T> {
     ghost use Rattle.std.specs.Prelude.{◌≡◌, ◌≤◌, vec_capacity};
     ghost use Rattle.turn.specs.Chairs.{lock, view, entries, place, IsOutside};
     ghost use Rattle.lists.specs.Limits.{most_in_block};
@@ -100,7 +100,7 @@ impl<T: Turn<Book, Rule>> Model for Processor<T> {
         × (most_in_block ≤ vec_capacity m.block) };
 }
 
-impl<T: Turn<Book, Rule>> Processor<T> {
+impl<T: BookTurn> Processor<T> {
     /// The processor with this number and chair, before its first call.
     pub(crate) fn seated(
         number: usize,

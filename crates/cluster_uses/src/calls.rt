@@ -3,11 +3,10 @@ ghost use Rattle.std.specs.Prelude.{◌≡◌};
 ghost use Rattle.std.specs.Result.{result_err};
 ghost use Rattle.cluster_uses.specs.Crews.{IsOf, IsStep};
 
-use book::{Book, Refused};
-use cluster::{Cluster, Processor, Rule};
+use book::Refused;
+use cluster::{BookTurn, Cluster, Processor};
 use journal::Journal;
 use std::sync::Wait;
-use turn::Turn;
 
 /// A call on a processor.
 #[derive(Clone, Copy, Debug)]
@@ -35,7 +34,7 @@ pub enum Answer {
 }
 
 /// Loads, as [`Processor::load`] does.
-pub(crate) fn load<T: Turn<Book, Rule>>(
+pub(crate) fn load<T: BookTurn>(
     cluster: &Cluster<T>,
     processor: &mut Processor<T>,
     address: usize,
@@ -48,7 +47,7 @@ pub(crate) fn load<T: Turn<Book, Rule>>(
 }
 
 /// Makes the call.
-pub(crate) fn make<T: Turn<Book, Rule>, R: Wait>(
+pub(crate) fn make<T: BookTurn, R: Wait>(
     cluster: &Cluster<T>,
     rt: &R,
     processor: &mut Processor<T>,

@@ -5,22 +5,21 @@ ghost use Rattle.cluster.specs.Prelude.{AreNew, IsFinished};
 ghost use Rattle.cluster_uses.specs.Crews.{IsTurnOf, HaveSameCalls};
 
 use crate::calls::{Answer, Call, make};
-use book::{Book, Refused};
-use cluster::{Cluster, Processor, Rule};
+use book::Refused;
+use cluster::{BookTurn, Cluster, Processor};
 use journal::Journal;
 use std::alloc::Global;
 use std::marker::Model;
 use std::sync::Wait;
-use turn::Turn;
 
 /// A cluster with all its processors, in the order of their numbers.
 #[derive(Drop)]
-pub struct Crew<T: Turn<Book, Rule>> {
+pub struct Crew<T: BookTurn> {
     pub(crate) cluster: Cluster<T>,
     pub(crate) processors: Vec<Processor<T>>,
 }
 
-impl<T: Turn<Book, Rule>> Model for Crew<T> {
+impl<T: BookTurn> Model for Crew<T> {
     ghost use Rattle.cluster_uses.specs.Crews.{Crewed, crewed, AreMembers};
 
     ghost Value = { Crewed };
@@ -30,7 +29,7 @@ impl<T: Turn<Book, Rule>> Model for Crew<T> {
     ghost invariant = { λ c. AreMembers c.cluster c.processors.items };
 }
 
-impl<T: Turn<Book, Rule>> Crew<T> {
+impl<T: BookTurn> Crew<T> {
     /// A cluster of these sizes, in the order of `Cluster::new`, and its processors. Refused as that is.
     pub fn new(alloc: Global, sizes: [usize; 5]) -> Result<Crew<T>, Refused>
         requires { T.ENTRIES ≤ 2 ^ 40 }

@@ -4,12 +4,11 @@ ghost use Rattle.cluster_uses.specs.Crews.{IsOf};
 
 use crate::calls::{Call, load, make};
 use crate::crew::Crew;
-use book::{Book, Refused};
-use cluster::{Cluster, Processor, Rule};
+use book::Refused;
+use cluster::{BookTurn, Cluster, Processor};
 use std::alloc::{AllocError, Global};
 use std::sync::Wait;
 use std::thread::{Threads, map_vec, yield_now};
-use turn::Turn;
 
 /// How often a call is made at most, while what it waits for hasn't come.
 const TRIES: usize = 1_000_000;
@@ -24,7 +23,7 @@ pub enum Task {
 }
 
 /// Makes the call, and again while what it waits for hasn't come, or memory is refused.
-fn insist<T: Turn<Book, Rule>, R: Wait>(
+fn insist<T: BookTurn, R: Wait>(
     cluster: &Cluster<T>,
     rt: &R,
     processor: &mut Processor<T>,
@@ -45,7 +44,7 @@ fn insist<T: Turn<Book, Rule>, R: Wait>(
 }
 
 /// The word at the address, of a copy that is fetched where it is stale.
-fn load_fresh<T: Turn<Book, Rule>, R: Wait>(
+fn load_fresh<T: BookTurn, R: Wait>(
     cluster: &Cluster<T>,
     rt: &R,
     processor: &mut Processor<T>,
@@ -62,7 +61,7 @@ fn load_fresh<T: Turn<Book, Rule>, R: Wait>(
 }
 
 /// Adds one to the word under the lock.
-fn add<T: Turn<Book, Rule>, R: Wait>(
+fn add<T: BookTurn, R: Wait>(
     cluster: &Cluster<T>,
     rt: &R,
     processor: &mut Processor<T>,
@@ -86,7 +85,7 @@ fn add<T: Turn<Book, Rule>, R: Wait>(
 }
 
 /// Does the task.
-fn perform<T: Turn<Book, Rule>, R: Wait>(
+fn perform<T: BookTurn, R: Wait>(
     cluster: &Cluster<T>,
     rt: &R,
     processor: &mut Processor<T>,
@@ -106,7 +105,7 @@ fn perform<T: Turn<Book, Rule>, R: Wait>(
 }
 
 /// Does the tasks, in their order.
-fn perform_all<T: Turn<Book, Rule>, R: Wait>(
+fn perform_all<T: BookTurn, R: Wait>(
     cluster: &Cluster<T>,
     rt: &R,
     processor: &mut Processor<T>,
@@ -123,7 +122,7 @@ fn perform_all<T: Turn<Book, Rule>, R: Wait>(
 }
 
 /// Does the tasks with this processor, and gives it back.
-fn work<T: Turn<Book, Rule>, R: Wait>(
+fn work<T: BookTurn, R: Wait>(
     cluster: &Cluster<T>,
     rt: &R,
     mut processor: Processor<T>,
@@ -138,7 +137,7 @@ fn work<T: Turn<Book, Rule>, R: Wait>(
 }
 
 /// The processors that came back, in order, and the first refusal.
-fn gathered<T: Turn<Book, Rule>>(
+fn gathered<T: BookTurn>(
     alloc: Global,
     results: Vec<(Processor<T>, Result<(), Refused>)>,
 ) -> Result<(Vec<Processor<T>>, Result<(), Refused>), AllocError>
@@ -155,7 +154,7 @@ fn gathered<T: Turn<Book, Rule>>(
 
 /// Each processor does the tasks on a thread of its own. Answers the crew when all have, and the refusal of the
 /// first processor, by number, that was refused.
-pub fn run<T: Turn<Book, Rule> + Send + Drop, R: Threads + Wait + Sync>(
+pub fn run<T: BookTurn + Send + Drop, R: Threads + Wait + Sync>(
     rt: &R,
     alloc: Global,
     crew: Crew<T>,

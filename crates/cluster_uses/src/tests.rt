@@ -4,17 +4,16 @@ ghost use Rattle.std.specs.Prelude.{◌≡◌, ◌≤◌, ◌^◌, length};
 ghost use Rattle.journal.specs.Prelude.{IsTable};
 
 use crate::{Answer, Call, Crew, Task, run};
-use book::{Book, Refused};
-use cluster::{BookLock, Rule, TicketBookLock};
+use book::Refused;
+use cluster::{BookLock, BookTurn, TicketBookLock};
 use journal::{Event, Journal, Kind, ReachTable};
 use std::process::Abort;
 use std::sync::Wait;
 use std::test::Fail;
 use std::thread::Threads;
-use turn::Turn;
 
 /// The word at the address, of a copy that is fetched where it is stale.
-fn loads_fresh<T: Turn<Book, Rule>, R: Wait>(
+fn loads_fresh<T: BookTurn, R: Wait>(
     crew: &mut Crew<T>,
     rt: &R,
     p: usize,
@@ -30,7 +29,7 @@ fn loads_fresh<T: Turn<Book, Rule>, R: Wait>(
 }
 
 /// What processor 0 finds at address 0 under the lock.
-fn finds<T: Turn<Book, Rule>, R: Wait>(crew: &mut Crew<T>, rt: &R) -> Result<u32, Refused> {
+fn finds<T: BookTurn, R: Wait>(crew: &mut Crew<T>, rt: &R) -> Result<u32, Refused> {
     crew.call(rt, 0, Call::Ask(0))?;
     crew.call(rt, 0, Call::Take)?;
     let word = loads_fresh(crew, rt, 0, 0)?;
@@ -39,7 +38,7 @@ fn finds<T: Turn<Book, Rule>, R: Wait>(crew: &mut Crew<T>, rt: &R) -> Result<u32
 }
 
 /// The journal that an audit of processor 0 answers.
-fn audited<T: Turn<Book, Rule>, R: Wait>(crew: &mut Crew<T>, rt: &R) -> Result<Journal, Refused> {
+fn audited<T: BookTurn, R: Wait>(crew: &mut Crew<T>, rt: &R) -> Result<Journal, Refused> {
     match crew.call(rt, 0, Call::Audit)? {
         Answer::Copy(journal) => Ok(journal),
         _ => Err(Refused::NotYet),
@@ -55,7 +54,7 @@ fn replays_to(journal: &Journal, wanted: &[u32]) -> Result<bool, Refused> {
 }
 
 /// Each of two threads adds one a hundred times, under a lock.
-fn counts<T: Turn<Book, Rule> + Send + Drop, R: Abort + Threads + Wait + Sync + AllocGlobal>(
+fn counts<T: BookTurn + Send + Drop, R: Abort + Threads + Wait + Sync + AllocGlobal>(
     rt: &R,
 ) -> Result<(), Refused>
     requires { T.ENTRIES ≤ 2 ^ 40 }
@@ -108,7 +107,7 @@ const ADDS: [Task; 4] = [
 const SUMS: [u32; 16] = [0, 32, 0, 0, 0, 0, 32, 0, 0, 0, 0, 32, 32, 0, 0, 0];
 
 /// Sixteen threads add under four locks in turn, and meet, twice.
-fn meets_twice<T: Turn<Book, Rule> + Send + Drop, R: Abort + Threads + Wait + Sync + AllocGlobal>(
+fn meets_twice<T: BookTurn + Send + Drop, R: Abort + Threads + Wait + Sync + AllocGlobal>(
     rt: &R,
 ) -> Result<(), Refused>
     requires { T.ENTRIES ≤ 2 ^ 40 }
@@ -128,7 +127,7 @@ fn meets_twice<T: Turn<Book, Rule> + Send + Drop, R: Abort + Threads + Wait + Sy
 }
 
 /// The processor loads all words.
-fn sees_all<T: Turn<Book, Rule>, R: Abort + Wait>(
+fn sees_all<T: BookTurn, R: Abort + Wait>(
     crew: &mut Crew<T>,
     rt: &R,
     p: usize,

@@ -6,18 +6,16 @@ ghost use Rattle.cluster.specs.Prelude.{AreAllOf};
 ghost use Rattle.lrc_run.specs.Prelude.{HaveFollowed, IsReportOf, AreWalked};
 
 use crate::shown::show;
-use book::Book;
-use cluster::{Cluster, Processor, Rule};
+use cluster::{BookTurn, Cluster, Processor};
 use lrc_report::Report;
 use lrc_script::script::Script;
 use runs::Cause;
 use std::alloc::{AllocError, Global};
 use std::sync::Wait;
-use turn::Turn;
 
 /// Where all processors have walked their sections: processor 0 loads what the script shows, and the cluster is
 /// finished. Refused as the loads are, and where memory is.
-pub(crate) fn conclude<T: Turn<Book, Rule> + Drop, R: Wait>(
+pub(crate) fn conclude<T: BookTurn + Drop, R: Wait>(
     rt: &R,
     alloc: Global,
     cluster: Cluster<T>,
@@ -34,7 +32,7 @@ pub(crate) fn conclude<T: Turn<Book, Rule> + Drop, R: Wait>(
 }
 
 /// Finishes the cluster, and reports of its journal. Refused only where memory is.
-fn report<T: Turn<Book, Rule>>(
+fn report<T: BookTurn>(
     cluster: Cluster<T>,
     processors: Vec<Processor<T>>,
     shown: Vec<(usize, u32)>,

@@ -10,15 +10,13 @@ use self::threads::walk_all;
 use crate::ending::conclude;
 use crate::faults::gathered;
 use crate::gate::Gate;
-use book::Book;
-use cluster::{BookLock, Cluster, Processor, Rule};
+use cluster::{BookLock, BookTurn, Cluster, Processor};
 use lrc_report::Report;
 use lrc_script::script::Script;
 use runs::{Cause, RunFault};
 use std::alloc::Global;
 use std::sync::Wait;
 use std::thread::Threads;
-use turn::Turn;
 
 /// Runs the script as [`run_with`] does, with the array lock round the book.
 pub fn run<R: Threads + Wait + Sync, G: Gate + Sync>(
@@ -42,7 +40,7 @@ pub fn run<R: Threads + Wait + Sync, G: Gate + Sync>(
 /// What a processor waits for is tried for `tries` times, and then it ends with [`Stuck`](Cause::Stuck). An error is
 /// the fault of the least processor whose cause isn't Stuck, and where there is none, of the least with Stuck. Memory
 /// that is refused outside of the threads is told with processor 0.
-pub fn run_with<T: Turn<Book, Rule> + Send + Drop, R: Threads + Wait + Sync, G: Gate + Sync>(
+pub fn run_with<T: BookTurn + Send + Drop, R: Threads + Wait + Sync, G: Gate + Sync>(
     rt: &R,
     alloc: Global,
     script: &Script,
@@ -70,7 +68,7 @@ fn of_first(cause: Cause) -> RunFault {
 }
 
 /// The script's cluster, and what came of its processors when all threads have ended.
-fn walk_script<T: Turn<Book, Rule> + Send + Drop, R: Threads + Wait + Sync, G: Gate + Sync>(
+fn walk_script<T: BookTurn + Send + Drop, R: Threads + Wait + Sync, G: Gate + Sync>(
     rt: &R,
     alloc: Global,
     script: &Script,

@@ -4,15 +4,14 @@ ghost use Rattle.cluster.specs.Prelude.{IsSameProcessor};
 ghost use Rattle.lrc_run.specs.Prelude.{Loads};
 
 use crate::walk::load;
-use book::{Book, Refused};
-use cluster::{Cluster, Processor, Rule};
+use book::Refused;
+use cluster::{BookTurn, Cluster, Processor};
 use std::alloc::{AllocError, Global};
 use std::sync::Wait;
-use turn::Turn;
 
 /// Loads the addresses in their order, each as a script's `load`: answers each with its word. Refused as the
 /// loads are, and where memory is.
-pub(crate) fn show<T: Turn<Book, Rule>, R: Wait>(
+pub(crate) fn show<T: BookTurn, R: Wait>(
     rt: &R,
     alloc: Global,
     cluster: &Cluster<T>,

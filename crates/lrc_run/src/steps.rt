@@ -11,8 +11,7 @@ mod turns;
 use self::turns::{Progress, take_turn};
 use crate::ending::conclude;
 use crate::orders::order;
-use book::Book;
-use cluster::{BookLock, Cluster, Processor, Rule};
+use cluster::{BookLock, BookTurn, Cluster, Processor};
 use lrc_report::Report;
 use lrc_script::script::Script;
 use rand_core::SeedableRng;
@@ -20,7 +19,6 @@ use rand_pcg::Pcg32;
 use runs::{Cause, Ended, Halt, RunFault};
 use std::alloc::{AllocError, Global};
 use std::sync::Wait;
-use turn::Turn;
 
 /// Runs the script on one thread, in rounds in which each processor has a turn: by rising number, or with a seed
 /// in orders that are drawn by it. Two calls with the same script and seed give the same report.
@@ -40,7 +38,7 @@ pub fn step<R: Wait>(
 }
 
 /// The same with a lock of the caller's choice round the book.
-pub fn step_with<T: Turn<Book, Rule> + Drop, R: Wait>(
+pub fn step_with<T: BookTurn + Drop, R: Wait>(
     rt: &R,
     alloc: Global,
     script: &Script,
@@ -73,7 +71,7 @@ pub fn step_as_far<R: Wait>(
 }
 
 /// The same with a lock of the caller's choice round the book.
-pub fn step_as_far_with<T: Turn<Book, Rule> + Drop, R: Wait>(
+pub fn step_as_far_with<T: BookTurn + Drop, R: Wait>(
     rt: &R,
     alloc: Global,
     script: &Script,
@@ -105,7 +103,7 @@ fn outside(cause: Cause) -> RunFault {
 }
 
 /// The script's cluster.
-fn new_cluster<T: Turn<Book, Rule>>(
+fn new_cluster<T: BookTurn>(
     alloc: Global,
     script: &Script,
 ) -> Result<(Cluster<T>, Vec<Processor<T>>), RunFault>
@@ -127,7 +125,7 @@ fn new_cluster<T: Turn<Book, Rule>>(
 }
 
 /// Rounds, until all have passed the closing barrier, or none got on: then it answers the least processor that waits.
-fn go_round<T: Turn<Book, Rule>, R: Wait>(
+fn go_round<T: BookTurn, R: Wait>(
     rt: &R,
     alloc: Global,
     cluster: &Cluster<T>,
@@ -205,7 +203,7 @@ fn draw(generator: &mut Option<Pcg32>, list: &mut [usize])
 }
 
 /// A round: each processor of the list has its turn. Answers whether one got on.
-fn round<T: Turn<Book, Rule>, R: Wait>(
+fn round<T: BookTurn, R: Wait>(
     rt: &R,
     cluster: &Cluster<T>,
     processors: &mut Vec<Processor<T>>,
@@ -231,7 +229,7 @@ fn round<T: Turn<Book, Rule>, R: Wait>(
 }
 
 /// The turn of processor `p`: whether it got on.
-fn turn_at<T: Turn<Book, Rule>, R: Wait>(
+fn turn_at<T: BookTurn, R: Wait>(
     rt: &R,
     cluster: &Cluster<T>,
     processors: &mut Vec<Processor<T>>,

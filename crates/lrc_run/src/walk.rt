@@ -9,20 +9,18 @@ mod instructions;
 pub(crate) use self::accesses::load;
 pub(crate) use self::instructions::{begin, end};
 use crate::gate::Gate;
-use book::Book;
-use cluster::{Cluster, Processor, Rule};
+use cluster::{BookTurn, Cluster, Processor};
 use crossbeam_utils::Backoff;
 use lrc_script::script::Instruction;
 use runs::Cause;
 use std::sync::Wait;
-use turn::Turn;
 
 /// Does the section's instructions in order, each after its gate, and then passes the closing barrier, which
 /// has no gate. What the processor waits for is taken as soon as it has come.
 ///
 /// [`Gate`](Cause::Gate) where the gate stops it, [`Stuck`](Cause::Stuck) after `tries` answers in a row that
 /// what it waits for hasn't come, and else [`Refused`](Cause::Refused) with a call's refusal.
-pub(crate) fn walk<T: Turn<Book, Rule>, R: Wait, G: Gate>(
+pub(crate) fn walk<T: BookTurn, R: Wait, G: Gate>(
     rt: &R,
     cluster: &Cluster<T>,
     processor: &mut Processor<T>,
@@ -43,7 +41,7 @@ pub(crate) fn walk<T: Turn<Book, Rule>, R: Wait, G: Gate>(
 
 /// Does the instruction to its end. What it waits for is tried for `tries` times, and other threads get their
 /// chance between two tries.
-fn perform<T: Turn<Book, Rule>, R: Wait>(
+fn perform<T: BookTurn, R: Wait>(
     rt: &R,
     cluster: &Cluster<T>,
     processor: &mut Processor<T>,

@@ -5,14 +5,13 @@ ghost use Rattle.std.specs.Result.{result_err};
 ghost use Rattle.cluster.specs.Prelude.{arrive_test, ask_test, release_test, flag_test, IsClosingCall};
 
 use super::Cluster;
-use crate::keeper::Rule;
+use crate::keeper::BookTurn;
 use crate::processor::Processor;
-use book::{Book, Refused};
+use book::Refused;
 use journal::Kind;
 use std::sync::Wait;
-use turn::Turn;
 
-impl<T: Turn<Book, Rule>> Cluster<T> {
+impl<T: BookTurn> Cluster<T> {
     /// Asks for a lock that the processor doesn't hold: hands its open block in and closes its interval, and
     /// from then on it waits for the lock until a [`take`](Cluster::take) succeeds.
     ///

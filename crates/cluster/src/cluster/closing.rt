@@ -10,15 +10,14 @@ ghost use Rattle.replicas.specs.Prelude.{AreHarvests, held_after};
 ghost use Rattle.cluster.specs.Prelude.{closing_test, MayClose, MayMake, MayHold, IsClosingCall, book_closed};
 
 use super::Cluster;
-use crate::keeper::Rule;
+use crate::keeper::BookTurn;
 use crate::processor::{Processor, clean};
 use book::{Book, Refused};
 use journal::{Event, Kind};
 use page::Record;
 use std::sync::{Arc, Wait};
-use turn::Turn;
 
-impl<T: Turn<Book, Rule>> Cluster<T> {
+impl<T: BookTurn> Cluster<T> {
     /// Hands the block in, closes the interval by this event, and from then on waits for what comes after it,
     /// where the processor may. The records are harvested before the book is entered.
     pub(super) fn close<R: Wait>(

@@ -5,13 +5,12 @@ ghost use Rattle.book.specs.Prelude.{WasBookCut};
 ghost use Rattle.cluster.specs.Prelude.{IsCuttingCall, IsNoCut};
 
 use super::Cluster;
-use crate::keeper::Rule;
+use crate::keeper::BookTurn;
 use crate::processor::Processor;
 use book::{Book, Refused};
 use std::sync::Wait;
-use turn::Turn;
 
-impl<T: Turn<Book, Rule>> Cluster<T> {
+impl<T: BookTurn> Cluster<T> {
     /// Cuts off the journal's events up to the last arrival of the last complete episode of the barrier. What was cut
     /// off stays the beginning of the history; the journal keeps the memory after it, who holds which lock, which
     /// flags are set, and what it cost. It hands nothing in, and a processor that waits may call it too.

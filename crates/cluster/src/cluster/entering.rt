@@ -7,12 +7,12 @@ ghost use Rattle.replicas.specs.Prelude.{Local};
 ghost use Rattle.cluster.specs.Prelude.{IsChairOf, IsCallOf, FindsBook, HasEntered, HasLeft};
 
 use super::Cluster;
-use crate::keeper::{Looking, Rule};
+use crate::keeper::{BookTurn, Looking, Rule};
 use book::{Book, Refused};
 use std::sync::Wait;
-use turn::{Chair, Held, Spent, Turn};
+use turn::{Chair, Held, Spent};
 
-impl<T: Turn<Book, Rule>> Cluster<T> {
+impl<T: BookTurn> Cluster<T> {
     /// Waits for the chair's turn, and takes the book.
     ///
     /// [`SeatSpent`](Refused::SeatSpent) exactly where the chair has entered as often as it may.

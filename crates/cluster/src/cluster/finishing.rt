@@ -8,12 +8,12 @@ ghost use Rattle.replicas.specs.Local.{Local};
 ghost use Rattle.cluster.specs.Finishing.{AreAllOf, AreApart, AreBlocksOf, IsFinished, IsFinishing};
 
 use super::Cluster;
-use crate::keeper::Rule;
+use crate::keeper::{BookTurn, Rule};
 use crate::processor::Processor;
 use book::Book;
 use journal::{Event, Journal};
 use std::alloc::{AllocError, Global};
-use turn::{Chair, Turn};
+use turn::Chair;
 
 /// Processors of a cluster at most.
 const MOST_PROCESSORS: usize = 16;
@@ -37,7 +37,7 @@ impl Spare {
     }
 }
 
-impl<T: Turn<Book, Rule>> Cluster<T> {
+impl<T: BookTurn> Cluster<T> {
     /// Hands in the open blocks of all processors, by rising number, and answers the journal. It takes no memory and
     /// waits for nothing; processors that wait may be among them.
     pub fn finish(self, processors: Vec<Processor<T>>) -> Journal
@@ -57,7 +57,7 @@ impl<T: Turn<Book, Rule>> Cluster<T> {
 }
 
 /// The chairs of the processors, and their open blocks.
-fn take_apart<T: Turn<Book, Rule>>(
+fn take_apart<T: BookTurn>(
     processors: Vec<Processor<T>>,
     spare: Spare,
 ) -> (Vec<Chair<Book, Rule>>, Vec<Vec<Event>>)

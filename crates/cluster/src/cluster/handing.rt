@@ -4,14 +4,13 @@ ghost use Rattle.std.specs.Result.{result_err};
 ghost use Rattle.cluster.specs.Prelude.{IsHandingCall, IsAudit};
 
 use super::Cluster;
-use crate::keeper::Rule;
+use crate::keeper::BookTurn;
 use crate::processor::Processor;
-use book::{Book, Refused};
+use book::Refused;
 use journal::Journal;
 use std::sync::Wait;
-use turn::Turn;
 
-impl<T: Turn<Book, Rule>> Cluster<T> {
+impl<T: BookTurn> Cluster<T> {
     /// Hands the processor's open block in, which is empty then.
     ///
     /// [`SeatSpent`](Refused::SeatSpent) where it has entered the book as often as it may. Else

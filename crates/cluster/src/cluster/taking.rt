@@ -12,7 +12,7 @@ ghost use Rattle.replicas.specs.Prelude.{AreAfterNews, AreSameCopies, HaveRoom, 
 ghost use Rattle.cluster.specs.Prelude.{IsTakingCall, MayHoldOne, HasRoomFor};
 
 use super::Cluster;
-use crate::keeper::Rule;
+use crate::keeper::BookTurn;
 use crate::processor::Processor;
 use book::{Book, Refused};
 use interval::Sent;
@@ -21,13 +21,12 @@ use replicas::Replica;
 use std::alloc::AllocError;
 use std::sync::Wait;
 use transit::Message;
-use turn::Turn;
 use vtime::VTime;
 
 /// Pages of a cluster at most.
 const MOST_PAGES: usize = 64;
 
-impl<T: Turn<Book, Rule>> Cluster<T> {
+impl<T: BookTurn> Cluster<T> {
     /// Takes what the processor waits for, the lock, the end of the barrier's episode or the flag's signal: it gets to
     /// know of all that happened before that, and its copies of the pages that others stored to there are invalid.
     /// It costs what it is sent.

@@ -7,8 +7,7 @@ ghost use Rattle.lrc_run.specs.Prelude.{AreOutcomes, AreOutcomesOf, AreStarted, 
 
 use crate::gate::Gate;
 use crate::walk::walk;
-use book::Book;
-use cluster::{Cluster, Processor, Rule};
+use cluster::{BookTurn, Cluster, Processor};
 use lrc_script::script::Instruction;
 use runs::Cause;
 use std::alloc::{AllocError, Global};
@@ -16,19 +15,18 @@ use std::marker::Model;
 use std::snapshot::Snapshot;
 use std::sync::Wait;
 use std::thread::{Promise, PromisedHandle, Scope, Threads, scope, scope_env};
-use turn::Turn;
 
 /// What came of a processor: itself, past the closing barrier, or why it went no further.
 type Outcome<T> = Result<Processor<T>, Cause>;
 
 /// What a thread promises: the processor that it gives back was this one, and has walked this section.
 #[derive(Drop)]
-struct SectionWalked<T: Turn<Book, Rule>> {
+struct SectionWalked<T: BookTurn> {
     was: Snapshot<Processor<T>>,
     section: Snapshot<Vec<Instruction>>,
 }
 
-impl<T: Turn<Book, Rule>> Promise<Result<Processor<T>, Cause>> for SectionWalked<T> {
+impl<T: BookTurn> Promise<Result<Processor<T>, Cause>> for SectionWalked<T> {
     ghost use Rattle.std.specs.Prelude.{IfOk};
     ghost use Rattle.lrc_run.specs.Walks.{Walks};
 
@@ -37,11 +35,11 @@ impl<T: Turn<Book, Rule>> Promise<Result<Processor<T>, Cause>> for SectionWalked
 
 /// A processor's thread, where it could be started. Contracts see it as what it was started with.
 #[derive(Drop)]
-struct Thread<T: Turn<Book, Rule>> {
+struct Thread<T: BookTurn> {
     handle: Option<PromisedHandle<Result<Processor<T>, Cause>, SectionWalked<T>>>,
 }
 
-impl<T: Turn<Book, Rule>> Model for Thread<T> {
+impl<T: BookTurn> Model for Thread<T> {
     ghost use Rattle.std.specs.Prelude.{Option};
     ghost use Rattle.std.specs.Option.{option_map};
     ghost use Rattle.lrc_run.specs.Threads.{Errand};
@@ -54,7 +52,7 @@ impl<T: Turn<Book, Rule>> Model for Thread<T> {
     }) t.handle };
 }
 
-impl<T: Turn<Book, Rule> + Drop> Thread<T> {
+impl<T: BookTurn + Drop> Thread<T> {
     /// Waits for the thread's end, and answers what came of its processor.
     fn join<R: Threads>(self, rt: &R) -> Outcome<T>
         ensures { IsOutcomeOf self result }
@@ -67,7 +65,7 @@ impl<T: Turn<Book, Rule> + Drop> Thread<T> {
 }
 
 /// Walks the section with this processor, and gives it back.
-fn walked<T: Turn<Book, Rule>, R: Wait, G: Gate>(
+fn walked<T: BookTurn, R: Wait, G: Gate>(
     rt: &R,
     cluster: &Cluster<T>,
     mut processor: Processor<T>,
@@ -83,7 +81,7 @@ fn walked<T: Turn<Book, Rule>, R: Wait, G: Gate>(
 }
 
 /// Waits for all threads, and answers what came of their processors.
-fn join_all<T: Turn<Book, Rule> + Drop, R: Threads>(
+fn join_all<T: BookTurn + Drop, R: Threads>(
     rt: &R,
     threads: Vec<Thread<T>>,
     mut outcomes: Vec<Outcome<T>>,
@@ -98,7 +96,7 @@ fn join_all<T: Turn<Book, Rule> + Drop, R: Threads>(
 }
 
 /// Moves the processor into a thread of its own, which walks the section.
-fn start<'s, 'x: 's, T: Turn<Book, Rule> + Send + Drop, R: Threads + Wait + Sync, G: Gate + Sync>(
+fn start<'s, 'x: 's, T: BookTurn + Send + Drop, R: Threads + Wait + Sync, G: Gate + Sync>(
     scope: &'s Scope<'s, &'x ()>,
     rt: &'x R,
     cluster: &'x Cluster<T>,
@@ -127,13 +125,7 @@ fn start<'s, 'x: 's, T: Turn<Book, Rule> + Send + Drop, R: Threads + Wait + Sync
 }
 
 /// Moves each processor into a thread of its own, which walks the processor's section.
-fn start_all<
-    's,
-    'x: 's,
-    T: Turn<Book, Rule> + Send + Drop,
-    R: Threads + Wait + Sync,
-    G: Gate + Sync,
->(
+fn start_all<'s, 'x: 's, T: BookTurn + Send + Drop, R: Threads + Wait + Sync, G: Gate + Sync>(
     scope: &'s Scope<'s, &'x ()>,
     rt: &'x R,
     cluster: &'x Cluster<T>,
@@ -159,12 +151,7 @@ fn start_all<
 /// Moves each processor into a thread of its own, which walks the processor's section, and waits for all threads:
 /// what came of the processors, in their order. [`Thread`](Cause::Thread) came of one whose thread couldn't be
 /// started; the others go their way.
-pub(super) fn walk_all<
-    'x,
-    T: Turn<Book, Rule> + Send + Drop,
-    R: Threads + Wait + Sync,
-    G: Gate + Sync,
->(
+pub(super) fn walk_all<'x, T: BookTurn + Send + Drop, R: Threads + Wait + Sync, G: Gate + Sync>(
     rt: &'x R,
     alloc: Global,
     cluster: &'x Cluster<T>,

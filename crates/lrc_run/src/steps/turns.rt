@@ -4,12 +4,10 @@ ghost use Rattle.replicas.specs.Prelude.{Local};
 ghost use Rattle.lrc_run.specs.Prelude.{IsAt, instruction_at, progress_after, IsOnItsWay};
 
 use crate::walk::{begin, end};
-use book::Book;
-use cluster::{Cluster, Processor, Rule};
+use cluster::{BookTurn, Cluster, Processor};
 use lrc_script::script::Instruction;
 use runs::Cause;
 use std::sync::Wait;
-use turn::Turn;
 
 /// How far a processor is in its section.
 #[derive(Clone, Copy, PartialEq)]
@@ -47,7 +45,7 @@ fn progress_after(section: &[Instruction], n: usize, done: bool) -> Progress
 
 /// A turn: does the next instruction, or looks once for what the processor waits for. Answers where it is then,
 /// and whether it did more than to look in vain. Refused as its calls are.
-pub(crate) fn take_turn<T: Turn<Book, Rule>, R: Wait>(
+pub(crate) fn take_turn<T: BookTurn, R: Wait>(
     rt: &R,
     cluster: &Cluster<T>,
     processor: &mut Processor<T>,
@@ -72,7 +70,7 @@ pub(crate) fn take_turn<T: Turn<Book, Rule>, R: Wait>(
 }
 
 /// Does the instruction, or begins it and looks once for what it waits for: whether it is done.
-fn go_on<T: Turn<Book, Rule>, R: Wait>(
+fn go_on<T: BookTurn, R: Wait>(
     rt: &R,
     cluster: &Cluster<T>,
     processor: &mut Processor<T>,

@@ -8,14 +8,13 @@ ghost use Rattle.cluster.specs.Prelude.{IsSameProcessor};
 ghost use Rattle.lrc_run.specs.Prelude.{Makes, Tries};
 ghost use Rattle.journal.specs.declared.event.Kind.TheVariants as kind;
 
-use book::{Book, Refused};
-use cluster::{Cluster, Processor, Rule};
+use book::Refused;
+use cluster::{BookTurn, Cluster, Processor};
 use std::sync::Wait;
-use turn::Turn;
 
 /// The word at the address, of a copy that is fetched where it is stale. Refused as the load, the fetch or the
 /// flush is; neither as [`Invalid`](Refused::Invalid) nor as [`BlockFull`](Refused::BlockFull).
-pub(crate) fn load<T: Turn<Book, Rule>, R: Wait>(
+pub(crate) fn load<T: BookTurn, R: Wait>(
     rt: &R,
     cluster: &Cluster<T>,
     processor: &mut Processor<T>,
@@ -34,7 +33,7 @@ pub(crate) fn load<T: Turn<Book, Rule>, R: Wait>(
 }
 
 /// Stores the value at the address, as [`load`] loads.
-pub(crate) fn store<T: Turn<Book, Rule>, R: Wait>(
+pub(crate) fn store<T: BookTurn, R: Wait>(
     rt: &R,
     cluster: &Cluster<T>,
     processor: &mut Processor<T>,
@@ -54,7 +53,7 @@ pub(crate) fn store<T: Turn<Book, Rule>, R: Wait>(
 }
 
 /// Adds the value to the word at the address, modulo 2^32: a load and a store.
-pub(crate) fn add<T: Turn<Book, Rule>, R: Wait>(
+pub(crate) fn add<T: BookTurn, R: Wait>(
     rt: &R,
     cluster: &Cluster<T>,
     processor: &mut Processor<T>,
@@ -71,7 +70,7 @@ pub(crate) fn add<T: Turn<Book, Rule>, R: Wait>(
 }
 
 /// Fetches the page, after a flush where the block is full.
-fn fetch<T: Turn<Book, Rule>, R: Wait>(
+fn fetch<T: BookTurn, R: Wait>(
     rt: &R,
     cluster: &Cluster<T>,
     processor: &mut Processor<T>,
@@ -90,7 +89,7 @@ fn fetch<T: Turn<Book, Rule>, R: Wait>(
 }
 
 /// Loads, after a flush where the block is full.
-fn load_roomy<T: Turn<Book, Rule>, R: Wait>(
+fn load_roomy<T: BookTurn, R: Wait>(
     rt: &R,
     cluster: &Cluster<T>,
     processor: &mut Processor<T>,
@@ -109,7 +108,7 @@ fn load_roomy<T: Turn<Book, Rule>, R: Wait>(
 }
 
 /// Stores, after a flush where the block is full.
-fn store_roomy<T: Turn<Book, Rule>, R: Wait>(
+fn store_roomy<T: BookTurn, R: Wait>(
     rt: &R,
     cluster: &Cluster<T>,
     processor: &mut Processor<T>,

@@ -7,17 +7,16 @@ ghost use Rattle.lrc_script.specs.declared.script.Instruction.TheVariants as ins
 ghost use Rattle.lrc_run.specs.Waiting.{waits};
 
 use super::accesses::{add, load, store};
-use book::{Book, Refused};
-use cluster::{Cluster, Processor, Rule};
+use book::Refused;
+use cluster::{BookTurn, Cluster, Processor};
 use lrc_script::script::Instruction;
 use runs::Cause;
 use std::sync::Wait;
-use turn::Turn;
 
 /// Does the instruction, or begins it where it waits for something: answers whether it is done.
 ///
 /// [`Refused`](Cause::Refused) as its calls are.
-pub(crate) fn begin<T: Turn<Book, Rule>, R: Wait>(
+pub(crate) fn begin<T: BookTurn, R: Wait>(
     rt: &R,
     cluster: &Cluster<T>,
     processor: &mut Processor<T>,
@@ -43,7 +42,7 @@ fn waits(instruction: Instruction) -> bool
 
 /// Makes the calls that do the instruction, or the one that begins it where it waits for something. Refused as its
 /// calls are.
-fn call<T: Turn<Book, Rule>, R: Wait>(
+fn call<T: BookTurn, R: Wait>(
     rt: &R,
     cluster: &Cluster<T>,
     processor: &mut Processor<T>,
@@ -72,7 +71,7 @@ fn call<T: Turn<Book, Rule>, R: Wait>(
 
 /// Cuts the journal off where it may be: one that has no complete episode of the barrier, or a race before its last
 /// one, stays whole. Else refused as the cut is.
-fn cut<T: Turn<Book, Rule>, R: Wait>(
+fn cut<T: BookTurn, R: Wait>(
     rt: &R,
     cluster: &Cluster<T>,
     processor: &mut Processor<T>,
@@ -88,7 +87,7 @@ fn cut<T: Turn<Book, Rule>, R: Wait>(
 }
 
 /// Takes what the processor waits for: answers whether it had come. Refused as the take is.
-pub(crate) fn end<T: Turn<Book, Rule>, R: Wait>(
+pub(crate) fn end<T: BookTurn, R: Wait>(
     rt: &R,
     cluster: &Cluster<T>,
     processor: &mut Processor<T>,

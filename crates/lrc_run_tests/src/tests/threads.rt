@@ -2,7 +2,7 @@
 ghost use Rattle.std.specs.Prelude.{◌<◌, ◌≤◌, ◌^◌};
 
 use book::{Book, Refused};
-use cluster::{Rule, TicketBookLock};
+use cluster::{BookTurn, Rule, TicketBookLock};
 use lrc_report::Report;
 use lrc_run::{Cause, Gate, Open, RunFault, Stopped, run, run_with};
 use lrc_script::script::parse;
@@ -13,7 +13,7 @@ use std::sync::atomic::AtomicUsize;
 use std::sync::atomic::Ordering::SeqCst;
 use std::test::Fail;
 use std::thread::{Threads, yield_now};
-use turn::{ArrayLock, Turn};
+use turn::ArrayLock;
 
 /// What the script's run answers, under the array lock and under the ticket lock.
 fn both<R: Threads + Wait + Sync, G: Gate + Sync>(
@@ -51,7 +51,7 @@ fn fails<R: Threads + Wait + Sync + Abort, G: Gate + Sync>(
 }
 
 /// What comes of a processor that tries three times, where the lock lets it enter that many times.
-fn fault_of_three<T: Turn<Book, Rule> + Drop + Send + Sync, R: Threads + Wait + Sync>(
+fn fault_of_three<T: BookTurn + Drop + Send + Sync, R: Threads + Wait + Sync>(
     rt: &R,
     alloc: Global,
 ) -> Result<Option<RunFault>, Fail>
