@@ -6,17 +6,16 @@ use crate::fault::Fault;
 use crate::kept::Kept;
 use crate::line::Deed;
 use crate::look::{Look, seen_of};
-use book::{Book, Refused};
-use cluster::{Processor, Rule};
+use book::Refused;
+use cluster::{BookTurn, Processor};
 use cluster_uses::{Answer, Call, Crew};
 use journal::Journal;
 use std::alloc::Global;
 use std::sync::Wait;
-use turn::Turn;
 
 /// The cluster that is open, and the journal at hand.
 #[derive(Drop)]
-pub struct Desk<'r, T: Turn<Book, Rule>, R> {
+pub struct Desk<'r, T: BookTurn, R> {
     rt: &'r R,
     alloc: Global,
     again: bool,
@@ -24,7 +23,7 @@ pub struct Desk<'r, T: Turn<Book, Rule>, R> {
     kept: Kept,
 }
 
-impl<'r, T: Turn<Book, Rule> + Drop, R: Wait> Desk<'r, T, R> {
+impl<'r, T: BookTurn + Drop, R: Wait> Desk<'r, T, R> {
     /// Nothing yet. What is refused memory is done once more if that is asked for.
     pub fn new(rt: &'r R, alloc: Global, again: bool) -> Desk<'r, T, R> {
         Desk {

@@ -6,13 +6,12 @@ use crate::desk::Desk;
 use crate::fault::Fault;
 use crate::line::{Deed, Question, Reading};
 use crate::print::{say, say_event, say_events, say_numbers, say_turns, say_whether};
-use book::{Book, Refused};
-use cluster::{Processor, Rule};
+use book::Refused;
+use cluster::{BookTurn, Processor};
 use journal::Journal;
 use std::io;
 use std::io::Write;
 use std::sync::Wait;
-use turn::Turn;
 
 /// What a write comes to.
 fn written(outcome: io::Result<()>) -> Result<(), Fault> {
@@ -23,7 +22,7 @@ fn written(outcome: io::Result<()>) -> Result<(), Fault> {
 }
 
 /// Does the deed, and says what came of it.
-pub fn perform<T: Turn<Book, Rule> + Drop, R: Wait, W: Write>(
+pub fn perform<T: BookTurn + Drop, R: Wait, W: Write>(
     desk: &mut Desk<'_, T, R>,
     out: &mut W,
     deed: Deed,
@@ -35,7 +34,7 @@ pub fn perform<T: Turn<Book, Rule> + Drop, R: Wait, W: Write>(
 }
 
 /// Does the deed that many times.
-pub fn repeat<T: Turn<Book, Rule> + Drop, R: Wait, W: Write>(
+pub fn repeat<T: BookTurn + Drop, R: Wait, W: Write>(
     desk: &mut Desk<'_, T, R>,
     out: &mut W,
     times: usize,
@@ -65,7 +64,7 @@ fn after<W: Write>(out: &mut W, turns: Turns, said: Said) -> Result<Turns, Fault
 }
 
 /// Answers what is seen of the processor.
-pub fn see<T: Turn<Book, Rule> + Drop, R: Wait, W: Write>(
+pub fn see<T: BookTurn + Drop, R: Wait, W: Write>(
     desk: &Desk<'_, T, R>,
     out: &mut W,
     p: usize,
@@ -78,7 +77,7 @@ pub fn see<T: Turn<Book, Rule> + Drop, R: Wait, W: Write>(
 }
 
 /// Answers what is seen of a processor.
-fn say_seen<T: Turn<Book, Rule>, W: Write>(
+fn say_seen<T: BookTurn, W: Write>(
     processor: &Processor<T>,
     out: &mut W,
     question: Question,
@@ -98,7 +97,7 @@ fn say_seen<T: Turn<Book, Rule>, W: Write>(
 }
 
 /// Answers what is read of the journal at hand. What is refused memory is read once more if that is asked for.
-pub fn read<T: Turn<Book, Rule> + Drop, R: Wait, W: Write>(
+pub fn read<T: BookTurn + Drop, R: Wait, W: Write>(
     desk: &Desk<'_, T, R>,
     out: &mut W,
     reading: Reading,

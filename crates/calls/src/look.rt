@@ -1,9 +1,7 @@
 //! What can be seen of a processor.
 
-use book::Book;
-use cluster::{Processor, Rule};
+use cluster::{BookTurn, Processor};
 use std::alloc::{AllocError, Global};
-use turn::Turn;
 use vtime::VTime;
 
 /// What can be seen of a processor.
@@ -17,10 +15,7 @@ pub struct Look {
 }
 
 /// The words of its valid copies.
-fn words_of<T: Turn<Book, Rule>>(
-    processor: &Processor<T>,
-    alloc: Global,
-) -> Result<Vec<u32>, AllocError> {
+fn words_of<T: BookTurn>(processor: &Processor<T>, alloc: Global) -> Result<Vec<u32>, AllocError> {
     let mut words = Vec::with_capacity(alloc, 4096)?;
     for page in 0..64 {
         if let Some(copy) = processor.page(page) {
@@ -31,10 +26,7 @@ fn words_of<T: Turn<Book, Rule>>(
 }
 
 /// Which pages are valid, and which locks are held.
-fn marks_of<T: Turn<Book, Rule>>(
-    processor: &Processor<T>,
-    alloc: Global,
-) -> Result<Vec<bool>, AllocError> {
+fn marks_of<T: BookTurn>(processor: &Processor<T>, alloc: Global) -> Result<Vec<bool>, AllocError> {
     let mut marks = Vec::with_capacity(alloc, 128)?;
     for number in 0..64 {
         marks.push(processor.is_valid(number))?;
@@ -44,10 +36,7 @@ fn marks_of<T: Turn<Book, Rule>>(
 }
 
 /// What can be seen of it.
-fn seen_once<T: Turn<Book, Rule>>(
-    processor: &Processor<T>,
-    alloc: Global,
-) -> Result<Look, AllocError> {
+fn seen_once<T: BookTurn>(processor: &Processor<T>, alloc: Global) -> Result<Look, AllocError> {
     Ok(Look {
         words: words_of(processor, alloc)?,
         marks: marks_of(processor, alloc)?,
@@ -58,10 +47,7 @@ fn seen_once<T: Turn<Book, Rule>>(
 }
 
 /// The same, also where one growth is refused.
-pub fn seen_of<T: Turn<Book, Rule>>(
-    processor: &Processor<T>,
-    alloc: Global,
-) -> Result<Look, AllocError> {
+pub fn seen_of<T: BookTurn>(processor: &Processor<T>, alloc: Global) -> Result<Look, AllocError> {
     match seen_once(processor, alloc) {
         Ok(look) => Ok(look),
         Err(_) => seen_once(processor, alloc),

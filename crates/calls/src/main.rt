@@ -44,13 +44,13 @@ use crate::following::{perform, read, repeat, see};
 use crate::line::{Action, Deed, action_of};
 use crate::options::{Options, options_of};
 use book::Book;
-use cluster::{BookLock, Rule, TicketBookLock};
+use cluster::{BookLock, BookTurn, Rule, TicketBookLock};
 use std::alloc::Global;
 use std::io::{BufWriter, Stdout, Write};
 use std::process::ExitCode;
 use std::sync::Wait;
 use std::{fs, io};
-use turn::{ArrayLock, TicketLock, Turn};
+use turn::{ArrayLock, TicketLock};
 
 /// An array lock that each processor may enter only a few times.
 type FewArray = ArrayLock<Book, Rule, 4096>;
@@ -59,7 +59,7 @@ type FewArray = ArrayLock<Book, Rule, 4096>;
 type FewTickets = TicketLock<Book, Rule, 4096>;
 
 /// Does a line, which may have nothing in it.
-fn follow<T: Turn<Book, Rule> + Drop, R: Wait, W: Write>(
+fn follow<T: BookTurn + Drop, R: Wait, W: Write>(
     desk: &mut Desk<'_, T, R>,
     out: &mut W,
     line: &str,
@@ -77,7 +77,7 @@ fn follow<T: Turn<Book, Rule> + Drop, R: Wait, W: Write>(
 }
 
 /// Does each line; where one fails, answers its number too.
-fn follow_all<T: Turn<Book, Rule> + Drop, R: Wait, W: Write>(
+fn follow_all<T: BookTurn + Drop, R: Wait, W: Write>(
     desk: &mut Desk<'_, T, R>,
     out: &mut W,
     text: &str,
@@ -105,7 +105,7 @@ fn refuse(rt: &HostRuntime, line: usize, fault: Fault) -> u8 {
 }
 
 /// Does the list with a lock of this type. The handle is what waits for a lock.
-fn serve<T: Turn<Book, Rule> + Drop, R: Wait>(
+fn serve<T: BookTurn + Drop, R: Wait>(
     alloc: Global,
     handle: &R,
     out: &mut BufWriter<Stdout>,
