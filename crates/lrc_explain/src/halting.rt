@@ -1,9 +1,9 @@
 //! For what each processor of a run waits that can't go on.
 
 use crate::held::Held;
-use crate::notes::Marked;
+use crate::marked::Marked;
+use crate::text::Text;
 use journal::{Event, Kind};
-use std::fmt;
 
 /// A run that can't go on: what is held at its end, and the last event of each processor.
 #[derive(Clone, Copy)]
@@ -67,74 +67,66 @@ impl Halted<'_> {
         None
     }
 
-    /// Says what the processor waits for.
-    fn put_wait<W: fmt::Write>(&self, f: &mut fmt::Formatter<W>, processor: usize) -> fmt::Result {
+    /// Puts what the processor waits for.
+    fn put_wait(&self, text: &mut Text, processor: usize) {
         match self.last(processor) {
             Some(Kind::Ask(lock)) => {
-                write!(f, "waits for lock {lock}")?;
-                self.put_holder(f, lock)
+                text.put_number("waits for lock ", lock);
+                self.put_holder(text, lock);
             }
             Some(Kind::Arrive) => {
-                let missing = self.missing(processor);
-                write!(f, "waits at the barrier for {missing}")
+                text.put("waits at the barrier for ");
+                self.missing(processor).put(text);
             }
-            Some(Kind::Watch(flag)) => { write!(f, "waits for flag {flag}, which nobody has set") }
-            _ => f.write_str("waits for nothing"),
+            Some(Kind::Watch(flag)) => {
+                text.put_number("waits for flag ", flag);
+                text.put(", which nobody has set");
+            }
+            _ => text.put("waits for nothing"),
         }
     }
 
-    /// Says who holds the lock.
-    fn put_holder<W: fmt::Write>(&self, f: &mut fmt::Formatter<W>, lock: usize) -> fmt::Result {
+    /// Puts who holds the lock.
+    fn put_holder(&self, text: &mut Text, lock: usize) {
         match self.held.lock(lock).holder {
-            Some(holder) => write!(f, ", held by p{holder}"),
-            None if self.is_cut => f.write_str(", held since before the cut"),
-            None => Ok(()),
+            Some(holder) => text.put_number(", held by p", holder),
+            None if self.is_cut => text.put(", held since before the cut"),
+            None => {}
         }
     }
 
-    /// Says what the processors of the processor's circle wait for, in a line.
-    fn put_circle<W: fmt::Write>(
-        &self,
-        f: &mut fmt::Formatter<W>,
-        processor: usize,
-    ) -> fmt::Result {
-        write!(f, "p{processor} ")?;
-        self.put_wait(f, processor)?;
+    /// Puts what the others of the processor's circle wait for.
+    fn put_circle(&self, text: &mut Text, processor: usize) {
         let mut at = processor;
         for _ in 0..16 {
             match self.waits_for(at) {
                 Some(next) if next != processor => at = next,
-                _ => return f.write_str("\n"),
+                _ => return,
             }
-            f.write_str(", which ")?;
-            self.put_wait(f, at)?;
-        }
-        f.write_str("\n")
-    }
-
-    /// Says what the processor waits for, in a line. A circle is told at its least processor.
-    fn put_processor<W: fmt::Write>(
-        &self,
-        f: &mut fmt::Formatter<W>,
-        processor: usize,
-    ) -> fmt::Result {
-        match self.circle(processor) {
-            Some(least) if least == processor => self.put_circle(f, processor),
-            Some(_) => Ok(()),
-            None => {
-                write!(f, "p{processor} ")?;
-                self.put_wait(f, processor)?;
-                f.write_str("\n")
-            }
+            text.put(", which ");
+            self.put_wait(text, at);
         }
     }
-}
 
-impl fmt::Display for Halted<'_> {
-    fn fmt<W: fmt::Write>(&self, f: &mut fmt::Formatter<W>) -> fmt::Result {
+    /// Puts what the processor waits for, in a line. A circle is told at its least processor.
+    fn put_processor(&self, text: &mut Text, processor: usize) {
+        let circle = self.circle(processor);
+        if circle.unwrap_or(processor) != processor {
+            return;
+        }
+        text.put_number("p", processor);
+        text.put(" ");
+        self.put_wait(text, processor);
+        if circle.is_some() {
+            self.put_circle(text, processor);
+        }
+        text.end_line();
+    }
+
+    /// Puts what each processor waits for.
+    pub fn put(&self, text: &mut Text) {
         for processor in 0..self.held.arrived().len() {
-            self.put_processor(f, processor)?;
+            self.put_processor(text, processor);
         }
-        Ok(())
     }
 }

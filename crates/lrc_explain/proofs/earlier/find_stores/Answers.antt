@@ -4,7 +4,7 @@ use Rattle.journal.specs.declared.event.Event.{Event}
 use Rattle.journal.specs.declared.event.Kind.TheVariants.{Load}
 use Rattle.journal.specs.Did.{event}
 use Rattle.journal.specs.InRange.{AddressInRange, AddressesInRange, ProcessorsInRange}
-use Rattle.lrc_explain.proofs.earlier.stores_before.Goals as goal
+use Rattle.lrc_explain.proofs.earlier.find_stores.Goals as goal
 
 -- the event at this place
 abbrev here : List Event → ℕ → Event
