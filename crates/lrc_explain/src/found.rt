@@ -7,6 +7,7 @@ use crate::earlier::{Earlier, stores_before};
 use crate::fault::ExplainFault;
 use crate::journey::ways_to_loads;
 use crate::lacks::dues_of;
+use crate::shape::Shape;
 use journal::Event;
 use std::alloc::{AllocError, Global};
 use why::{Due, FirstRace, Source, loads, race};
@@ -19,7 +20,7 @@ pub struct Loads {
     /// Of each event, the last store before it to its address.
     pub earlier: Vec<Option<Earlier>>,
     /// Of each event, the way from the store that it answers, where it is a load.
-    pub ways: Vec<Vec<usize>>,
+    pub ways: Vec<Option<Vec<usize>>>,
 }
 
 /// What is found of a history.
@@ -53,22 +54,16 @@ fn loads_of(
     })
 }
 
-/// What is found of these events, of which a page has so many words, where that is known. OutOfRange where the addresses
-/// aren't pages of so many words, or a memory of these sizes can't have the events.
-pub fn found_of(
-    alloc: Global,
-    processors: usize,
-    addresses: usize,
-    words: Option<usize>,
-    events: &[Event],
-) -> Result<Found, ExplainFault>
+/// What is found of these events of a run of this shape. OutOfRange where its addresses aren't pages of so many words, or a
+/// memory of such pages can't have the events.
+pub fn found_of(alloc: Global, shape: Shape, events: &[Event]) -> Result<Found, ExplainFault>
     requires few { length events.now ≤ most_held }
-    requires few_processors { processors ≤ most_processors }
-    requires addresses { AddressesInRange addresses events.now }
-    requires processors { ProcessorsInRange processors events.now }
+    requires few_processors { shape.processors ≤ most_processors }
+    requires addresses { AddressesInRange shape.addresses events.now }
+    requires processors { ProcessorsInRange shape.processors events.now }
 {
-    let race = race(alloc, processors, addresses, events)?;
-    let loads = loads_of(alloc, processors, addresses, events)?;
-    let dues = dues_of(alloc, processors, addresses, words, events)?;
+    let race = race(alloc, shape.processors, shape.addresses, events)?;
+    let loads = loads_of(alloc, shape.processors, shape.addresses, events)?;
+    let dues = dues_of(alloc, shape, events)?;
     Ok(Found { race, loads, dues })
 }

@@ -3,19 +3,19 @@
 use crate::held::Held;
 use crate::marked::Marked;
 use crate::text::Text;
-use journal::{Event, Kind};
+use journal::{Event, Journal, Kind};
 
 /// A run that can't go on: what is held at its end, and the last event of each processor.
 #[derive(Clone, Copy)]
-pub struct Halted<'a> {
-    pub held: &'a Held,
-    pub last: &'a [Option<Kind>; 16],
+struct Halted<'a> {
+    held: &'a Held,
+    last: &'a [Option<Kind>; 16],
     /// Whether something was cut off.
-    pub is_cut: bool,
+    is_cut: bool,
 }
 
 /// The last event of each processor.
-pub fn last_of(events: &[Event]) -> [Option<Kind>; 16] {
+fn last_of(events: &[Event]) -> [Option<Kind>; 16] {
     let mut last = [None; 16];
     for event in events {
         if let Some(kind) = last.get_mut(event.processor) {
@@ -122,11 +122,17 @@ impl Halted<'_> {
         }
         text.end_line();
     }
+}
 
-    /// Puts what each processor waits for.
-    pub fn put(&self, text: &mut Text) {
-        for processor in 0..self.held.arrived().len() {
-            self.put_processor(text, processor);
-        }
+/// Puts what each processor waits for where this is held at the end of the journal.
+pub fn put_waits(text: &mut Text, held: &Held, journal: &Journal) {
+    let last = last_of(journal.events());
+    let halted = Halted {
+        held,
+        last: &last,
+        is_cut: journal.cut_events() > 0,
+    };
+    for processor in 0..held.arrived().len() {
+        halted.put_processor(text, processor);
     }
 }

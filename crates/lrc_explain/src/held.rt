@@ -85,7 +85,7 @@ impl Held {
 
     /// The flag's set, where it is the first.
     fn put_set(&mut self, flag: usize, set: Deed) -> Result<(), AllocError> {
-        if self.flags.get(&flag).is_none() {
+        if !self.flags.contains_key(&flag) {
             self.flags.insert(flag, set)?;
         }
         Ok(())

@@ -13,32 +13,29 @@ use why::{Source, Ways};
 /// How many crossings are told at most.
 const MOST_CROSSINGS: usize = 3;
 
-/// The way from the store that the event at this place answers; empty where it answers none.
+/// The way from the store that the event at this place answers; None where it answers none.
 fn way_to(
     alloc: Global,
     ways: &Ways,
     events: &[Event],
     source: Option<Source>,
     place: usize,
-) -> Result<Vec<usize>, AllocError>
+) -> Result<Option<Vec<usize>>, AllocError>
     requires tells { AreWays events.now ways.now }
     requires place { place < length events.now }
 {
     let Some(Source::StoreAt(from)) = source else {
-        return Ok(Vec::new(alloc));
+        return Ok(None);
     };
     if from >= events.len() {
-        return Ok(Vec::new(alloc));
+        return Ok(None);
     }
-    match ways.way(alloc, events, from, place)? {
-        Some(places) => Ok(places),
-        None => Ok(Vec::new(alloc)),
-    }
+    ways.way(alloc, events, from, place)
 }
 
 /// Adds of each event the way to it. The only error is running out of memory.
 fn add_ways(
-    found: &mut Vec<Vec<usize>>,
+    found: &mut Vec<Option<Vec<usize>>>,
     alloc: Global,
     ways: &Ways,
     events: &[Event],
@@ -56,7 +53,7 @@ fn add_ways(
     Ok(())
 }
 
-/// Of each event, the places of a way from the store that it answers to it, where it is a load; else none. The only
+/// Of each event, the places of a way from the store that it answers to it, where it is a load; else None. The only
 /// error is running out of memory.
 ///
 /// It takes time as `why::Ways::new` does, and for each load as `why::Ways::way` does.
@@ -65,7 +62,7 @@ pub fn ways_to_loads(
     processors: usize,
     events: &[Event],
     loads: &[Option<Source>],
-) -> Result<Vec<Vec<usize>>, AllocError>
+) -> Result<Vec<Option<Vec<usize>>>, AllocError>
     requires few { length events.now ≤ most_held }
     requires few_processors { processors ≤ most_processors }
     requires processors { ProcessorsInRange processors events.now }

@@ -6,6 +6,7 @@ ghost use Rattle.journal.specs.Events.{At};
 ghost use Rattle.judge.specs.Prelude.{AreSmall, IsWithin, sizes_of};
 
 use crate::fault::ExplainFault;
+use crate::shape::Shape;
 use crate::text::Text;
 use journal::{Event, Kind, MOST_HELD};
 use judge::Sizes;
@@ -38,24 +39,22 @@ fn are_within(events: &[Event], sizes: Sizes) -> bool
     events.len() <= MOST_HELD
 }
 
-/// Of each event, the records that it tells of, where a page has so many words; nothing where that isn't known. OutOfRange
-/// where that many words don't make pages of the addresses, or a memory of these sizes can't have the events.
+/// Of each event of a run of this shape, the records that it tells of; nothing where nobody knows how many words a page has.
+/// OutOfRange where that many words don't make pages of the addresses, or a memory of such pages can't have the events.
 pub fn dues_of(
     alloc: Global,
-    processors: usize,
-    addresses: usize,
-    words: Option<usize>,
+    shape: Shape,
     events: &[Event],
 ) -> Result<Vec<Vec<Due>>, ExplainFault> {
-    let Some(words) = words else {
+    let Some(words) = shape.words else {
         return Ok(Vec::new(alloc));
     };
-    if words == 0 || addresses % words != 0 {
+    if words == 0 || shape.addresses % words != 0 {
         return Err(ExplainFault::OutOfRange);
     }
     let sizes = Sizes {
-        processors,
-        pages: addresses / words,
+        processors: shape.processors,
+        pages: shape.addresses / words,
         words,
         locks: MOST_LOCKS,
         flags: MOST_LOCKS,
@@ -83,18 +82,13 @@ impl Stale {
 
     /// Whether the processor's copy of the page is.
     fn is(&self, page: usize, processor: usize) -> bool {
-        match self.marks.get(page) {
-            Some(row) => row.get(processor) == Some(&true),
-            None => false,
-        }
+        page < MOST_PAGES && processor < 16 && self.marks[page][processor]
     }
 
     /// Marks the processor's copy of the page, or not.
     fn put(&mut self, page: usize, processor: usize, is_stale: bool) {
-        if let Some(row) = self.marks.get_mut(page) {
-            if let Some(mark) = row.get_mut(processor) {
-                *mark = is_stale;
-            }
+        if page < MOST_PAGES && processor < 16 {
+            self.marks[page][processor] = is_stale;
         }
     }
 

@@ -24,6 +24,7 @@ mod marked;
 mod notes;
 mod racing;
 mod rendering;
+mod shape;
 mod story;
 mod text;
 

@@ -47,8 +47,8 @@ impl Known<'_> {
     fn crossings(&self, place: usize) -> Crossings<'_> {
         let none: &[usize] = &[];
         let places = match self.found.loads.ways.get(place) {
-            Some(places) => places.as_slice(),
-            None => none,
+            Some(Some(places)) => places.as_slice(),
+            _ => none,
         };
         Crossings {
             numbers: self.numbers,

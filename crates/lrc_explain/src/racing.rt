@@ -73,10 +73,10 @@ impl Race<'_> {
 
     /// Puts the sentences, each in a line.
     pub fn put(&self, text: &mut Text) {
-        let (Some(first), Some(second)) = (
-            self.numbered(self.race.first),
-            self.numbered(self.race.second),
-        ) else {
+        let Some(first) = self.numbered(self.race.first) else {
+            return;
+        };
+        let Some(second) = self.numbered(self.race.second) else {
             return;
         };
         if let Kind::Load(address, _) | Kind::Store(address, _) = first.event.kind {

@@ -5,12 +5,24 @@ ghost use Rattle.lrc_explain.specs.declared.fault.ExplainFault.TheVariants.{Outp
 ghost use Rattle.lrc_explain.specs.Prelude.{IsToldText, IsWritten, IsUnwritten, end_text};
 
 use crate::fault::ExplainFault;
-use crate::story::{put_halted, put_whole};
+use crate::halting::put_waits;
+use crate::held::Held;
+use crate::shape::Shape;
+use crate::story::put_story;
 use crate::text::Text;
+use journal::{Journal, MOST_PROCESSORS};
 use lrc_report::render::render as render_report;
 use runs::Ended;
 use std::alloc::Global;
 use std::io::Write;
+
+/// The run's journal.
+fn journal_of(ended: &Ended) -> &Journal {
+    match ended {
+        Ended::Whole(report) => &report.journal,
+        Ended::Halted(halt) => &halt.journal,
+    }
+}
 
 /// Puts a run of so many processors, whose pages have so many words, where that is known, without its report.
 fn put_run(
@@ -20,10 +32,21 @@ fn put_run(
     words: Option<usize>,
     ended: &Ended,
 ) -> Result<(), ExplainFault> {
-    match ended {
-        Ended::Whole(report) => put_whole(text, alloc, processors, words, &report.journal),
-        Ended::Halted(halt) => put_halted(text, alloc, processors, words, &halt.journal),
+    if processors > MOST_PROCESSORS {
+        return Err(ExplainFault::OutOfRange);
     }
+    let journal = journal_of(ended);
+    let shape = Shape {
+        processors,
+        addresses: journal.base().len(),
+        words,
+    };
+    let mut held = Held::new(alloc, processors)?;
+    put_story(text, &mut held, alloc, shape, journal)?;
+    if let Ended::Halted(_) = ended {
+        put_waits(text, &held, journal);
+    }
+    Ok(())
 }
 
 /// Adds the report's lines, where the run has one. The only error is running out of memory.

@@ -1,25 +1,28 @@
 //! The events of a run, told.
+ghost use Rattle.std.specs.Prelude.{◌≤◌, length};
+ghost use Rattle.lists.specs.Prelude.{most_held, most_processors};
+ghost use Rattle.journal.specs.Prelude.{AddressesInRange, ProcessorsInRange};
 
 use crate::fault::ExplainFault;
 use crate::found::found_of;
-use crate::halting::{Halted, last_of};
 use crate::held::Held;
-use crate::history::{are_in_range, history_of, numbers_of};
+use crate::history::{Numbers, are_in_range, history_of, numbers_of};
 use crate::lacks::Stale;
 use crate::layout::{Layout, layout_of};
 use crate::notes::Known;
 use crate::racing::Race;
+use crate::shape::Shape;
 use crate::text::Text;
-use journal::{Journal, MOST_PROCESSORS};
+use journal::{Event, Journal};
 use std::alloc::{AllocError, Global};
 
 /// Puts a line for each event that isn't cut off, under the line of titles. `held` is what is held before the first event,
 /// and then what is held at the end. The only error is running out of memory.
 fn put_events(
     text: &mut Text,
+    held: &mut Held,
     known: &Known<'_>,
     layout: &Layout,
-    held: &mut Held,
 ) -> Result<(), AllocError> {
     let mut stale = Stale::new();
     layout.put_titles(text);
@@ -57,73 +60,59 @@ fn put_race(text: &mut Text, known: &Known<'_>) {
     }
 }
 
-/// Puts what is known of a history, and an empty line. Answers what is held at its end. The only error is running out of
-/// memory.
-fn put_known(text: &mut Text, alloc: Global, known: &Known<'_>) -> Result<Held, AllocError> {
+/// Puts what is known of a history, and an empty line. The only error is running out of memory.
+fn put_known(
+    text: &mut Text,
+    held: &mut Held,
+    alloc: Global,
+    known: &Known<'_>,
+) -> Result<(), AllocError> {
     let last = known.numbers.of(known.events.len().saturating_sub(1));
     let layout = layout_of(alloc, known.processors, known.events, last)?;
-    let mut held = Held::new(alloc, known.processors)?;
     put_cut(text, known.numbers.cut);
-    put_events(text, known, &layout, &mut held)?;
+    put_events(text, held, known, &layout)?;
     put_race(text, known);
-    Ok(held)
+    Ok(())
 }
 
-/// Puts the events of a journal of so many processors, then the first race, and an empty line. `words` is how many words a
-/// page has, where that is known. Answers what is held at the end.
-fn put_story(
+/// Puts these events of a run of this shape, then the first race, and an empty line.
+fn put_history(
     text: &mut Text,
+    held: &mut Held,
     alloc: Global,
-    processors: usize,
-    words: Option<usize>,
-    journal: &Journal,
-) -> Result<Held, ExplainFault> {
-    if processors > MOST_PROCESSORS {
-        return Err(ExplainFault::OutOfRange);
-    }
-    let numbers = numbers_of(processors, journal);
-    let addresses = journal.base().len();
-    let events = history_of(alloc, numbers.opening, journal)?;
-    if !are_in_range(&events, processors, addresses) {
-        return Err(ExplainFault::OutOfRange);
-    }
-    let found = found_of(alloc, processors, addresses, words, &events)?;
+    shape: Shape,
+    numbers: Numbers,
+    events: &[Event],
+) -> Result<(), ExplainFault>
+    requires few { length events.now ≤ most_held }
+    requires few_processors { shape.processors ≤ most_processors }
+    requires addresses { AddressesInRange shape.addresses events.now }
+    requires processors { ProcessorsInRange shape.processors events.now }
+{
+    let found = found_of(alloc, shape, events)?;
     let known = Known {
         numbers,
-        processors,
-        events: &events,
+        processors: shape.processors,
+        events,
         found: &found,
     };
-    Ok(put_known(text, alloc, &known)?)
-}
-
-/// Puts the same of a run that came to its end.
-pub fn put_whole(
-    text: &mut Text,
-    alloc: Global,
-    processors: usize,
-    words: Option<usize>,
-    journal: &Journal,
-) -> Result<(), ExplainFault> {
-    put_story(text, alloc, processors, words, journal)?;
+    put_known(text, held, alloc, &known)?;
     Ok(())
 }
 
-/// Puts the same of a run that can't go on, and what each processor waits for.
-pub fn put_halted(
+/// Puts the events of the journal of a run of this shape, then the first race, and an empty line. `held` is what is held
+/// before the first event, and then what is held at the end. OutOfRange where the shape can't have the events.
+pub fn put_story(
     text: &mut Text,
+    held: &mut Held,
     alloc: Global,
-    processors: usize,
-    words: Option<usize>,
+    shape: Shape,
     journal: &Journal,
 ) -> Result<(), ExplainFault> {
-    let held = put_story(text, alloc, processors, words, journal)?;
-    let last = last_of(journal.events());
-    let halted = Halted {
-        held: &held,
-        last: &last,
-        is_cut: journal.cut_events() > 0,
-    };
-    halted.put(text);
-    Ok(())
+    let numbers = numbers_of(shape.processors, journal);
+    let events = history_of(alloc, numbers.opening, journal)?;
+    if !are_in_range(&events, shape.processors, shape.addresses) {
+        return Err(ExplainFault::OutOfRange);
+    }
+    put_history(text, held, alloc, shape, numbers, &events)
 }
