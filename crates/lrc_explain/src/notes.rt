@@ -38,11 +38,6 @@ impl Known<'_> {
         }
     }
 
-    /// Whether something was cut off.
-    fn is_cut(&self) -> bool {
-        self.numbers.cut > 0
-    }
-
     /// The crossings of the way to the load at this place.
     fn crossings(&self, place: usize) -> Crossings<'_> {
         let none: &[usize] = &[];
@@ -69,7 +64,7 @@ impl Known<'_> {
     fn put_source(&self, text: &mut Text, place: usize, address: usize, source: Source) {
         match source {
             Source::StoreAt(store) => self.put_store(text, place, store),
-            _ if self.is_cut() => text.put("what stood before the cut"),
+            _ if self.numbers.has_cut() => text.put("what stood before the cut"),
             Source::NoStore => {
                 text.put_number("no store to ", address);
                 text.put(" happens before it");
@@ -78,42 +73,21 @@ impl Known<'_> {
         }
     }
 
-    /// Puts whose store it is that isn't answered.
-    fn put_other_store(&self, text: &mut Text, store: Earlier) {
-        text.put_number("; event ", self.numbers.of(store.place));
-        text.put_number("'s store by p", self.deed(store.place).processor);
-    }
-
-    /// Puts why the store isn't what a load answers that comes later and answers the one at `source`.
-    fn put_overwritten(&self, text: &mut Text, store: Earlier, source: usize) {
-        self.put_other_store(text, store);
-        let why = if store.is_ordered {
-            " is overwritten by event "
-        } else {
-            " is not ordered before event "
-        };
-        text.put_number(why, self.numbers.of(source));
-    }
-
-    /// Puts why the last store before a load isn't what it answers.
-    fn put_last(&self, text: &mut Text, store: Earlier) {
-        self.put_other_store(text, store);
-        text.put(if store.is_ordered {
-            " would have done as well"
-        } else {
-            " is not ordered before it"
-        });
-    }
-
     /// Puts why the last store before the load that it doesn't answer isn't what it answers, where there is such a store.
     fn put_other(&self, text: &mut Text, place: usize, source: Source) {
         let Some(last) = self.earlier(place) else {
             return;
         };
         if source != Source::StoreAt(last.place) {
-            self.put_last(text, last);
+            put_last(text, self.numbers, self.deed(last.place), last.is_ordered);
         } else if let Some(before) = self.earlier(last.place) {
-            self.put_overwritten(text, before, last.place);
+            put_overwritten(
+                text,
+                self.numbers,
+                self.deed(before.place),
+                before.is_ordered,
+                last.place,
+            );
         }
     }
 
@@ -122,39 +96,6 @@ impl Known<'_> {
         if let Some(Some(source)) = self.found.loads.sources.get(place) {
             self.put_source(text, place, address, *source);
             self.put_other(text, place, *source);
-        }
-    }
-
-    /// Puts what let through an acquire or an await.
-    fn put_after(&self, text: &mut Text, deed: Deed, name: &str) {
-        text.put_number("after p", deed.processor);
-        text.put("'s ");
-        text.put(name);
-        text.put_number(", event ", self.numbers.of(deed.place));
-    }
-
-    /// Puts what is said of an acquire of a lock that had this release.
-    fn put_acquire(&self, text: &mut Text, released: Option<Deed>) {
-        match released {
-            Some(release) => self.put_after(text, release, "release"),
-            None if self.is_cut() => text.put("nobody held it since the cut"),
-            None => text.put("nobody held it before"),
-        }
-    }
-
-    /// Puts what is said of an await of a flag that this set.
-    fn put_await(&self, text: &mut Text, set: Option<Deed>) {
-        match set {
-            Some(set) => self.put_after(text, set, "set"),
-            None if self.is_cut() => text.put("it was set before the cut"),
-            None => {}
-        }
-    }
-
-    /// Puts what is said of a watch of a flag that this set.
-    fn put_watch(&self, text: &mut Text, flag: usize, set: Option<Deed>) {
-        if set.is_none() && !self.is_cut() {
-            text.put_number("waits: nobody has set flag ", flag);
         }
     }
 
@@ -175,20 +116,9 @@ impl Known<'_> {
         let dues = self.dues(place);
         let writers = Writers {
             dues,
-            has_older: self.is_cut() && records_of(dues) < records as usize,
+            has_older: self.numbers.has_cut() && records_of(dues) < records as usize,
         };
         writers.put(text);
-    }
-
-    /// Puts which pages go stale by the event at this place, before which these are.
-    fn put_stale(&self, text: &mut Text, stale: &Stale, place: usize, processor: usize) {
-        let gone = GoneStale {
-            processor,
-            dues: self.dues(place),
-            stale,
-            is_cut: self.is_cut(),
-        };
-        gone.put(text);
     }
 
     /// Puts what is said of the event at this place, before which this is held and these copies are stale. Nothing is put
@@ -207,10 +137,17 @@ impl Known<'_> {
             self.put_writers(text, place, records);
             return;
         }
-        if text.len() > start && !self.dues(place).is_empty() {
+        let dues = self.dues(place);
+        if text.len() > start && !dues.is_empty() {
             text.put("; ");
         }
-        self.put_stale(text, stale, place, event.processor);
+        let gone = GoneStale {
+            processor: event.processor,
+            dues,
+            stale,
+            is_cut: self.numbers.has_cut(),
+        };
+        gone.put(text);
     }
 
     /// Puts the same, without what is said of records.
@@ -219,13 +156,79 @@ impl Known<'_> {
             Kind::Load(address, _) => self.put_load(text, place, address),
             Kind::Fetch { records, words, .. } => put_fetch(text, records, words),
             Kind::Ask(lock) => put_ask(text, lock, held.lock(lock)),
-            Kind::Acquire(lock) => self.put_acquire(text, held.lock(lock).released),
-            Kind::Watch(flag) => self.put_watch(text, flag, held.set(flag)),
-            Kind::Await(flag) => self.put_await(text, held.set(flag)),
+            Kind::Acquire(lock) => put_acquire(text, self.numbers, held.lock(lock).released),
+            Kind::Watch(flag) => put_watch(text, self.numbers, flag, held.set(flag)),
+            Kind::Await(flag) => put_await(text, self.numbers, held.set(flag)),
             Kind::Arrive => put_arrive(text, held.arrived(), event.processor),
             Kind::Depart => put_depart(text, self.processors, event.processor),
             _ => {}
         }
+    }
+}
+
+/// Puts whose store it is that a load doesn't answer.
+fn put_other_store(text: &mut Text, numbers: Numbers, store: Deed) {
+    text.put_number("; event ", numbers.of(store.place));
+    text.put_number("'s store by p", store.processor);
+}
+
+/// Puts why the store isn't what a load answers that comes later and answers the one at `source`.
+fn put_overwritten(
+    text: &mut Text,
+    numbers: Numbers,
+    store: Deed,
+    is_ordered: bool,
+    source: usize,
+) {
+    put_other_store(text, numbers, store);
+    text.put(if is_ordered {
+        " is overwritten by"
+    } else {
+        " is not ordered before"
+    });
+    text.put_number(" event ", numbers.of(source));
+}
+
+/// Puts why the last store before a load isn't what it answers.
+fn put_last(text: &mut Text, numbers: Numbers, store: Deed, is_ordered: bool) {
+    put_other_store(text, numbers, store);
+    text.put(if is_ordered {
+        " would have done as well"
+    } else {
+        " is not ordered before it"
+    });
+}
+
+/// Puts what let through an acquire or an await.
+fn put_after(text: &mut Text, numbers: Numbers, deed: Deed, name: &str) {
+    text.put_number("after p", deed.processor);
+    text.put("'s ");
+    text.put(name);
+    text.put_number(", event ", numbers.of(deed.place));
+}
+
+/// Puts what is said of an acquire of a lock that had this release.
+fn put_acquire(text: &mut Text, numbers: Numbers, released: Option<Deed>) {
+    match released {
+        Some(release) => put_after(text, numbers, release, "release"),
+        None if numbers.has_cut() => text.put("nobody held it since the cut"),
+        None => text.put("nobody held it before"),
+    }
+}
+
+/// Puts what is said of an await of a flag that this set.
+fn put_await(text: &mut Text, numbers: Numbers, set: Option<Deed>) {
+    match set {
+        Some(set) => put_after(text, numbers, set, "set"),
+        None if numbers.has_cut() => text.put("it was set before the cut"),
+        None => {}
+    }
+}
+
+/// Puts what is said of a watch of a flag that this set.
+fn put_watch(text: &mut Text, numbers: Numbers, flag: usize, set: Option<Deed>) {
+    if set.is_none() && !numbers.has_cut() {
+        text.put_number("waits: nobody has set flag ", flag);
     }
 }
 
