@@ -1,5 +1,5 @@
 //! The store that stands last before each access, whether or not it is ordered before it.
-ghost use Rattle.std.specs.Prelude.{◌≤◌, ◌<◌, List, length};
+ghost use Rattle.std.specs.Prelude.{◌≡◌, ◌≤◌, ◌<◌, [], List, length};
 ghost use Rattle.lists.specs.Prelude.{most_held, most_processors};
 ghost use Rattle.journal.specs.declared.event.Event.{Event};
 ghost use Rattle.journal.specs.Prelude.{AddressInRange, AddressesInRange, ProcessorsInRange};
@@ -10,7 +10,7 @@ use sources::Sources;
 use std::alloc::{AllocError, Global};
 
 /// The last store to the address of an access that stands before it in the history, by whomever.
-#[derive(Clone, Copy, Debug, PartialEq, Eq)]
+#[derive(Clone, Copy)]
 pub struct Earlier {
     /// Where it stands.
     pub place: usize,
@@ -46,6 +46,29 @@ fn keep_store(last: &mut [Option<usize>], place: usize, kind: Kind) {
     }
 }
 
+/// Finds the last store before each event of a history, of which `sources` tells nothing yet. `last` has the last store to
+/// each address so far.
+fn find_stores(
+    found: &mut [Option<Earlier>],
+    last: &mut [Option<usize>],
+    sources: &mut Sources,
+    events: &[Event],
+) -> Result<(), AllocError>
+    requires few { length events.now ≤ most_held }
+    requires places { length found.old ≡ length events.now }
+    requires tells { Tells [] sources.old }
+    requires addresses { AddressesInRange sources.old.addresses events.now }
+    requires processors { ProcessorsInRange sources.old.processors events.now }
+{
+    for place in 0..events.len() {
+        let event = events[place];
+        found[place] = earlier_at(sources, last, event);
+        keep_store(last, place, event.kind);
+        sources.note(events, place)?;
+    }
+    Ok(())
+}
+
 /// Of each event of a history, in order: the last store to its address before it, where it is an access and there is such a
 /// store; else None. The only error is running out of memory.
 ///
@@ -63,12 +86,7 @@ pub fn stores_before(
 {
     let mut sources = Sources::new(alloc, processors, addresses)?;
     let mut last = vec![in alloc; None; addresses]?;
-    let mut found = Vec::with_capacity(alloc, events.len())?;
-    for place in 0..events.len() {
-        let event = events[place];
-        found.push(earlier_at(&sources, &last, event))?;
-        keep_store(&mut last, place, event.kind);
-        sources.note(events, place)?;
-    }
+    let mut found = vec![in alloc; None; events.len()]?;
+    find_stores(&mut found, &mut last, &mut sources, events)?;
     Ok(found)
 }

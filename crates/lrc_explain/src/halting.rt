@@ -1,21 +1,21 @@
 //! For what each processor of a run waits that can't go on.
 
 use crate::held::Held;
-use crate::notes::Marked;
-use journal::{Event, Kind};
-use std::fmt;
+use crate::marked::Marked;
+use crate::text::Text;
+use journal::{Event, Journal, Kind};
 
 /// A run that can't go on: what is held at its end, and the last event of each processor.
 #[derive(Clone, Copy)]
-pub struct Halted<'a> {
-    pub held: &'a Held,
-    pub last: &'a [Option<Kind>; 16],
+struct Halted<'a> {
+    held: &'a Held,
+    last: &'a [Option<Kind>; 16],
     /// Whether something was cut off.
-    pub is_cut: bool,
+    is_cut: bool,
 }
 
 /// The last event of each processor.
-pub fn last_of(events: &[Event]) -> [Option<Kind>; 16] {
+fn last_of(events: &[Event]) -> [Option<Kind>; 16] {
     let mut last = [None; 16];
     for event in events {
         if let Some(kind) = last.get_mut(event.processor) {
@@ -67,74 +67,72 @@ impl Halted<'_> {
         None
     }
 
-    /// Says what the processor waits for.
-    fn put_wait<W: fmt::Write>(&self, f: &mut fmt::Formatter<W>, processor: usize) -> fmt::Result {
+    /// Puts what the processor waits for.
+    fn put_wait(&self, text: &mut Text, processor: usize) {
         match self.last(processor) {
             Some(Kind::Ask(lock)) => {
-                write!(f, "waits for lock {lock}")?;
-                self.put_holder(f, lock)
+                text.put_number("waits for lock ", lock);
+                self.put_holder(text, lock);
             }
             Some(Kind::Arrive) => {
-                let missing = self.missing(processor);
-                write!(f, "waits at the barrier for {missing}")
+                text.put("waits at the barrier for ");
+                self.missing(processor).put(text);
             }
-            Some(Kind::Watch(flag)) => { write!(f, "waits for flag {flag}, which nobody has set") }
-            _ => f.write_str("waits for nothing"),
+            Some(Kind::Watch(flag)) => {
+                text.put_number("waits for flag ", flag);
+                text.put(", which nobody has set");
+            }
+            _ => text.put("waits for nothing"),
         }
     }
 
-    /// Says who holds the lock.
-    fn put_holder<W: fmt::Write>(&self, f: &mut fmt::Formatter<W>, lock: usize) -> fmt::Result {
+    /// Puts who holds the lock.
+    fn put_holder(&self, text: &mut Text, lock: usize) {
         match self.held.lock(lock).holder {
-            Some(holder) => write!(f, ", held by p{holder}"),
-            None if self.is_cut => f.write_str(", held since before the cut"),
-            None => Ok(()),
+            Some(holder) => text.put_number(", held by p", holder),
+            None if self.is_cut => text.put(", held since before the cut"),
+            None => {}
         }
     }
 
-    /// Says what the processors of the processor's circle wait for, in a line.
-    fn put_circle<W: fmt::Write>(
-        &self,
-        f: &mut fmt::Formatter<W>,
-        processor: usize,
-    ) -> fmt::Result {
-        write!(f, "p{processor} ")?;
-        self.put_wait(f, processor)?;
+    /// Puts what the others of the processor's circle wait for.
+    fn put_circle(&self, text: &mut Text, processor: usize) {
         let mut at = processor;
         for _ in 0..16 {
             match self.waits_for(at) {
                 Some(next) if next != processor => at = next,
-                _ => return f.write_str("\n"),
+                _ => return,
             }
-            f.write_str(", which ")?;
-            self.put_wait(f, at)?;
+            text.put(", which ");
+            self.put_wait(text, at);
         }
-        f.write_str("\n")
     }
 
-    /// Says what the processor waits for, in a line. A circle is told at its least processor.
-    fn put_processor<W: fmt::Write>(
-        &self,
-        f: &mut fmt::Formatter<W>,
-        processor: usize,
-    ) -> fmt::Result {
-        match self.circle(processor) {
-            Some(least) if least == processor => self.put_circle(f, processor),
-            Some(_) => Ok(()),
-            None => {
-                write!(f, "p{processor} ")?;
-                self.put_wait(f, processor)?;
-                f.write_str("\n")
-            }
+    /// Puts what the processor waits for, in a line. A circle is told at its least processor.
+    fn put_processor(&self, text: &mut Text, processor: usize) {
+        let circle = self.circle(processor);
+        if circle.unwrap_or(processor) != processor {
+            return;
         }
+        text.put_number("p", processor);
+        text.put(" ");
+        self.put_wait(text, processor);
+        if circle.is_some() {
+            self.put_circle(text, processor);
+        }
+        text.end_line();
     }
 }
 
-impl fmt::Display for Halted<'_> {
-    fn fmt<W: fmt::Write>(&self, f: &mut fmt::Formatter<W>) -> fmt::Result {
-        for processor in 0..self.held.arrived().len() {
-            self.put_processor(f, processor)?;
-        }
-        Ok(())
+/// Puts what each processor waits for where this is held at the end of the journal.
+pub fn put_waits(text: &mut Text, held: &Held, journal: &Journal) {
+    let last = last_of(journal.events());
+    let halted = Halted {
+        held,
+        last: &last,
+        is_cut: journal.cut_events() > 0,
+    };
+    for processor in 0..held.arrived().len() {
+        halted.put_processor(text, processor);
     }
 }

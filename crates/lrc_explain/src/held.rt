@@ -5,14 +5,14 @@ use std::alloc::{AllocError, Global};
 use std::collections::BTreeMap;
 
 /// What an event was: where it stands, and whose it is.
-#[derive(Clone, Copy, Debug, PartialEq, Eq)]
+#[derive(Clone, Copy)]
 pub struct Deed {
     pub place: usize,
     pub processor: usize,
 }
 
 /// What is known of a lock.
-#[derive(Clone, Copy, Debug, PartialEq, Eq)]
+#[derive(Clone, Copy)]
 pub struct LockState {
     /// Who holds it.
     pub holder: Option<usize>,
@@ -72,10 +72,8 @@ impl Held {
         if let Some(has_arrived) = self.arrived.get_mut(processor) {
             *has_arrived = true;
         }
-        if self.arrived.iter().all(|has_arrived| *has_arrived) {
-            for has_arrived in &mut self.arrived {
-                *has_arrived = false;
-            }
+        if !self.arrived.contains(&false) {
+            self.arrived.fill(false);
         }
     }
 
@@ -87,7 +85,7 @@ impl Held {
 
     /// The flag's set, where it is the first.
     fn put_set(&mut self, flag: usize, set: Deed) -> Result<(), AllocError> {
-        if self.flags.get(&flag).is_none() {
+        if !self.flags.contains_key(&flag) {
             self.flags.insert(flag, set)?;
         }
         Ok(())

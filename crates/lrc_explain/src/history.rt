@@ -22,6 +22,11 @@ impl Numbers {
         self.cut.saturating_add(left as u64)
     }
 
+    /// Whether some events were cut off.
+    pub fn has_cut(self) -> bool {
+        self.cut > 0
+    }
+
     /// Whether the event at this place stands for some that were cut off.
     pub fn is_cut(self, place: usize) -> bool {
         place < self.opening

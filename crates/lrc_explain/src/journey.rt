@@ -5,38 +5,55 @@ ghost use Rattle.journal.specs.Prelude.{ProcessorsInRange};
 ghost use Rattle.why.specs.Prelude.{AreWays};
 
 use crate::history::Numbers;
+use crate::text::Text;
 use journal::{Event, Kind};
 use std::alloc::{AllocError, Global};
-use std::fmt;
 use why::{Source, Ways};
 
 /// How many crossings are told at most.
 const MOST_CROSSINGS: usize = 3;
 
-/// The way from the store that the event at this place answers; empty where it answers none.
+/// The way from the store that the event at this place answers; None where it answers none.
 fn way_to(
     alloc: Global,
     ways: &Ways,
     events: &[Event],
     source: Option<Source>,
     place: usize,
-) -> Result<Vec<usize>, AllocError>
+) -> Result<Option<Vec<usize>>, AllocError>
     requires tells { AreWays events.now ways.now }
     requires place { place < length events.now }
 {
     let Some(Source::StoreAt(from)) = source else {
-        return Ok(Vec::new(alloc));
+        return Ok(None);
     };
     if from >= events.len() {
-        return Ok(Vec::new(alloc));
+        return Ok(None);
     }
-    match ways.way(alloc, events, from, place)? {
-        Some(places) => Ok(places),
-        None => Ok(Vec::new(alloc)),
-    }
+    ways.way(alloc, events, from, place)
 }
 
-/// Of each event, the places of a way from the store that it answers to it, where it is a load; else none. The only
+/// Adds of each event the way to it. The only error is running out of memory.
+fn add_ways(
+    found: &mut Vec<Option<Vec<usize>>>,
+    alloc: Global,
+    ways: &Ways,
+    events: &[Event],
+    loads: &[Option<Source>],
+) -> Result<(), AllocError>
+    requires { AreWays events.now ways.now }
+{
+    for place in 0..events.len() {
+        let source = match loads.get(place) {
+            Some(source) => *source,
+            None => None,
+        };
+        found.push(way_to(alloc, ways, events, source, place)?)?;
+    }
+    Ok(())
+}
+
+/// Of each event, the places of a way from the store that it answers to it, where it is a load; else None. The only
 /// error is running out of memory.
 ///
 /// It takes time as `why::Ways::new` does, and for each load as `why::Ways::way` does.
@@ -45,26 +62,20 @@ pub fn ways_to_loads(
     processors: usize,
     events: &[Event],
     loads: &[Option<Source>],
-) -> Result<Vec<Vec<usize>>, AllocError>
+) -> Result<Vec<Option<Vec<usize>>>, AllocError>
     requires few { length events.now ≤ most_held }
     requires few_processors { processors ≤ most_processors }
     requires processors { ProcessorsInRange processors events.now }
 {
     let ways = Ways::new(alloc, processors, events)?;
     let mut found = Vec::with_capacity(alloc, events.len())?;
-    for place in 0..events.len() {
-        let source = match loads.get(place) {
-            Some(source) => *source,
-            None => None,
-        };
-        found.push(way_to(alloc, &ways, events, source, place)?)?;
-    }
+    add_ways(&mut found, alloc, &ways, events, loads)?;
     Ok(found)
 }
 
-/// An edge of a way from one processor to another.
+/// An edge of a way, from the event at one place to that at the other.
 #[derive(Clone, Copy)]
-struct Crossing {
+struct Edge {
     from: usize,
     to: usize,
 }
@@ -79,88 +90,84 @@ pub struct Crossings<'a> {
 }
 
 /// What an event did, in a word.
-#[derive(Clone, Copy)]
-struct Word(Kind);
-
-impl fmt::Display for Word {
-    fn fmt<W: fmt::Write>(&self, f: &mut fmt::Formatter<W>) -> fmt::Result {
-        f.write_str(match self.0 {
-            Kind::Acquire(_) => "acquire",
-            Kind::Release(_) => "release",
-            Kind::Arrive => "arrive",
-            Kind::Depart => "depart",
-            Kind::Set(_) => "set",
-            Kind::Await(_) => "await",
-            _ => "event",
-        })
+fn word_of(kind: Kind) -> &'static str {
+    match kind {
+        Kind::Acquire(_) => "acquire",
+        Kind::Release(_) => "release",
+        Kind::Arrive => "arrive",
+        Kind::Depart => "depart",
+        Kind::Set(_) => "set",
+        Kind::Await(_) => "await",
+        _ => "event",
     }
 }
 
 impl Crossings<'_> {
-    /// The crossing by the edge to the place at this index of the way, if it is one.
-    fn crossing(&self, index: usize) -> Option<Crossing> {
-        let places = self.places;
-        let events = self.events;
-        let to = *places.get(index)?;
-        let from = *places.get(index.checked_sub(1)?)?;
-        if events.get(from)?.processor == events.get(to)?.processor {
-            return None;
+    /// The edge to the place at this index of the way.
+    fn edge(&self, index: usize) -> Edge
+        requires first { 0 < index }
+        requires end { index < length self.now.places.now }
+    {
+        Edge {
+            from: self.places[index - 1],
+            to: self.places[index],
         }
-        Some(Crossing { from, to })
+    }
+
+    /// Whether the edge leads from one processor to another.
+    fn crosses(&self, edge: Edge) -> bool {
+        match (self.events.get(edge.from), self.events.get(edge.to)) {
+            (Some(from), Some(to)) => from.processor != to.processor,
+            _ => false,
+        }
     }
 
     /// How many there are.
     fn count(&self) -> usize {
         let mut count: usize = 0;
-        for index in 0..self.places.len() {
-            if self.crossing(index).is_some() {
+        for index in 1..self.places.len() {
+            if self.crosses(self.edge(index)) {
                 count = count.saturating_add(1);
             }
         }
         count
     }
 
-    /// Says what the event at this place did, and its number.
-    fn put_event<W: fmt::Write>(&self, f: &mut fmt::Formatter<W>, place: usize) -> fmt::Result {
+    /// Puts what the event at this place did, and its number.
+    fn put_event(&self, text: &mut Text, place: usize) {
         let events = self.events;
-        match events.get(place) {
-            Some(event) => { write!(f, "{} at {}", Word(event.kind), self.numbers.of(place)) }
-            None => Ok(()),
+        if let Some(event) = events.get(place) {
+            text.put(word_of(event.kind));
+            text.put_number(" at ", self.numbers.of(place));
         }
     }
 
-    /// Says one crossing, the one of this number among so many. Of many only the first and the last are told.
-    fn put_crossing<W: fmt::Write>(
-        &self,
-        f: &mut fmt::Formatter<W>,
-        crossing: Crossing,
-        number: usize,
-        count: usize,
-    ) -> fmt::Result {
+    /// Puts one crossing, the one of this number among so many. Of many only the first and the last are told.
+    fn put_crossing(&self, text: &mut Text, edge: Edge, number: usize, count: usize) {
         let left_out = count.saturating_sub(2);
         if count > MOST_CROSSINGS && number == 1 {
-            write!(f, ", {left_out} more between")?;
+            text.put_number(", ", left_out);
+            text.put(" more between");
         }
         if count > MOST_CROSSINGS && number > 0 && number <= left_out {
-            return Ok(());
+            return;
         }
-        f.write_str(if number == 0 { ", by " } else { ", " })?;
-        self.put_event(f, crossing.from)?;
-        f.write_str(" and ")?;
-        self.put_event(f, crossing.to)
+        text.put(if number == 0 { ", by " } else { ", " });
+        self.put_event(text, edge.from);
+        text.put(" and ");
+        self.put_event(text, edge.to);
     }
-}
 
-impl fmt::Display for Crossings<'_> {
-    fn fmt<W: fmt::Write>(&self, f: &mut fmt::Formatter<W>) -> fmt::Result {
+    /// Puts them, with commas before them.
+    pub fn put(&self, text: &mut Text) {
         let count = self.count();
         let mut number: usize = 0;
-        for index in 0..self.places.len() {
-            if let Some(crossing) = self.crossing(index) {
-                self.put_crossing(f, crossing, number, count)?;
+        for index in 1..self.places.len() {
+            let edge = self.edge(index);
+            if self.crosses(edge) {
+                self.put_crossing(text, edge, number, count);
                 number = number.saturating_add(1);
             }
         }
-        Ok(())
     }
 }

@@ -1,43 +1,39 @@
 //! What an event did, in a reader's words.
 
+use crate::text::Text;
 use journal::Kind;
-use std::fmt;
 
-/// What an event did, as it stands in its lane.
-#[derive(Clone, Copy)]
-pub struct Label(pub Kind);
-
-/// The same in fewer letters.
-#[derive(Clone, Copy)]
-pub struct ShortLabel(pub Kind);
-
-impl fmt::Display for Label {
-    fn fmt<W: fmt::Write>(&self, f: &mut fmt::Formatter<W>) -> fmt::Result {
-        match self.0 {
-            Kind::Load(address, word) => write!(f, "load {address} -> {word}"),
-            Kind::Store(address, word) => write!(f, "store {address} <- {word}"),
-            Kind::Fetch { page, .. } => write!(f, "fetch page {page}"),
-            Kind::Ask(lock) => write!(f, "ask {lock}"),
-            Kind::Acquire(lock) => write!(f, "acquire {lock}"),
-            Kind::Release(lock) => write!(f, "release {lock}"),
-            Kind::Arrive => f.write_str("arrive"),
-            Kind::Depart => f.write_str("depart"),
-            Kind::Set(flag) => write!(f, "set {flag}"),
-            Kind::Watch(flag) => write!(f, "watch {flag}"),
-            Kind::Await(flag) => write!(f, "await {flag}"),
-        }
+/// Puts what an event did, as it stands in its lane.
+pub fn put_label(text: &mut Text, kind: Kind) {
+    match kind {
+        Kind::Load(address, word) => put_access(text, "load ", address, " -> ", word),
+        Kind::Store(address, word) => put_access(text, "store ", address, " <- ", word),
+        Kind::Fetch { page, .. } => text.put_number("fetch page ", page),
+        Kind::Ask(lock) => text.put_number("ask ", lock),
+        Kind::Acquire(lock) => text.put_number("acquire ", lock),
+        Kind::Release(lock) => text.put_number("release ", lock),
+        Kind::Arrive => text.put("arrive"),
+        Kind::Depart => text.put("depart"),
+        Kind::Set(flag) => text.put_number("set ", flag),
+        Kind::Watch(flag) => text.put_number("watch ", flag),
+        Kind::Await(flag) => text.put_number("await ", flag),
     }
 }
 
-impl fmt::Display for ShortLabel {
-    fn fmt<W: fmt::Write>(&self, f: &mut fmt::Formatter<W>) -> fmt::Result {
-        match self.0 {
-            Kind::Load(address, word) => write!(f, "ld {address} {word}"),
-            Kind::Store(address, word) => write!(f, "st {address} {word}"),
-            Kind::Fetch { page, .. } => write!(f, "fetch {page}"),
-            Kind::Acquire(lock) => write!(f, "acq {lock}"),
-            Kind::Release(lock) => write!(f, "rel {lock}"),
-            kind => write!(f, "{}", Label(kind)),
-        }
+/// Puts the same in fewer letters.
+pub fn put_short_label(text: &mut Text, kind: Kind) {
+    match kind {
+        Kind::Load(address, word) => put_access(text, "ld ", address, " ", word),
+        Kind::Store(address, word) => put_access(text, "st ", address, " ", word),
+        Kind::Fetch { page, .. } => text.put_number("fetch ", page),
+        Kind::Acquire(lock) => text.put_number("acq ", lock),
+        Kind::Release(lock) => text.put_number("rel ", lock),
+        kind => put_label(text, kind),
     }
+}
+
+/// Puts an access with this name.
+fn put_access(text: &mut Text, name: &str, address: usize, arrow: &str, word: u32) {
+    text.put_number(name, address);
+    text.put_number(arrow, word);
 }

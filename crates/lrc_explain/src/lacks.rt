@@ -6,15 +6,15 @@ ghost use Rattle.journal.specs.Events.{At};
 ghost use Rattle.judge.specs.Prelude.{AreSmall, IsWithin, sizes_of};
 
 use crate::fault::ExplainFault;
-use crate::notes::Count;
+use crate::shape::Shape;
+use crate::text::Text;
 use journal::{Event, Kind, MOST_HELD};
 use judge::Sizes;
 use std::alloc::{AllocError, Global};
-use std::fmt;
 use why::{Due, dues};
 
 /// How many pages a memory has at most.
-pub const MOST_PAGES: usize = 64;
+const MOST_PAGES: usize = 64;
 
 /// How many locks a memory has at most, and how many flags.
 const MOST_LOCKS: usize = 32;
@@ -39,21 +39,22 @@ fn are_within(events: &[Event], sizes: Sizes) -> bool
     events.len() <= MOST_HELD
 }
 
-/// Of each event, the records that it tells of, where a page has so many words. OutOfRange where that many words don't
-/// make pages of the addresses, or a memory of these sizes can't have the events.
+/// Of each event of a run of this shape, the records that it tells of; nothing where nobody knows how many words a page has.
+/// OutOfRange where that many words don't make pages of the addresses, or a memory of such pages can't have the events.
 pub fn dues_of(
     alloc: Global,
-    processors: usize,
-    addresses: usize,
-    words: usize,
+    shape: Shape,
     events: &[Event],
 ) -> Result<Vec<Vec<Due>>, ExplainFault> {
-    if words == 0 || addresses % words != 0 {
+    let Some(words) = shape.words else {
+        return Ok(Vec::new(alloc));
+    };
+    if words == 0 || shape.addresses % words != 0 {
         return Err(ExplainFault::OutOfRange);
     }
     let sizes = Sizes {
-        processors,
-        pages: addresses / words,
+        processors: shape.processors,
+        pages: shape.addresses / words,
         words,
         locks: MOST_LOCKS,
         flags: MOST_LOCKS,
@@ -65,35 +66,29 @@ pub fn dues_of(
 }
 
 /// Which copies of pages are stale, as far as is known.
-#[derive(Drop)]
+#[derive(Clone, Copy)]
 pub struct Stale {
     /// Of each page, whether each processor's copy is.
-    marks: Vec<[bool; 16]>,
+    marks: [[bool; 16]; MOST_PAGES],
 }
 
 impl Stale {
-    /// None of so many pages.
-    pub fn new(alloc: Global, pages: usize) -> Result<Stale, AllocError> {
-        Ok(Stale {
-            marks: vec![in alloc; [false; 16]; pages]?,
-        })
+    /// None.
+    pub fn new() -> Stale {
+        Stale {
+            marks: [[false; 16]; MOST_PAGES],
+        }
     }
 
     /// Whether the processor's copy of the page is.
     fn is(&self, page: usize, processor: usize) -> bool {
-        let marks = &self.marks;
-        match marks.get(page) {
-            Some(row) => row.get(processor) == Some(&true),
-            None => false,
-        }
+        page < MOST_PAGES && processor < 16 && self.marks[page][processor]
     }
 
     /// Marks the processor's copy of the page, or not.
     fn put(&mut self, page: usize, processor: usize, is_stale: bool) {
-        if let Some(row) = self.marks.get_mut(page) {
-            if let Some(mark) = row.get_mut(processor) {
-                *mark = is_stale;
-            }
+        if page < MOST_PAGES && processor < 16 {
+            self.marks[page][processor] = is_stale;
         }
     }
 
@@ -117,22 +112,27 @@ pub struct Writers<'a> {
     pub has_older: bool,
 }
 
-impl fmt::Display for Writers<'_> {
-    fn fmt<W: fmt::Write>(&self, f: &mut fmt::Formatter<W>) -> fmt::Result {
-        let count = self.dues.len();
+impl Writers<'_> {
+    /// Puts what stands in front of the writer at this index.
+    fn put_front(&self, text: &mut Text, index: usize) {
+        let is_last = !self.has_older && index.saturating_add(1) == self.dues.len();
+        text.put(match index {
+            0 => ", of",
+            _ if is_last => " and",
+            _ => ",",
+        });
+    }
+
+    /// Puts them, with a comma before them.
+    pub fn put(&self, text: &mut Text) {
         for (index, due) in self.dues.iter().enumerate() {
-            let is_last = !self.has_older && index.saturating_add(1) == count;
-            let front = match index {
-                0 => ", of",
-                _ if is_last => " and",
-                _ => ",",
-            };
-            write!(f, "{front} p{}", due.writer)?;
+            self.put_front(text, index);
+            text.put_number(" p", due.writer);
         }
-        match (self.has_older, count) {
-            (false, _) => Ok(()),
-            (true, 0) => f.write_str(", from before the cut"),
-            (true, _) => f.write_str(" and from before the cut"),
+        match (self.has_older, self.dues.len()) {
+            (false, _) => {}
+            (true, 0) => text.put(", from before the cut"),
+            (true, _) => text.put(" and from before the cut"),
         }
     }
 }
@@ -150,32 +150,25 @@ pub struct GoneStale<'a> {
 }
 
 impl GoneStale<'_> {
-    /// Says the first records of a page, the one of this number.
-    fn put_page<W: fmt::Write>(
-        &self,
-        f: &mut fmt::Formatter<W>,
-        due: Due,
-        number: usize,
-    ) -> fmt::Result {
+    /// Puts the first records of a page, the one of this number.
+    fn put_page(&self, text: &mut Text, due: Due, number: usize) {
         if number > 1 {
-            f.write_str("; ")?;
+            text.put("; ");
         }
-        let Due {
-            page,
-            writer,
-            records,
-        } = due;
-        let records = Count(records, "record");
-        if self.is_cut || self.stale.is(page, self.processor) {
-            write!(f, "page {page} lacks {records} more of p{writer}")
+        text.put_number("page ", due.page);
+        if self.is_cut || self.stale.is(due.page, self.processor) {
+            text.put(" lacks ");
+            text.put_count(due.records, "record");
+            text.put(" more");
         } else {
-            write!(f, "page {page} goes stale: {records} of p{writer}")
+            text.put(" goes stale: ");
+            text.put_count(due.records, "record");
         }
+        text.put_number(" of p", due.writer);
     }
-}
 
-impl fmt::Display for GoneStale<'_> {
-    fn fmt<W: fmt::Write>(&self, f: &mut fmt::Formatter<W>) -> fmt::Result {
+    /// Puts them.
+    pub fn put(&self, text: &mut Text) {
         let mut pages: usize = 0;
         let mut last = None;
         for due in self.dues {
@@ -188,15 +181,15 @@ impl fmt::Display for GoneStale<'_> {
                 continue;
             }
             if is_next {
-                self.put_page(f, *due, pages)?;
+                self.put_page(text, *due, pages);
             } else {
-                write!(f, ", {} of p{}", due.records, due.writer)?;
+                text.put_number(", ", due.records);
+                text.put_number(" of p", due.writer);
             }
         }
         if pages > MOST_TOLD {
-            let more = Count(pages.saturating_sub(MOST_TOLD), "more page");
-            write!(f, "; {more}")?;
+            text.put("; ");
+            text.put_count(pages.saturating_sub(MOST_TOLD), "more page");
         }
-        Ok(())
     }
 }

@@ -1,25 +1,15 @@
-//! How wide the columns are.
+//! How wide the columns are, and what stands in them.
 
-use crate::label::{Label, ShortLabel};
+use crate::label::{put_label, put_short_label};
+use crate::text::Text;
 use journal::{Event, Kind};
 use std::alloc::{AllocError, Global};
-use std::fmt;
 
 /// How many processors have whole labels.
 const MOST_WITH_WHOLE_LABELS: usize = 8;
 
-/// So many spaces.
-#[derive(Clone, Copy)]
-pub struct Spaces(pub usize);
-
-impl fmt::Display for Spaces {
-    fn fmt<W: fmt::Write>(&self, f: &mut fmt::Formatter<W>) -> fmt::Result {
-        for _ in 0..self.0 {
-            f.write_str(" ")?;
-        }
-        Ok(())
-    }
-}
+/// How many spaces stand in front of a lane.
+const APART: usize = 2;
 
 /// How wide the columns are: one of the events' numbers, and a lane for each processor, with two spaces in front of each.
 ///
@@ -29,13 +19,13 @@ impl fmt::Display for Spaces {
 #[derive(Drop)]
 pub struct Layout {
     /// The width of the column of numbers.
-    pub number: usize,
+    number: usize,
     /// The width of each processor's lane.
-    pub lanes: Vec<usize>,
+    lanes: Vec<usize>,
 }
 
 /// How many digits a number has.
-pub fn digits(number: u64) -> usize {
+fn digits(number: u64) -> usize {
     let mut least: u64 = 10;
     for count in 1..20 {
         if number < least {
@@ -46,14 +36,12 @@ pub fn digits(number: u64) -> usize {
     20
 }
 
-/// The label of an event, where there are so many lanes.
-pub fn label_of(alloc: Global, lanes: usize, kind: Kind) -> Result<String, AllocError> {
+/// Puts the label of an event, where there are so many lanes.
+fn put_label_of(text: &mut Text, lanes: usize, kind: Kind) {
     if lanes <= MOST_WITH_WHOLE_LABELS {
-        let label = Label(kind);
-        format!(in alloc; "{label}")
+        put_label(text, kind);
     } else {
-        let label = ShortLabel(kind);
-        format!(in alloc; "{label}")
+        put_short_label(text, kind);
     }
 }
 
@@ -66,17 +54,7 @@ fn most_width(lanes: usize) -> usize {
     }
 }
 
-/// Lanes as wide as their titles.
-fn title_widths(alloc: Global, processors: usize) -> Result<Vec<usize>, AllocError> {
-    let mut lanes = Vec::new(alloc);
-    for processor in 0..processors {
-        let width = digits(processor as u64).saturating_add(1);
-        lanes.push(width)?;
-    }
-    Ok(lanes)
-}
-
-/// Makes room for a label of this length in the processor's lane, as far as it may be so wide.
+/// Makes the processor's lane as wide as this, as far as it may be so wide.
 fn widen(lanes: &mut [usize], processor: usize, length: usize) {
     let most = most_width(lanes.len());
     if let Some(width) = lanes.get_mut(processor) {
@@ -84,84 +62,67 @@ fn widen(lanes: &mut [usize], processor: usize, length: usize) {
     }
 }
 
-/// The layout of these events of so many processors, the last of which has this number.
+/// Makes each lane as wide as its title.
+fn fit_titles(lanes: &mut [usize]) {
+    for processor in 0..lanes.len() {
+        widen(lanes, processor, digits(processor as u64).saturating_add(1));
+    }
+}
+
+/// Makes each lane as wide as its processor's labels, which are put into an empty text one after the other.
+fn fit_labels(lanes: &mut [usize], label: &mut Text, events: &[Event]) {
+    for event in events {
+        label.clear();
+        put_label_of(label, lanes.len(), event.kind);
+        widen(lanes, event.processor, label.len());
+    }
+}
+
+/// The layout of these events of so many processors, the last of which has this number. The only error is running out of
+/// memory.
 pub fn layout_of(
     alloc: Global,
     processors: usize,
     events: &[Event],
     last: u64,
 ) -> Result<Layout, AllocError> {
-    let mut lanes = title_widths(alloc, processors)?;
-    for event in events {
-        let label = label_of(alloc, processors, event.kind)?;
-        widen(&mut lanes, event.processor, label.len());
-    }
+    let mut lanes = vec![in alloc; 0; processors]?;
+    let mut label = Text::new(alloc);
+    fit_titles(&mut lanes);
+    fit_labels(&mut lanes, &mut label, events);
+    label.finish()?;
     Ok(Layout {
         number: digits(last),
         lanes,
     })
 }
 
-/// The line of the lanes' titles.
-#[derive(Clone, Copy)]
-pub struct Titles<'a>(pub &'a Layout);
-
-impl fmt::Display for Titles<'_> {
-    fn fmt<W: fmt::Write>(&self, f: &mut fmt::Formatter<W>) -> fmt::Result {
-        let mut gap = self.0.number;
-        for (lane, width) in self.0.lanes.iter().enumerate() {
-            write!(f, "{}  p{lane}", Spaces(gap))?;
-            gap = width.saturating_sub(digits(lane as u64).saturating_add(1));
+impl Layout {
+    /// Puts the line of the lanes' titles.
+    pub fn put_titles(&self, text: &mut Text) {
+        text.leave(self.number);
+        for (lane, width) in self.lanes.iter().enumerate() {
+            text.leave(APART);
+            let end = text.len().saturating_add(*width);
+            text.put_number("p", lane);
+            text.leave_to(end);
         }
-        f.write_str("\n")
+        text.end_line();
     }
-}
 
-/// The line of an event.
-#[derive(Clone, Copy)]
-pub struct Line<'a> {
-    pub layout: &'a Layout,
-    /// The event's number.
-    pub number: u64,
-    pub processor: usize,
-    /// What it did.
-    pub label: &'a str,
-    /// Why; empty where there is nothing to say.
-    pub note: &'a str,
-}
-
-impl Line<'_> {
-    /// Writes what stands in a lane.
-    fn put_lane<W: fmt::Write>(
-        &self,
-        f: &mut fmt::Formatter<W>,
-        lane: usize,
-        width: usize,
-    ) -> fmt::Result {
-        if lane == self.processor {
-            write!(f, "  {}", self.label)?;
-            if self.note.is_empty() {
-                return Ok(());
+    /// Puts the number of an event, and what it did in its processor's lane. What is put next on the line stands to the right
+    /// of all lanes.
+    pub fn put_event(&self, text: &mut Text, number: u64, event: Event) {
+        text.leave(self.number.saturating_sub(digits(number)));
+        text.put_number("", number);
+        for (lane, width) in self.lanes.iter().enumerate() {
+            text.leave(APART);
+            let end = text.len().saturating_add(*width);
+            if lane == event.processor {
+                put_label_of(text, self.lanes.len(), event.kind);
             }
-            return write!(f, "{}", Spaces(width.saturating_sub(self.label.len())));
+            text.leave_to(end);
         }
-        if lane < self.processor || !self.note.is_empty() {
-            write!(f, "  {}", Spaces(width))?;
-        }
-        Ok(())
-    }
-}
-
-impl fmt::Display for Line<'_> {
-    fn fmt<W: fmt::Write>(&self, f: &mut fmt::Formatter<W>) -> fmt::Result {
-        let front = self.layout.number.saturating_sub(digits(self.number));
-        write!(f, "{}{}", Spaces(front), self.number)?;
-        for (lane, width) in self.layout.lanes.iter().enumerate() {
-            self.put_lane(f, lane, *width)?;
-        }
-        if !self.note.is_empty() {
-            write!(f, "  {}", self.note)?;
-        }
-        f.write_str("\n")
+        text.leave(APART);
     }
 }

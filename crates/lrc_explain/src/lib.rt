@@ -12,6 +12,7 @@
 
 mod earlier;
 mod fault;
+mod found;
 mod halting;
 mod held;
 mod history;
@@ -19,10 +20,13 @@ mod journey;
 mod label;
 mod lacks;
 mod layout;
+mod marked;
 mod notes;
 mod racing;
 mod rendering;
+mod shape;
 mod story;
+mod text;
 
 pub use fault::ExplainFault;
 pub use rendering::render;

@@ -1,13 +1,14 @@
 //! What is said to the right of an event: why it went as it did, and for whom its processor waits.
 
 use crate::earlier::Earlier;
+use crate::found::Found;
 use crate::held::{Deed, Held, LockState};
 use crate::history::Numbers;
 use crate::journey::Crossings;
 use crate::lacks::{GoneStale, Stale, Writers};
+use crate::marked::Marked;
+use crate::text::Text;
 use journal::{Event, Kind};
-use std::alloc::{AllocError, Global};
-use std::fmt;
 use why::{Due, Source};
 
 /// What is known of a history.
@@ -16,81 +17,12 @@ pub struct Known<'a> {
     pub numbers: Numbers,
     pub processors: usize,
     pub events: &'a [Event],
-    /// Of each event, the store that it answers, where it is a load.
-    pub loads: &'a [Option<Source>],
-    /// Of each event, the last store before it to its address.
-    pub earlier: &'a [Option<Earlier>],
-    /// Of each event, the way from the store that it answers, where it is a load.
-    pub ways: &'a [Vec<usize>],
-    /// Of each event, the records that it tells of; empty where nobody knows what a page is.
-    pub dues: &'a [Vec<Due>],
-}
-
-/// Processors, one behind the other with commas between: those that have this mark, but for one.
-#[derive(Clone, Copy)]
-pub struct Marked<'a> {
-    pub marks: &'a [bool],
-    pub mark: bool,
-    pub but: usize,
-}
-
-impl fmt::Display for Marked<'_> {
-    fn fmt<W: fmt::Write>(&self, f: &mut fmt::Formatter<W>) -> fmt::Result {
-        let mut comma = "";
-        for (processor, mark) in self.marks.iter().enumerate() {
-            if *mark == self.mark && processor != self.but {
-                write!(f, "{comma}p{processor}")?;
-                comma = ", ";
-            }
-        }
-        Ok(())
-    }
-}
-
-impl Marked<'_> {
-    /// How many they are.
-    pub fn count(&self) -> usize {
-        let mut count: usize = 0;
-        for (processor, mark) in self.marks.iter().enumerate() {
-            if *mark == self.mark && processor != self.but {
-                count = count.saturating_add(1);
-            }
-        }
-        count
-    }
-
-    /// The one of them; None where they are none or more.
-    pub fn single(&self) -> Option<usize> {
-        let mut single = None;
-        for (processor, mark) in self.marks.iter().enumerate() {
-            if *mark == self.mark && processor != self.but {
-                if single.is_some() {
-                    return None;
-                }
-                single = Some(processor);
-            }
-        }
-        single
-    }
-}
-
-/// So many of these, in words: `1 record`, `2 records`.
-#[derive(Clone, Copy)]
-pub struct Count<'a>(pub usize, pub &'a str);
-
-impl fmt::Display for Count<'_> {
-    fn fmt<W: fmt::Write>(&self, f: &mut fmt::Formatter<W>) -> fmt::Result {
-        write!(f, "{} {}", self.0, self.1)?;
-        if self.0 != 1 {
-            f.write_str("s")?;
-        }
-        Ok(())
-    }
+    pub found: &'a Found,
 }
 
 impl Known<'_> {
     /// The event at this place, which is one of the history.
-    pub fn deed(&self, place: usize) -> Deed {
+    fn deed(&self, place: usize) -> Deed {
         let processor = match self.events.get(place) {
             Some(event) => event.processor,
             None => 0,
@@ -100,24 +32,18 @@ impl Known<'_> {
 
     /// The last store before the event at this place to its address.
     fn earlier(&self, place: usize) -> Option<Earlier> {
-        match self.earlier.get(place) {
+        match self.found.loads.earlier.get(place) {
             Some(earlier) => *earlier,
             None => None,
         }
     }
 
-    /// Whether something was cut off.
-    fn is_cut(&self) -> bool {
-        self.numbers.cut > 0
-    }
-
     /// The crossings of the way to the load at this place.
     fn crossings(&self, place: usize) -> Crossings<'_> {
-        let ways = self.ways;
         let none: &[usize] = &[];
-        let places = match ways.get(place) {
-            Some(places) => places.as_slice(),
-            None => none,
+        let places = match self.found.loads.ways.get(place) {
+            Some(Some(places)) => places.as_slice(),
+            _ => none,
         };
         Crossings {
             numbers: self.numbers,
@@ -126,265 +52,250 @@ impl Known<'_> {
         }
     }
 
-    /// Where the value of the load of the address at this place comes from.
-    fn source_text(
-        &self,
-        alloc: Global,
-        place: usize,
-        address: usize,
-        source: Source,
-    ) -> Result<String, AllocError> {
+    /// Puts that the load at this place answers the store at that one, and how its word came there.
+    fn put_store(&self, text: &mut Text, place: usize, store: usize) {
+        text.put_number("event ", self.numbers.of(store));
+        text.put_number(": p", self.deed(store).processor);
+        text.put(" stored it");
+        self.crossings(place).put(text);
+    }
+
+    /// Puts where the value of the load of the address at this place comes from.
+    fn put_source(&self, text: &mut Text, place: usize, address: usize, source: Source) {
         match source {
-            Source::StoreAt(store) => {
-                let number = self.numbers.of(store);
-                let Deed { processor, .. } = self.deed(store);
-                let crossings = self.crossings(place);
-                format!(in alloc; "event {number}: p{processor} stored it{crossings}")
+            Source::StoreAt(store) => self.put_store(text, place, store),
+            _ if self.numbers.has_cut() => text.put("what stood before the cut"),
+            Source::NoStore => {
+                text.put_number("no store to ", address);
+                text.put(" happens before it");
             }
-            _ if self.is_cut() => String::from_str(alloc, "what stood before the cut"),
-            Source::NoStore => format!(in alloc; "no store to {address} happens before it"),
-            Source::Unexplained => String::from_str(alloc, "no store before it has this word"),
+            Source::Unexplained => text.put("no store before it has this word"),
         }
     }
 
-    /// Why the store at this place isn't what a load answers that comes later and answers the one at `source`.
-    fn overwritten_text(
-        &self,
-        alloc: Global,
-        store: Earlier,
-        source: usize,
-    ) -> Result<String, AllocError> {
-        let number = self.numbers.of(store.place);
-        let by = self.numbers.of(source);
-        let Deed { processor, .. } = self.deed(store.place);
-        if store.is_ordered {
-            format!(in alloc;
-                "; event {number}'s store by p{processor} is overwritten by event {by}"
-            )
-        } else {
-            format!(in alloc;
-                "; event {number}'s store by p{processor} is not ordered before event {by}"
-            )
-        }
-    }
-
-    /// Why the last store before a load isn't what it answers.
-    fn last_text(&self, alloc: Global, store: Earlier) -> Result<String, AllocError> {
-        let number = self.numbers.of(store.place);
-        let Deed { processor, .. } = self.deed(store.place);
-        if store.is_ordered {
-            format!(in alloc; "; event {number}'s store by p{processor} would have done as well")
-        } else {
-            format!(in alloc; "; event {number}'s store by p{processor} is not ordered before it")
-        }
-    }
-
-    /// Why the last store before the load that it doesn't answer isn't what it answers; empty where there is no such store.
-    fn other_text(
-        &self,
-        alloc: Global,
-        place: usize,
-        source: Source,
-    ) -> Result<String, AllocError> {
-        match (self.earlier(place), source) {
-            (Some(last), Source::StoreAt(source)) if last.place == source => {
-                match self.earlier(source) {
-                    Some(before) => self.overwritten_text(alloc, before, source),
-                    None => Ok(String::new(alloc)),
-                }
-            }
-            (Some(last), _) => self.last_text(alloc, last),
-            (None, _) => Ok(String::new(alloc)),
-        }
-    }
-
-    /// What is said of the load at this place.
-    fn load_text(&self, alloc: Global, place: usize, address: usize) -> Result<String, AllocError> {
-        let Some(Some(source)) = self.loads.get(place) else {
-            return Ok(String::new(alloc));
+    /// Puts why the last store before the load that it doesn't answer isn't what it answers, where there is such a store.
+    fn put_other(&self, text: &mut Text, place: usize, source: Source) {
+        let Some(last) = self.earlier(place) else {
+            return;
         };
-        let mut text = self.source_text(alloc, place, address, *source)?;
-        let other = self.other_text(alloc, place, *source)?;
-        text.push_str(&other)?;
-        Ok(text)
-    }
-
-    /// What let through an acquire or an await.
-    fn after_text(&self, alloc: Global, deed: Deed, name: &str) -> Result<String, AllocError> {
-        let number = self.numbers.of(deed.place);
-        let processor = deed.processor;
-        format!(in alloc; "after p{processor}'s {name}, event {number}")
-    }
-
-    /// What is said of an acquire of a lock in this state.
-    fn acquire_text(&self, alloc: Global, state: LockState) -> Result<String, AllocError> {
-        match state.released {
-            Some(release) => self.after_text(alloc, release, "release"),
-            None if self.is_cut() => String::from_str(alloc, "nobody held it since the cut"),
-            None => String::from_str(alloc, "nobody held it before"),
+        if source != Source::StoreAt(last.place) {
+            put_last(text, self.numbers, self.deed(last.place), last.is_ordered);
+        } else if let Some(before) = self.earlier(last.place) {
+            put_overwritten(
+                text,
+                self.numbers,
+                self.deed(before.place),
+                before.is_ordered,
+                last.place,
+            );
         }
     }
 
-    /// What is said of an await of a flag that this set.
-    fn await_text(&self, alloc: Global, set: Option<Deed>) -> Result<String, AllocError> {
-        match set {
-            Some(set) => self.after_text(alloc, set, "set"),
-            None if self.is_cut() => String::from_str(alloc, "it was set before the cut"),
-            None => Ok(String::new(alloc)),
-        }
-    }
-
-    /// What is said of a watch of a flag that this set.
-    fn watch_text(
-        &self,
-        alloc: Global,
-        flag: usize,
-        set: Option<Deed>,
-    ) -> Result<String, AllocError> {
-        match set {
-            None if !self.is_cut() => format!(in alloc; "waits: nobody has set flag {flag}"),
-            _ => Ok(String::new(alloc)),
+    /// Puts what is said of the load of the address at this place.
+    fn put_load(&self, text: &mut Text, place: usize, address: usize) {
+        if let Some(Some(source)) = self.found.loads.sources.get(place) {
+            self.put_source(text, place, address, *source);
+            self.put_other(text, place, *source);
         }
     }
 
     /// The records that the event at this place tells of.
     pub fn dues(&self, place: usize) -> &[Due] {
-        let dues = self.dues;
         let none: &[Due] = &[];
-        match dues.get(place) {
+        match self.found.dues.get(place) {
             Some(dues) => dues.as_slice(),
             None => none,
         }
     }
 
-    /// Adds whose records the fetch at this place brings, so many in all.
-    fn put_writers(&self, text: &mut String, place: usize, records: u32) -> Result<(), AllocError> {
-        if self.dues.is_empty() {
-            return Ok(());
+    /// Puts whose records the fetch at this place brings, so many in all.
+    fn put_writers(&self, text: &mut Text, place: usize, records: u32) {
+        if self.found.dues.is_empty() {
+            return;
         }
         let dues = self.dues(place);
-        let mut known: usize = 0;
-        for due in dues {
-            known = known.saturating_add(due.records);
-        }
         let writers = Writers {
             dues,
-            has_older: self.is_cut() && known < records as usize,
+            has_older: self.numbers.has_cut() && records_of(dues) < records as usize,
         };
-        write!(text, "{writers}")
+        writers.put(text);
     }
 
-    /// Adds which pages go stale by the event at this place, before which these are.
-    fn put_stale(
+    /// Puts what is said of the event at this place, before which this is held and these copies are stale. Nothing is put
+    /// where there is nothing to say.
+    pub fn put_note(
         &self,
-        text: &mut String,
+        text: &mut Text,
+        held: &Held,
         stale: &Stale,
         place: usize,
-        processor: usize,
-    ) -> Result<(), AllocError> {
-        let dues = self.dues(place);
-        if dues.is_empty() {
-            return Ok(());
+        event: Event,
+    ) {
+        let start = text.len();
+        self.put_reason(text, held, place, event);
+        if let Kind::Fetch { records, .. } = event.kind {
+            self.put_writers(text, place, records);
+            return;
         }
-        if !text.is_empty() {
-            text.push_str("; ")?;
+        let dues = self.dues(place);
+        if text.len() > start && !dues.is_empty() {
+            text.put("; ");
         }
         let gone = GoneStale {
-            processor,
+            processor: event.processor,
             dues,
             stale,
-            is_cut: self.is_cut(),
+            is_cut: self.numbers.has_cut(),
         };
-        write!(text, "{gone}")
+        gone.put(text);
     }
 
-    /// What is said of the event at this place, before which this is held and these copies are stale; empty where there is
-    /// nothing to say.
-    pub fn note(
-        &self,
-        alloc: Global,
-        held: &Held,
-        stale: &Stale,
-        place: usize,
-        event: Event,
-    ) -> Result<String, AllocError> {
-        let mut text = self.reason(alloc, held, place, event)?;
+    /// Puts the same, without what is said of records.
+    fn put_reason(&self, text: &mut Text, held: &Held, place: usize, event: Event) {
         match event.kind {
-            Kind::Fetch { records, .. } => self.put_writers(&mut text, place, records)?,
-            _ => self.put_stale(&mut text, stale, place, event.processor)?,
-        }
-        Ok(text)
-    }
-
-    /// The same, without what is said of records.
-    fn reason(
-        &self,
-        alloc: Global,
-        held: &Held,
-        place: usize,
-        event: Event,
-    ) -> Result<String, AllocError> {
-        match event.kind {
-            Kind::Load(address, _) => self.load_text(alloc, place, address),
-            Kind::Fetch { records, words, .. } => fetch_text(alloc, records, words),
-            Kind::Ask(lock) => ask_text(alloc, lock, held.lock(lock)),
-            Kind::Acquire(lock) => self.acquire_text(alloc, held.lock(lock)),
-            Kind::Watch(flag) => self.watch_text(alloc, flag, held.set(flag)),
-            Kind::Await(flag) => self.await_text(alloc, held.set(flag)),
-            Kind::Arrive => arrive_text(alloc, held.arrived(), event.processor),
-            Kind::Depart => depart_text(alloc, self.processors, event.processor),
-            _ => Ok(String::new(alloc)),
+            Kind::Load(address, _) => self.put_load(text, place, address),
+            Kind::Fetch { records, words, .. } => put_fetch(text, records, words),
+            Kind::Ask(lock) => put_ask(text, lock, held.lock(lock)),
+            Kind::Acquire(lock) => put_acquire(text, self.numbers, held.lock(lock).released),
+            Kind::Watch(flag) => put_watch(text, self.numbers, flag, held.set(flag)),
+            Kind::Await(flag) => put_await(text, self.numbers, held.set(flag)),
+            Kind::Arrive => put_arrive(text, held.arrived(), event.processor),
+            Kind::Depart => put_depart(text, self.processors, event.processor),
+            _ => {}
         }
     }
 }
 
-/// What is said of a fetch.
-fn fetch_text(alloc: Global, records: u32, words: u32) -> Result<String, AllocError> {
-    let records = Count(records as usize, "record");
-    let words = Count(words as usize, "word");
-    format!(in alloc; "{records}, {words}")
+/// Puts whose store it is that a load doesn't answer.
+fn put_other_store(text: &mut Text, numbers: Numbers, store: Deed) {
+    text.put_number("; event ", numbers.of(store.place));
+    text.put_number("'s store by p", store.processor);
 }
 
-/// What is said of an ask for a lock in this state.
-fn ask_text(alloc: Global, lock: usize, state: LockState) -> Result<String, AllocError> {
-    match state {
-        LockState {
-            asker: Some(asker),
-            ..
-        } => format!(in alloc; "waits: p{asker} asked for lock {lock} before it"),
-        LockState {
-            holder: Some(holder),
-            ..
-        } => format!(in alloc; "waits: p{holder} holds lock {lock}"),
-        _ => Ok(String::new(alloc)),
+/// Puts why the store isn't what a load answers that comes later and answers the one at `source`.
+fn put_overwritten(
+    text: &mut Text,
+    numbers: Numbers,
+    store: Deed,
+    is_ordered: bool,
+    source: usize,
+) {
+    put_other_store(text, numbers, store);
+    text.put(if is_ordered {
+        " is overwritten by"
+    } else {
+        " is not ordered before"
+    });
+    text.put_number(" event ", numbers.of(source));
+}
+
+/// Puts why the last store before a load isn't what it answers.
+fn put_last(text: &mut Text, numbers: Numbers, store: Deed, is_ordered: bool) {
+    put_other_store(text, numbers, store);
+    text.put(if is_ordered {
+        " would have done as well"
+    } else {
+        " is not ordered before it"
+    });
+}
+
+/// Puts what let through an acquire or an await.
+fn put_after(text: &mut Text, numbers: Numbers, deed: Deed, name: &str) {
+    text.put_number("after p", deed.processor);
+    text.put("'s ");
+    text.put(name);
+    text.put_number(", event ", numbers.of(deed.place));
+}
+
+/// Puts what is said of an acquire of a lock that had this release.
+fn put_acquire(text: &mut Text, numbers: Numbers, released: Option<Deed>) {
+    match released {
+        Some(release) => put_after(text, numbers, release, "release"),
+        None if numbers.has_cut() => text.put("nobody held it since the cut"),
+        None => text.put("nobody held it before"),
     }
 }
 
-/// What is said of an arrival of the processor, before which these had arrived.
-fn arrive_text(alloc: Global, arrived: &[bool], processor: usize) -> Result<String, AllocError> {
+/// Puts what is said of an await of a flag that this set.
+fn put_await(text: &mut Text, numbers: Numbers, set: Option<Deed>) {
+    match set {
+        Some(set) => put_after(text, numbers, set, "set"),
+        None if numbers.has_cut() => text.put("it was set before the cut"),
+        None => {}
+    }
+}
+
+/// Puts what is said of a watch of a flag that this set.
+fn put_watch(text: &mut Text, numbers: Numbers, flag: usize, set: Option<Deed>) {
+    if set.is_none() && !numbers.has_cut() {
+        text.put_number("waits: nobody has set flag ", flag);
+    }
+}
+
+/// How many records these are.
+fn records_of(dues: &[Due]) -> usize {
+    let mut records: usize = 0;
+    for due in dues {
+        records = records.saturating_add(due.records);
+    }
+    records
+}
+
+/// Puts what is said of a fetch.
+fn put_fetch(text: &mut Text, records: u32, words: u32) {
+    text.put_count(records as usize, "record");
+    text.put(", ");
+    text.put_count(words as usize, "word");
+}
+
+/// Puts what is said of an ask for a lock in this state.
+fn put_ask(text: &mut Text, lock: usize, state: LockState) {
+    if let Some(asker) = state.asker {
+        text.put_number("waits: p", asker);
+        text.put_number(" asked for lock ", lock);
+        text.put(" before it");
+    } else if let Some(holder) = state.holder {
+        text.put_number("waits: p", holder);
+        text.put_number(" holds lock ", lock);
+    }
+}
+
+/// Puts what is said of an arrival of the processor, before which these had arrived.
+fn put_arrive(text: &mut Text, arrived: &[bool], processor: usize) {
     let missing = Marked {
         marks: arrived,
         mark: false,
         but: processor,
     };
-    match missing.count() {
-        0 => Ok(String::new(alloc)),
-        1 => format!(in alloc; "waits: {missing} has not arrived"),
-        _ => format!(in alloc; "waits: {missing} have not arrived"),
+    let count = missing.count();
+    if count == 0 {
+        return;
     }
+    text.put("waits: ");
+    missing.put(text);
+    text.put(if count == 1 {
+        " has not arrived"
+    } else {
+        " have not arrived"
+    });
 }
 
-/// What is said of a departure of the processor.
-fn depart_text(alloc: Global, processors: usize, processor: usize) -> Result<String, AllocError> {
+/// Puts what is said of a departure of the processor.
+fn put_depart(text: &mut Text, processors: usize, processor: usize) {
     let marks = [true; 16];
     let others = Marked {
         marks: &marks[..processors.min(16)],
         mark: true,
         but: processor,
     };
-    match others.count() {
-        0 => Ok(String::new(alloc)),
-        1 => format!(in alloc; "after the arrival of {others}"),
-        _ => format!(in alloc; "after the arrivals of {others}"),
+    let count = others.count();
+    if count == 0 {
+        return;
     }
+    text.put(if count == 1 {
+        "after the arrival of "
+    } else {
+        "after the arrivals of "
+    });
+    others.put(text);
 }

@@ -1,9 +1,9 @@
 //! The first race, in sentences.
 
 use crate::history::Numbers;
-use crate::label::Label;
+use crate::label::put_label;
+use crate::text::Text;
 use journal::{Event, Kind};
-use std::fmt;
 use why::FirstRace;
 
 /// The race of a history with these events.
@@ -21,14 +21,14 @@ struct Numbered {
     event: Event,
 }
 
-impl fmt::Display for Numbered {
-    fn fmt<W: fmt::Write>(&self, f: &mut fmt::Formatter<W>) -> fmt::Result {
-        let label = Label(self.event.kind);
-        write!(
-            f,
-            "event {} (p{}: {label})",
-            self.number, self.event.processor
-        )
+impl Numbered {
+    /// Puts its number, who made it, and what it did.
+    fn put(self, text: &mut Text) {
+        text.put_number("event ", self.number);
+        text.put_number(" (p", self.event.processor);
+        text.put(": ");
+        put_label(text, self.event.kind);
+        text.put(")");
     }
 }
 
@@ -42,42 +42,51 @@ impl Race<'_> {
         })
     }
 
-    /// What the second processor had heard of the first one's.
-    fn put_heard<W: fmt::Write>(
-        &self,
-        f: &mut fmt::Formatter<W>,
-        first: usize,
-        second: usize,
-    ) -> fmt::Result {
-        let Some(place) = self.race.heard else {
-            return write!(f, "p{second} had heard nothing of p{first}.\n");
-        };
-        match self.numbered(place) {
-            Some(heard) if !self.numbers.is_cut(place) => {
-                let label = Label(heard.event.kind);
-                write!(
-                    f,
-                    "p{second} had last heard of p{first}'s event {} ({label}).\n",
-                    heard.number
-                )
+    /// The last event of the first processor that the second one had heard of; None where it is none that is told.
+    fn heard(&self) -> Option<Numbered> {
+        let place = self.race.heard?;
+        if self.numbers.is_cut(place) {
+            return None;
+        }
+        self.numbered(place)
+    }
+
+    /// Puts what the second processor had heard of the first one's.
+    fn put_heard(&self, text: &mut Text, first: usize, second: usize) {
+        text.put_number("p", second);
+        if self.race.heard.is_none() {
+            text.put_number(" had heard nothing of p", first);
+            text.put(".\n");
+            return;
+        }
+        text.put_number(" had last heard of p", first);
+        match self.heard() {
+            Some(heard) => {
+                text.put_number("'s event ", heard.number);
+                text.put(" (");
+                put_label(text, heard.event.kind);
+                text.put(").\n");
             }
-            _ => write!(f, "p{second} had last heard of p{first} before the cut.\n"),
+            None => text.put(" before the cut.\n"),
         }
     }
-}
 
-impl fmt::Display for Race<'_> {
-    fn fmt<W: fmt::Write>(&self, f: &mut fmt::Formatter<W>) -> fmt::Result {
-        let (Some(first), Some(second)) = (
-            self.numbered(self.race.first),
-            self.numbered(self.race.second),
-        ) else {
-            return Ok(());
+    /// Puts the sentences, each in a line.
+    pub fn put(&self, text: &mut Text) {
+        let Some(first) = self.numbered(self.race.first) else {
+            return;
+        };
+        let Some(second) = self.numbered(self.race.second) else {
+            return;
         };
         if let Kind::Load(address, _) | Kind::Store(address, _) = first.event.kind {
-            write!(f, "{first} and {second} race at address {address}.\n")?;
+            first.put(text);
+            text.put(" and ");
+            second.put(text);
+            text.put_number(" race at address ", address);
+            text.put(".\n");
         }
-        f.write_str("Neither happens before the other.\n")?;
-        self.put_heard(f, first.event.processor, second.event.processor)
+        text.put("Neither happens before the other.\n");
+        self.put_heard(text, first.event.processor, second.event.processor);
     }
 }

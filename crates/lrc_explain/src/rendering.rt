@@ -1,29 +1,68 @@
 //! Writes what is told of a run.
 ghost use Rattle.std.specs.Prelude.{◌≡◌, ◌++◌, IfErr, IfOk, OnOk, false};
 ghost use Rattle.std.specs.Io.KnownBytes.{Appends};
-ghost use Rattle.lrc_report.specs.Prelude.{report_text};
 ghost use Rattle.lrc_explain.specs.declared.fault.ExplainFault.TheVariants.{Output};
-ghost use Rattle.lrc_explain.specs.Prelude.{IsToldText, IsWritten, IsUnwritten};
+ghost use Rattle.lrc_explain.specs.Prelude.{IsToldText, IsWritten, IsUnwritten, end_text};
 
 use crate::fault::ExplainFault;
-use crate::story::{halted_story, story_of};
-use lrc_report::Report;
+use crate::halting::put_waits;
+use crate::held::Held;
+use crate::shape::Shape;
+use crate::story::put_story;
+use crate::text::Text;
+use journal::{Journal, MOST_PROCESSORS};
 use lrc_report::render::render as render_report;
 use runs::Ended;
 use std::alloc::Global;
 use std::io::Write;
 
-/// Adds the report's lines. The only error is running out of memory.
-fn put_report(text: &mut Vec<u8>, report: &Report) -> Result<(), ExplainFault>
-    ensures { OnOk result (text.new.items ≡ text.old.items ++ report_text report.now false) }
+/// The run's journal.
+fn journal_of(ended: &Ended) -> &Journal {
+    match ended {
+        Ended::Whole(report) => &report.journal,
+        Ended::Halted(halt) => &halt.journal,
+    }
+}
+
+/// Puts a run of so many processors, whose pages have so many words, where that is known, without its report.
+fn put_run(
+    text: &mut Text,
+    alloc: Global,
+    processors: usize,
+    words: Option<usize>,
+    ended: &Ended,
+) -> Result<(), ExplainFault> {
+    if processors > MOST_PROCESSORS {
+        return Err(ExplainFault::OutOfRange);
+    }
+    let journal = journal_of(ended);
+    let shape = Shape {
+        processors,
+        addresses: journal.base().len(),
+        words,
+    };
+    let mut held = Held::new(alloc, processors)?;
+    put_story(text, &mut held, alloc, shape, journal)?;
+    if let Ended::Halted(_) = ended {
+        put_waits(text, &held, journal);
+    }
+    Ok(())
+}
+
+/// Adds the report's lines, where the run has one. The only error is running out of memory.
+fn put_report(text: &mut Vec<u8>, ended: &Ended) -> Result<(), ExplainFault>
+    ensures { OnOk result (text.new.items ≡ text.old.items ++ end_text ended.now) }
 {
+    let Ended::Whole(report) = ended else {
+        return Ok(());
+    };
     match render_report(report, false, text) {
         Ok(()) => Ok(()),
         Err(_) => Err(ExplainFault::NoMemory),
     }
 }
 
-/// The text of a run of so many processors, whose pages have so many words, where that is known.
+/// The whole text of the run.
 fn text_of(
     alloc: Global,
     processors: usize,
@@ -32,18 +71,11 @@ fn text_of(
 ) -> Result<Vec<u8>, ExplainFault>
     ensures { IfOk result (λ v. IsToldText ended.now v.items) }
 {
-    match ended {
-        Ended::Whole(report) => {
-            let story = story_of(alloc, processors, words, &report.journal)?;
-            let mut text = story.text.into_bytes();
-            put_report(&mut text, report)?;
-            Ok(text)
-        }
-        Ended::Halted(halt) => {
-            let text = halted_story(alloc, processors, words, &halt.journal)?;
-            Ok(text.into_bytes())
-        }
-    }
+    let mut text = Text::new(alloc);
+    put_run(&mut text, alloc, processors, words, ended)?;
+    let mut bytes = text.finish()?;
+    put_report(&mut bytes, ended)?;
+    Ok(bytes)
 }
 
 /// Writes the text and flushes the writer.
@@ -75,8 +107,8 @@ fn write_text<W: Write>(text: &[u8], out: &mut W) -> Result<(), ExplainFault>
 /// and a lane is at most 10 wide, so that sixteen lanes and numbers of eight digits take 200 columns. A longer label runs
 /// on. What stands to the right of the lanes doesn't count.
 ///
-/// It takes time and memory as `why::explain` does, with `words` time as `why::dues` does besides, and memory for the
-/// whole text.
+/// It takes time and memory as `why::loads`, `why::race` and `why::Ways` do, with `words` time as `why::dues` does besides,
+/// and memory for the whole text.
 ///
 /// # Errors
 ///

@@ -1,188 +1,118 @@
 //! The events of a run, told.
-use crate::earlier::{Earlier, stores_before};
+ghost use Rattle.std.specs.Prelude.{◌≤◌, length};
+ghost use Rattle.lists.specs.Prelude.{most_held, most_processors};
+ghost use Rattle.journal.specs.Prelude.{AddressesInRange, ProcessorsInRange};
+
 use crate::fault::ExplainFault;
-use crate::halting::{Halted, last_of};
+use crate::found::found_of;
 use crate::held::Held;
 use crate::history::{Numbers, are_in_range, history_of, numbers_of};
-use crate::journey::ways_to_loads;
-use crate::lacks::{MOST_PAGES, Stale, dues_of};
-use crate::layout::{Layout, Line, Titles, label_of, layout_of};
+use crate::lacks::Stale;
+use crate::layout::{Layout, layout_of};
 use crate::notes::Known;
 use crate::racing::Race;
-use journal::{Event, Journal, MOST_PROCESSORS};
+use crate::shape::Shape;
+use crate::text::Text;
+use journal::{Event, Journal};
 use std::alloc::{AllocError, Global};
-use why::{Due, Explanation, FirstRace, explain};
 
-/// What there is before an event.
-#[derive(Drop)]
-struct Before {
-    /// What is held.
-    held: Held,
-    /// Which copies of pages are stale.
-    stale: Stale,
-}
-
-/// Adds the line of the event at this place, before which there is this.
-fn put_event(
-    text: &mut String,
-    alloc: Global,
-    known: &Known<'_>,
-    layout: &Layout,
-    before: &Before,
-    place: usize,
-    event: Event,
-) -> Result<(), AllocError> {
-    let label = label_of(alloc, known.processors, event.kind)?;
-    let note = known.note(alloc, &before.held, &before.stale, place, event)?;
-    let line = Line {
-        layout,
-        number: known.numbers.of(place),
-        processor: event.processor,
-        label: &label,
-        note: &note,
-    };
-    write!(text, "{line}")
-}
-
-/// Adds a line for each event that isn't cut off, under the line of titles. Answers what is held at the end.
+/// Puts a line for each event that isn't cut off, under the line of titles. `held` is what is held before the first event,
+/// and then what is held at the end. The only error is running out of memory.
 fn put_events(
-    text: &mut String,
-    alloc: Global,
+    text: &mut Text,
+    held: &mut Held,
     known: &Known<'_>,
     layout: &Layout,
-) -> Result<Held, AllocError> {
-    let mut before = Before {
-        held: Held::new(alloc, known.processors)?,
-        stale: Stale::new(alloc, MOST_PAGES)?,
-    };
-    let titles = Titles(layout);
-    write!(text, "{titles}")?;
+) -> Result<(), AllocError> {
+    let mut stale = Stale::new();
+    layout.put_titles(text);
     for (place, event) in known.events.iter().enumerate() {
         if !known.numbers.is_cut(place) {
-            put_event(text, alloc, known, layout, &before, place, *event)?;
+            layout.put_event(text, known.numbers.of(place), *event);
+            known.put_note(text, held, &stale, place, *event);
+            text.end_line();
         }
-        before.held.note(place, *event)?;
-        before.stale.note(*event, known.dues(place));
-    }
-    let Before { held, .. } = before;
-    Ok(held)
-}
-
-/// What is found of a history.
-#[derive(Drop)]
-struct Found {
-    told: Explanation,
-    earlier: Vec<Option<Earlier>>,
-    ways: Vec<Vec<usize>>,
-    dues: Vec<Vec<Due>>,
-}
-
-/// What is found of these events. OutOfRange where they aren't those of so many processors and addresses, or the pages have
-/// not so many words.
-fn found_of(
-    alloc: Global,
-    processors: usize,
-    addresses: usize,
-    words: Option<usize>,
-    events: &[Event],
-) -> Result<Found, ExplainFault> {
-    if !are_in_range(events, processors, addresses) {
-        return Err(ExplainFault::OutOfRange);
-    }
-    let told = explain(alloc, processors, addresses, events)?;
-    let earlier = stores_before(alloc, processors, addresses, events)?;
-    let ways = ways_to_loads(alloc, processors, events, &told.loads)?;
-    let dues = match words {
-        Some(words) => dues_of(alloc, processors, addresses, words, events)?,
-        None => Vec::new(alloc),
-    };
-    Ok(Found {
-        told,
-        earlier,
-        ways,
-        dues,
-    })
-}
-
-/// Adds how many events were cut off, where any was.
-fn put_cut(text: &mut String, cut: u64) -> Result<(), AllocError> {
-    if cut > 0 {
-        write!(text, "cut {cut}\n")?;
+        held.note(place, *event)?;
+        stale.note(*event, known.dues(place));
     }
     Ok(())
 }
 
-/// Adds the sentences on the race, where there is one, and an empty line before and after.
-fn put_race(text: &mut String, race: Option<Race<'_>>) -> Result<(), AllocError> {
-    match race {
-        Some(race) => write!(text, "\n{race}\n"),
-        None => text.push_str("\n"),
+/// Puts how many events were cut off, where any was.
+fn put_cut(text: &mut Text, cut: u64) {
+    if cut > 0 {
+        text.put_number("cut ", cut);
+        text.end_line();
     }
 }
 
-/// A run as far as it is told, and what is held at its end.
-#[derive(Drop)]
-pub struct Story {
-    pub text: String,
-    pub held: Held,
+/// Puts the sentences on the race, where there is one, and an empty line before and after.
+fn put_race(text: &mut Text, known: &Known<'_>) {
+    text.end_line();
+    if let Some(race) = known.found.race {
+        let race = Race {
+            numbers: known.numbers,
+            events: known.events,
+            race,
+        };
+        race.put(text);
+        text.end_line();
+    }
 }
 
-/// The events of a journal of so many processors, told, then the first race, and an empty line. `words` is how many words a
-/// page has, where that is known.
-pub fn story_of(
+/// Puts what is known of a history, and an empty line. The only error is running out of memory.
+fn put_known(
+    text: &mut Text,
+    held: &mut Held,
     alloc: Global,
-    processors: usize,
-    words: Option<usize>,
-    journal: &Journal,
-) -> Result<Story, ExplainFault> {
-    if processors > MOST_PROCESSORS {
-        return Err(ExplainFault::OutOfRange);
-    }
-    let numbers = numbers_of(processors, journal);
-    let history = history_of(alloc, numbers.opening, journal)?;
-    let found = found_of(alloc, processors, journal.base().len(), words, &history)?;
-    let known = Known {
-        numbers,
-        processors,
-        events: &history,
-        loads: &found.told.loads,
-        earlier: &found.earlier,
-        ways: &found.ways,
-        dues: &found.dues,
-    };
-    Ok(told(alloc, &known, found.told.race)?)
-}
-
-/// The same of what is known of its history.
-fn told(alloc: Global, known: &Known<'_>, race: Option<FirstRace>) -> Result<Story, AllocError> {
+    known: &Known<'_>,
+) -> Result<(), AllocError> {
     let last = known.numbers.of(known.events.len().saturating_sub(1));
     let layout = layout_of(alloc, known.processors, known.events, last)?;
-    let mut text = String::new(alloc);
-    put_cut(&mut text, known.numbers.cut)?;
-    let held = put_events(&mut text, alloc, known, &layout)?;
-    let race = race.map(|race| Race {
-        numbers: known.numbers,
-        events: known.events,
-        race,
-    });
-    put_race(&mut text, race)?;
-    Ok(Story { text, held })
+    put_cut(text, known.numbers.cut);
+    put_events(text, held, known, &layout)?;
+    put_race(text, known);
+    Ok(())
 }
 
-/// The same of a run that can't go on, and what each processor waits for.
-pub fn halted_story(
+/// Puts these events of a run of this shape, then the first race, and an empty line.
+fn put_history(
+    text: &mut Text,
+    held: &mut Held,
     alloc: Global,
-    processors: usize,
-    words: Option<usize>,
-    journal: &Journal,
-) -> Result<String, ExplainFault> {
-    let Story { mut text, held } = story_of(alloc, processors, words, journal)?;
-    let last = last_of(journal.events());
-    let halted = Halted {
-        held: &held,
-        last: &last,
-        is_cut: journal.cut_events() > 0,
+    shape: Shape,
+    numbers: Numbers,
+    events: &[Event],
+) -> Result<(), ExplainFault>
+    requires few { length events.now ≤ most_held }
+    requires few_processors { shape.processors ≤ most_processors }
+    requires addresses { AddressesInRange shape.addresses events.now }
+    requires processors { ProcessorsInRange shape.processors events.now }
+{
+    let found = found_of(alloc, shape, events)?;
+    let known = Known {
+        numbers,
+        processors: shape.processors,
+        events,
+        found: &found,
     };
-    write!(text, "{halted}")?;
-    Ok(text)
+    put_known(text, held, alloc, &known)?;
+    Ok(())
+}
+
+/// Puts the events of the journal of a run of this shape, then the first race, and an empty line. `held` is what is held
+/// before the first event, and then what is held at the end. OutOfRange where the shape can't have the events.
+pub fn put_story(
+    text: &mut Text,
+    held: &mut Held,
+    alloc: Global,
+    shape: Shape,
+    journal: &Journal,
+) -> Result<(), ExplainFault> {
+    let numbers = numbers_of(shape.processors, journal);
+    let events = history_of(alloc, numbers.opening, journal)?;
+    if !are_in_range(&events, shape.processors, shape.addresses) {
+        return Err(ExplainFault::OutOfRange);
+    }
+    put_history(text, held, alloc, shape, numbers, &events)
 }

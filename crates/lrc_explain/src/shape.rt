@@ -1,0 +1,10 @@
+//! Of what sizes a run is.
+
+/// How many processors and addresses a run has.
+#[derive(Clone, Copy)]
+pub struct Shape {
+    pub processors: usize,
+    pub addresses: usize,
+    /// How many words a page has, where that is known.
+    pub words: Option<usize>,
+}
