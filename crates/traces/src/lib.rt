@@ -15,9 +15,11 @@
 //! faults, and that memory isn't wanted needlessly.
 #![tactic(auto)]
 
+mod begun;
 pub mod fault;
 pub mod laws;
 mod line;
 mod names;
 mod range;
+pub mod reader;
 pub mod trace;
