@@ -7,7 +7,7 @@ use Rattle.journal.specs.Sizes.{Sizes}
 use Rattle.lrc_script.specs.Lawful.{AreSizes}
 use Rattle.lrc_script.specs.Faults.{HasLine}
 use Rattle.lrc_script.specs.Reading.{IsCut}
-use Rattle.lrc_script.proofs.Reading.Words.{HasNo, HasNo-append}
+use Rattle.lrc_script.proofs.Reading.Words.{HasNo}
 use Rattle.lrc_report.specs.ReportText.{event_line, event_lines}
 use Rattle.lrc_report.proofs.Lines.{lines_append}
 use Rattle.traces.specs.declared.fault.TraceFault.{TraceFault}
@@ -56,15 +56,37 @@ line_among before bytes line after cut =
     ∙ sym (append_assoc before (line ++ 10 ∷ []) after)
 
 -- a line that begins before these bytes
-pub line_joined : (before kept piece line after : List ℕ) → HasNo 10 kept → IsCut piece line after
+pub line_joined : (before kept piece line after : List ℕ) → IsCut piece line after
     → (before ++ kept) ++ piece ≡ (before ++ ((kept ++ line) ++ 10 ∷ [])) ++ after
-line_joined before kept piece line after clean cut =
-    append_assoc before kept piece
-    ∙ line_among before (kept ++ piece) (kept ++ line) after (record {
-      bytes_are =
-          ap (λ (x : List ℕ). kept ++ x) cut.bytes_are ∙ sym (append_assoc kept line (10 ∷ after));
-      one_line = HasNo-append 10 kept line clean cut.one_line;
-    })
+line_joined before kept piece line after cut =
+    line_among (before ++ kept) piece line after cut
+    ∙ ap (λ (x : List ℕ). x ++ after)
+    (append_assoc before kept (line ++ 10 ∷ [])
+    ∙ ap (λ (x : List ℕ). before ++ x) (sym (append_assoc kept line (10 ∷ []))))
+
+-- nothing stands behind a line feed at the end
+fed : (xs : List ℕ) → HasNo 10 (xs ++ 10 ∷ []) → ⊥
+fed [] clean = clean.0 refl
+fed (x ∷ xs) clean = fed xs clean.1
+
+pub nothing_behind : (xs ys rest : List ℕ) → HasNo 10 rest → xs ++ rest ≡ ys ++ 10 ∷ [] → rest ≡ []
+nothing_behind [] ys rest clean same = absurd (fed ys (subst (HasNo 10) same clean))
+nothing_behind (x ∷ xs) [] [] clean same = refl
+nothing_behind (x ∷ xs) [] (r ∷ rest) clean same =
+    absurd (omega (arith, ap (λ (t : List ℕ). length t) same, length-append xs (r ∷ rest)))
+nothing_behind (x ∷ xs) (y ∷ ys) rest clean same =
+    nothing_behind xs ys rest clean (let others : xs ++ rest ≡ ys ++ 10 ∷ [] = cc in others)
+
+-- where that line was read, what is read and what stands behind it are all the bytes
+pub joined_read : (before kept piece line after now left : List ℕ) → IsCut piece line after → HasNo 10 left
+    → now ++ left ≡ before ++ ((kept ++ line) ++ 10 ∷ []) → now ++ after ≡ (before ++ kept) ++ piece
+joined_read before kept piece line after now left cut clean same =
+    let none : left ≡ [] =
+    nothing_behind now (before ++ (kept ++ line)) left clean
+    (same ∙ sym (append_assoc before (kept ++ line) (10 ∷ []))) in
+    let whole : now ≡ before ++ ((kept ++ line) ++ 10 ∷ []) =
+    sym (append-nil now) ∙ ap (λ (x : List ℕ). now ++ x) (sym none) ∙ same in
+    ap (λ (x : List ℕ). x ++ after) whole ∙ sym (line_joined before kept piece line after cut)
 
 -- ---- a line that adds no event
 

@@ -1,6 +1,7 @@
 //! The lines of a trace's text, as they come: what those so far are, and what comes next.
 ghost use Rattle.std.specs.Prelude.{◌≡◌, [], ◌∷◌, ◌++◌, IfOk, IfErr, OnOk};
 ghost use Rattle.lrc_script.specs.Prelude.{HasNoLineFeed};
+ghost use Rattle.traces.specs.declared.fault.TraceFault.TheVariants.{Truncated};
 ghost use Rattle.traces.specs.Prelude.{HasNoSizes, HasSizes, IsBegun, IsFault, IsLastingFault, IsNoOther};
 ghost use Rattle.traces.specs.Prelude.{IsNoTrace, IsTrace, begun_text, number_after, sizes_of, text};
 
@@ -44,7 +45,7 @@ pub fn next_number(begun: &Option<Trace>) -> usize
 }
 
 /// Reads the next line, of which the line feed isn't there.
-pub fn read_line(
+fn read_line(
     alloc: Global,
     begun: &mut Option<Trace>,
     line: &[u8],
@@ -85,6 +86,7 @@ pub fn read_lines<'a>(
     ensures text { IfOk result (λ rest. begun_text begun.new ++ rest.now ≡ begun_text begun.old ++ bytes.now) }
     ensures fault { IfErr result (λ e. IsLastingFault (begun_text begun.old ++ bytes.now) e.0 e.1) }
 {
+    // This is the one call of `read_line`: so the compiler puts all that reads a line into the loop.
     let mut rest = bytes;
     while let Some((line, after)) = split_line(rest) {
         read_line(alloc, begun, line)?;
@@ -101,6 +103,7 @@ pub fn end(begun: Option<Trace>, rest: &[u8]) -> Result<Trace, (usize, TraceFaul
         × (begun_text begun ++ rest.now ≡ text (sizes_of t.sizes) t.events.items)) }
     ensures again { IfOk result (λ t. IsNoOther (begun_text begun ++ rest.now) (sizes_of t.sizes) t.events.items) }
     ensures only { IfErr result (λ _. IsNoTrace (begun_text begun ++ rest.now)) }
+    ensures truncated { IfErr result (λ e. e.1 ≡ Truncated) }
     ensures fault { IfErr result (λ e. IsFault (begun_text begun ++ rest.now) e.0 e.1) }
 {
     if rest.is_empty() {

@@ -1,11 +1,11 @@
 //! The reader of a trace whose text comes in pieces.
 ghost use Rattle.std.specs.Prelude.{◌≡◌, ◌≢◌, [], ◌++◌, IfOk, IfErr, OnOk};
 ghost use Rattle.lrc_script.specs.Prelude.{HasNoLineFeed};
-ghost use Rattle.traces.specs.declared.fault.TraceFault.TheVariants.{NoMemory};
+ghost use Rattle.traces.specs.declared.fault.TraceFault.TheVariants.{NoMemory, Truncated};
 ghost use Rattle.traces.specs.Prelude.{BeginsText, IsBegun, IsFault, IsLastingFault, IsNoOther, IsNoTrace, IsTrace};
 ghost use Rattle.traces.specs.Prelude.{begun_text, sizes_of, text};
 
-use crate::begun::{end, next_number, read_line, read_lines};
+use crate::begun::{end, next_number, read_lines};
 use crate::fault::TraceFault;
 use crate::trace::Trace;
 use lrc_script::line::split_line;
@@ -64,12 +64,13 @@ fn read_piece(
     ensures fault { IfErr result (λ e. e.1 ≢ NoMemory
         → IsLastingFault ((begun_text begun.old ++ unfinished.old.items) ++ piece.now) e.0 e.1) }
 {
-    let Some((end, rest)) = split_line(piece) else {
+    let Some((end, behind)) = split_line(piece) else {
         return keep(begun, unfinished, piece);
     };
     keep(begun, unfinished, end)?;
-    read_line(alloc, begun, unfinished)?;
-    let rest = read_lines(alloc, begun, rest)?;
+    keep(begun, unfinished, b"\n")?;
+    read_lines(alloc, begun, unfinished)?;
+    let rest = read_lines(alloc, begun, behind)?;
     unfinished.clear();
     keep(begun, unfinished, rest)
 }
@@ -117,6 +118,7 @@ impl Reader {
             × (self ≡ text (sizes_of t.sizes) t.events.items)) }
         ensures again { IfOk result (λ t. IsNoOther self (sizes_of t.sizes) t.events.items) }
         ensures only { IfErr result (λ _. IsNoTrace self) }
+        ensures truncated { IfErr result (λ e. e.1 ≡ Truncated) }
         ensures fault { IfErr result (λ e. IsFault self e.0 e.1) }
     {
         let Reader { begun, unfinished } = self;
