@@ -127,12 +127,7 @@ const PLACES: [(&str, usize, TraceFault); 21] = [
 ];
 
 /// Whether the fault is found in this line, however the text is cut.
-fn is_found(
-    alloc: Global,
-    text: &str,
-    line: usize,
-    fault: TraceFault,
-) -> Result<bool, AllocError> {
+fn is_found(alloc: Global, text: &str, line: usize, fault: TraceFault) -> Result<bool, AllocError> {
     let bytes = bytes_of(alloc, text)?;
     for cut in CUTS {
         if read_cut(alloc, &bytes, cut).err() != Some((line, fault)) {

@@ -40,7 +40,13 @@ fn read_each(alloc: Global, bytes: &[u8], size: usize) -> Result<Trace, (usize, 
 /// Reads two pieces, with empty ones round them.
 fn read_two(alloc: Global, first: &[u8], second: &[u8]) -> Result<Trace, (usize, TraceFault)> {
     let mut reader = Reader::new(alloc);
-    for piece in [b"".as_slice(), first, b"".as_slice(), second, b"".as_slice()] {
+    for piece in [
+        b"".as_slice(),
+        first,
+        b"".as_slice(),
+        second,
+        b"".as_slice(),
+    ] {
         reader = reader.feed(alloc, piece)?;
     }
     reader.finish()

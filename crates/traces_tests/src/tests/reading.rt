@@ -218,9 +218,6 @@ fn the_longest_journal(rt: HostRuntime) -> Result<(), Fail> {
         assert!(rt; trace.events.as_slice() == journal.events());
     }
     bytes.extend_from_slice(b"event 2097152 0 arrive\n")?;
-    for cut in [Cut::Never, Cut::Each(1 << 16)] {
-        let fault = read_cut(rt.alloc(), &bytes, cut).err();
-        assert!(rt; fault == Some((2_097_154, TraceFault::TooLong)));
-    }
+    assert!(rt; read(rt.alloc(), &bytes).err() == Some((2_097_154, TraceFault::TooLong)));
     Ok(())
 }
