@@ -1,4 +1,3 @@
-use Rattle.std.proofs.Common.{◌≢◌}
 use Rattle.std.proofs.lemmas.Result.{IfErr-weaker, err_from_is_err_and}
 use Rattle.traces.proofs.Places.{fault_only, whole_fault}
 use Rattle.traces.proofs.trace.read.Goals as goal
