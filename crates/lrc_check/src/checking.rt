@@ -4,7 +4,7 @@ ghost use Rattle.std.specs.Io.KnownBytes.{Appends, Keeps};
 ghost use Rattle.traces.specs.Prelude.{IsNoTrace};
 ghost use Rattle.judge.specs.Prelude.{AreSmall};
 ghost use Rattle.judge.specs.Prelude.{sizes_of as judged_sizes};
-ghost use Rattle.traces.specs.Prelude.{IsTrace, head, sizes_of, text};
+ghost use Rattle.traces.specs.Prelude.{IsTrace, head, sizes_of};
 ghost use Rattle.lrc_script.specs.Prelude.{AreSizes};
 ghost use Rattle.lrc_check.specs.Prelude.{IsBeforeOutput, IsChecked, IsFoundOf, IsTraces};
 
@@ -45,18 +45,13 @@ fn write<W: Write>(out: &mut W, bytes: &[u8]) -> Result<(), OutFault>
     }
 }
 
-/// Reads the trace that has these bytes as its text, which is let go of then.
-fn read_text(alloc: Global, bytes: Vec<u8>) -> Result<Trace, CheckFault>
-    ensures found { IfOk result (λ t. IsTrace (sizes_of t.sizes) t.events.items
-        × (bytes.items ≡ text (sizes_of t.sizes) t.events.items)) }
-    ensures refused { IfErr result (λ fault. IsTraces fault → IsNoTrace bytes.items) }
-{
-    let trace = read(alloc, &bytes)?;
-    Ok(trace)
-}
-
-/// Judges the trace, and writes what was found.
-fn tell<W: Write>(
+/// Judges the trace, and writes what was found. `lax` leaves out what only this memory asks: that a lock's asks are
+/// granted in their order, and that fetches count their gaps.
+///
+/// # Errors
+///
+/// Nothing was written where memory ran out. After `Output` a beginning of the text may have been. `Trace` never comes.
+pub fn check_trace<W: Write>(
     alloc: Global,
     trace: &Trace,
     lax: bool,
@@ -74,13 +69,12 @@ fn tell<W: Write>(
     Ok(found)
 }
 
-/// Judges the trace that has these bytes as its text, and writes what was found. `lax` leaves out what only this
-/// memory asks: that a lock's asks are granted in their order, and that fetches count their gaps.
+/// Judges the trace that has these bytes as its text, and writes what was found, as `check_trace` does.
 ///
 /// # Errors
 ///
-/// `Trace` comes only where the bytes are the text of no trace, with the first line that has a fault; then nothing was
-/// written. Nothing was written either where memory ran out. After `Output` a beginning of the text may have been.
+/// As those of `check_trace`, and `Trace`: it comes only where the bytes are the text of no trace, with the first line that
+/// has a fault; then nothing was written.
 pub fn check<W: Write>(
     alloc: Global,
     bytes: &[u8],
@@ -95,26 +89,5 @@ pub fn check<W: Write>(
         (λ fault. IsBeforeOutput fault → Keeps (W.contents out.old) (W.contents out.new)) }
 {
     let trace = read(alloc, bytes)?;
-    tell(alloc, &trace, lax, out)
-}
-
-/// The same of a text that it may let go of: it does so as soon as the trace is read, and judges without it. So it
-/// takes at most what the text and the events take, or what the events and the judging take, where that is more.
-///
-/// # Errors
-///
-/// As those of `check`.
-pub fn check_text<W: Write>(
-    alloc: Global,
-    bytes: Vec<u8>,
-    lax: bool,
-    out: &mut W,
-) -> Result<Checked, CheckFault>
-    ensures found { IfOk result (IsFoundOf lax bytes.items) }
-    ensures refused { IfErr result (λ fault. IsTraces fault → IsNoTrace bytes.items) }
-    ensures early { IfErr result
-        (λ fault. IsBeforeOutput fault → Keeps (W.contents out.old) (W.contents out.new)) }
-{
-    let trace = read_text(alloc, bytes)?;
-    tell(alloc, &trace, lax, out)
+    check_trace(alloc, &trace, lax, out)
 }

@@ -7,8 +7,8 @@
 //!
 //! **What is proved.** `judge_history` answers Faithful only of a faithful history, with its first race and its traffic.
 //! Else it names the first event that no such memory makes: what stands before it is faithful, and with it nothing is,
-//! however it goes on; and why. `check` and `check_text` answer this of bytes, or a fault of a line only where they are
-//! no trace's.
+//! however it goes on; and why. `check_trace` answers this of a trace, and `check` of bytes, or a fault of a line only
+//! where they are no trace's.
 //!
 //! **What is only tested**, by whole runs of the program `lrc`. The text of what was found, and that no call allocates
 //! without need.
@@ -21,6 +21,6 @@ mod judging;
 mod text;
 
 pub use checked::{Checked, Unexplained};
-pub use checking::{check, check_text};
+pub use checking::{check, check_trace};
 pub use fault::CheckFault;
 pub use judging::judge_history;

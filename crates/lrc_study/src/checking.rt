@@ -1,32 +1,112 @@
 //! The program that judges traces, over its reader and its writers.
-ghost use Rattle.std.specs.Prelude.{◌≡◌, ◌≢◌, ◌⊎◌, IfErr, IfOk, IfSome};
-ghost use Rattle.std.specs.Io.KnownBytes.{Keeps};
-ghost use Rattle.lrc_study.specs.Prelude.{IsBeforeAnswer, IsFaithfulTrace, IsInputs, IsJudgedAs, IsNoTraceOf};
-ghost use Rattle.lrc_study.specs.Prelude.{IsUnfaithfulTrace, is_faithful_of};
+ghost use Rattle.std.specs.Prelude.{◌≡◌, ◌≢◌, ◌⊎◌, ℕ, ◌<◌, ◌≤◌, List, Option, IfErr, IfOk, length, take};
+ghost use Rattle.std.specs.Io.KnownBytes.{Consumes, IsAtEnd, Keeps};
+ghost use Rattle.traces.specs.Prelude.{IsTrace, sizes_of};
+ghost use Rattle.lrc_check.specs.Prelude.{IsTraces};
+ghost use Rattle.lrc_study.specs.Prelude.{HasText, IsBeforeAnswer, IsFaithfulTrace, IsInputs, IsJudgedAs, IsNoTraceOf};
+ghost use Rattle.lrc_study.specs.Prelude.{IsReadSoFar, IsUnfaithfulTrace, is_faithful_of};
 
 use crate::fault::StudyFault;
-use lrc_check::{Checked, check_text};
+use lrc_check::{CheckFault, Checked, check_trace};
 use lrc_options::options::TraceOptions;
-use std::alloc::Global;
-use std::io::{Read, Write};
+use std::alloc::{AllocError, Global};
+use std::io;
+use std::io::{ErrorKind, Read, Write};
+use traces::fault::TraceFault;
+use traces::reader::Reader;
+use traces::trace::Trace;
 
 /// More bytes than the longest trace has, whose 2^21 events take less than 64 bytes each.
 const MOST_READ: usize = (1 << 27) + 128;
 
+/// How many bytes are read at once, at most.
+const PIECE: usize = 1 << 16;
+
 /// The exit status of a trace that isn't faithful.
 const UNFAITHFUL: u8 = 6;
 
-/// Reads all that the source has. What is longer than any trace is refused without its rest.
-fn read_trace<S: Read>(alloc: Global, source: &mut S) -> Result<Vec<u8>, StudyFault>
-    ensures read { IfOk result (λ v. IfSome (S.remaining source.old) (λ xs. v.items ≡ xs)) }
-    ensures refused { IfErr result (λ fault. IsInputs fault → ⊥) }
+/// What is read of a trace so far, or its first line with a fault.
+type Reading = Result<Reader, (usize, TraceFault)>;
+
+/// Reads some bytes, and none at the end alone. A read that a signal broke off is made again.
+fn read_some<S: Read>(source: &mut S, piece: &mut [u8]) -> io::Result<usize>
+    requires { 0 < length piece.old }
+    ensures bound { IfOk result (λ n. n ≤ length piece.new) }
+    ensures bytes { IfOk result (λ n. Consumes (S.remaining source.old) (S.remaining source.new) (take n piece.new)) }
+    ensures end { IfOk result (λ n. n ≡ 0 → IsAtEnd (S.remaining source.new)) }
 {
-    let mut bytes = Vec::new(alloc);
-    source.take(MOST_READ as u64).read_to_end(&mut bytes)?;
-    if bytes.len() >= MOST_READ {
-        return Err(StudyFault::Long);
+    for _ in 0..u64::MAX {
+        match source.read(piece) {
+            Ok(count) => return Ok(count),
+            Err(error) => {
+                if error.kind() != ErrorKind::Interrupted {
+                    return Err(error);
+                }
+            }
+        }
     }
-    Ok(bytes)
+    Err(io::Error::from(ErrorKind::Interrupted))
+}
+
+/// Takes the next piece of a trace. What comes behind a line with a fault changes nothing.
+fn feed(alloc: Global, reading: Reading, piece: &[u8]) -> Reading
+    ensures { (source left after : Option (List ℕ)) → IsReadSoFar source left reading
+        → Consumes left after piece.now → IsReadSoFar source after result }
+{
+    reading?.feed(alloc, piece)
+}
+
+/// What was read after the last piece.
+fn finish(reading: Reading) -> Result<Trace, CheckFault>
+    ensures trace { IfOk result (λ t. IsTrace (sizes_of t.sizes) t.events.items) }
+    ensures text { IfOk result (λ t. (source left : Option (List ℕ)) → IsReadSoFar source left reading
+        → IsAtEnd left → HasText source (sizes_of t.sizes) t.events.items) }
+    ensures refused { IfErr result (λ fault. IsTraces fault → (source left : Option (List ℕ))
+        → IsReadSoFar source left reading → IsAtEnd left → IsNoTraceOf source) }
+{
+    let trace = reading?.finish()?;
+    Ok(trace)
+}
+
+/// Reads a trace, all that the source has, a piece at a time. What is longer than any trace is refused without its rest.
+fn read_pieces<S: Read>(
+    alloc: Global,
+    source: &mut S,
+    piece: &mut [u8],
+) -> Result<Trace, StudyFault>
+    requires { 0 < length piece.old }
+    ensures trace { IfOk result (λ t. IsTrace (sizes_of t.sizes) t.events.items) }
+    ensures text { IfOk result (λ t. HasText (S.remaining source.old) (sizes_of t.sizes) t.events.items) }
+    ensures refused { IfErr result (λ fault. IsInputs fault → IsNoTraceOf (S.remaining source.old)) }
+{
+    let mut reading = Ok(Reader::new(alloc));
+    let mut total = 0;
+    while total < MOST_READ {
+        let count = read_some(source, piece)?;
+        if count == 0 {
+            return Ok(finish(reading)?);
+        }
+        reading = feed(alloc, reading, &piece[..count]);
+        total += count;
+    }
+    Err(StudyFault::Long)
+}
+
+/// Room for so many bytes.
+fn room(alloc: Global, size: usize) -> Result<Vec<u8>, AllocError>
+    ensures { IfOk result (λ v. length v.items ≡ size) }
+{
+    vec![in alloc; 0; size]
+}
+
+/// Reads a trace, so that its text is never there as a whole.
+fn read_trace<S: Read>(alloc: Global, source: &mut S) -> Result<Trace, StudyFault>
+    ensures trace { IfOk result (λ t. IsTrace (sizes_of t.sizes) t.events.items) }
+    ensures text { IfOk result (λ t. HasText (S.remaining source.old) (sizes_of t.sizes) t.events.items) }
+    ensures refused { IfErr result (λ fault. IsInputs fault → IsNoTraceOf (S.remaining source.old)) }
+{
+    let mut piece = room(alloc, PIECE)?;
+    read_pieces(alloc, source, &mut piece)
 }
 
 /// Whether what was found is that the trace is faithful.
@@ -40,7 +120,7 @@ fn is_faithful(found: &Checked) -> bool
 }
 
 /// Reads a trace, judges it and writes what was found: whether it is faithful.
-fn check_trace<S: Read, W: Write>(
+fn check_source<S: Read, W: Write>(
     alloc: Global,
     lax: bool,
     source: &mut S,
@@ -51,8 +131,8 @@ fn check_trace<S: Read, W: Write>(
     ensures early { IfErr result
         (λ fault. IsBeforeAnswer fault → Keeps (W.contents out.old) (W.contents out.new)) }
 {
-    let bytes = read_trace(alloc, source)?;
-    let found = check_text(alloc, bytes, lax, out)?;
+    let trace = read_trace(alloc, source)?;
+    let found = check_trace(alloc, &trace, lax, out)?;
     Ok(is_faithful(&found))
 }
 
@@ -77,7 +157,7 @@ pub fn check_program<S: Read, W: Write, E: Write>(
     // Where a trace was judged, no line goes to the error output.
     ensures quiet { (result ≡ 0) ⊎ (result ≡ 6) → Keeps (E.contents err.old) (E.contents err.new) }
 {
-    match check_trace(alloc, options.lax, source, out) {
+    match check_source(alloc, options.lax, source, out) {
         Ok(true) => 0,
         Ok(false) => UNFAITHFUL,
         Err(fault) => fault.say(alloc, options.file.as_deref(), err),

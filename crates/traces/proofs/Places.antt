@@ -1,5 +1,5 @@
 -- Reading from line to line through the bytes of a trace.
-use Rattle.std.proofs.Common.{◌≡◌, ◌≢◌, ℕ, ◌+◌, ◌<◌, List, [], ◌∷◌, ◌++◌, length, refl, sym, ap, subst, ◌∙◌, append_assoc, append-nil, arith, inl, inr}
+use Rattle.std.proofs.Common.{◌≡◌, ◌≢◌, ℕ, ◌+◌, ◌<◌, List, [], ◌∷◌, ◌++◌, Option, Some, None, length, refl, sym, ap, subst, ◌∙◌, append_assoc, append-nil, arith, inl, inr}
 use Rattle.std.proofs.lemmas.List.{length-append}
 use Rattle.std.proofs.lemmas.List.Elements.{All-nil, All-push}
 use Rattle.journal.specs.declared.event.Event.{Event}
@@ -12,11 +12,13 @@ use Rattle.lrc_report.specs.ReportText.{event_line, event_lines}
 use Rattle.lrc_report.proofs.Lines.{lines_append}
 use Rattle.traces.specs.declared.fault.TraceFault.{TraceFault}
 use Rattle.traces.specs.declared.fault.TraceFault.TheVariants.{Truncated, NoMemory}
-use Rattle.traces.specs.Sizes.{head}
+use Rattle.traces.specs.declared.trace.Trace.{Trace}
+use Rattle.traces.specs.Sizes.{head, sizes_of}
 use Rattle.traces.specs.Text.{head_line, text}
 use Rattle.traces.specs.Lawful.{IsNoTrace, IsTrace, IsWithin}
+use Rattle.traces.specs.Begun.{IsBegun, begun_text, number_after}
 use Rattle.traces.specs.Lines.{IsAdded}
-use Rattle.traces.specs.Faults.{BeginsText, HasNoSizes, HasSizes, HeadSays, IsBadLine, IsFault, IsFaultAt, IsFaultBehind, IsHeadFault, LineSays, Refuses}
+use Rattle.traces.specs.Faults.{BeginsText, HasNoSizes, HasSizes, HeadSays, IsBadLine, IsFault, IsFaultBehind, IsHeadFault, IsLastingFault, LineSays, Refuses}
 use Rattle.traces.proofs.Never.{never_begins}
 use Rattle.traces.proofs.Texts.{first_due, text_ends, text_feeds}
 
@@ -34,23 +36,57 @@ added_trace s es fs line h a =
       events = All-push (IsWithin s) es a.event h.events a.within;
     })
 
-pub added_text : (s : Sizes) (es fs : List Event) (bytes rest line more : List ℕ) → bytes ≡ event_lines 0 es ++ rest
-    → IsCut rest line more → IsAdded s es line fs → bytes ≡ event_lines 0 fs ++ more
-added_text s es fs bytes rest line more whole cut a =
+pub added_text : (s : Sizes) (es fs : List Event) (line : List ℕ) → IsAdded s es line fs
+    → text s fs ≡ text s es ++ (line ++ 10 ∷ [])
+added_text s es fs line a =
     let lines : event_lines 0 fs ≡ event_lines 0 es ++ (line ++ 10 ∷ []) =
     ap (event_lines 0) a.after_is ∙ lines_append 0 es (a.event ∷ [])
     ∙ ap (λ (x : List ℕ). event_lines 0 es ++ x)
     (append-nil (event_line (0 + length es) a.event)
     ∙ (let place : 0 + length es ≡ length es = omega arith in ap (λ (n : ℕ). event_line n a.event) place)
     ∙ sym a.line_is.line_is) in
-    whole ∙ ap (λ (x : List ℕ). event_lines 0 es ++ x) (cut.bytes_are ∙ sym (append_assoc line (10 ∷ []) more))
-    ∙ sym (append_assoc (event_lines 0 es) (line ++ 10 ∷ []) more)
-    ∙ ap (λ (x : List ℕ). x ++ more) (sym lines)
+    ap (λ (x : List ℕ). head_line s ++ x) lines
+    ∙ sym (append_assoc (head_line s) (event_lines 0 es) (line ++ 10 ∷ []))
 
--- the bytes grow shorter
-pub cut_shorter : (now line rest : List ℕ) → IsCut now line rest → length rest < length now
-cut_shorter now line rest cut =
-    omega (arith, ap (λ (x : List ℕ). length x) cut.bytes_are, length-append line (10 ∷ rest))
+-- a line among the bytes, and what stands behind it
+pub line_among : (before bytes line after : List ℕ) → IsCut bytes line after
+    → before ++ bytes ≡ (before ++ (line ++ 10 ∷ [])) ++ after
+line_among before bytes line after cut =
+    ap (λ (x : List ℕ). before ++ x) (cut.bytes_are ∙ sym (append_assoc line (10 ∷ []) after))
+    ∙ sym (append_assoc before (line ++ 10 ∷ []) after)
+
+-- a line that begins before these bytes
+pub line_joined : (before kept piece line after : List ℕ) → IsCut piece line after
+    → (before ++ kept) ++ piece ≡ (before ++ ((kept ++ line) ++ 10 ∷ [])) ++ after
+line_joined before kept piece line after cut =
+    line_among (before ++ kept) piece line after cut
+    ∙ ap (λ (x : List ℕ). x ++ after)
+    (append_assoc before kept (line ++ 10 ∷ [])
+    ∙ ap (λ (x : List ℕ). before ++ x) (sym (append_assoc kept line (10 ∷ []))))
+
+-- nothing stands behind a line feed at the end
+fed : (xs : List ℕ) → HasNo 10 (xs ++ 10 ∷ []) → ⊥
+fed [] clean = clean.0 refl
+fed (x ∷ xs) clean = fed xs clean.1
+
+pub nothing_behind : (xs ys rest : List ℕ) → HasNo 10 rest → xs ++ rest ≡ ys ++ 10 ∷ [] → rest ≡ []
+nothing_behind [] ys rest clean same = absurd (fed ys (subst (HasNo 10) same clean))
+nothing_behind (x ∷ xs) [] [] clean same = refl
+nothing_behind (x ∷ xs) [] (r ∷ rest) clean same =
+    absurd (omega (arith, ap (λ (t : List ℕ). length t) same, length-append xs (r ∷ rest)))
+nothing_behind (x ∷ xs) (y ∷ ys) rest clean same =
+    nothing_behind xs ys rest clean (let others : xs ++ rest ≡ ys ++ 10 ∷ [] = cc in others)
+
+-- where that line was read, what is read and what stands behind it are all the bytes
+pub joined_read : (before kept piece line after now left : List ℕ) → IsCut piece line after → HasNo 10 left
+    → now ++ left ≡ before ++ ((kept ++ line) ++ 10 ∷ []) → now ++ after ≡ (before ++ kept) ++ piece
+joined_read before kept piece line after now left cut clean same =
+    let none : left ≡ [] =
+    nothing_behind now (before ++ (kept ++ line)) left clean
+    (same ∙ sym (append_assoc before (kept ++ line) (10 ∷ []))) in
+    let whole : now ≡ before ++ ((kept ++ line) ++ 10 ∷ []) =
+    sym (append-nil now) ∙ ap (λ (x : List ℕ). now ++ x) (sym none) ∙ same in
+    ap (λ (x : List ℕ). x ++ after) whole ∙ sym (line_joined before kept piece line after cut)
 
 -- ---- a line that adds no event
 
@@ -74,32 +110,7 @@ refused_behind NoMemory s es rest line more h cut says = has_line rest line more
 refused_behind Truncated s es rest line more h cut says = absurd says.3
 refused_behind f s es rest line more h cut says = bad_line f s es rest line more h cut says
 
--- a fault behind these events
-pub fault_at : (f : TraceFault) (s : Sizes) (es : List Event) (bytes rest : List ℕ) (n : ℕ) → IsTrace s es
-    → bytes ≡ event_lines 0 es ++ rest → n ≡ length es + 2 → IsFaultBehind f s es rest
-    → IsFaultAt s (head_line s ++ bytes) n f
-fault_at f s es bytes rest n h whole number behind = record {
-  events = es;
-  rest = rest;
-  begun = h;
-  whole =
-      ap (λ (x : List ℕ). head_line s ++ x) whole ∙ sym (append_assoc (head_line s) (event_lines 0 es) rest);
-  number = number;
-  behind = behind;
-}
-
 -- ---- the first line
-
--- what stands behind the sizes
-pub behind_head : (s : Sizes) (bytes line rest : List ℕ) → IsCut bytes line rest → HasSizes line s
-    → bytes ≡ head_line s ++ rest
-behind_head s bytes line rest cut h =
-    cut.bytes_are ∙ sym (append_assoc line (10 ∷ []) rest) ∙ ap (λ (x : List ℕ). x ++ rest) h.line_is
-
-pub whole_text : (s : Sizes) (es : List Event) (bytes line rest : List ℕ) → IsCut bytes line rest → HasSizes line s
-    → rest ≡ event_lines 0 es → bytes ≡ text s es
-whole_text s es bytes line rest cut h is =
-    behind_head s bytes line rest cut h ∙ ap (λ (x : List ℕ). head_line s ++ x) is
 
 sizeless : (line : List ℕ) → HasNo 10 line → ((s : Sizes) → ¬ HasSizes line s) → BeginsText (line ++ 10 ∷ []) → ⊥
 sizeless line clean none begins =
@@ -151,8 +162,59 @@ pub fault_only : (f : TraceFault) (bytes : List ℕ) (n : ℕ) → IsFault bytes
 fault_only f bytes n (inl h) ne = head_only f bytes ne h.1
 fault_only f bytes n (inr h) ne = behind_only f h.0 h.1.events h.1.rest bytes ne h.1.begun h.1.whole h.1.behind
 
--- a fault of what stands behind the sizes
-pub fault_among : (f : TraceFault) (s : Sizes) (bytes line rest : List ℕ) (n : ℕ) → IsCut bytes line rest
-    → HasSizes line s → IsFaultAt s (head_line s ++ rest) n f → IsFault bytes n f
-fault_among f s bytes line rest n cut h at =
-    inr (s, subst (λ (x : List ℕ). IsFaultAt s x n f) (sym (behind_head s bytes line rest cut h)) at)
+-- ---- a fault that lasts, however the bytes go on
+
+cut_off : (line more : List ℕ) → HasNo 10 line → IsCut ((line ++ 10 ∷ []) ++ more) line more
+cut_off line more clean = record { bytes_are = append_assoc line (10 ∷ []) more; one_line = clean }
+
+pub first_fault : (f : TraceFault) (line : List ℕ) → HasNo 10 line → HasNoSizes f line
+    → IsLastingFault (line ++ 10 ∷ []) 1 f
+first_fault f line clean h more =
+    inl (refl, head_fault f ((line ++ 10 ∷ []) ++ more) line more (cut_off line more clean) h)
+
+pub next_fault : (f : TraceFault) (s : Sizes) (es : List Event) (line : List ℕ) → IsTrace s es → HasNo 10 line
+    → Refuses f s es line → IsLastingFault (text s es ++ (line ++ 10 ∷ [])) (length es + 2) f
+next_fault f s es line h clean says more =
+    let rest = (line ++ 10 ∷ []) ++ more in
+    inr (
+      s,
+      record {
+        events = es;
+        rest = rest;
+        begun = h;
+        whole = append_assoc (text s es) (line ++ 10 ∷ []) more;
+        number = refl;
+        behind = refused_behind f s es rest line more h (cut_off line more clean) says;
+      },
+    )
+
+pub fault_longer : (f : TraceFault) (n : ℕ) (front more bytes : List ℕ) → bytes ≡ front ++ more
+    → IsLastingFault front n f → IsLastingFault bytes n f
+fault_longer f n front more bytes whole h after =
+    subst (λ (x : List ℕ). IsFault x n f)
+    (sym (append_assoc front more after) ∙ ap (λ (x : List ℕ). x ++ after) (sym whole)) (h (more ++ after))
+
+-- the last line has no line feed
+pub rest_fault : (begun : Option Trace) (rest : List ℕ) → IsBegun begun → HasNo 10 rest → 0 < length rest
+    → IsFault (begun_text begun ++ rest) (number_after begun) Truncated
+rest_fault None rest h clean some = inl (refl, clean)
+rest_fault (Some t) rest h clean some =
+    inr (
+      sizes_of t.sizes,
+      record {
+        events = t.events.items;
+        rest = rest;
+        begun = h;
+        whole = refl;
+        number = refl;
+        behind = (clean, some);
+      },
+    )
+
+-- no trace has a text that begins with such bytes
+pub never_begun : (f : TraceFault) (bytes : List ℕ) (n : ℕ) → f ≢ NoMemory → IsLastingFault bytes n f
+    → ¬ BeginsText bytes
+never_begun f bytes n ne h b = fault_only f (bytes ++ b.3) n (h b.3) ne b.0 b.1 b.2 (sym b.4)
+
+pub whole_fault : (f : TraceFault) (bytes : List ℕ) (n : ℕ) → IsLastingFault bytes n f → IsFault bytes n f
+whole_fault f bytes n h = subst (λ (x : List ℕ). IsFault x n f) (append-nil bytes) (h [])

@@ -118,3 +118,7 @@ pub record IsFaultAt (s : Sizes) (bytes : List ℕ) (n : ℕ) (fault : TraceFaul
 -- line 1 has the fault, or a later line
 abbrev pub IsFault : List ℕ → ℕ → TraceFault → Type 0
 IsFault bytes n fault = ((n ≡ 1) × IsHeadFault fault bytes) ⊎ ((s : Sizes) × IsFaultAt s bytes n fault)
+
+-- however the bytes go on, line n has the fault
+abbrev pub IsLastingFault : List ℕ → ℕ → TraceFault → Type 0
+IsLastingFault bytes n fault = (more : List ℕ) → IsFault (bytes ++ more) n fault

@@ -1,6 +1,7 @@
 pub mod Sizes
 pub mod Text
 pub mod Lawful
+pub mod Begun
 pub mod Names
 pub mod Lines
 pub mod Faults

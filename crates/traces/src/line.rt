@@ -62,6 +62,8 @@ fn words_of(line: &[u8]) -> Option<Words<'_>>
 }
 
 /// What an event of this name did, where the words are numbers, and as many as stand behind the name.
+// Within the loop over lines its answer doesn't go through memory, which is some 20 instructions a line.
+#[inline(always)]
 fn kind_of(alloc: Global, name: Name, words: Option<&[u8]>) -> Option<Kind>
     ensures { IfSome result (GivesKind name (parts_left 32 words.entry)) }
 {

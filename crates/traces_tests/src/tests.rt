@@ -2,6 +2,7 @@
 
 mod faults;
 mod growths;
+mod pieces;
 mod reading;
 
 use std::alloc::{AllocError, Global};

@@ -1,6 +1,7 @@
 //! Each fault, with its line and its text.
 
 use super::bytes_of;
+use super::pieces::{CUTS, read_cut};
 use std::alloc::{AllocError, Global};
 use std::test::Fail;
 use traces::fault::TraceFault;
@@ -125,14 +126,24 @@ const PLACES: [(&str, usize, TraceFault); 21] = [
     ),
 ];
 
+/// Whether the fault is found in this line, however the text is cut.
+fn is_found(alloc: Global, text: &str, line: usize, fault: TraceFault) -> Result<bool, AllocError> {
+    let bytes = bytes_of(alloc, text)?;
+    for cut in CUTS {
+        if read_cut(alloc, &bytes, cut).err() != Some((line, fault)) {
+            return Ok(false);
+        }
+    }
+    Ok(true)
+}
+
 /// The first row that isn't answered so.
 fn first_wrong<'a>(
     alloc: Global,
     rows: &[(&'a str, usize, TraceFault)],
 ) -> Result<Option<&'a str>, AllocError> {
     for (text, line, fault) in rows {
-        let bytes = bytes_of(alloc, text)?;
-        if read(alloc, &bytes).err() != Some((*line, *fault)) {
+        if !is_found(alloc, text, *line, *fault)? {
             return Ok(Some(*text));
         }
     }

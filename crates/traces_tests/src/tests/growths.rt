@@ -2,11 +2,12 @@
 //! memory is told with a line up to the trace's last, or the fault's.
 
 use super::bytes_of;
+use super::pieces::{Cut, read_cut};
 use std::alloc::{AllocError, Global};
 use std::process::Abort;
 use std::test::Fail;
 use traces::fault::TraceFault;
-use traces::trace::{Trace, read};
+use traces::trace::Trace;
 
 /// A trace in which many events are counted, and one with a flag.
 const TRACES: [(&str, usize); 3] = [
@@ -29,17 +30,21 @@ fn bytes_again(alloc: Global, text: &str) -> Result<Vec<u8>, AllocError> {
     }
 }
 
+/// How the bytes come: as a whole, and in pieces that end within a line.
+const CUTS: [Cut; 2] = [Cut::Never, Cut::Each(23)];
+
 /// Reads the bytes, and once more where a growth was refused: that is told with one of the first lines.
 fn read_again<R: Abort>(
     rt: &R,
     alloc: Global,
     bytes: &[u8],
+    cut: Cut,
     lines: usize,
 ) -> Result<Trace, (usize, TraceFault)> {
-    match read(alloc, bytes) {
+    match read_cut(alloc, bytes, cut) {
         Err((line, TraceFault::NoMemory)) => {
             assert!(rt; 1 <= line && line <= lines);
-            read(alloc, bytes)
+            read_cut(alloc, bytes, cut)
         }
         other => other,
     }
@@ -49,8 +54,10 @@ fn read_again<R: Abort>(
 fn traces_are_read(rt: HostRuntime) -> Result<(), Fail> {
     for (text, count) in TRACES {
         let bytes = bytes_again(rt.alloc(), text)?;
-        let read = read_again(&rt, rt.alloc(), &bytes, count + 1);
-        assert!(rt; read.is_ok_and(|trace| trace.events.len() == count));
+        for cut in CUTS {
+            let read = read_again(&rt, rt.alloc(), &bytes, cut, count + 1);
+            assert!(rt; read.is_ok_and(|trace| trace.events.len() == count));
+        }
     }
     Ok(())
 }
@@ -60,7 +67,9 @@ fn traces_are_read(rt: HostRuntime) -> Result<(), Fail> {
 fn faults_are_found(rt: HostRuntime) -> Result<(), Fail> {
     let text = "cluster 1 1 1 0/event 0 0 arrive/event 1 0 depart/event 2 0 ask 0/";
     let bytes = bytes_again(rt.alloc(), text)?;
-    let found = read_again(&rt, rt.alloc(), &bytes, 4).err();
-    assert!(rt; found == Some((4, TraceFault::BadLock)));
+    for cut in CUTS {
+        let found = read_again(&rt, rt.alloc(), &bytes, cut, 4).err();
+        assert!(rt; found == Some((4, TraceFault::BadLock)));
+    }
     Ok(())
 }

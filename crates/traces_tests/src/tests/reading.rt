@@ -3,6 +3,7 @@ ghost use Rattle.std.specs.Prelude.{◌≡◌, ◌<◌, IsTrue};
 ghost use Rattle.journal.specs.Prelude.{AddressInRange};
 
 use super::bytes_of;
+use super::pieces::{CUTS, Cut, read_cut};
 use journal::{Event, Journal, Kind, MOST_HELD, MOST_PROCESSORS};
 use lrc_report::Report;
 use lrc_report::render::render;
@@ -168,7 +169,7 @@ fn printed(alloc: Global, head: &str, journal: &Journal) -> Result<Vec<u8>, Fail
     Ok(bytes)
 }
 
-/// Checks that what is printed of the journal is read as these sizes and its events.
+/// Checks that what is printed of the journal is read as these sizes and its events, however it is cut.
 fn check<R: Abort>(
     rt: &R,
     alloc: Global,
@@ -177,9 +178,11 @@ fn check<R: Abort>(
     journal: &Journal,
 ) -> Result<(), Fail> {
     let bytes = printed(alloc, head, journal)?;
-    let trace = read(alloc, &bytes).map_err(|_| "not read")?;
-    assert!(rt; trace.sizes == sizes);
-    assert!(rt; trace.events.as_slice() == journal.events());
+    for cut in CUTS {
+        let trace = read_cut(alloc, &bytes, cut).map_err(|_| "not read")?;
+        assert!(rt; trace.sizes == sizes);
+        assert!(rt; trace.events.as_slice() == journal.events());
+    }
     Ok(())
 }
 
@@ -204,14 +207,16 @@ fn a_journal_that_was_cut(rt: HostRuntime) -> Result<(), Fail> {
     Ok(())
 }
 
-/// The longest journal is read, and one event more isn't.
+/// The longest journal is read, as a whole and in pieces, and one event more isn't.
 #[test]
 fn the_longest_journal(rt: HostRuntime) -> Result<(), Fail> {
     let rows = vec![in rt.alloc(); (0, Kind::Arrive); MOST_HELD]?;
     let journal = journal_of(&rt, rt.alloc(), 1, 1, &rows)?;
     let mut bytes = printed(rt.alloc(), "cluster 1 1 1 0/", &journal)?;
-    let trace = read(rt.alloc(), &bytes).map_err(|_| "not read")?;
-    assert!(rt; trace.events.as_slice() == journal.events());
+    for cut in [Cut::Never, Cut::Each(1 << 16)] {
+        let trace = read_cut(rt.alloc(), &bytes, cut).map_err(|_| "not read")?;
+        assert!(rt; trace.events.as_slice() == journal.events());
+    }
     bytes.extend_from_slice(b"event 2097152 0 arrive\n")?;
     assert!(rt; read(rt.alloc(), &bytes).err() == Some((2_097_154, TraceFault::TooLong)));
     Ok(())

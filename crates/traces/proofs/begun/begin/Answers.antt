@@ -1,5 +1,5 @@
 use Rattle.traces.proofs.Heads.{head_refused}
-use Rattle.traces.proofs.trace.read_head.Goals as goal
+use Rattle.traces.proofs.begun.begin.Goals as goal
 
 pub returns-in-Err-clause-fault : goal.returns-in-Err-clause-fault
 returns-in-Err-clause-fault c =
