@@ -13,6 +13,7 @@
 mod fault;
 mod hanging;
 mod history;
+mod numbers;
 mod outcomes;
 mod rendering;
 
