@@ -9,7 +9,7 @@ use lrc_script::script::{Instruction, Script};
 use std::alloc::{AllocError, Global};
 
 /// What a script says of one call of a processor.
-#[derive(Clone, Copy, Debug, PartialEq, Eq)]
+#[derive(Clone, Copy)]
 pub enum Step {
     /// It is this call; of a load with any reply.
     Call(Kind),

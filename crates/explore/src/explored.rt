@@ -2,7 +2,7 @@
 use journal::{Event, Kind};
 
 /// What all runs of a script on one flat memory come to.
-#[derive(Debug, Drop)]
+#[derive(Drop)]
 pub enum Verdict {
     /// No two accesses race, whatever the order.
     RaceFree {
@@ -18,14 +18,14 @@ pub enum Verdict {
 }
 
 /// What a whole run shows.
-#[derive(Debug, Drop, PartialEq, Eq, Hash)]
+#[derive(Drop, PartialEq, Eq, Hash)]
 pub struct Outcome {
     /// Of each processor, what its loads answered, in order. The last ones of processor 0 show the words at the end.
     pub replies: Vec<Vec<u32>>,
 }
 
 /// Events after which nothing can come, though not all processors are done.
-#[derive(Debug, Drop)]
+#[derive(Drop)]
 pub struct Hang {
     pub events: Vec<Event>,
     /// Of each processor, the event that would end its wait, if it waits.
@@ -33,7 +33,7 @@ pub struct Hang {
 }
 
 /// Events of which the last one races with an earlier one.
-#[derive(Debug, Drop)]
+#[derive(Drop)]
 pub struct RacyEvents {
     pub events: Vec<Event>,
     /// The place of the earlier access.
@@ -41,7 +41,7 @@ pub struct RacyEvents {
 }
 
 /// What was found, and how long it took.
-#[derive(Debug, Drop)]
+#[derive(Drop)]
 pub struct Explored {
     /// How many states were found.
     pub states: usize,

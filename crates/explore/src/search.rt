@@ -7,6 +7,7 @@ ghost use Rattle.explore.specs.Explored.{IsExplored, IsHangOf, IsVerdictOn, repl
 ghost use Rattle.explore.specs.Found.{AreFound, states_of};
 ghost use Rattle.explore.specs.Machines.{AreLawfulSteps};
 ghost use Rattle.explore.specs.Searched.{Hangs, IsAmong, IsLookedAt, IsLookedThrough, IsNoted, IsSearched, MayLook};
+ghost use Rattle.explore.specs.Room.{states_to_look_at};
 ghost use Rattle.explore.specs.Searched.{MayNote};
 
 use crate::explored::{Explored, Hang, Outcome, Verdict};
@@ -20,6 +21,7 @@ use beginnings::{Step, steps_of_script};
 use indexmap::IndexSet;
 use lrc_script::script::Script;
 use std::alloc::{AllocError, Global};
+use std::mem;
 
 /// What a search has found so far.
 #[derive(Drop)]
@@ -166,24 +168,79 @@ impl Search {
         }
     }
 
-    /// What is so where no two events conflict, and all states have been looked at. The only error is running out of
-    /// memory.
-    fn verdict(self, alloc: Global, script: &Script) -> Result<Verdict, AllocError>
+    /// What is so where no two events conflict, and all states have been looked at; the outcomes are gone then. The only
+    /// error is running out of memory.
+    fn race_free(&mut self, alloc: Global, script: &Script) -> Result<Verdict, AllocError>
         requires lawful { IsLawful (plan_of script.now) }
-        requires searched { IsSearched (plan_of script.now) self (length (states_of self.found)) }
+        requires searched { IsSearched (plan_of script.now) self.old (length (states_of self.old.found)) }
         ensures { IfOk result (λ v. (most states : ℕ) → IsVerdictOn (plan_of script.now) most states v) }
     {
         let hang = self.hang(alloc, script)?;
-        let Search {
-            found: _,
-            outcomes,
-            hang: _,
-        } = self;
-        Ok(Verdict::RaceFree {
-            outcomes: listed(alloc, outcomes)?,
-            hang,
-        })
+        let outcomes = mem::replace(&mut self.outcomes, IndexSet::new(alloc));
+        let outcomes = listed(alloc, outcomes)?;
+        Ok(Verdict::RaceFree { outcomes, hang })
     }
+
+    /// What is so once the states have been looked at, where `most` were asked for and these two events conflict, or none
+    /// do; the outcomes are gone then. The only error is running out of memory.
+    fn verdict(
+        &mut self,
+        alloc: Global,
+        script: &Script,
+        steps: &[Vec<Step>],
+        most: usize,
+        neighbours: Option<Neighbours>,
+    ) -> Result<Verdict, AllocError>
+        requires lawful { IsLawful (plan_of script.now) }
+        requires looked { IsLookedThrough (plan_of script.now) self.old steps.now
+            (states_to_look_at (plan_of script.now) most) neighbours }
+        ensures { IfOk result (IsVerdictOn (plan_of script.now) most (length (states_of self.old.found))) }
+    {
+        let most = states_to_look_at(script, most);
+        match neighbours {
+            Some(neighbours) => {
+                let racy = racy_events(alloc, script, steps, &self.found, neighbours)?;
+                Ok(Verdict::Racy(racy))
+            }
+            None if is_past(self.found.len(), most) => Ok(Verdict::Undecided),
+            None => self.race_free(alloc, script),
+        }
+    }
+
+    /// Looks at all states of the script as `explore` does, from the first one on; the outcomes are gone then.
+    fn answer<P: Progress>(
+        &mut self,
+        alloc: Global,
+        script: &Script,
+        steps: &[Vec<Step>],
+        most: usize,
+        progress: &mut P,
+    ) -> Result<Explored, AllocError>
+        requires steps { AreLawfulSteps (plan_of script.now) steps.now }
+        requires searched { IsSearched (plan_of script.now) self.old 0 }
+        requires few { length (states_of self.old.found) ≤ 1 }
+        ensures { IfOk result (IsExplored (plan_of script.now) most) }
+    {
+        let neighbours = self.look_at_all(steps, states_to_look_at(script, most), progress)?;
+        let states = self.found.len();
+        let verdict = self.verdict(alloc, script, steps, most, neighbours)?;
+        Ok(Explored { states, verdict })
+    }
+}
+
+/// Looks at all states of the script as `explore` does, by its steps.
+fn explore_steps<P: Progress>(
+    alloc: Global,
+    script: &Script,
+    steps: &[Vec<Step>],
+    most: usize,
+    progress: &mut P,
+) -> Result<Explored, AllocError>
+    requires { AreLawfulSteps (plan_of script.now) steps.now }
+    ensures { IfOk result (IsExplored (plan_of script.now) most) }
+{
+    let mut search = Search::new(alloc, script)?;
+    search.answer(alloc, script, steps, most, progress)
 }
 
 /// Looks at all states of the script on one flat memory, and says whether it races, what it can show, and whether it can
@@ -207,20 +264,5 @@ pub fn explore<P: Progress>(
     ensures { IfOk result (IsExplored (plan_of script.now) most) }
 {
     let steps = steps_of_script(alloc, script)?;
-    let mut search = Search::new(alloc, script)?;
-    let most = states_to_look_at(script, most);
-    let neighbours = search.look_at_all(&steps, most, progress)?;
-    let states = search.found.len();
-    let verdict = match neighbours {
-        Some(neighbours) => Verdict::Racy(racy_events(
-            alloc,
-            script,
-            &steps,
-            &search.found,
-            neighbours,
-        )?),
-        None if is_past(states, most) => Verdict::Undecided,
-        None => search.verdict(alloc, script)?,
-    };
-    Ok(Explored { states, verdict })
+    explore_steps(alloc, script, &steps, most, progress)
 }

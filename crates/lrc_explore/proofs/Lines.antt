@@ -1,7 +1,7 @@
 -- The lines of the events so far, and of one more.
 -- The lines of two lists are those of the first one and then those of the second one, numbered on (`lines_append` of
 -- lrc_report). Here the second one has one event.
-use Rattle.std.proofs.Common.{◌≡◌, ◌∙◌, ◌+◌, ℕ, List, [], ◌∷◌, ◌++◌, add-one, length, take, sym, ap, append-nil, arith}
+use Rattle.std.proofs.Common.{◌≡◌, ◌∙◌, ◌+◌, ℕ, List, [], ◌∷◌, ◌++◌, add-one, length, take, sym, ap, append-nil, append_assoc, arith}
 use Rattle.std.specs.Prelude.{Some, slice_get}
 use Rattle.std.proofs.lemmas.List.{length-take-le}
 use Rattle.std.proofs.lemmas.Option.{slice_get_within}
@@ -21,3 +21,12 @@ lines_more xs i x at =
     ∙ lines_append 0 (take i xs) (x ∷ [])
     ∙ ap (λ l. event_lines 0 (take i xs) ++ l)
     (append-nil (event_line (0 + length (take i xs)) x) ∙ ap (λ n. event_line n x) place))
+
+-- three texts, added one after the other
+pub added_three : (old a b c x y new : List ℕ) → x ≡ old ++ a → y ≡ x ++ b → new ≡ y ++ c
+    → new ≡ old ++ (a ++ (b ++ c))
+added_three old a b c x y new ex ey en =
+    en
+    ∙ ap (λ t. t ++ c) (ey ∙ ap (λ t. t ++ b) ex)
+    ∙ append_assoc (old ++ a) b c
+    ∙ append_assoc old a (b ++ c)

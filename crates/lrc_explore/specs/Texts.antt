@@ -35,14 +35,22 @@ IsHangText (Some hang) text =
 abbrev pub states_line : ℕ → List ℕ
 states_line states = codes "states " ++ decimal states ++ codes "\n"
 
+-- a search that was given up
+abbrev pub undecided_line : ℕ → List ℕ
+undecided_line states = codes "verdict undecided after " ++ decimal states ++ codes " states\n"
+
+-- a script that doesn't race: some lines on its outcomes, and whether it hangs
+abbrev pub IsRaceFreeText : Option Hang → List ℕ → Type 0
+IsRaceFreeText hang text = (outcomes hangs : List ℕ) × IsHangText hang hangs × (text ≡ outcomes ++ hangs)
+
 -- the text by its verdict: first its line, at the end how many states were found
 abbrev pub IsTextOf : ℕ → Verdict → List ℕ → Type 0
 IsTextOf states (verdict.RaceFree outcomes hang) text =
-    (found : List ℕ) × (text ≡ codes "verdict race-free under every schedule\n" ++ found ++ states_line states)
+    (found : List ℕ) × IsRaceFreeText hang found
+    × (text ≡ codes "verdict race-free under every schedule\n" ++ found ++ states_line states)
 IsTextOf states (verdict.Racy racy) text =
     text ≡ codes "verdict racy\n" ++ racy_lines racy.events.items racy.first ++ states_line states
-IsTextOf states verdict.Undecided text =
-    text ≡ codes "verdict undecided after " ++ decimal states ++ codes " states\n"
+IsTextOf states verdict.Undecided text = text ≡ undecided_line states
 
 abbrev pub IsToldText : Explored → List ℕ → Type 0
 IsToldText explored text = IsTextOf explored.states explored.verdict text

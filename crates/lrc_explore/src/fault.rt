@@ -4,7 +4,7 @@ use std::alloc::AllocError;
 use thiserror::Error;
 
 /// Why what was found wasn't told.
-#[derive(Clone, Copy, Debug, PartialEq, Eq, Error)]
+#[derive(Clone, Copy, Debug, Error)]
 pub enum ExploreFault {
     /// A write failed or took no byte, or the flush failed. A beginning of the text may be written.
     #[error("output failed")]

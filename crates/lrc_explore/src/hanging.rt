@@ -1,8 +1,9 @@
 //! What each processor waits for where a schedule can't go on.
 
+use crate::numbers::put_number;
 use explore::Hang;
 use journal::{Event, Kind};
-use std::fmt;
+use std::alloc::{AllocError, Global};
 
 /// Who holds the lock after these events.
 fn holder_after(events: &[Event], lock: usize) -> Option<usize> {
@@ -19,75 +20,71 @@ fn holder_after(events: &[Event], lock: usize) -> Option<usize> {
 
 /// How often the processor arrives among these events.
 fn arrivals_of(events: &[Event], processor: usize) -> usize {
-    let mut arrivals: usize = 0;
-    for event in events {
-        if event.processor == processor && event.kind == Kind::Arrive {
-            arrivals = arrivals.saturating_add(1);
-        }
-    }
-    arrivals
+    events
+        .iter()
+        .filter(|event| event.processor == processor && event.kind == Kind::Arrive)
+        .count()
 }
 
-/// A line for each processor that waits: what for.
-#[derive(Clone, Copy)]
-pub struct WaitLines<'a>(pub &'a Hang);
-
-impl WaitLines<'_> {
-    /// Writes who holds the lock.
-    fn put_holder<W: fmt::Write>(&self, f: &mut fmt::Formatter<W>, lock: usize) -> fmt::Result {
-        match holder_after(&self.0.events, lock) {
-            Some(holder) => write!(f, ", held by processor {holder}"),
-            None => Ok(()),
-        }
-    }
-
-    /// Writes who hasn't arrived as often as the processor.
-    fn put_missing<W: fmt::Write>(
-        &self,
-        f: &mut fmt::Formatter<W>,
-        processor: usize,
-    ) -> fmt::Result {
-        let arrivals = arrivals_of(&self.0.events, processor);
-        let mut front = " for";
-        for other in 0..self.0.waits.len() {
-            if arrivals_of(&self.0.events, other) < arrivals {
-                write!(f, "{front} processor {other}")?;
-                front = ",";
-            }
-        }
-        Ok(())
-    }
-
-    /// Writes what the processor waits for, which this event would end.
-    fn put_wait<W: fmt::Write>(
-        &self,
-        f: &mut fmt::Formatter<W>,
-        processor: usize,
-        awaited: Kind,
-    ) -> fmt::Result {
-        write!(f, "processor {processor} waits")?;
-        match awaited {
-            Kind::Acquire(lock) => {
-                write!(f, " for lock {lock}")?;
-                self.put_holder(f, lock)?;
-            }
-            Kind::Await(flag) => write!(f, " for flag {flag}, which nobody has set")?,
-            _ => {
-                f.write_str(" at the barrier")?;
-                self.put_missing(f, processor)?;
-            }
-        }
-        f.write_str("\n")
+/// Adds who holds the lock.
+fn put_holder(text: &mut Vec<u8>, events: &[Event], lock: usize) -> Result<(), AllocError> {
+    match holder_after(events, lock) {
+        Some(holder) => put_number(text, b", held by processor ", holder as u64),
+        None => Ok(()),
     }
 }
 
-impl fmt::Display for WaitLines<'_> {
-    fn fmt<W: fmt::Write>(&self, f: &mut fmt::Formatter<W>) -> fmt::Result {
-        for (processor, awaited) in self.0.waits.iter().enumerate() {
-            if let Some(kind) = *awaited {
-                self.put_wait(f, processor, kind)?;
-            }
+/// Adds who hasn't arrived as often as the processor.
+fn put_missing(text: &mut Vec<u8>, hang: &Hang, processor: usize) -> Result<(), AllocError> {
+    let arrivals = arrivals_of(&hang.events, processor);
+    let mut front: &[u8] = b" for processor ";
+    for other in 0..hang.waits.len() {
+        if arrivals_of(&hang.events, other) < arrivals {
+            put_number(text, front, other as u64)?;
+            front = b", processor ";
         }
-        Ok(())
     }
+    Ok(())
+}
+
+/// Adds what this event would end.
+fn put_awaited(
+    text: &mut Vec<u8>,
+    hang: &Hang,
+    processor: usize,
+    awaited: Kind,
+) -> Result<(), AllocError> {
+    match awaited {
+        Kind::Acquire(lock) => {
+            put_number(text, b" waits for lock ", lock as u64)?;
+            put_holder(text, &hang.events, lock)
+        }
+        Kind::Await(flag) => {
+            put_number(text, b" waits for flag ", flag as u64)?;
+            text.extend_from_slice(b", which nobody has set")
+        }
+        _ => {
+            text.extend_from_slice(b" waits at the barrier")?;
+            put_missing(text, hang, processor)
+        }
+    }
+}
+
+/// Adds a line for each processor that waits: what for.
+fn put_waits(text: &mut Vec<u8>, hang: &Hang) -> Result<(), AllocError> {
+    for (processor, awaited) in hang.waits.iter().enumerate() {
+        if let Some(kind) = *awaited {
+            put_number(text, b"processor ", processor as u64)?;
+            put_awaited(text, hang, processor, kind)?;
+            text.extend_from_slice(b"\n")?;
+        }
+    }
+    Ok(())
+}
+
+/// A line for each processor that waits: what for. The only error is running out of memory.
+pub fn waits_text(alloc: Global, hang: &Hang) -> Result<Vec<u8>, AllocError> {
+    let mut text = Vec::new(alloc);
+    put_waits(&mut text, hang)?;
+    Ok(text)
 }

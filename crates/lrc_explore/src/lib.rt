@@ -5,14 +5,17 @@
 //!
 //! **What is proved.** `render` answers Ok only where it wrote one text that begins with the verdict's line and ends with how
 //! many states were found; of a search that was given up nothing else. Of a racy script the lines between are those of the
-//! events that were found, as `lrc_report` prints a journal's, and of the two that race. After NoMemory nothing was written.
+//! events that were found, as `lrc_report` prints a journal's, and of the two that race. Of a race-free one they end with
+//! whether a schedule hangs, with its events. After NoMemory nothing was written.
 //!
-//! **What is only tested** (in `lrc_explore_tests`): the lines of outcomes and of who waits, and that the text is one write.
+//! **What is only tested**: the lines of outcomes and of who waits (cases of `tests/program`, and `tests/exploring`), and
+//! that the text is one write (`outcomes_tests`).
 #![tactic(auto)]
 
 mod fault;
 mod hanging;
 mod history;
+mod numbers;
 mod outcomes;
 mod rendering;
 

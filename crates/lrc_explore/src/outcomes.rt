@@ -1,11 +1,11 @@
 //! What whole runs show, a line each.
 
+use crate::numbers::put_number;
 use explore::Outcome;
 use std::alloc::{AllocError, Global};
-use std::fmt;
 
 /// What the loads of each processor answered, of each outcome: in rising order.
-pub fn sorted(alloc: Global, outcomes: &[Outcome]) -> Result<Vec<&[Vec<u32>]>, AllocError> {
+fn sorted(alloc: Global, outcomes: &[Outcome]) -> Result<Vec<&[Vec<u32>]>, AllocError> {
     let mut rows = Vec::with_capacity(alloc, outcomes.len())?;
     for outcome in outcomes {
         rows.push(outcome.replies.as_slice())?;
@@ -14,91 +14,92 @@ pub fn sorted(alloc: Global, outcomes: &[Outcome]) -> Result<Vec<&[Vec<u32>]>, A
     Ok(rows)
 }
 
-/// The line of an outcome. The last replies of processor 0 are the words of the shown addresses.
-#[derive(Clone, Copy)]
-struct OutcomeLine<'s, 'o> {
-    shown: &'s [usize],
-    replies: &'o [Vec<u32>],
+/// The replies of the processor's own loads, and the words at so many shown addresses, which processor 0 loads at the end.
+fn split(replies: &[Vec<u32>], processor: usize, shown: usize) -> (&[u32], &[u32]) {
+    let last = if processor == 0 { shown } else { 0 };
+    match replies.get(processor) {
+        Some(words) => words.split_at(words.len().saturating_sub(last)),
+        None => (&[], &[]),
+    }
 }
 
-/// The first words, and the last ones, of which there are so many.
-fn split(words: &[u32], last: usize) -> (&[u32], &[u32]) {
-    words.split_at(words.len().saturating_sub(last))
+/// Adds a shown address with its word.
+fn put_word(text: &mut Vec<u8>, address: usize, word: u32) -> Result<(), AllocError> {
+    put_number(text, b"  word ", address as u64)?;
+    put_number(text, b" ", u64::from(word))
 }
 
-impl OutcomeLine<'_, '_> {
-    /// The replies of the processor's own loads, and the words that it shows.
-    fn replies_of(&self, processor: usize) -> (&[u32], &[u32]) {
-        let replies = self.replies;
-        match replies.get(processor) {
-            Some(words) if processor == 0 => split(words, self.shown.len()),
-            Some(words) => split(words, 0),
-            None => (&[], &[]),
+/// Adds each shown address with its word.
+fn put_words(text: &mut Vec<u8>, shown: &[usize], words: &[u32]) -> Result<(), AllocError> {
+    for (address, word) in shown.iter().zip(words) {
+        put_word(text, *address, *word)?;
+    }
+    Ok(())
+}
+
+/// Adds what the processor's own loads answered.
+fn put_own(
+    text: &mut Vec<u8>,
+    front: &[u8],
+    processor: usize,
+    own: &[u32],
+) -> Result<(), AllocError> {
+    put_number(text, front, processor as u64)?;
+    text.extend_from_slice(b":")?;
+    for word in own {
+        put_number(text, b" ", u64::from(*word))?;
+    }
+    Ok(())
+}
+
+/// Adds the replies of each processor that loads.
+fn put_replies(text: &mut Vec<u8>, replies: &[Vec<u32>], shown: usize) -> Result<(), AllocError> {
+    let mut front: &[u8] = b"  replies p";
+    for processor in 0..replies.len() {
+        let (own, _) = split(replies, processor, shown);
+        if !own.is_empty() {
+            put_own(text, front, processor, own)?;
+            front = b"  p";
         }
     }
-
-    /// Writes each shown address with its word.
-    fn put_words<W: fmt::Write>(&self, f: &mut fmt::Formatter<W>) -> fmt::Result {
-        let (_, words) = self.replies_of(0);
-        for (address, word) in self.shown.iter().zip(words) {
-            write!(f, "  word {address} {word}")?;
-        }
-        Ok(())
-    }
-
-    /// Writes the replies of each processor that loads.
-    fn put_replies<W: fmt::Write>(&self, f: &mut fmt::Formatter<W>) -> fmt::Result {
-        let mut front = "  replies";
-        for processor in 0..self.replies.len() {
-            let (own, _) = self.replies_of(processor);
-            if !own.is_empty() {
-                write!(f, "{front} p{processor}:{}", Words(own))?;
-                front = " ";
-            }
-        }
-        Ok(())
-    }
+    Ok(())
 }
 
-/// Words, a space before each.
-#[derive(Clone, Copy)]
-struct Words<'a>(&'a [u32]);
-
-impl fmt::Display for Words<'_> {
-    fn fmt<W: fmt::Write>(&self, f: &mut fmt::Formatter<W>) -> fmt::Result {
-        for word in self.0 {
-            write!(f, " {word}")?;
-        }
-        Ok(())
-    }
+/// Adds the line of an outcome of runs that show these addresses.
+fn put_outcome(
+    text: &mut Vec<u8>,
+    shown: &[usize],
+    replies: &[Vec<u32>],
+) -> Result<(), AllocError> {
+    let (_, words) = split(replies, 0, shown.len());
+    put_words(text, shown, words)?;
+    put_replies(text, replies, shown.len())?;
+    text.extend_from_slice(b"\n")
 }
 
-impl fmt::Display for OutcomeLine<'_, '_> {
-    fn fmt<W: fmt::Write>(&self, f: &mut fmt::Formatter<W>) -> fmt::Result {
-        self.put_words(f)?;
-        self.put_replies(f)?;
-        f.write_str("\n")
+/// Adds how many outcomes there are, and a line for each.
+fn put_outcomes(
+    text: &mut Vec<u8>,
+    shown: &[usize],
+    rows: &[&[Vec<u32>]],
+) -> Result<(), AllocError> {
+    put_number(text, b"outcomes ", rows.len() as u64)?;
+    text.extend_from_slice(b"\n")?;
+    for replies in rows {
+        put_outcome(text, shown, *replies)?;
     }
+    Ok(())
 }
 
-/// A line for each outcome.
-#[derive(Clone, Copy)]
-pub struct OutcomeLines<'s, 'r, 'o> {
-    /// The shown addresses.
-    pub shown: &'s [usize],
-    /// Of each outcome, what the loads of each processor answered.
-    pub rows: &'r [&'o [Vec<u32>]],
-}
-
-impl fmt::Display for OutcomeLines<'_, '_, '_> {
-    fn fmt<W: fmt::Write>(&self, f: &mut fmt::Formatter<W>) -> fmt::Result {
-        for replies in self.rows {
-            let line = OutcomeLine {
-                shown: self.shown,
-                replies: *replies,
-            };
-            write!(f, "{line}")?;
-        }
-        Ok(())
-    }
+/// How many outcomes there are, and a line for each, of runs that show these addresses. The only error is running out of
+/// memory.
+pub fn outcomes_text(
+    alloc: Global,
+    shown: &[usize],
+    outcomes: &[Outcome],
+) -> Result<Vec<u8>, AllocError> {
+    let rows = sorted(alloc, outcomes)?;
+    let mut text = Vec::new(alloc);
+    put_outcomes(&mut text, shown, &rows)?;
+    Ok(text)
 }

@@ -1,91 +1,136 @@
 //! Writes what all schedules of a script come to.
-ghost use Rattle.std.specs.Prelude.{◌≡◌, IfErr, IfOk, OnOk};
+ghost use Rattle.std.specs.Prelude.{◌≡◌, ◌++◌, [], IfErr, IfOk, OnOk, Some, codes};
 ghost use Rattle.std.specs.Io.KnownBytes.{Appends};
-ghost use Rattle.std.specs.String.{string_bytes};
 ghost use Rattle.lrc_explore.specs.declared.fault.ExploreFault.TheVariants.{Output};
+ghost use Rattle.lrc_report.specs.Prelude.{event_lines};
+ghost use Rattle.lrc_explore.specs.Prelude.{states_line, undecided_line};
 ghost use Rattle.lrc_explore.specs.Prelude.{IsHangText, IsToldText, IsUnwritten, IsWritten, racy_lines};
 
 use crate::fault::ExploreFault;
-use crate::hanging::WaitLines;
-use crate::history::{EventLines, LineAt};
-use crate::outcomes::{OutcomeLines, sorted};
-use explore::{Explored, Hang, Outcome, Verdict};
+use crate::hanging::waits_text;
+use crate::history::{put_event_at, put_events};
+use crate::numbers::put_number;
+use crate::outcomes::outcomes_text;
+use explore::{Explored, Hang, RacyEvents, Verdict};
 use journal::Event;
 use lrc_script::script::Script;
 use std::alloc::{AllocError, Global};
 use std::io::Write;
 
-/// A line for each outcome of runs that show these addresses.
-fn outcomes_text(
-    alloc: Global,
-    shown: &[usize],
-    outcomes: &[Outcome],
-) -> Result<String, AllocError> {
-    let rows = sorted(alloc, outcomes)?;
-    let lines = OutcomeLines { shown, rows: &rows };
-    format!(in alloc; "{lines}")
-}
-
-/// Whether a schedule hangs, and how.
-fn hang_text(alloc: Global, hang: &Option<Hang>) -> Result<String, AllocError>
-    ensures { IfOk result (λ t. IsHangText hang.now (string_bytes t)) }
+/// Adds how many states were found.
+fn put_states(text: &mut Vec<u8>, states: usize) -> Result<(), AllocError>
+    ensures { OnOk result (text.new.items ≡ text.old.items ++ states_line states) }
 {
-    let Some(hang) = hang else {
-        return format!(in alloc; "hangs never\n");
-    };
-    let lines = WaitLines(hang);
-    let waits = format!(in alloc; "{lines}")?;
-    let events = EventLines(&hang.events);
-    format!(in alloc; "hangs\n{events}{waits}")
+    put_number(text, b"states ", states as u64)?;
+    text.extend_from_slice(b"\n")
 }
 
-/// What is said of a script that doesn't race.
-fn race_free_text(
-    alloc: Global,
-    shown: &[usize],
-    outcomes: &[Outcome],
-    hang: &Option<Hang>,
-) -> Result<String, AllocError> {
-    let count = outcomes.len();
-    let lines = outcomes_text(alloc, shown, outcomes)?;
-    let hangs = hang_text(alloc, hang)?;
-    format!(in alloc; "outcomes {count}\n{lines}{hangs}")
-}
-
-/// The events of a schedule that races, and the lines of the two that race: the one at this place and the last one.
-fn racy_text(alloc: Global, events: &[Event], first: usize) -> Result<String, AllocError>
-    ensures { IfOk result (λ t. string_bytes t ≡ racy_lines events.now first) }
+/// Adds a schedule that hangs, and these lines on who waits for what.
+fn put_hang(text: &mut Vec<u8>, hang: &Hang, waits: &[u8]) -> Result<(), AllocError>
+    ensures { OnOk result (text.new.items
+        ≡ text.old.items ++ (codes "hangs\n" ++ event_lines 0 hang.now.events.items ++ waits.now)) }
 {
-    let last = events.len().saturating_sub(1);
-    let all = EventLines(events);
-    let first = LineAt {
-        events,
-        place: first,
-    };
-    let last = LineAt {
-        events,
-        place: last,
-    };
-    let text = format!(in alloc; "{all}race\n{first}{last}")?;
+    text.extend_from_slice(b"hangs\n")?;
+    put_events(text, &hang.events)?;
+    text.extend_from_slice(waits)
+}
+
+/// A schedule that hangs: its events, and who waits for what.
+fn hanging_text(alloc: Global, hang: &Hang) -> Result<Vec<u8>, AllocError>
+    ensures { IfOk result (λ t. IsHangText (Some hang.now) t.items) }
+{
+    let waits = waits_text(alloc, hang)?;
+    let mut text = Vec::new(alloc);
+    put_hang(&mut text, hang, &waits)?;
     Ok(text)
 }
 
-/// The text of what was found of a script that shows these addresses. The only error is running out of memory.
-fn text_of(alloc: Global, shown: &[usize], explored: &Explored) -> Result<String, AllocError>
-    ensures { IfOk result (λ t. IsToldText explored.now (string_bytes t)) }
+/// Whether a schedule hangs, and how.
+fn hang_text(alloc: Global, hang: &Option<Hang>) -> Result<Vec<u8>, AllocError>
+    ensures { IfOk result (λ t. IsHangText hang.now t.items) }
+{
+    match hang {
+        Some(hang) => hanging_text(alloc, hang),
+        None => Vec::from_slice(alloc, b"hangs never\n"),
+    }
+}
+
+/// Adds the text of a script that doesn't race, of which there are these lines on outcomes and on hangs.
+fn put_race_free(
+    text: &mut Vec<u8>,
+    outcomes: &[u8],
+    hangs: &[u8],
+    states: usize,
+) -> Result<(), AllocError>
+    ensures { OnOk result (text.new.items ≡ text.old.items
+        ++ (codes "verdict race-free under every schedule\n" ++ (outcomes.now ++ hangs.now) ++ states_line states)) }
+{
+    text.extend_from_slice(b"verdict race-free under every schedule\n")?;
+    text.extend_from_slice(outcomes)?;
+    text.extend_from_slice(hangs)?;
+    put_states(text, states)
+}
+
+/// Adds the events of a schedule that races, and the lines of the two that race: the one at this place and the last one.
+fn put_race(text: &mut Vec<u8>, events: &[Event], first: usize) -> Result<(), AllocError>
+    ensures { OnOk result (text.new.items ≡ text.old.items ++ racy_lines events.now first) }
+{
+    let last = events.len().saturating_sub(1);
+    put_events(text, events)?;
+    text.extend_from_slice(b"race\n")?;
+    put_event_at(text, events, first)?;
+    put_event_at(text, events, last)
+}
+
+/// Adds the text of a script that races.
+fn put_racy(text: &mut Vec<u8>, racy: &RacyEvents, states: usize) -> Result<(), AllocError>
+    ensures { OnOk result (text.new.items ≡ text.old.items ++ (codes "verdict racy\n"
+        ++ racy_lines racy.now.events.items racy.now.first ++ states_line states)) }
+{
+    text.extend_from_slice(b"verdict racy\n")?;
+    put_race(text, &racy.events, racy.first)?;
+    put_states(text, states)?;
+    Ok(())
+}
+
+/// Adds the line of a search that was given up.
+fn put_undecided(text: &mut Vec<u8>, states: usize) -> Result<(), AllocError>
+    ensures { OnOk result (text.new.items ≡ text.old.items ++ undecided_line states) }
+{
+    put_number(text, b"verdict undecided after ", states as u64)?;
+    text.extend_from_slice(b" states\n")
+}
+
+/// Puts the text of what was found of a script that shows these addresses where nothing was.
+fn put_explored(
+    text: &mut Vec<u8>,
+    alloc: Global,
+    shown: &[usize],
+    explored: &Explored,
+) -> Result<(), AllocError>
+    requires { text.old.items ≡ [] }
+    ensures { OnOk result (IsToldText explored.now text.new.items) }
 {
     let states = explored.states;
     match &explored.verdict {
         Verdict::RaceFree { outcomes, hang } => {
-            let found = race_free_text(alloc, shown, outcomes, hang)?;
-            format!(in alloc; "verdict race-free under every schedule\n{found}states {states}\n")
+            let outcomes = outcomes_text(alloc, shown, outcomes)?;
+            let hangs = hang_text(alloc, hang)?;
+            put_race_free(text, &outcomes, &hangs, states)?;
+            Ok(())
         }
-        Verdict::Racy(racy) => {
-            let found = racy_text(alloc, &racy.events, racy.first)?;
-            format!(in alloc; "verdict racy\n{found}states {states}\n")
-        }
-        Verdict::Undecided => format!(in alloc; "verdict undecided after {states} states\n"),
+        Verdict::Racy(racy) => put_racy(text, racy, states),
+        Verdict::Undecided => put_undecided(text, states),
     }
+}
+
+/// The text of what was found of a script that shows these addresses. The only error is running out of memory.
+fn text_of(alloc: Global, shown: &[usize], explored: &Explored) -> Result<Vec<u8>, AllocError>
+    ensures { IfOk result (λ t. IsToldText explored.now t.items) }
+{
+    let mut text = Vec::new(alloc);
+    put_explored(&mut text, alloc, shown, explored)?;
+    Ok(text)
 }
 
 /// Writes the text and flushes the writer.
@@ -135,5 +180,5 @@ pub fn render<W: Write>(
     ensures unwritten { IfErr result (IsUnwritten (W.contents out.old) (W.contents out.new)) }
 {
     let text = text_of(alloc, &script.shown, explored)?;
-    write_text(text.as_bytes(), out)
+    write_text(&text, out)
 }

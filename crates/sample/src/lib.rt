@@ -8,7 +8,8 @@
 //! script; of a run that is stuck nothing is known. Module `laws`: each line counts a run at least, the run that it tells
 //! came to its outcome and none before it did, and a script that never races on one flat memory has no racy outcome.
 //!
-//! **What is only tested** (in `sample_tests`): that the lock and the seeds are those that were asked for, and the text.
+//! **What is only tested** (in `outcomes_tests`): that the lock and the seeds are those that were asked for, that other faults
+//! than being stuck end a sample, and that the text is one write.
 #![tactic(auto)]
 
 pub mod laws;

@@ -15,7 +15,7 @@ use std::io::Write;
 use thiserror::Error;
 
 /// Why the text wasn't written whole.
-#[derive(Clone, Copy, Debug, PartialEq, Eq, Error)]
+#[derive(Clone, Copy, Debug, Error)]
 pub enum TextFault {
     /// A write failed or took no byte, or the flush failed.
     #[error("output failed")]

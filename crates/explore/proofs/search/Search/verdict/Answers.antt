@@ -1,18 +1,21 @@
-use Rattle.std.proofs.Common.{map, subst, sym}
+use Rattle.std.proofs.Common.{◌<◌, inl, inr, subst, sym, ◌∙◌, arith}
+use Rattle.std.proofs.lemmas.Bool.{cases_lt, false≢true}
 use Rattle.lrc_script.specs.Plan.{plan_of}
-use Rattle.beginnings.proofs.Neighbours.Law.{neighbours}
-use Rattle.explore.specs.Explored.{AreOutcomes, replies_of}
-use Rattle.explore.proofs.Searched.{all_outcomes, no_neighbours}
+use Rattle.explore.specs.Searched.{IsLookedThrough}
+use Rattle.explore.specs.Room.{states_to_look_at}
 use Rattle.explore.proofs.search.Search.verdict.Goals as goal
 
-pub returns : goal.returns
-returns c = λ most states.
+pub race_free-requires-clause-searched : goal.race_free-requires-clause-searched
+race_free-requires-clause-searched c =
     let s = plan_of c.args.script.now in
-    let x = c.args.self in
-    record {
-      race_free = neighbours s (no_neighbours s x c.requires.searched);
-      shows =
-          subst (λ os. AreOutcomes s (map replies_of os)) (sym c.in_ok-listed.ensures)
-          (all_outcomes s x c.requires.searched);
-      hangs = c.in_ok-hang.ensures;
-    }
+    let most = states_to_look_at s c.args.most in
+    let few = λ (past : c.states_to_look_at-most.result < c.len.result).
+    false≢true (sym c.if-is_past.false ∙ c.is_past.ensures.1 past) in
+    let is = c.len.ensures.count in
+    let same = c.states_to_look_at-most.ensures in
+    let through =
+    subst (λ o. IsLookedThrough s c.args.self.now c.args.steps.now most o) c.in-None-2.is c.requires.looked in
+    through.searched (elim (cases_lt c.states_to_look_at-most.result c.len.result) [
+      | inl past ↦ absurd (few past)
+      | inr le ↦ omega (arith, le, same, is)
+    ])

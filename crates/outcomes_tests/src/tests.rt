@@ -1,0 +1,135 @@
+//! What a search and a sample do beside what their contracts tell.
+ghost use Rattle.std.specs.Prelude.{IfOk};
+ghost use Rattle.lrc_script.specs.Prelude.{IsLawful, plan_of};
+
+mod output;
+mod sticks;
+
+use explore::{Progress, Silent, explore};
+use lrc_explore::ExploreFault;
+use lrc_script::script::{Script, parse};
+use output::Output;
+use runs::{Cause, Lock, RunFault};
+use sample::sampling::{Sampled, sample};
+use sample::text::TextFault;
+use std::alloc::Global;
+use std::sync::Wait;
+use std::test::Fail;
+use sticks::Sticks;
+
+/// A script of five states: a store, the closing barrier and a load.
+fn script_of(alloc: Global) -> Result<Script, Fail>
+    ensures { IfOk result (λ s. IsLawful (plan_of s)) }
+{
+    match parse(alloc, b"cluster 1 1 1 0\np 0\nstore 0 7\nshow 0\n") {
+        Ok(script) => Ok(script),
+        Err(_) => Err(Fail::from("no script")),
+    }
+}
+
+/// Keeps what it was told last.
+#[derive(Drop)]
+struct Last(usize);
+
+impl Progress for Last {
+    fn found(&mut self, states: usize) {
+        self.0 = states;
+    }
+}
+
+/// The search says how many states it has found.
+#[test]
+fn says_states(rt: HostRuntime) -> Result<(), Fail> {
+    let alloc = rt.alloc();
+    let script = script_of(alloc)?;
+    let mut last = Last(0);
+    explore(alloc, &script, 1000, &mut last)?;
+    assert_eq!(rt; last.0, 5);
+    Ok(())
+}
+
+/// Whether the text of a search is one write to this output, and a failure of it is told just where there is one.
+fn is_search_written(alloc: Global, out: Output) -> Result<bool, Fail> {
+    let script = script_of(alloc)?;
+    let explored = explore(alloc, &script, 1000, &mut Silent)?;
+    let mut out = out;
+    let told = match lrc_explore::render(alloc, &script, &explored, &mut out) {
+        Ok(()) => !out.fails(),
+        Err(fault) => out.fails() && matches!(fault, ExploreFault::Output),
+    };
+    Ok(told && out.writes == 1)
+}
+
+/// The same of the text of a sample.
+fn is_sample_written(alloc: Global, out: Output) -> bool {
+    let sampled = Sampled {
+        lines: Vec::new(alloc),
+    };
+    let mut out = out;
+    let told = match sample::text::render(alloc, &sampled, &mut out) {
+        Ok(()) => !out.fails(),
+        Err(fault) => out.fails() && matches!(fault, TextFault::Output),
+    };
+    told && out.writes == 1
+}
+
+/// A text is one write, and where that or the flush fails, it is told.
+#[test]
+fn outputs(rt: HostRuntime) -> Result<(), Fail> {
+    let alloc = rt.alloc();
+    for (takes, flushes) in [(true, true), (false, true), (true, false)] {
+        let out = Output::new(takes, flushes);
+        assert!(&rt; is_search_written(alloc, out)?);
+        assert!(&rt; is_sample_written(alloc, out));
+    }
+    Ok(())
+}
+
+/// Whether a sample of so many seeds on this lock has this text.
+fn has_text<R: Wait>(
+    rt: &R,
+    alloc: Global,
+    lock: Lock,
+    seeds: u32,
+    text: &[u8],
+) -> Result<bool, Fail> {
+    let script = script_of(alloc)?;
+    let Ok(sampled) = sample(&Sticks { fails: 100 }, rt, alloc, &script, lock, seeds) else {
+        return Ok(false);
+    };
+    let mut out = Vec::new(alloc);
+    let told = sample::text::render(alloc, &sampled, &mut out);
+    Ok(told.is_ok() && out.as_slice() == text)
+}
+
+/// Each seed counts, and the run without one; the first of each kind is told, and the more frequent first.
+#[test]
+fn stuck_runs(rt: HostRuntime) -> Result<(), Fail> {
+    let rows: [(Lock, u32, &[u8]); 3] = [
+        (
+            Lock::Ticket,
+            6,
+            b"runs 7\nresult 4 0 stuck 0\nresult 3 - stuck 1\n",
+        ),
+        (Lock::Ticket, 0, b"runs 1\nresult 1 - stuck 1\n"),
+        (Lock::Array, 2, b"runs 3\nresult 3 - stuck 9\n"),
+    ];
+    for (lock, seeds, text) in rows {
+        assert!(&rt; has_text(&rt, rt.alloc(), lock, seeds, text)?);
+    }
+    Ok(())
+}
+
+/// A fault other than that it is stuck ends the sample.
+#[test]
+fn failed_runs(rt: HostRuntime) -> Result<(), Fail> {
+    let alloc = rt.alloc();
+    let script = script_of(alloc)?;
+    let result = sample(&Sticks { fails: 3 }, &rt, alloc, &script, Lock::Ticket, 6);
+    let fault = RunFault {
+        processor: 1,
+        cause: Cause::Thread,
+    };
+    assert!(&rt; result.err() == Some(fault));
+    Ok(())
+}
