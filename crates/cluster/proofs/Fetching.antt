@@ -228,12 +228,21 @@ module _ (m : Local) (sound : IsSound m) (n : ℕ) (c : Copied) (at : slice_get 
     -- a fetch applies the missing records and counts them
     pub fetched_sound : IsSound (fetched_at m n c k)
     fetched_sound =
-        noted_sound m (Fetch k.writers n k.records k.words) sound refl refl may.within may.idle may.room
-        (slice_set m.copies n (fetched c)) m.stored bases
-        (answers_fetched m.sizes m.seen m.block m.number n k.writers k.records k.words c.page.words new
-        (map missing_of c.missing) sound.bases stale sound.answers) counted_now
-        (record { long = length-set m.copies n (fetched c) ∙ sound.copies.long; each = copies_now }) sound.marks
-        clean_now
+        noted_sound m (Fetch k.writers n k.records k.words) (slice_set m.copies n (fetched c)) m.stored bases sound
+        (record {
+          takes = refl;
+          closes = refl;
+          range = may.within;
+          idle = may.idle;
+          room = may.room;
+        }) (record {
+          answers = answers_fetched m.sizes m.seen m.block m.number n k.writers k.records k.words c.page.words new
+              (map missing_of c.missing) sound.bases stale sound.answers;
+          counts = counted_now;
+          copies = record { long = length-set m.copies n (fetched c) ∙ sound.copies.long; each = copies_now };
+          marks = sound.marks;
+          clean = clean_now;
+        })
       where
         clean_now : (i : ℕ) (x : Copied) → slice_get (slice_set m.copies n (fetched c)) i ≡ Some x
             → slice_get m.stored i ≡ Some false → IsClean x.page

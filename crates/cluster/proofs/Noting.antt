@@ -56,34 +56,48 @@ inner_pushed m k takes closes range inner i e at = elim (push_cases m.block (eve
   })
 ]
 
+-- an event of this kind may be noted in p's open block
+abbrev pub MayNote : Local → Kind → Type 0
+MayNote m k = record {
+  takes : is_taking k ≡ false;
+  closes : is_closing k ≡ false;
+  range : KindInRange m.sizes k;
+  idle : m.awaits ≡ None;
+  room : length m.block < most_in_block;
+}
+
+-- with that event in the block, what p did there, these copies and these marks are right
+abbrev pub StaysRight : Local → Kind → List Copied → List Bool → (ℕ → List ℕ) → Type 0
+StaysRight m k cs st bases = record {
+  answers : BlockAnswers m.sizes m.seen (m.block ++ event m.number k ∷ []) m.number bases;
+  counts : BlockCounts m.sizes m.seen (m.block ++ event m.number k ∷ []) m.number;
+  copies : AreAll m.sizes.pages (λ n c.
+      IsReplica m.sizes m.seen (m.block ++ event m.number k ∷ []) m.number n (bases n) c) cs;
+  marks : length st ≡ 64;
+  clean : (n : ℕ) (c : Copied) → slice_get cs n ≡ Some c → slice_get st n ≡ Some false → IsClean c.page;
+}
+
 -- one more event of its open block keeps p sound, where its copies, its marks and what it did in the block stay right
-pub noted_sound : (m : Local) (k : Kind) → IsSound m → is_taking k ≡ false → is_closing k ≡ false
-    → KindInRange m.sizes k → m.awaits ≡ None → length m.block < most_in_block
-    → (cs : List Copied) (st : List Bool) (bases : ℕ → List ℕ)
-    → BlockAnswers m.sizes m.seen (m.block ++ event m.number k ∷ []) m.number bases
-    → BlockCounts m.sizes m.seen (m.block ++ event m.number k ∷ []) m.number
-    → AreAll m.sizes.pages (λ n c.
-    IsReplica m.sizes m.seen (m.block ++ event m.number k ∷ []) m.number n (bases n) c) cs → length st ≡ 64
-    → ((n : ℕ) (c : Copied) → slice_get cs n ≡ Some c → slice_get st n ≡ Some false → IsClean c.page)
-    → IsSound (record (noted m k) { copies = cs; stored = st })
-noted_sound m k sound takes closes range idle room cs st bases answers counts copies marks clean = record {
+pub noted_sound : (m : Local) (k : Kind) (cs : List Copied) (st : List Bool) (bases : ℕ → List ℕ) → IsSound m
+    → MayNote m k → StaysRight m k cs st bases → IsSound (record (noted m k) { copies = cs; stored = st })
+noted_sound m k cs st bases sound may right = record {
   sizes = sound.sizes;
   mine = sound.mine;
   few = sound.few;
   well_formed = sound.well_formed;
-  inner = inner_pushed m k takes closes range sound.inner;
-  short = let long = length_push m.block (event m.number k) in let less = room in omega arith;
+  inner = inner_pushed m k may.takes may.closes may.range sound.inner;
+  short = let long = length_push m.block (event m.number k) in let less = may.room in omega arith;
   time = sound.time;
   bases = bases;
-  answers = answers;
-  counts = counts;
-  copies = copies;
-  marks = marks;
-  clean = clean;
+  answers = right.answers;
+  counts = right.counts;
+  copies = right.copies;
+  marks = right.marks;
+  clean = right.clean;
   held = sound.held;
   awaits = sound.awaits;
-  quiet = λ waits. absurd (waits idle);
-  unstored = λ waits. absurd (waits idle);
+  quiet = λ waits. absurd (waits may.idle);
+  unstored = λ waits. absurd (waits may.idle);
 }
 
 module _ (m : Local) (a v : ℕ) (c : Copied) (free : access_refusal m a ≡ None)
@@ -97,14 +111,27 @@ module _ (m : Local) (a v : ℕ) (c : Copied) (free : access_refusal m a ≡ Non
   valid : c.page.access ≡ Valid
   valid = let same : may.copy ≡ c = cc (may.at, at) in subst (λ (x : Copied). x.page.access ≡ Valid) same may.valid
 
+  noting : (k : Kind) → is_taking k ≡ false → is_closing k ≡ false → KindInRange m.sizes k → MayNote m k
+  noting k takes closes range = record {
+    takes = takes;
+    closes = closes;
+    range = range;
+    idle = may.idle;
+    room = may.room;
+  }
+
   -- a load answers a word of a valid copy
   pub loaded : slice_get c.page.words (a % m.sizes.words) ≡ Some v → IsSound m → IsSound (noted m (Load a v))
   loaded word sound =
-      noted_sound m (Load a v) sound refl refl may.within may.idle may.room m.copies m.stored sound.bases
-      (valid_load m.sizes m.seen m.block m.number a v sound.bases (sound.bases n) c.page.words refl
-      ((sound.copies.each n c at).valid valid).0 word sound.answers)
-      (block_counts_push m.sizes m.seen m.block e m.number (λ x w r d is. absurd (cc (ap (λ (f : Event). f.kind) is)))
-      sound.counts) (record { long = sound.copies.long; each = copies }) sound.marks sound.clean
+      noted_sound m (Load a v) m.copies m.stored sound.bases sound (noting (Load a v) refl refl may.within) (record {
+        answers = valid_load m.sizes m.seen m.block m.number a v sound.bases (sound.bases n) c.page.words refl
+            ((sound.copies.each n c at).valid valid).0 word sound.answers;
+        counts = block_counts_push m.sizes m.seen m.block e m.number
+            (λ x w r d is. absurd (cc (ap (λ (f : Event). f.kind) is))) sound.counts;
+        copies = record { long = sound.copies.long; each = copies };
+        marks = sound.marks;
+        clean = sound.clean;
+      })
     where
       e : Event
       e = event m.number (Load a v)
@@ -128,13 +155,16 @@ module _ (m : Local) (a v : ℕ) (c : Copied) (free : access_refusal m a ≡ Non
   -- a store writes a word of a valid copy, and marks it and its page
   pub stored : IsSound m → IsSound (stored_at m a v c)
   stored sound =
-      noted_sound m (Store a v) sound refl refl may.within may.idle may.room (slice_set m.copies n d)
-      (slice_set m.stored n true) sound.bases
-      (answers_push m.sizes m.seen m.block e m.number sound.bases sound.answers (λ b w is.
-      absurd (cc (ap (λ (f : Event). f.kind) is))))
-      (block_counts_push m.sizes m.seen m.block e m.number (λ x w r d is. absurd (cc (ap (λ (f : Event). f.kind) is)))
-      sound.counts) (record { long = length-set m.copies n d ∙ sound.copies.long; each = copies })
-      (length-set m.stored n true ∙ sound.marks) clean
+      noted_sound m (Store a v) (slice_set m.copies n d) (slice_set m.stored n true) sound.bases sound
+      (noting (Store a v) refl refl may.within) (record {
+        answers = answers_push m.sizes m.seen m.block e m.number sound.bases sound.answers
+            (λ b w is. absurd (cc (ap (λ (f : Event). f.kind) is)));
+        counts = block_counts_push m.sizes m.seen m.block e m.number
+            (λ x w r d is. absurd (cc (ap (λ (f : Event). f.kind) is))) sound.counts;
+        copies = record { long = length-set m.copies n d ∙ sound.copies.long; each = copies };
+        marks = length-set m.stored n true ∙ sound.marks;
+        clean = clean;
+      })
     where
       e : Event
       e = event m.number (Store a v)
