@@ -13,6 +13,7 @@
 //! side; that the gate is asked before each instruction; the schedule of `step`, and which processor it tells as stuck.
 #![tactic(auto)]
 
+mod course;
 mod ending;
 mod faults;
 mod gate;

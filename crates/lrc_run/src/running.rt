@@ -7,6 +7,7 @@ ghost use Rattle.lrc_run.specs.Prelude.{IsReportOf, AreOutcomes};
 mod threads;
 
 use self::threads::walk_all;
+use crate::course::Course;
 use crate::ending::conclude;
 use crate::faults::gathered;
 use crate::gate::Gate;
@@ -89,6 +90,7 @@ fn walk_script<T: BookTurn + Send + Drop, R: Threads + Wait + Sync, G: Gate + Sy
         script.flags,
     )?;
     let sections = script.sections.as_slice();
-    let outcomes = walk_all(rt, alloc, &cluster, processors, gate, sections, tries)?;
+    let course = Course { gate, tries };
+    let outcomes = walk_all(rt, alloc, &cluster, processors, &course, sections)?;
     Ok((cluster, outcomes))
 }

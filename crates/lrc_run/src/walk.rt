@@ -8,6 +8,7 @@ mod instructions;
 
 pub(crate) use self::accesses::load;
 pub(crate) use self::instructions::{begin, end};
+use crate::course::Course;
 use crate::gate::Gate;
 use cluster::{BookTurn, Cluster, Processor};
 use crossbeam_utils::Backoff;
@@ -24,19 +25,18 @@ pub(crate) fn walk<T: BookTurn, R: Wait, G: Gate>(
     rt: &R,
     cluster: &Cluster<T>,
     processor: &mut Processor<T>,
-    gate: &G,
+    course: &Course<'_, G>,
     section: &[Instruction],
-    tries: u64,
 ) -> Result<(), Cause>
     requires own { processor.old.lock ≡ cluster.now.lock }
     ensures same { IsSameProcessor processor.old processor.new }
     ensures ok { OnOk result (Walks processor.old processor.new section.now) }
 {
     for (index, instruction) in section.iter().enumerate() {
-        gate.pass(processor.number(), index + 1)?;
-        perform(rt, cluster, processor, *instruction, tries)?;
+        course.gate.pass(processor.number(), index + 1)?;
+        perform(rt, cluster, processor, *instruction, course.tries)?;
     }
-    perform(rt, cluster, processor, Instruction::Barrier, tries)
+    perform(rt, cluster, processor, Instruction::Barrier, course.tries)
 }
 
 /// Does the instruction to its end. What it waits for is tried for `tries` times, and other threads get their

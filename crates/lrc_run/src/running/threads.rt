@@ -5,6 +5,7 @@ ghost use Rattle.lrc_script.specs.Prelude.{items_of};
 ghost use Rattle.cluster.specs.Prelude.{AreNew};
 ghost use Rattle.lrc_run.specs.Prelude.{AreOutcomes, AreOutcomesOf, AreStarted, IsOutcomeOf, Walks};
 
+use crate::course::Course;
 use crate::gate::Gate;
 use crate::walk::walk;
 use cluster::{BookTurn, Cluster, Processor};
@@ -69,14 +70,13 @@ fn walked<T: BookTurn, R: Wait, G: Gate>(
     rt: &R,
     cluster: &Cluster<T>,
     mut processor: Processor<T>,
-    gate: &G,
+    course: &Course<'_, G>,
     section: &[Instruction],
-    tries: u64,
 ) -> Outcome<T>
     requires own { processor.lock ≡ cluster.now.lock }
     ensures { IfOk result (λ m. Walks processor m section.now) }
 {
-    walk(rt, cluster, &mut processor, gate, section, tries)?;
+    walk(rt, cluster, &mut processor, course, section)?;
     Ok(processor)
 }
 
@@ -101,9 +101,8 @@ fn start<'s, 'x: 's, T: BookTurn + Send + Drop, R: Threads + Wait + Sync, G: Gat
     rt: &'x R,
     cluster: &'x Cluster<T>,
     processor: Processor<T>,
-    gate: &'x G,
+    course: &'x Course<'x, G>,
     section: &'x Vec<Instruction>,
-    tries: u64,
 ) -> Thread<T>
     requires own { processor.lock ≡ cluster.now.lock }
     ensures { IfSome result (λ e. (e.processor ≡ processor) × (e.section ≡ section.now.items)) }
@@ -118,7 +117,7 @@ fn start<'s, 'x: 's, T: BookTurn + Send + Drop, R: Threads + Wait + Sync, G: Gat
         move || -> Outcome<T>
             requires own { processor.lock ≡ cluster.now.lock }
             ensures { IfOk result (λ m. Walks processor m section.entry.now) }
-        { walked(rt, cluster, processor, gate, section, tries) },
+        { walked(rt, cluster, processor, course, section) },
     );
     let handle = started.ok();
     Thread { handle }
@@ -130,9 +129,8 @@ fn start_all<'s, 'x: 's, T: BookTurn + Send + Drop, R: Threads + Wait + Sync, G:
     rt: &'x R,
     cluster: &'x Cluster<T>,
     processors: Vec<Processor<T>>,
-    gate: &'x G,
+    course: &'x Course<'x, G>,
     sections: &'x [Vec<Instruction>],
-    tries: u64,
     mut threads: Vec<Thread<T>>,
 ) -> Vec<Thread<T>>
     requires new { AreNew cluster.now processors.items }
@@ -142,7 +140,7 @@ fn start_all<'s, 'x: 's, T: BookTurn + Send + Drop, R: Threads + Wait + Sync, G:
 {
     for processor in processors {
         let section = &sections[threads.len()];
-        let thread = start(scope, rt, cluster, processor, gate, section, tries);
+        let thread = start(scope, rt, cluster, processor, course, section);
         threads.push_reserved(thread);
     }
     threads
@@ -156,9 +154,8 @@ pub(super) fn walk_all<'x, T: BookTurn + Send + Drop, R: Threads + Wait + Sync, 
     alloc: Global,
     cluster: &'x Cluster<T>,
     processors: Vec<Processor<T>>,
-    gate: &'x G,
+    course: &'x Course<'x, G>,
     sections: &'x [Vec<Instruction>],
-    tries: u64,
 ) -> Result<Vec<Outcome<T>>, AllocError>
     requires new { AreNew cluster.now processors.items }
     requires sections { length sections.now ≡ vec_len processors }
@@ -179,9 +176,7 @@ pub(super) fn walk_all<'x, T: BookTurn + Send + Drop, R: Threads + Wait + Sync, 
                 × (vec_len processors ≤ vec_capacity outcomes) }
             ensures { AreOutcomes cluster.entry.now (items_of sections.entry.now) result.items }
         {
-            let threads = start_all(
-                scope, rt, cluster, processors, gate, sections, tries, threads,
-            );
+            let threads = start_all(scope, rt, cluster, processors, course, sections, threads);
             join_all(rt, threads, outcomes)
         },
     ))
