@@ -121,9 +121,9 @@ joined {A} key V n a b =
     back x (inr h) = ((let is = h.0 in omega arith), h.1)
 
 -- one more processor's
-pub counts_next : (s : Sizes) (j : List Event) (p n q w r d w' r' d' : ℕ) → CountsAmong s j p n (λ x. x < q) w r d
+pub counts_among_next : (s : Sizes) (j : List Event) (p n q w r d w' r' d' : ℕ) → CountsAmong s j p n (λ x. x < q) w r d
     → CountsAmong s j p n (λ x. x ≡ q) w' r' d' → CountsAmong s j p n (λ x. x < q + 1) (w + w') (r + r') (d + d')
-counts_next s j p n q w r d w' r' d' old now = record {
+counts_among_next s j p n q w r d w' r' d' old now = record {
   writers_are = joined (λ (x : ℕ). x) (Writes s j p n) q w w' old.writers_are now.writers_are;
   records_are = joined (λ (x : ℕ × ℕ). x.0) (Records s j p n) q r r' old.records_are now.records_are;
   words_are = joined (λ (x : ℕ × ℕ × ℕ). x.0) (StoredInGap s j p n) q d d' old.words_are now.words_are;

@@ -140,10 +140,10 @@ entrances_all j x n places most low step was = record {
 }
 
 -- a row more
-pub rows_next : (j : List Event) (rows : List (Vec ℕ)) (n : ℕ) (row : Vec ℕ) → length rows ≡ n
+pub entrance_rows_next : (j : List Event) (rows : List (Vec ℕ)) (n : ℕ) (row : Vec ℕ) → length rows ≡ n
     → ((k : ℕ) (old : Vec ℕ) → slice_get rows k ≡ Some old → AreEntrances j k old.items) → AreEntrances j n row.items
     → (k : ℕ) (new : Vec ℕ) → slice_get (rows ++ row ∷ []) k ≡ Some new → AreEntrances j k new.items
-rows_next j rows n row long are now k new at = elim (push_cases rows row k new at) [
+entrance_rows_next j rows n row long are now k new at = elim (push_cases rows row k new at) [
   | inl old ↦ are k new old.1
   | inr last ↦
       (let is : n ≡ k = omega (arith, last.0) in

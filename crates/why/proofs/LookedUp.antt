@@ -73,10 +73,10 @@ closings_all j q n places is old = record {
 }
 
 -- a processor's row more
-pub rows_next : (j : List Event) (rows : List (Vec ℕ)) (n : ℕ) (row : Vec ℕ) → length rows ≡ n
+pub closing_rows_next : (j : List Event) (rows : List (Vec ℕ)) (n : ℕ) (row : Vec ℕ) → length rows ≡ n
     → ((q : ℕ) (old : Vec ℕ) → slice_get rows q ≡ Some old → AreClosingsOf j q old.items) → AreClosingsOf j n row.items
     → (q : ℕ) (new : Vec ℕ) → slice_get (rows ++ row ∷ []) q ≡ Some new → AreClosingsOf j q new.items
-rows_next j rows n row long are now q new at = elim (push_cases rows row q new at) [
+closing_rows_next j rows n row long are now q new at = elim (push_cases rows row q new at) [
   | inl old ↦ are q new old.1
   | inr last ↦
       (let is : n ≡ q = omega (arith, last.0) in

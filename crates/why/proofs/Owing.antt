@@ -376,10 +376,10 @@ below_none s j span row dues is none = subst (AreBelow s j span row) (sym none) 
 })
 
 -- a row more, of which there is this
-pub below_next : (s : Sizes) (j : List Event) (span : Span) (n q : ℕ) (o : Option Due) (dues new : List Due)
+pub due_below_next : (s : Sizes) (j : List Event) (span : Span) (n q : ℕ) (o : Option Due) (dues new : List Due)
     → q < 16 → IsOneOf s j span n q o → MatchOption o (new ≡ dues) (λ x. new ≡ dues ++ x ∷ [])
     → AreBelow s j span (row_of n q) dues → AreBelow s j span (row_of n q + 1) new
-below_next s j span n q None dues new lt none same are = subst (AreBelow s j span (row_of n q + 1)) (sym same) (record {
+due_below_next s j span n q None dues new lt none same are = subst (AreBelow s j span (row_of n q + 1)) (sym same) (record {
   has = λ x. (
     λ h. (let y = (are.has x).0 h in let less = y.1 in (y.0, omega arith)),
     λ y. elim (cases_eq (row_of x.page x.writer) (row_of n q)) [
@@ -393,7 +393,7 @@ below_next s j span n q None dues new lt none same are = subst (AreBelow s j spa
   );
   order = are.order;
 })
-below_next s j span n q (Some d) dues new lt one more are =
+due_below_next s j span n q (Some d) dues new lt one more are =
     subst (AreBelow s j span (row_of n q + 1)) (sym more) (record { has = λ x. (there x, back x); order = order })
   where
     row : row_of d.page d.writer ≡ row_of n q
@@ -435,9 +435,9 @@ below_next s j span n q (Some d) dues new lt one more are =
     ]
 
 -- a row of dues more
-pub rows_next : (s : Sizes) (j : List Event) (rows : List (Vec Due)) (n : ℕ) (row : Vec Due) → length rows ≡ n
+pub due_rows_next : (s : Sizes) (j : List Event) (rows : List (Vec Due)) (n : ℕ) (row : Vec Due) → length rows ≡ n
     → AreAllDues s j rows → ((e : Event) → At j n e → AreDues s j n e row.items) → AreAllDues s j (rows ++ row ∷ [])
-rows_next s j rows n row long are now k e new here at = elim (push_cases rows row k new at) [
+due_rows_next s j rows n row long are now k e new here at = elim (push_cases rows row k new at) [
   | inl old ↦ are k e new here old.1
   | inr last ↦
       (let is : n ≡ k = omega (arith, last.0) in

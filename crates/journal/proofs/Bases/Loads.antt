@@ -30,8 +30,8 @@ abbrev pub flat : Event → Option (ℕ × ℕ)
 flat e = flat_write e.kind
 
 -- an address has a last store among these events, or none
-pub last_or_none : (c : List Event) (a : ℕ) → ((v : ℕ) × LastWrite flat c a v) ⊎ Unwritten flat c a
-last_or_none c a =
+pub last_write_or_none : (c : List Event) (a : ℕ) → ((v : ℕ) × LastWrite flat c a v) ⊎ Unwritten flat c a
+last_write_or_none c a =
     elim (word_written flat (replicate (suc a) 0) c a word found) [ inl l ↦ inl (word, l) | inr n ↦ inr n.1 ]
   where
     word : ℕ
@@ -156,7 +156,7 @@ module _ (s : Sizes) (c j : List Event) (b : Base) (n : ℕ) (well : WellFormed 
   ]
 
   answer_back : (k a v : ℕ) → k < length j → IsAnswerFrom b j k a v → IsAnswer (c ++ j) (length c + k) a v
-  answer_back k a v lt (inl kept) = go (last_or_none c a)
+  answer_back k a v lt (inl kept) = go (last_write_or_none c a)
     where
       word : v ≡ slice_index (memory_after (replicate (addresses s) 0) c) a
       word = kept.0 ∙ ap (λ (ws : List ℕ). slice_index ws a) base.after.memory

@@ -1,7 +1,7 @@
 use Rattle.std.proofs.Common.{◌≡◌, ℕ, Some, slice_get, ◌∙◌, length, subst, sym, List, arith}
 use Rattle.std.specs.Global.{Vec}
 use Rattle.why.specs.Entrances.{AreEntrances}
-use Rattle.why.proofs.Entering.{rows_next}
+use Rattle.why.proofs.Entering.{entrance_rows_next}
 use Rattle.journal.specs.InRange.{ProcessorsInRange}
 use Rattle.why.proofs.entrances.entrances_of.Goals as goal
 
@@ -30,7 +30,7 @@ loop-place-preserved c =
       rows =
           subst (λ (rows : List (Vec ℕ)). (k : ℕ) (row : Vec ℕ) → slice_get rows k ≡ Some row → AreEntrances events k row.items)
           (sym c.in_ok-push.ensures.items)
-          (rows_next events rows.items place row long old.rows
+          (entrance_rows_next events rows.items place row long old.rows
           (subst (λ n. AreEntrances events n row.items) c.in_ok-step.ensures.place c.in_ok-entrances.ensures));
     }
 

@@ -1,7 +1,7 @@
 use Rattle.std.proofs.Common.{◌≡◌, ℕ, Some, length, slice_get, subst, sym, arith, List}
 use Rattle.std.specs.Global.{Vec}
 use Rattle.why.specs.Index.{AreClosingsOf}
-use Rattle.why.proofs.LookedUp.{rows_next}
+use Rattle.why.proofs.LookedUp.{closing_rows_next}
 use Rattle.why.proofs.index.closings.Goals as goal
 
 pub loop-by-preserved : goal.loop-by-preserved
@@ -15,6 +15,6 @@ loop-by-preserved c =
       rows =
           subst (λ (items : List (Vec ℕ)). (q : ℕ) (row : Vec ℕ) → slice_get items q ≡ Some row → AreClosingsOf events q row.items)
           (sym c.in_ok-push.ensures.items)
-          (rows_next events rows.items c.loop-by.by c.in_ok-closings_of.field-0 long old.rows
+          (closing_rows_next events rows.items c.loop-by.by c.in_ok-closings_of.field-0 long old.rows
           c.in_ok-closings_of.ensures);
     }

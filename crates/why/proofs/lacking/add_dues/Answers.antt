@@ -5,7 +5,7 @@ use Rattle.judge.specs.Sizes.{sizes_of}
 use Rattle.judge.specs.Tallies.{row_of}
 use Rattle.why.specs.declared.lacking.Due.{Due}
 use Rattle.why.specs.Dues.{AreBelow, IsOneOf}
-use Rattle.why.proofs.Owing.{below_next}
+use Rattle.why.proofs.Owing.{due_below_next}
 use Rattle.why.proofs.lacking.add_dues.Goals as goal
 use Rattle.why.proofs.lacking.add_dues.Goals.{in-Some+in_ok-push, in_default}
 
@@ -21,11 +21,11 @@ loop-writer-preserved c = λ j tells before.
     let next : row_of n q + 1 ≡ n * 16 + (q + 1) = omega arith in
     subst (λ row. AreBelow s j span row new) next (elim c.match-found.branch [
       | in-Some+in_ok-push w ↦
-          below_next s j span n q (Some w.in-Some.due) old new c.loop-writer-test.true
+          due_below_next s j span n q (Some w.in-Some.due) old new c.loop-writer-test.true
           (subst (IsOneOf s j span n q) w.in-Some.is (c.found.ensures j tells))
           (ap (λ (v : Vec Due). v.items) w.dues-is ∙ w.in_ok-push.ensures.items) are
       | in_default w ↦
-          below_next s j span n q None old new c.loop-writer-test.true
+          due_below_next s j span n q None old new c.loop-writer-test.true
           (subst (IsOneOf s j span n q) w.in_default.is (c.found.ensures j tells))
           (ap (λ (v : Vec Due). v.items) w.dues-is) are
     ])

@@ -2,7 +2,7 @@ use Rattle.std.proofs.Common.{◌≡◌, length, subst, sym, ◌∙◌, arith}
 use Rattle.judge.specs.declared.sizes.Sizes.{Sizes as Given}
 use Rattle.judge.specs.Sizes.{sizes_of}
 use Rattle.why.specs.Dues.{AreAllDues, AreDues}
-use Rattle.why.proofs.Owing.{rows_next}
+use Rattle.why.proofs.Owing.{due_rows_next}
 use Rattle.why.proofs.lacking.dues.Goals as goal
 
 pub loop-place-preserved : goal.loop-place-preserved
@@ -19,7 +19,7 @@ loop-place-preserved c =
       long = (let len = c.in_ok-push.ensures.len in let was = old.long in omega arith);
       rows =
           subst (AreAllDues (sizes_of c.args.sizes) events) (sym c.in_ok-push.ensures.items)
-          (rows_next (sizes_of c.args.sizes) events rows.items place row long old.rows
+          (due_rows_next (sizes_of c.args.sizes) events rows.items place row long old.rows
           (λ e at. subst (λ (x : Given). AreDues (sizes_of x) events place e row.items) old.sizes
           (c.in_ok-dues_at.ensures.dues e at)));
     }

@@ -3,7 +3,7 @@ use Rattle.journal.specs.InRange.{ProcessorsInRange}
 use Rattle.judge.specs.declared.gaps.Counts.{Counts}
 use Rattle.judge.specs.Sizes.{sizes_of}
 use Rattle.judge.specs.Gaps.{AreFew, CountsAmong}
-use Rattle.judge.proofs.Parts.{counts_all, counts_next, counts_start}
+use Rattle.judge.proofs.Parts.{counts_all, counts_among_next, counts_start}
 use Rattle.judge.proofs.gaps.Gaps.due.Goals as goal
 
 pub loop-by-init : goal.loop-by-init
@@ -30,7 +30,7 @@ loop-by-preserved c = record {
       let P : Counts → Type 0 =
       λ x. CountsAmong s j c.args.processor c.args.page (λ q. q < c.loop-by.by + 1) x.writers x.records x.words in
       subst P (sym c.and-due.ensures.sum)
-      (counts_next s j c.args.processor c.args.page c.loop-by.by old.writers old.records old.words now.writers
+      (counts_among_next s j c.args.processor c.args.page c.loop-by.by old.writers old.records old.words now.writers
       now.records now.words (c.loop-by.invariant.counts j tells) (c.part.ensures.counts j tells)));
 }
 
