@@ -4,8 +4,7 @@ ghost use Rattle.embed.specs.Prelude.{IsAtWork, IsSameWorker, Works};
 
 use crate::running::Fault;
 use crate::worker::Worker;
-use book::Refused;
-use cluster::{BookLock, Cluster, Processor};
+use cluster::{BookLock, Cluster, Processor, Refused};
 use std::sync::Wait;
 
 /// Processors.

@@ -4,9 +4,7 @@ ghost use Rattle.cluster.specs.Prelude.{AreNew};
 ghost use Rattle.embed.specs.Prelude.{AreAtWork, IsAtWork, IsRun, Works, plate};
 
 use crate::jacobi::{COLUMNS, PROCESSORS, ROWS, TOTAL, work};
-use book::Refused;
-use cluster::{BookLock, Cluster, Processor};
-use journal::Journal;
+use cluster::{BookLock, Cluster, Journal, Processor, Refused};
 use std::alloc::{AllocError, Global};
 use std::sync::Wait;
 use std::thread::{Threads, map_vec};

@@ -2,8 +2,7 @@
 ghost use Rattle.embed.specs.Prelude.{IsSameWorker, MayStore};
 
 use crate::running::Fault;
-use book::Refused;
-use cluster::{BookLock, Cluster, Processor};
+use cluster::{BookLock, Cluster, Processor, Refused};
 use std::marker::Model;
 use std::sync::Wait;
 use std::thread::yield_now;

@@ -10,6 +10,7 @@ abbrev pub begun_text : Option Trace → List ℕ
 begun_text None = []
 begun_text (Some t) = text (sizes_of t.sizes) t.events.items
 
+-- what they are the text of, if there are any, is a trace
 abbrev pub IsBegun : Option Trace → Type 0
 IsBegun begun = IfSome begun (λ t. IsTrace (sizes_of t.sizes) t.events.items)
 
