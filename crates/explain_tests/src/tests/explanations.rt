@@ -1,45 +1,17 @@
 //! Histories worked by hand: where each load's value comes from, and what keeps the first race apart.
-ghost use Rattle.std.specs.Prelude.{◌≡◌, ℕ, ◌<◌, ◌≤◌, IsTrue, length};
-ghost use Rattle.lists.specs.Prelude.{most_held, most_processors};
+ghost use Rattle.std.specs.Prelude.{ℕ, ◌≤◌, IsTrue, length};
+ghost use Rattle.lists.specs.Prelude.{most_held};
 ghost use Rattle.journal.specs.declared.event.Event.{Event};
 ghost use Rattle.journal.specs.Events.{At};
-ghost use Rattle.journal.specs.Prelude.{AddressInRange, AddressesInRange, ProcessorsInRange};
 ghost use Rattle.judge.specs.Prelude.{AreSmall, IsWithin, sizes_of};
 
-use super::by;
+use super::{are_in_range, by};
 use journal::{Event, Kind, MOST_HELD, MOST_PROCESSORS};
 use judge::Sizes;
 use std::alloc::{AllocError, Global};
 use std::process::Abort;
 use std::test::Fail;
 use why::{Due, FirstRace, Source, Wait, Ways, dues, edges, explain, incoming, waits, way};
-
-/// Whether a history of these sizes can have the event.
-fn is_in_range(event: Event, processors: usize, addresses: usize) -> bool
-    ensures processor { IsTrue result → event.processor < processors }
-    ensures address { IsTrue result → AddressInRange addresses event.kind }
-{
-    let in_range = match event.kind {
-        Kind::Load(address, _) | Kind::Store(address, _) => address < addresses,
-        _ => true,
-    };
-    in_range && event.processor < processors
-}
-
-/// Whether it can have all of them.
-fn are_in_range(events: &[Event], processors: usize, addresses: usize) -> bool
-    ensures few { IsTrue result → length events.now ≤ most_held }
-    ensures few_processors { IsTrue result → processors ≤ most_processors }
-    ensures processors { IsTrue result → ProcessorsInRange processors events.now }
-    ensures addresses { IsTrue result → AddressesInRange addresses events.now }
-{
-    for event in events {
-        if !is_in_range(*event, processors, addresses) {
-            return false;
-        }
-    }
-    events.len() <= MOST_HELD && processors <= MOST_PROCESSORS
-}
 
 /// What is wanted of a history of so many processors: of each of the last events its source, and the first race. No
 /// earlier event has a source. The history has two addresses.

@@ -1,6 +1,6 @@
 use Rattle.std.proofs.Common.{◌≡◌, take}
 use Rattle.sources.specs.Prelude.{Tells}
-use Rattle.sources_tests.proofs.tests.only_these.Given as goal
+use Rattle.explain_tests.proofs.tests.answers.only_these.Given as goal
 
 abbrev pub invariant-loop-place : goal.invariant-loop-place
 invariant-loop-place l = record {

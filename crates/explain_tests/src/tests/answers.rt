@@ -1,48 +1,15 @@
 //! Histories worked by hand: of each event the places of the latest stores of its past to its address.
-ghost use Rattle.std.specs.Prelude.{◌≡◌, ◌<◌, ◌≤◌, ◌+◌, IsTrue, length};
+ghost use Rattle.std.specs.Prelude.{◌<◌, ◌≤◌, length};
 ghost use Rattle.lists.specs.Prelude.{most_held, most_processors};
 ghost use Rattle.journal.specs.Prelude.{AddressInRange, AddressesInRange, ProcessorsInRange};
 ghost use Rattle.sources.specs.Prelude.{Tells};
 
-use journal::{Event, Kind, MOST_HELD, MOST_PROCESSORS};
+use super::{are_in_range, by};
+use journal::{Event, Kind, MOST_PROCESSORS};
 use sources::{Sources, first_unexplained, latest};
 use std::alloc::{AllocError, Global};
 use std::process::Abort;
 use std::test::Fail;
-
-/// An event of processor `processor`.
-fn by(processor: usize, kind: Kind) -> Event
-    ensures { result ≡ record { processor = processor; kind = kind } }
-{
-    Event { processor, kind }
-}
-
-/// Whether a history of these sizes can have the event.
-fn is_in_range(event: Event, processors: usize, addresses: usize) -> bool
-    ensures processor { IsTrue result → event.processor < processors }
-    ensures address { IsTrue result → AddressInRange addresses event.kind }
-{
-    let in_range = match event.kind {
-        Kind::Load(address, _) | Kind::Store(address, _) => address < addresses,
-        _ => true,
-    };
-    in_range && event.processor < processors
-}
-
-/// Whether it can have all of them.
-fn are_in_range(events: &[Event], processors: usize, addresses: usize) -> bool
-    ensures few { IsTrue result → length events.now ≤ most_held }
-    ensures few_processors { IsTrue result → processors ≤ most_processors }
-    ensures processors { IsTrue result → ProcessorsInRange processors events.now }
-    ensures addresses { IsTrue result → AddressesInRange addresses events.now }
-{
-    for event in events {
-        if !is_in_range(*event, processors, addresses) {
-            return false;
-        }
-    }
-    events.len() <= MOST_HELD && processors <= MOST_PROCESSORS
-}
 
 /// What is wanted of a history of that many processors and addresses: of each of the last events, which are loads, the
 /// places of its latest stores. No other event has any, and each load answers what it may.

@@ -2,7 +2,7 @@ use Rattle.std.proofs.Common.{ℕ, ◌<◌}
 use Rattle.journal.specs.declared.event.Event.{Event}
 use Rattle.journal.specs.Events.{At}
 use Rattle.journal.specs.InRange.{AddressInRange}
-use Rattle.sources_tests.proofs.tests.are_in_range.Given as goal
+use Rattle.explain_tests.proofs.tests.are_in_range.Given as goal
 
 abbrev pub invariant-loop-event : goal.invariant-loop-event
 invariant-loop-event l = record {

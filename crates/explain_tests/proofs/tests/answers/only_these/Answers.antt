@@ -4,7 +4,7 @@ use Rattle.journal.specs.declared.event.Event.{Event}
 use Rattle.journal.specs.declared.event.Kind.TheVariants.{Load}
 use Rattle.journal.specs.Did.{event}
 use Rattle.journal.specs.InRange.{AddressInRange, AddressesInRange, ProcessorsInRange}
-use Rattle.sources_tests.proofs.tests.only_these.Goals as goal
+use Rattle.explain_tests.proofs.tests.answers.only_these.Goals as goal
 
 -- the event at this place
 abbrev here : List Event → ℕ → Event
