@@ -7,7 +7,7 @@
 //! verdict and the traffic, byte for byte as `lrc_report` prints them. After NoMemory and OutOfRange nothing was written.
 //! The loads' sources, the ways to them, the race and the records that are told are those of crate `why`.
 //!
-//! **What is only tested** (in `lrc_explain_tests`): the rest of the text, and that the text is one write.
+//! **What is only tested** (in `explain_tests`): the rest of the text, and that the text is one write.
 #![tactic(auto)]
 
 mod earlier;

@@ -1,6 +1,7 @@
 //! The rows of each part's calls, worked by hand.
 
 mod barriers;
+mod copies;
 mod intervals;
 mod locks;
 mod messages;

@@ -16,4 +16,3 @@ pub mod Marked
 pub mod Cleaned
 pub mod Waiting
 pub mod Calls
-pub mod Testing

@@ -5,5 +5,4 @@ pub mod Local
 pub mod Sound
 pub mod Steps
 pub mod Records
-pub mod Testing
 pub mod Prelude

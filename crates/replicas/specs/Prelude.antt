@@ -8,4 +8,3 @@ pub use Rattle.replicas.specs.Sound.{AreSizes, IsSound}
 pub use Rattle.replicas.specs.Steps.{AreAfterNews, AreSameCopies, AreZeros, HaveRoom, IsAfterNews, IsSameCopy}
 pub use Rattle.replicas.specs.Steps.{MayLack, MayLearn, cleaned, held_after}
 pub use Rattle.replicas.specs.Records.{AreHarvests, DirtyAreMarked, HasNoMark, IsFirstMark}
-pub use Rattle.replicas.specs.Testing.{AreNotices, AreOpen, IsNotice, IsStale}

@@ -13,8 +13,6 @@ mod harvesting;
 mod learning;
 mod marks;
 mod replica;
-#[cfg(test)]
-mod tests;
 
 pub use harvesting::{clean, harvest};
 pub use learning::{learn, make_room};

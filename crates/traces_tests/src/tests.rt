@@ -1,9 +1,10 @@
-//! Tests of the reader of traces. Traces are written with `/` for the line feed.
+//! Tests of the reader of traces, and of what is printed. Traces are written with `/` for the line feed.
 
 mod faults;
 mod growths;
 mod pieces;
 mod reading;
+mod reports;
 
 use std::alloc::{AllocError, Global};
 

@@ -20,7 +20,7 @@
 //! earlier; a flag, and whether it is set; or exactly the processors that have not arrived. `explain` has what `loads`,
 //! `race`, `incoming` and `waits` tell.
 //!
-//! **What is only tested** (crate `why_tests`): that memory isn't refused needlessly, and that each refusal is answered.
+//! **What is only tested** (crate `explain_tests`): that memory isn't refused needlessly, and that each refusal is answered.
 #![tactic(auto)]
 
 mod answers;

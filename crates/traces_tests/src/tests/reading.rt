@@ -130,7 +130,7 @@ fn put<R: Abort>(
 }
 
 /// The journal of these events.
-fn journal_of<R: Abort>(
+pub(super) fn journal_of<R: Abort>(
     rt: &R,
     alloc: Global,
     processors: usize,

@@ -1,0 +1,45 @@
+//! Histories worked by hand, and what is told of them.
+ghost use Rattle.std.specs.Prelude.{◌≡◌, ◌<◌, ◌≤◌, IsTrue, length};
+ghost use Rattle.lists.specs.Prelude.{most_held, most_processors};
+ghost use Rattle.journal.specs.Prelude.{AddressInRange, AddressesInRange, ProcessorsInRange};
+
+mod answers;
+mod explanations;
+mod pictures;
+mod texts;
+
+use journal::{Event, Kind, MOST_HELD, MOST_PROCESSORS};
+
+/// An event of processor `processor`.
+fn by(processor: usize, kind: Kind) -> Event
+    ensures { result ≡ record { processor = processor; kind = kind } }
+{
+    Event { processor, kind }
+}
+
+/// Whether a history of these sizes can have the event.
+fn is_in_range(event: Event, processors: usize, addresses: usize) -> bool
+    ensures processor { IsTrue result → event.processor < processors }
+    ensures address { IsTrue result → AddressInRange addresses event.kind }
+{
+    let in_range = match event.kind {
+        Kind::Load(address, _) | Kind::Store(address, _) => address < addresses,
+        _ => true,
+    };
+    in_range && event.processor < processors
+}
+
+/// Whether it can have all of them.
+fn are_in_range(events: &[Event], processors: usize, addresses: usize) -> bool
+    ensures few { IsTrue result → length events.now ≤ most_held }
+    ensures few_processors { IsTrue result → processors ≤ most_processors }
+    ensures processors { IsTrue result → ProcessorsInRange processors events.now }
+    ensures addresses { IsTrue result → AddressesInRange addresses events.now }
+{
+    for event in events {
+        if !is_in_range(*event, processors, addresses) {
+            return false;
+        }
+    }
+    events.len() <= MOST_HELD && processors <= MOST_PROCESSORS
+}
