@@ -1,58 +1,65 @@
 //! The words beside an event's mark.
-ghost use Rattle.std.specs.Prelude.{ℕ, ◌≡◌, ◌≤◌, ◌++◌, IfOk, codes, length, string_bytes};
+ghost use Rattle.std.specs.Prelude.{ℕ, ◌≡◌, ◌≤◌, ◌+◌, ◌++◌, IfOk, IsOk, OnOk, codes, length, string_bytes};
 ghost use Rattle.std.specs.Fmt.{decimal};
 ghost use Rattle.journal.specs.declared.event.Event.{Event};
 ghost use Rattle.journal.specs.Events.{At};
 ghost use Rattle.lrc_picture.specs.Prelude.{label_text};
 
+use crate::svg::Svg;
 use journal::{Event, Kind};
 use std::alloc::{AllocError, Global};
 
-/// A name and a number.
-fn numbered(alloc: Global, name: &str, number: usize) -> Result<String, AllocError>
-    requires { length name.now ≤ 8 }
-    ensures text { IfOk result (λ s. string_bytes s ≡ name.now ++ (codes " " ++ decimal number)) }
-    ensures short { IfOk result (λ s. length (string_bytes s) ≤ 96) }
+/// Puts what is said of a load or a store.
+fn put_access(text: &mut Svg, name: &str, address: usize, arrow: &str, word: u32)
+    ensures stays { OnOk text.new.granted (IsOk text.old.granted) }
+    ensures grown { OnOk text.new.granted (string_bytes text.new.text
+        ≡ string_bytes text.old.text ++ (name.now ++ (decimal address ++ (arrow.now ++ decimal word)))) }
+    ensures short { length (string_bytes text.new.text)
+        ≤ length (string_bytes text.old.text) + (length name.now + (length arrow.now + 40)) }
 {
-    let text = format!(in alloc; "{name} {number}")?;
-    Ok(text)
+    text.put_number(name, address);
+    text.put_number(arrow, word as usize);
 }
 
-/// What is said of a load.
-fn loaded(alloc: Global, address: usize, word: u32) -> Result<String, AllocError>
-    ensures text { IfOk result (λ s. string_bytes s
-        ≡ codes "load " ++ (decimal address ++ (codes " -> " ++ decimal word))) }
-    ensures short { IfOk result (λ s. length (string_bytes s) ≤ 96) }
+/// Puts what is said of a fetch.
+fn put_fetch(text: &mut Svg, page: usize, writers: u32, records: u32, words: u32)
+    ensures stays { OnOk text.new.granted (IsOk text.old.granted) }
+    ensures grown { OnOk text.new.granted (string_bytes text.new.text ≡ string_bytes text.old.text
+        ++ (codes "fetch " ++ (decimal page ++ (codes " (" ++ (decimal writers ++ (codes ", "
+        ++ (decimal records ++ (codes ", " ++ (decimal words ++ codes ")"))))))))) }
+    ensures short { length (string_bytes text.new.text) ≤ length (string_bytes text.old.text) + 96 }
 {
-    let text = format!(in alloc; "load {address} -> {word}")?;
-    Ok(text)
+    text.put_number("fetch ", page);
+    text.put_number(" (", writers as usize);
+    text.put_number(", ", records as usize);
+    text.put_number(", ", words as usize);
+    text.put(")");
 }
 
-/// What is said of a store.
-fn stored(alloc: Global, address: usize, word: u32) -> Result<String, AllocError>
-    ensures text { IfOk result (λ s. string_bytes s
-        ≡ codes "store " ++ (decimal address ++ (codes " &lt;- " ++ decimal word))) }
-    ensures short { IfOk result (λ s. length (string_bytes s) ≤ 96) }
+/// Puts what is said of an event beside its mark.
+pub fn put_label(text: &mut Svg, kind: Kind)
+    ensures stays { OnOk text.new.granted (IsOk text.old.granted) }
+    ensures grown { OnOk text.new.granted (string_bytes text.new.text ≡ string_bytes text.old.text ++ label_text kind) }
+    ensures short { length (string_bytes text.new.text) ≤ length (string_bytes text.old.text) + 96 }
 {
-    let text = format!(in alloc; "store {address} &lt;- {word}")?;
-    Ok(text)
-}
-
-/// What is said of a fetch.
-fn fetched(
-    alloc: Global,
-    page: usize,
-    writers: u32,
-    records: u32,
-    words: u32,
-) -> Result<String, AllocError>
-    ensures text { IfOk result (λ s. string_bytes s
-        ≡ codes "fetch " ++ (decimal page ++ (codes " (" ++ (decimal writers ++ (codes ", "
-        ++ (decimal records ++ (codes ", " ++ (decimal words ++ codes ")")))))))) }
-    ensures short { IfOk result (λ s. length (string_bytes s) ≤ 96) }
-{
-    let text = format!(in alloc; "fetch {page} ({writers}, {records}, {words})")?;
-    Ok(text)
+    match kind {
+        Kind::Load(address, word) => put_access(text, "load ", address, " -> ", word),
+        Kind::Store(address, word) => put_access(text, "store ", address, " &lt;- ", word),
+        Kind::Fetch {
+            writers,
+            page,
+            records,
+            words,
+        } => put_fetch(text, page, writers, records, words),
+        Kind::Ask(lock) => text.put_number("ask ", lock),
+        Kind::Acquire(lock) => text.put_number("acquire ", lock),
+        Kind::Release(lock) => text.put_number("release ", lock),
+        Kind::Arrive => text.put("arrive"),
+        Kind::Depart => text.put("depart"),
+        Kind::Set(flag) => text.put_number("set ", flag),
+        Kind::Watch(flag) => text.put_number("watch ", flag),
+        Kind::Await(flag) => text.put_number("await ", flag),
+    }
 }
 
 /// What is said of an event beside its mark, as it stands in the picture's file, in at most 96 bytes. The only error is
@@ -61,24 +68,9 @@ pub fn label(alloc: Global, kind: Kind) -> Result<String, AllocError>
     ensures text { IfOk result (λ s. string_bytes s ≡ label_text kind) }
     ensures short { IfOk result (λ s. length (string_bytes s) ≤ 96) }
 {
-    match kind {
-        Kind::Load(address, word) => loaded(alloc, address, word),
-        Kind::Store(address, word) => stored(alloc, address, word),
-        Kind::Fetch {
-            writers,
-            page,
-            records,
-            words,
-        } => fetched(alloc, page, writers, records, words),
-        Kind::Ask(lock) => numbered(alloc, "ask", lock),
-        Kind::Acquire(lock) => numbered(alloc, "acquire", lock),
-        Kind::Release(lock) => numbered(alloc, "release", lock),
-        Kind::Arrive => String::from_str(alloc, "arrive"),
-        Kind::Depart => String::from_str(alloc, "depart"),
-        Kind::Set(flag) => numbered(alloc, "set", flag),
-        Kind::Watch(flag) => numbered(alloc, "watch", flag),
-        Kind::Await(flag) => numbered(alloc, "await", flag),
-    }
+    let mut text = Svg::new(alloc);
+    put_label(&mut text, kind);
+    text.finish()
 }
 
 /// The greater of two numbers.

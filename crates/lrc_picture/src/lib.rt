@@ -26,4 +26,5 @@ mod looks;
 pub mod marks;
 pub mod picture;
 pub mod story;
+mod svg;
 mod text;

@@ -7,11 +7,12 @@ ghost use Rattle.lrc_picture.specs.Prelude.{CanBeDrawn, IsLayoutOf, IsWithin};
 use crate::arrows::{Arrow, Way};
 use crate::bars::Line;
 use crate::grid::{Grid, Point};
-use crate::label::label;
+use crate::label::put_label;
 use crate::layout::Layout;
 use crate::looks::{LEGEND, LOOKS};
 use crate::marks::{Mark, Shape};
 use crate::story::Story;
+use crate::svg::Svg;
 use journal::{Event, Kind};
 use std::alloc::{AllocError, Global};
 
@@ -28,13 +29,13 @@ enum Style {
     Race,
 }
 
-/// The attributes of words of this style.
-fn attributes(style: Style) -> &'static str {
+/// What words of this style begin with, up to how far to the right they are.
+fn opening(style: Style) -> &'static str {
     match style {
-        Style::Head => "class=\"head\" dx=\"-8\"",
-        Style::Number => "class=\"number\" dy=\"4\"",
-        Style::Label => "dx=\"14\" dy=\"4\"",
-        Style::Race => "class=\"beside\" dx=\"-16\" dy=\"4\"",
+        Style::Head => "<text class=\"head\" dx=\"-8\" x=\"",
+        Style::Number => "<text class=\"number\" dy=\"4\" x=\"",
+        Style::Label => "<text dx=\"14\" dy=\"4\" x=\"",
+        Style::Race => "<text class=\"beside\" dx=\"-16\" dy=\"4\" x=\"",
     }
 }
 
@@ -50,103 +51,105 @@ fn name(shape: Shape) -> &'static str {
     }
 }
 
-/// Adds words at this point.
-fn put_words(text: &mut String, style: Style, at: Point, words: &str) -> Result<(), AllocError> {
-    let Point { x, y } = at;
-    let how = attributes(style);
-    write!(text, "<text {how} x=\"{x}\" y=\"{y}\">{words}</text>\n")
+/// Begins words at this point.
+fn begin_words(text: &mut Svg, style: Style, at: Point) {
+    text.put_number(opening(style), at.x);
+    text.put_number("\" y=\"", at.y);
+    text.put("\">");
 }
 
-/// Adds a line of this class.
-fn put_line(text: &mut String, class: &str, from: Point, to: Point) -> Result<(), AllocError> {
-    let Point { x: x1, y: y1 } = from;
-    let Point { x: x2, y: y2 } = to;
-    write!(
-        text,
-        "<line class=\"{class}\" x1=\"{x1}\" y1=\"{y1}\" x2=\"{x2}\" y2=\"{y2}\"/>\n"
-    )
+/// Ends words.
+fn end_words(text: &mut Svg) {
+    text.put("</text>\n");
 }
 
-/// Adds the mark of this name, of this class.
-fn put_mark(text: &mut String, class: &str, name: &str, at: Point) -> Result<(), AllocError> {
-    let Point { x, y } = at;
-    write!(
-        text,
-        "<use class=\"{class}\" href=\"#{name}\" x=\"{x}\" y=\"{y}\"/>\n"
-    )
+/// Puts words at this point.
+fn put_words(text: &mut Svg, style: Style, at: Point, words: &str) {
+    begin_words(text, style, at);
+    text.put(words);
+    end_words(text);
 }
 
-/// Adds the title.
-fn put_title(text: &mut String, story: &Story<'_>) -> Result<(), AllocError> {
-    let processors = story.processors;
-    let count = story.events.len();
-    let race = match story.race {
-        Some(_) => "with a race",
-        None => "without a race",
-    };
-    let end = if story.halted {
-        ", that can't go on"
+/// Puts a line of this class.
+fn put_line(text: &mut Svg, class: &str, from: Point, to: Point) {
+    text.put("<line class=\"");
+    text.put(class);
+    text.put_number("\" x1=\"", from.x);
+    text.put_number("\" y1=\"", from.y);
+    text.put_number("\" x2=\"", to.x);
+    text.put_number("\" y2=\"", to.y);
+    text.put("\"/>\n");
+}
+
+/// Puts the mark of this name, of this class.
+fn put_mark(text: &mut Svg, class: &str, name: &str, at: Point) {
+    text.put("<use class=\"");
+    text.put(class);
+    text.put("\" href=\"#");
+    text.put(name);
+    text.put_number("\" x=\"", at.x);
+    text.put_number("\" y=\"", at.y);
+    text.put("\"/>\n");
+}
+
+/// Puts the title.
+fn put_title(text: &mut Svg, story: &Story<'_>) {
+    text.put_number("<title>A run of ", story.processors);
+    text.put_number(" processors and ", story.events.len());
+    text.put(match story.race {
+        Some(_) => " events, with a race",
+        None => " events, without a race",
+    });
+    text.put(if story.halted {
+        ", that can't go on</title>\n"
     } else {
-        ""
-    };
-    write!(
-        text,
-        "<title>A run of {processors} processors and {count} events, {race}{end}</title>\n"
-    )
+        "</title>\n"
+    });
 }
 
-/// Adds what the file begins with: its size, its title, how all looks, and the ground.
-fn put_opening(text: &mut String, grid: Grid, story: &Story<'_>) -> Result<(), AllocError> {
+/// Puts what the file begins with: its size, its title, how all looks, and the ground.
+fn put_opening(text: &mut Svg, grid: Grid, story: &Story<'_>) {
     let width = grid.width();
     let height = grid.height();
-    write!(
-        text,
-        "<svg xmlns=\"http://www.w3.org/2000/svg\" role=\"img\" width=\"{width}\" height=\"{height}\" viewBox=\"0 0 {width} {height}\">\n"
-    )?;
-    put_title(text, story)?;
-    text.push_str(LOOKS)?;
-    write!(
-        text,
-        "<rect width=\"{width}\" height=\"{height}\" fill=\"#fff\"/>\n"
-    )
+    text.put_number(
+        "<svg xmlns=\"http://www.w3.org/2000/svg\" role=\"img\" width=\"",
+        width,
+    );
+    text.put_number("\" height=\"", height);
+    text.put_number("\" viewBox=\"0 0 ", width);
+    text.put_number(" ", height);
+    text.put("\">\n");
+    put_title(text, story);
+    text.put(LOOKS);
+    text.put_number("<rect width=\"", width);
+    text.put_number("\" height=\"", height);
+    text.put("\" fill=\"#fff\"/>\n");
 }
 
-/// Adds a processor's line, and its name above.
-fn put_lane(
-    text: &mut String,
-    alloc: Global,
-    x: usize,
-    end: usize,
-    processor: usize,
-) -> Result<(), AllocError> {
-    let words = format!(in alloc; "processor {processor}")?;
-    put_words(text, Style::Head, Point { x, y: 24 }, words.as_str())?;
-    put_line(text, "lane", Point { x, y: 32 }, Point { x, y: end })
+/// Puts a processor's line, and its name above.
+fn put_lane(text: &mut Svg, x: usize, end: usize, processor: usize) {
+    begin_words(text, Style::Head, Point { x, y: 24 });
+    text.put_number("processor ", processor);
+    end_words(text);
+    put_line(text, "lane", Point { x, y: 32 }, Point { x, y: end });
 }
 
-/// Adds the processors' lines, down to this row.
-fn put_lanes(text: &mut String, alloc: Global, grid: Grid, row: usize) -> Result<(), AllocError>
+/// Puts the processors' lines, down to this row.
+fn put_lanes(text: &mut Svg, grid: Grid, row: usize)
     requires { row ≤ grid.rows }
 {
     for processor in 0..grid.lanes {
-        put_lane(
-            text,
-            alloc,
-            grid.lane_x(processor),
-            grid.row_y(row),
-            processor,
-        )?;
+        put_lane(text, grid.lane_x(processor), grid.row_y(row), processor);
     }
-    Ok(())
 }
 
-/// Adds the bars, half a row below their rows.
-fn put_bars(text: &mut String, bars: &[Line]) -> Result<(), AllocError> {
-    text.push_str("<g transform=\"translate(0 12)\">\n")?;
+/// Puts the bars, half a row below their rows.
+fn put_bars(text: &mut Svg, bars: &[Line]) {
+    text.put("<g transform=\"translate(0 12)\">\n");
     for bar in bars {
-        put_line(text, "barrier", bar.from, bar.to)?;
+        put_line(text, "barrier", bar.from, bar.to);
     }
-    text.push_str("</g>\n")
+    text.put("</g>\n");
 }
 
 /// The class of an arrow that looks so.
@@ -157,60 +160,50 @@ fn class(way: Way) -> &'static str {
     }
 }
 
-/// Adds the arrows.
-fn put_arrows(text: &mut String, arrows: &[Arrow]) -> Result<(), AllocError> {
+/// Puts the arrows.
+fn put_arrows(text: &mut Svg, arrows: &[Arrow]) {
     for arrow in arrows {
-        put_line(text, class(arrow.way), arrow.from, arrow.to)?;
+        put_line(text, class(arrow.way), arrow.from, arrow.to);
     }
-    Ok(())
 }
 
-/// Adds a race of the events at these points: a line between them, a frame round each, and a word.
-fn put_race(text: &mut String, first: Point, second: Point) -> Result<(), AllocError> {
-    put_line(text, "race", first, second)?;
-    put_mark(text, "racing", "racing", first)?;
-    put_mark(text, "racing", "racing", second)?;
-    put_words(text, Style::Race, second, "race")
+/// Puts a race of the events at these points: a line between them, a frame round each, and a word.
+fn put_race(text: &mut Svg, first: Point, second: Point) {
+    put_line(text, "race", first, second);
+    put_mark(text, "racing", "racing", first);
+    put_mark(text, "racing", "racing", second);
+    put_words(text, Style::Race, second, "race");
 }
 
-/// Adds the first race, if there is one.
-fn put_first_race(
-    text: &mut String,
-    marks: &[Mark],
-    race: Option<(usize, usize)>,
-) -> Result<(), AllocError>
+/// Puts the first race, if there is one.
+fn put_first_race(text: &mut Svg, marks: &[Mark], race: Option<(usize, usize)>)
     requires { IsWithin (length marks.now) race }
 {
-    match race {
-        Some((first, second)) => put_race(text, marks[first].at, marks[second].at),
-        None => Ok(()),
+    if let Some((first, second)) = race {
+        put_race(text, marks[first].at, marks[second].at);
     }
 }
 
-/// Adds an event: its number, its mark and its label.
-fn put_event(
-    text: &mut String,
-    alloc: Global,
-    number: u64,
-    mark: Mark,
-    kind: Kind,
-) -> Result<(), AllocError> {
-    let y = mark.at.y;
-    let digits = format!(in alloc; "{number}")?;
-    put_words(text, Style::Number, Point { x: 56, y }, digits.as_str())?;
-    put_mark(text, "mark", name(mark.shape), mark.at)?;
-    let words = label(alloc, kind)?;
-    put_words(text, Style::Label, mark.at, words.as_str())
+/// Puts an event: its number, its mark and its label.
+fn put_event(text: &mut Svg, number: usize, mark: Mark, kind: Kind) {
+    begin_words(
+        text,
+        Style::Number,
+        Point {
+            x: 56,
+            y: mark.at.y,
+        },
+    );
+    text.put_number("", number);
+    end_words(text);
+    put_mark(text, "mark", name(mark.shape), mark.at);
+    begin_words(text, Style::Label, mark.at);
+    put_label(text, kind);
+    end_words(text);
 }
 
-/// Adds the events, of which the first has this number.
-fn put_events(
-    text: &mut String,
-    alloc: Global,
-    first: u64,
-    marks: &[Mark],
-    events: &[Event],
-) -> Result<(), AllocError>
+/// Puts the events, of which the first has this number.
+fn put_events(text: &mut Svg, first: u64, marks: &[Mark], events: &[Event])
     requires first { first ≤ most_cut }
     requires few { length events.now ≤ most_held }
     requires long { length marks.now ≡ length events.now }
@@ -218,13 +211,11 @@ fn put_events(
     for place in 0..events.len() {
         put_event(
             text,
-            alloc,
-            first + place as u64,
+            first as usize + place,
             marks[place],
             events[place].kind,
-        )?;
+        );
     }
-    Ok(())
 }
 
 /// Whether a processor whose last event is of this kind waits.
@@ -248,66 +239,51 @@ fn waiting(processors: usize, events: &[Event]) -> [bool; 16]
     waiting
 }
 
-/// Adds a cross for each processor that waits, in this row.
-fn put_waiting(
-    text: &mut String,
-    grid: Grid,
-    row: usize,
-    waiting: &[bool; 16],
-) -> Result<(), AllocError>
+/// Puts a cross for each processor that waits, in this row.
+fn put_waiting(text: &mut Svg, grid: Grid, row: usize, waiting: &[bool; 16])
     requires { row ≤ grid.rows }
 {
     for processor in 0..grid.lanes {
         if waiting[processor] {
             let at = grid.point(processor, row);
-            put_mark(text, "waiting", "stop", at)?;
-            put_words(text, Style::Label, at, "waits")?;
+            put_mark(text, "waiting", "stop", at);
+            put_words(text, Style::Label, at, "waits");
         }
     }
-    Ok(())
 }
 
-/// Adds the legend, right of the lanes.
-fn put_legend(text: &mut String, x: usize) -> Result<(), AllocError> {
-    write!(text, "<g transform=\"translate({x} 0)\">\n")?;
-    text.push_str(LEGEND)?;
-    text.push_str("</g>\n</svg>\n")
+/// Puts the legend, right of the lanes.
+fn put_legend(text: &mut Svg, x: usize) {
+    text.put_number("<g transform=\"translate(", x);
+    text.put(" 0)\">\n");
+    text.put(LEGEND);
+    text.put("</g>\n</svg>\n");
 }
 
-/// Adds what lies below the marks: the ground, the processors' lines, bars and arrows, and the first race.
-fn put_ground(
-    text: &mut String,
-    alloc: Global,
-    layout: &Layout,
-    story: &Story<'_>,
-) -> Result<(), AllocError>
+/// Puts what lies below the marks: the ground, the processors' lines, bars and arrows, and the first race.
+fn put_ground(text: &mut Svg, layout: &Layout, story: &Story<'_>)
     requires layout { IsLayoutOf story.now.processors story.now.events.now layout.now }
     requires race { IsWithin (length story.now.events.now) story.now.race }
 {
-    put_opening(text, layout.grid, story)?;
-    put_lanes(text, alloc, layout.grid, story.events.len())?;
-    put_bars(text, &layout.bars)?;
-    put_arrows(text, &layout.arrows)?;
-    put_first_race(text, &layout.marks, story.race)
+    put_opening(text, layout.grid, story);
+    put_lanes(text, layout.grid, story.events.len());
+    put_bars(text, &layout.bars);
+    put_arrows(text, &layout.arrows);
+    put_first_race(text, &layout.marks, story.race);
 }
 
-/// Adds what stands on the ground: events, and where the run can't go on who waits.
-fn put_figures(
-    text: &mut String,
-    alloc: Global,
-    layout: &Layout,
-    story: &Story<'_>,
-) -> Result<(), AllocError>
+/// Puts what stands on the ground: events, and where the run can't go on who waits.
+fn put_figures(text: &mut Svg, layout: &Layout, story: &Story<'_>)
     requires drawn { CanBeDrawn story.now.processors story.now.events.now story.now.incoming.now }
     requires layout { IsLayoutOf story.now.processors story.now.events.now layout.now }
     requires first { story.now.first ≤ most_cut }
 {
-    put_events(text, alloc, story.first, &layout.marks, story.events)?;
+    put_events(text, story.first, &layout.marks, story.events);
     if story.halted {
         let waiting = waiting(story.processors, story.events);
-        put_waiting(text, layout.grid, story.events.len(), &waiting)?;
+        put_waiting(text, layout.grid, story.events.len(), &waiting);
     }
-    put_legend(text, layout.grid.lane_x(layout.grid.lanes))
+    put_legend(text, layout.grid.lane_x(layout.grid.lanes));
 }
 
 /// The text of the picture of this story. The only error is running out of memory.
@@ -317,8 +293,8 @@ pub fn text_of(alloc: Global, layout: &Layout, story: &Story<'_>) -> Result<Stri
     requires first { story.now.first ≤ most_cut }
     requires race { IsWithin (length story.now.events.now) story.now.race }
 {
-    let mut text = String::new(alloc);
-    put_ground(&mut text, alloc, layout, story)?;
-    put_figures(&mut text, alloc, layout, story)?;
-    Ok(text)
+    let mut text = Svg::new(alloc);
+    put_ground(&mut text, layout, story);
+    put_figures(&mut text, layout, story);
+    text.finish()
 }

@@ -1,15 +1,12 @@
-use Rattle.std.proofs.Common.{◌≤◌, ℕ, List, length, slice_index_or, sym, ap, ◌∙◌, arith, below_more}
+use Rattle.std.proofs.Common.{◌≤◌, ℕ, length, sym, ap, ◌∙◌, arith, below_more}
 use Rattle.std.proofs.lemmas.Option.{slice_get-get_or, slice_get_within, same_Some}
 use Rattle.journal.specs.declared.event.Event.{Event}
 use Rattle.journal.specs.declared.event.Kind.TheVariants.{Load}
 use Rattle.journal.specs.Did.{event}
 use Rattle.journal.specs.Events.{At}
 use Rattle.lrc_picture.specs.Label.{label_text}
+use Rattle.lrc_picture.proofs.Lanes.{here}
 use Rattle.lrc_picture.proofs.label.widest.Goals as goal
-
--- the event at this place
-abbrev here : List Event → ℕ → Event
-here events place = slice_index_or events place (event 0 (Load 0 0))
 
 pub loop-event-preserved : goal.loop-event-preserved
 loop-event-preserved c =

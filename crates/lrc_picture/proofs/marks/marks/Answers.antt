@@ -1,15 +1,15 @@
-use Rattle.std.proofs.Common.{◌≡◌, ℕ, List, length, slice_index_or, subst, sym, ap, ◌∙◌, arith}
+use Rattle.std.proofs.Common.{◌≡◌, length, subst, sym, ap, ◌∙◌, arith}
 use Rattle.std.proofs.lemmas.Option.{slice_get-get_or, same_Some}
-use Rattle.journal.specs.declared.event.Event.{Event}
 use Rattle.journal.specs.declared.event.Kind.TheVariants.{Load}
 use Rattle.journal.specs.Did.{event}
 use Rattle.lrc_picture.specs.Marks.{AreMarksOf, IsMarkOf, mark_for}
+use Rattle.lrc_picture.proofs.Lanes.{here, lane_within}
 use Rattle.lrc_picture.proofs.Marking.{marks_next}
 use Rattle.lrc_picture.proofs.marks.marks.Goals as goal
 
--- the event at this place
-abbrev here : List Event → ℕ → Event
-here events place = slice_index_or events place (event 0 (Load 0 0))
+pub mark_of-requires-clause-lane : goal.mark_of-requires-clause-lane
+mark_of-requires-clause-lane c =
+    lane_within c.args.grid.lanes c.args.events.now c.loop-row.row c.loop-row-test.true c.requires.lanes
 
 pub loop-row-preserved : goal.loop-row-preserved
 loop-row-preserved c =
