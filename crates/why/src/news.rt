@@ -111,6 +111,33 @@ pub(crate) fn take_step(
     })
 }
 
+/// Adds the news of the event at this place, the next one.
+fn add_incoming(
+    alloc: Global,
+    rows: &mut Vec<Vec<usize>>,
+    clocks: &mut Clocks,
+    events: &[Event],
+    index: &Index,
+    place: usize,
+) -> Result<(), AllocError>
+    requires place { place < length events.now }
+    requires few { length events.now ≤ most_held }
+    requires processors { ProcessorsInRange clocks.old.present events.now }
+    requires so_far { AreClocks (take place events.now) clocks.old }
+    requires index { IsIndex events.now index.now }
+    requires long { vec_len rows.old ≡ place }
+    requires rows { AreIncoming events.now rows.old.items }
+    ensures clocks { OnOk result (AreClocks (take (place + 1) events.now) clocks.new) }
+    ensures present { OnOk result (clocks.new.present ≡ clocks.old.present) }
+    ensures long { OnOk result (vec_len rows.new ≡ place + 1) }
+    ensures rows { OnOk result (AreIncoming events.now rows.new.items) }
+{
+    let step = take_step(clocks, events, place)?;
+    let row = news(alloc, events, index, &step)?;
+    rows.push(row)?;
+    Ok(())
+}
+
 /// Of each event of a history of `processors` processors, at most `MOST_PROCESSORS`: the places, rising, of the events
 /// of other processors that have an edge to it and that its processor had not heard of: that happen before none of its
 /// earlier events. None where it takes nothing, or nothing new. The only error is running out of memory.
@@ -128,12 +155,11 @@ pub fn incoming(
     ensures long { IfOk result (λ v. vec_len v ≡ length events.now) }
     ensures news { IfOk result (λ v. AreIncoming events.now v.items) }
 {
+    let mut rows = Vec::with_capacity(alloc, events.len())?;
     let index = index_of(alloc, events)?;
     let mut clocks = Clocks::new(alloc, processors)?;
-    let mut rows = Vec::with_capacity(alloc, events.len())?;
     for place in 0..events.len() {
-        let step = take_step(&mut clocks, events, place)?;
-        rows.push(news(alloc, events, &index, &step)?)?;
+        add_incoming(alloc, &mut rows, &mut clocks, events, &index, place)?;
     }
     Ok(rows)
 }

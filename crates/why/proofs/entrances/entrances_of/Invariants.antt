@@ -1,7 +1,6 @@
-use Rattle.std.proofs.Common.{◌≡◌, ℕ, Some, slice_get, take, vec_len}
-use Rattle.std.specs.Global.{Vec}
+use Rattle.std.proofs.Common.{◌≡◌, take, vec_len}
 use Rattle.journal.specs.Clocks.{AreClocks}
-use Rattle.why.specs.Entrances.{AreEntrances}
+use Rattle.why.specs.Entrances.{AreEntrancesSoFar}
 use Rattle.why.proofs.entrances.entrances_of.Given as goal
 
 abbrev pub invariant-loop-place : goal.invariant-loop-place
@@ -9,5 +8,5 @@ invariant-loop-place l = record {
   clocks : AreClocks (take l.place l.events) l.clocks;
   present : l.clocks.present ≡ l.processors;
   long : vec_len l.rows ≡ l.place;
-  rows : (k : ℕ) (row : Vec ℕ) → slice_get l.rows.items k ≡ Some row → AreEntrances l.events k row.items;
+  rows : AreEntrancesSoFar l.events l.rows.items;
 }

@@ -1,13 +1,13 @@
-use Rattle.std.proofs.Common.{◌≡◌, ℕ, ◌<◌, List, Some, length, slice_get, slice_index_or, subst, sym, ◌∙◌, arith}
+use Rattle.std.proofs.Common.{◌≡◌, ℕ, ◌<◌, List, Some, length, slice_get, slice_index_or, subst, sym, refl, ◌∙◌, arith}
 use Rattle.std.proofs.lemmas.List.{length-set}
-use Rattle.std.proofs.lemmas.Option.{slice_get-get_or}
+use Rattle.std.proofs.lemmas.Option.{none-some, slice_get-get_or}
 use Rattle.journal.specs.declared.event.Event.{Event}
 use Rattle.journal.specs.declared.event.Kind.TheVariants.{Load}
 use Rattle.journal.specs.Did.{event}
 use Rattle.journal.specs.Events.{At}
 use Rattle.why.specs.declared.index.Turn.{Turn}
 use Rattle.why.specs.Index.{IsTurn}
-use Rattle.why.proofs.LookedUp.{AreNext, next_next, turn_small, turns_next}
+use Rattle.why.proofs.LookedUp.{AreNext, next_first, next_next, turn_small, turns_next}
 use Rattle.why.proofs.index.turns.Goals as goal
 
 abbrev zero : Turn
@@ -99,3 +99,19 @@ loop-place-preserved c =
           → IsTurn events i f.processor t) (sym c.in_ok-push.ensures.items)
           (turns_next events place e turns.items turn long at mine old.each);
     }
+
+pub loop-place-init : goal.loop-place-init
+loop-place-init c = record {
+  next_long = refl;
+  next = next_first c.args.events.now zero refl refl;
+  long = c.in_ok-turns.ensures.len;
+  each = λ i e t at to.
+      absurd (none-some t (subst (λ (items : List Turn). slice_get items i ≡ Some t) c.in_ok-turns.ensures.items to));
+}
+
+pub returns : goal.returns
+returns c =
+    let over = c.loop-place-test.false in
+    let top = c.loop-place.auto.place-end in
+    let old = c.loop-place.invariant in
+    record { long = omega (arith, c.loop-place.turns.ok.0, old.long); each = old.each }
