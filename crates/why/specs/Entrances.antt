@@ -18,11 +18,7 @@ pub record AreEntrances (j : List Event) (k : ℕ) (places : List ℕ) : Type 0 
   pub each : (n : ℕ) → Has places n → EdgeFromOther j n k
   pub all : (i : ℕ) → IsNews j i k → (n : ℕ) × Has places n × UpTo j n i
 
--- these are such places for each of the first events
-abbrev pub AreEntrancesSoFar : List Event → List (Vec ℕ) → Type 0
-AreEntrancesSoFar j rows = (k : ℕ) (row : Vec ℕ) → slice_get rows k ≡ Some row → AreEntrances j k row.items
-
 -- these are such places for each event
 pub record AreAllEntrances (j : List Event) (rows : List (Vec ℕ)) : Type 0 where
   pub long : length rows ≡ length j
-  pub each : AreEntrancesSoFar j rows
+  pub each : (k : ℕ) (row : Vec ℕ) → slice_get rows k ≡ Some row → AreEntrances j k row.items

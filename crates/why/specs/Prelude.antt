@@ -6,7 +6,7 @@ pub use Rattle.why.specs.Edges.{AreEdges, LetsOn}
 pub use Rattle.why.specs.Edges.{EdgeFromOther}
 pub use Rattle.why.specs.Index.{AreClosings, AreClosingsOf, AreTurns, IsIndex}
 pub use Rattle.why.specs.News.{AreIncoming, AreNews, IsNewOf, IsNews, IsStep}
-pub use Rattle.why.specs.Entrances.{AreAllEntrances, AreEntrances, AreEntrancesSoFar, IsLastNew}
+pub use Rattle.why.specs.Entrances.{AreAllEntrances, AreEntrances, IsLastNew}
 pub use Rattle.why.specs.Takings.{AreAllTakings, AreNumbers, IsFirstAbove, NoneAbove}
 pub use Rattle.why.specs.Ways.{AreWays, FirstReached, IsWay}
 pub use Rattle.why.specs.Waits.{AreThose, AreWaits, AsksBefore, HasDoneNothing, IsAbsent, IsWait}

@@ -1,8 +1,8 @@
 //! Where each event's processor gets to know of what is news to it: of each other processor the last of the events.
-ghost use Rattle.std.specs.Prelude.{◌≡◌, ℕ, ◌+◌, ◌<◌, ◌≤◌, IfOk, MatchOption, OnOk, length, take, vec_len};
+ghost use Rattle.std.specs.Prelude.{◌≡◌, ℕ, ◌<◌, ◌≤◌, [], IfOk, MatchOption, length, vec_len};
 ghost use Rattle.lists.specs.Prelude.{most_held, most_processors};
 ghost use Rattle.journal.specs.Prelude.{AreClocks, ProcessorsInRange};
-ghost use Rattle.why.specs.Prelude.{AreAllEntrances, AreEntrances, AreEntrancesSoFar, IsIndex, IsLastNew, IsNewOf, IsStep};
+ghost use Rattle.why.specs.Prelude.{AreAllEntrances, AreEntrances, IsIndex, IsLastNew, IsNewOf, IsStep};
 
 use crate::index::{Index, index_of};
 use crate::news::{Step, leads, take_step};
@@ -47,31 +47,25 @@ fn entrances(
     Ok(places)
 }
 
-/// Adds those of the event at this place, the next one.
-fn add_entrances(
+/// Those of each event, where the clocks tell nothing so far.
+fn all_entrances(
     alloc: Global,
-    rows: &mut Vec<Vec<usize>>,
     clocks: &mut Clocks,
     events: &[Event],
     index: &Index,
-    place: usize,
-) -> Result<(), AllocError>
-    requires place { place < length events.now }
+) -> Result<Vec<Vec<usize>>, AllocError>
     requires few { length events.now ≤ most_held }
     requires processors { ProcessorsInRange clocks.old.present events.now }
-    requires so_far { AreClocks (take place events.now) clocks.old }
+    requires start { AreClocks [] clocks.old }
     requires index { IsIndex events.now index.now }
-    requires long { vec_len rows.old ≡ place }
-    requires rows { AreEntrancesSoFar events.now rows.old.items }
-    ensures clocks { OnOk result (AreClocks (take (place + 1) events.now) clocks.new) }
-    ensures present { OnOk result (clocks.new.present ≡ clocks.old.present) }
-    ensures long { OnOk result (vec_len rows.new ≡ place + 1) }
-    ensures rows { OnOk result (AreEntrancesSoFar events.now rows.new.items) }
+    ensures { IfOk result (λ v. AreAllEntrances events.now v.items) }
 {
-    let step = take_step(clocks, events, place)?;
-    let row = entrances(alloc, events, index, &step)?;
-    rows.push(row)?;
-    Ok(())
+    let mut rows = Vec::with_capacity(alloc, events.len())?;
+    for place in 0..events.len() {
+        let step = take_step(clocks, events, place)?;
+        rows.push(entrances(alloc, events, index, &step)?)?;
+    }
+    Ok(rows)
 }
 
 /// Of each event of a history of so many processors: of each other processor the last of the events that are news to
@@ -86,11 +80,7 @@ pub(crate) fn entrances_of(
     requires processors { ProcessorsInRange processors events.now }
     ensures { IfOk result (λ v. AreAllEntrances events.now v.items) }
 {
-    let mut rows = Vec::with_capacity(alloc, events.len())?;
     let index = index_of(alloc, events)?;
     let mut clocks = Clocks::new(alloc, processors)?;
-    for place in 0..events.len() {
-        add_entrances(alloc, &mut rows, &mut clocks, events, &index, place)?;
-    }
-    Ok(rows)
+    all_entrances(alloc, &mut clocks, events, &index)
 }

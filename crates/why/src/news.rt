@@ -1,5 +1,5 @@
 //! What each event brings its processor news of: the events that let it through and that its processor had not heard of.
-ghost use Rattle.std.specs.Prelude.{◌≡◌, ◌↔◌, ◌⊎◌, ℕ, ◌+◌, ◌<◌, ◌≤◌, IsTrue, IfOk, OnOk, length, take, vec_len};
+ghost use Rattle.std.specs.Prelude.{◌≡◌, ◌↔◌, ◌⊎◌, ℕ, ◌+◌, ◌<◌, ◌≤◌, [], IsTrue, IfOk, OnOk, length, take, vec_len};
 ghost use Rattle.lists.specs.Prelude.{Has, most_held, most_processors};
 ghost use Rattle.lists.specs.Places.{IsOnce};
 ghost use Rattle.journal.specs.Times.{ClosesAt};
@@ -111,31 +111,26 @@ pub(crate) fn take_step(
     })
 }
 
-/// Adds the news of the event at this place, the next one.
-fn add_incoming(
+/// Of each event its news, where the clocks tell nothing so far.
+fn all_news(
     alloc: Global,
-    rows: &mut Vec<Vec<usize>>,
     clocks: &mut Clocks,
     events: &[Event],
     index: &Index,
-    place: usize,
-) -> Result<(), AllocError>
-    requires place { place < length events.now }
+) -> Result<Vec<Vec<usize>>, AllocError>
     requires few { length events.now ≤ most_held }
     requires processors { ProcessorsInRange clocks.old.present events.now }
-    requires so_far { AreClocks (take place events.now) clocks.old }
+    requires start { AreClocks [] clocks.old }
     requires index { IsIndex events.now index.now }
-    requires long { vec_len rows.old ≡ place }
-    requires rows { AreIncoming events.now rows.old.items }
-    ensures clocks { OnOk result (AreClocks (take (place + 1) events.now) clocks.new) }
-    ensures present { OnOk result (clocks.new.present ≡ clocks.old.present) }
-    ensures long { OnOk result (vec_len rows.new ≡ place + 1) }
-    ensures rows { OnOk result (AreIncoming events.now rows.new.items) }
+    ensures long { IfOk result (λ v. vec_len v ≡ length events.now) }
+    ensures news { IfOk result (λ v. AreIncoming events.now v.items) }
 {
-    let step = take_step(clocks, events, place)?;
-    let row = news(alloc, events, index, &step)?;
-    rows.push(row)?;
-    Ok(())
+    let mut rows = Vec::with_capacity(alloc, events.len())?;
+    for place in 0..events.len() {
+        let step = take_step(clocks, events, place)?;
+        rows.push(news(alloc, events, index, &step)?)?;
+    }
+    Ok(rows)
 }
 
 /// Of each event of a history of `processors` processors, at most `MOST_PROCESSORS`: the places, rising, of the events
@@ -155,11 +150,7 @@ pub fn incoming(
     ensures long { IfOk result (λ v. vec_len v ≡ length events.now) }
     ensures news { IfOk result (λ v. AreIncoming events.now v.items) }
 {
-    let mut rows = Vec::with_capacity(alloc, events.len())?;
     let index = index_of(alloc, events)?;
     let mut clocks = Clocks::new(alloc, processors)?;
-    for place in 0..events.len() {
-        add_incoming(alloc, &mut rows, &mut clocks, events, &index, place)?;
-    }
-    Ok(rows)
+    all_news(alloc, &mut clocks, events, &index)
 }
