@@ -25,6 +25,15 @@ own events place next lt long low are =
     are (here events place).processor (slice_index_or next (here events place).processor zero)
     (slice_get-get_or next (here events place).processor zero (omega arith))
 
+pub loop-place-init : goal.loop-place-init
+loop-place-init c = record {
+  next_long = refl;
+  next = next_first c.args.events.now zero refl refl;
+  long = c.in_ok-turns.ensures.len;
+  each = λ i e t at to.
+      absurd (none-some t (subst (λ (items : List Turn). slice_get items i ≡ Some t) c.in_ok-turns.ensures.items to));
+}
+
 pub offset_bounds-next-event : goal.offset_bounds-next-event
 offset_bounds-next-event c =
     let events = c.args.events.now in
@@ -34,19 +43,6 @@ offset_bounds-next-event c =
 
 pub bounds-next-event : goal.bounds-next-event
 bounds-next-event c =
-    let events = c.args.events.now in
-    let at = slice_get-get_or events c.loop-place.place (event 0 (Load 0 0)) c.loop-place-test.true in
-    c.requires.processors c.loop-place.place (here events c.loop-place.place) at
-
-pub offset_bounds-next-event-in-loop-place : goal.offset_bounds-next-event-in-loop-place
-offset_bounds-next-event-in-loop-place c =
-    let events = c.args.events.now in
-    let at = slice_get-get_or events c.loop-place.place (event 0 (Load 0 0)) c.loop-place-test.true in
-    let low = c.requires.processors c.loop-place.place (here events c.loop-place.place) at in
-    omega arith
-
-pub bounds-next-event-in-loop-place : goal.bounds-next-event-in-loop-place
-bounds-next-event-in-loop-place c =
     let events = c.args.events.now in
     let at = slice_get-get_or events c.loop-place.place (event 0 (Load 0 0)) c.loop-place-test.true in
     c.requires.processors c.loop-place.place (here events c.loop-place.place) at
@@ -75,6 +71,19 @@ turn_after-requires-clause-departed c =
     let mine = own events place c.loop-place.next (omega arith) c.loop-place.invariant.next_long low c.loop-place.invariant.next in
     (turn_small events place (here events place).processor _ (omega arith) few mine).1
 
+pub offset_bounds-next-event-in-loop-place : goal.offset_bounds-next-event-in-loop-place
+offset_bounds-next-event-in-loop-place c =
+    let events = c.args.events.now in
+    let at = slice_get-get_or events c.loop-place.place (event 0 (Load 0 0)) c.loop-place-test.true in
+    let low = c.requires.processors c.loop-place.place (here events c.loop-place.place) at in
+    omega arith
+
+pub bounds-next-event-in-loop-place : goal.bounds-next-event-in-loop-place
+bounds-next-event-in-loop-place c =
+    let events = c.args.events.now in
+    let at = slice_get-get_or events c.loop-place.place (event 0 (Load 0 0)) c.loop-place-test.true in
+    c.requires.processors c.loop-place.place (here events c.loop-place.place) at
+
 pub loop-place-preserved : goal.loop-place-preserved
 loop-place-preserved c =
     let events = c.args.events.now in
@@ -99,15 +108,6 @@ loop-place-preserved c =
           → IsTurn events i f.processor t) (sym c.in_ok-push.ensures.items)
           (turns_next events place e turns.items turn long at mine old.each);
     }
-
-pub loop-place-init : goal.loop-place-init
-loop-place-init c = record {
-  next_long = refl;
-  next = next_first c.args.events.now zero refl refl;
-  long = c.in_ok-turns.ensures.len;
-  each = λ i e t at to.
-      absurd (none-some t (subst (λ (items : List Turn). slice_get items i ≡ Some t) c.in_ok-turns.ensures.items to));
-}
 
 pub returns : goal.returns
 returns c =

@@ -1,4 +1,4 @@
-use Rattle.std.proofs.Common.{◌≡◌, ℕ, List, [], slice_index_or, take, subst, sym, ap, ◌∙◌, arith}
+use Rattle.std.proofs.Common.{ℕ, List, [], slice_index_or, take, subst, sym, ap, ◌∙◌, arith}
 use Rattle.std.specs.Prelude.{Result, Ok, Err, IfOk, OnOk}
 use Rattle.std.specs.Global.{Vec}
 use Rattle.std.proofs.lemmas.Option.{slice_get-get_or}
@@ -25,33 +25,17 @@ on_ok : {A E P : Type 0} (r : Result A E) → P → OnOk r P
 on_ok (Ok x) p = p
 on_ok (Err e) p = tt
 
-pub taken-requires-clause-within : goal.taken-requires-clause-within
-taken-requires-clause-within c = λ k e at.
-    subst (λ (x : Given). IsWithin (sizes_of x) e) (sym c.note-2.ensures.sizes) (c.requires.within k e at)
-
-pub returns-else-takes : goal.returns-else-takes
-returns-else-takes c =
-    let events = c.args.events.now in
-    let k = c.args.place in
-    let s = sizes_of c.args.gaps.now.sizes in
-    let there = slice_get-get_or events k (event 0 (Load 0 0)) c.requires.place in
-    record {
-      sizes = c.note-2.ensures.sizes;
-      tells = c.in_ok-note-2.ensures.tells;
-      dues = λ e at.
-          subst (AreDues s events k e) (sym c.new.ensures.items)
-          (subst (λ (f : Event). AreDues s events k f []) (at_same events k (here events k) e there at)
-          (quiet_dues s events k (here events k) there (sym c.takes.ensures ∙ c.if-takes.false) c.in_default.not-Fetch));
-    }
-
 pub fetched-requires-clause-fetch : goal.fetched-requires-clause-fetch
 fetched-requires-clause-fetch c = λ e at.
     (let events = c.args.events.now in
     let k = c.args.place in
     let there = slice_get-get_or events k (event 0 (Load 0 0)) c.requires.place in
-    let fetch = c.in-Fetch in
-    (fetch.writers, fetch.records, fetch.words,
-        sym (ap (λ (x : Event). x.kind) (at_same events k (here events k) e there at)) ∙ fetch.is))
+    let fetch = c.in-Fetch in (
+      fetch.writers,
+      fetch.records,
+      fetch.words,
+      sym (ap (λ (x : Event). x.kind) (at_same events k (here events k) e there at)) ∙ fetch.is,
+    ))
 
 pub fetched-requires-clause-page : goal.fetched-requires-clause-page
 fetched-requires-clause-page c =
@@ -69,6 +53,10 @@ time-requires c =
     let few = c.requires.so_far.long.sizes.processors in
     record { tells = (take k events, c.requires.so_far); processor = omega arith }
 
+pub taken-requires-clause-within : goal.taken-requires-clause-within
+taken-requires-clause-within c = λ k e at.
+    subst (λ (x : Given). IsWithin (sizes_of x) e) (sym c.note-2.ensures.sizes) (c.requires.within k e at)
+
 pub returns-then-takes : goal.returns-then-takes
 returns-then-takes c =
     let events = c.args.events.now in
@@ -81,4 +69,19 @@ returns-then-takes c =
           (λ (x : Given). IfOk c.taken.result
           (λ (v : Vec Due). (e : Event) → At events k e → AreDues (sizes_of x) events k e v.items))
           c.note-2.ensures.sizes c.taken.ensures;
+    }
+
+pub returns-else-takes : goal.returns-else-takes
+returns-else-takes c =
+    let events = c.args.events.now in
+    let k = c.args.place in
+    let s = sizes_of c.args.gaps.now.sizes in
+    let there = slice_get-get_or events k (event 0 (Load 0 0)) c.requires.place in
+    record {
+      sizes = c.note-2.ensures.sizes;
+      tells = c.in_ok-note-2.ensures.tells;
+      dues = λ e at.
+          subst (AreDues s events k e) (sym c.new.ensures.items)
+          (subst (λ (f : Event). AreDues s events k f []) (at_same events k (here events k) e there at)
+          (quiet_dues s events k (here events k) there (sym c.takes.ensures ∙ c.if-takes.false) c.in_default.not-Fetch));
     }
