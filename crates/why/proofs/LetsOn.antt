@@ -1,5 +1,5 @@
 -- The events of other processors with an edge to an event.
-use Rattle.std.proofs.Common.{◌≡◌, ◌≢◌, ℕ, ◌+◌, ◌<◌, ◌≤◌, ◌==◌, ◌&&◌, Bool, cond, inl, inr, List, [], ◌∷◌, ◌++◌, Some, length, take, slice_index, slice_set, subst, sym, refl, ap, ◌∙◌, arith}
+use Rattle.std.proofs.Common.{◌≡◌, ◌≢◌, ℕ, ◌+◌, ◌<◌, ◌≤◌, ◌==◌, ◌&&◌, Bool, true, false, cond, inl, inr, List, [], ◌∷◌, ◌++◌, Some, length, take, slice_index, slice_set, subst, sym, refl, ap, ◌∙◌, arith}
 use Rattle.std.proofs.lemmas.Bool.{cases_eq, eq-eqb, ne_eqb}
 use Rattle.std.proofs.lemmas.List.{length-take-le, get_or-set_same, get_or-set_other}
 use Rattle.std.proofs.lemmas.List.Sums.{count_by-le-length}
@@ -135,6 +135,11 @@ count_within is j i p le =
     let all = count_by-le-length (λ (e : Event). (e.processor == p) && is e.kind) (take i j) in
     let long = length-take-le i j le in
     omega arith
+
+-- one or none is at most one
+pub one_or_none : (b : Bool) → cond b 1 0 ≤ 1
+one_or_none true = omega arith
+one_or_none false = omega arith
 
 -- counts of some kind one place on
 pub counts_next : (is : Kind → Bool) (j : List Event) (i : ℕ) (e : Event) (counts : List ℕ) (now : ℕ) → At j i e → length counts ≡ 16

@@ -1,7 +1,7 @@
 //! Where each event's processor gets to know of what is news to it: of each other processor the last of the events.
-ghost use Rattle.std.specs.Prelude.{◌≡◌, ℕ, ◌<◌, ◌≤◌, IfOk, MatchOption, length, vec_len};
+ghost use Rattle.std.specs.Prelude.{◌≡◌, ℕ, ◌<◌, ◌≤◌, [], IfOk, MatchOption, length, vec_len};
 ghost use Rattle.lists.specs.Prelude.{most_held, most_processors};
-ghost use Rattle.journal.specs.Prelude.{ProcessorsInRange};
+ghost use Rattle.journal.specs.Prelude.{AreClocks, ProcessorsInRange};
 ghost use Rattle.why.specs.Prelude.{AreAllEntrances, AreEntrances, IsIndex, IsLastNew, IsNewOf, IsStep};
 
 use crate::index::{Index, index_of};
@@ -47,6 +47,27 @@ fn entrances(
     Ok(places)
 }
 
+/// Those of each event, where the clocks tell nothing so far.
+fn all_entrances(
+    alloc: Global,
+    clocks: &mut Clocks,
+    events: &[Event],
+    index: &Index,
+) -> Result<Vec<Vec<usize>>, AllocError>
+    requires few { length events.now ≤ most_held }
+    requires processors { ProcessorsInRange clocks.old.present events.now }
+    requires start { AreClocks [] clocks.old }
+    requires index { IsIndex events.now index.now }
+    ensures { IfOk result (λ v. AreAllEntrances events.now v.items) }
+{
+    let mut rows = Vec::with_capacity(alloc, events.len())?;
+    for place in 0..events.len() {
+        let step = take_step(clocks, events, place)?;
+        rows.push(entrances(alloc, events, index, &step)?)?;
+    }
+    Ok(rows)
+}
+
 /// Of each event of a history of so many processors: of each other processor the last of the events that are news to
 /// it. Each of its news is one of these, or happens before one. The only error is running out of memory.
 pub(crate) fn entrances_of(
@@ -61,10 +82,5 @@ pub(crate) fn entrances_of(
 {
     let index = index_of(alloc, events)?;
     let mut clocks = Clocks::new(alloc, processors)?;
-    let mut rows = Vec::with_capacity(alloc, events.len())?;
-    for place in 0..events.len() {
-        let step = take_step(&mut clocks, events, place)?;
-        rows.push(entrances(alloc, events, &index, &step)?)?;
-    }
-    Ok(rows)
+    all_entrances(alloc, &mut clocks, events, &index)
 }

@@ -1,5 +1,5 @@
 //! What copies of pages lack: of which records an event that takes brings word, and which a fetch brings.
-ghost use Rattle.std.specs.Prelude.{◌≡◌, ℕ, ◌+◌, ◌*◌, ◌<◌, ◌≤◌, ◌^◌, IfOk, List, OnOk, Some, length, slice_get, slice_index, take, true, vec_len};
+ghost use Rattle.std.specs.Prelude.{◌≡◌, ℕ, ◌+◌, ◌*◌, ◌<◌, ◌≤◌, ◌^◌, [], IfOk, List, OnOk, Some, length, slice_get, slice_index, take, true, vec_len};
 ghost use Rattle.lists.specs.Prelude.{most_held};
 ghost use Rattle.journal.specs.declared.event.Event.{Event};
 ghost use Rattle.journal.specs.declared.event.Kind.TheVariants.{Fetch};
@@ -186,6 +186,21 @@ fn dues_at(
     }
 }
 
+/// Takes note of all events, and answers of which records each tells. The gaps tell nothing so far.
+fn dues_of(alloc: Global, gaps: &mut Gaps, events: &[Event]) -> Result<Vec<Vec<Due>>, AllocError>
+    requires few { length events.now ≤ most_held }
+    requires within { (k : ℕ) (e : Event) → At events.now k e → IsWithin (sizes_of gaps.old.sizes) e }
+    requires start { TellsGaps [] gaps.old }
+    ensures long { IfOk result (λ v. vec_len v ≡ length events.now) }
+    ensures dues { IfOk result (λ v. AreAllDues (sizes_of gaps.old.sizes) events.now v.items) }
+{
+    let mut rows = Vec::with_capacity(alloc, events.len())?;
+    for place in 0..events.len() {
+        rows.push(dues_at(alloc, gaps, events, place)?)?;
+    }
+    Ok(rows)
+}
+
 /// Of each event of a history of a cluster of these sizes: of a fetch, which records its processor's copy of the page
 /// lacked, by writers; of an event that takes, which records its processor's copies lack after it that they did not lack
 /// before, by pages and then by writers; and nothing of any other. A page with such records is stale.
@@ -200,9 +215,5 @@ pub fn dues(alloc: Global, sizes: Sizes, events: &[Event]) -> Result<Vec<Vec<Due
     ensures dues { IfOk result (λ v. AreAllDues (sizes_of sizes) events.now v.items) }
 {
     let mut gaps = Gaps::new(alloc, sizes)?;
-    let mut rows = Vec::with_capacity(alloc, events.len())?;
-    for place in 0..events.len() {
-        rows.push(dues_at(alloc, &mut gaps, events, place)?)?;
-    }
-    Ok(rows)
+    dues_of(alloc, &mut gaps, events)
 }

@@ -1,5 +1,5 @@
 //! What each event brings its processor news of: the events that let it through and that its processor had not heard of.
-ghost use Rattle.std.specs.Prelude.{◌≡◌, ◌↔◌, ◌⊎◌, ℕ, ◌+◌, ◌<◌, ◌≤◌, IsTrue, IfOk, OnOk, length, take, vec_len};
+ghost use Rattle.std.specs.Prelude.{◌≡◌, ◌↔◌, ◌⊎◌, ℕ, ◌+◌, ◌<◌, ◌≤◌, [], IsTrue, IfOk, OnOk, length, take, vec_len};
 ghost use Rattle.lists.specs.Prelude.{Has, most_held, most_processors};
 ghost use Rattle.lists.specs.Places.{IsOnce};
 ghost use Rattle.journal.specs.Times.{ClosesAt};
@@ -111,6 +111,28 @@ pub(crate) fn take_step(
     })
 }
 
+/// Of each event its news, where the clocks tell nothing so far.
+fn all_news(
+    alloc: Global,
+    clocks: &mut Clocks,
+    events: &[Event],
+    index: &Index,
+) -> Result<Vec<Vec<usize>>, AllocError>
+    requires few { length events.now ≤ most_held }
+    requires processors { ProcessorsInRange clocks.old.present events.now }
+    requires start { AreClocks [] clocks.old }
+    requires index { IsIndex events.now index.now }
+    ensures long { IfOk result (λ v. vec_len v ≡ length events.now) }
+    ensures news { IfOk result (λ v. AreIncoming events.now v.items) }
+{
+    let mut rows = Vec::with_capacity(alloc, events.len())?;
+    for place in 0..events.len() {
+        let step = take_step(clocks, events, place)?;
+        rows.push(news(alloc, events, index, &step)?)?;
+    }
+    Ok(rows)
+}
+
 /// Of each event of a history of `processors` processors, at most `MOST_PROCESSORS`: the places, rising, of the events
 /// of other processors that have an edge to it and that its processor had not heard of: that happen before none of its
 /// earlier events. None where it takes nothing, or nothing new. The only error is running out of memory.
@@ -130,10 +152,5 @@ pub fn incoming(
 {
     let index = index_of(alloc, events)?;
     let mut clocks = Clocks::new(alloc, processors)?;
-    let mut rows = Vec::with_capacity(alloc, events.len())?;
-    for place in 0..events.len() {
-        let step = take_step(&mut clocks, events, place)?;
-        rows.push(news(alloc, events, &index, &step)?)?;
-    }
-    Ok(rows)
+    all_news(alloc, &mut clocks, events, &index)
 }

@@ -12,6 +12,25 @@ use Rattle.why.proofs.answers.loads.Goals as goal
 abbrev here : List Event → ℕ → Event
 here events place = slice_index_or events place (event 0 (Load 0 0))
 
+pub index-requires : goal.index-requires
+index-requires c =
+    let lt = c.loop-place-test.true in
+    let long = c.in_ok-rows.ensures.long in
+    omega arith
+
+pub source_at-requires : goal.source_at-requires
+source_at-requires c =
+    let events = c.args.events.now in
+    let place = c.loop-place.place in
+    let at = slice_get-get_or events place (event 0 (Load 0 0)) c.loop-place-test.true in
+    let rows = c.in_ok-rows.rows in
+    let read = c.index.result.now in
+    let all : length rows.items ≡ length events = omega (arith, rows.ok.0, c.in_ok-rows.ensures.long) in
+    let there = slice_get_read rows.items (length rows.items) place read refl (omega arith) c.index.ensures in
+    let row : IsRow events place c.deref.result.now =
+    subst (IsRow events place) (sym c.deref.ensures.value) (c.in_ok-rows.ensures.rows place read there) in
+    record { row = (place, at, row) }
+
 pub loop-place-preserved : goal.loop-place-preserved
 loop-place-preserved c =
     let events = c.args.events.now in
@@ -33,3 +52,6 @@ loop-place-preserved c =
           (sources_next events sources.items place c.source_at.result long old.sources
           (c.source_at.ensures place at row));
     }
+
+pub returns-clause-sources : goal.returns-clause-sources
+returns-clause-sources c = c.loop-place.invariant.sources

@@ -1,13 +1,13 @@
-use Rattle.std.proofs.Common.{◌≡◌, ℕ, ◌<◌, List, Some, length, slice_get, slice_index_or, subst, sym, ◌∙◌, arith}
+use Rattle.std.proofs.Common.{◌≡◌, ℕ, ◌<◌, List, Some, length, slice_get, slice_index_or, subst, sym, refl, ◌∙◌, arith}
 use Rattle.std.proofs.lemmas.List.{length-set}
-use Rattle.std.proofs.lemmas.Option.{slice_get-get_or}
+use Rattle.std.proofs.lemmas.Option.{none-some, slice_get-get_or}
 use Rattle.journal.specs.declared.event.Event.{Event}
 use Rattle.journal.specs.declared.event.Kind.TheVariants.{Load}
 use Rattle.journal.specs.Did.{event}
 use Rattle.journal.specs.Events.{At}
 use Rattle.why.specs.declared.index.Turn.{Turn}
 use Rattle.why.specs.Index.{IsTurn}
-use Rattle.why.proofs.LookedUp.{AreNext, next_next, turn_small, turns_next}
+use Rattle.why.proofs.LookedUp.{AreNext, next_first, next_next, turn_small, turns_next}
 use Rattle.why.proofs.index.turns.Goals as goal
 
 abbrev zero : Turn
@@ -25,6 +25,15 @@ own events place next lt long low are =
     are (here events place).processor (slice_index_or next (here events place).processor zero)
     (slice_get-get_or next (here events place).processor zero (omega arith))
 
+pub loop-place-init : goal.loop-place-init
+loop-place-init c = record {
+  next_long = refl;
+  next = next_first c.args.events.now zero refl refl;
+  long = c.in_ok-turns.ensures.len;
+  each = λ i e t at to.
+      absurd (none-some t (subst (λ (items : List Turn). slice_get items i ≡ Some t) c.in_ok-turns.ensures.items to));
+}
+
 pub offset_bounds-next-event : goal.offset_bounds-next-event
 offset_bounds-next-event c =
     let events = c.args.events.now in
@@ -34,19 +43,6 @@ offset_bounds-next-event c =
 
 pub bounds-next-event : goal.bounds-next-event
 bounds-next-event c =
-    let events = c.args.events.now in
-    let at = slice_get-get_or events c.loop-place.place (event 0 (Load 0 0)) c.loop-place-test.true in
-    c.requires.processors c.loop-place.place (here events c.loop-place.place) at
-
-pub offset_bounds-next-event-in-loop-place : goal.offset_bounds-next-event-in-loop-place
-offset_bounds-next-event-in-loop-place c =
-    let events = c.args.events.now in
-    let at = slice_get-get_or events c.loop-place.place (event 0 (Load 0 0)) c.loop-place-test.true in
-    let low = c.requires.processors c.loop-place.place (here events c.loop-place.place) at in
-    omega arith
-
-pub bounds-next-event-in-loop-place : goal.bounds-next-event-in-loop-place
-bounds-next-event-in-loop-place c =
     let events = c.args.events.now in
     let at = slice_get-get_or events c.loop-place.place (event 0 (Load 0 0)) c.loop-place-test.true in
     c.requires.processors c.loop-place.place (here events c.loop-place.place) at
@@ -75,6 +71,19 @@ turn_after-requires-clause-departed c =
     let mine = own events place c.loop-place.next (omega arith) c.loop-place.invariant.next_long low c.loop-place.invariant.next in
     (turn_small events place (here events place).processor _ (omega arith) few mine).1
 
+pub offset_bounds-next-event-in-loop-place : goal.offset_bounds-next-event-in-loop-place
+offset_bounds-next-event-in-loop-place c =
+    let events = c.args.events.now in
+    let at = slice_get-get_or events c.loop-place.place (event 0 (Load 0 0)) c.loop-place-test.true in
+    let low = c.requires.processors c.loop-place.place (here events c.loop-place.place) at in
+    omega arith
+
+pub bounds-next-event-in-loop-place : goal.bounds-next-event-in-loop-place
+bounds-next-event-in-loop-place c =
+    let events = c.args.events.now in
+    let at = slice_get-get_or events c.loop-place.place (event 0 (Load 0 0)) c.loop-place-test.true in
+    c.requires.processors c.loop-place.place (here events c.loop-place.place) at
+
 pub loop-place-preserved : goal.loop-place-preserved
 loop-place-preserved c =
     let events = c.args.events.now in
@@ -99,3 +108,10 @@ loop-place-preserved c =
           → IsTurn events i f.processor t) (sym c.in_ok-push.ensures.items)
           (turns_next events place e turns.items turn long at mine old.each);
     }
+
+pub returns : goal.returns
+returns c =
+    let over = c.loop-place-test.false in
+    let top = c.loop-place.auto.place-end in
+    let old = c.loop-place.invariant in
+    record { long = omega (arith, c.loop-place.turns.ok.0, old.long); each = old.each }

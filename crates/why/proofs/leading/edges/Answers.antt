@@ -6,9 +6,10 @@ use Rattle.journal.specs.declared.event.Event.{Event}
 use Rattle.journal.specs.declared.event.Kind.TheVariants.{Load}
 use Rattle.journal.specs.Did.{event}
 use Rattle.journal.specs.Events.{count_of, is_arrive, is_depart}
+use Rattle.journal.proofs.Passes.Entries.{zeros_at}
 use Rattle.journal.specs.InRange.{ProcessorsInRange}
 use Rattle.why.specs.Edges.{EdgeFromOther, LetsOn}
-use Rattle.why.proofs.LetsOn.{AreEdgesBelow, counts_next, edges_all, edges_next, edges_other, leads, led}
+use Rattle.why.proofs.LetsOn.{AreEdgesBelow, count_within, counts_next, edges_all, edges_none, edges_next, edges_other, leads, led, one_or_none}
 use Rattle.why.proofs.leading.edges.Goals as goal
 use Rattle.why.proofs.leading.edges.Goals.{then-from-to+then-lets_on+in_ok-push, else-from-to, else-from-to-via-then-from-to+else-lets_on, else-from-to-via-else-from-to}
 
@@ -22,6 +23,15 @@ low : (events : List Event) (place i : ℕ) → i < place → place < length eve
 low events place i lt inside range =
     range i (here events i) (slice_get-get_or events i (event 0 (Load 0 0)) (omega arith))
 
+pub loop-i-init : goal.loop-i-init
+loop-i-init c = record {
+  long = refl;
+  counts = λ q lt. zeros_at 16 q;
+  edges =
+      subst (AreEdgesBelow c.args.events.now c.args.place 0) (sym c.new-places.ensures.items)
+      (edges_none c.args.events.now c.args.place);
+}
+
 pub offset_bounds-arrivals-from : goal.offset_bounds-arrivals-from
 offset_bounds-arrivals-from c =
     let is = low c.args.events.now c.args.place c.loop-i.i c.loop-i-test.true c.requires.place c.requires.processors in
@@ -30,6 +40,21 @@ offset_bounds-arrivals-from c =
 pub bounds-arrivals-from : goal.bounds-arrivals-from
 bounds-arrivals-from c =
     low c.args.events.now c.args.place c.loop-i.i c.loop-i-test.true c.requires.place c.requires.processors
+
+pub overflow_add-arrivals : goal.overflow_add-arrivals
+overflow_add-arrivals c =
+    let events = c.args.events.now in
+    let i = c.loop-i.i in
+    let p = (here events i).processor in
+    let lt = c.loop-i-test.true in
+    let inside = c.requires.place in
+    let small = c.ranges.place.fits in
+    let is = low events c.args.place i lt inside c.requires.processors in
+    let count = c.loop-i.invariant.counts p is in
+    let most = count_within is_arrive events i p (omega arith) in
+    let one = c.arrivals_of.ensures in
+    let bit = one_or_none (is_arrive (here events i).kind) in
+    omega arith
 
 pub offset_bounds-arrivals-from-in-loop-i : goal.offset_bounds-arrivals-from-in-loop-i
 offset_bounds-arrivals-from-in-loop-i c =

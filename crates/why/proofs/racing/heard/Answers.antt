@@ -28,6 +28,22 @@ offset_bounds-events-second c =
 pub bounds-events-second : goal.bounds-events-second
 bounds-events-second c = slice_get_within c.args.events.now c.args.second c.requires.second.0 c.requires.second.1
 
+pub of-time-requires : goal.of-time-requires
+of-time-requires c =
+    let events = c.args.events.now in
+    let second = c.args.second in
+    let e = c.requires.second.0 in
+    let at = c.requires.second.1 in
+    let within = slice_get_within events second e at in
+    let same =
+    at_same events second (slice_index_or events second (event 0 (Load 0 0))) e
+    (slice_get-get_or events second (event 0 (Load 0 0)) within) at in
+    let one = ap (λ (y : Event). y.processor) same in
+    let few = c.requires.few_processors in
+    let low = c.requires.processors second e at in
+    let long = c.loop-place.invariant.clocks.long in
+    omega arith
+
 pub last_heard-requires-clause-place : goal.last_heard-requires-clause-place
 last_heard-requires-clause-place c =
     slice_get_within c.args.events.now c.args.second c.requires.second.0 c.requires.second.1

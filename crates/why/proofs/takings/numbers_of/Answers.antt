@@ -1,4 +1,4 @@
-use Rattle.std.proofs.Common.{◌≡◌, ◌<◌, ℕ, List, length, slice_index_or, ◌∙◌, arith}
+use Rattle.std.proofs.Common.{◌≡◌, ◌<◌, ℕ, List, length, slice_index_or, refl, ◌∙◌, arith}
 use Rattle.std.proofs.lemmas.List.{length-set}
 use Rattle.std.proofs.lemmas.Option.{slice_get-get_or, slice_get_within}
 use Rattle.journal.specs.declared.event.Event.{Event}
@@ -6,7 +6,8 @@ use Rattle.journal.specs.declared.event.Kind.TheVariants.{Load}
 use Rattle.journal.specs.Did.{event}
 use Rattle.journal.specs.Events.{is_closing}
 use Rattle.journal.specs.InRange.{ProcessorsInRange}
-use Rattle.why.proofs.LetsOn.{counts_next}
+use Rattle.journal.proofs.Passes.Entries.{zeros_at}
+use Rattle.why.proofs.LetsOn.{count_within, counts_next, one_or_none}
 use Rattle.why.proofs.Takes.{numbers_next}
 use Rattle.why.proofs.takings.numbers_of.Goals as goal
 
@@ -19,6 +20,14 @@ low : (events : List Event) (place : ℕ) → place < length events → Processo
     → (here events place).processor < 16
 low events place lt range = range place (here events place) (slice_get-get_or events place (event 0 (Load 0 0)) lt)
 
+pub loop-place-init : goal.loop-place-init
+loop-place-init c = record {
+  closed_long = refl;
+  closed = λ q lt. zeros_at 16 q;
+  long = c.in_ok-numbers.ensures.len;
+  numbers = λ k e lt at. absurd (omega arith);
+}
+
 pub offset_bounds-closed-event : goal.offset_bounds-closed-event
 offset_bounds-closed-event c =
     let is = low c.args.events.now c.loop-place.place c.loop-place-test.true c.requires.processors in
@@ -26,6 +35,20 @@ offset_bounds-closed-event c =
 
 pub bounds-closed-event : goal.bounds-closed-event
 bounds-closed-event c = low c.args.events.now c.loop-place.place c.loop-place-test.true c.requires.processors
+
+pub overflow_add-closed : goal.overflow_add-closed
+overflow_add-closed c =
+    let events = c.args.events.now in
+    let place = c.loop-place.place in
+    let p = (here events place).processor in
+    let lt = c.loop-place-test.true in
+    let few = c.requires.few in
+    let is = low events place lt c.requires.processors in
+    let count = c.loop-place.invariant.closed p is in
+    let most = count_within is_closing events place p (omega arith) in
+    let one = c.closing_of.ensures in
+    let bit = one_or_none (is_closing (here events place).kind) in
+    omega arith
 
 pub offset_bounds-closed-event-in-loop-place : goal.offset_bounds-closed-event-in-loop-place
 offset_bounds-closed-event-in-loop-place c =

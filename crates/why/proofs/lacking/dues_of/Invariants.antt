@@ -2,12 +2,12 @@ use Rattle.std.proofs.Common.{◌≡◌, take, vec_len}
 use Rattle.judge.specs.Gaps.{TellsGaps}
 use Rattle.judge.specs.Sizes.{sizes_of}
 use Rattle.why.specs.Dues.{AreAllDues}
-use Rattle.why.proofs.lacking.dues.Given as goal
+use Rattle.why.proofs.lacking.dues_of.Given as goal
 
 abbrev pub invariant-loop-place : goal.invariant-loop-place
 invariant-loop-place l = record {
   tells : TellsGaps (take l.place l.events) l.gaps;
-  sizes : l.gaps.sizes ≡ l.fn.sizes;
+  sizes : l.gaps.sizes ≡ l.fn.gaps.sizes;
   long : vec_len l.rows ≡ l.place;
-  rows : AreAllDues (sizes_of l.fn.sizes) l.events l.rows.items;
+  rows : AreAllDues (sizes_of l.fn.gaps.sizes) l.events l.rows.items;
 }

@@ -2,12 +2,12 @@ use Rattle.std.proofs.Common.{◌≡◌, ℕ, Some, slice_get, take, vec_len}
 use Rattle.std.specs.Global.{Vec}
 use Rattle.journal.specs.Clocks.{AreClocks}
 use Rattle.why.specs.Entrances.{AreEntrances}
-use Rattle.why.proofs.entrances.entrances_of.Given as goal
+use Rattle.why.proofs.entrances.all_entrances.Given as goal
 
 abbrev pub invariant-loop-place : goal.invariant-loop-place
 invariant-loop-place l = record {
   clocks : AreClocks (take l.place l.events) l.clocks;
-  present : l.clocks.present ≡ l.processors;
+  present : l.clocks.present ≡ l.fn.clocks.present;
   long : vec_len l.rows ≡ l.place;
   rows : (k : ℕ) (row : Vec ℕ) → slice_get l.rows.items k ≡ Some row → AreEntrances l.events k row.items;
 }
