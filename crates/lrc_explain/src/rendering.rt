@@ -11,7 +11,7 @@ use crate::shape::Shape;
 use crate::story::put_story;
 use crate::text::Text;
 use journal::{Journal, MOST_PROCESSORS};
-use lrc_report::render::render as render_report;
+use lrc_report::render::put_report;
 use runs::Ended;
 use std::alloc::Global;
 use std::io::Write;
@@ -50,13 +50,13 @@ fn put_run(
 }
 
 /// Adds the report's lines, where the run has one. The only error is running out of memory.
-fn put_report(text: &mut Vec<u8>, ended: &Ended) -> Result<(), ExplainFault>
+fn put_end(text: &mut Vec<u8>, ended: &Ended) -> Result<(), ExplainFault>
     ensures { OnOk result (text.new.items ≡ text.old.items ++ end_text ended.now) }
 {
     let Ended::Whole(report) = ended else {
         return Ok(());
     };
-    match render_report(report, false, text) {
+    match put_report(text, report) {
         Ok(()) => Ok(()),
         Err(_) => Err(ExplainFault::NoMemory),
     }
@@ -74,7 +74,7 @@ fn text_of(
     let mut text = Text::new(alloc);
     put_run(&mut text, alloc, processors, words, ended)?;
     let mut bytes = text.finish()?;
-    put_report(&mut bytes, ended)?;
+    put_end(&mut bytes, ended)?;
     Ok(bytes)
 }
 

@@ -1,5 +1,5 @@
 //! Prints a report.
-ghost use Rattle.std.specs.Prelude.{◌≡◌, ◌≤◌, ◌<◌, ◌+◌, ◌^◌, ◌++◌, codes, length};
+ghost use Rattle.std.specs.Prelude.{◌≡◌, ◌≤◌, ◌<◌, ◌+◌, ◌^◌, ◌++◌, OnOk, codes, false, length};
 ghost use Rattle.std.specs.Fmt.{decimal};
 ghost use Rattle.std.specs.List.{flat_map};
 ghost use Rattle.lrc_report.specs.Prelude.{word_line, verdict_line, traffic_line, cut_line, kind_text, event_line};
@@ -268,4 +268,15 @@ pub fn render<W: Write>(report: &Report, journal: bool, out: &mut W) -> Result<(
     write_summary(out, &mut pending, report)?;
     write_journal(out, &mut pending, report, journal)?;
     finish(out, &mut pending)
+}
+
+/// Adds the report's lines, without those of its journal, to a text.
+///
+/// # Errors
+///
+/// OutFault where memory for the text was refused; a beginning of the lines was added then.
+pub fn put_report(text: &mut Vec<u8>, report: &Report) -> Result<(), OutFault>
+    ensures { OnOk result (text.new.items ≡ text.old.items ++ report_text report.now false) }
+{
+    render(report, false, text)
 }
