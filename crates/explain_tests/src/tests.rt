@@ -1,5 +1,5 @@
 //! Histories worked by hand, and what is told of them.
-ghost use Rattle.std.specs.Prelude.{◌≡◌, ◌<◌, ◌≤◌, IsTrue, length};
+ghost use Rattle.std.specs.Prelude.{◌<◌, ◌≤◌, IsTrue, length};
 ghost use Rattle.lists.specs.Prelude.{most_held, most_processors};
 ghost use Rattle.journal.specs.Prelude.{AddressInRange, AddressesInRange, ProcessorsInRange};
 
@@ -9,12 +9,29 @@ mod pictures;
 mod texts;
 
 use journal::{Event, Kind, MOST_HELD, MOST_PROCESSORS};
+use std::alloc::{AllocError, Global};
 
-/// An event of processor `processor`.
-fn by(processor: usize, kind: Kind) -> Event
-    ensures { result ≡ record { processor = processor; kind = kind } }
-{
-    Event { processor, kind }
+/// An event's processor, and what it did.
+type Row = (usize, Kind);
+
+/// The events of these rows.
+fn events_of(alloc: Global, rows: &[Row]) -> Result<Vec<Event>, AllocError> {
+    let mut events = Vec::with_capacity(alloc, rows.len())?;
+    for (processor, kind) in rows {
+        events.push(Event {
+            processor: *processor,
+            kind: *kind,
+        })?;
+    }
+    Ok(events)
+}
+
+/// The history of these rows; where memory is refused once, it is asked for again.
+fn history(alloc: Global, rows: &[Row]) -> Result<Vec<Event>, AllocError> {
+    match events_of(alloc, rows) {
+        Ok(events) => Ok(events),
+        Err(_) => events_of(alloc, rows),
+    }
 }
 
 /// Whether a history of these sizes can have the event.

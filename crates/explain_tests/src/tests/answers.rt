@@ -4,7 +4,7 @@ ghost use Rattle.lists.specs.Prelude.{most_held, most_processors};
 ghost use Rattle.journal.specs.Prelude.{AddressInRange, AddressesInRange, ProcessorsInRange};
 ghost use Rattle.sources.specs.Prelude.{Tells};
 
-use super::{are_in_range, by};
+use super::{Row, are_in_range, history};
 use journal::{Event, Kind, MOST_PROCESSORS};
 use sources::{Sources, first_unexplained, latest};
 use std::alloc::{AllocError, Global};
@@ -16,24 +16,25 @@ use std::test::Fail;
 fn tells<R: Abort + AllocGlobal>(
     rt: &R,
     sizes: (usize, usize),
-    events: &[Event],
+    rows: &[Row],
     want: &[&[usize]],
 ) -> Result<(), Fail> {
-    assert!(rt; are_in_range(events, sizes.0, sizes.1));
-    let rows = match latest(rt.alloc(), sizes.0, sizes.1, events) {
-        Ok(rows) => rows,
-        Err(_) => latest(rt.alloc(), sizes.0, sizes.1, events)?,
+    let events = history(rt.alloc(), rows)?;
+    assert!(rt; are_in_range(&events, sizes.0, sizes.1));
+    let stores = match latest(rt.alloc(), sizes.0, sizes.1, &events) {
+        Ok(stores) => stores,
+        Err(_) => latest(rt.alloc(), sizes.0, sizes.1, &events)?,
     };
-    assert!(rt; want.len() <= rows.len());
-    let first = rows.len() - want.len();
-    for (place, row) in rows.iter().enumerate() {
+    assert!(rt; want.len() <= stores.len());
+    let first = stores.len() - want.len();
+    for (place, places) in stores.iter().enumerate() {
         if place < first {
-            assert!(rt; row.is_empty());
+            assert!(rt; places.is_empty());
         } else {
-            assert!(rt; row.as_slice() == want[place - first]);
+            assert!(rt; places.as_slice() == want[place - first]);
         }
     }
-    is_refused(rt, sizes, events, None)
+    is_refused(rt, sizes, rows, None)
 }
 
 /// The first load of a history of that many processors and addresses that answers what it may not stands at this place,
@@ -41,13 +42,14 @@ fn tells<R: Abort + AllocGlobal>(
 fn is_refused<R: Abort + AllocGlobal>(
     rt: &R,
     sizes: (usize, usize),
-    events: &[Event],
+    rows: &[Row],
     want: Option<usize>,
 ) -> Result<(), Fail> {
-    assert!(rt; are_in_range(events, sizes.0, sizes.1));
-    let found = match first_unexplained(rt.alloc(), sizes.0, sizes.1, events) {
+    let events = history(rt.alloc(), rows)?;
+    assert!(rt; are_in_range(&events, sizes.0, sizes.1));
+    let found = match first_unexplained(rt.alloc(), sizes.0, sizes.1, &events) {
         Ok(found) => found,
-        Err(_) => first_unexplained(rt.alloc(), sizes.0, sizes.1, events)?,
+        Err(_) => first_unexplained(rt.alloc(), sizes.0, sizes.1, &events)?,
     };
     assert!(rt; found == want);
     Ok(())
@@ -58,12 +60,12 @@ fn is_refused<R: Abort + AllocGlobal>(
 #[test]
 fn wrong_replies(rt: HostRuntime) -> Result<(), Fail> {
     let events = [
-        by(0, Kind::Store(0, 7)),
-        by(0, Kind::Store(0, 8)),
-        by(0, Kind::Set(0)),
-        by(1, Kind::Watch(0)),
-        by(1, Kind::Await(0)),
-        by(0, Kind::Store(0, 9)),
+        (0, Kind::Store(0, 7)),
+        (0, Kind::Store(0, 8)),
+        (0, Kind::Set(0)),
+        (1, Kind::Watch(0)),
+        (1, Kind::Await(0)),
+        (0, Kind::Store(0, 9)),
     ];
     for value in [0, 7, 9, 10] {
         let told = [
@@ -73,19 +75,19 @@ fn wrong_replies(rt: HostRuntime) -> Result<(), Fail> {
             events[3],
             events[4],
             events[5],
-            by(1, Kind::Load(0, 8)),
-            by(1, Kind::Load(0, value)),
-            by(1, Kind::Load(0, 0)),
+            (1, Kind::Load(0, 8)),
+            (1, Kind::Load(0, value)),
+            (1, Kind::Load(0, 0)),
         ];
         is_refused(&rt, (2, 1), &told, Some(7))?;
     }
     is_refused(
         &rt,
         (2, 2),
-        &[events[0], by(1, Kind::Load(0, 7)), by(0, Kind::Load(1, 7))],
+        &[events[0], (1, Kind::Load(0, 7)), (0, Kind::Load(1, 7))],
         Some(1),
     )?;
-    is_refused(&rt, (2, 2), &[by(0, Kind::Load(0, 7)), events[0]], Some(0))
+    is_refused(&rt, (2, 2), &[(0, Kind::Load(0, 7)), events[0]], Some(0))
 }
 
 /// Whether each load of the history may answer its value and no other one below 10, by sources that take it an event at
@@ -130,26 +132,27 @@ fn answers_only(sources: &Sources, front: &[Event], event: Event) -> bool
 #[test]
 fn message(rt: HostRuntime) -> Result<(), Fail> {
     let front = [
-        by(0, Kind::Store(0, 7)),
-        by(0, Kind::Set(0)),
-        by(1, Kind::Watch(0)),
+        (0, Kind::Store(0, 7)),
+        (0, Kind::Set(0)),
+        (1, Kind::Watch(0)),
     ];
-    let early = [front[0], front[1], front[2], by(1, Kind::Load(0, 0))];
+    let early = [front[0], front[1], front[2], (1, Kind::Load(0, 0))];
     tells(&rt, (2, 1), &early, &[&[]])?;
     let late = [
         front[0],
         front[1],
         front[2],
-        by(1, Kind::Await(0)),
-        by(0, Kind::Store(0, 8)),
-        by(1, Kind::Load(0, 7)),
-        by(0, Kind::Load(0, 8)),
+        (1, Kind::Await(0)),
+        (0, Kind::Store(0, 8)),
+        (1, Kind::Load(0, 7)),
+        (0, Kind::Load(0, 8)),
     ];
     tells(&rt, (2, 1), &late, &[&[0], &[4]])?;
-    assert!(rt; are_in_range(&late, 2, 1));
-    let found = match only_these(rt.alloc(), 2, 1, &late) {
+    let events = history(rt.alloc(), &late)?;
+    assert!(rt; are_in_range(&events, 2, 1));
+    let found = match only_these(rt.alloc(), 2, 1, &events) {
         Ok(found) => found,
-        Err(_) => only_these(rt.alloc(), 2, 1, &late)?,
+        Err(_) => only_these(rt.alloc(), 2, 1, &events)?,
     };
     assert!(rt; found);
     Ok(())
@@ -159,27 +162,27 @@ fn message(rt: HostRuntime) -> Result<(), Fail> {
 #[test]
 fn independent(rt: HostRuntime) -> Result<(), Fail> {
     let bare = [
-        by(0, Kind::Store(0, 1)),
-        by(1, Kind::Store(1, 1)),
-        by(2, Kind::Load(0, 0)),
-        by(2, Kind::Load(1, 0)),
-        by(3, Kind::Load(1, 0)),
-        by(3, Kind::Load(0, 0)),
+        (0, Kind::Store(0, 1)),
+        (1, Kind::Store(1, 1)),
+        (2, Kind::Load(0, 0)),
+        (2, Kind::Load(1, 0)),
+        (3, Kind::Load(1, 0)),
+        (3, Kind::Load(0, 0)),
     ];
     tells(&rt, (4, 2), &bare, &[&[], &[], &[], &[]])?;
     let locked = [
-        by(0, Kind::Store(0, 1)),
-        by(0, Kind::Release(0)),
-        by(1, Kind::Acquire(0)),
-        by(1, Kind::Store(1, 1)),
-        by(1, Kind::Release(0)),
-        by(2, Kind::Acquire(0)),
-        by(2, Kind::Release(0)),
-        by(3, Kind::Acquire(0)),
-        by(2, Kind::Load(0, 1)),
-        by(2, Kind::Load(1, 1)),
-        by(3, Kind::Load(1, 1)),
-        by(3, Kind::Load(0, 1)),
+        (0, Kind::Store(0, 1)),
+        (0, Kind::Release(0)),
+        (1, Kind::Acquire(0)),
+        (1, Kind::Store(1, 1)),
+        (1, Kind::Release(0)),
+        (2, Kind::Acquire(0)),
+        (2, Kind::Release(0)),
+        (3, Kind::Acquire(0)),
+        (2, Kind::Load(0, 1)),
+        (2, Kind::Load(1, 1)),
+        (3, Kind::Load(1, 1)),
+        (3, Kind::Load(0, 1)),
     ];
     tells(&rt, (4, 2), &locked, &[&[0], &[3], &[3], &[0]])
 }
@@ -188,17 +191,17 @@ fn independent(rt: HostRuntime) -> Result<(), Fail> {
 #[test]
 fn two_writers(rt: HostRuntime) -> Result<(), Fail> {
     let events = [
-        by(1, Kind::Store(0, 2)),
-        by(0, Kind::Store(0, 1)),
-        by(0, Kind::Arrive),
-        by(1, Kind::Arrive),
-        by(0, Kind::Depart),
-        by(1, Kind::Depart),
-        by(1, Kind::Load(0, 2)),
-        by(0, Kind::Load(0, 1)),
-        by(0, Kind::Store(0, 3)),
-        by(0, Kind::Load(0, 3)),
-        by(1, Kind::Load(0, 2)),
+        (1, Kind::Store(0, 2)),
+        (0, Kind::Store(0, 1)),
+        (0, Kind::Arrive),
+        (1, Kind::Arrive),
+        (0, Kind::Depart),
+        (1, Kind::Depart),
+        (1, Kind::Load(0, 2)),
+        (0, Kind::Load(0, 1)),
+        (0, Kind::Store(0, 3)),
+        (0, Kind::Load(0, 3)),
+        (1, Kind::Load(0, 2)),
     ];
     let places: &[usize] = &[1, 0];
     tells(&rt, (2, 1), &events[..8], &[places, places])?;
@@ -214,17 +217,17 @@ fn two_writers(rt: HostRuntime) -> Result<(), Fail> {
 #[test]
 fn own_store(rt: HostRuntime) -> Result<(), Fail> {
     let events = [
-        by(0, Kind::Store(0, 1)),
-        by(0, Kind::Store(0, 2)),
-        by(0, Kind::Release(0)),
-        by(0, Kind::Store(0, 3)),
-        by(1, Kind::Acquire(0)),
-        by(1, Kind::Store(0, 4)),
-        by(1, Kind::Release(0)),
-        by(2, Kind::Acquire(0)),
-        by(0, Kind::Load(0, 3)),
-        by(1, Kind::Load(0, 4)),
-        by(2, Kind::Load(0, 4)),
+        (0, Kind::Store(0, 1)),
+        (0, Kind::Store(0, 2)),
+        (0, Kind::Release(0)),
+        (0, Kind::Store(0, 3)),
+        (1, Kind::Acquire(0)),
+        (1, Kind::Store(0, 4)),
+        (1, Kind::Release(0)),
+        (2, Kind::Acquire(0)),
+        (0, Kind::Load(0, 3)),
+        (1, Kind::Load(0, 4)),
+        (2, Kind::Load(0, 4)),
     ];
     tells(&rt, (3, 1), &events, &[&[3], &[5], &[5]])?;
     let brought = [
@@ -233,7 +236,7 @@ fn own_store(rt: HostRuntime) -> Result<(), Fail> {
         events[2],
         events[3],
         events[4],
-        by(1, Kind::Load(0, 2)),
+        (1, Kind::Load(0, 2)),
     ];
     tells(&rt, (3, 1), &brought, &[&[1]])
 }
@@ -245,27 +248,27 @@ fn sixteen(rt: HostRuntime) -> Result<(), Fail> {
     let mut events = Vec::new(rt.alloc());
     let mut places = Vec::new(rt.alloc());
     for processor in 0..MOST_PROCESSORS {
-        events.push(by(15 - processor, Kind::Store(0, 1)))?;
+        events.push((15 - processor, Kind::Store(0, 1)))?;
         places.push(15 - processor)?;
     }
     meet(&mut events)?;
-    events.push(by(3, Kind::Load(0, 1)))?;
+    events.push((3, Kind::Load(0, 1)))?;
     tells(&rt, (16, 1), &events, &[places.as_slice()])?;
     let last = events.len() - 1;
     events.truncate(last);
-    events.push(by(15, Kind::Store(0, 2)))?;
+    events.push((15, Kind::Store(0, 2)))?;
     meet(&mut events)?;
-    events.push(by(3, Kind::Load(0, 2)))?;
+    events.push((3, Kind::Load(0, 2)))?;
     tells(&rt, (16, 1), &events, &[&[48]])
 }
 
 /// All sixteen processors meet.
-fn meet(events: &mut Vec<Event>) -> Result<(), Fail> {
+fn meet(events: &mut Vec<Row>) -> Result<(), Fail> {
     for processor in 0..MOST_PROCESSORS {
-        events.push(by(processor, Kind::Arrive))?;
+        events.push((processor, Kind::Arrive))?;
     }
     for processor in 0..MOST_PROCESSORS {
-        events.push(by(processor, Kind::Depart))?;
+        events.push((processor, Kind::Depart))?;
     }
     Ok(())
 }

@@ -5,7 +5,7 @@ ghost use Rattle.journal.specs.declared.event.Event.{Event};
 ghost use Rattle.journal.specs.Events.{At};
 ghost use Rattle.judge.specs.Prelude.{AreSmall, IsWithin, sizes_of};
 
-use super::{are_in_range, by};
+use super::{Row, are_in_range, history};
 use journal::{Event, Kind, MOST_HELD, MOST_PROCESSORS};
 use judge::Sizes;
 use std::alloc::{AllocError, Global};
@@ -18,14 +18,15 @@ use why::{Due, FirstRace, Source, Wait, Ways, dues, edges, explain, incoming, wa
 fn tells<R: Abort + AllocGlobal>(
     rt: &R,
     processors: usize,
-    events: &[Event],
+    rows: &[Row],
     want: &[Option<Source>],
     race: Option<FirstRace>,
 ) -> Result<(), Fail> {
-    assert!(rt; are_in_range(events, processors, 2));
-    let told = match explain(rt.alloc(), processors, 2, events) {
+    let events = history(rt.alloc(), rows)?;
+    assert!(rt; are_in_range(&events, processors, 2));
+    let told = match explain(rt.alloc(), processors, 2, &events) {
         Ok(told) => told,
-        Err(_) => explain(rt.alloc(), processors, 2, events)?,
+        Err(_) => explain(rt.alloc(), processors, 2, &events)?,
     };
     assert!(rt; told.race == race);
     assert!(rt; told.loads.len() == events.len());
@@ -53,7 +54,7 @@ fn racing(first: usize, second: usize, heard: Option<usize>) -> Option<FirstRace
 /// A load that stands after a store and knows nothing of it.
 #[test]
 fn stale(rt: HostRuntime) -> Result<(), Fail> {
-    let events = [by(0, Kind::Store(0, 5)), by(1, Kind::Load(0, 0))];
+    let events = [(0, Kind::Store(0, 5)), (1, Kind::Load(0, 0))];
     tells(
         &rt,
         2,
@@ -68,19 +69,19 @@ fn stale(rt: HostRuntime) -> Result<(), Fail> {
 #[test]
 fn overwritten(rt: HostRuntime) -> Result<(), Fail> {
     let events = [
-        by(0, Kind::Store(0, 7)),
-        by(0, Kind::Store(0, 8)),
-        by(0, Kind::Set(0)),
-        by(1, Kind::Watch(0)),
-        by(1, Kind::Await(0)),
-        by(1, Kind::Load(0, 8)),
-        by(1, Kind::Load(0, 7)),
-        by(1, Kind::Load(0, 0)),
-        by(1, Kind::Load(1, 0)),
-        by(1, Kind::Load(1, 1)),
-        by(0, Kind::Store(0, 9)),
-        by(1, Kind::Load(0, 9)),
-        by(0, Kind::Load(0, 9)),
+        (0, Kind::Store(0, 7)),
+        (0, Kind::Store(0, 8)),
+        (0, Kind::Set(0)),
+        (1, Kind::Watch(0)),
+        (1, Kind::Await(0)),
+        (1, Kind::Load(0, 8)),
+        (1, Kind::Load(0, 7)),
+        (1, Kind::Load(0, 0)),
+        (1, Kind::Load(1, 0)),
+        (1, Kind::Load(1, 1)),
+        (0, Kind::Store(0, 9)),
+        (1, Kind::Load(0, 9)),
+        (0, Kind::Load(0, 9)),
     ];
     let wrong = Some(Source::Unexplained);
     let sources = [
@@ -102,14 +103,14 @@ fn overwritten(rt: HostRuntime) -> Result<(), Fail> {
 fn two_latest(rt: HostRuntime) -> Result<(), Fail> {
     for value in [4, 5] {
         let events = [
-            by(1, Kind::Store(0, 4)),
-            by(0, Kind::Store(0, value)),
-            by(0, Kind::Arrive),
-            by(1, Kind::Arrive),
-            by(0, Kind::Depart),
-            by(1, Kind::Depart),
-            by(1, Kind::Load(0, 4)),
-            by(0, Kind::Load(0, value)),
+            (1, Kind::Store(0, 4)),
+            (0, Kind::Store(0, value)),
+            (0, Kind::Arrive),
+            (1, Kind::Arrive),
+            (0, Kind::Depart),
+            (1, Kind::Depart),
+            (1, Kind::Load(0, 4)),
+            (0, Kind::Load(0, value)),
         ];
         let of_first = if value == 4 { 1 } else { 0 };
         tells(
@@ -127,7 +128,7 @@ fn two_latest(rt: HostRuntime) -> Result<(), Fail> {
 /// is heard of, too.
 #[test]
 fn heard(rt: HostRuntime) -> Result<(), Fail> {
-    let apart = [by(0, Kind::Store(0, 7)), by(2, Kind::Store(0, 8))];
+    let apart = [(0, Kind::Store(0, 7)), (2, Kind::Store(0, 8))];
     let ways = [
         (Kind::Set(3), Kind::Await(3)),
         (Kind::Release(1), Kind::Acquire(1)),
@@ -135,18 +136,18 @@ fn heard(rt: HostRuntime) -> Result<(), Fail> {
     ];
     for (sends, takes) in ways {
         let direct = [
-            by(0, Kind::Store(1, 1)),
-            by(0, sends),
-            by(2, takes),
+            (0, Kind::Store(1, 1)),
+            (0, sends),
+            (2, takes),
             apart[0],
             apart[1],
         ];
         tells(&rt, 3, &direct, &[], racing(3, 4, Some(1)))?;
         let onward = [
-            by(0, sends),
-            by(1, takes),
-            by(1, Kind::Release(0)),
-            by(2, Kind::Acquire(0)),
+            (0, sends),
+            (1, takes),
+            (1, Kind::Release(0)),
+            (2, Kind::Acquire(0)),
             apart[0],
             apart[1],
         ];
@@ -157,8 +158,8 @@ fn heard(rt: HostRuntime) -> Result<(), Fail> {
         3,
         &[
             apart[0],
-            by(0, Kind::Release(0)),
-            by(1, Kind::Acquire(0)),
+            (0, Kind::Release(0)),
+            (1, Kind::Acquire(0)),
             apart[1],
         ],
         &[],
@@ -170,13 +171,13 @@ fn heard(rt: HostRuntime) -> Result<(), Fail> {
 #[test]
 fn ordered(rt: HostRuntime) -> Result<(), Fail> {
     let events = [
-        by(0, Kind::Store(0, 7)),
-        by(0, Kind::Load(0, 7)),
-        by(0, Kind::Release(0)),
-        by(1, Kind::Acquire(0)),
-        by(1, Kind::Load(0, 7)),
-        by(1, Kind::Store(0, 8)),
-        by(1, Kind::Load(0, 8)),
+        (0, Kind::Store(0, 7)),
+        (0, Kind::Load(0, 7)),
+        (0, Kind::Release(0)),
+        (1, Kind::Acquire(0)),
+        (1, Kind::Load(0, 7)),
+        (1, Kind::Store(0, 8)),
+        (1, Kind::Load(0, 8)),
     ];
     let sources = [stored(0), None, None, stored(0), None, stored(5)];
     tells(&rt, 2, &events, &sources, None)
@@ -185,15 +186,16 @@ fn ordered(rt: HostRuntime) -> Result<(), Fail> {
 /// What is wanted of the event at this place: the places of other processors' events with an edge to it.
 fn leads<R: Abort + AllocGlobal>(
     rt: &R,
-    events: &[Event],
+    rows: &[Row],
     place: usize,
     want: &[usize],
 ) -> Result<(), Fail> {
-    assert!(rt; are_in_range(events, MOST_PROCESSORS, 2));
+    let events = history(rt.alloc(), rows)?;
+    assert!(rt; are_in_range(&events, MOST_PROCESSORS, 2));
     assert!(rt; place < events.len());
-    let found = match edges(rt.alloc(), events, place) {
+    let found = match edges(rt.alloc(), &events, place) {
         Ok(found) => found,
-        Err(_) => edges(rt.alloc(), events, place)?,
+        Err(_) => edges(rt.alloc(), &events, place)?,
     };
     assert!(rt; found.as_slice() == want);
     Ok(())
@@ -203,16 +205,16 @@ fn leads<R: Abort + AllocGlobal>(
 #[test]
 fn lock_and_flag_edges(rt: HostRuntime) -> Result<(), Fail> {
     let events = [
-        by(0, Kind::Release(1)),
-        by(2, Kind::Release(1)),
-        by(0, Kind::Set(1)),
-        by(1, Kind::Release(1)),
-        by(0, Kind::Release(0)),
-        by(1, Kind::Acquire(1)),
-        by(1, Kind::Await(1)),
-        by(1, Kind::Watch(1)),
-        by(0, Kind::Await(1)),
-        by(2, Kind::Release(1)),
+        (0, Kind::Release(1)),
+        (2, Kind::Release(1)),
+        (0, Kind::Set(1)),
+        (1, Kind::Release(1)),
+        (0, Kind::Release(0)),
+        (1, Kind::Acquire(1)),
+        (1, Kind::Await(1)),
+        (1, Kind::Watch(1)),
+        (0, Kind::Await(1)),
+        (2, Kind::Release(1)),
     ];
     let wants: [&[usize]; 10] = [&[], &[], &[], &[], &[], &[0, 1], &[2], &[], &[], &[]];
     for (place, want) in wants.iter().enumerate() {
@@ -225,16 +227,16 @@ fn lock_and_flag_edges(rt: HostRuntime) -> Result<(), Fail> {
 #[test]
 fn barrier_edges(rt: HostRuntime) -> Result<(), Fail> {
     let events = [
-        by(0, Kind::Arrive),
-        by(1, Kind::Arrive),
-        by(2, Kind::Arrive),
-        by(2, Kind::Depart),
-        by(0, Kind::Depart),
-        by(0, Kind::Arrive),
-        by(2, Kind::Arrive),
-        by(1, Kind::Depart),
-        by(1, Kind::Arrive),
-        by(1, Kind::Depart),
+        (0, Kind::Arrive),
+        (1, Kind::Arrive),
+        (2, Kind::Arrive),
+        (2, Kind::Depart),
+        (0, Kind::Depart),
+        (0, Kind::Arrive),
+        (2, Kind::Arrive),
+        (1, Kind::Depart),
+        (1, Kind::Arrive),
+        (1, Kind::Depart),
     ];
     leads(&rt, &events, 3, &[0, 1])?;
     leads(&rt, &events, 4, &[1, 2])?;
@@ -246,13 +248,14 @@ fn barrier_edges(rt: HostRuntime) -> Result<(), Fail> {
 /// What is wanted of the history: the places of these rows have these news, and the others none.
 fn brings<R: Abort + AllocGlobal>(
     rt: &R,
-    events: &[Event],
+    rows: &[Row],
     wants: &[(usize, &[usize])],
 ) -> Result<(), Fail> {
-    assert!(rt; are_in_range(events, MOST_PROCESSORS, 2));
-    let found = match incoming(rt.alloc(), MOST_PROCESSORS, events) {
+    let events = history(rt.alloc(), rows)?;
+    assert!(rt; are_in_range(&events, MOST_PROCESSORS, 2));
+    let found = match incoming(rt.alloc(), MOST_PROCESSORS, &events) {
         Ok(found) => found,
-        Err(_) => incoming(rt.alloc(), MOST_PROCESSORS, events)?,
+        Err(_) => incoming(rt.alloc(), MOST_PROCESSORS, &events)?,
     };
     let full = found.iter().filter(|row| !row.is_empty()).count();
     assert!(rt; full == wants.len());
@@ -267,40 +270,40 @@ fn brings<R: Abort + AllocGlobal>(
 #[test]
 fn news(rt: HostRuntime) -> Result<(), Fail> {
     let by_lock = [
-        by(0, Kind::Release(0)),
-        by(1, Kind::Acquire(0)),
-        by(1, Kind::Release(0)),
-        by(0, Kind::Acquire(0)),
-        by(0, Kind::Release(0)),
-        by(2, Kind::Acquire(0)),
-        by(2, Kind::Release(0)),
-        by(1, Kind::Acquire(0)),
-        by(1, Kind::Acquire(0)),
-        by(0, Kind::Acquire(1)),
+        (0, Kind::Release(0)),
+        (1, Kind::Acquire(0)),
+        (1, Kind::Release(0)),
+        (0, Kind::Acquire(0)),
+        (0, Kind::Release(0)),
+        (2, Kind::Acquire(0)),
+        (2, Kind::Release(0)),
+        (1, Kind::Acquire(0)),
+        (1, Kind::Acquire(0)),
+        (0, Kind::Acquire(1)),
     ];
     let by_flag = [
-        by(0, Kind::Set(3)),
-        by(1, Kind::Set(3)),
-        by(2, Kind::Await(3)),
-        by(2, Kind::Await(3)),
-        by(2, Kind::Set(4)),
-        by(15, Kind::Await(4)),
-        by(15, Kind::Await(3)),
-        by(0, Kind::Await(3)),
+        (0, Kind::Set(3)),
+        (1, Kind::Set(3)),
+        (2, Kind::Await(3)),
+        (2, Kind::Await(3)),
+        (2, Kind::Set(4)),
+        (15, Kind::Await(4)),
+        (15, Kind::Await(3)),
+        (0, Kind::Await(3)),
     ];
     let by_barrier = [
-        by(0, Kind::Arrive),
-        by(1, Kind::Arrive),
-        by(2, Kind::Arrive),
-        by(2, Kind::Depart),
-        by(2, Kind::Set(0)),
-        by(1, Kind::Await(0)),
-        by(1, Kind::Depart),
-        by(0, Kind::Depart),
-        by(0, Kind::Arrive),
-        by(1, Kind::Depart),
+        (0, Kind::Arrive),
+        (1, Kind::Arrive),
+        (2, Kind::Arrive),
+        (2, Kind::Depart),
+        (2, Kind::Set(0)),
+        (1, Kind::Await(0)),
+        (1, Kind::Depart),
+        (0, Kind::Depart),
+        (0, Kind::Arrive),
+        (1, Kind::Depart),
     ];
-    let rows: [(&[Event], &[(usize, &[usize])]); 3] = [
+    let histories: [(&[Row], &[(usize, &[usize])]); 3] = [
         (
             &by_lock,
             &[(1, &[0]), (3, &[2]), (5, &[0, 2, 4]), (7, &[4, 6])],
@@ -311,8 +314,16 @@ fn news(rt: HostRuntime) -> Result<(), Fail> {
             &[(3, &[0, 1]), (5, &[4]), (7, &[1, 2]), (9, &[8])],
         ),
     ];
-    for (events, wants) in rows {
-        brings(&rt, events, wants)?;
+    for (rows, wants) in histories {
+        brings(&rt, rows, wants)?;
+    }
+    Ok(())
+}
+
+/// The processor asks for a lock, gets it and gives it back.
+fn add_turn(events: &mut Vec<Event>, processor: usize) -> Result<(), AllocError> {
+    for kind in [Kind::Ask(0), Kind::Acquire(0), Kind::Release(0)] {
+        events.push(Event { processor, kind })?;
     }
     Ok(())
 }
@@ -321,9 +332,7 @@ fn news(rt: HostRuntime) -> Result<(), Fail> {
 fn round(alloc: Global, times: usize) -> Result<Vec<Event>, AllocError> {
     let mut events = Vec::new(alloc);
     for time in 0..times {
-        events.push(by(time % 16, Kind::Ask(0)))?;
-        events.push(by(time % 16, Kind::Acquire(0)))?;
-        events.push(by(time % 16, Kind::Release(0)))?;
+        add_turn(&mut events, time % 16)?;
     }
     Ok(events)
 }
@@ -378,14 +387,11 @@ fn is_wanted(wait: &Wait, want: Want<'_>) -> bool {
 }
 
 /// What each processor is wanted to wait for at the end.
-fn waiting<R: Abort + AllocGlobal>(
-    rt: &R,
-    events: &[Event],
-    wants: &[Want<'_>],
-) -> Result<(), Fail> {
-    let found = match waits(rt.alloc(), wants.len(), events) {
+fn waiting<R: Abort + AllocGlobal>(rt: &R, rows: &[Row], wants: &[Want<'_>]) -> Result<(), Fail> {
+    let events = history(rt.alloc(), rows)?;
+    let found = match waits(rt.alloc(), wants.len(), &events) {
         Ok(found) => found,
-        Err(_) => waits(rt.alloc(), wants.len(), events)?,
+        Err(_) => waits(rt.alloc(), wants.len(), &events)?,
     };
     assert!(rt; found.len() == wants.len());
     for (processor, want) in wants.iter().enumerate() {
@@ -399,40 +405,40 @@ fn waiting<R: Abort + AllocGlobal>(
 #[test]
 fn stuck(rt: HostRuntime) -> Result<(), Fail> {
     let deadlock = [
-        by(0, Kind::Ask(0)),
-        by(0, Kind::Acquire(0)),
-        by(1, Kind::Ask(1)),
-        by(1, Kind::Acquire(1)),
-        by(0, Kind::Ask(1)),
-        by(1, Kind::Ask(0)),
+        (0, Kind::Ask(0)),
+        (0, Kind::Acquire(0)),
+        (1, Kind::Ask(1)),
+        (1, Kind::Acquire(1)),
+        (0, Kind::Ask(1)),
+        (1, Kind::Ask(0)),
     ];
     let holder_arrived = [
-        by(0, Kind::Ask(0)),
-        by(0, Kind::Acquire(0)),
-        by(1, Kind::Ask(0)),
-        by(0, Kind::Arrive),
-        by(2, Kind::Ask(0)),
+        (0, Kind::Ask(0)),
+        (0, Kind::Acquire(0)),
+        (1, Kind::Ask(0)),
+        (0, Kind::Arrive),
+        (2, Kind::Ask(0)),
     ];
     let flags = [
-        by(0, Kind::Set(1)),
-        by(1, Kind::Watch(1)),
-        by(2, Kind::Watch(3)),
-        by(3, Kind::Arrive),
+        (0, Kind::Set(1)),
+        (1, Kind::Watch(1)),
+        (2, Kind::Watch(3)),
+        (3, Kind::Arrive),
     ];
     let free = [
-        by(0, Kind::Ask(0)),
-        by(0, Kind::Acquire(0)),
-        by(1, Kind::Ask(0)),
-        by(2, Kind::Ask(0)),
-        by(0, Kind::Release(0)),
+        (0, Kind::Ask(0)),
+        (0, Kind::Acquire(0)),
+        (1, Kind::Ask(0)),
+        (2, Kind::Ask(0)),
+        (0, Kind::Release(0)),
     ];
     let arrived = [
-        by(0, Kind::Arrive),
-        by(1, Kind::Arrive),
-        by(0, Kind::Depart),
-        by(0, Kind::Arrive),
+        (0, Kind::Arrive),
+        (1, Kind::Arrive),
+        (0, Kind::Depart),
+        (0, Kind::Arrive),
     ];
-    let rows: [(&[Event], &[Want<'_>]); 5] = [
+    let histories: [(&[Row], &[Want<'_>]); 5] = [
         (
             &deadlock,
             &[Want::Lock(1, Some(1), &[]), Want::Lock(0, Some(0), &[])],
@@ -465,8 +471,8 @@ fn stuck(rt: HostRuntime) -> Result<(), Fail> {
         ),
         (&arrived, &[Want::Barrier(&[1]), Want::Barrier(&[])]),
     ];
-    for (events, wants) in rows {
-        waiting(&rt, events, wants)?;
+    for (rows, wants) in histories {
+        waiting(&rt, rows, wants)?;
     }
     Ok(())
 }
@@ -486,16 +492,17 @@ fn are_wanted(found: &Option<Vec<usize>>, want: Option<&[usize]>) -> bool {
 /// Which ways are wanted of the history.
 fn leading<R: Abort + AllocGlobal>(
     rt: &R,
-    events: &[Event],
+    rows: &[Row],
     wants: &[WantedWay<'_>],
 ) -> Result<(), Fail> {
-    assert!(rt; are_in_range(events, MOST_PROCESSORS, 2));
+    let events = history(rt.alloc(), rows)?;
+    assert!(rt; are_in_range(&events, MOST_PROCESSORS, 2));
     for (from, to, want) in wants {
         assert!(rt; *from < events.len());
         assert!(rt; *to < events.len());
-        let found = match way(rt.alloc(), MOST_PROCESSORS, events, *from, *to) {
+        let found = match way(rt.alloc(), MOST_PROCESSORS, &events, *from, *to) {
             Ok(found) => found,
-            Err(_) => way(rt.alloc(), MOST_PROCESSORS, events, *from, *to)?,
+            Err(_) => way(rt.alloc(), MOST_PROCESSORS, &events, *from, *to)?,
         };
         assert!(rt; are_wanted(&found, *want));
     }
@@ -507,36 +514,36 @@ fn leading<R: Abort + AllocGlobal>(
 #[test]
 fn ways(rt: HostRuntime) -> Result<(), Fail> {
     let by_lock = [
-        by(0, Kind::Store(0, 7)),
-        by(0, Kind::Release(0)),
-        by(1, Kind::Acquire(0)),
-        by(1, Kind::Load(0, 7)),
-        by(1, Kind::Release(0)),
-        by(0, Kind::Store(1, 1)),
-        by(2, Kind::Acquire(0)),
-        by(2, Kind::Load(0, 7)),
+        (0, Kind::Store(0, 7)),
+        (0, Kind::Release(0)),
+        (1, Kind::Acquire(0)),
+        (1, Kind::Load(0, 7)),
+        (1, Kind::Release(0)),
+        (0, Kind::Store(1, 1)),
+        (2, Kind::Acquire(0)),
+        (2, Kind::Load(0, 7)),
     ];
     let by_flags = [
-        by(0, Kind::Set(3)),
-        by(1, Kind::Await(3)),
-        by(1, Kind::Store(0, 1)),
-        by(1, Kind::Set(4)),
-        by(2, Kind::Await(4)),
-        by(2, Kind::Load(0, 1)),
-        by(2, Kind::Await(3)),
+        (0, Kind::Set(3)),
+        (1, Kind::Await(3)),
+        (1, Kind::Store(0, 1)),
+        (1, Kind::Set(4)),
+        (2, Kind::Await(4)),
+        (2, Kind::Load(0, 1)),
+        (2, Kind::Await(3)),
     ];
     let by_barrier = [
-        by(0, Kind::Store(0, 7)),
-        by(0, Kind::Arrive),
-        by(1, Kind::Arrive),
-        by(1, Kind::Depart),
-        by(1, Kind::Load(0, 7)),
-        by(0, Kind::Depart),
-        by(0, Kind::Arrive),
-        by(1, Kind::Arrive),
-        by(0, Kind::Depart),
+        (0, Kind::Store(0, 7)),
+        (0, Kind::Arrive),
+        (1, Kind::Arrive),
+        (1, Kind::Depart),
+        (1, Kind::Load(0, 7)),
+        (0, Kind::Depart),
+        (0, Kind::Arrive),
+        (1, Kind::Arrive),
+        (0, Kind::Depart),
     ];
-    let rows: [(&[Event], &[WantedWay<'_>]); 3] = [
+    let histories: [(&[Row], &[WantedWay<'_>]); 3] = [
         (
             &by_lock,
             &[
@@ -570,8 +577,8 @@ fn ways(rt: HostRuntime) -> Result<(), Fail> {
             ],
         ),
     ];
-    for (events, wants) in rows {
-        leading(&rt, events, wants)?;
+    for (rows, wants) in histories {
+        leading(&rt, rows, wants)?;
     }
     Ok(())
 }
@@ -632,9 +639,10 @@ fn are_within(events: &[Event], sizes: Sizes) -> bool
 /// named, none are.
 fn owes<R: Abort + AllocGlobal>(
     rt: &R,
-    events: &[Event],
+    rows: &[Row],
     wants: &[WantedDues<'_>],
 ) -> Result<(), Fail> {
+    let events = history(rt.alloc(), rows)?;
     let sizes = Sizes {
         processors: 3,
         pages: 4,
@@ -642,10 +650,10 @@ fn owes<R: Abort + AllocGlobal>(
         locks: 1,
         flags: 1,
     };
-    assert!(rt; are_within(events, sizes));
-    let found = match dues(rt.alloc(), sizes, events) {
+    assert!(rt; are_within(&events, sizes));
+    let found = match dues(rt.alloc(), sizes, &events) {
         Ok(found) => found,
-        Err(_) => dues(rt.alloc(), sizes, events)?,
+        Err(_) => dues(rt.alloc(), sizes, &events)?,
     };
     assert!(rt; found.len() == events.len());
     let full = found.iter().filter(|row| !row.is_empty()).count();
@@ -672,44 +680,44 @@ fn fetch(page: usize) -> Kind {
 #[test]
 fn records(rt: HostRuntime) -> Result<(), Fail> {
     let by_lock = [
-        by(0, Kind::Store(0, 1)),
-        by(0, Kind::Store(2, 1)),
-        by(0, Kind::Ask(0)),
-        by(0, Kind::Acquire(0)),
-        by(0, Kind::Store(0, 2)),
-        by(0, Kind::Release(0)),
-        by(1, Kind::Store(1, 3)),
-        by(1, Kind::Store(4, 3)),
-        by(1, Kind::Ask(0)),
-        by(1, Kind::Acquire(0)),
-        by(1, Kind::Release(0)),
-        by(2, Kind::Ask(0)),
-        by(2, Kind::Acquire(0)),
-        by(2, fetch(0)),
-        by(2, Kind::Release(0)),
-        by(0, Kind::Store(2, 5)),
-        by(0, Kind::Store(0, 5)),
-        by(0, Kind::Store(1, 5)),
-        by(0, Kind::Set(0)),
-        by(2, Kind::Watch(0)),
-        by(2, Kind::Await(0)),
-        by(2, fetch(1)),
-        by(2, Kind::Ask(0)),
-        by(2, Kind::Acquire(0)),
-        by(2, fetch(1)),
+        (0, Kind::Store(0, 1)),
+        (0, Kind::Store(2, 1)),
+        (0, Kind::Ask(0)),
+        (0, Kind::Acquire(0)),
+        (0, Kind::Store(0, 2)),
+        (0, Kind::Release(0)),
+        (1, Kind::Store(1, 3)),
+        (1, Kind::Store(4, 3)),
+        (1, Kind::Ask(0)),
+        (1, Kind::Acquire(0)),
+        (1, Kind::Release(0)),
+        (2, Kind::Ask(0)),
+        (2, Kind::Acquire(0)),
+        (2, fetch(0)),
+        (2, Kind::Release(0)),
+        (0, Kind::Store(2, 5)),
+        (0, Kind::Store(0, 5)),
+        (0, Kind::Store(1, 5)),
+        (0, Kind::Set(0)),
+        (2, Kind::Watch(0)),
+        (2, Kind::Await(0)),
+        (2, fetch(1)),
+        (2, Kind::Ask(0)),
+        (2, Kind::Acquire(0)),
+        (2, fetch(1)),
     ];
     let by_barrier = [
-        by(0, Kind::Store(0, 1)),
-        by(1, Kind::Store(7, 1)),
-        by(0, Kind::Arrive),
-        by(1, Kind::Arrive),
-        by(1, Kind::Store(7, 2)),
-        by(2, Kind::Arrive),
-        by(0, Kind::Depart),
-        by(1, Kind::Depart),
-        by(2, Kind::Depart),
+        (0, Kind::Store(0, 1)),
+        (1, Kind::Store(7, 1)),
+        (0, Kind::Arrive),
+        (1, Kind::Arrive),
+        (1, Kind::Store(7, 2)),
+        (2, Kind::Arrive),
+        (0, Kind::Depart),
+        (1, Kind::Depart),
+        (2, Kind::Depart),
     ];
-    let rows: [(&[Event], &[WantedDues<'_>]); 2] = [
+    let histories: [(&[Row], &[WantedDues<'_>]); 2] = [
         (
             &by_lock,
             &[
@@ -729,8 +737,8 @@ fn records(rt: HostRuntime) -> Result<(), Fail> {
             ],
         ),
     ];
-    for (events, wants) in rows {
-        owes(&rt, events, wants)?;
+    for (rows, wants) in histories {
+        owes(&rt, rows, wants)?;
     }
     Ok(())
 }

@@ -4,7 +4,7 @@ ghost use Rattle.lists.specs.Prelude.{most_held, most_processors};
 ghost use Rattle.journal.specs.Prelude.{ProcessorsInRange};
 ghost use Rattle.lrc_picture.specs.Prelude.{ArePlaces, IsWithin};
 
-use super::by;
+use super::{Row, history};
 use journal::{Event, Kind, MOST_HELD, MOST_PROCESSORS};
 use lrc_picture::picture::render;
 use lrc_picture::story::Story;
@@ -16,7 +16,7 @@ use std::test::Fail;
 #[derive(Clone, Copy)]
 struct Case<'a> {
     processors: usize,
-    events: &'a [Event],
+    events: &'a [Row],
     /// From where to where arrows lead.
     arrows: &'a [(usize, usize)],
     race: Option<(usize, usize)>,
@@ -112,9 +112,10 @@ fn picture<R: Abort + AllocGlobal>(rt: &R, case: &Case<'_>) -> Result<Vec<u8>, F
         Ok(rows) => rows,
         Err(_) => rows_of(alloc, case.arrows, case.events.len())?,
     };
+    let events = history(alloc, case.events)?;
     let story = Story {
         processors: case.processors,
-        events: case.events,
+        events: &events,
         incoming: &rows,
         first: 0,
         race: case.race,
@@ -153,9 +154,9 @@ fn check<R: Abort + AllocGlobal>(rt: &R, case: &Case<'_>) -> Result<(), Fail> {
 /// No events, one processor's, and a row for sixteen.
 #[test]
 fn alone(rt: HostRuntime) -> Result<(), Fail> {
-    let one = [by(0, Kind::Store(0, 7)), by(0, Kind::Load(0, 7))];
-    let far = [by(15, Kind::Store(4, 4_294_967_295))];
-    let rows: [(usize, &[Event]); 3] = [(2, &[]), (1, &one), (16, &far)];
+    let one = [(0, Kind::Store(0, 7)), (0, Kind::Load(0, 7))];
+    let far = [(15, Kind::Store(4, 4_294_967_295))];
+    let rows: [(usize, &[Row]); 3] = [(2, &[]), (1, &one), (16, &far)];
     for (processors, events) in rows {
         let case = Case {
             processors,
@@ -174,13 +175,13 @@ fn alone(rt: HostRuntime) -> Result<(), Fail> {
 #[test]
 fn messages(rt: HostRuntime) -> Result<(), Fail> {
     let events = [
-        by(0, Kind::Store(0, 7)),
-        by(0, Kind::Release(0)),
-        by(0, Kind::Set(1)),
-        by(1, Kind::Acquire(0)),
-        by(1, Kind::Await(1)),
-        by(1, Kind::Load(0, 7)),
-        by(0, Kind::Store(0, 8)),
+        (0, Kind::Store(0, 7)),
+        (0, Kind::Release(0)),
+        (0, Kind::Set(1)),
+        (1, Kind::Acquire(0)),
+        (1, Kind::Await(1)),
+        (1, Kind::Load(0, 7)),
+        (0, Kind::Store(0, 8)),
     ];
     let case = Case {
         processors: 2,
@@ -197,15 +198,15 @@ fn messages(rt: HostRuntime) -> Result<(), Fail> {
 #[test]
 fn barrier(rt: HostRuntime) -> Result<(), Fail> {
     let events = [
-        by(0, Kind::Arrive),
-        by(2, Kind::Arrive),
-        by(1, Kind::Arrive),
-        by(3, Kind::Arrive),
-        by(3, Kind::Depart),
-        by(0, Kind::Depart),
-        by(2, Kind::Depart),
-        by(1, Kind::Depart),
-        by(1, Kind::Arrive),
+        (0, Kind::Arrive),
+        (2, Kind::Arrive),
+        (1, Kind::Arrive),
+        (3, Kind::Arrive),
+        (3, Kind::Depart),
+        (0, Kind::Depart),
+        (2, Kind::Depart),
+        (1, Kind::Depart),
+        (1, Kind::Arrive),
     ];
     let case = Case {
         processors: 4,
