@@ -1,5 +1,5 @@
 //! Prints a report.
-ghost use Rattle.std.specs.Prelude.{◌≡◌, ◌≤◌, ◌<◌, ◌+◌, ◌^◌, ◌++◌, OnOk, codes, false, length};
+ghost use Rattle.std.specs.Prelude.{◌≡◌, ◌≤◌, ◌<◌, ◌+◌, ◌^◌, ◌++◌, Some, codes, false, length};
 ghost use Rattle.std.specs.Fmt.{decimal};
 ghost use Rattle.std.specs.List.{flat_map};
 ghost use Rattle.lrc_report.specs.Prelude.{word_line, verdict_line, traffic_line, cut_line, kind_text, event_line};
@@ -276,7 +276,7 @@ pub fn render<W: Write>(report: &Report, journal: bool, out: &mut W) -> Result<(
 ///
 /// OutFault where memory for the text was refused; a beginning of the lines was added then.
 pub fn put_report(text: &mut Vec<u8>, report: &Report) -> Result<(), OutFault>
-    ensures { OnOk result (text.new.items ≡ text.old.items ++ report_text report.now false) }
+    ensures { Writes (Some text.old.items) (Some text.new.items) (report_text report.now false) result }
 {
     render(report, false, text)
 }
