@@ -8,3 +8,4 @@ pub mod Ready
 pub mod Balance
 pub mod Held
 pub mod History
+pub mod Deadlocks

@@ -40,4 +40,5 @@ pub mod Kept
 pub mod Opening
 pub mod Cutting
 pub mod HistoryLaws
+pub mod Deadlocks
 pub mod Prelude

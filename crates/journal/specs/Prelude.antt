@@ -31,3 +31,4 @@ pub use Rattle.journal.specs.Kept.{AreCosts, IsKept, IsKeptAfter, base_of, held_
 pub use Rattle.journal.specs.Opening.{IsOpening}
 pub use Rattle.journal.specs.Cutting.{IsCutFault, WasCut}
 pub use Rattle.journal.specs.HistoryLaws.{HistoryLaw, WholeLaw}
+pub use Rattle.journal.specs.Deadlocks.{DeadlockLaw, IsDeadlock}

@@ -1,7 +1,7 @@
-//! The laws of what is left after a cut, as contracts of functions that do nothing: the check proves
+//! The laws of what is left after a cut and of deadlocks, as contracts of functions that do nothing: the check proves
 //! each by its name.
 ghost use Rattle.journal.specs.Prelude.{SameLaw, WellFormedLaw, FlatLaw, CopyLaw, CutLaw, UncutLaw, WholeLaw};
-ghost use Rattle.journal.specs.Prelude.{HistoryLaw};
+ghost use Rattle.journal.specs.Prelude.{HistoryLaw, DeadlockLaw};
 
 /// What was cut off happens before all that is left, of which order, pasts, races and explained loads are
 /// the same, read from the history or from the base.
@@ -41,4 +41,9 @@ pub fn uncut_law()
 pub fn history_law()
     ensures whole { WholeLaw }
     ensures cut { HistoryLaw }
+{}
+
+/// No event may follow a history in which each processor waits for what has not come.
+pub fn deadlock_law()
+    ensures { DeadlockLaw }
 {}

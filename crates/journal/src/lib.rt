@@ -35,7 +35,9 @@ pub use clocks::Clocks;
 pub use cut::CutFault;
 pub use event::{Event, Kind};
 pub use journal::Journal;
-pub use laws::{copy_law, cut_law, flat_law, history_law, same_law, uncut_law, well_formed_law};
+pub use laws::{
+    copy_law, cut_law, deadlock_law, flat_law, history_law, same_law, uncut_law, well_formed_law,
+};
 pub use limits::{MOST_CUT, MOST_EVENTS, MOST_HELD, MOST_IN_BLOCK, MOST_PROCESSORS};
 pub use race::first_race_of;
 pub use reach_table::ReachTable;
