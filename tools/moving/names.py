@@ -1,0 +1,181 @@
+"""Definitions, lemmas, types and functions that have another name."""
+import re
+
+from reading import antt, rattle
+from reading.moves import Refused
+from .places import users_of
+from .texts import code, move_files, move_paths, others, place_of, sub
+
+LETTER = r"[^\s(){}\[\],;.«»⟦⟧]"
+
+
+def spec(files, move):
+    """A definition or a lemma."""
+    (crate, *_), old, new = move.words[0].split("/"), *move.words[1:]
+    scopes = antt.Scopes(files)
+    homes = [module for module, names in scopes.declared.items() if old in names and move.renames(module, old)]
+    if len(homes) != 1:
+        raise Refused(f"declared in {', '.join(homes) or 'no file of it'}")
+    if any(new in names for module, names in scopes.declared.items() if module.split(".")[0] == crate):
+        raise Refused(f"{crate} has a {new}")
+    for path in code(files):
+        rename_in(files, path, scopes, (homes[0], old), new)
+    # (Attributes name a lemma by its whole path.)
+    inside = "::".join(homes[0].split(".")[1:])
+    for front, paths in ("crate", code(files, crate)), (crate, code(files)):
+        sub(files, paths, rf"(?<![\w:]){front}::{inside}::{re.escape(old)}(?=[,)])", f"{front}::{inside}::{new}")
+    speak_of(files, crate, old, new, sum(old in names for names in scopes.declared.values()) == 1)
+
+
+def speak_of(files, crate, old, new, alone):
+    """Has documents call it by its new name, within backticks; if others have the old name too, a person has to."""
+    pages = [path for path in others(files) if path.endswith(".md")]
+    if alone:
+        sub(files, pages, rf"(?<=`){re.escape(old)}(?=`)", new)
+        return
+    for path in pages:
+        for number, line in enumerate(files.texts[path].splitlines(), 1):
+            if f"`{old}`" in line:
+                print(f"by hand: {path}:{number}: {old}, of {crate} now {new}: {line.strip()[:120]}")
+
+
+def rename_in(files, path, scopes, origin, new):
+    """Renames in a file what stands there for a declaration: in a file of src/ only in its clauses."""
+    text, old = files.texts[path], origin[1]
+    if old not in text or path.endswith(".edit"):
+        return
+    crate, folder, place = place_of(path)
+    scope = scopes.scope(text, ".".join([crate, folder, *place]) if path.endswith(".antt") else None)
+    meant = scope.get(old) == origin
+    heads = [use.span for use in antt.uses(text) for name, _ in use.names
+             if name == old and scopes.origin(use.path, name) == origin]
+    if not meant and not heads:
+        return
+    if path.endswith(".rt") and re.search(rf"[(,]\s*(?:mut )?{re.escape(old)}: ", rattle.masked(text)):
+        print(f"by hand: {path}: has a parameter {old}, too")
+    spans = rattle.clause_spans(text) if path.endswith(".rt") else [(0, len(text))]
+    files.texts[path] = renamed(text, old, new, spans if meant else [], heads)
+
+
+def renamed(text, old, new, spans, heads):
+    """The text with a name renamed: on these `use` lines, and within these spans as a word that is no field."""
+    plain = antt.without_comments(text)
+    imports = [use.span for use in antt.uses(text)]
+    word = re.compile(rf"(?<!{LETTER})(?<![.«]){re.escape(old)}(?!{LETTER})")
+    pieces, last = [], 0
+    for found in word.finditer(text):
+        start, end = found.span()
+        wanted = is_in(start, heads) if is_in(start, imports) else is_in(start, spans) and not is_field(plain, start, end)
+        # In a comment a small word is English.
+        if wanted and (plain[start:end] == old or re.search(r"[A-Z_-]", old)):
+            pieces += [text[last:start], new]
+            last = end
+    return "".join([*pieces, text[last:]])
+
+
+def is_in(at, spans):
+    """Whether a place is within one of the spans."""
+    return any(start <= at < end for start, end in spans)
+
+
+def is_field(text, start, end):
+    """Whether the word is a field's name: where a record declares it, or where it is given a value."""
+    line = text.rfind("\n", 0, start) + 1
+    before, after = text[line:start], text[end:end + 3]
+    if re.fullmatch(r" +(?:pub )?", before) and after.startswith(" :") or after.startswith(" =") and (
+            re.search(r"[{;] *$", before) or re.fullmatch(r" +", before) and re.search(r"[{;]\s*$", text[:line])):
+        return not any(line <= it.start <= start or it.name == text[start:end] and it.kind != "constructor"
+                       and text.find(it.name, it.start) == start for it in antt.declarations(text))
+    return False
+
+
+def type_name(files, move):
+    """A type of src/."""
+    crate, path, new = move.words
+    *module, old = path.split("/")
+    home = ".".join([crate, "specs.declared", *module, old])
+    names = [it.name for at in files.texts if at.startswith(f"crates/{crate}/src/{'/'.join(module) or 'lib'}.rt")
+             for it in rattle.items(files.texts[at]) if it.kind != "fn"]
+    if old not in names or new in names:
+        raise Refused(f"{crate} has no type {old} there, or a type {new}, too")
+    move.traits = tuple({it.of_trait for at in code(files, crate) if at.endswith(".rt")
+                         for it in rattle.items(files.texts[at]) if it.owner == old and it.of_trait})
+    alone = sum(it.name == old and it.kind != "fn" for at, *_ in files.sources("rt")
+                for it in rattle.items(files.texts[at])) == 1
+    brings = re.compile(rf"\b{crate}::(?:[\w:]*::)?(?:\{{[^}}]*\b{old}\b|{old}\b)")
+    for at in code(files):
+        if at.endswith((".rt", ".edit")) and (at.startswith(f"crates/{crate}/") or brings.search(files.texts[at])):
+            rename_type(files, at, old, new)
+    for at in code(files):
+        if f"Rattle.{home}.{{" in files.texts[at]:
+            rename_in(files, at, Declared(antt.Scopes(files), home, old), (home, old), new)
+    move_paths(files, move)
+    move_files(files, move)
+    speak_of(files, crate, old, new, alone)
+
+
+class Declared:
+    """What names mean, among them a type that src/ declares."""
+
+    def __init__(self, scopes, home, name):
+        self.scopes, self.own = scopes, (home, name)
+
+    def origin(self, module, name):
+        """The module that declares what a module calls so."""
+        return self.own if (module, name) == self.own else self.scopes.origin(module, name)
+
+    def scope(self, text, module):
+        """What each name of a file means."""
+        return self.scopes.scope(text, module)
+
+
+def rename_type(files, path, old, new):
+    """Renames a type in a file of src/: as a word that is no variant of another type, and in comments within brackets."""
+    text, clauses = files.texts[path], rattle.clause_spans(files.texts[path])
+    plain = rattle.masked(text)
+    pieces, last = [], 0
+    for found in re.finditer(rf"\b{old}\b", text):
+        start, before = found.start(), text[max(0, found.start() - 60):found.start()]
+        in_comment = plain[start:found.end()] != old
+        variant = re.search(r"\b[A-Z]\w*(?:<[^>]*>)?::$", before)
+        if not (is_in(start, clauses) or variant or in_comment and not re.search(r"[`\[]$", before)):
+            pieces += [text[last:start], new]
+            last = found.end()
+    files.texts[path] = "".join([*pieces, text[last:]])
+
+
+def function(files, move):
+    """A function of src/: its calls, the folder of its proof, and the goals of its callers that are named after it."""
+    crate, path, new = move.words
+    *above, old = path.split("/")
+    callers = [crate, *users_of(files, crate)]
+    home = f"crates/{crate}/src/{'/'.join(it for it in above if not it[0].isupper()) or 'lib'}.rt"
+    paths = [at for user in callers for at in code(files, user) if at.endswith((".rt", ".edit"))]
+    same = sum(it.kind == "fn" and it.name == old for at in paths if at.endswith(".rt") for it in rattle.items(files.texts[at]))
+    if same != 1:
+        paths = [home]
+        print(f"by hand: fn {crate} {path}: {same} functions there have that name; calls were renamed in {home} alone")
+    called = (rf"(?<=fn ){old}\b(?=[<(])|(?<=::){old}\b(?=[(<,;}}:])|(?<![\w.]){old}\b(?=\()"
+              rf"|(?<=\.){old}(?=(?:::<[^>]*>)?\()")
+    sub(files, paths, called, new)
+    if not above or not above[-1][0].isupper():
+        sub(files, paths, r"(?m)^(?:pub )?use [^;]*;", lambda use: re.sub(rf"(?<=[{{ :,]){old}(?=[,;}}])", new, use[0]))
+    for user in callers:
+        goals(files, user, old, new)
+    move_paths(files, move)
+    move_files(files, move)
+
+
+def goals(files, crate, old, new):
+    """Renames goals and their facts that begin with a function's name, in what is written of proofs; says each line that
+    has one. (What stands behind it is often a variable's name, and stays.)"""
+    named = re.compile(rf"(?<=\bc\.){old}(?=[-.\s)]|$)|(?<=in_ok-){old}\b|(?<=After-){old}\b|^((?:abbrev |pub )*){old}(?=-)")
+    part = re.compile(rf"(?<=[.-]){old}(?=[-.\s)]|$)")
+    for path in code(files, crate):
+        if re.search(r"/proofs/.*/(Answers|Invariants|Proof)\.antt$", path) and old in files.texts[path]:
+            lines = files.texts[path].splitlines(keepends=True)
+            for at, line in enumerate(lines):
+                if not line.startswith("use ") and (named.search(line) or part.search(line)):
+                    lines[at] = named.sub(lambda found: (found[1] or "") + new, line)
+                    print(f"by hand: {path}:{at + 1}: a goal of {old}, now {new}: {lines[at].strip()[:110]}")
+            files.texts[path] = "".join(lines)

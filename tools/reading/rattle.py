@@ -1,0 +1,138 @@
+"""Files of src/: their types, functions and contracts."""
+import functools
+import re
+from dataclasses import dataclass, field
+
+# Comments, texts and characters. (A lifetime has no second quote.)
+COMMENT = re.compile(r"//[^\n]*")
+PLAIN = re.compile(
+    r"//[^\n]*|/\*.*?\*/|b?r#*\".*?\"#*|b?\"(?:\\.|[^\"\\])*\"|b?'(?:\\(?:x..|u\{\w+\}|.)|[^'\\\n])'", re.DOTALL)
+ITEM = re.compile(
+    r"(?P<public>\bpub(?P<within>\([a-z: ]+\))? )?(?:(?:const|unsafe) )*"
+    r"\b(?P<kind>fn|struct|enum|trait|type|impl|mod)\b(?P<rest>[ <])")
+NAME = re.compile(r"[A-Za-z_]\w*")
+CLAUSE = re.compile(r"\s*(requires|ensures|ghost)(\*?)\s*(«?\w+»?:?)?\s*\{")
+
+
+def masked(text):
+    """The text with blanks in the place of comments, texts and characters, so that places stay."""
+    return PLAIN.sub(lambda found: re.sub(r"[^\n]", " ", found[0]), text)
+
+
+def matching(text, at):
+    """Where the bracket that stands there is closed; the text's end where it isn't."""
+    depth = 0
+    for place in range(at, len(text)):
+        depth += (text[place] in "([{") - (text[place] in ")]}")
+        if depth == 0:
+            return place
+    return len(text)
+
+
+@dataclass
+class Item:
+    """A function or a type: the type that it belongs to, the trait whose impl it stands in, and of a function the clauses,
+    each its kind, its name and its text."""
+
+    kind: str
+    name: str
+    owner: str
+    of_trait: str
+    public: bool
+    test: bool
+    start: int
+    end: int
+    clauses: list = field(default_factory=list)
+
+
+def owner_of(rest):
+    """The type of an impl's head, and the trait's name where it is a trait's impl."""
+    head = rest
+    if head.lstrip().startswith("<"):
+        depth = 0
+        for place, letter in enumerate(head):
+            depth += (letter == "<") - (letter == ">" and head[place - 1] != "-")
+            if letter == ">" and depth == 0:
+                head = head[place + 1:]
+                break
+    trait, found, own = head.partition(" for ")
+    names = NAME.findall((own if found else trait).split("<")[0])
+    traits = NAME.findall(trait.split("<")[0])
+    return (names[-1] if names else ""), traits[-1] if found and traits else ""
+
+
+def clauses_after(code, text, at):
+    """The clauses of a function from there on, and where its body or its `;` stands."""
+    found = []
+    while at < len(code):
+        clause = CLAUSE.match(code, at)
+        if clause:
+            end = matching(code, clause.end() - 1)
+            found.append((clause[1] + clause[2], clause[3] or "", " ".join(text[clause.end():end].split())))
+            at = end + 1
+        elif code[at] in "{;":
+            break
+        elif code[at] in "([":
+            at = matching(code, at) + 1
+        else:
+            at += 1
+    return found, at
+
+
+@functools.lru_cache(maxsize=None)
+def items(text):
+    """The functions and types of a file."""
+    code, found, owners = masked(text), [], []
+    for item in ITEM.finditer(code):
+        line = code.rfind("\n", 0, item.start()) + 1
+        if code[line:item.start()].strip(" "):
+            continue
+        while owners and owners[-1][0] < item.start():
+            owners.pop()
+        kind, at = item["kind"], item.end() - 1
+        attributes = code[:line].rstrip().rsplit("\n\n", 1)[-1].split("\n")
+        above = []
+        while attributes and attributes[-1].lstrip().startswith(("#[", "//")) or attributes and not attributes[-1].strip():
+            above.append(attributes.pop())
+        test = any("#[test]" in it or "#[cfg(test)]" in it for it in above)
+        if kind == "impl":
+            brace = code.find("{", at)
+            own, of_trait = owner_of(code[at:brace])
+            owners.append((matching(code, brace), own, of_trait, test))
+            continue
+        name = NAME.search(code, at)
+        if not name or any(it[1] is None for it in owners):
+            continue
+        owner = owners[-1] if owners else (0, "", "", False)
+        public = bool(item["public"]) and not item["within"] or bool(owner[2]) and kind == "fn"
+        one = Item(kind, name[0], owner[1], owner[2], public, test or owner[3], line, name.end())
+        if kind == "fn":
+            one.clauses, body = clauses_after(code, text, name.end())
+            one.end = matching(code, body) if body < len(code) and code[body] == "{" else body
+            # What stands in a function belongs to it.
+            owners.append((one.end, None, "", False))
+        elif kind in ("trait", "mod"):
+            brace = re.compile(r"[{;]").search(code, name.end())
+            if brace and brace[0] == "{":
+                one.end = matching(code, brace.start())
+                # (a trait's functions are as public as it is)
+                owners.append((one.end, one.name if kind == "trait" else "", "trait" if public and kind == "trait" else "",
+                               one.test))
+        else:
+            stop = re.compile(r"[{;]").search(code, name.end())
+            one.end = matching(code, stop.start()) if stop and stop[0] == "{" else stop.start() if stop else len(code)
+        found.append(one)
+    return found
+
+
+def clause_spans(text):
+    """The places of what is antt in a file of src/: clauses, `ghost` members, and the lemmas that an attribute names."""
+    code = masked(text)
+    heads = re.compile(r"\b(?:requires|ensures|ghost|invariant|decreases)\*?(?:\s+«?\w+»?)?\s*[:=]?\s*\{|#!?\[tactic\(")
+    spans, last = [], 0
+    for head in heads.finditer(code):
+        if head.start() >= last:
+            last = matching(code, code.find("{" if head[0][-1] == "{" else "(", head.start()))
+            spans.append((head.end(), last))
+    spans += [(use.start(), use.end()) for use in re.finditer(r"ghost use [^;]*;", code)]
+    return sorted(spans)
