@@ -1,15 +1,21 @@
 //! Processors over one book behind a lock: lazy release consistency with timestamps, closed intervals, write notices
 //! and records of changed words.
 
-use crate::locks::Guarded;
+use crate::locks::{Guarded, Held, Line, park, wait_awake, wake};
 use std::collections::VecDeque;
+use std::mem;
 use std::sync::Arc;
+use std::sync::atomic::Ordering;
 use std::thread;
 use std::time::Instant;
 
 const WORDS: usize = 64;
 const BLOCK: usize = 256;
 const MOST: usize = 1 << 20;
+
+/// What a processor's word says: 0 where it was told nothing.
+const TOLD: u64 = 1;
+const ASLEEP: u64 = 2;
 
 pub const LOAD: u8 = 0;
 pub const STORE: u8 = 1;
@@ -19,6 +25,9 @@ pub const ACQUIRE: u8 = 4;
 pub const RELEASE: u8 = 5;
 pub const ARRIVE: u8 = 6;
 pub const DEPART: u8 = 7;
+pub const SET: u8 = 8;
+pub const WATCH: u8 = 9;
+pub const AWAIT: u8 = 10;
 
 /// What a processor did: 16 bytes.
 #[derive(Clone, Copy)]
@@ -27,7 +36,7 @@ pub struct Event {
     pub processor: u8,
     /// Of a fetch: how many processors' records.
     pub writers: u16,
-    /// An address, a page or a lock.
+    /// An address, a page, a lock or a flag.
     pub place: u32,
     /// A word; of a fetch, how many records.
     pub value: u32,
@@ -83,6 +92,11 @@ struct Lock {
     time: Time,
 }
 
+struct Flag {
+    is_set: bool,
+    time: Time,
+}
+
 struct Book {
     journal: Vec<Event>,
     closed: u64,
@@ -92,10 +106,27 @@ struct Book {
     arrived: u32,
     meeting: Time,
     messages: Vec<Option<Message>>,
+    flags: Vec<Flag>,
+    watched: Vec<Option<usize>>,
+    /// Whom to tell that what they wait for has come: a bit for each.
+    ready: u32,
+}
+
+/// How the processors' threads wait.
+#[derive(Clone, Copy, PartialEq)]
+pub enum Waiting {
+    /// For the book at a Mutex; for what they wait for they look again and again.
+    ByMutex,
+    /// For the book in the order of drawing; else as before.
+    InOrder,
+    /// For the book in the order of drawing; else they sleep until they are told.
+    Asleep,
 }
 
 pub struct Cluster {
     book: Guarded<Book>,
+    /// A word for each processor: whether it was told.
+    told: Option<Vec<Line>>,
 }
 
 #[derive(Clone, Copy, PartialEq)]
@@ -103,6 +134,7 @@ enum Awaits {
     Nothing,
     Lock(u32),
     Meeting,
+    Flag(u32),
 }
 
 /// Divides addresses by the words of a page, 1 to 64, by a multiplication: exact below 4,096, which no address passes.
@@ -134,6 +166,11 @@ pub struct Processor {
     time: Time,
     held: u32,
     awaits: Awaits,
+}
+
+/// Who waits for the flag: a bit for each.
+fn watchers(watched: &[Option<usize>], f: usize) -> u32 {
+    watched.iter().enumerate().filter(|(_, flag)| **flag == Some(f)).map(|(p, _)| 1 << p).sum()
 }
 
 fn join(time: &mut Time, other: &Time) {
@@ -182,6 +219,18 @@ impl Book {
     fn post(&mut self, p: u8, time: Time) {
         let records = self.news(&self.times[p as usize], &time);
         self.messages[p as usize] = Some(Message { time, records });
+        self.ready |= 1 << p;
+    }
+
+    /// What has come for the processor: of a flag, what is there now.
+    fn message(&mut self, p: usize, awaits: Awaits) -> Option<Message> {
+        let Awaits::Flag(f) = awaits else {
+            return self.messages[p].take();
+        };
+        let Flag { is_set: true, time } = self.flags[f as usize] else {
+            return None;
+        };
+        Some(Message { time, records: self.news(&self.times[p], &time) })
     }
 
     fn grant(&mut self, p: u8, l: usize) {
@@ -208,7 +257,7 @@ impl Book {
 impl Cluster {
     /// With one Mutex round the book.
     pub fn new(processors: usize, pages: usize, words: usize, locks: usize) -> (Cluster, Vec<Processor>) {
-        Cluster::with(processors, pages, words, locks, false)
+        Cluster::with(processors, pages, words, locks, 0, Waiting::ByMutex)
     }
 
     /// With a Mutex, or with the row lock, which lets threads in by the order of drawing.
@@ -217,7 +266,8 @@ impl Cluster {
         pages: usize,
         words: usize,
         locks: usize,
-        in_order: bool,
+        flags: usize,
+        waiting: Waiting,
     ) -> (Cluster, Vec<Processor>) {
         let book = Book {
             journal: Vec::with_capacity(BLOCK * processors),
@@ -230,6 +280,9 @@ impl Cluster {
             arrived: 0,
             meeting: [0; 16],
             messages: (0..processors).map(|_| None).collect(),
+            flags: (0..flags).map(|_| Flag { is_set: false, time: [0; 16] }).collect(),
+            watched: vec![None; processors],
+            ready: 0,
         };
         let all = (0..processors).map(|number| Processor {
             number: number as u8,
@@ -244,7 +297,43 @@ impl Cluster {
             held: 0,
             awaits: Awaits::Nothing,
         });
-        (Cluster { book: Guarded::new(book, in_order.then_some(processors)) }, all.collect())
+        let told = (waiting == Waiting::Asleep).then(|| (0..processors).map(|_| Line::new()).collect());
+        let in_order = (waiting != Waiting::ByMutex).then_some(processors);
+        (Cluster { book: Guarded::new(book, in_order), told }, all.collect())
+    }
+
+    /// Forgets what the processor was told: while it is in the book, before it can be told again.
+    fn forget(&self, m: &Processor) {
+        if let Some(told) = &self.told {
+            told[m.number as usize].0.store(0, Ordering::Relaxed);
+        }
+    }
+
+    /// Tells the processors that what they wait for has come.
+    fn tell(&self, mut ready: u32) {
+        let Some(told) = &self.told else { return };
+        while ready != 0 {
+            let word = &told[ready.trailing_zeros() as usize].0;
+            ready &= ready - 1;
+            if word.swap(TOLD, Ordering::SeqCst) == ASLEEP {
+                wake(word);
+            }
+        }
+    }
+
+    /// Waits until the processor was told; false where nobody tells it.
+    pub fn wait(&self, m: &Processor) -> bool {
+        let Some(told) = &self.told else { return false };
+        let word = &told[m.number as usize].0;
+        if !wait_awake(word, TOLD) {
+            while word.load(Ordering::SeqCst) != TOLD {
+                let _ = word.compare_exchange(0, ASLEEP, Ordering::SeqCst, Ordering::SeqCst);
+                park(word, ASLEEP);
+            }
+        }
+        // What was told up to here is looked for next.
+        word.store(0, Ordering::SeqCst);
+        true
     }
 
     pub fn flush(&self, m: &mut Processor) -> Result<(), Refused> {
@@ -254,6 +343,14 @@ impl Cluster {
         drop(book);
         m.block.clear();
         Ok(())
+    }
+
+    /// Leaves the book, and tells those for whom something has come. What the processor itself was told earlier is over.
+    fn leave(&self, mut book: Held<'_, Book>, m: &Processor) {
+        let ready = mem::take(&mut book.ready);
+        self.forget(m);
+        drop(book);
+        self.tell(ready);
     }
 
     fn closed(&self, m: &mut Processor) {
@@ -274,7 +371,7 @@ impl Cluster {
         } else {
             book.locks[l].line.push_back(m.number);
         }
-        drop(book);
+        self.leave(book, m);
         self.closed(m);
         m.awaits = Awaits::Lock(l as u32);
         Ok(())
@@ -292,7 +389,7 @@ impl Cluster {
         if let Some(next) = book.locks[l].line.pop_front() {
             book.grant(next, l);
         }
-        drop(book);
+        self.leave(book, m);
         self.closed(m);
         m.held &= !(1 << l);
         Ok(())
@@ -315,9 +412,42 @@ impl Cluster {
                 book.post(p as u8, time);
             }
         }
-        drop(book);
+        self.leave(book, m);
         self.closed(m);
         m.awaits = Awaits::Meeting;
+        Ok(())
+    }
+
+    pub fn set(&self, m: &mut Processor, f: usize) -> Result<(), Refused> {
+        if m.awaits != Awaits::Nothing {
+            return Err(Refused::Waiting);
+        }
+        let records = m.harvest();
+        let mut book = self.book.lock();
+        book.close(m.number, &m.block, event(m.number, SET, f as u32, 0), records)?;
+        let time = book.times[m.number as usize];
+        join(&mut book.flags[f].time, &time);
+        book.flags[f].is_set = true;
+        book.ready |= watchers(&book.watched, f);
+        self.leave(book, m);
+        self.closed(m);
+        Ok(())
+    }
+
+    pub fn watch(&self, m: &mut Processor, f: usize) -> Result<(), Refused> {
+        if m.awaits != Awaits::Nothing {
+            return Err(Refused::Waiting);
+        }
+        let records = m.harvest();
+        let mut book = self.book.lock();
+        book.close(m.number, &m.block, event(m.number, WATCH, f as u32, 0), records)?;
+        book.watched[m.number as usize] = Some(f);
+        if book.flags[f].is_set {
+            book.ready |= 1 << m.number;
+        }
+        self.leave(book, m);
+        self.closed(m);
+        m.awaits = Awaits::Flag(f as u32);
         Ok(())
     }
 
@@ -326,11 +456,13 @@ impl Cluster {
             Awaits::Nothing => return Err(Refused::Waiting),
             Awaits::Lock(l) => event(m.number, ACQUIRE, l, 0),
             Awaits::Meeting => event(m.number, DEPART, 0, 0),
+            Awaits::Flag(f) => event(m.number, AWAIT, f, 0),
         };
         let mut book = self.book.lock();
-        let Some(message) = book.messages[m.number as usize].take() else {
+        let Some(message) = book.message(m.number as usize, m.awaits) else {
             return Err(Refused::NotYet);
         };
+        book.watched[m.number as usize] = None;
         book.room(1)?;
         book.journal.push(last);
         let before = book.times[m.number as usize];

@@ -1,11 +1,12 @@
 //! The works of `bench` on a journal: the same events, in 16 bytes each.
 
-use crate::book::{ACQUIRE, ARRIVE, ASK, DEPART, Event, FETCH, LOAD, RELEASE, STORE, event};
+use crate::book::{ACQUIRE, ARRIVE, ASK, AWAIT, DEPART, Event, FETCH, LOAD, RELEASE, SET, STORE, WATCH, event};
 use std::hint::black_box;
 
 const PROCESSORS: usize = 8;
 const ADDRESSES: usize = 4096;
 const LOCKS: usize = 64;
+const FLAGS: usize = 32;
 const PERIOD: usize = 16384;
 
 fn value_before(round: usize) -> u32 {
@@ -89,6 +90,7 @@ pub fn first_race<const P: usize>(journal: &[Event], processors: usize) -> Optio
         time[p] = 1;
     }
     let mut locks: Vec<Time<P>> = vec![[0; P]; LOCKS];
+    let mut flags: Vec<Time<P>> = vec![[0; P]; FLAGS];
     let mut arrived = 0;
     let mut meeting: Time<P> = [0; P];
     let mut met: [Time<P>; P] = [[0; P]; P];
@@ -137,12 +139,17 @@ pub fn first_race<const P: usize>(journal: &[Event], processors: usize) -> Optio
                 }
                 address.store = now;
             }
-            ASK => time[p] += 1,
+            ASK | WATCH => time[p] += 1,
             RELEASE => {
                 locks[e.place as usize] = *time;
                 time[p] += 1;
             }
             ACQUIRE => join(time, &locks[e.place as usize]),
+            SET => {
+                join(&mut flags[e.place as usize], time);
+                time[p] += 1;
+            }
+            AWAIT => join(time, &flags[e.place as usize]),
             ARRIVE => {
                 join(&mut meeting, time);
                 time[p] += 1;
@@ -187,7 +194,7 @@ pub fn traffic(journal: &[Event]) -> Traffic {
                 records += u64::from(e.value);
                 words += u64::from(e.words);
             }
-            ACQUIRE => messages += 2,
+            ACQUIRE | AWAIT => messages += 2,
             ARRIVE | DEPART => messages += 1,
             _ => {}
         }

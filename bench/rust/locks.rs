@@ -1,23 +1,70 @@
-//! The two locks with FIFO order, and the same waiting as the product's.
+//! The two locks with FIFO order, and the same waiting as the product's: pauses, and then sleep.
 
 use std::cell::UnsafeCell;
+use std::ffi::c_long;
 use std::hint::spin_loop;
 use std::ops::{Deref, DerefMut};
+use std::ptr;
 use std::sync::atomic::{AtomicU64, Ordering};
 use std::sync::{Mutex, MutexGuard};
 use std::thread;
 
-const PAUSES: u32 = 128;
+/// How often a waiting thread looks before it sleeps, with a pause after each look.
+const LOOKS_AWAKE: u32 = 128;
 
-fn wait(word: &AtomicU64, number: u64) {
-    let mut pauses = 0;
-    while word.load(Ordering::Acquire) != number {
-        if pauses < PAUSES {
-            spin_loop();
-            pauses += 1;
-        } else {
-            thread::yield_now();
+unsafe extern "C" {
+    fn syscall(number: c_long, ...) -> c_long;
+}
+
+const SYS_FUTEX: c_long = 202;
+const FUTEX_WAIT_PRIVATE: c_long = 128;
+const FUTEX_WAKE_PRIVATE: c_long = 129;
+
+/// Sleeps if the word's low half is still this one's.
+pub fn park(word: &AtomicU64, seen: u64) {
+    unsafe { syscall(SYS_FUTEX, word.as_ptr(), FUTEX_WAIT_PRIVATE, seen as u32 as c_long, ptr::null::<u8>()) };
+}
+
+/// Wakes all that sleep on the word.
+pub fn wake(word: &AtomicU64) {
+    unsafe { syscall(SYS_FUTEX, word.as_ptr(), FUTEX_WAKE_PRIVATE, i32::MAX as c_long) };
+}
+
+/// Waits for as long as a thread stays awake: whether the word is the number.
+pub fn wait_awake(word: &AtomicU64, number: u64) -> bool {
+    for _ in 0..LOOKS_AWAKE {
+        if word.load(Ordering::Acquire) == number {
+            return true;
         }
+        spin_loop();
+    }
+    false
+}
+
+/// Waits until the word is the number. Who sleeps is counted first, and looks again: who leaves reads the count last.
+fn wait(word: &AtomicU64, number: u64, sleepers: &AtomicU64) {
+    if !wait_awake(word, number) {
+        sleepers.fetch_add(1, Ordering::SeqCst);
+        sleep(word, number);
+        sleepers.fetch_sub(1, Ordering::Relaxed);
+    }
+}
+
+#[cold]
+fn sleep(word: &AtomicU64, number: u64) {
+    loop {
+        let seen = word.load(Ordering::SeqCst);
+        if seen == number {
+            return;
+        }
+        park(word, seen);
+    }
+}
+
+fn pass(word: &AtomicU64, number: u64, sleepers: &AtomicU64) {
+    word.store(number, Ordering::SeqCst);
+    if sleepers.load(Ordering::SeqCst) > 0 {
+        wake(word);
     }
 }
 
@@ -29,10 +76,10 @@ pub trait Queue: Sync {
 
 /// A word on lines of its own, so that a write of it disturbs nobody who waits for another one.
 #[repr(align(128))]
-struct Line(AtomicU64);
+pub struct Line(pub AtomicU64);
 
 impl Line {
-    fn new() -> Line {
+    pub fn new() -> Line {
         Line(AtomicU64::new(0))
     }
 }
@@ -40,21 +87,22 @@ impl Line {
 pub struct Tickets {
     next: Line,
     serving: Line,
+    sleepers: Line,
 }
 
 impl Queue for Tickets {
     fn new(_seats: usize) -> Self {
-        Tickets { next: Line::new(), serving: Line::new() }
+        Tickets { next: Line::new(), serving: Line::new(), sleepers: Line::new() }
     }
 
     fn enter(&self) -> u64 {
         let number = self.next.0.fetch_add(1, Ordering::Relaxed);
-        wait(&self.serving.0, number);
+        wait(&self.serving.0, number, &self.sleepers.0);
         number
     }
 
     fn leave(&self, number: u64) {
-        self.serving.0.store(number + 1, Ordering::Release);
+        pass(&self.serving.0, number + 1, &self.sleepers.0);
     }
 }
 
@@ -62,6 +110,7 @@ impl Queue for Tickets {
 pub struct Row {
     next: Line,
     words: Box<[Line]>,
+    sleepers: Line,
 }
 
 impl Row {
@@ -72,17 +121,18 @@ impl Row {
 
 impl Queue for Row {
     fn new(seats: usize) -> Self {
-        Row { next: Line::new(), words: (0..seats.next_power_of_two()).map(|_| Line::new()).collect() }
+        let words = (0..seats.next_power_of_two()).map(|_| Line::new()).collect();
+        Row { next: Line::new(), words, sleepers: Line::new() }
     }
 
     fn enter(&self) -> u64 {
         let number = self.next.0.fetch_add(1, Ordering::Relaxed);
-        wait(self.at(number), number);
+        wait(self.at(number), number, &self.sleepers.0);
         number
     }
 
     fn leave(&self, number: u64) {
-        self.at(number + 1).store(number + 1, Ordering::Release);
+        pass(self.at(number + 1), number + 1, &self.sleepers.0);
     }
 }
 

@@ -1,6 +1,7 @@
 //! Runs of scripts: by turns on one thread, or each processor on a thread of its own; and the text of a report.
 
-use crate::book::{ACQUIRE, ARRIVE, ASK, Cluster, DEPART, Event, FETCH, LOAD, Processor, RELEASE, Refused, STORE};
+use crate::book::{ACQUIRE, ARRIVE, ASK, AWAIT, DEPART, FETCH, LOAD, RELEASE, SET, STORE, WATCH};
+use crate::book::{Cluster, Event, Processor, Refused, Waiting};
 use crate::journal::{Traffic, first_race, traffic};
 use crate::script::{Instruction, Script, parse};
 use std::fs;
@@ -15,7 +16,7 @@ pub struct Report {
     journal: Vec<Event>,
 }
 
-/// Flags and cuts stand in no script that is measured.
+/// Cuts stand in no script that is measured.
 const UNKNOWN: &str = "an instruction that this program doesn't know";
 
 #[derive(Clone, Copy, PartialEq)]
@@ -88,7 +89,9 @@ fn begin(cluster: &Cluster, m: &mut Processor, instruction: Instruction) -> Resu
         Instruction::Acquire(lock) => cluster.ask(m, lock as usize).map(|()| false),
         Instruction::Release(lock) => cluster.release(m, lock as usize).map(|()| true),
         Instruction::Barrier => cluster.arrive(m).map(|()| false),
-        Instruction::Set(_) | Instruction::Await(_) | Instruction::Cut => panic!("{UNKNOWN}"),
+        Instruction::Set(flag) => cluster.set(m, flag as usize).map(|()| true),
+        Instruction::Await(flag) => cluster.watch(m, flag as usize).map(|()| false),
+        Instruction::Cut => panic!("{UNKNOWN}"),
     }
 }
 
@@ -137,15 +140,15 @@ fn conclude(cluster: Cluster, mut all: Vec<Processor>, script: &Script) -> Resul
     Ok(Report { shown, racy, traffic, journal })
 }
 
-fn new_cluster(script: &Script, in_order: bool) -> (Cluster, Vec<Processor>) {
+fn new_cluster(script: &Script, waiting: Waiting) -> (Cluster, Vec<Processor>) {
     let sizes = &script.sizes;
-    let (processors, pages) = (sizes.processors as usize, sizes.pages as usize);
-    Cluster::with(processors, pages, sizes.words as usize, sizes.locks as usize, in_order)
+    let (processors, pages, words) = (sizes.processors as usize, sizes.pages as usize, sizes.words as usize);
+    Cluster::with(processors, pages, words, sizes.locks as usize, sizes.flags as usize, waiting)
 }
 
 /// All processors by turns on one thread, in the order of their numbers.
 pub fn step(script: &Script) -> Result<Report, Refused> {
-    let (cluster, mut processors) = new_cluster(script, false);
+    let (cluster, mut processors) = new_cluster(script, Waiting::ByMutex);
     let mut all = vec![Progress::Next(0); processors.len()];
     while all.iter().any(|progress| *progress != Progress::Passed) {
         let mut any = false;
@@ -159,18 +162,26 @@ pub fn step(script: &Script) -> Result<Report, Refused> {
     conclude(cluster, processors, script)
 }
 
-/// Waits by pauses that grow, then yields, as the product does where a processor waits for another.
+/// Gives way between two looks, by pauses that grow, and then by yields.
+fn give_way(looks: &mut u32) {
+    if *looks <= 6 {
+        (0..1 << *looks).for_each(|_| spin_loop());
+        *looks += 1;
+    } else {
+        thread::yield_now();
+    }
+}
+
+/// Does the instruction to its end. Until it can end, the thread sleeps, or gives way where nobody tells its processor.
 fn perform(cluster: &Cluster, m: &mut Processor, instruction: Instruction) -> Result<(), Refused> {
     if begin(cluster, m, instruction)? {
         return Ok(());
     }
     let mut looks = 0;
+    cluster.wait(m);
     while !end(cluster, m)? {
-        if looks <= 6 {
-            (0..1 << looks).for_each(|_| spin_loop());
-            looks += 1;
-        } else {
-            thread::yield_now();
+        if !cluster.wait(m) {
+            give_way(&mut looks);
         }
     }
     Ok(())
@@ -184,8 +195,8 @@ fn walk(cluster: &Cluster, m: &mut Processor, section: &[Instruction]) -> Result
 }
 
 /// Each processor on a thread of its own.
-pub fn run(script: &Script, in_order: bool) -> Result<Report, Refused> {
-    let (cluster, mut processors) = new_cluster(script, in_order);
+pub fn run(script: &Script, waiting: Waiting) -> Result<Report, Refused> {
+    let (cluster, mut processors) = new_cluster(script, waiting);
     let shared = &cluster;
     thread::scope(|scope| {
         let started: Vec<_> = processors
@@ -273,12 +284,15 @@ impl<W: Write> Pending<W> {
                 line.number(e.place);
                 line.text(b" fetch");
             }
-            ASK | ACQUIRE | RELEASE => {
+            ASK | ACQUIRE | RELEASE | SET | WATCH | AWAIT => {
                 line.number(e.place);
                 match e.kind {
                     ASK => line.text(b" ask"),
                     ACQUIRE => line.text(b" acquire"),
-                    _ => line.text(b" release"),
+                    RELEASE => line.text(b" release"),
+                    SET => line.text(b" set"),
+                    WATCH => line.text(b" watch"),
+                    _ => line.text(b" await"),
                 }
             }
             ARRIVE => line.text(b" arrive"),
@@ -324,7 +338,9 @@ pub fn runs(work: &str, file: &str, times: usize) -> usize {
     for _ in 0..times {
         count = match work {
             "step" => step(&script).expect("a report").journal.len(),
-            _ => run(&script, work == "run_in_order").expect("a report").shown.len(),
+            "run_in_order" => run(&script, Waiting::InOrder).expect("a report").shown.len(),
+            "run_asleep" => run(&script, Waiting::Asleep).expect("a report").shown.len(),
+            _ => run(&script, Waiting::ByMutex).expect("a report").shown.len(),
         };
     }
     count

@@ -26,8 +26,8 @@ pub struct Sizes {
     pub pages: u32,
     pub words: u32,
     pub locks: u32,
+    pub flags: u32,
     addresses: u32,
-    flags: u32,
 }
 
 /// The bytes that are left.
@@ -89,7 +89,7 @@ impl<'a> Reader<'a> {
         if processors == 0 || pages == 0 || words == 0 {
             return None;
         }
-        Some(Sizes { processors, pages, words, locks, addresses: pages * words, flags })
+        Some(Sizes { processors, pages, words, locks, flags, addresses: pages * words })
     }
 
     #[inline(always)]

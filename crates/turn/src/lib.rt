@@ -13,8 +13,8 @@
 //! **What is proved**: the keeper's fact whenever the lock is free; [`Spent`] exactly after that many entries, with nothing
 //! changed; `turns_law` of both locks, that the numbers are served in turn and one chair at most is inside.
 //!
-//! **What is only tested**: that waiting chairs get in; the words of both boards. Fairness, time and that `enter` returns
-//! are neither proved nor promised.
+//! **What is only tested**: that waiting chairs get in, though their threads sleep; the words of both boards. Fairness, time
+//! and that `enter` returns are neither proved nor promised.
 #![tactic(auto)]
 
 mod board;
@@ -22,6 +22,7 @@ mod chair;
 mod contract;
 mod laws;
 mod lock;
+mod sleepers;
 
 pub use chair::{Chair, ChairToken, Held, Spent};
 pub use contract::{Keeper, Outcome, Turn};

@@ -7,13 +7,13 @@ ghost use Rattle.turn.specs.declared.chair.Stage.TheVariants.{Outside, Waiting, 
 use crate::board::{Board, Change, Counter, Layout, Row};
 use crate::chair::{Chair, ChairRun, ChairState, ChairToken, Held, Spent};
 use crate::contract::{Keeper, Outcome, Turn};
+use crate::sleepers::{Sleepers, low_half};
 use atomic_table::{Join, Play, Seat, Split, Table, TableRule};
+use crossbeam_utils::Backoff;
 use std::alloc::{AllocError, Global};
-use std::hint::spin_loop;
 use std::marker::PhantomData;
 use std::snapshot::Snapshot;
 use std::sync::Wait;
-use std::thread::yield_now;
 
 /// What a lock is told once, when it is made: how many chairs it has, how often each may enter, and, for proofs alone,
 /// the first book.
@@ -100,25 +100,16 @@ type LockSeat<B, V> = Seat<Option<B>, ChairRun<ChairState<B, V>>>;
 /// The next number to draw.
 const NEXT: usize = 0;
 
-/// Pauses of a waiting thread before it yields.
-const PAUSES: u32 = 128;
-
-// Waits between two looks, after that many pauses: a pause of the processor more, or a yield once there were enough. They
-// don't grow, since in a queue the one that looks too late stops everybody behind it.
-fn give_way(pauses: u32) -> u32 {
-    if pauses < PAUSES {
-        spin_loop();
-        pauses + 1
-    } else {
-        yield_now();
-        pauses
-    }
-}
+/// How often a waiting thread looks before it sleeps, with a pause of the processor after each look. The pauses don't grow,
+/// since in a queue the one that looks too late stops everybody behind it. It doesn't yield either: where there are more
+/// threads than idle processors, a yield lets threads run that wait as it does.
+const LOOKS_AWAKE: u32 = 128;
 
 /// A lock whose chairs draw numbers, and enter in the order of their numbers, on the board `W`.
 pub struct Lock<B, K: Keeper<B>, W: Board, const ENTRIES: u64> {
     table: Table<Option<B>, ChairRun<ChairState<B, K::View>>, Terms<B>, Tickets<K, W>, Global>,
     pub(crate) layout: Layout<W>,
+    sleepers: Sleepers,
     ghost wide: { (table.shared.table_id.words ≡ layout.words) × (table.shared.table_id.slots ≡ 1) },
     ghost sized: { (table.shared.key.seats ≡ layout.seats) × (table.shared.key.entries ≡ ENTRIES) },
 }
@@ -176,7 +167,55 @@ impl<B, K: Keeper<B>, W: Board, const ENTRIES: u64> Lock<B, K, W, ENTRIES> {
         book
     }
 
-    // Looks until the chair's number is served, and gives way between two looks.
+    // Looks for as long as a thread waits awake: whether the chair is inside.
+    fn wait_awake(&self, seat: &mut LockSeat<B, K::View>, word: usize, number: u64) -> bool
+        requires own { seat.old.table_id ≡ self.now.table.shared.table_id }
+        requires word { word ≡ W.at self.now.layout.seats number }
+        requires waits { IsAtStage (Waiting number) seat.old.me }
+        ensures own { seat.new.table_id ≡ seat.old.table_id }
+        ensures enter { OnTrue result (StepsIn K.fact number seat.old.me seat.new.me) }
+        ensures wait { OnFalse result (seat.new.me ≡ seat.old.me) }
+    {
+        let backoff = Backoff::new();
+        for _ in 0..LOOKS_AWAKE {
+            if self.look(seat, word, number) {
+                return true;
+            }
+            backoff.reset();
+            backoff.spin();
+        }
+        false
+    }
+
+    // Looks until the chair's number is served, and sleeps between two looks. Its thread must be counted among the
+    // sleepers.
+    fn wait_asleep<R: Wait>(
+        &self,
+        rt: &R,
+        seat: &mut LockSeat<B, K::View>,
+        word: usize,
+        number: u64,
+    )
+        requires own { seat.old.table_id ≡ self.now.table.shared.table_id }
+        requires word { word ≡ W.at self.now.layout.seats number }
+        requires waits { IsAtStage (Waiting number) seat.old.me }
+        ensures own { seat.new.table_id ≡ seat.old.table_id }
+        ensures enter { StepsIn K.fact number seat.old.me seat.new.me }
+    {
+        W::lawful(self.layout.seats);
+        for _ in rt.forever() {
+            let seen = low_half(self.table.shared.peek(word));
+            if self.look(seat, word, number) {
+                return;
+            }
+            if seen != low_half(number) {
+                self.table.shared.park(rt, word, seen);
+            }
+        }
+        unreachable!()
+    }
+
+    // Waits until the chair's number is served: awake for a while, and then asleep.
     fn wait_until_served<R: Wait>(&self, rt: &R, seat: &mut LockSeat<B, K::View>, number: u64)
         requires own { seat.old.table_id ≡ self.now.table.shared.table_id }
         requires waits { IsAtStage (Waiting number) seat.old.me }
@@ -184,14 +223,11 @@ impl<B, K: Keeper<B>, W: Board, const ENTRIES: u64> Lock<B, K, W, ENTRIES> {
         ensures enter { StepsIn K.fact number seat.old.me seat.new.me }
     {
         let word = W::at(self.layout.seats, number);
-        let mut pauses = 0;
-        for _ in rt.forever() {
-            if self.look(seat, word, number) {
-                return;
-            }
-            pauses = give_way(pauses);
+        if !self.wait_awake(seat, word, number) {
+            self.sleepers.count_one();
+            self.wait_asleep(rt, seat, word, number);
+            self.sleepers.forget_one();
         }
-        unreachable!()
     }
 
     // Waits for the chair's turn, and takes the book.
@@ -224,6 +260,18 @@ impl<B, K: Keeper<B>, W: Board, const ENTRIES: u64> Lock<B, K, W, ENTRIES> {
         let None = taken else { unreachable!() };
         W::lawful(self.layout.seats);
         W::pass::<_, _, _, _, StepOut<M>>(&self.table.shared, seat, self.layout.seats, number);
+    }
+
+    // Wakes whoever sleeps at the next number's word. It comes after the step 'leave': who sleeps is looked for last.
+    fn wake_next(&self, number: u64)
+        requires { number + 1 < 2 ^ 64 }
+    {
+        if self.sleepers.number() > 0 {
+            W::lawful(self.layout.seats);
+            self.table
+                .shared
+                .wake_all(W::at(self.layout.seats, number + 1));
+        }
     }
 
     // Gives each place of the lock to a chair of its own.
@@ -297,7 +345,11 @@ impl<B: Send, K: Keeper<B>, W: Board + Sync, const ENTRIES: u64> Turn<B, K>
         let Ok((table, rest)) = Table::new(alloc, words.as_slice(), slots, &terms) else {
             return Err(AllocError);
         };
-        let lock = Lock { table, layout };
+        let lock = Lock {
+            table,
+            layout,
+            sleepers: Sleepers::none(),
+        };
         let chairs = lock.deal(rest, chairs);
         Ok((lock, chairs))
     }
@@ -315,6 +367,7 @@ impl<B: Send, K: Keeper<B>, W: Board + Sync, const ENTRIES: u64> Turn<B, K>
     fn leave<M: Outcome<B, K::View>>(&self, chair: &mut Chair<B, K>, held: Held, book: B) {
         let Held { number } = held;
         self.hand_in::<M>(&mut chair.seat, number, book);
+        self.wake_next(number);
     }
 
     fn close(self, chairs: Vec<Chair<B, K>>) -> B
@@ -323,7 +376,11 @@ impl<B: Send, K: Keeper<B>, W: Board + Sync, const ENTRIES: u64> Turn<B, K>
         ensures { K.fact result (map view chairs.items) }
     {
         let whole = self.gather(chairs);
-        let Lock { table, layout: _ } = self;
+        let Lock {
+            table,
+            layout: _,
+            sleepers: _,
+        } = self;
         let mut closed = table.close_with(whole);
         let slot = closed.take(0);
         closed.free();
@@ -336,9 +393,14 @@ impl<B: Send, K: Keeper<B>, W: Board + Sync, const ENTRIES: u64> Turn<B, K>
 
 impl<B: Drop, K: Keeper<B>, W: Board, const ENTRIES: u64> Drop for Lock<B, K, W, ENTRIES> {
     fn drop(self) {
-        let Lock { table, layout } = self;
+        let Lock {
+            table,
+            layout,
+            sleepers,
+        } = self;
         drop(table);
         drop(layout);
+        drop(sleepers);
     }
 }
 

@@ -36,15 +36,15 @@ fn four_threads_enter_a_thousand_times_with_a_row(rt: HostRuntime) -> Result<(),
 
 #[test]
 fn sixteen_chairs_on_sixteen_threads_with_tickets(rt: HostRuntime) -> Result<(), Fail> {
-    let count = count_in_many::<Tickets, _>(&rt, rt.alloc(), 16, 100)?;
-    assert_eq!(rt; count, Some(1600));
+    let count = count_in_many::<Tickets, _>(&rt, rt.alloc(), 16, 1000)?;
+    assert_eq!(rt; count, Some(16000));
     Ok(())
 }
 
 #[test]
 fn sixteen_chairs_on_sixteen_threads_with_a_row(rt: HostRuntime) -> Result<(), Fail> {
-    let count = count_in_many::<Row, _>(&rt, rt.alloc(), 16, 100)?;
-    assert_eq!(rt; count, Some(1600));
+    let count = count_in_many::<Row, _>(&rt, rt.alloc(), 16, 1000)?;
+    assert_eq!(rt; count, Some(16000));
     Ok(())
 }
 

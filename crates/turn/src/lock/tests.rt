@@ -1,7 +1,7 @@
 ghost use Rattle.std.specs.Prelude.{◌≡◌, ◌*◌, ◌^◌, ◌<◌, ◌≤◌, IfOk};
-ghost use Rattle.turn.specs.Prelude.{lock, lock_id, IsOutside, IsSameChair, AreAll};
+ghost use Rattle.turn.specs.Prelude.{entries, lock, lock_id, IsOutside, IsSameChair, AreAll};
 
-use super::{ArrayLock, Lock, NEXT, TicketLock};
+use super::{ArrayLock, Lock, TicketLock};
 use crate::board::{Board, Counter, Row};
 use crate::chair::{Chair, Spent};
 use crate::contract::{Keeper, Outcome, Turn};
@@ -9,7 +9,7 @@ use std::alloc::{AllocError, Global};
 use std::process::Abort;
 use std::sync::{Arc, Wait};
 use std::test::Fail;
-use std::thread::{self, Threads, join};
+use std::thread::{self, Threads, map_vec};
 use std::time::{Clock, Duration};
 
 // Keeps nothing.
@@ -178,99 +178,96 @@ fn a_book_is_dropped_with_its_lock(rt: HostRuntime) {
     drops_its_book::<ArrayLock<Arc<u8>, Anything, 3>, _>(&rt, rt.alloc());
 }
 
-// A lock over 7 with two chairs, each of which may enter three times.
-fn open_two<W: Board + Sync>(
-    alloc: Global,
-) -> Result<
-    (
-        Lock<u64, Anything, W, 3>,
-        Chair<u64, Anything>,
-        Chair<u64, Anything>,
-    ),
-    AllocError,
->
-    ensures first { IfOk result (λ r. (lock r.1 ≡ lock_id r.0.table.shared.table_id 3)
-        × IsOutside r.1) }
-    ensures second { IfOk result (λ r. (lock r.2 ≡ lock_id r.0.table.shared.table_id 3)
-        × IsOutside r.2) }
-{
-    let (turn, mut chairs) = Lock::<u64, Anything, W, 3>::new(alloc, 7, 2)?;
-    let Some(second) = chairs.pop() else {
-        unreachable!()
-    };
-    let Some(first) = chairs.pop() else {
-        unreachable!()
-    };
-    Ok((turn, first, second))
-}
-
-// Waits until that many numbers were drawn.
-fn wait_for_draws<W: Board, R: Wait>(rt: &R, turn: &Lock<u64, Anything, W, 3>, draws: u64) {
+// Waits until that many threads sleep. Wakes the first of them for no reason, so that it is the last to sleep.
+fn let_sleep<W: Board, R: Wait + Clock>(rt: &R, turn: &Lock<u64, Anything, W, 3>, many: u64) {
     for _ in rt.forever() {
-        if turn.table.shared.peek(NEXT) == draws {
-            return;
+        if turn.sleepers.number() == many {
+            break;
         }
         thread::yield_now();
     }
+    thread::sleep(rt, Duration::from_millis(50));
+    W::lawful(turn.layout.seats);
+    turn.table.shared.wake_one(W::at(turn.layout.seats, 1));
+    thread::sleep(rt, Duration::from_millis(50));
 }
 
-// Enters, stays inside until the other chair has drawn and, most likely, looked, and hands in the next book.
-fn leaves_late<W: Board + Sync, R: Wait + Clock>(
+// Enters, hands in the next book, and answers the book that it found. The first chair stays inside until all others sleep.
+fn enters_once<W: Board + Sync, R: Wait + Clock>(
     rt: &R,
     turn: &Lock<u64, Anything, W, 3>,
     mut chair: Chair<u64, Anything>,
+    others: u64,
 ) -> Result<u64, Spent>
     requires own { lock chair ≡ lock_id turn.now.table.shared.table_id 3 }
     requires outside { IsOutside chair }
 {
     let (held, book) = turn.enter(rt, &mut chair)?;
-    wait_for_draws(rt, turn, 2);
-    thread::sleep(rt, Duration::from_millis(20));
+    if book == 0 {
+        let_sleep(rt, turn, others);
+    }
     turn.leave::<Anything>(&mut chair, held, book.wrapping_add(1));
     Ok(book)
 }
 
-// Enters once the other chair has drawn.
-fn enters_second<W: Board + Sync, R: Wait>(
-    rt: &R,
-    turn: &Lock<u64, Anything, W, 3>,
-    mut chair: Chair<u64, Anything>,
-) -> Result<u64, Spent>
-    requires own { lock chair ≡ lock_id turn.now.table.shared.table_id 3 }
-    requires outside { IsOutside chair }
-{
-    wait_for_draws(rt, turn, 1);
-    let (held, book) = turn.enter(rt, &mut chair)?;
-    turn.leave::<Anything>(&mut chair, held, book);
-    Ok(book)
-}
-
-// The books that two chairs find, of which the second draws while the first is inside. A wait that looks once and never
-// again doesn't end here.
-fn in_turn<W: Board + Sync, R: Threads + Wait + Clock + Sync>(
+// The books that sixteen chairs find, of which fifteen sleep while the first is inside, in rising order. A wait that looks
+// once and never again doesn't end here, nor does a sleep that nobody ends.
+fn books_found<W: Board + Sync, R: Threads + Wait + Clock + Sync>(
     rt: &R,
     alloc: Global,
-) -> Result<(Result<u64, Spent>, Result<u64, Spent>), AllocError> {
-    let (turn, first, second) = open_two::<W>(alloc)?;
+) -> Result<Vec<u64>, AllocError> {
+    let (turn, chairs) = Lock::<u64, Anything, W, 3>::new(alloc, 0, 16)?;
     let shared = &turn;
-    Ok(join(
+    let mut books = map_vec(
         rt,
-        move || -> Result<u64, Spent>
-            requires { (lock first ≡ lock_id shared.now.table.shared.table_id 3) × IsOutside first }
-        { leaves_late(rt, shared, first) },
-        move || -> Result<u64, Spent>
-            requires { (lock second ≡ lock_id shared.now.table.shared.table_id 3)
-                × IsOutside second }
-        { enters_second(rt, shared, second) },
-    ))
+        chairs,
+        &|chair: Chair<u64, Anything>| -> u64
+            requires { (lock chair ≡ lock_id shared.now.table.shared.table_id 3) × IsOutside chair }
+        { enters_once(rt, shared, chair, 15).unwrap_or(u64::MAX) },
+    )?;
+    books.sort()?;
+    Ok(books)
 }
 
 #[test]
-fn a_chair_waits_for_the_one_inside(rt: HostRuntime) -> Result<(), Fail> {
-    for _ in 0..10 {
-        assert!(rt; in_turn::<Counter, _>(&rt, rt.alloc())? == (Ok(7), Ok(8)));
-        assert!(rt; in_turn::<Row, _>(&rt, rt.alloc())? == (Ok(7), Ok(8)));
-    }
+fn chairs_that_sleep_get_in(rt: HostRuntime) -> Result<(), Fail> {
+    let each_once = [0, 1, 2, 3, 4, 5, 6, 7, 8, 9, 10, 11, 12, 13, 14, 15];
+    assert!(rt; books_found::<Counter, _>(&rt, rt.alloc())?.as_slice() == each_once.as_slice());
+    assert!(rt; books_found::<Row, _>(&rt, rt.alloc())?.as_slice() == each_once.as_slice());
+    Ok(())
+}
+
+// Enters a free lock as one who waits no more awake: its number is served before it sleeps, and nobody would wake it.
+// Answers the book, and never leaves.
+fn enters_asleep<W: Board + Sync, R: Wait>(
+    rt: &R,
+    turn: &Lock<u64, Anything, W, 3>,
+    chair: Chair<u64, Anything>,
+) -> u64
+    requires own { lock chair ≡ lock_id turn.now.table.shared.table_id 3 }
+    requires outside { IsOutside chair }
+    requires left { entries chair < 3 }
+{
+    let mut seat = chair.into_seat();
+    let number = turn.draw(&mut seat);
+    let word = W::at(turn.layout.seats, number);
+    turn.wait_asleep(rt, &mut seat, word, number);
+    turn.take_book(&mut seat)
+}
+
+// The book of a free lock, found so.
+fn found_asleep<W: Board + Sync, R: Wait>(rt: &R, alloc: Global) -> Result<u64, AllocError> {
+    let (turn, mut chairs) = Lock::<u64, Anything, W, 3>::new(alloc, 7, 1)?;
+    let Some(chair) = chairs.pop() else {
+        unreachable!()
+    };
+    Ok(enters_asleep(rt, &turn, chair))
+}
+
+#[test]
+fn a_thread_looks_again_before_it_sleeps(rt: HostRuntime) -> Result<(), Fail> {
+    assert!(rt; found_asleep::<Counter, _>(&rt, rt.alloc())? == 7);
+    assert!(rt; found_asleep::<Row, _>(&rt, rt.alloc())? == 7);
     Ok(())
 }
 

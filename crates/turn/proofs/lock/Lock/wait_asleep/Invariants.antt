@@ -1,5 +1,5 @@
 use Rattle.std.proofs.Common.{◌≡◌}
-use Rattle.turn.proofs.lock.Lock.wait_until_served.Given as goal
+use Rattle.turn.proofs.lock.Lock.wait_asleep.Given as goal
 
 abbrev pub invariant-loop : goal.invariant-loop
 invariant-loop g l =

@@ -1,5 +1,5 @@
 use Rattle.std.proofs.Common.{◌∙◌, arith}
-use Rattle.turn.proofs.lock.tests.enters_second.Goals as goal
+use Rattle.turn.proofs.lock.tests.enters_once.Goals as goal
 
 pub leave-requires : goal.leave-requires
 leave-requires g c = let entered = c.in_ok-held.ensures.entered in
