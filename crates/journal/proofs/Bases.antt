@@ -9,6 +9,7 @@ pub mod Before
 pub mod Holding
 pub mod WellFormed
 pub mod Races
+pub mod Fronts
 pub mod Loads
 pub mod Uncut
 pub mod Cutting

@@ -39,6 +39,7 @@ pub mod BaseLaws
 pub mod Kept
 pub mod Opening
 pub mod Cutting
+pub mod Episodes
 pub mod HistoryLaws
 pub mod Deadlocks
 pub mod Prelude

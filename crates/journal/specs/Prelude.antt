@@ -29,6 +29,7 @@ pub use Rattle.journal.specs.Cuts.{IsBaseAfter, IsCut, NoCut}
 pub use Rattle.journal.specs.BaseLaws.{CopyLaw, CutLaw, FlatLaw, SameLaw, UncutLaw, WellFormedLaw}
 pub use Rattle.journal.specs.Kept.{AreCosts, IsKept, IsKeptAfter, base_of, held_after, set_after, without}
 pub use Rattle.journal.specs.Opening.{IsOpening}
+pub use Rattle.journal.specs.Episodes.{AreEpisodes, IsRaceOfPart}
 pub use Rattle.journal.specs.Cutting.{IsCutFault, WasCut}
 pub use Rattle.journal.specs.HistoryLaws.{HistoryLaw, WholeLaw}
 pub use Rattle.journal.specs.Deadlocks.{DeadlockLaw, IsDeadlock}

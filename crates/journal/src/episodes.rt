@@ -1,11 +1,21 @@
 //! Where a journal is cut: at the last arrival of its last complete episode.
-ghost use Rattle.std.specs.Prelude.{◌≡◌, ◌↔◌, ℕ, ◌+◌, ◌<◌, ◌≤◌, ◌^◌, ◌==◌, ◌&&◌, IsTrue, EachIndex, MatchOption};
-ghost use Rattle.std.specs.Prelude.{cond, length, slice_index};
+ghost use Rattle.std.specs.Prelude.{◌≡◌, ◌↔◌, ℕ, ◌+◌, ◌<◌, ◌≤◌, ◌^◌, ◌==◌, ◌&&◌, [], IsTrue, EachIndex, MatchOption};
+ghost use Rattle.std.specs.Prelude.{cond, length, slice_index, take};
 ghost use Rattle.lists.specs.Prelude.{most_held, most_processors};
-ghost use Rattle.journal.specs.Prelude.{is_arrive, ProcessorsInRange, IsCut, NoCut};
+ghost use Rattle.journal.specs.Prelude.{is_arrive, ProcessorsInRange, AreEpisodes};
 
 use crate::event::Event;
 use crate::kinds::arrives;
+
+/// The episodes of the barrier in a journal's events.
+#[derive(Clone, Copy)]
+pub(crate) struct Episodes {
+    /// How often each processor has arrived.
+    arrivals: [u32; 16],
+    /// How many events there are up to the last arrival of the last complete episode; None where no episode is
+    /// complete.
+    pub(crate) last: Option<usize>,
+}
 
 /// Whether each of the counts reaches this number.
 fn all_reach(counts: &[u32], number: u32) -> bool
@@ -34,20 +44,42 @@ fn ends_episode(arrivals: &mut [u32; 16], processors: usize, event: Event) -> bo
     all_reach(&arrivals[..processors], mine)
 }
 
-/// How many events there are up to the last arrival of the last complete episode; None where no episode
-/// is complete.
-pub(crate) fn last_episode(processors: usize, events: &[Event]) -> Option<usize>
-    requires few { length events.now ≤ most_held }
-    requires few_processors { processors ≤ most_processors }
-    requires processors { ProcessorsInRange processors events.now }
-    ensures { MatchOption result (NoCut processors events.now) (λ n. IsCut processors events.now n) }
-{
-    let mut arrivals = [0u32; 16];
-    let mut last = None;
-    for place in 0..events.len() {
-        if ends_episode(&mut arrivals, processors, events[place]) {
-            last = Some(place + 1);
+impl Episodes {
+    /// Before the first event.
+    pub(crate) fn new() -> Episodes
+        ensures { (processors : ℕ) → AreEpisodes processors [] result }
+    {
+        Episodes {
+            arrivals: [0; 16],
+            last: None,
         }
     }
-    last
+
+    /// Takes note of the event at this place, the next one. It takes no memory.
+    pub(crate) fn note(&mut self, processors: usize, events: &[Event], place: usize)
+        requires place { place < length events.now }
+        requires few { length events.now ≤ most_held }
+        requires few_processors { processors ≤ most_processors }
+        requires processors { ProcessorsInRange processors events.now }
+        requires so_far { AreEpisodes processors (take place events.now) self.old }
+        ensures { AreEpisodes processors (take (place + 1) events.now) self.new }
+    {
+        if ends_episode(&mut self.arrivals, processors, events[place]) {
+            self.last = Some(place + 1);
+        }
+    }
+
+    /// Those of these events. It takes no memory.
+    pub(crate) fn of(processors: usize, events: &[Event]) -> Episodes
+        requires few { length events.now ≤ most_held }
+        requires few_processors { processors ≤ most_processors }
+        requires processors { ProcessorsInRange processors events.now }
+        ensures { AreEpisodes processors events.now result }
+    {
+        let mut episodes = Episodes::new();
+        for place in 0..events.len() {
+            episodes.note(processors, events, place);
+        }
+        episodes
+    }
 }

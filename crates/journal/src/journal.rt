@@ -5,10 +5,10 @@ ghost use Rattle.std.specs.Prelude.{max, option_copied, slice_get, take};
 ghost use Rattle.lists.specs.Prelude.{most_held, most_processors, most_cut};
 ghost use Rattle.journal.specs.Prelude.{AddressInRange, AddressesInRange, new_log, ExplainedFrom, Replays};
 ghost use Rattle.journal.specs.Prelude.{memory_after, RaceFreeFrom, IsFirstRaceFrom, WasCut, IsCutFault, messages};
-ghost use Rattle.journal.specs.Prelude.{records, words, IsOpening};
+ghost use Rattle.journal.specs.Prelude.{records, words, IsOpening, IsCut, NoCut, IsKept, base_of};
 
 use crate::cut::CutFault;
-use crate::episodes::last_episode;
+use crate::episodes::Episodes;
 use crate::event::{Event, Kind};
 use crate::kept::Kept;
 use crate::limits::MOST_CUT;
@@ -30,6 +30,10 @@ pub struct Journal {
     events: Vec<Event>,
     room: usize,
     kept: Kept,
+    /// What of the barrier stands behind the arrivals that stand for what was cut off.
+    episodes: Episodes,
+    /// The first race of the part that a cut was to cut off. A longer part has the same one.
+    race: Option<(usize, usize)>,
 }
 
 impl Model for Journal {
@@ -84,6 +88,8 @@ impl Journal {
             events: opening(alloc, processors)?,
             room: 0,
             kept: Kept::new(alloc, addresses)?,
+            episodes: Episodes::new(),
+            race: None,
         })
     }
 
@@ -164,6 +170,9 @@ impl Journal {
             unreachable!("room is reserved")
         };
         self.room -= 1;
+        let events = &self.events[self.processors..];
+        let place = events.len() - 1;
+        self.episodes.note(self.processors, events, place);
     }
 
     /// The same events in a journal of their own, with no room for more, and with what is kept of those cut
@@ -191,6 +200,8 @@ impl Journal {
             events,
             room: additional,
             kept: self.kept.copy()?,
+            episodes: self.episodes,
+            race: self.race,
         })
     }
 
@@ -264,28 +275,65 @@ impl Journal {
         }
     }
 
+    /// How many events a cut takes: None where no episode is complete. It takes no memory.
+    fn part(&self) -> Option<usize>
+        ensures place { MatchOption result (NoCut self.now.processors self.now.events)
+            (λ n. IsCut self.now.processors self.now.events n) }
+        ensures few { IfSome result (λ n. n ≤ most_held) }
+    {
+        self.episodes.last
+    }
+
+    /// The first race of the part that a cut takes, which is remembered.
+    fn race_of_part(&mut self, count: usize) -> Result<Option<(usize, usize)>, AllocError>
+        requires { IsCut self.old.processors self.old.events count }
+        ensures same { self.new ≡ self.old }
+        ensures race { IfOk result (λ o. MatchOption o
+            (RaceFreeFrom self.new.base (take count self.new.events))
+            (λ r. IsFirstRaceFrom self.new.base (take count self.new.events) r.0 r.1)) }
+    {
+        if let Some(race) = self.race {
+            return Ok(Some(race));
+        }
+        let race = self.race_before(count)?;
+        self.race = race;
+        Ok(race)
+    }
+
+    /// Takes the first events off, of which this is kept.
+    fn take_off(&mut self, taken: usize, kept: Kept)
+        requires taken { taken ≤ length self.old.events }
+        requires kept { IsKept self.old.addresses kept }
+        ensures { self.new ≡ record self.old { events = drop taken self.old.events; base = base_of kept } }
+    {
+        take_out(&mut self.events, self.processors, taken);
+        self.kept = kept;
+        self.episodes = Episodes::of(self.processors, &self.events[self.processors..]);
+        self.race = None;
+    }
+
     /// Cuts off the events up to the last arrival of the last complete episode of the barrier, where they
     /// have no race, and keeps what they leave: the memory, the locks' holders, the flags that are set,
     /// their number and their cost.
     ///
     /// `Racy` names the first race of the part to be cut off. It comes after `NoEpisode` and `BaseFull`, as
     /// `NoMemory` does. After an error all is as before. What is cut off is gone through once for the race
-    /// and once for what is kept; a lock's event looks through the locks that are held.
+    /// and once for what is kept; a lock's event looks through the locks that are held. `NoEpisode` and
+    /// `BaseFull` take constant time, and so does `Racy` from the second time on.
     pub fn cut(&mut self) -> Result<(), CutFault>
         ensures ok { OnOk result (WasCut self.old self.new) }
         ensures err { OnErr result (self.new ≡ self.old) }
         ensures fault { IfErr result (IsCutFault self.old) }
     {
-        let taken = last_episode(self.processors, self.events()).ok_or(CutFault::NoEpisode)?;
-        if self.kept.cut + taken as u64 > MOST_CUT {
+        let taken = self.part().ok_or(CutFault::NoEpisode)?;
+        if self.cut_events() + taken as u64 > MOST_CUT {
             return Err(CutFault::BaseFull);
         }
-        if let Some((first, second)) = self.race_before(taken)? {
+        if let Some((first, second)) = self.race_of_part(taken)? {
             return Err(CutFault::Racy(first, second));
         }
         let kept = self.kept.after(&self.events()[..taken])?;
-        take_out(&mut self.events, self.processors, taken);
-        self.kept = kept;
+        self.take_off(taken, kept);
         Ok(())
     }
 }

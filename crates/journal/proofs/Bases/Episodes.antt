@@ -1,15 +1,19 @@
 -- Where a journal is cut, event by event.
-use Rattle.std.proofs.Common.{◌≡◌, ℕ, ◌+◌, ◌<◌, ◌≤◌, inl, inr, ◌↔◌, List, [], ◌∷◌, ◌++◌, Option, Some, None, MatchOption, IsTrue, length, take, subst, sym, refl, ap, ◌∙◌, length-append, arith}
+use Rattle.std.proofs.Common.{◌≡◌, ℕ, ◌+◌, ◌<◌, ◌≤◌, inl, inr, ◌↔◌, List, [], ◌∷◌, ◌++◌, Option, Some, None, MatchOption, IsTrue, length, take, slice_index, cond, ◌==◌, ◌&&◌, subst, subst₂, sym, refl, ap, ◌∙◌, length-append, arith}
 use Rattle.std.proofs.lemmas.Bool.{cases_lt}
-use Rattle.std.proofs.lemmas.List.{take-append-le}
+use Rattle.std.proofs.lemmas.List.{take-append-le, length-take-le}
 use Rattle.std.proofs.Math.Seq.{take-length}
 use Rattle.journal.specs.declared.event.Event.{Event}
 use Rattle.journal.specs.declared.event.Kind.{Kind}
 use Rattle.journal.specs.declared.event.Kind.TheVariants.{Arrive}
 use Rattle.journal.specs.Did.{event}
 use Rattle.journal.specs.Events.{At, count_of, is_arrive}
+use Rattle.journal.specs.declared.episodes.Episodes.{Episodes}
 use Rattle.journal.specs.Cuts.{EndsEpisode, IsCut, NoCut}
-use Rattle.journal.proofs.Order.Places.{at_same, at_last}
+use Rattle.journal.specs.Episodes.{AreEpisodes}
+use Rattle.journal.proofs.Order.Places.{at_same, at_last, at_within}
+use Rattle.journal.proofs.Passes.ClockSteps.{front_next}
+use Rattle.journal.proofs.Passes.RaceSteps.{count_next}
 
 arrival : (k : Kind) → IsTrue (is_arrive k) → k ≡ Arrive
 arrival Arrive h = refl
@@ -98,3 +102,57 @@ module _ (processors : ℕ) (xs : List Event) (e : Event) where
               | inr old ↦ cut.last m old (subst (EndsEpisode processors) (front_is m old) ends)
             ];
       }
+
+-- the event e at the next place is counted
+module _ (processors : ℕ) (events : List Event) (place : ℕ) (e : Event) (at : At events place e) (x : Episodes)
+    (new : List ℕ)
+    (counts : (q : ℕ) → slice_index new q
+    ≡ slice_index x.arrivals q + cond ((e.processor == q) && is_arrive e.kind) 1 0)
+    (are : AreEpisodes processors (take place events) x) where
+  next : take (place + 1) events ≡ take place events ++ e ∷ []
+  next = front_next events place e at
+
+  counted : (q : ℕ) → slice_index new q ≡ count_of is_arrive (take (place + 1) events) q
+  counted q =
+      let old = are.arrivals q in
+      let step = count_next is_arrive events place q e at in
+      let now = counts q in
+      omega arith
+
+  pushed : (q : ℕ) → slice_index new q ≡ count_of is_arrive (take place events ++ e ∷ []) q
+  pushed q = counted q ∙ ap (λ (xs : List Event). count_of is_arrive xs q) next
+
+  -- it is the last arrival of an episode
+  abbrev IsLast : Type 0
+  IsLast =
+      IsTrue (is_arrive e.kind) × ((q : ℕ) → q < processors → slice_index new e.processor ≤ slice_index new q)
+
+  last_ends : IsLast → EndsEpisode processors (take place events ++ e ∷ [])
+  last_ends last =
+      (ends_push processors (take place events) e).1
+      (last.0, λ q h. subst₂ (λ (m n : ℕ). m ≤ n) (pushed e.processor) (pushed q) (last.1 q h))
+
+  ends_last : EndsEpisode processors (take place events ++ e ∷ []) → IsLast
+  ends_last ends =
+      let is = (ends_push processors (take place events) e).0 ends in
+      (is.0, λ q h. subst₂ (λ (m n : ℕ). m ≤ n) (sym (pushed e.processor)) (sym (pushed q)) (is.1 q h))
+
+  pub episode_ends : IsLast
+      → AreEpisodes processors (take (place + 1) events) (record { arrivals = new; last = Some (place + 1) })
+  episode_ends last =
+      let lt = at_within events place e at in
+      let long : length (take place events) ≡ place = length-take-le place events (omega arith) in
+      record {
+        arrivals = counted;
+        last =
+            subst₂ (λ (xs : List Event) (n : ℕ). IsCut processors xs n) (sym next) (ap (λ n. n + 1) long)
+            (cut_now processors (take place events) e (last_ends last));
+      }
+
+  pub episode_lasts : ¬ IsLast → AreEpisodes processors (take (place + 1) events) (record x { arrivals = new })
+  episode_lasts isnt = record {
+    arrivals = counted;
+    last =
+        subst (λ (xs : List Event). MatchOption x.last (NoCut processors xs) (λ n. IsCut processors xs n)) (sym next)
+        (cut_later processors (take place events) e x.last (λ ends. isnt (ends_last ends)) are.last);
+  }

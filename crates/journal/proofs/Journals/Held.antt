@@ -1,8 +1,11 @@
 -- What a journal's memory holds, as the journal goes on and as it is cut.
-use Rattle.std.proofs.Common.{◌≡◌, ◌≢◌, ℕ, ◌+◌, ◌-◌, ◌<◌, ◌≤◌, ◌⊎◌, inl, inr, List, [], ◌∷◌, ◌++◌, length, take, drop, subst, sym, ap, ◌∙◌, arith}
-use Rattle.std.proofs.Math.Seq.{take-append_seam, drop-append_seam}
+use Rattle.std.proofs.Common.{◌≡◌, ◌≢◌, ℕ, ◌+◌, ◌-◌, ◌<◌, ◌≤◌, ◌⊎◌, inl, inr, List, [], ◌∷◌, ◌++◌, length, take, take_all, drop, length-drop, subst, sym, ap, ◌∙◌, arith}
+use Rattle.std.proofs.Math.Seq.{take-append_seam, take-length, drop-append_seam}
 use Rattle.std.proofs.lemmas.List.{take-append-le, length-take, drop-drop}
 use Rattle.journal.specs.declared.event.Event.{Event}
+use Rattle.journal.specs.declared.event.Kind.TheVariants.{Arrive}
+use Rattle.journal.specs.Did.{event}
+use Rattle.journal.specs.Events.{At}
 use Rattle.journal.specs.InRange.{AddressInRange, AddressesInRange, ProcessorsInRange}
 use Rattle.journal.specs.Opening.{IsOpening}
 use Rattle.journal.specs.declared.journal.Journal.TheInside.{Inside}
@@ -10,6 +13,7 @@ use Rattle.journal.specs.Log.{Log}
 use Rattle.journal.specs.Kept.{base_of}
 use Rattle.journal.specs.Holding.{log_of, IsHeld}
 use Rattle.journal.proofs.Bases.Opening.{IsOpened, opened}
+use Rattle.journal.proofs.Order.Places.{at_same, at_within}
 use Rattle.lists.proofs.Places.{push_cases, append_cases, slice_get-drop, slice_get-from_take}
 
 -- one more event keeps all in range, and the opening
@@ -32,6 +36,30 @@ opening_longer n xs es le x = subst (IsOpening n) (sym (take-append-le n xs es l
 -- whose opening stands in front has as many events at least
 pub within_length : (n : ℕ) (xs : List Event) → IsOpening n (take n xs) → n ≤ length xs
 within_length n xs x = let long = x.long in let min_is = length-take n xs in omega arith
+
+-- nothing but the opening is in range
+module _ (n : ℕ) (xs : List Event) (x : IsOpening n xs) where
+  opens : (i : ℕ) (e : Event) → At xs i e → (i < n) × (e ≡ event i Arrive)
+  opens i e at =
+      let lt : i < n = (let within = at_within xs i e at in omega (arith, x.long)) in
+      (lt, at_same xs i e (event i Arrive) at (x.each i lt))
+
+  pub opening_processors : ProcessorsInRange n xs
+  opening_processors i e at = let is = opens i e at in subst (λ (f : Event). f.processor < n) (sym is.1) is.0
+
+  pub opening_addresses : (m : ℕ) → AddressesInRange m xs
+  opening_addresses m i e at = let is = opens i e at in subst (λ (f : Event). AddressInRange m f.kind) (sym is.1) tt
+
+  pub opening_whole : IsOpening n (take n xs)
+  opening_whole = subst (IsOpening n) (sym (take_all n xs (omega (arith, x.long)))) x
+
+-- all that stands behind the opening
+pub behind_whole : (n : ℕ) (xs : List Event) → take (length xs - n) (drop n xs) ≡ drop n xs
+behind_whole n xs = ap (λ m. take m (drop n xs)) (sym (length-drop n xs)) ∙ take-length (drop n xs)
+
+-- the events up to the last one are all
+pub up_to_last : (xs : List Event) → 0 < length xs → take (length xs - 1 + 1) xs ≡ xs
+up_to_last xs some = take_all (length xs - 1 + 1) xs (omega arith)
 
 -- what stands behind the opening is in range too
 pub processors_behind : (n m : ℕ) (xs : List Event) → ProcessorsInRange n xs → ProcessorsInRange n (drop m xs)

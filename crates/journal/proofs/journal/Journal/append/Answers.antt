@@ -1,9 +1,14 @@
-use Rattle.std.proofs.Common.{List, ◌≡◌, ◌≤◌, ◌<◌, ◌∷◌, [], ◌++◌, length, take, subst, sym, ap, length-drop, arith}
+use Rattle.std.proofs.Common.{List, ◌≡◌, ℕ, ◌-◌, ◌≤◌, ◌<◌, ◌∷◌, [], ◌++◌, length, take, drop, subst, sym, ap, ◌∙◌, length-append, length-drop, arith}
+use Rattle.std.proofs.lemmas.List.{drop-append-le}
+use Rattle.std.proofs.lemmas.Option.{IfSome_then}
 use Rattle.journal.specs.declared.event.Event.{Event}
 use Rattle.journal.specs.Log.{Log}
 use Rattle.journal.specs.InRange.{AddressInRange, AddressesInRange, ProcessorsInRange}
 use Rattle.journal.specs.Opening.{IsOpening}
-use Rattle.journal.proofs.Journals.Held.{within_length, processors_push, addresses_push, opening_longer}
+use Rattle.journal.specs.Kept.{base_of}
+use Rattle.journal.specs.Episodes.{AreEpisodes, IsRaceOfPart}
+use Rattle.journal.proofs.Bases.Fronts.{part_race_longer}
+use Rattle.journal.proofs.Journals.Held.{within_length, processors_push, addresses_push, opening_longer, behind_whole, up_to_last}
 use Rattle.journal.proofs.journal.Journal.append.Goals as goal
 
 pub invariant_of-self : goal.invariant_of-self
@@ -16,6 +21,18 @@ invariant_of-self c =
     let room = ap (λ (l : Log). l.room) c.self.view_is in
     let count = ap (λ (l : Log). length l.events) c.self.view_is in
     let behind = length-drop j.processors j.events.items in
+    let noted : List Event =
+    take (length c.deref.result.now - j.processors) (drop j.processors c.deref.result.now) in
+    let all : noted ≡ drop j.processors c.push.new.self.items =
+    ap (λ (xs : List Event). take (length xs - j.processors) (drop j.processors xs)) c.deref.ensures.value
+    ∙ behind_whole j.processors c.push.new.self.items in
+    let pushed : drop j.processors c.push.new.self.items
+    ≡ drop j.processors j.events.items ++ c.args.event ∷ [] =
+    ap (λ (xs : List Event). drop j.processors xs) items
+    ∙ drop-append-le j.processors j.events.items (c.args.event ∷ []) le in
+    let some : 0 < length noted =
+    (let same = ap (λ (xs : List Event). length xs) (all ∙ pushed) in
+    let more = length-append (drop j.processors j.events.items) (c.args.event ∷ []) in omega arith) in
     record {
       reserved = omega (arith, c.in-Ok.ensures.capacity, held.reserved, c.requires.room);
       few = omega (arith, c.requires.limit, j.events.ok.0);
@@ -32,4 +49,12 @@ invariant_of-self c =
           held.in_range (subst (λ (l : Log). AddressInRange l.addresses c.args.event.kind)
           (sym c.self.view_is) c.requires.address));
       kept = held.kept;
+      episodes =
+          subst (λ (xs : List Event). AreEpisodes j.processors xs c.note.new.self) (up_to_last noted some ∙ all)
+          c.note.ensures;
+      race =
+          IfSome_then j.race held.race (λ (r : ℕ × ℕ) known. subst
+          (λ (xs : List Event). IsRaceOfPart j.processors (base_of j.kept) xs r.0 r.1) (sym pushed)
+          (part_race_longer j.processors (base_of j.kept) (drop j.processors j.events.items) (c.args.event ∷ [])
+          r.0 r.1 known));
     }

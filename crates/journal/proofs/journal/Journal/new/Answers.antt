@@ -1,0 +1,25 @@
+use Rattle.std.proofs.Common.{rules, List, drop, subst, sym, ap, ◌∙◌}
+use Rattle.std.proofs.Math.Seq.{drop-length}
+use Rattle.journal.specs.declared.event.Event.{Event}
+use Rattle.journal.specs.Episodes.{AreEpisodes}
+use Rattle.journal.proofs.Journals.Held.{opening_processors, opening_addresses, opening_whole}
+use Rattle.journal.proofs.journal.Journal.new.Goals as goal
+
+pub invariant_of-result : goal.invariant_of-result
+invariant_of-result c =
+    let events = c.in_ok-opening.field-0.items in
+    let opening = c.in_ok-opening.ensures in
+    let none = ap (λ n. drop n events) (sym opening.long) ∙ drop-length events in
+    record {
+      reserved = search rules;
+      few = search rules;
+      few_processors = c.requires;
+      opening = opening_whole c.args.processors events opening;
+      by_processors = opening_processors c.args.processors events opening;
+      in_range = opening_addresses c.args.processors events opening c.args.addresses;
+      kept = c.in_ok-new.ensures.kept;
+      episodes =
+          subst (λ (xs : List Event). AreEpisodes c.args.processors xs c.new-2.result) (sym none)
+          (c.new-2.ensures c.args.processors);
+      race = tt;
+    }
