@@ -42,10 +42,12 @@ class Build:
         self.cores = plan.cores_at_hand()
         self.most = plan.most_at_once(self.cores)
         self.progress = Progress(crates, self.cores)
+        # What the toolchain says of the program that it has proved and built.
+        self.said = ""
 
-    def begin(self, crate, words, folder, nice=0):
+    def begin(self, crate, words, folder, nice=plan.NICE):
         """Starts a run of the toolchain for a crate."""
-        behind = [it for it, run in self.running.items() if run.nice]
+        behind = [it for it, run in self.running.items() if run.nice == plan.LATE_NICE]
         self.jobs[crate] = plan.jobs(crate, self.waiting, behind, self.cores)
         words = [it if it != "JOBS" else str(self.jobs[crate]) for it in words]
         self.running[crate] = Run(crate.name, [self.rt, *words], folder, nice)
@@ -58,7 +60,7 @@ class Build:
         for crate in sorted(ready, key=lambda crate: -crate.way)[: max(0, self.most - len(self.running))]:
             is_urgent = crate in urgent
             if is_urgent or sum(it in urgent for it in self.running) <= 1:
-                self.begin(crate, ["lib", "--jobs", "JOBS"], rooms.enter(crate), 0 if is_urgent else plan.NICE)
+                self.begin(crate, ["lib", "--jobs", "JOBS"], rooms.enter(crate), plan.NICE if is_urgent else plan.LATE_NICE)
 
     def end_one(self):
         """Waits until a run ends that proved its crate, and returns the crate. Says how far the build is meanwhile."""
@@ -86,7 +88,9 @@ class Build:
             self.waiting.remove(crate)
             self.progress.proved(crate, self.waiting, self.spent())
         self.begin(self.crates[-1], ["run", "--jobs", "JOBS", "--", "--help"], self.crates[-1].folder)
+        last = self.running[self.crates[-1]]
         self.end_one()
+        self.said = last.last_line()
         self.progress.say(f"{self.progress.so_far()} proved and built")
 
     def pause(self, *_):
@@ -111,7 +115,8 @@ class Build:
 
 
 def build(rt, program, crates, words):
-    """Proves and builds the program, and leaves nothing behind but what was proved, whatever comes between."""
+    """Proves and builds the program, and leaves nothing behind but what was proved, whatever comes between. Returns what
+    the toolchain says of it."""
     made = Build(rt, crates)
     try:
         if rooms.begin(crates):
@@ -124,3 +129,4 @@ def build(rt, program, crates, words):
     finally:
         with undisturbed():
             made.end_all()
+    return made.said

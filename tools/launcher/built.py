@@ -94,3 +94,14 @@ def is_built(program, toolchain, version, crates):
     except OSError:
         pass
     return True
+
+
+def is_of_sources(program, crates):
+    """Whether the program was built from the sources as they are, by the toolchain that its stamp names, whether that
+    is the one here or not."""
+    if not program.is_there():
+        return False
+    stamp = Stamp(program)
+    if stamp.sources and stamp.sources == list_of_sources(crates):
+        return True
+    return bool(stamp.sum) and stamp.sum == sum_of_sources(stamp.version, crates)

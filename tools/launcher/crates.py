@@ -6,6 +6,9 @@ from .places import ROOT, WEIGHTS
 PARTS = ("src", "specs", "proofs")
 # What a crate is taken to weigh that `tools/weights` doesn't name.
 USUAL = 60
+# What it is to read again a crate that is kept as it is, in seconds; and to prove it over what is kept of an earlier
+# state, as a part of its weight.
+AS_KEPT, OVER_KEPT = 1, 0.3
 
 
 class Crate:
@@ -17,6 +20,20 @@ class Crate:
         self.below = list(dict.fromkeys(crate for used in uses for crate in [*used.below, used]))
         # Seconds of its own check; with those of the longest way from it to the program.
         self.weight = self.way = USUAL
+        # Whether something is kept of it, which makes its check shorter by an unknown part.
+        self.has_kept = False
+
+    def kept(self):
+        """When its library was kept, by the file system's clock; 0 where none is."""
+        try:
+            return os.stat(f"{self.folder}/out/rlib/stamp").st_mtime_ns
+        except OSError:
+            return 0
+
+    def is_kept(self):
+        """Whether its library is younger than each source that it is made from."""
+        kept = self.kept()
+        return bool(kept) and all(told.st_mtime_ns < kept for it in [*self.below, self] for _, told in it.sources())
 
     def sources(self):
         """Its sources, each with what the file system says of it."""
@@ -58,15 +75,35 @@ def crates_of(program):
     return list(found.values())
 
 
-def weigh(crates):
-    """Gives the crates their weights, and the longest way from each to the program."""
-    weights = {}
-    if os.path.isfile(WEIGHTS):
-        with open(WEIGHTS, encoding="utf-8") as file:
-            rows = [line.partition("#")[0].split() for line in file]
-        weights = {row[0]: float(row[1]) for row in rows if len(row) == 2}
+def weight_of(crate, seconds):
+    """What a crate's check takes that takes so many seconds where nothing is kept of it."""
+    crate.has_kept = os.path.isdir(f"{crate.folder}/out/incremental")
+    if crate.is_kept():
+        return AS_KEPT
+    return seconds * (OVER_KEPT if crate.has_kept else 1)
+
+
+def weights():
+    """What the check of each crate takes, in seconds, as tools/weights says."""
+    if not os.path.isfile(WEIGHTS):
+        return {}
+    with open(WEIGHTS, encoding="utf-8") as file:
+        rows = [line.partition("#")[0].split() for line in file]
+    return {row[0]: float(row[1]) for row in rows if len(row) == 2}
+
+
+def find_ways(crates):
+    """Adds up the longest way from each crate to the program."""
     for crate in crates:
-        crate.weight = crate.way = weights.get(crate.name, USUAL)
+        crate.way = crate.weight
     for crate in reversed(crates):
         for used in crate.uses:
             used.way = max(used.way, crate.way + used.weight)
+
+
+def weigh(crates):
+    """Gives the crates their weights, and the longest way from each to the program."""
+    known = weights()
+    for crate in crates:
+        crate.weight = weight_of(crate, known.get(crate.name, USUAL))
+    find_ways(crates)

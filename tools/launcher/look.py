@@ -4,16 +4,21 @@ import re
 import signal
 import stat
 
-from .places import say, write
+from .places import INSTALL, PROVE, TEST, say, write
 from .runs import Run, family, tell
 
 # The options that take the word after them.
 OPTIONS = ("--tries", "--seed", "--seeds", "--lock", "--most")
 HELP = ("help", "--help", "-h")
+# What the launcher does by itself.
+OWN_COMMANDS = ([PROVE], [TEST], [INSTALL])
 # What the FILE is called where the program is tried.
 NAME = "script.lrc"
 HEAD = "first look, checked and not proved:"
 ENDED = re.compile(r"^run=ended status=(\d+)\b.*proved=no$", re.M)
+# What the toolchain looks for beside a try, in a process of its own that takes as long as the try itself: names that a
+# check would refuse.
+HINT = b"\0--start\0no function\0"
 # Where the toolchain's own lines begin, after what the program wrote to standard error.
 OWN = re.compile(r"^(interpreter: |checked: |races: |run=|rt: )", re.M)
 
@@ -57,22 +62,43 @@ def tried(words):
     return (["--", *words], again) if again is not None else None
 
 
+def is_hint(pid):
+    """Whether a process is the one that looks for names, which the proofs find, too."""
+    try:
+        with open(f"/proc/{pid}/cmdline", "rb") as file:
+            return HINT in file.read()
+    except OSError:
+        return False
+
+
 class Look:
     """A first look that goes on beside the proofs."""
 
     def __init__(self):
-        self.run = None
+        self.run, self.has_hint = None, True
 
     def begin(self, rt, program, words):
         """Starts it, where the program isn't built yet and it can be done."""
-        given = tried(words) if words[:1] != ["prove"] and not program.is_there() else None
+        given = tried(words) if words[:1] not in OWN_COMMANDS and not program.is_there() else None
         if given:
-            self.run = Run("first-look", [rt, "try", *given[0]], program.home, stdin=given[1], is_look=True)
+            # The interpreter can't run a program that reads its words, so it gets no time.
+            words = [rt, "try", "--steps", "1", *given[0]]
+            self.run = Run("first-look", words, program.home, stdin=given[1], is_look=True)
             os.close(given[1])
+
+    def spare_hint(self):
+        """Ends the process that looks for names, so that the processor is free for the answer."""
+        found = [pid for pid in family(self.run.process.pid) if is_hint(pid)] if self.has_hint else []
+        if found:
+            self.has_hint = False
+            tell(found, signal.SIGKILL)
 
     def show(self, progress):
         """Shows the answer once it is there. Where there is none, nothing is said: the proved one comes."""
-        if not self.run or not self.run.has_ended():
+        if not self.run:
+            return
+        self.spare_hint()
+        if not self.run.has_ended():
             return
         said, run = Run.text(self.run.errors), self.run
         self.run, ended = None, ENDED.search(said)

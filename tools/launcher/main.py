@@ -4,9 +4,10 @@ import os
 import signal
 import sys
 
-from .built import is_built, is_unchanged, taken, toolchain_of
+from .built import Stamp, is_built, is_of_sources, is_unchanged, taken, toolchain_of
 from .crates import crates_of, weigh
-from .places import CORE, CORE_COMMANDS, NOT_POSSIBLE, NOT_PROVED, SIGNALS, TURN, WHOLE, Failed, Stopped, say
+from .places import CORE, CORE_COMMANDS, INSTALL, NOT_POSSIBLE, NOT_PROVED, PROVE, ROOT, SIGNALS, TEST, TURN, WHOLE
+from .places import Failed, Stopped, say
 
 
 def command():
@@ -73,7 +74,7 @@ def turn():
 
 def that_do(words):
     """The programs that do what the words ask for, each with its crates, the one with all commands first."""
-    programs = [WHOLE, CORE] if words[:1] and words[0] in CORE_COMMANDS else [WHOLE]
+    programs = [WHOLE, CORE] if words[:1] and words[0] in (*CORE_COMMANDS, TEST) else [WHOLE]
     found = [(program, crates_of(program)) for program in programs]
     return [(program, crates) for program, crates in found if crates]
 
@@ -81,6 +82,28 @@ def that_do(words):
 def built(programs, toolchain, version):
     """The first of the programs that is built from the sources as they are; None where none is."""
     return next((program for program, crates in programs if is_built(program, toolchain, version, crates)), None)
+
+
+def proved_before(programs):
+    """The first of the programs that was proved from the sources as they are, by whichever toolchain; None where none
+    was."""
+    return next((program for program, crates in programs if is_of_sources(program, crates)), None)
+
+
+def turn_or_program(programs):
+    """What keeps other builds out until it is closed, and no program; where nothing can be written, the program that was
+    proved from the sources as they are."""
+    try:
+        return turn(), None
+    except OSError as error:
+        if error.errno not in (errno.EACCES, errno.EPERM, errno.EROFS):
+            raise
+        program = proved_before(programs)
+        if program is None:
+            at, why = os.path.relpath(error.filename or TURN), error.strerror
+            raise OSError(f"no program is built from these sources, and this folder can't be written ({at}: {why})") from None
+        say(f"this folder can't be written, so its program is run, which another toolchain proved ({Stamp(program).version})")
+        return None, program
 
 
 def make(rt, toolchain, programs, words):
@@ -92,7 +115,9 @@ def make(rt, toolchain, programs, words):
     program = built(programs, toolchain, version)
     if program:
         return program
-    held = turn()
+    held, program = turn_or_program(programs)
+    if program:
+        return program
     # One may be built by now.
     program = built(programs, toolchain, version)
     if not program:
@@ -102,29 +127,94 @@ def make(rt, toolchain, programs, words):
         weigh(crates)
         os.makedirs(f"{program.home}/out", exist_ok=True)
         stamp = taken(program, toolchain, version, crates)
-        build(rt, program, crates, words)
+        said = build(rt, program, crates, words)
         stamp.keep()
+        keep_line(program, said)
     os.close(held)
     return program
 
 
-def program_for(words):
-    """The program that does what the words ask for, built where something changed."""
-    rt = command()
+def keep_line(program, said):
+    """Keeps what the toolchain said of the program, as far as that can be written; nothing hangs on it."""
+    try:
+        with open(program.proved, "w", encoding="utf-8") as file:
+            file.write(f"{said}\n" if said else "")
+    except OSError:
+        pass
+
+
+def unchanged(programs, rt, toolchain):
+    """The first of the programs that is built, by all that can be told at once; None where none is."""
     if rt is None:
-        raise OSError("the Rattle toolchain (its command rt) is missing")
-    programs, toolchain = that_do(words), toolchain_of(rt)
-    for program, crates in programs:
-        if is_unchanged(program, toolchain, crates):
-            return program
+        return proved_before(programs)
+    return next((program for program, crates in programs if is_unchanged(program, toolchain, crates)), None)
+
+
+def lacking(programs):
+    """Why nothing can be built where there is no toolchain."""
+    is_there = any(program.is_there() for program, _ in programs)
+    changed = "the sources have changed since the program was proved, and " if is_there else ""
+    return OSError(f"{changed}the Rattle toolchain (its command rt) is missing")
+
+
+def program_for(words):
+    """The program that does what the words ask for, built where something changed. Help is printed at once where none
+    is built."""
+    rt, programs = command(), that_do(words)
+    toolchain = toolchain_of(rt) if rt else ""
+    program = unchanged(programs, rt, toolchain)
+    if program:
+        return program
+    tell_help(words)
+    if rt is None:
+        raise lacking(programs)
     listen()
     return make(rt, toolchain, programs, words)
 
 
+def tell_help(words):
+    """Prints what the words ask for and ends, where that is help."""
+    from .told import tell, told
+
+    answer = told(words)
+    if answer is not None:
+        signal.signal(signal.SIGPIPE, signal.SIG_DFL)
+        sys.exit(tell(answer))
+
+
+def test(words):
+    """Tests what is built, by the cases that need nothing else."""
+    program = program_for([TEST])
+    os.execv(f"{ROOT}/tests/run", [f"{ROOT}/tests/run", *words, program.file])
+
+
+def put(words):
+    """Puts the program with all commands into a folder."""
+    from .install import HEAD, install, usage
+
+    given = usage(words)
+    if given is None:
+        say(f"usage: {HEAD}")
+        sys.exit(NOT_POSSIBLE)
+    program = program_for([INSTALL])
+    try:
+        install(command(), program, *given)
+    except OSError as error:
+        say(f"not installed: {told_of(error)}")
+        sys.exit(NOT_POSSIBLE)
+    except Failed as failed:
+        say(f"not installed: {failed}")
+        sys.exit(NOT_PROVED)
+    sys.exit(0)
+
+
 def run(words):
     """Builds where something changed, and then becomes the program."""
+    own = {TEST: test, INSTALL: put}.get(words[0]) if words else None
+    if own:
+        own(words[1:])
     program = program_for(words)
-    if words[:1] == ["prove"]:
+    if words[:1] == [PROVE]:
         sys.exit(0)
     for it in (signal.SIGPIPE, signal.SIGXFSZ):
         signal.signal(it, signal.SIG_DFL)
@@ -145,6 +235,12 @@ def last_words(words):
         pass
 
 
+def told_of(error):
+    """What an error of the system is, in a line."""
+    at = f"{os.path.relpath(error.filename)}: " if isinstance(error.filename, str) else ""
+    return f"{at}{error.strerror or error}"
+
+
 def main(words):
     """Runs; what keeps it from that is said in a line."""
     try:
@@ -156,8 +252,7 @@ def main(words):
         last_words(f"not built: {failed}")
         sys.exit(NOT_PROVED)
     except OSError as error:
-        at = f"{os.path.relpath(error.filename)}: " if isinstance(error.filename, str) else ""
-        last_words(f"not built: {at}{error.strerror or error}")
+        last_words(f"not built: {told_of(error)}")
     except Exception as error:  # Whatever it is, it is a line.
         last_words(f"not built: {type(error).__name__}: {error}")
     sys.exit(NOT_POSSIBLE)

@@ -14,6 +14,8 @@ class Program:
         self.home = f"{ROOT}/crates/{name}"
         self.file = f"{self.home}/out/{name}"
         self.stamp = f"{self.home}/out/built"
+        # What the toolchain said when it was proved.
+        self.proved = f"{self.home}/out/proved"
 
     def is_there(self):
         return os.path.isfile(self.file)
@@ -22,6 +24,8 @@ class Program:
 # The program with all commands; and the one with these alone, which stands on fewer crates and so is built sooner.
 WHOLE, CORE = Program("lrc"), Program("lrc_core")
 CORE_COMMANDS = ("run", "step")
+# The launcher's own commands: to prove and build alone; to test what is built; to put it into a folder.
+PROVE, TEST, INSTALL = "prove", "test", "install"
 # What a build keeps to itself lies where no run of the toolchain looks for crates: `rt ci` refuses a second crates.txt.
 OWN = f"{ROOT}/.git" if os.path.isdir(f"{ROOT}/.git") else f"{WHOLE.home}/out"
 ROOMS = f"{OWN}/lrc-rooms"

@@ -3,10 +3,12 @@ import os
 
 # What a run of the toolchain may take, in bytes: where there is less memory, fewer go on at once.
 MEMORY_OF_A_RUN = 3_000_000_000
-# How much a run gives way that nothing urgent waits for.
-NICE = 19
+# How much a run gives way to the first look; and one that nothing urgent waits for, to the others.
+NICE, LATE_NICE = 5, 19
+# A crate is late enough to give way where so many times its own seconds lie between it and the longest way.
+LATE = 4
 # What each core more brings the crate that has it, as a part of the first.
-GAIN = 0.3
+GAIN = 0.35
 # The program's own crate gains nothing from more jobs than this.
 MOST_JOBS_OF_PROGRAM = 2
 
@@ -33,11 +35,11 @@ def is_ready(crate, waiting):
 
 
 def urgent(waiting):
-    """The crates below the one that the longest way leads to next, and those whose own way is nearly as long."""
+    """The crates below the one that the longest way leads to next, and those that take long for the time that they have."""
     top = leader(waiting)
     above = [crate for crate in waiting if top in crate.uses]
     below = leader(above).below if above else []
-    return [crate for crate in waiting if crate in below or crate.way >= 0.8 * top.way]
+    return [crate for crate in waiting if crate in below or top.way - crate.way < LATE * crate.weight]
 
 
 def jobs(crate, waiting, behind, cores):
@@ -51,18 +53,21 @@ def jobs(crate, waiting, behind, cores):
     return max(1, min(most, cores - beside))
 
 
-def seconds_left(waiting, spent, cores):
-    """How long the rest takes, where each crate takes the seconds of its weight less what it has had, `cores` are at
-    work on the longest ways first, and the one that leads has those that nobody else can use."""
-    left = {crate: max(crate.weight - spent.get(crate, 0), crate.weight / 20) for crate in waiting}
-    total = 0
+def steps(left, cores):
+    """Goes through the rest of a build: the seconds until the next crate is proved, and the seconds that each other one
+    has left then. `cores` are at work on the longest ways first, and the one that leads has those that nobody else can
+    use."""
     while left:
         ready = sorted((it for it in left if is_ready(it, left)), key=lambda it: -it.way)[:cores]
         idle = cores - len(ready) if len(left) > 1 else MOST_JOBS_OF_PROGRAM - 1
         speeds = {crate: 1 + GAIN * idle * (crate is ready[0]) for crate in ready}
         step = min(left[crate] / speed for crate, speed in speeds.items())
-        total += step
-        for crate, speed in speeds.items():
-            left[crate] -= step * speed
+        left = {crate: seconds - step * speeds.get(crate, 0) for crate, seconds in left.items()}
         left = {crate: seconds for crate, seconds in left.items() if seconds > 1e-6}
-    return total
+        yield step, left
+
+
+def seconds_left(waiting, spent, cores):
+    """How long the rest takes, where each crate takes the seconds of its weight less what it has had."""
+    left = {crate: max(crate.weight - spent.get(crate, 0), crate.weight / 20) for crate in waiting}
+    return sum(step for step, _ in steps(left, cores))

@@ -6,7 +6,7 @@ from .places import say, write
 from .plan import GAIN, seconds_left
 
 # So much of the figures' own pace is held against what is measured, in seconds: the first small crate tells little.
-HELD = 120
+HELD = 60
 
 
 def in_words(seconds):
@@ -31,16 +31,26 @@ class Progress:
         return f"{seconds // 60}:{seconds % 60:02}"
 
     def note(self, crate, seconds, jobs):
-        """Notes what a crate took, against its weight: this machine may be slower, and kept work makes it faster."""
-        self.wanted, self.took = self.wanted + crate.weight, self.took + seconds * (1 + GAIN * (jobs - 1))
+        """Notes what a crate took, against its weight: this machine may be slower. One of which something was kept says
+        nothing of the machine."""
+        if not crate.has_kept:
+            self.wanted, self.took = self.wanted + crate.weight, self.took + seconds * (1 + GAIN * (jobs - 1))
+
+    def spent(self, running):
+        """The seconds of its weight that each run's crate has had. `running`: for each its time and jobs."""
+        pace = self.took / self.wanted
+        return {it: seconds * (1 + GAIN * (jobs - 1)) / pace for it, (seconds, jobs) in running.items()}
+
+    def left(self, waiting, running):
+        """The seconds that are left."""
+        return self.took / self.wanted * seconds_left(waiting, self.spent(running), self.cores)
 
     def figures(self, waiting, running):
-        """A percentage, which never falls, and the minutes left. `running`: for each run's crate its time and jobs."""
-        pace = self.took / self.wanted
-        spent = {it: seconds * (1 + GAIN * (jobs - 1)) / pace for it, (seconds, jobs) in running.items()}
+        """A percentage, which never falls, and the minutes left."""
+        spent = self.spent(running)
         rest = sum(max(it.weight - spent.get(it, 0), it.weight / 20) for it in waiting)
         self.most = max(self.most, int(100 * (1 - rest / self.whole)))
-        return f"{self.most} %, {in_words(pace * seconds_left(waiting, spent, self.cores))} left"
+        return f"{self.most} %, {in_words(self.left(waiting, running))} left"
 
     def begin(self):
         """Says what is done, and how long it takes."""

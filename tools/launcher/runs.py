@@ -61,6 +61,10 @@ class Run:
     def seconds(self):
         return time.monotonic() - self.began
 
+    def last_line(self):
+        """The toolchain's line on what its answer rests on; empty where it says none."""
+        return next((line for line in reversed(self.said.splitlines()) if line.startswith("logic=")), "")
+
     @staticmethod
     def text(file):
         file.seek(0)
@@ -98,5 +102,6 @@ class Run:
         except subprocess.TimeoutExpired:
             tell(family(self.process.pid), signal.SIGKILL)
             self.process.wait()
+        self.said = self.text(self.log)
         self.log.close()
         self.errors.close()

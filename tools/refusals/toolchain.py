@@ -1,0 +1,48 @@
+"""The toolchain's own command `rt` as a library: crates, and checks over kept work."""
+import importlib.machinery
+import importlib.util
+import os
+import shutil
+import sys
+from pathlib import Path
+
+ROOT = Path(__file__).resolve().parent.parent.parent
+JOBS = ["--jobs", "1"]
+
+
+def load(name):
+    """A module of the toolchain's command `rt`."""
+    found = shutil.which("rt") or sys.exit("edits: no rt on PATH")
+    loader = importlib.machinery.SourceFileLoader(name, str(Path(os.path.realpath(found)).parent / name))
+    module = importlib.util.module_from_spec(importlib.util.spec_from_loader(name, loader))
+    sys.modules[name.removesuffix(".py")] = module
+    loader.exec_module(module)
+    return module
+
+
+sys.dont_write_bytecode = True
+rtlib = load("rtlib.py")
+rt = load("rt")
+
+
+def crates():
+    """The repository's crates by name, as rt knows them."""
+    os.chdir(ROOT)
+    # (its guard has to begin before any thread)
+    rtlib.guarded()
+    found = {crate.name: crate for crate in rtlib.crates_below(str(ROOT))}
+    for crate in found.values():
+        crate.out = sys.stderr
+    return found
+
+
+def edits_of(crate):
+    """The files of a crate's edits, in their order."""
+    return sorted(Path(crate.folder).glob("must-fail/*.edit"))
+
+
+def build_below(crate):
+    """Builds the libraries that a crate stands on, over what is kept of them."""
+    for below in crate.below():
+        if below.build_rlib(JOBS, anew=False):
+            sys.exit(f"edits: the library {below.name} did not build, so nothing above it was tried")
