@@ -130,15 +130,18 @@ class Declared:
 
 
 def rename_type(files, path, old, new):
-    """Renames a type in a file of src/: as a word that is no variant of another type, and in comments within brackets."""
-    text, clauses = files.texts[path], rattle.clause_spans(files.texts[path])
-    plain = rattle.masked(text)
+    """Renames a type in a file of src/: as a word that is no variant of another type, and in comments within brackets; in
+    clauses too, unless a `ghost use` line brings another thing of that name."""
+    text = files.texts[path]
+    plain, uses = rattle.masked(text), antt.uses(text)
+    clauses = rattle.clause_spans(text) if any(alias == old for use in uses for _, alias in use.names) else []
+    clauses = [*clauses, *(use.span for use in uses)]
     pieces, last = [], 0
     for found in re.finditer(rf"\b{old}\b", text):
         start, before = found.start(), text[max(0, found.start() - 60):found.start()]
         in_comment = plain[start:found.end()] != old
         variant = re.search(r"\b[A-Z]\w*(?:<[^>]*>)?::$", before)
-        if not (is_in(start, clauses) or variant or in_comment and not re.search(r"[`\[]$", before)):
+        if not (is_in(start, clauses) or variant or before.endswith(".") or in_comment and not re.search(r"[`\[]$", before)):
             pieces += [text[last:start], new]
             last = found.end()
     files.texts[path] = "".join([*pieces, text[last:]])

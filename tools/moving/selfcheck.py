@@ -33,7 +33,7 @@ SOURCES = {
         "file: src/parts.rt\nold:     crate::parts::found(found)\nnew:     crate::parts::found(0)\n",
     "crates/top/src/lib.rt": "//! Top.\n#![tactic(auto)]\n\nmod whole;\n",
     "crates/top/src/whole.rt": "ghost use Rattle.mid.specs.Parts.{IsPart as IsMine};\n\nuse mid::{Part, part_of};\n\n"
-                               "pub fn all(of: &Part) -> usize\n    ensures { IsMine result 1 }\n{\n    mid::part_of(1, of)\n}\n",
+                               "pub fn all(of: &Part) -> usize\n    ensures { IsMine result 1 }\n    ensures { Part.One ≡ Part.One }\n{\n    mid::part_of(1, of)\n}\n",
     "crates/mid_tests/src/lib.rt": "//! Tests.\n#![tactic(auto)]\n\n#[cfg(test)]\nmod tests;\n",
     "crates/mid_tests/src/tests.rt": "//! Of mid.\n\nmod few;\n",
     "crates/mid_tests/src/tests/few.rt": "use mid::part_of;\n\n#[test]\nfn one() {}\n",
@@ -74,7 +74,7 @@ WANTED = {
                                            "new:     crate::pieces::parts::found(0)\n",
     "crates/top/src/whole.rt":
         "ghost use Rattle.top.specs.Pieces.Parts.{IsPiece as IsMine};\n\nuse crate::pieces::{Piece, piece_of};\n\n"
-        "pub fn all(of: &Piece) -> usize\n    ensures { IsMine result 1 }\n{\n    crate::pieces::piece_of(1, of)\n}\n",
+        "pub fn all(of: &Piece) -> usize\n    ensures { IsMine result 1 }\n    ensures { Piece.One ≡ Piece.One }\n{\n    crate::pieces::piece_of(1, of)\n}\n",
     "crates/test_all/src/parts_few.rt": "//! Tests.\n//!\n//! Of mid.\n\nmod few;\n",
     "crates/test_all/src/parts_few/few.rt": "use top::pieces::piece_of;\n\n#[test]\nfn one() {}\n",
 }
