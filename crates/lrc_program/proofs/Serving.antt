@@ -9,9 +9,9 @@ use Rattle.lrc_program.specs.Served.{IsNoScript, IsPrinted, IsRead, IsServed}
 use Rattle.lrc_program.specs.Statuses.{IsScripts}
 
 -- its report was written
-pub served_by : {A : Type 0} (asked : Plan → Result Report RunFault → Type 0) (journal : Bool) (script : Plan) (source old new : Option (List ℕ))
-    (result : Result A ProgramFault) → IsRead source script → OnOk result (IsPrinted asked journal script old new)
-    → OnOk result (IsServed asked journal source old new)
+pub served_by : {A : Type 0} (asked : Plan → Result Report RunFault → Type 0) (journal : Bool) (script : Plan)
+    (source old new : Option (List ℕ)) (result : Result A ProgramFault) → IsRead source script
+    → OnOk result (IsPrinted asked journal script old new) → OnOk result (IsServed asked journal source old new)
 served_by asked journal script source old new (Ok x) read printed = record {
   script = script;
   read = read;

@@ -3,7 +3,8 @@ ghost use Rattle.std.specs.Prelude.{◌≡◌, ◌≢◌, ◌<◌, ◌⊎◌, If
 ghost use Rattle.std.specs.Io.KnownBytes.{Keeps};
 ghost use Rattle.lrc_script.specs.Prelude.{IsLawful, plan_of};
 ghost use Rattle.runs.specs.Prelude.{IsReportOf};
-ghost use Rattle.lrc_program.specs.Prelude.{IsAsAsked, IsNoScript, IsPrinted, IsRead, IsServed, IsBeforeOutput, IsScripts, IsStatusOf, lock_of};
+ghost use Rattle.lrc_program.specs.Prelude.{IsAsAsked, IsNoScript, IsPrinted, IsRead, IsServed, IsBeforeOutput};
+ghost use Rattle.lrc_program.specs.Prelude.{IsScripts, IsStatusOf, lock_of};
 
 use crate::fault::ProgramFault;
 use lrc_options::options::Options;
@@ -94,8 +95,8 @@ fn run_script<T: Runs, R: Threads + Wait + Sync, S: Read, W: Write>(
     out: &mut W,
 ) -> Result<(), ProgramFault>
     requires { 0 < options.now.tries }
-    ensures served { OnOk result (IsServed (IsAsAsked T.ran T.stepped options.now) options.now.journal (S.remaining source.old)
-        (W.contents out.old) (W.contents out.new)) }
+    ensures served { OnOk result (IsServed (IsAsAsked T.ran T.stepped options.now) options.now.journal
+        (S.remaining source.old) (W.contents out.old) (W.contents out.new)) }
     ensures refused { IfErr result (λ fault. IsScripts fault → IsNoScript (S.remaining source.old)) }
     ensures early { IfErr result
         (λ fault. IsBeforeOutput fault → Keeps (W.contents out.old) (W.contents out.new)) }
@@ -143,8 +144,8 @@ pub fn program<T: Runs, R: Threads + Wait + Sync, S: Read, W: Write, E: Write>(
 ) -> u8
     requires { 0 < options.now.tries }
     // The script that was read was run as the options ask, and the report of that run was written, whole.
-    ensures served { result ≡ 0 → IsServed (IsAsAsked T.ran T.stepped options.now) options.now.journal (S.remaining source.old)
-        (W.contents out.old) (W.contents out.new) }
+    ensures served { result ≡ 0 → IsServed (IsAsAsked T.ran T.stepped options.now) options.now.journal
+        (S.remaining source.old) (W.contents out.old) (W.contents out.new) }
     // What is refused as a script is none.
     ensures refused { result ≡ 2 → IsNoScript (S.remaining source.old) }
     // But for status 4, a report is written whole or not at all.
