@@ -11,7 +11,7 @@ mod studies;
 use crate::studies::{check_file, explain_file, explore_file, sample_file};
 use lrc_main::{answer_words, refuse, run_file, words_of};
 use lrc_options::command_line::options;
-use lrc_options::options::Asked;
+use lrc_options::options::{Asked, Commands};
 use lrc_run::OnCluster;
 use std::process::ExitCode;
 use std::sync::Wait;
@@ -19,7 +19,7 @@ use std::thread::Threads;
 
 /// Does what the words ask for.
 fn start<R: Threads + Wait + Sync>(rt: &HostRuntime, handle: &R, words: &[String]) -> u8 {
-    match options(rt.alloc(), words) {
+    match options(rt.alloc(), words, Commands::All) {
         Ok(Asked::Script(options)) => run_file(rt, handle, &OnCluster, &options),
         Ok(Asked::Explain(options)) => explain_file(rt, handle, &options),
         Ok(Asked::Sample(options)) => sample_file(rt, handle, &options),

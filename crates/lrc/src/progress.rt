@@ -112,6 +112,10 @@ impl<'a, T> Counted<'a, T> {
 }
 
 impl<T: Runs> Runs for Counted<'_, T> {
+    ghost ran = { T.ran };
+
+    ghost stepped = { T.stepped };
+
     fn run<R: Threads + Wait + Sync>(
         &self,
         rt: &R,

@@ -6,7 +6,7 @@
 
 use lrc_main::{answer_words, refuse, run_file, words_of};
 use lrc_options::command_line::options;
-use lrc_options::options::Asked;
+use lrc_options::options::{Asked, Commands};
 use lrc_run::OnCluster;
 use std::process::ExitCode;
 use std::sync::Wait;
@@ -17,13 +17,15 @@ const NOT_HERE: u8 = 5;
 
 /// Says that this program has no such command.
 fn say_not_here(rt: &HostRuntime) -> u8 {
-    let _ = eprintln!(rt; "lrc: this program has run and step alone");
+    let _ = eprintln!(rt;
+        "lrc: this program has run and step alone\n  ./lrc prove builds the one that has the other commands"
+    );
     NOT_HERE
 }
 
 /// Does what the words ask for.
 fn start<R: Threads + Wait + Sync>(rt: &HostRuntime, handle: &R, words: &[String]) -> u8 {
-    match options(rt.alloc(), words) {
+    match options(rt.alloc(), words, Commands::RunAndStep) {
         Ok(Asked::Script(options)) => run_file(rt, handle, &OnCluster, &options),
         Ok(_) => say_not_here(rt),
         Err(error) => answer_words(rt, &error),

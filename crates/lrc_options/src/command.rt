@@ -9,9 +9,10 @@ ghost use Rattle.lrc_options.specs.CommandLine.{flagged_app, lrc_app, run_app, s
 ghost use Rattle.lrc_options.specs.CommandLine.{tries_rule};
 
 use crate::help::{
-    ABOUT, AFTER, EXPLAIN, EXPLORE, JOURNAL, LAX, MOST, SAMPLE, SCRIPT, SCRIPT_FILE, SEED, SEEDS,
-    SVG, TRACE, TRACE_FILE, TRIES, VERSION,
+    ABOUT, AFTER, AFTER_RUN_AND_STEP, EXPLAIN, EXPLORE, JOURNAL, LAX, MOST, SAMPLE, SCRIPT,
+    SCRIPT_FILE, SEED, SEEDS, SVG, TRACE, TRACE_FILE, TRIES, VERSION,
 };
+use crate::options::Commands;
 use clap::builder::ValueParser;
 use clap::{Arg, ArgAction, Command};
 use std::alloc::{AllocError, Global};
@@ -224,30 +225,50 @@ fn check_command<'a>(alloc: Global) -> Result<Command<'a>, AllocError>
     with_option(command, flag_arg(alloc, "lax", LAX))
 }
 
-/// `lrc` without its commands.
-fn bare_command<'a>(alloc: Global) -> Command<'a>
+/// The command, which help names only if it is shown.
+fn shown_if<'a>(
+    shown: bool,
+    command: Result<Command<'a>, AllocError>,
+) -> Result<Command<'a>, AllocError>
+    ensures { (a : App) → IfOk command.entry (IsCommand a) → IfOk result (IsCommand a) }
+{
+    Ok(command?.hide(!shown))
+}
+
+/// `lrc` without its commands, with this text at the end of its help.
+fn bare_command<'a>(alloc: Global, after: &'a str) -> Command<'a>
     ensures { IsCommand bare_app result }
 {
     Command::new(alloc, "lrc")
         .about(ABOUT)
-        .after_help(AFTER)
+        .after_help(after)
         .version(VERSION)
         .subcommand_required(true)
 }
 
-/// The command that the words are read by.
+/// The command that the words are read by. The words of each command are understood, also of one that the program lacks;
+/// help names those that it has.
 pub(crate) fn lrc_command<'a>(
     alloc: Global,
     locks: &'a [&'a str],
+    commands: Commands,
 ) -> Result<Command<'a>, AllocError>
     ensures command { IfOk result (IsCommand (lrc_app (vp.Names locks.entry))) }
     ensures wants { IfOk result (λ c. (out-Command c).subcommand_required ≡ true) }
 {
-    let lrc = Ok(bare_command(alloc));
+    let (shown, after) = match commands {
+        Commands::All => (true, AFTER),
+        Commands::RunAndStep => (false, AFTER_RUN_AND_STEP),
+    };
+    let explain = shown_if(shown, explain_command(alloc, locks));
+    let sample = shown_if(shown, sample_command(alloc, locks));
+    let explore = shown_if(shown, explore_command(alloc));
+    let check = shown_if(shown, check_command(alloc));
+    let lrc = Ok(bare_command(alloc, after));
     let lrc = with_command(lrc, run_command(alloc, locks));
     let lrc = with_command(lrc, step_command(alloc, locks));
-    let lrc = with_command(lrc, explain_command(alloc, locks));
-    let lrc = with_command(lrc, sample_command(alloc, locks));
-    let lrc = with_command(lrc, explore_command(alloc));
-    with_command(lrc, check_command(alloc))
+    let lrc = with_command(lrc, explain);
+    let lrc = with_command(lrc, sample);
+    let lrc = with_command(lrc, explore);
+    with_command(lrc, check)
 }

@@ -10,8 +10,8 @@ ghost use Rattle.lrc_options.specs.CommandLine.{AreGiven, IsRefusedBy, most_trie
 
 use crate::command::{LOCKS, MOST_SEED, MOST_TRIES, lrc_command};
 use crate::options::{
-    Asked, DEFAULT_MOST, DEFAULT_SEEDS, DEFAULT_TRIES, ExplainOptions, ExploreOptions, Options,
-    SampleOptions, TraceOptions,
+    Asked, Commands, DEFAULT_MOST, DEFAULT_SEEDS, DEFAULT_TRIES, ExplainOptions, ExploreOptions,
+    Options, SampleOptions, TraceOptions,
 };
 use crate::tips::with_tip;
 use clap::{ArgMatches, Error};
@@ -191,16 +191,17 @@ fn asked_of(alloc: Global, name: &str, matches: &ArgMatches<'_>) -> Result<Asked
 /// Reads the words, the program's name first: `lrc run [FILE] [--tries N] [--lock KIND] [--journal]`,
 /// `lrc step [FILE] [--seed N] [--lock KIND] [--journal]`, `lrc explain [FILE] [--seed N] [--lock KIND] [--svg]`,
 /// `lrc sample [FILE] [--seeds N] [--lock KIND]`, `lrc explore [FILE] [--most N]` or `lrc check [FILE] [--lax]`.
+/// Help names the commands that the program has; the words of the others are read all the same.
 ///
 /// # Errors
 ///
 /// clap's, of just the kind that its own function of the command finds in the words: words that give no such command,
 /// a question for help; or running out of memory.
-pub fn options<'a>(alloc: Global, words: &'a [String]) -> Result<Asked, Error>
+pub fn options<'a>(alloc: Global, words: &'a [String], commands: Commands) -> Result<Asked, Error>
     ensures given { IfOk result (AreGiven (map (λ w. string_bytes w) words.entry.now)) }
     ensures refused { IfErr result (IsRefusedBy (map (λ w. string_bytes w) words.entry.now)) }
 {
-    match lrc_command(alloc, LOCKS.as_slice())?.try_get_matches_from(words) {
+    match lrc_command(alloc, LOCKS.as_slice(), commands)?.try_get_matches_from(words) {
         Ok(matches) => match matches.subcommand() {
             Some((name, given)) => Ok(asked_of(alloc, name, given)?),
             None => unreachable!("a command is required"),

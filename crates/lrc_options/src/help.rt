@@ -17,6 +17,17 @@ Statuses: 0 done; 2 the script or the trace is refused; 3 no progress; 4 a limit
 thread that couldn't be started, or a failed write; 5 usage, or the file can't be read; 6 the trace
 isn't faithful; 7 a search was given up.";
 
+/// The same of a program that has `run` and `step` alone.
+pub(crate) const AFTER_RUN_AND_STEP: &str = "Example:
+  printf 'cluster 2 1 1 1\\np 0\\nacquire 0\\nadd 0 1\\nrelease 0\\n\
+p 1\\nacquire 0\\nadd 0 1\\nrelease 0\\nshow 0\\n' | lrc step --journal
+
+Statuses: 0 done; 2 the script is refused; 3 no progress; 4 a limit, out of memory, a thread that
+couldn't be started, or a failed write; 5 usage, or the file can't be read.
+
+This program has run and step alone. ./lrc prove builds the one that has explain, sample, explore and
+check, too.";
+
 /// What a script says, and what is printed of it.
 pub(crate) const SCRIPT: &str = "A script, a line each:
   cluster P N W L [G]    P processors, N pages of W words, L locks, G flags; all are numbered from 0

@@ -1,5 +1,14 @@
 //! What the program is to do.
 
+/// Which commands the program has.
+#[derive(Clone, Copy)]
+pub enum Commands {
+    /// All of them, as `lrc` has.
+    All,
+    /// `run` and `step` alone, as `lrc_core` has.
+    RunAndStep,
+}
+
 /// What the words ask for.
 #[derive(Drop)]
 pub enum Asked {

@@ -1,4 +1,4 @@
-//! What a fault of usage says of an option that the other command has.
+//! What a fault of usage says of an option that another command has.
 ghost use Rattle.std.specs.Prelude.{◌≡◌, IfOk};
 ghost use Rattle.clap.specs.Words.{kind_of};
 
@@ -6,97 +6,111 @@ use clap::error::ErrorKind;
 use clap::{Command, Error};
 use std::alloc::{AllocError, Global};
 
-/// A command, and an option that the other one alone has.
+/// Each command with each option that it has. Of the commands that have an option the first one is told.
+const OPTIONS: [(&str, &str); 13] = [
+    ("run", "--tries"),
+    ("run", "--lock"),
+    ("run", "--journal"),
+    ("step", "--seed"),
+    ("step", "--lock"),
+    ("step", "--journal"),
+    ("explain", "--seed"),
+    ("explain", "--lock"),
+    ("explain", "--svg"),
+    ("sample", "--seeds"),
+    ("sample", "--lock"),
+    ("explore", "--most"),
+    ("check", "--lax"),
+];
+
+/// A command that was given an option that it lacks, and a command that has it.
 #[derive(Clone, Copy)]
-enum Lacking {
-    /// `run`, which has no `--seed`.
-    Run,
-    /// `step`, which has no `--tries`.
-    Step,
+struct Misuse<'a> {
+    command: &'a str,
+    option: &'a str,
+    owner: &'static str,
 }
 
-impl Lacking {
-    /// The command that the words give, the program's name first.
-    fn of(words: &[String]) -> Option<Lacking> {
-        match words.get(1)?.as_str() {
-            "run" => Some(Lacking::Run),
-            "step" => Some(Lacking::Step),
-            _ => None,
-        }
-    }
-
-    /// The option that it lacks.
-    fn option(self) -> &'static str {
-        match self {
-            Lacking::Run => "--seed",
-            Lacking::Step => "--tries",
-        }
-    }
-
-    /// The fault's text, which says who has the option.
-    fn text(self) -> &'static str {
-        match self {
-            Lacking::Run => "unexpected argument '--seed' found\n\n  tip: 'lrc step' has '--seed'",
-            Lacking::Step =>
-                "unexpected argument '--tries' found\n\n  tip: 'lrc run' has '--tries'",
-        }
-    }
-
-    /// The command's line of usage.
-    fn usage(self) -> &'static str {
-        match self {
-            Lacking::Run => "lrc run [OPTIONS] [FILE]",
-            Lacking::Step => "lrc step [OPTIONS] [FILE]",
-        }
-    }
-
-    /// The fault of being given the option that it lacks.
+impl Misuse<'_> {
+    /// The fault of usage, which says who has the option.
     fn fault(self, alloc: Global) -> Result<Error, AllocError>
         ensures { IfOk result (λ e. kind_of e ≡ ErrorKind.UnknownArgument) }
     {
-        let mut command = Command::new(alloc, "lrc").override_usage(self.usage());
-        command.error(ErrorKind::UnknownArgument, self.text())
+        let Misuse {
+            command,
+            option,
+            owner,
+        } = self;
+        let text = format!(in alloc;
+            "unexpected argument '{option}' found\n\n  tip: 'lrc {owner}' has '{option}'"
+        )?;
+        let usage = format!(in alloc; "lrc {command} [OPTIONS] [FILE]")?;
+        let mut lrc = Command::new(alloc, "lrc").override_usage(&usage);
+        lrc.error(ErrorKind::UnknownArgument, &text)
     }
 }
 
-/// Whether a word is this option, with or without its value.
-fn is_option(word: &str, option: &str) -> bool {
-    match word.strip_prefix(option) {
-        Some(rest) => rest.is_empty() || rest.starts_with('='),
-        None => false,
+/// Whether it is a command.
+fn is_command(name: &str) -> bool {
+    OPTIONS.iter().any(|(command, _)| *command == name)
+}
+
+/// Whether the command has the option.
+fn has(name: &str, option: &str) -> bool {
+    OPTIONS
+        .iter()
+        .any(|(command, own)| *command == name && *own == option)
+}
+
+/// The first command that has the option.
+fn owner_of(option: &str) -> Option<&'static str> {
+    for (command, own) in OPTIONS {
+        if own == option {
+            return Some(command);
+        }
+    }
+    None
+}
+
+/// The option that a word gives, with or without its value.
+fn option_of(word: &str) -> &str {
+    match word.split_once('=') {
+        Some((option, _)) => option,
+        None => word,
     }
 }
 
-/// Whether a word before `--` is this option.
-fn has_option(words: &[String], option: &str) -> bool {
+/// The first option before `--` that the words give to a command that lacks it, where another one has it.
+fn misuse_of(words: &[String]) -> Option<Misuse<'_>> {
+    let command = words.get(1)?.as_str();
+    if !is_command(command) {
+        return None;
+    }
     for word in words {
         let word = word.as_str();
         if word == "--" {
-            return false;
+            return None;
         }
-        if is_option(word, option) {
-            return true;
+        let option = option_of(word);
+        if !has(command, option)
+            && let Some(owner) = owner_of(option)
+        {
+            return Some(Misuse {
+                command,
+                option,
+                owner,
+            });
         }
     }
-    false
+    None
 }
 
-/// The command that the words give, where they give it an option that the other one alone has.
-fn misused(words: &[String]) -> Option<Lacking> {
-    let command = Lacking::of(words)?;
-    if has_option(words, command.option()) {
-        Some(command)
-    } else {
-        None
-    }
-}
-
-/// A fault of usage; where a command was given an option that the other one alone has, it says so.
+/// A fault of usage; where a command was given an option that another one has, it says so.
 pub(crate) fn with_tip(alloc: Global, words: &[String], fault: Error) -> Result<Error, AllocError>
     ensures { IfOk result (λ e. kind_of e ≡ kind_of fault) }
 {
-    match (fault.kind(), misused(words)) {
-        (ErrorKind::UnknownArgument, Some(command)) => command.fault(alloc),
+    match (fault.kind(), misuse_of(words)) {
+        (ErrorKind::UnknownArgument, Some(misuse)) => misuse.fault(alloc),
         _ => Ok(fault),
     }
 }

@@ -92,13 +92,25 @@ fn put_mark(text: &mut Svg, class: &str, name: &str, at: Point) {
     text.put("\"/>\n");
 }
 
+/// Puts how many there are: the words for one, or for any other number.
+fn put_count(text: &mut Svg, count: usize, one: &str, many: &str) {
+    text.put_number("", count);
+    text.put(if count == 1 { one } else { many });
+}
+
 /// Puts the title.
 fn put_title(text: &mut Svg, story: &Story<'_>) {
-    text.put_number("<title>A run of ", story.processors);
-    text.put_number(" processors and ", story.events.len());
+    text.put("<title>A run of ");
+    put_count(
+        text,
+        story.processors,
+        " processor and ",
+        " processors and ",
+    );
+    put_count(text, story.events.len(), " event, ", " events, ");
     text.put(match story.race {
-        Some(_) => " events, with a race",
-        None => " events, without a race",
+        Some(_) => "with a race",
+        None => "without a race",
     });
     text.put(if story.halted {
         ", that can't go on</title>\n"

@@ -1,29 +1,49 @@
 -- What the program does with a script.
-use Rattle.std.specs.Prelude.{ℕ, ◌≡◌, ◌≢◌, Bool, List, Option, IfSome}
+use Rattle.std.specs.Prelude.{ℕ, ◌≡◌, ◌≢◌, Bool, true, false, cond, List, Option, Result, Ok, IfSome}
 use Rattle.std.specs.Io.KnownBytes.{Appends}
 use Rattle.lrc_script.specs.Lawful.{IsLawful}
 use Rattle.lrc_script.specs.Plan.{Plan}
 use Rattle.lrc_script.specs.Text.{text}
 use Rattle.lrc_report.specs.declared.report.Report.{Report}
 use Rattle.lrc_report.specs.ReportText.{report_text}
+use Rattle.lrc_options.specs.declared.options.Options.{Options}
+use Rattle.runs.specs.declared.cause.RunFault.{RunFault}
+use Rattle.runs.specs.declared.runs.Lock.{Lock}
+use Rattle.runs.specs.declared.runs.Lock.TheVariants.{Array, Ticket}
 use Rattle.runs.specs.Reports.{IsReportOf}
+
+-- the lock that the options ask for
+abbrev pub lock_of : Options → Lock
+lock_of o = cond o.ticket Ticket Array
+
+-- what came of a script by the command that the options ask for, with their lock, and their tries or their seed; `ran` and
+-- `stepped` are what comes by each command
+pub record IsAsAsked (ran : Plan → Lock → ℕ → Result Report RunFault → Type 0)
+    (stepped : Plan → Lock → Option ℕ → Result Report RunFault → Type 0) (o : Options) (s : Plan)
+    (came : Result Report RunFault) : Type 0 where
+  pub by_threads : o.step ≡ false → ran s (lock_of o) o.tries came
+  pub by_turns : o.step ≡ true → stepped s (lock_of o) o.seed came
 
 -- the script that was read is lawful, and its text is all that the source had
 pub record IsRead (source : Option (List ℕ)) (s : Plan) : Type 0 where
   pub lawful : IsLawful s
   pub text_is : IfSome source (λ xs. xs ≡ text s)
 
--- the script was run, and the text of a report of it was written
-pub record IsPrinted (journal : Bool) (script : Plan) (old new : Option (List ℕ)) : Type 0 where
+-- the script was run as it was asked, and the text of the report of it was written
+pub record IsPrinted (asked : Plan → Result Report RunFault → Type 0) (journal : Bool) (script : Plan)
+    (old new : Option (List ℕ)) : Type 0 where
   pub report : Report
+  pub came : asked script (Ok report)
   pub tells : IsReportOf script report
   pub written : Appends old new (report_text report journal)
 
--- the script that the source had was run, and the text of a report of it was written
-pub record IsServed (journal : Bool) (source old new : Option (List ℕ)) : Type 0 where
+-- the script that the source had was run as it was asked, and the text of the report of it was written
+pub record IsServed (asked : Plan → Result Report RunFault → Type 0) (journal : Bool)
+    (source old new : Option (List ℕ)) : Type 0 where
   pub script : Plan
   pub read : IsRead source script
   pub report : Report
+  pub came : asked script (Ok report)
   pub tells : IsReportOf script report
   pub written : Appends old new (report_text report journal)
 

@@ -9,48 +9,45 @@ use lrc_report::render::OutFault;
 use lrc_script::fault::ScriptFault;
 use runs::{Cause, RunFault};
 use std::alloc::{AllocError, Global};
+use std::io;
 use std::io::ErrorKind;
-use std::{fmt, io};
+use thiserror::Error;
 
-/// Why the program ends without a report.
-#[derive(Clone, Copy)]
+/// Why the program ends without a report. The text of a fault is what the program says of it on standard error, in one
+/// line after `lrc: `.
+#[derive(Clone, Copy, Debug, Error)]
 pub enum ProgramFault {
     /// The words can't be read, for this reason.
+    #[error("cannot read the words: {0}")]
     Words(io::Error),
     /// The script's file or standard input can't be read, for this reason.
+    #[error("file cannot be read")]
     Unreadable(io::Error),
     /// The script has a fault, in this line.
+    #[error("line {0}: {1}")]
     Script(usize, ScriptFault),
     /// A processor went no further.
+    #[error("{0}")]
     Run(RunFault),
     /// A write failed.
+    #[error("output failed")]
     Output,
     /// A growth was refused.
+    #[error("out of memory")]
     NoMemory,
 }
 
-/// What the program says on standard error after `lrc: `, where the script comes from standard input. The reasons are
-/// the system's.
-impl fmt::Display for ProgramFault {
-    fn fmt<W: fmt::Write>(&self, f: &mut fmt::Formatter<W>) -> fmt::Result {
-        match self {
-            ProgramFault::Words(reason) => write!(f, "cannot read the words: {reason}"),
-            ProgramFault::Unreadable(reason) => write!(f, "cannot read standard input: {reason}"),
-            ProgramFault::Script(line, fault) => write!(f, "line {line}: {fault}"),
-            ProgramFault::Run(fault) => fault.fmt(f),
-            ProgramFault::Output => f.write_str("output failed"),
-            ProgramFault::NoMemory => f.write_str("out of memory"),
-        }
-    }
-}
-
 impl ProgramFault {
-    /// The line that standard error gets. The script's file is named as Rust writes a string, so that it is one line
-    /// whatever the name has.
+    /// What standard error gets: a line with the fault's text. If the script can't be read, a second one says which file it
+    /// is and the system's reason. The file is named as Rust writes a string, so that this is one line whatever the name
+    /// has.
     pub fn line(self, alloc: Global, file: Option<&str>) -> Result<String, AllocError> {
         match (self, file) {
             (ProgramFault::Unreadable(reason), Some(file)) => format!(in alloc;
-                "lrc: cannot read {file:?}: {reason}\n"
+                "lrc: {self}\n  {file:?}: {reason}\n"
+            ),
+            (ProgramFault::Unreadable(reason), None) => format!(in alloc;
+                "lrc: {self}\n  standard input: {reason}\n"
             ),
             _ => format!(in alloc; "lrc: {self}\n"),
         }

@@ -6,12 +6,13 @@
 //! proved beside `lrc_run`, which the program's own main hands in.
 //!
 //! **What is proved.** `program` answers 0 only where all that it could read is a script's text, that script was run
-//! and the text of its report was written, and nothing else (`IsServed`); 2 only where it is no script's text
-//! (`IsNoScript`); and but for 4 a report is written whole or not at all. Each fault has its status (`status_of`).
+//! as the options ask (`IsAsAsked`) and the text of its report was written, and nothing else (`IsServed`); 2 only where it is
+//! no script's text (`IsNoScript`); and but for 4 a report is written whole or not at all. Each fault has its status
+//! (`status_of`).
 //!
 //! **What is only tested**, by whole runs of the program. The texts of faults, help and usage, which fault is met, that
-//! the lock and the seed that the words ask for are used, and that no call allocates without need. No contract sees what a
-//! file or a standard stream has.
+//! what runs scripts makes use of the lock, the tries and the seed that it is handed, and that no call allocates without
+//! need. No contract sees what a file or a standard stream has.
 #![tactic(auto)]
 
 pub mod fault;

@@ -3,7 +3,8 @@ ghost use Rattle.std.specs.Prelude.{◌≡◌, ◌≢◌, ◌<◌, ◌⊎◌, If
 ghost use Rattle.std.specs.Io.KnownBytes.{Keeps};
 ghost use Rattle.lrc_script.specs.Prelude.{IsLawful, plan_of};
 ghost use Rattle.runs.specs.Prelude.{IsReportOf};
-ghost use Rattle.lrc_program.specs.Prelude.{IsNoScript, IsPrinted, IsRead, IsServed, IsBeforeOutput, IsScripts, IsStatusOf};
+ghost use Rattle.lrc_program.specs.Prelude.{IsAsAsked, IsNoScript, IsPrinted, IsRead, IsServed, IsBeforeOutput};
+ghost use Rattle.lrc_program.specs.Prelude.{IsScripts, IsStatusOf, lock_of};
 
 use crate::fault::ProgramFault;
 use lrc_options::options::Options;
@@ -19,6 +20,17 @@ use std::thread::Threads;
 /// One byte more than the longest script has: what is longer is refused without its rest.
 const MOST_READ: u64 = MOST_BYTES as u64 + 1;
 
+/// The lock that the options ask for.
+fn lock_of(options: &Options) -> Lock
+    ensures { result ≡ lock_of options.now }
+{
+    if options.ticket {
+        Lock::Ticket
+    } else {
+        Lock::Array
+    }
+}
+
 /// Has the script run as the options say.
 fn report_of<T: Runs, R: Threads + Wait + Sync>(
     runs: &T,
@@ -29,13 +41,10 @@ fn report_of<T: Runs, R: Threads + Wait + Sync>(
 ) -> Result<Report, RunFault>
     requires tries { 0 < options.now.tries }
     requires lawful { IsLawful (plan_of script.now) }
-    ensures { IfOk result (IsReportOf (plan_of script.now)) }
+    ensures report { IfOk result (IsReportOf (plan_of script.now)) }
+    ensures asked { IsAsAsked T.ran T.stepped options.now (plan_of script.now) result }
 {
-    let lock = if options.ticket {
-        Lock::Ticket
-    } else {
-        Lock::Array
-    };
+    let lock = lock_of(options);
     if options.step {
         runs.step(rt, alloc, script, lock, options.seed)
     } else {
@@ -65,7 +74,7 @@ fn print_report<T: Runs, R: Threads + Wait + Sync, W: Write>(
 ) -> Result<(), ProgramFault>
     requires tries { 0 < options.now.tries }
     requires lawful { IsLawful (plan_of script.now) }
-    ensures printed { OnOk result (IsPrinted options.now.journal (plan_of script.now)
+    ensures printed { OnOk result (IsPrinted (IsAsAsked T.ran T.stepped options.now) options.now.journal (plan_of script.now)
         (W.contents out.old) (W.contents out.new)) }
     ensures early { IfErr result
         (λ fault. IsBeforeOutput fault → Keeps (W.contents out.old) (W.contents out.new)) }
@@ -86,8 +95,8 @@ fn run_script<T: Runs, R: Threads + Wait + Sync, S: Read, W: Write>(
     out: &mut W,
 ) -> Result<(), ProgramFault>
     requires { 0 < options.now.tries }
-    ensures served { OnOk result (IsServed options.now.journal (S.remaining source.old)
-        (W.contents out.old) (W.contents out.new)) }
+    ensures served { OnOk result (IsServed (IsAsAsked T.ran T.stepped options.now) options.now.journal
+        (S.remaining source.old) (W.contents out.old) (W.contents out.new)) }
     ensures refused { IfErr result (λ fault. IsScripts fault → IsNoScript (S.remaining source.old)) }
     ensures early { IfErr result
         (λ fault. IsBeforeOutput fault → Keeps (W.contents out.old) (W.contents out.new)) }
@@ -134,9 +143,9 @@ pub fn program<T: Runs, R: Threads + Wait + Sync, S: Read, W: Write, E: Write>(
     err: &mut E,
 ) -> u8
     requires { 0 < options.now.tries }
-    // The script that was read was run, and the report of a run of it was written, whole.
-    ensures served { result ≡ 0 → IsServed options.now.journal (S.remaining source.old)
-        (W.contents out.old) (W.contents out.new) }
+    // The script that was read was run as the options ask, and the report of that run was written, whole.
+    ensures served { result ≡ 0 → IsServed (IsAsAsked T.ran T.stepped options.now) options.now.journal
+        (S.remaining source.old) (W.contents out.old) (W.contents out.new) }
     // What is refused as a script is none.
     ensures refused { result ≡ 2 → IsNoScript (S.remaining source.old) }
     // But for status 4, a report is written whole or not at all.

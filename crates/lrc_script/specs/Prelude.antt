@@ -6,8 +6,6 @@ pub use Rattle.lrc_script.specs.Text.{cluster_line, instruction_line, line_bytes
 pub use Rattle.lrc_script.specs.Text.{section_lines, show_line, spaced, text}
 pub use Rattle.lrc_script.specs.Front.{Headed, IsBegun, IsHeaded, Nothing, Whole, Within}
 pub use Rattle.lrc_script.specs.Faults.{HasNoLineFeed, IsFault, IsUneven, Says}
-pub use Rattle.lrc_script.specs.Draw.{IsShape, access, below, drawn, drawn_sections, group, item, more_phases}
-pub use Rattle.lrc_script.specs.Draw.{most_pieces, phase, piece, pieces, section, seeded, shape}
 pub use Rattle.lrc_script.specs.Reading.{Fails, Gives, Goes, IsCut, IsOther, after, after_numbers, are_sizes, ended}
 pub use Rattle.lrc_script.specs.Reading.{few_items, first_section, front_of, has_bytes, headed, instruction_of}
 pub use Rattle.lrc_script.specs.Reading.{is_due, is_past, keyword_of, next_section, number_of, numbers_after}

@@ -2,18 +2,17 @@
 //!
 //! **What contracts see.** A `Script` is seen as a `Plan` (`plan_of`): its numbers, its sections as lists of
 //! instructions, its shown addresses. `IsLawful` says which plans are scripts, `text` what their bytes are.
-//! `IsFault` says what a fault says of the bytes, `drawn` which plan the draws give.
+//! `IsFault` says what a fault says of the bytes.
 //!
 //! **What is proved.** `script::parse` answers a script only where it is lawful and the bytes are its text,
 //! and a fault only where they are no lawful script's, with its line; `Display` writes the text, of at most
-//! `MOST_BYTES` bytes (module `laws`); `draw::guarded` and `draw::free` give lawful scripts by the stated draws.
+//! `MOST_BYTES` bytes (module `laws`).
 //!
 //! **What is only tested** (in `lrc_script_tests`): which fault is answered among several on one line, the texts of the
 //! faults, and that no call allocates without need: at the limits of a script, for long lines and for each number.
 #![tactic(auto)]
 
 mod display;
-pub mod draw;
 mod evenness;
 pub mod fault;
 pub mod laws;

@@ -1,5 +1,5 @@
 //! What runs scripts.
-ghost use Rattle.std.specs.Prelude.{◌<◌, IfOk};
+ghost use Rattle.std.specs.Prelude.{ℕ, ◌<◌, IfOk, Option, Result};
 ghost use Rattle.std.specs.Thread.{IsSync};
 ghost use Rattle.lrc_script.specs.Prelude.{IsLawful, plan_of};
 ghost use Rattle.runs.specs.Prelude.{IsEndOf, IsReportOf};
@@ -22,7 +22,21 @@ pub enum Lock {
 }
 
 /// Runs lawful scripts. Whatever report it answers is one of the script.
+///
+/// What comes of a run is told by `ran` and `stepped`, whose meaning is each implementor's own. So who promises one of them,
+/// whatever runs the scripts, had this very call made: on threads or by turns, with this lock, and these tries or this seed.
 pub trait Runs {
+    ghost use Rattle.lrc_script.specs.Plan.{Plan};
+    ghost use Rattle.lrc_report.specs.declared.report.Report.{Report};
+    ghost use Rattle.runs.specs.declared.cause.RunFault.{RunFault};
+    ghost use Rattle.runs.specs.declared.runs.Lock.{Lock};
+
+    // What comes of a script by `run` with this lock and so many tries.
+    ghost ran: { Plan → Lock → ℕ → Result Report RunFault → Type 0 } = { λ _ _ _ _. Unit {0} };
+
+    // What comes of it by `step` with this lock and this seed.
+    ghost stepped: { Plan → Lock → Option ℕ → Result Report RunFault → Type 0 } = { λ _ _ _ _. Unit {0} };
+
     /// Runs the script with a thread for each processor, started by this handle. What a processor waits for is tried for `tries` times in a row.
     fn run<R: Threads + Wait + Sync>(
         &self,
@@ -35,7 +49,8 @@ pub trait Runs {
         requires threads { IsSync R.row }
         requires tries { 0 < tries }
         requires lawful { IsLawful (plan_of script.now) }
-        ensures { IfOk result (IsReportOf (plan_of script.now)) };
+        ensures report { IfOk result (IsReportOf (plan_of script.now)) }
+        ensures ran { ran (plan_of script.now) lock tries result };
 
     /// Runs the script by turns on one thread, in the orders that the seed draws, or by rising number without one.
     fn step<R: Wait>(
@@ -47,7 +62,8 @@ pub trait Runs {
         seed: Option<u64>,
     ) -> Result<Report, RunFault>
         requires { IsLawful (plan_of script.now) }
-        ensures { IfOk result (IsReportOf (plan_of script.now)) };
+        ensures report { IfOk result (IsReportOf (plan_of script.now)) }
+        ensures stepped { stepped (plan_of script.now) lock seed result };
 
     /// Runs the script as `step` does, but that a run that can't go on is no fault: it answers the journal so far.
     fn step_as_far<R: Wait>(

@@ -1,7 +1,7 @@
 //! Drawn scripts.
 
 use super::bytes_of;
-use lrc_script::draw::{free, guarded};
+use drawn_scripts::draw::{free, guarded};
 use lrc_script::script::{Script, parse};
 use std::alloc::{AllocError, Global};
 use std::process::Abort;

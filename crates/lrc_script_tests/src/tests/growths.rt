@@ -2,7 +2,7 @@
 //! of memory is told with its line.
 
 use super::bytes_of;
-use lrc_script::draw::{free, guarded};
+use drawn_scripts::draw::{free, guarded};
 use lrc_script::fault::ScriptFault;
 use lrc_script::script::{Script, parse};
 use std::alloc::{AllocError, Global};

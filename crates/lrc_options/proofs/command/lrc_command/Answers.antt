@@ -7,10 +7,10 @@ pub returns-clause-command : goal.returns-clause-command
 returns-clause-command c =
     let run = c.with_command-lrc.ensures _ _ c.bare_command.ensures c.run_command.ensures in
     let step = c.with_command-lrc-2.ensures _ _ run c.step_command.ensures in
-    let explain = c.with_command-lrc-3.ensures _ _ step c.explain_command.ensures in
-    let sample = c.with_command-lrc-4.ensures _ _ explain c.sample_command.ensures in
-    let explore = c.with_command-lrc-5.ensures _ _ sample c.explore_command.ensures in
-    c.with_command.ensures _ _ explore c.check_command.ensures
+    let explain = c.with_command-lrc-3.ensures _ _ step (c.shown_if-explain.ensures _ c.explain_command.ensures) in
+    let sample = c.with_command-lrc-4.ensures _ _ explain (c.shown_if-sample.ensures _ c.sample_command.ensures) in
+    let explore = c.with_command-lrc-5.ensures _ _ sample (c.shown_if-explore.ensures _ c.explore_command.ensures) in
+    c.with_command.ensures _ _ explore (c.shown_if-check.ensures _ c.check_command.ensures)
 
 pub returns-clause-wants : goal.returns-clause-wants
 returns-clause-wants c =

@@ -4,7 +4,7 @@ use Rattle.lrc_program.proofs.program.run_script.Goals as goal
 
 pub returns-clause-served : goal.returns-clause-served
 returns-clause-served g c =
-    served_by _ (plan_of c.in_ok-script.script) _ _ _ c.print_report.result c.in_ok-script.ensures.read
+    served_by _ _ (plan_of c.in_ok-script.script) _ _ _ c.print_report.result c.in_ok-script.ensures.read
     c.print_report.ensures.printed
 
 pub returns-clause-refused : goal.returns-clause-refused
