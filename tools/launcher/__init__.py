@@ -9,6 +9,8 @@ plan      which crate comes next, and how long all takes
 progress  how far the build is, in a line
 look      the first look: the program's answer, checked and not proved
 build     the build itself
+told      help, where nothing is built
+install   puts the program into a folder
 main      the whole
 
 What runs before a program that is built (places, crates, built, main) imports little, since that is paid each time.

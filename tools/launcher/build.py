@@ -47,7 +47,7 @@ class Build:
 
     def begin(self, crate, words, folder, nice=plan.NICE):
         """Starts a run of the toolchain for a crate."""
-        behind = [it for it, run in self.running.items() if run.nice == plan.LATE_NICE]
+        behind = [it for it, run in self.running.items() if run.nice > plan.NICE]
         self.jobs[crate] = plan.jobs(crate, self.waiting, behind, self.cores)
         words = [it if it != "JOBS" else str(self.jobs[crate]) for it in words]
         self.running[crate] = Run(crate.name, [self.rt, *words], folder, nice)
@@ -60,7 +60,7 @@ class Build:
         for crate in sorted(ready, key=lambda crate: -crate.way)[: max(0, self.most - len(self.running))]:
             is_urgent = crate in urgent
             if is_urgent or sum(it in urgent for it in self.running) <= 1:
-                self.begin(crate, ["lib", "--jobs", "JOBS"], rooms.enter(crate), plan.NICE if is_urgent else plan.LATE_NICE)
+                self.begin(crate, ["lib", "--jobs", "JOBS"], rooms.enter(crate), plan.nice(crate, self.waiting))
 
     def end_one(self):
         """Waits until a run ends that proved its crate, and returns the crate. Says how far the build is meanwhile."""

@@ -3,10 +3,10 @@ import os
 
 # What a run of the toolchain may take, in bytes: where there is less memory, fewer go on at once.
 MEMORY_OF_A_RUN = 3_000_000_000
-# How much a run gives way to the first look; and one that nothing urgent waits for, to the others.
-NICE, LATE_NICE = 5, 19
-# A crate is late enough to give way where so many times its own seconds lie between it and the longest way.
-LATE = 4
+# How much a run gives way to the first look; one that nothing urgent waits for, to the others; and one that has time.
+NICE, BESIDE, LATE = 5, 10, 19
+# A crate has time where so many times its own seconds lie between its way and the longest one.
+TIMES = 4
 # What each core more brings the crate that has it, as a part of the first.
 GAIN = 0.35
 # The program's own crate gains nothing from more jobs than this.
@@ -35,11 +35,18 @@ def is_ready(crate, waiting):
 
 
 def urgent(waiting):
-    """The crates below the one that the longest way leads to next, and those that take long for the time that they have."""
+    """The crates below the one that the longest way leads to next, and those whose own way is nearly as long."""
     top = leader(waiting)
     above = [crate for crate in waiting if top in crate.uses]
     below = leader(above).below if above else []
-    return [crate for crate in waiting if crate in below or top.way - crate.way < LATE * crate.weight]
+    return [crate for crate in waiting if crate in below or crate.way >= 0.8 * top.way]
+
+
+def nice(crate, waiting):
+    """How much a crate's run gives way."""
+    if crate in urgent(waiting):
+        return NICE
+    return BESIDE if leader(waiting).way - crate.way < TIMES * crate.weight else LATE
 
 
 def jobs(crate, waiting, behind, cores):

@@ -26,12 +26,19 @@ class Result:
         return f"{self.name}: AMISS: {self.why}"
 
 
+def files_named(path):
+    """The files that an edit names."""
+    lines = path.read_text(encoding="utf-8", errors="replace").splitlines()
+    return [line[len("file: "):].strip() for line in lines if line.startswith("file: ")]
+
+
 def texts_of(paths, folder):
     """The sources after these edits, one after the other, by their path, and why that can't be; nothing where it can."""
     with tempfile.TemporaryDirectory(prefix="edits-") as room:
-        for part in rtlib.PARTS:
-            if (Path(folder) / part).is_dir():
-                shutil.copytree(Path(folder) / part, f"{room}/{part}")
+        for file in {file for path in paths for file in files_named(path)}:
+            if Path(folder, file).is_file():
+                Path(room, file).parent.mkdir(parents=True, exist_ok=True)
+                shutil.copyfile(Path(folder, file), Path(room, file))
         texts = {}
         for path in paths:
             more, why = rt.read_edit(str(path), room)

@@ -30,6 +30,7 @@ def crates():
     os.chdir(ROOT)
     # (its guard has to begin before any thread)
     rtlib.guarded()
+    rt.share_work(False)
     found = {crate.name: crate for crate in rtlib.crates_below(str(ROOT))}
     for crate in found.values():
         crate.out = sys.stderr
@@ -42,7 +43,9 @@ def edits_of(crate):
 
 
 def build_below(crate):
-    """Builds the libraries that a crate stands on, over what is kept of them."""
+    """Builds the libraries that a crate stands on, over what is kept of them, here or in another copy of the repository;
+    likewise takes up what is kept of the crate."""
+    rt.adopt(crate, is_alone=False)
     for below in crate.below():
         if below.build_rlib(JOBS, anew=False):
             sys.exit(f"edits: the library {below.name} did not build, so nothing above it was tried")
