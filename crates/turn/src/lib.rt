@@ -7,6 +7,18 @@
 //! multiprocessors", ACM TOCS 1991, section 2.2) and the array lock (Anderson, "The performance of spin lock
 //! alternatives for shared-memory multiprocessors", IEEE TPDS 1990).
 //!
+//! **The steps.** Each is one atomic operation on a word; all words are 0 at the start. In the array lock the own word of
+//! number m is word m modulo the chairs.
+//!
+//! | Step | Ticket lock (words `next`, `serving`) | Array lock (word `next`, and one for each chair) |
+//! |---|---|---|
+//! | draw | `fetch_add` on `next`: the caller's number | the same |
+//! | look | a load of `serving` that finds another number | a load of the own word that finds another number |
+//! | enter | a load of `serving` that finds the own number | a load of the own word that finds the own number |
+//! | leave | `fetch_add` on `serving`, after the book was put back | a store of the next number into its own word, likewise |
+//!
+//! Who waits looks again and again, and sleeps between two looks after a while. Who leaves wakes the next one.
+//!
 //! **What contracts see** (`specs/Chairs`): of a chair its `lock`, `place`, `view`, `entries`, and whether it `IsOutside`
 //! or `IsInside` with the book that it took; of a lock its `id`, `size` and `ENTRIES`. Lists are read by `slice_get`.
 //!
