@@ -86,8 +86,8 @@ impl Barrier {
         self.gathered.join(time);
         let full = all_here(self.stages.as_slice());
         if full {
-            let fresh = VTime::zero(*self.stages.allocator(), self.stages.len());
-            self.last = mem::replace(&mut self.gathered, fresh);
+            mem::swap(&mut self.last, &mut self.gathered);
+            self.gathered.clear();
             self.stages.as_mut_slice().fill(Stage::Free);
         }
         full

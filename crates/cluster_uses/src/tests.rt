@@ -1,12 +1,13 @@
 //! Tests of processors on threads of their own. What calls answer on one thread is in the lists of tests/calls, at the
 //! repository's top.
 ghost use Rattle.std.specs.Prelude.{◌≡◌, ◌≤◌, ◌^◌, length};
-ghost use Rattle.journal.specs.Prelude.{IsTable};
+ghost use Rattle.reach_table.specs.Prelude.{IsTable};
 
 use crate::{Answer, Call, Crew, Task, run};
 use book::Refused;
 use cluster::{BookLock, BookTurn, TicketBookLock};
-use journal::{Event, Journal, Kind, ReachTable};
+use journal::{Event, Journal, Kind};
+use reach_table::ReachTable;
 use std::process::Abort;
 use std::sync::Wait;
 use std::test::Fail;

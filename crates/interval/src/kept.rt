@@ -42,13 +42,7 @@ impl Interval {
     pub fn record(&self, page: usize) -> Option<&Record>
         ensures { option_copied result ≡ find (λ r. r.page == page) self.now.records }
     {
-        for record in self.shared_records() {
-            let record: &Record = record;
-            if record.page() == page {
-                return Some(record);
-            }
-        }
-        None
+        record_in(self.shared_records(), page)
     }
 
     /// Counts its records, by pages: entry i of the counts grows by one where there is a record of page
@@ -97,6 +91,19 @@ impl Interval {
     {
         &self.records
     }
+}
+
+/// The first of these records that is of the page.
+fn record_in(records: &[Arc<Record>], page: usize) -> Option<&Record>
+    ensures { option_copied result ≡ find (λ r. r.page == page) (map arc_value records.now) }
+{
+    for record in records {
+        let record: &Record = record;
+        if record.page() == page {
+            return Some(record);
+        }
+    }
+    None
 }
 
 /// A closed interval with its closing number.

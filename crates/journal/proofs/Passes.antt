@@ -7,4 +7,3 @@ pub mod Entries
 pub mod FirstClocks
 pub mod ClockSteps
 pub mod RaceSteps
-pub mod Reaching

@@ -27,7 +27,6 @@ pub mod Numbered
 pub mod Pages
 pub mod Dirty
 pub mod Counted
-pub mod Reach
 pub mod Base
 pub mod OrderFrom
 pub mod WellFormedFrom

@@ -21,7 +21,6 @@ pub use Rattle.journal.specs.Accesses.{epoch_entry, loads_entry}
 pub use Rattle.journal.specs.Groups.{since}
 pub use Rattle.journal.specs.Missing.{InClosingOrder}
 pub use Rattle.journal.specs.Numbered.{kept_entry}
-pub use Rattle.journal.specs.Reach.{AreRows, IsRow, IsTable}
 pub use Rattle.journal.specs.Base.{no_base}
 pub use Rattle.journal.specs.LoadsFrom.{ExplainedFrom}
 pub use Rattle.journal.specs.RacesFrom.{IsFirstRaceFrom, RaceFreeFrom}

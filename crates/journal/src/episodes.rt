@@ -24,8 +24,9 @@ fn all_reach(counts: &[u32], number: u32) -> bool
     counts.iter().all(|count| *count >= number)
 }
 
-/// Counts the event where it is an arrival, and says whether it is the last one of its episode: whether
+/// Counts the event if it is an arrival, and says whether it is the last one of its episode: whether
 /// every processor has arrived as often as the one that arrives.
+#[inline]
 fn ends_episode(arrivals: &mut [u32; 16], processors: usize, event: Event) -> bool
     requires few { processors ≤ most_processors }
     requires processor { event.processor < processors }
@@ -55,7 +56,8 @@ impl Episodes {
         }
     }
 
-    /// Takes note of the event at this place, the next one. It takes no memory.
+    /// Takes note of the event at this place, the next one.
+    #[inline]
     pub(crate) fn note(&mut self, processors: usize, events: &[Event], place: usize)
         requires place { place < length events.now }
         requires few { length events.now ≤ most_held }
@@ -69,7 +71,7 @@ impl Episodes {
         }
     }
 
-    /// Those of these events. It takes no memory.
+    /// Those of these events.
     pub(crate) fn of(processors: usize, events: &[Event]) -> Episodes
         requires few { length events.now ≤ most_held }
         requires few_processors { processors ≤ most_processors }

@@ -14,7 +14,7 @@ use crate::kept::Kept;
 use crate::limits::MOST_CUT;
 use crate::race::first_race_of;
 use crate::replay::replay_of;
-use crate::traffic::{Traffic, traffic_of};
+use crate::traffic::{Traffic, traffic_after};
 use std::alloc::{AllocError, Global};
 use std::marker::Model;
 
@@ -266,13 +266,7 @@ impl Journal {
         ensures records { result.records ≡ self.now.base.spent.records + records self.now.events }
         ensures words { result.words ≡ self.now.base.spent.words + words self.now.events }
     {
-        let spent = self.kept.spent;
-        let left = traffic_of(self.events());
-        Traffic {
-            messages: spent.messages + left.messages,
-            records: spent.records + left.records,
-            words: spent.words + left.words,
-        }
+        traffic_after(self.kept.spent, self.events())
     }
 
     /// How many events a cut takes: None where no episode is complete. It takes no memory.

@@ -1,6 +1,6 @@
 //! What kinds of events do.
 ghost use Rattle.std.specs.Prelude.{◌≡◌, is_some};
-ghost use Rattle.journal.specs.Prelude.{address_of, is_closing, is_arrive, is_depart};
+ghost use Rattle.journal.specs.Prelude.{address_of, is_closing, is_arrive};
 
 use crate::event::Kind;
 
@@ -30,16 +30,6 @@ pub(crate) fn arrives(kind: Kind) -> bool
 {
     match kind {
         Kind::Arrive => true,
-        _ => false,
-    }
-}
-
-/// Whether this is a departure.
-pub(crate) fn departs(kind: Kind) -> bool
-    ensures { result ≡ is_depart kind }
-{
-    match kind {
-        Kind::Depart => true,
         _ => false,
     }
 }

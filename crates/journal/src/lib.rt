@@ -7,8 +7,7 @@
 //!
 //! **What is proved.** `replay`, `first_race` and `traffic` answer exactly what Flat, Races and Traffic
 //! define, and up to its first race an explained journal replays. Lemmas for the crates above lie in
-//! proofs/, a folder a topic. `ReachTable` is the slow program by the definition. `Clocks` has the timestamps of a
-//! journal that is taken an event at a time (`AreClocks`).
+//! proofs/, a folder a topic. `Clocks` has the timestamps of a journal that is taken an event at a time (`AreClocks`).
 //!
 //! **What is only tested** (in `journal_tests`): that memory isn't refused needlessly, and that a journal of 2^20 events is
 //! checked in a test's time.
@@ -26,7 +25,6 @@ mod laws;
 mod limits;
 mod numbered;
 mod race;
-mod reach_table;
 mod replay;
 mod traffic;
 
@@ -40,5 +38,4 @@ pub use laws::{
 };
 pub use limits::{MOST_CUT, MOST_EVENTS, MOST_HELD, MOST_IN_BLOCK, MOST_PROCESSORS};
 pub use race::first_race_of;
-pub use reach_table::ReachTable;
 pub use traffic::{Traffic, traffic_of};

@@ -1,6 +1,6 @@
 //! What a journal's events cost in messages, records and words.
-ghost use Rattle.std.specs.Prelude.{◌≡◌, ◌^◌, ◌<◌, ◌≤◌, length};
-ghost use Rattle.lists.specs.Prelude.{most_held};
+ghost use Rattle.std.specs.Prelude.{◌≡◌, ◌+◌, ◌^◌, ◌<◌, ◌≤◌, length};
+ghost use Rattle.lists.specs.Prelude.{most_cut, most_held};
 ghost use Rattle.journal.specs.Prelude.{AreCosts, messages, records, words, messages_of, records_of, words_of};
 
 use crate::event::{Event, Kind};
@@ -40,6 +40,22 @@ pub(crate) fn cost_of(kind: Kind) -> Traffic
             records: 0,
             words: 0,
         },
+    }
+}
+
+/// The traffic of the events cut off and of these, which are left.
+pub(crate) fn traffic_after(spent: Traffic, events: &[Event]) -> Traffic
+    requires few { length events.now ≤ most_held }
+    requires spent { AreCosts most_cut spent }
+    ensures messages { result.messages ≡ spent.messages + messages events.now }
+    ensures records { result.records ≡ spent.records + records events.now }
+    ensures words { result.words ≡ spent.words + words events.now }
+{
+    let left = traffic_of(events);
+    Traffic {
+        messages: spent.messages + left.messages,
+        records: spent.records + left.records,
+        words: spent.words + left.words,
     }
 }
 

@@ -4,8 +4,8 @@ ghost use Rattle.journal.specs.Prelude.{AddressInRange};
 
 mod reach;
 
-use journal::{Event, Journal, Kind, MOST_HELD, MOST_PROCESSORS};
-use std::alloc::Global;
+use journal::{CutFault, Event, Journal, Kind, MOST_HELD, MOST_PROCESSORS};
+use std::alloc::{AllocError, Global};
 use std::process::Abort;
 use std::test::Fail;
 
@@ -105,11 +105,9 @@ fn copies_with_room(rt: HostRuntime) -> Result<(), Fail> {
     Ok(())
 }
 
-/// A journal of 2^20 events of eight processors under locks is checked within a test's time, and copied
-/// whole.
-#[test]
-fn long_journal(rt: HostRuntime) -> Result<(), Fail> {
-    let mut events = Vec::new(rt.alloc());
+/// The events, 2^20 of them, of eight processors under locks, without a race.
+fn long_run(alloc: Global) -> Result<Vec<Event>, AllocError> {
+    let mut events = Vec::new(alloc);
     for round in 0..131072usize {
         let processor = round % 8;
         let lock = round / 8 % 32;
@@ -125,11 +123,41 @@ fn long_journal(rt: HostRuntime) -> Result<(), Fail> {
             by(processor, Kind::Release(lock)),
         ])?;
     }
+    Ok(events)
+}
+
+/// A journal of 2^20 events is checked within a test's time, and copied whole.
+#[test]
+fn long_journal(rt: HostRuntime) -> Result<(), Fail> {
+    let events = long_run(rt.alloc())?;
     let journal = journal_of(&rt, rt.alloc(), 8, 4096, &events)?;
     assert_eq!(rt; journal.len(), 1048576);
     assert_eq!(rt; journal.first_race()?, None);
     let copied = journal.copy_with_room(4096)?;
     assert_eq!(rt; copied.len(), 1048576);
     assert_eq!(rt; copied.at(1048575).copied(), Some(by(7, Kind::Release(31))));
+    Ok(())
+}
+
+/// Asks for a hundred thousand cuts, each of which is refused with this fault.
+fn refuses<R: Abort>(rt: &R, journal: &mut Journal, fault: CutFault) {
+    for _ in 0..100000u32 {
+        assert!(rt; journal.cut() == Err(fault));
+    }
+}
+
+/// A long journal is not gone through for each cut that is refused: before an episode is complete, and once its race is
+/// known.
+#[test]
+fn refused_cuts(rt: HostRuntime) -> Result<(), Fail> {
+    let mut events = long_run(rt.alloc())?;
+    let mut journal = journal_of(&rt, rt.alloc(), 8, 4096, &events)?;
+    refuses(&rt, &mut journal, CutFault::NoEpisode);
+    events.extend_from_slice(&[by(0, Kind::Store(0, 1)), by(1, Kind::Store(0, 2))])?;
+    for processor in 0..8 {
+        events.push(by(processor, Kind::Arrive))?;
+    }
+    let mut journal = journal_of(&rt, rt.alloc(), 8, 4096, &events)?;
+    refuses(&rt, &mut journal, CutFault::Racy(1048576, 1048577));
     Ok(())
 }

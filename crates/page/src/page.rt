@@ -79,8 +79,7 @@ impl Page {
         ensures dirty { self.new.dirty ≡ slice_set self.old.dirty offset true }
         ensures access { self.new.access ≡ self.old.access }
     {
-        self.words[offset] = value;
-        self.dirty |= 1 << offset;
+        write(&mut self.words, &mut self.dirty, offset, value);
     }
 
     /// All words.
@@ -136,9 +135,7 @@ impl Page {
         ensures dirty { self.new.dirty ≡ self.old.dirty }
         ensures access { self.new.access ≡ self.old.access }
     {
-        for (offset, value) in changes.words() {
-            self.words[*offset] = *value;
-        }
+        overwrite(&mut self.words, changes.words());
     }
 
     /// The record of the dirty words, as words of page `page`: `None` where no word is dirty.
@@ -157,6 +154,30 @@ impl Page {
         }
         let words = dirty_words(*self.words.allocator(), &self.words, self.dirty)?;
         Ok(Some(Record::new(page, words)))
+    }
+}
+
+/// Writes the word at this offset, and sets its bit.
+fn write(words: &mut [u32], dirty: &mut u64, offset: usize, value: u32)
+    requires in_range { offset < length words.old }
+    requires few { length words.old ≤ 64 }
+    ensures words { words.new ≡ slice_set words.old offset value }
+    ensures dirty { marks_of (length words.old) dirty.new
+        ≡ slice_set (marks_of (length words.old) dirty.old) offset true }
+    ensures below { IsBelow (length words.old) dirty.old → IsBelow (length words.old) dirty.new }
+{
+    words[offset] = value;
+    *dirty |= 1 << offset;
+}
+
+/// Writes a record's words.
+fn overwrite(words: &mut [u32], changes: &[(usize, u32)])
+    requires in_range { FitsIn (length words.old) changes.now }
+    requires few { length words.old ≤ 64 }
+    ensures { words.new ≡ record_applied words.old changes.now }
+{
+    for (offset, value) in changes {
+        words[*offset] = *value;
     }
 }
 

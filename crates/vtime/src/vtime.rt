@@ -69,7 +69,7 @@ impl VTime {
         requires fits { slice_index self.old q < 2 ^ 64 - 1 }
         ensures { self.new ≡ tick self.old q }
     {
-        self.entries[q] += 1;
+        tick_entry(self.entries.as_mut_slice(), q);
     }
 
     /// Takes over what `other` has performed: each entry becomes the greater of the two.
@@ -80,6 +80,13 @@ impl VTime {
         ensures same_length { length self.new ≡ length self.old }
     {
         join_entries(self.entries.as_mut_slice(), other.entries.as_slice());
+    }
+
+    /// Makes it that of the start again, of which no interval has been performed.
+    pub fn clear(&mut self)
+        ensures { self.new ≡ replicate (length self.old) 0 }
+    {
+        self.entries.as_mut_slice().fill(0);
     }
 
     /// The same timestamp once more.
@@ -116,6 +123,15 @@ impl PartialEq for VTime {
 
 impl Eq for VTime {
     ghost laws = { nat_list_eq_equiv };
+}
+
+/// Adds one to entry `q`.
+fn tick_entry(entries: &mut [u64], q: usize)
+    requires in_range { q < length entries.old }
+    requires fits { slice_index entries.old q < 2 ^ 64 - 1 }
+    ensures { entries.new ≡ tick entries.old q }
+{
+    entries[q] += 1;
 }
 
 /// Raises each entry of `mine` to that of `theirs` where that is greater.

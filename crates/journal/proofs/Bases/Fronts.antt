@@ -1,5 +1,5 @@
 -- A journal's order and its first race, read from a base, are those of every journal that begins with it.
-use Rattle.std.proofs.Common.{◌≡◌, ℕ, ◌+◌, ◌<◌, ◌≤◌, inl, inr, List, ◌++◌, length, take, drop, subst, sym, ap, ◌∙◌, take-take, take-append-drop, length-append, lt_trans, arith}
+use Rattle.std.proofs.Common.{ℕ, ◌+◌, ◌<◌, ◌≤◌, inl, inr, List, ◌++◌, length, take, drop, subst, sym, ap, ◌∙◌, take-take, take-append-drop, length-append, lt_trans, arith}
 use Rattle.std.proofs.lemmas.Bool.{cases_lt}
 use Rattle.std.proofs.lemmas.List.{take-append-le}
 use Rattle.journal.specs.declared.event.Event.{Event}

@@ -1,5 +1,5 @@
 -- What a journal's memory holds, as the journal goes on and as it is cut.
-use Rattle.std.proofs.Common.{◌≡◌, ◌≢◌, ℕ, ◌+◌, ◌-◌, ◌<◌, ◌≤◌, ◌⊎◌, inl, inr, List, [], ◌∷◌, ◌++◌, length, take, take_all, drop, length-drop, subst, sym, ap, ◌∙◌, arith}
+use Rattle.std.proofs.Common.{◌≡◌, ◌≢◌, ℕ, ◌+◌, ◌-◌, ◌<◌, ◌≤◌, ◌⊎◌, inl, inr, List, [], ◌∷◌, ◌++◌, length, take, take_all, drop, length-append, length-drop, subst, sym, ap, ◌∙◌, arith}
 use Rattle.std.proofs.Math.Seq.{take-append_seam, take-length, drop-append_seam}
 use Rattle.std.proofs.lemmas.List.{take-append-le, length-take, drop-drop}
 use Rattle.journal.specs.declared.event.Event.{Event}
@@ -60,6 +60,12 @@ behind_whole n xs = ap (λ m. take m (drop n xs)) (sym (length-drop n xs)) ∙ t
 -- the events up to the last one are all
 pub up_to_last : (xs : List Event) → 0 < length xs → take (length xs - 1 + 1) xs ≡ xs
 up_to_last xs some = take_all (length xs - 1 + 1) xs (omega arith)
+
+-- before the last one stands what stood there before it came
+pub before_last : (xs : List Event) (e : Event) → take (length (xs ++ e ∷ []) - 1) (xs ++ e ∷ []) ≡ xs
+before_last xs e =
+    ap (λ n. take n (xs ++ e ∷ [])) (let long = length-append xs (e ∷ []) in omega arith)
+    ∙ take-append_seam xs (e ∷ [])
 
 -- what stands behind the opening is in range too
 pub processors_behind : (n m : ℕ) (xs : List Event) → ProcessorsInRange n xs → ProcessorsInRange n (drop m xs)

@@ -2,7 +2,8 @@
 ghost use Rattle.std.specs.Prelude.{◌≡◌, ◌<◌, ◌≤◌, ◌+◌, ◌^◌, vec_len};
 
 use crate::tests::{by, journal_of};
-use journal::{Event, Kind, ReachTable};
+use journal::{Event, Kind};
+use reach_table::ReachTable;
 use std::alloc::{AllocError, Global};
 use std::process::Abort;
 use std::test::Fail;

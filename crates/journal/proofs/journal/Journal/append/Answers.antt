@@ -8,8 +8,32 @@ use Rattle.journal.specs.Opening.{IsOpening}
 use Rattle.journal.specs.Kept.{base_of}
 use Rattle.journal.specs.Episodes.{AreEpisodes, IsRaceOfPart}
 use Rattle.journal.proofs.Bases.Fronts.{part_race_longer}
-use Rattle.journal.proofs.Journals.Held.{within_length, processors_push, addresses_push, opening_longer, behind_whole, up_to_last}
+use Rattle.journal.proofs.Journals.Held.{within_length, processors_push, addresses_push, processors_part, opening_longer, behind_whole, up_to_last, before_last}
 use Rattle.journal.proofs.journal.Journal.append.Goals as goal
+
+pub note-requires-clause-so_far : goal.note-requires-clause-so_far
+note-requires-clause-so_far c =
+    let j = c.self.inside in
+    let le = within_length j.processors j.events.items c.self.invariant.opening in
+    let events : List Event = drop j.processors j.events.items in
+    let now : take (length c.deref.result.now - j.processors) (drop j.processors c.deref.result.now)
+    ≡ events ++ c.args.event ∷ [] =
+    ap (λ (xs : List Event). take (length xs - j.processors) (drop j.processors xs))
+    (c.deref.ensures.value ∙ c.in-Ok.ensures.items)
+    ∙ behind_whole j.processors (j.events.items ++ c.args.event ∷ [])
+    ∙ drop-append-le j.processors j.events.items (c.args.event ∷ []) le in
+    subst (λ (xs : List Event). AreEpisodes j.processors xs j.episodes)
+    (sym (ap (λ (xs : List Event). take (length xs - 1) xs) now ∙ before_last events c.args.event))
+    c.self.invariant.episodes
+
+pub note-requires-clause-processors : goal.note-requires-clause-processors
+note-requires-clause-processors c =
+    let j = c.self.inside in
+    let all =
+    processors_push j.processors j.events.items c.args.event c.self.invariant.by_processors
+    (subst (λ (l : Log). c.args.event.processor < l.processors) (sym c.self.view_is) c.requires.processor) in
+    processors_part j.processors j.processors (length c.deref.result.now - j.processors) c.deref.result.now
+    (subst (ProcessorsInRange j.processors) (sym (c.deref.ensures.value ∙ c.in-Ok.ensures.items)) all)
 
 pub invariant_of-self : goal.invariant_of-self
 invariant_of-self c =

@@ -1,15 +1,16 @@
-use Rattle.std.proofs.Common.{ℕ, List, length, get_or, slice_get, ap, sym, ◌∙◌, arith}
-use Rattle.std.proofs.lemmas.Option.{slice_get-get_or}
+use Rattle.std.proofs.Common.{ℕ, List, length, ap, subst, arith}
+use Rattle.lists.specs.Places.{Has}
 use Rattle.page.specs.Contents.{Contents}
 use Rattle.page.proofs.page.Page.apply.Goals as goal
 
-pub index_mut-requires : goal.index_mut-requires
-index_mut-requires c =
-    let xs = c.words-offset-items.result.now in
-    let k = c.loop-offset.offset-index in
-    let at = slice_get-get_or xs k (0, 0) (omega arith) in
-    let fits =
-    c.requires.in_range (get_or xs k (0, 0))
-    (k, ap (λ (ws : List (ℕ × ℕ)). slice_get ws k) (sym c.words-offset-items.ensures.words) ∙ at) in
+pub overwrite-requires-clause-in_range : goal.overwrite-requires-clause-in_range
+overwrite-requires-clause-in_range c x has =
     let e = ap (λ (q : Contents). length q.words) c.self.view_is in
-    omega (arith, c.loop-offset.invariant.long, c.loop-offset.self-inside.words.small)
+    let here = ap (λ (ws : List ℕ). length ws) c.deref_mut.ensures.value in
+    let fits = c.requires.in_range x (subst (λ (ws : List (ℕ × ℕ)). Has ws x) c.words.ensures.words has) in
+    omega arith
+
+pub overwrite-requires-clause-few : goal.overwrite-requires-clause-few
+overwrite-requires-clause-few c =
+    let here = ap (λ (ws : List ℕ). length ws) c.deref_mut.ensures.value in
+    omega (arith, c.self.invariant.0)

@@ -1,6 +1,6 @@
 use Rattle.std.proofs.Common.{◌≡◌, vec_len}
-use Rattle.journal.specs.Reach.{AreRows}
-use Rattle.journal.proofs.reach_table.ReachTable.new.Given as goal
+use Rattle.reach_table.specs.Reach.{AreRows}
+use Rattle.reach_table.proofs.reach_table.ReachTable.new.Given as goal
 
 abbrev pub invariant-loop-place : goal.invariant-loop-place
 invariant-loop-place l = record {

@@ -2,9 +2,9 @@
 use Rattle.std.proofs.Common.{◌≡◌, ◌==◌, find, map, drop}
 use Rattle.std.specs.Arc.{arc_value}
 use Rattle.page.specs.Changes.{Changes}
-use Rattle.interval.proofs.kept.Interval.record.Given as goal
+use Rattle.interval.proofs.kept.record_in.Given as goal
 
 abbrev pub invariant-loop-record : goal.invariant-loop-record
 invariant-loop-record l =
-    find (λ (r : Changes). r.page == l.page) (map arc_value (drop l.record-index l.record-items))
-    ≡ find (λ (r : Changes). r.page == l.page) l.self.records
+    find (λ (r : Changes). r.page == l.page) (map arc_value (drop l.record-index l.records))
+    ≡ find (λ (r : Changes). r.page == l.page) (map arc_value l.records)

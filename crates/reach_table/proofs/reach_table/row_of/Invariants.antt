@@ -1,6 +1,6 @@
 use Rattle.std.proofs.Common.{◌≡◌, ◌↔◌, ℕ, ◌<◌, IsTrue, false, length, slice_index_or, vec_len}
-use Rattle.journal.proofs.Passes.Reaching.{Reaches}
-use Rattle.journal.proofs.reach_table.row_of.Given as goal
+use Rattle.reach_table.proofs.Reaching.{Reaches}
+use Rattle.reach_table.proofs.reach_table.row_of.Given as goal
 
 abbrev pub invariant-loop-source : goal.invariant-loop-source
 invariant-loop-source l = record {

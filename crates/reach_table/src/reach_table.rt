@@ -1,14 +1,44 @@
-//! Happens-before and races straight from their definitions: small, plain and slow. What faster
-//! programs answer is compared with it, of whole journals too.
+//! Tables of what happens before what: small, plain and slow.
 ghost use Rattle.std.specs.Prelude.{◌||◌, ◌==◌, List, false, slice_index_or, ◌≡◌, ◌↔◌, ℕ, ◌+◌, ◌<◌, ◌≤◌, IsTrue};
-ghost use Rattle.std.specs.Prelude.{IfOk, Some, true, length, take, slice_get, vec_len};
+ghost use Rattle.std.specs.Prelude.{IfOk, Some, true, length, take, slice_get, vec_len, ◌≢◌};
 ghost use Rattle.journal.specs.Prelude.{is_arrive, is_depart, count_of, LetsThrough, Edge, HappensBefore, Conflict};
-ghost use Rattle.journal.specs.Prelude.{Race, IsRow, AreRows, IsTable};
+ghost use Rattle.journal.specs.Prelude.{Race};
+ghost use Rattle.reach_table.specs.Prelude.{IsRow, AreRows, IsTable};
 
-use crate::event::{Event, Kind};
-use crate::kinds::{arrives, departs};
-use crate::race::is_conflict;
+use journal::{Event, Kind};
 use std::alloc::{AllocError, Global};
+
+/// Whether this is an arrival.
+fn arrives(kind: Kind) -> bool
+    ensures { result ≡ is_arrive kind }
+{
+    match kind {
+        Kind::Arrive => true,
+        _ => false,
+    }
+}
+
+/// Whether this is a departure.
+fn departs(kind: Kind) -> bool
+    ensures { result ≡ is_depart kind }
+{
+    match kind {
+        Kind::Depart => true,
+        _ => false,
+    }
+}
+
+/// Whether the events are by two processors and conflict: one address, and a store at least on one side.
+fn is_conflict(first: Event, second: Event) -> bool
+    ensures { IsTrue result ↔ ((first.processor ≢ second.processor) × Conflict first second) }
+{
+    let conflicts = match (first.kind, second.kind) {
+        (Kind::Load(a, _), Kind::Store(b, _)) => a == b,
+        (Kind::Store(a, _), Kind::Load(b, _) | Kind::Store(b, _)) => a == b,
+        _ => false,
+    };
+    conflicts && first.processor != second.processor
+}
 
 /// Whether an event of the first kind lets one of the second through: the release of a lock an acquire
 /// of it, the set of a flag an await of it.

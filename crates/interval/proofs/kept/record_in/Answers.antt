@@ -4,15 +4,12 @@ use Rattle.std.proofs.lemmas.Bool.{cond-true, cond-false, eq-eqb, ne_eqb}
 use Rattle.std.proofs.lemmas.List.{drop_all}
 use Rattle.page.specs.Changes.{Changes}
 use Rattle.interval.proofs.Records.Steps.{find_more}
-use Rattle.interval.proofs.kept.Interval.record.Goals as goal
-
-pub loop-record-init : goal.loop-record-init
-loop-record-init c = ap (find (λ (r : Changes). r.page == c.args.page)) c.shared_records-record-items.ensures
+use Rattle.interval.proofs.kept.record_in.Goals as goal
 
 pub returns-then-page : goal.returns-then-page
 returns-then-page c =
     let step =
-    find_more arc_value (λ (r : Changes). r.page == c.args.page) c.shared_records-record-items.result.now
+    find_more arc_value (λ (r : Changes). r.page == c.args.page) c.args.records.now
     c.loop-record.record-index c.record-item.result c.loop-record-test.true c.record-item.is in
     let same = c.deref-record.ensures in
     let page : (arc_value c.record-item.result).page ≡ c.args.page =
@@ -22,7 +19,7 @@ returns-then-page c =
 pub loop-record-preserved : goal.loop-record-preserved
 loop-record-preserved c =
     let step =
-    find_more arc_value (λ (r : Changes). r.page == c.args.page) c.shared_records-record-items.result.now
+    find_more arc_value (λ (r : Changes). r.page == c.args.page) c.args.records.now
     c.loop-record.record-index c.record-item.result c.loop-record-test.true c.record-item.is in
     let same = c.deref-record.ensures in
     let other : (arc_value c.record-item.result).page ≡ c.args.page → ⊥ =
@@ -32,5 +29,5 @@ loop-record-preserved c =
 pub returns : goal.returns
 returns c =
     let none =
-    drop_all c.loop-record.record-index c.shared_records-record-items.result.now c.loop-record-test.false in
+    drop_all c.loop-record.record-index c.args.records.now c.loop-record-test.false in
     ap (λ ys. find (λ (r : Changes). r.page == c.args.page) (map arc_value ys)) (sym none) ∙ c.loop-record.invariant

@@ -1,5 +1,5 @@
 use Rattle.std.proofs.Common.{◌≡◌, ℕ, ◌<◌, ◌≤◌, ◌||◌, ◌==◌, false, slice_index_or}
-use Rattle.journal.proofs.reach_table.mark_source.Given as goal
+use Rattle.reach_table.proofs.reach_table.mark_source.Given as goal
 
 abbrev pub invariant-loop-i : goal.invariant-loop-i
 invariant-loop-i l = record {

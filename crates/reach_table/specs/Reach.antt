@@ -2,7 +2,7 @@
 use Rattle.std.specs.Prelude.{ℕ, ◌≡◌, ◌↔◌, Bool, false, IsTrue, List, Some, length, slice_get, slice_index_or, vec_len}
 use Rattle.std.specs.Global.{Vec}
 use Rattle.journal.specs.declared.event.Event.{Event}
-use Rattle.journal.specs.declared.reach_table.ReachTable.{ReachTable}
+use Rattle.reach_table.specs.declared.reach_table.ReachTable.{ReachTable}
 use Rattle.journal.specs.Order.{HappensBefore}
 
 -- of each place, the row has a mark exactly where it happens before place k

@@ -2,7 +2,7 @@ use Rattle.std.proofs.Common.{◌≡◌, ◌∙◌, Some, ap, subst, sym, slice_
 use Rattle.std.proofs.lemmas.Bool.{ltb-true}
 use Rattle.std.proofs.lemmas.Option.{slice_get-get_or}
 use Rattle.journal.proofs.Order.HappensBefore.{begins_within, ends_within}
-use Rattle.journal.proofs.reach_table.ReachTable.happens_before.Goals as goal
+use Rattle.reach_table.proofs.reach_table.ReachTable.happens_before.Goals as goal
 
 pub returns-else-first-len : goal.returns-else-first-len
 returns-else-first-len c = λ j table.

@@ -3,9 +3,9 @@ use Rattle.std.proofs.lemmas.List.{with_items_is}
 use Rattle.std.proofs.lemmas.Option.{slice_get-get_or}
 use Rattle.journal.specs.Order.{HappensBefore}
 use Rattle.journal.proofs.Order.HappensBefore.{begins_within}
-use Rattle.journal.proofs.Passes.Reaching.{Reaches, reaches_past, reaches_next, reaches_all, marked_within}
-use Rattle.journal.proofs.reach_table.row_of.Goals as goal
-use Rattle.journal.proofs.reach_table.row_of.Goals.{then-is_edge, else-is_edge}
+use Rattle.reach_table.proofs.Reaching.{Reaches, reaches_past, reaches_next, reaches_all, marked_within}
+use Rattle.reach_table.proofs.reach_table.row_of.Goals as goal
+use Rattle.reach_table.proofs.reach_table.row_of.Goals.{then-is_edge, else-is_edge}
 
 pub loop-source-preserved : goal.loop-source-preserved
 loop-source-preserved c =
