@@ -218,7 +218,7 @@ pub none_arrival : {b now : State} → b ≡ now → (p q : ℕ) (ready : Bool) 
 none_arrival {b} {now} same p q ready is_ready not found none = (
   (λ has. absurd (has-nil q (subst (λ (xs : List ℕ). Has xs q) none has))),
   (λ named. absurd (true≢false (sym (is_ready.1
-  (subst (λ (c : State). has_come c.flags c.transit p Depart ≡ true) (sym same) named.0)) ∙ not))),
+      (subst (λ (c : State). has_come c.flags c.transit p Depart ≡ true) (sym same) named.0)) ∙ not))),
 )
 
 -- and after a set
