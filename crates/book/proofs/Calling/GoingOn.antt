@@ -1,5 +1,5 @@
 -- Whom an event lets go on, read off the book.
-use Rattle.std.proofs.Common.{◌≡◌, ℕ, ◌<◌, IfSome, IsSome, inl, inr, ◌↔◌, EachIndex, IsTrue, List, [], length, map, Bool, true, false, Option, Some, None, slice_get, slice_index_or, subst, sym, refl, ap, ◌∙◌, arith}
+use Rattle.std.proofs.Common.{◌≡◌, ℕ, ◌<◌, IfSome, IsSome, inl, inr, ◌↔◌, EachIndex, IsTrue, List, [], length, map, Bool, true, false, Option, Some, None, slice_get, subst, sym, refl, ap, ◌∙◌, arith}
 use Rattle.std.proofs.lemmas.Bool.{true≢false}
 use Rattle.std.proofs.lemmas.Option.{none-some, slice_get-map, same_Some}
 use Rattle.std.proofs.lemmas.List.{length-map}

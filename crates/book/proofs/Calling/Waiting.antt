@@ -1,5 +1,5 @@
 -- What lists of those who wait tell.
-use Rattle.std.proofs.Common.{◌≡◌, ◌≢◌, ℕ, zero, suc, ◌+◌, ◌<◌, ◌⊎◌, inl, inr, ◌↔◌, EachIndex, List, [], ◌∷◌, length, map, Bool, true, false, Option, Some, None, IsTrue, slice_get, slice_set, slice_index_or, subst, sym, refl, ap, ◌∙◌, below_more, arith}
+use Rattle.std.proofs.Common.{◌≡◌, ℕ, zero, suc, ◌+◌, ◌<◌, ◌⊎◌, inl, inr, ◌↔◌, EachIndex, List, [], ◌∷◌, length, map, Bool, true, false, Option, Some, None, IsTrue, slice_get, slice_set, slice_index_or, subst, sym, refl, ap, ◌∙◌, arith}
 use Rattle.std.proofs.lemmas.Bool.{cases_eq, true≢false}
 use Rattle.std.proofs.lemmas.Option.{none-some, same_Some, slice_get-get_or, slice_get-map}
 use Rattle.std.specs.Option.{option_map}
@@ -8,7 +8,6 @@ use Rattle.lists.specs.Limits.{most_processors}
 use Rattle.lists.specs.Places.{Has}
 use Rattle.lists.proofs.Joined.{has-nil, has-cons}
 use Rattle.lists.proofs.Sets.{slice_get-set_same, slice_get-set_other}
-use Rattle.journal.specs.declared.event.Kind.{Kind}
 use Rattle.transit.specs.Letters.{Letter}
 use Rattle.book.specs.declared.awaited.Awaited.{Awaited}
 use Rattle.book.specs.declared.awaited.Awaited.TheVariants.{Grant, Departure, Signal}

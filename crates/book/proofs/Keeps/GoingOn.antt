@@ -1,14 +1,13 @@
 -- Whom one more event lets go on.
-use Rattle.std.proofs.Common.{◌≡◌, ◌≢◌, ℕ, ◌+◌, ◌<◌, ◌≤◌, ◌⊎◌, inl, inr, List, [], ◌∷◌, ◌++◌, length, true, false, Bool, cond, Option, Some, None, IsTrue, slice_get, slice_index_or, subst, sym, refl, ap, ◌∙◌, append_assoc, append-nil, arith}
+use Rattle.std.proofs.Common.{◌≡◌, ◌≢◌, ℕ, ◌+◌, ◌<◌, ◌≤◌, ◌⊎◌, inl, inr, List, [], ◌∷◌, ◌++◌, length, true, false, Bool, cond, Option, Some, None, IsTrue, slice_get, subst, sym, refl, ap, ◌∙◌, append_assoc, append-nil, arith}
 use Rattle.std.proofs.lemmas.Bool.{cases_eq, cases_lt, true≢false}
 use Rattle.std.proofs.lemmas.Option.{none-some, same_Some, slice_get_within}
-use Rattle.lists.specs.Limits.{most_processors}
 use Rattle.lists.proofs.Places.{push_cases, push_induction}
 use Rattle.journal.specs.declared.event.Event.{Event}
 use Rattle.journal.specs.declared.event.Kind.{Kind}
-use Rattle.journal.specs.declared.event.Kind.TheVariants.{Ask, Acquire, Release, Arrive, Depart, Set, Watch, Await}
+use Rattle.journal.specs.declared.event.Kind.TheVariants.{Acquire, Release, Arrive, Depart, Set, Watch, Await}
 use Rattle.journal.specs.Sizes.{Sizes}
-use Rattle.journal.specs.Events.{At, count_of, is_arrive, is_depart, is_closing, is_taking}
+use Rattle.journal.specs.Events.{count_of, is_arrive, is_depart, is_closing, is_taking}
 use Rattle.journal.specs.WellFormed.{KindInRange, LastIs, Allowed, MayFollow, WellFormed, Ready}
 use Rattle.journal.specs.Waits.{awaited}
 use Rattle.journal.specs.Deadlocks.{IsDeadlock}
@@ -17,7 +16,7 @@ use Rattle.journal.proofs.Order.Places.{at_longer, at_last}
 use Rattle.journal.proofs.Journals.WellFormed.{each_push, last_cases}
 use Rattle.journal.proofs.Journals.Ready.{waits_for}
 use Rattle.journal.proofs.Journals.Balance.{balanced}
-use Rattle.lockq.specs.Lock.{Lock, lock_at, unheld, line}
+use Rattle.lockq.specs.Lock.{lock_at, unheld, line}
 use Rattle.book.specs.Lines.{IsLock}
 use Rattle.book.specs.Stamps.{IsAwaited}
 use Rattle.book.specs.State.{State}

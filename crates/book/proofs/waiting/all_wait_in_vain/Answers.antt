@@ -1,5 +1,4 @@
-use Rattle.std.proofs.Common.{◌≡◌, Some, ap, ◌∙◌, sym, below_more}
-use Rattle.std.proofs.lemmas.Option.{same_Some}
+use Rattle.std.proofs.Common.{Some, ap, ◌∙◌, sym, below_more}
 use Rattle.book.proofs.Calling.Waiting.{VainAt, read_at, idle_not_vain, come_not_vain}
 use Rattle.book.specs.declared.awaited.Awaited.{Awaited}
 use Rattle.book.proofs.waiting.all_wait_in_vain.Goals as goal

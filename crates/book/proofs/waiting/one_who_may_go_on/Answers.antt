@@ -1,4 +1,4 @@
-use Rattle.std.proofs.Common.{◌≡◌, ◌∙◌, ℕ, List, [], Some, inl, inr, sym, subst, ap}
+use Rattle.std.proofs.Common.{◌∙◌, ℕ, List, Some, inl, inr, sym, subst, ap}
 use Rattle.std.proofs.lemmas.Option.{same_Some}
 use Rattle.lists.specs.Places.{Has}
 use Rattle.lists.proofs.Joined.{has-nil}

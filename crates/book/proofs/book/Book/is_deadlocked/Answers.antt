@@ -4,7 +4,6 @@ use Rattle.book.specs.declared.awaited.Awaited.{Awaited}
 use Rattle.book.specs.declared.awaited.Awaited.TheVariants.{Signal}
 use Rattle.book.specs.Awaiting.{kind_of}
 use Rattle.book.specs.Holding.{state_of}
-use Rattle.book.specs.State.{State}
 use Rattle.book.proofs.Calling.Waiting.{waits_map}
 use Rattle.book.proofs.Calling.GoingOn.{IsWaitingRead, StandsWaiting, stands_waiting, deadlocked}
 use Rattle.book.proofs.book.Book.is_deadlocked.Goals.{After-parts}

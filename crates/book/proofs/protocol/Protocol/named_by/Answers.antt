@@ -1,10 +1,7 @@
-use Rattle.std.proofs.Common.{◌≡◌, ◌∙◌, ◌<◌, ◌↔◌, ℕ, List, Option, Some, None, Bool, true, map, length, slice_get, ap, sym, subst, refl, arith}
-use Rattle.std.specs.Option.{IfSome, option_map}
+use Rattle.std.proofs.Common.{◌≡◌, ◌<◌, ◌↔◌, ℕ, List, Option, map, length, ap, sym, subst}
+use Rattle.std.specs.Option.{option_map}
 use Rattle.lists.specs.Places.{Has}
 use Rattle.journal.specs.declared.event.Kind.{Kind}
-use Rattle.lockq.specs.Lock.{lock_at}
-use Rattle.book.specs.declared.awaited.Awaited.{Awaited}
-use Rattle.book.specs.declared.awaited.Awaited.TheVariants.{Grant, Departure, Signal}
 use Rattle.book.specs.Awaiting.{kind_of}
 use Rattle.book.specs.Holding.{state_of}
 use Rattle.book.specs.State.{State}

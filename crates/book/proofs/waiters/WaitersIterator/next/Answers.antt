@@ -1,4 +1,4 @@
-use Rattle.std.proofs.Common.{◌≡◌, ◌<◌, ◌∙◌, ℕ, suc, List, false, ◌∷◌, length, slice_set, ap, sym, arith}
+use Rattle.std.proofs.Common.{◌≡◌, ◌<◌, ◌∙◌, ℕ, List, false, ◌∷◌, length, slice_set, ap, sym, arith}
 use Rattle.book.specs.Waiters.{places_from}
 use Rattle.book.proofs.Calling.Waiting.{first_place, no_place}
 use Rattle.book.proofs.waiters.WaitersIterator.next.Goals.{In-Some}
