@@ -4,6 +4,7 @@ ghost use Rattle.std.specs.Prelude.{◌≡◌, ◌<◌, ◌≤◌, length};
 
 mod cuts;
 mod rows;
+mod steady;
 mod texts;
 
 use crate::Told;

@@ -2,7 +2,7 @@
 ghost use Rattle.std.specs.Prelude.{◌≡◌, ◌<◌, ◌≤◌, ◌*◌, ◌^◌, ◌++◌, ◌∷◌, [], ◌↔◌, IfErr, IfOk, IfSome, OnOk, OnErr};
 ghost use Rattle.std.specs.Prelude.{IsTrue, Some, None, length, map, count_by, slice_get};
 ghost use Rattle.std.specs.Arc.{arc_value};
-ghost use Rattle.journal.specs.Prelude.{event, did, WasCut, IsCutFault};
+ghost use Rattle.journal.specs.Prelude.{event, did, WasCut, IsCutFault, IsDeadlock};
 ghost use Rattle.journal.specs.declared.event.Kind.{Kind as AKind};
 ghost use Rattle.interval.specs.Prelude.{HasRisingPages, is_of_page};
 ghost use Rattle.book.specs.Prelude.{IsInner, MayHandIn, MayGive, AreOpenRecords, brought, HoldsSome};
@@ -334,6 +334,13 @@ impl Told {
         } else {
             None
         }
+    }
+
+    /// Whether the history is a deadlock.
+    pub fn is_deadlocked(&self) -> bool
+        ensures { IsTrue result ↔ IsDeadlock self.now.sizes self.now.history }
+    {
+        self.book.is_deadlocked()
     }
 
     /// The number of the first kept interval of processor `q`; None where that is no processor.
