@@ -8,3 +8,5 @@ pub mod Releases
 pub mod Arrivals
 pub mod Posting
 pub mod Cutting
+pub mod Waiting
+pub mod GoingOn

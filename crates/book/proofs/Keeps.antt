@@ -8,3 +8,4 @@ pub mod Arrivals
 pub mod Takes
 pub mod Starting
 pub mod Whole
+pub mod GoingOn

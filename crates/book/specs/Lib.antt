@@ -16,4 +16,6 @@ pub mod Holding
 pub mod Refusals
 pub mod Ends
 pub mod Calls
+pub mod Waiters
+pub mod Waiting
 pub mod Prelude

@@ -1,16 +1,16 @@
 //! The book: everything that the processors share.
 ghost use Rattle.std.specs.Prelude.{◌≡◌, ◌≢◌, ℕ, ◌+◌, ◌*◌, ◌^◌, ◌<◌, ◌≤◌, ◌↔◌, ◌⊎◌, EachIndex, IsTrue, Some, Err};
-ghost use Rattle.std.specs.Prelude.{OnOk, OnErr, IfErr, IfOk, List, map, length, count_by, slice_get, slice_index};
+ghost use Rattle.std.specs.Prelude.{OnOk, OnErr, IfErr, IfOk, List, ◌++◌, map, length, count_by, slice_get, slice_index};
 ghost use Rattle.std.specs.Arc.{arc_value};
-ghost use Rattle.lists.specs.Prelude.{most_events, most_in_block, most_processors};
-ghost use Rattle.journal.specs.Prelude.{Sizes, Ready, IsCutFault};
+ghost use Rattle.lists.specs.Prelude.{most_events, most_in_block, most_processors, Has};
+ghost use Rattle.journal.specs.Prelude.{Sizes, Ready, IsCutFault, IsDeadlock, did};
 ghost use Rattle.journal.specs.declared.event.Event.{Event as AnEvent};
 ghost use Rattle.interval.specs.Prelude.{HasRisingPages, is_of_page};
 ghost use Rattle.transit.specs.Prelude.{letter};
 ghost use Rattle.book.specs.Prelude.{brought, WasBookCut, MayFlush, MayCall, MayAsk, MayRelease, MayTakeSome};
 ghost use Rattle.book.specs.Prelude.{MayLook, new_book, handed_in, handed_last, book_watched, book_set, book_asked};
 ghost use Rattle.book.specs.Prelude.{book_released, book_arrived, Closes, HandsIn, IsFullAt, IsTold, IsWantOfRoom};
-ghost use Rattle.book.specs.Prelude.{Takes};
+ghost use Rattle.book.specs.Prelude.{HasClosed, IsBlockOf, IsToldBySome, LetsOn, Takes};
 
 use crate::awaited::Awaited;
 use crate::messages::{grant_to, has_come, post_all, receive};
@@ -19,6 +19,8 @@ use crate::protocol::{Protocol, leave, with_set};
 use crate::refused::Refused;
 use crate::room::{LIMIT, append_all, make_room};
 use crate::trims::trim;
+use crate::waiters::Waiters;
+use crate::waiting::all_wait_in_vain;
 use barrier::Barrier;
 use journal::{CutFault, Event, Journal, Kind};
 use page::Record;
@@ -335,6 +337,32 @@ impl Book {
             unreachable!("the processor waits")
         };
         has_come(&parts.flags, &parts.transit, p, awaited)
+    }
+
+    /// Whether the history is a deadlock: each processor waits, and what it waits for has come for none. It takes no
+    /// memory.
+    pub fn is_deadlocked(&self) -> bool
+        requires told { IsToldBySome self.now }
+        ensures { (s : Sizes) (h : List AnEvent) → IsTold s h self.now → IsTrue result ↔ IsDeadlock s h }
+    {
+        let parts = &*self.parts;
+        all_wait_in_vain(&parts.awaits, &parts.flags, &parts.transit)
+    }
+
+    /// Whom `p` has let go on by this event, with which it has just closed its interval: who holds the lock next that
+    /// it released, all that wait for the departure if it completed the episode, all that wait for the flag that it
+    /// set. Of the others nobody has begun to be ready by this event. It takes no memory. It costs nothing after an
+    /// ask, a watch, and an arrival that completes nothing, and the same however many processors there are after a
+    /// release.
+    pub fn let_on(&self, p: usize, kind: Kind) -> Waiters
+        requires closed { HasClosed self.now p kind }
+        ensures ready { (s : Sizes) (h : List AnEvent) (q : ℕ) → IsTold s h self.now → Has result q → Ready s h q }
+        ensures all { (s : Sizes) (h block : List AnEvent) (q : ℕ) → IsTold s (did (h ++ block) p kind) self.now
+            → IsBlockOf s p block → LetsOn s h block p kind q → Has result q }
+        ensures within { (q : ℕ) → Has result q → q < length self.now.awaits }
+    {
+        let parts = &*self.parts;
+        parts.named_by(p, kind)
     }
 
     /// The number of the first kept interval of processor `q`.

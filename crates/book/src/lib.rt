@@ -23,7 +23,10 @@ mod protocol;
 mod refused;
 mod room;
 mod trims;
+mod waiters;
+mod waiting;
 
 pub use awaited::Awaited;
 pub use book::Book;
 pub use refused::Refused;
+pub use waiters::Waiters;

@@ -12,6 +12,7 @@ ghost use Rattle.transit.specs.Prelude.{letter};
 ghost use Rattle.book.specs.Prelude.{kind_of, MayCall, IsOpen, MayBeSent, open_interval, closed_by, if_free};
 ghost use Rattle.book.specs.Prelude.{grant_from, barrier_left, flag_joined, departures_to, time_of, Closes};
 
+mod going_on;
 mod pending;
 
 use crate::awaited::Awaited;

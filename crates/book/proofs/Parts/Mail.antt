@@ -35,7 +35,7 @@ News k (Acquire l) = k ≡ Release l
 News k Depart = k ≡ Arrive
 News k _ = ⊥
 
-news_cases : (k a : Kind) → News k a ⊎ ¬ News k a
+pub news_cases : (k a : Kind) → News k a ⊎ ¬ News k a
 news_cases (Release m) (Acquire l) =
     elim (cases_eq m l) [ inl is ↦ inl (ap (λ x. Release x) is) | inr isnt ↦ inr (λ e. isnt (released e)) ]
   where
@@ -117,7 +117,7 @@ module _ (s : Sizes) (h : List Event) (p : ℕ) (k : Kind) (may : MayFollow s h 
   brings_on _ t posted allowed x = absurd posted
 
   -- what is allowed after an event that is no news was so before
-  allowed_back : (a : Kind) → IsPosted a → ¬ News k a → Allowed s (did h p k) r a → Allowed s h r a
+  pub allowed_back : (a : Kind) → IsPosted a → ¬ News k a → Allowed s (did h p k) r a → Allowed s h r a
   allowed_back (Acquire l) posted none (i, last, granted) =
       (i, old, record { free = λ q held. granted.free q (holds_on h p k q l none held); first = first })
     where

@@ -1,0 +1,99 @@
+//! Who waits, and who of them may go on.
+ghost use Rattle.std.specs.Prelude.{ℕ, ◌≡◌, ◌<◌, ◌↔◌, EachIndex, IfSome, IsTrue, Some, true, false, length, slice_get};
+ghost use Rattle.lists.specs.Prelude.{most_processors, Has};
+ghost use Rattle.book.specs.Prelude.{has_come, kind_of};
+ghost use Rattle.book.specs.declared.awaited.Awaited.{Awaited as AnAwaited};
+
+use crate::awaited::Awaited;
+use crate::messages::has_come;
+use crate::waiters::Waiters;
+use transit::Transit;
+use vtime::VTime;
+
+/// Whether each processor waits for what hasn't come.
+pub(crate) fn all_wait_in_vain(
+    awaits: &[Option<Awaited>],
+    flags: &[Option<VTime>],
+    mail: &Transit,
+) -> bool
+    requires mail { length awaits.now ≡ length mail.now }
+    requires flags { (p f : ℕ) → slice_get awaits.now p ≡ Some (Some (Awaited.Signal f))
+        → f < length flags.now }
+    ensures { IsTrue result ↔ EachIndex awaits.now (λ p. (a : AnAwaited)
+        × (slice_get awaits.now p ≡ Some (Some a))
+        × (has_come flags.now mail.now p (kind_of a) ≡ false)) }
+{
+    for (p, awaited) in awaits.iter().enumerate() {
+        let Some(awaited) = *awaited else {
+            return false;
+        };
+        if has_come(flags, mail, p, awaited) {
+            return false;
+        }
+    }
+    true
+}
+
+/// Those who wait for this, which has come for them.
+pub(crate) fn all_who_may_go_on(
+    awaits: &[Option<Awaited>],
+    flags: &[Option<VTime>],
+    mail: &Transit,
+    awaited: Awaited,
+) -> Waiters
+    requires mail { length awaits.now ≡ length mail.now }
+    requires flag { (f : ℕ) → awaited ≡ Awaited.Signal f → f < length flags.now }
+    ensures { (p : ℕ) → Has result p ↔ ((p < most_processors)
+        × (slice_get awaits.now p ≡ Some (Some awaited))
+        × (has_come flags.now mail.now p (kind_of awaited) ≡ true)) }
+{
+    let mut waiters = Waiters::none();
+    for p in 0..awaits.len() {
+        if may_go_on(awaits, flags, mail, p, awaited) {
+            waiters.add(p);
+        }
+    }
+    waiters
+}
+
+/// The same of one processor, if there is one.
+pub(crate) fn one_who_may_go_on(
+    awaits: &[Option<Awaited>],
+    flags: &[Option<VTime>],
+    mail: &Transit,
+    awaited: Awaited,
+    one: Option<usize>,
+) -> Waiters
+    requires mail { length awaits.now ≡ length mail.now }
+    requires flag { (f : ℕ) → awaited ≡ Awaited.Signal f → f < length flags.now }
+    requires one { IfSome one (λ p. p < length awaits.now) }
+    ensures { (p : ℕ) → Has result p ↔ ((one ≡ Some p) × (p < most_processors)
+        × (slice_get awaits.now p ≡ Some (Some awaited))
+        × (has_come flags.now mail.now p (kind_of awaited) ≡ true)) }
+{
+    let mut waiters = Waiters::none();
+    if let Some(p) = one {
+        if may_go_on(awaits, flags, mail, p, awaited) {
+            waiters.add(p);
+        }
+    }
+    waiters
+}
+
+/// Whether `p` waits for this, which has come.
+fn may_go_on(
+    awaits: &[Option<Awaited>],
+    flags: &[Option<VTime>],
+    mail: &Transit,
+    p: usize,
+    awaited: Awaited,
+) -> bool
+    requires processor { p < length awaits.now }
+    requires mail { length awaits.now ≡ length mail.now }
+    requires flag { (f : ℕ) → awaited ≡ Awaited.Signal f → f < length flags.now }
+    ensures { IsTrue result ↔ ((slice_get awaits.now p ≡ Some (Some awaited))
+        × (has_come flags.now mail.now p (kind_of awaited) ≡ true)) }
+{
+    let waits = awaits[p];
+    waits == Some(awaited) && has_come(flags, mail, p, awaited)
+}
