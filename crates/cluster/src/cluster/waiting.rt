@@ -25,11 +25,7 @@ impl<T: BookTurn> Cluster<T> {
     ///
     /// The only refusal is [`SeatSpent`](Refused::SeatSpent), exactly where it awaits something and has entered the book
     /// as often as it may. The processor stays as it was, but that it may have seen more of the journal.
-    pub fn wait<R: Wait>(
-        &self,
-        rt: &R,
-        processor: &mut Processor<T>,
-    ) -> Result<Waited, Refused>
+    pub fn wait<R: Wait>(&self, rt: &R, processor: &mut Processor<T>) -> Result<Waited, Refused>
         requires own { processor.old.lock ≡ self.now.lock }
         ensures { IsWaitingCall processor.old processor.new result }
     {
