@@ -13,6 +13,7 @@ use Rattle.lists.specs.Limits.{most_events}
 use Rattle.page.specs.Changes.{Changes}
 use Rattle.book.specs.State.{State}
 use Rattle.book.specs.Told.{IsTold}
+use Rattle.book.specs.Waiting.{HasClosed}
 use Rattle.book.specs.Transitions.{handed_in}
 use Rattle.book.specs.declared.refused.Refused.{Refused}
 use Rattle.book.specs.Refusals.{IsFullAt}
@@ -86,6 +87,16 @@ module _ (m : Local) (sound : IsSound m) (b : State) (f : Finds m b) where
           watch_law m.sizes h m.block b m.number l records told (may_hand_in m sound b f may.idle)
           (harvest_contents (found m f.rest) (here_sound m sound b f) records are) range
       go _ closes range held = absurd (true≢false (sym closes))
+
+  -- so it is one after this closing event
+  pub has_closed : (k : Kind) (records : List Changes) → MayMake m k → AreHarvests m.copies records
+      → HasClosed (book_closed k (handed_in b m.block) m.number records) m.number k
+  has_closed k records may are = record {
+    sizes = m.sizes;
+    history = h ++ m.block;
+    told = told_closed k records may are;
+    closes = may.closes;
+  }
 
 -- the copies of a sound processor are clean where there is no mark
 pub marked_well : (m : Local) → IsSound m → DirtyAreMarked m.copies m.stored

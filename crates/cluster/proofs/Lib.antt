@@ -16,6 +16,7 @@ pub mod ClosingCalls
 pub mod Admitting
 pub mod TakingCalls
 pub mod CuttingCalls
+pub mod WaitingCalls
 pub mod Preparing
 pub mod FinishingCalls
 pub mod Apart

@@ -151,10 +151,10 @@ module _ {m : Local} {b : State} {after : ChairToken State View} (v : Visit m b 
 
   pub call_inside : {first : Option Refused} {many : ℕ} {absent : Local → Type 0} {done : Local → Local → Type 0}
       {added : List Event} (e : Refused) → first ≡ None → (e ≡ NotYet) ⊎ (e ≡ JournalFull) ⊎ (e ≡ NoMemory)
-      → e ≡ NotYet ↔ absent unchanged
+      → e ≡ NotYet ↔ absent unchanged → (e ≡ NotYet → cs ≡ m.copies)
       → (¬ absent unchanged → e ≡ JournalFull ↔ (most_events < length b.journal.events + many))
       → IsCall first many absent done added m unchanged (Some e)
-  call_inside {first} {many} {absent} e free why not_yet full = record {
+  call_inside {first} {many} {absent} e free why not_yet early full = record {
     same = record { lock = ap (λ (n : Local). n.lock) unchanged_is; number = refl; sizes = refl };
     outside = λ d there. absurd (free_of first d free there);
     ok = λ none. absurd (none-some e (sym none));
@@ -177,6 +177,7 @@ module _ {m : Local} {b : State} {after : ChairToken State View} (v : Visit m b 
         entered = unchanged_after;
         why = why;
         not_yet = not_yet;
+        early = early;
         full =
             λ there. (let both = full there in let long = seen_is in
             let off = ap (λ (n : Local). n.cut) unchanged_is in
@@ -192,7 +193,7 @@ call_refused {A} {m} {b} v e n only full same =
     call_inside v m.copies (alike_all m.copies) e (not_spent v) (inr only) (
       (λ late. elim only [ inl h ↦ absurd (cc (late, h)) | inr h ↦ absurd (cc (late, h)) ]),
       λ never. absurd never,
-    ) (λ _. (
+    ) (λ _. refl) (λ _. (
       (λ h. let more = full.0 (ap (λ (x : Refused). Err x) h) in omega arith),
       λ more. let is : ◌≡◌ {A = Result A Refused} (Err e) (Err JournalFull) = full.1 (omega arith) in cc is,
     ))

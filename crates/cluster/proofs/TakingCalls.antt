@@ -155,15 +155,16 @@ pub take_refused : {m : Local} {b : State} {after : ChairToken State View} {done
     {added : List Event} (v : Visit m b b after) (cs : List Copied) (alike : AreSameCopies m.copies cs) (e : Refused)
     → ((s : Sizes) (h : List Event) → IsTold s h b
     → ◌≡◌ {A = Result Message Refused} (Err e) (Err NotYet) ↔ (¬ Ready s h m.number))
+    → (◌≡◌ {A = Result Message Refused} (Err e) (Err NotYet) → cs ≡ m.copies)
     → (◌≢◌ {A = Result Message Refused} (Err e) (Err NotYet)
     → IsFullAt {A = Message} (length b.journal.events + 1) (Err e))
     → (e ≡ NotYet) ⊎ (e ≡ JournalFull) ⊎ (e ≡ NoMemory)
     → IsCall (flush_refusal m) 1 IsLate done added m (unchanged v cs alike) (Some e)
-take_refused {m} {b} v cs alike e absent full why =
+take_refused {m} {b} v cs alike e absent early full why =
     call_inside v cs alike e (not_spent v) why (
       (λ is. late.0 (ap (λ (x : Refused). Err x) is)),
       λ so. (let is = late.1 so in cc is),
-    ) (λ in_time. let both = full (λ is. in_time (late.0 is)) in (
+    ) (λ is. early (ap (λ (x : Refused). Err x) is)) (λ in_time. let both = full (λ is. in_time (late.0 is)) in (
       (λ is. both.0 (ap (λ (x : Refused). Err x) is)),
       λ more. (let is = both.1 more in cc is),
     ))

@@ -25,6 +25,8 @@ pub record IsRefusedInside (many : ℕ) (absent : Local → Type 0) (old new : L
   pub entered : IsAfter IsSame old new
   pub why : (e ≡ NotYet) ⊎ (e ≡ JournalFull) ⊎ (e ≡ NoMemory)
   pub not_yet : e ≡ NotYet ↔ absent new
+  -- whoever comes too early got no room
+  pub early : e ≡ NotYet → new.copies ≡ old.copies
   pub full : ¬ absent new → e ≡ JournalFull ↔ (most_events + new.cut < length new.seen + many)
 
 -- it is the same processor of the same cluster

@@ -7,6 +7,7 @@ pub mod Covers
 pub mod Calls
 pub mod Closing
 pub mod Taking
+pub mod Waiting
 pub mod Cutting
 pub mod Histories
 pub mod Clusters

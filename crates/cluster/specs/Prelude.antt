@@ -10,6 +10,7 @@ pub use Rattle.cluster.specs.Covers.{Covers}
 pub use Rattle.cluster.specs.Calls.{IsHandingCall, IsSameProcessor}
 pub use Rattle.cluster.specs.Closing.{IsClosingCall, MayClose, MayHold, MayMake, book_closed}
 pub use Rattle.cluster.specs.Taking.{HasRoomFor, IsTakingCall, MayHoldOne}
+pub use Rattle.cluster.specs.Waiting.{IsWaitingCall, answer_of}
 pub use Rattle.cluster.specs.Cutting.{IsCuttingCall, IsNoCut}
 pub use Rattle.cluster.specs.Histories.{IsAudit}
 pub use Rattle.cluster.specs.Clusters.{AreCovered, AreNew, AreNewChairs, AreParts, AreSeated, IsNewChair, Shared}

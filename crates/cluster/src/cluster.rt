@@ -11,8 +11,10 @@ mod entering;
 mod finishing;
 mod handing;
 mod taking;
+mod waiting;
 
 use self::finishing::Spare;
+use crate::bells::Bells;
 use crate::keeper::{BookTurn, Rule};
 use crate::processor::{Parts, Processor};
 use crate::shape::Shape;
@@ -27,6 +29,7 @@ use turn::Chair;
 pub struct Cluster<T: BookTurn> {
     turn: T,
     shape: Shape,
+    bells: Bells,
     // Behind a mutex since a chair is not `Sync`, though nobody locks it.
     spare: Mutex<Spare>,
 }
@@ -110,10 +113,16 @@ impl<T: BookTurn> Cluster<T> {
         let all = Vec::with_capacity(alloc, processors)?;
         let parts = parts_of(alloc, shape)?;
         let spare = Mutex::new(Spare::new(alloc)?);
+        let bells = Bells::new(alloc, processors)?;
         let book = Book::new(alloc, processors, pages, words, locks, flags)?;
         let (turn, chairs) = T::new(alloc, book, processors)?;
         let all = Self::seat_all(shape, chairs, parts, all);
-        let cluster = Cluster { turn, shape, spare };
+        let cluster = Cluster {
+            turn,
+            shape,
+            bells,
+            spare,
+        };
         Ok((cluster, all))
     }
 

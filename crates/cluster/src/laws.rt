@@ -1,5 +1,10 @@
 //! Laws, as contracts of functions that do nothing: the check proves each by its name.
+ghost use Rattle.std.specs.Prelude.{◌≡◌, ◌^◌, ◌∷◌, []};
 ghost use Rattle.cluster.specs.Prelude.{AllowedLaw, FromBaseLaw, LeftLaw, SeenLaw};
+
+use crate::keeper::{BookLock, Rule, TicketBookLock};
+use book::Book;
+use turn::Turn;
 
 /// Whenever the lock is free, the longest that a processor has seen is the whole history, all events cut off and then
 /// the journal's, and what each other has seen is a beginning of it.
@@ -24,3 +29,13 @@ pub fn from_base_law()
 pub fn left_law()
     ensures { LeftLaw }
 {}
+
+/// How often a processor may enter the book, with the array lock and with the ticket lock.
+pub fn entries_law() -> [u64; 2]
+    ensures { result ≡ 2 ^ 40 ∷ 2 ^ 40 ∷ [] }
+{
+    [
+        <BookLock as Turn<Book, Rule>>::ENTRIES,
+        <TicketBookLock as Turn<Book, Rule>>::ENTRIES,
+    ]
+}

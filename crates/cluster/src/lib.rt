@@ -13,16 +13,19 @@
 //! **What is only tested** (in `cluster_uses`): that no call is refused needlessly, and that threads get on.
 #![tactic(auto)]
 
+mod bells;
 mod cluster;
 mod keeper;
 pub mod laws;
 mod processor;
 mod shape;
+mod waited;
 
 pub use cluster::Cluster;
 pub use keeper::{BookLock, BookTurn, Rule, TicketBookLock, View};
 pub use processor::Processor;
 pub use shape::Shape;
+pub use waited::Waited;
 
 // What a program has to name beside these, so that it lists this crate alone.
 pub use book::{Book, Refused};

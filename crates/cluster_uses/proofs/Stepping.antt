@@ -11,6 +11,8 @@ use Rattle.cluster.specs.Calls.{IsCall}
 use Rattle.cluster.specs.Clusters.{Shared}
 use Rattle.cluster.specs.Covers.{Covers, IsAllowed}
 use Rattle.cluster.specs.Cutting.{IsCuttingCall}
+use Rattle.cluster.specs.Waiting.{IsWaitingCall}
+use Rattle.cluster.specs.declared.waited.Waited.{Waited}
 use Rattle.cluster_uses.specs.Crews.{IsOf, IsStep}
 
 -- and of a call that enters the book it is what that promises
@@ -39,6 +41,20 @@ by_cut c old new refused own call = record {
     covers = call.covers;
   };
   number = call.same.number;
+  kept = λ _. call.calls_are;
+}
+
+-- and so of a wait
+pub by_wait : (c : Shared) (old new : Local) (answer : Result Waited Refused)
+    → IsOf c old → IsWaitingCall old new answer → IsStep c old new (result_err answer)
+by_wait c old new answer own call = record {
+  own = record {
+    lock_is = ap (λ (m : Local). m.lock) call.kept ∙ own.lock_is;
+    sizes_are = ap (λ (m : Local). m.sizes) call.kept ∙ own.sizes_are;
+    allowed = call.allowed own.allowed;
+    covers = call.covers;
+  };
+  number = ap (λ (m : Local). m.number) call.kept;
   kept = λ _. call.calls_are;
 }
 

@@ -4,7 +4,7 @@ ghost use Rattle.std.specs.Result.{result_err};
 ghost use Rattle.cluster_uses.specs.Crews.{IsOf, IsStep};
 
 use book::Refused;
-use cluster::{BookTurn, Cluster, Processor};
+use cluster::{BookTurn, Cluster, Processor, Waited};
 use journal::Journal;
 use std::sync::Wait;
 
@@ -44,6 +44,18 @@ pub(crate) fn load<T: BookTurn>(
 {
     let _cluster = cluster;
     processor.load(address)
+}
+
+/// Waits until what the processor awaits may have come, as [`Cluster::wait`] does.
+pub(crate) fn wait_on<T: BookTurn, R: Wait>(
+    cluster: &Cluster<T>,
+    rt: &R,
+    processor: &mut Processor<T>,
+) -> Result<Waited, Refused>
+    requires { IsOf cluster.now processor.old }
+    ensures { IsStep cluster.now processor.old processor.new (result_err result) }
+{
+    cluster.wait(rt, processor)
 }
 
 /// Makes the call.

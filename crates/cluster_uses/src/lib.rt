@@ -15,4 +15,4 @@ mod tests;
 
 pub use calls::{Answer, Call};
 pub use crew::Crew;
-pub use running::{Task, run};
+pub use running::{Ended, Task, run, run_each};

@@ -3,7 +3,7 @@
 ghost use Rattle.std.specs.Prelude.{◌≡◌, ◌≤◌, ◌^◌, length};
 ghost use Rattle.reach_table.specs.Prelude.{IsTable};
 
-use crate::{Answer, Call, Crew, Task, run};
+use crate::{Answer, Call, Crew, Ended, Task, run, run_each};
 use book::Refused;
 use cluster::{BookLock, BookTurn, TicketBookLock};
 use journal::{Event, Journal, Kind};
@@ -57,7 +57,7 @@ fn replays_to(journal: &Journal, wanted: &[u32]) -> Result<bool, Refused> {
 /// Each of two threads adds one a hundred times, under a lock.
 fn counts<T: BookTurn + Send + Drop, R: Abort + Threads + Wait + Sync + AllocGlobal>(
     rt: &R,
-) -> Result<(), Refused>
+) -> Result<(), Ended>
     requires { T.ENTRIES ≤ 2 ^ 40 }
 {
     let crew = Crew::<T>::new(rt.alloc(), [2, 1, 1, 1, 0])?;
@@ -110,7 +110,7 @@ const SUMS: [u32; 16] = [0, 32, 0, 0, 0, 0, 32, 0, 0, 0, 0, 32, 32, 0, 0, 0];
 /// Sixteen threads add under four locks in turn, and meet, twice.
 fn meets_twice<T: BookTurn + Send + Drop, R: Abort + Threads + Wait + Sync + AllocGlobal>(
     rt: &R,
-) -> Result<(), Refused>
+) -> Result<(), Ended>
     requires { T.ENTRIES ≤ 2 ^ 40 }
 {
     let [first, second, third, fourth] = ADDS;
@@ -124,7 +124,8 @@ fn meets_twice<T: BookTurn + Send + Drop, R: Abort + Threads + Wait + Sync + All
     for p in 0..16 {
         sees_all(&mut crew, rt, p)?;
     }
-    is_in_order(rt, &crew.finish())
+    is_in_order(rt, &crew.finish())?;
+    Ok(())
 }
 
 /// The processor loads all words.
@@ -197,5 +198,101 @@ fn sixteen_threads_meet_with_a_row(rt: HostRuntime) -> Result<(), Fail> {
 #[test]
 fn sixteen_threads_meet_with_tickets(rt: HostRuntime) -> Result<(), Fail> {
     meets_twice::<TicketBookLock, _>(&rt)?;
+    Ok(())
+}
+
+/// A cluster, what all its processors do, and how each ends.
+struct Ending {
+    sizes: [usize; 5],
+    tasks: &'static [Task],
+    outcomes: &'static [Result<(), Ended>],
+}
+
+/// How processors end that wait for each other. Each of these has to come to its end under every schedule.
+const ENDINGS: [Ending; 7] = [
+    // A ring of flags.
+    Ending {
+        sizes: [16, 1, 1, 0, 17],
+        tasks: &[Task::Pass { last: 16 }],
+        outcomes: &[Ok(()); 16],
+    },
+    // A lock that is handed round.
+    Ending {
+        sizes: [4, 1, 1, 1, 0],
+        tasks: &[Task::Add {
+            lock: 0,
+            address: 0,
+        }; 4],
+        outcomes: &[Ok(()); 4],
+    },
+    // A barrier that one reaches late.
+    Ending {
+        sizes: [4, 1, 1, 0, 0],
+        tasks: &[Task::Dawdle { processor: 2 }, Task::Meet],
+        outcomes: &[Ok(()); 4],
+    },
+    // Each of two holds what the other asks for.
+    Ending {
+        sizes: [2, 1, 1, 2, 0],
+        tasks: &[Task::Hold, Task::Meet, Task::Cross],
+        outcomes: &[Err(Ended::Stuck); 2],
+    },
+    // One ends before the barrier, and the others wait there.
+    Ending {
+        sizes: [3, 1, 1, 0, 0],
+        tasks: &[Task::Leave { processor: 1 }, Task::Meet],
+        outcomes: &[Err(Ended::Deserted), Err(Ended::Left), Err(Ended::Deserted)],
+    },
+    // One ends, and the others go on: each waits for what the other brings.
+    Ending {
+        sizes: [3, 1, 1, 1, 0],
+        tasks: &[
+            Task::Leave { processor: 2 },
+            Task::Add {
+                lock: 0,
+                address: 0,
+            },
+            Task::Add {
+                lock: 0,
+                address: 0,
+            },
+            Task::Add {
+                lock: 0,
+                address: 0,
+            },
+            Task::Add {
+                lock: 0,
+                address: 0,
+            },
+        ],
+        outcomes: &[Ok(()), Ok(()), Err(Ended::Left)],
+    },
+    // One ends late, when the others sleep already.
+    Ending {
+        sizes: [3, 1, 1, 0, 0],
+        tasks: &[
+            Task::Dawdle { processor: 0 },
+            Task::Leave { processor: 0 },
+            Task::Meet,
+        ],
+        outcomes: &[Err(Ended::Left), Err(Ended::Deserted), Err(Ended::Deserted)],
+    },
+];
+
+/// Whether the processors end so.
+fn ends_so<R: Threads + Wait + Sync + AllocGlobal>(rt: &R, ending: &Ending) -> Result<bool, Ended> {
+    let crew = Crew::<BookLock>::new(rt.alloc(), ending.sizes)?;
+    let (_crew, outcomes) = run_each(rt, rt.alloc(), crew, ending.tasks)?;
+    Ok(outcomes.as_slice() == ending.outcomes)
+}
+
+// Nobody sleeps for ever: a run in which one did would last until the time is over that a test may take.
+#[test]
+fn nobody_sleeps_for_ever(rt: HostRuntime) -> Result<(), Fail> {
+    for _ in 0..50 {
+        for ending in &ENDINGS {
+            assert!(&rt; ends_so(&rt, ending)?);
+        }
+    }
     Ok(())
 }

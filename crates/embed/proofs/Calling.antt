@@ -14,6 +14,8 @@ use Rattle.cluster.specs.Calls.{IsCall, IsHandingCall}
 use Rattle.cluster.specs.Closing.{IsClosingCall}
 use Rattle.cluster.specs.Clusters.{Shared}
 use Rattle.cluster.specs.Taking.{awaited_event, IsTakingCall}
+use Rattle.cluster.specs.Waiting.{IsWaitingCall}
+use Rattle.cluster.specs.declared.waited.Waited.{Waited}
 use Rattle.embed.specs.Workers.{HasLoaded, IsAtWork, IsSameWorker, MayStore, Placed, StoresAreOwn, Waits, Works, placed}
 
 -- no store is where it may not be
@@ -121,6 +123,19 @@ works_take c m n r at call = works_call c m n r at call (own m.awaits at.waits)
     own : (w : Option Kind) → ((a v : ℕ) → w ≢ Some (Store a v)) → StoresAreOwn (awaited_event m.number w)
     own None free = own_none
     own (Some k) free = own_one m.number k (λ a v e. absurd (free a v (ap Some e)))
+
+-- a wait
+pub works_wait : (c : Shared) (m n : Local) (answer : Result Waited Refused) → IsAtWork c m
+    → IsWaitingCall m n answer → Works c m n
+works_wait c m n answer at call = record {
+  at_work = record {
+    lock_is = ap (λ (l : Local). l.lock) call.kept ∙ at.lock_is;
+    sizes_are = ap (λ (l : Local). l.sizes) call.kept ∙ at.sizes_are;
+    stores = subst StoresAreOwn (sym call.calls_are) at.stores;
+    waits = λ a v is. at.waits a v (ap (λ (l : Local). l.awaits) (sym call.kept) ∙ is);
+  };
+  number = ap (λ (l : Local). l.number) call.kept;
+}
 
 -- a load
 pub works_load : (c : Shared) (m n : Local) (a : ℕ) (r : Result ℕ Refused) → IsAtWork c m → OnErr r (n ≡ m)

@@ -109,7 +109,7 @@ impl<'a, R: Wait> Worker<'a, R> {
     }
 }
 
-/// Does the processor's part, and gives the processor back.
+/// Does the processor's part, and gives the processor back. Whoever waits for one that went no further is told.
 pub(crate) fn work<R: Wait>(
     rt: &R,
     cluster: &Cluster<BookLock>,
@@ -124,7 +124,9 @@ pub(crate) fn work<R: Wait>(
         cluster,
         processor,
     };
-    worker.cool()?;
+    let cooled = worker.cool();
+    cluster.end(worker.processor.number());
+    cooled?;
     let Worker { processor, .. } = worker;
     Ok(processor)
 }

@@ -16,7 +16,7 @@ pub enum Fault {
     /// A call was refused, and its caller can do nothing about it; or memory was refused.
     #[error("{0}")]
     Refused(#[from] Refused),
-    /// What a processor waits for didn't come, as where another one was refused.
+    /// What a processor waits for can't come any more, as where another one was refused.
     #[error("no progress")]
     Stuck,
     /// The events at these places of the journal race.

@@ -2,13 +2,9 @@
 ghost use Rattle.embed.specs.Prelude.{IsSameWorker, MayStore};
 
 use crate::running::Fault;
-use cluster::{BookLock, Cluster, Processor, Refused};
+use cluster::{BookLock, Cluster, Processor, Refused, Waited};
 use std::marker::Model;
 use std::sync::Wait;
-use std::thread::yield_now;
-
-/// How often a take is tried while what it waits for hasn't come.
-const TRIES: usize = 1_000_000;
 
 /// A processor of the cluster, all of whose stores are its own.
 #[derive(Drop)]
@@ -50,19 +46,29 @@ impl<'a, R: Wait> Worker<'a, R> {
         self.processor.store(address, word)
     }
 
-    /// Takes what the processor waits for, as soon as it has come; between two tries other threads get on.
-    /// [`Stuck`](Fault::Stuck) after a million tries.
+    /// Takes what the processor waits for, as soon as it has come. Until then it sleeps. [`Stuck`](Fault::Stuck) where
+    /// nothing can come any more.
     fn take(&mut self) -> Result<(), Fault>
         ensures { IsSameWorker self.old self.new }
     {
-        for _ in 0..TRIES {
+        for _ in self.rt.forever() {
             match self.try_take() {
                 Ok(()) => return Ok(()),
-                Err(Refused::NotYet) => yield_now(),
+                Err(Refused::NotYet) => self.wait()?,
                 Err(refused) => return Err(Fault::Refused(refused)),
             }
         }
-        Err(Fault::Stuck)
+        unreachable!()
+    }
+
+    /// Waits until what the processor awaits may have come.
+    fn wait(&mut self) -> Result<(), Fault>
+        ensures { IsSameWorker self.old self.new }
+    {
+        match self.cluster.wait(self.rt, &mut self.processor)? {
+            Waited::MayHaveCome => Ok(()),
+            Waited::Stuck | Waited::Deserted => Err(Fault::Stuck),
+        }
     }
 
     /// Takes what the processor waits for, where it has come.

@@ -5,14 +5,15 @@ ghost use Rattle.std.specs.Result.{result_err};
 ghost use Rattle.lists.specs.Prelude.{most_in_block};
 ghost use Rattle.journal.specs.Prelude.{is_closing, awaited};
 ghost use Rattle.interval.specs.Prelude.{HasRisingPages};
-ghost use Rattle.book.specs.Prelude.{Closes};
+ghost use Rattle.book.specs.Prelude.{Closes, HasClosed, handed_in};
 ghost use Rattle.replicas.specs.Prelude.{AreHarvests, held_after};
 ghost use Rattle.cluster.specs.Prelude.{closing_test, MayClose, MayMake, MayHold, IsClosingCall, book_closed};
 
 use super::Cluster;
+use crate::bells::Bells;
 use crate::keeper::BookTurn;
 use crate::processor::{Processor, clean};
-use book::{Book, Refused};
+use book::{Book, Refused, Waiters};
 use journal::{Event, Kind};
 use page::Record;
 use std::sync::{Arc, Wait};
@@ -55,9 +56,16 @@ impl<T: BookTurn> Cluster<T> {
     {
         let (held, mut book) = self.take_book(rt, &mut processor.chair)?;
         let block = processor.block.as_slice();
-        let closed = close_in(&mut book, processor.number, kind, block, records);
+        let closed = close_in(
+            &mut book,
+            &self.bells,
+            processor.number,
+            kind,
+            block,
+            records,
+        );
         self.give_book(&mut processor.chair, held, book);
-        closed?;
+        self.bells.tell(closed?);
         processor.block.clear();
         clean(&mut processor.replicas, &mut processor.stored);
         processor.time.tick(processor.number);
@@ -67,8 +75,31 @@ impl<T: BookTurn> Cluster<T> {
     }
 }
 
-/// The book's part of a call that closes the interval of `p` with this event.
+/// The book's part of a call that closes the interval of `p` with this event. Answers whom it lets go on, who are to be
+/// told after leaving.
 fn close_in(
+    book: &mut Book,
+    bells: &Bells,
+    p: usize,
+    kind: Kind,
+    block: &[Event],
+    records: Vec<Arc<Record>>,
+) -> Result<Waiters, Refused>
+    requires closes { is_closing kind ≡ true }
+    requires call { MayClose kind book.old p block.now }
+    requires short { length block.now ≤ most_in_block }
+    requires rising { HasRisingPages (map arc_value records.items) }
+    requires told { HasClosed (book_closed kind (handed_in book.old block.now) p
+        (map arc_value records.items)) p kind }
+    ensures { Closes block.now (λ b. book_closed kind b p (map arc_value records.items)) book.old book.new result }
+{
+    close_by(book, p, kind, block, records)?;
+    bells.ready(book.let_on(p, kind));
+    Ok(book.let_on(p, kind))
+}
+
+/// The change of the book.
+fn close_by(
     book: &mut Book,
     p: usize,
     kind: Kind,

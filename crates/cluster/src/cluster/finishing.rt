@@ -47,6 +47,7 @@ impl<T: BookTurn> Cluster<T> {
         let Cluster {
             turn,
             shape: _,
+            bells: _,
             spare,
         } = self;
         let (chairs, blocks) = take_apart(processors, spare.into_inner());

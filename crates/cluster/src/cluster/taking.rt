@@ -62,6 +62,7 @@ fn receive(book: &mut Book, p: usize, replicas: &mut Vec<Replica>) -> Result<Mes
     ensures err { OnErr result (book.new ≡ book.old) }
     ensures absent { (s : Sizes) (h : List Event) → IsTold s h book.old
         → result ≡ Err Refused.NotYet ↔ (¬ Ready s h p) }
+    ensures early { result ≡ Err Refused.NotYet → replicas.new.items ≡ replicas.old.items }
     ensures full { result ≢ Err Refused.NotYet
         → result ≡ Err Refused.JournalFull ↔ (most_events < length book.old.journal.events + 1) }
     ensures only { IfErr result (λ e.

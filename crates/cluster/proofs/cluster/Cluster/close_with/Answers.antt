@@ -5,7 +5,7 @@ use Rattle.replicas.specs.Records.{AreHarvests}
 use Rattle.replicas.specs.Local.{Local}
 use Rattle.cluster.specs.Seats.{local}
 use Rattle.cluster.specs.Closing.{MayHold, MayMake}
-use Rattle.cluster.proofs.ClosingCalls.{marked_well, may_close, call_of_close, Closed, closed_visit, closed_good, closed_done}
+use Rattle.cluster.proofs.ClosingCalls.{marked_well, may_close, has_closed, call_of_close, Closed, closed_visit, closed_good, closed_done}
 use Rattle.cluster.proofs.Visiting.{book_found, may_give_back, visited, left_as}
 use Rattle.cluster.proofs.Made.{alike_all, refused_with, call_spent, call_refused, unchanged_sound}
 use Rattle.cluster.proofs.cluster.Cluster.close_with.Given as given
@@ -117,3 +117,13 @@ mark_held-requires-clause-closes g c = c.requires.may.closes
 pub mark_held-requires-clause-may : goal.mark_held-requires-clause-may
 mark_held-requires-clause-may g c =
     subst (λ (l : Local). MayHold l.held c.args.kind) (sym c.processor.view_is) c.requires.may.held
+
+pub close_in-closed-requires-clause-told : goal.close_in-closed-requires-clause-told
+close_in-closed-requires-clause-told g c =
+    let m = c.processor.invariant in
+    let finds = book_found m.0 m.1 refl c.in_ok-held.book c.in_ok-held.ensures.finds in
+    let may = subst (λ (l : Local). MayMake l c.args.kind) (sym c.processor.view_is) c.requires.may in
+    let are =
+    subst (λ (l : Local). AreHarvests l.copies (map arc_value c.args.records.items)) (sym c.processor.view_is)
+    c.requires.records in
+    rw (c.as_slice-block.ensures.value) (has_closed _ m.0 c.in_ok-held.book finds c.args.kind _ may are)

@@ -10,20 +10,20 @@ use Rattle.cluster.specs.Kept.{IsKept, nothing_seen, sizes_of}
 use Rattle.cluster.proofs.Starting.{new_sizes, start_kept, new_covered}
 use Rattle.cluster.proofs.cluster.Cluster.lawful.Goals as goal
 
-pub new-requires-2-clause-addresses : goal.new-requires-2-clause-addresses
-new-requires-2-clause-addresses g c =
+pub new-requires-3-clause-addresses : goal.new-requires-3-clause-addresses
+new-requires-3-clause-addresses g c =
     let s = subst AreSizes (sym c.shape.view_is) c.requires.sizes in
     let few = mul-le c.shape.inside.pages c.shape.inside.words 64 64 s.pages s.words in
     omega arith
 
-pub new-requires-3-clause-room : goal.new-requires-3-clause-room
-new-requires-3-clause-room g c =
+pub new-requires-4-clause-room : goal.new-requires-4-clause-room
+new-requires-4-clause-room g c =
     let s = subst AreSizes (sym c.shape.view_is) c.requires.sizes in
     let few = mul-le c.shape.inside.processors g.T.Turn.ENTRIES 16 (2 ^ 40) s.processors c.requires.entries in
     omega arith
 
-pub new-requires-3-clause-fact : goal.new-requires-3-clause-fact
-new-requires-3-clause-fact g c =
+pub new-requires-4-clause-fact : goal.new-requires-4-clause-fact
+new-requires-4-clause-fact g c =
     let s = c.args.shape in
     let size = ap (λ (x : Sizes). x.processors) c.shape.view_is in
     let book = c.in_ok-book.ensures ∙ ap new_book c.shape.view_is in

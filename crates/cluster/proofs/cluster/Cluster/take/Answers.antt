@@ -70,7 +70,7 @@ returns-in_err-received g c =
       refused_with _ _ c.from_residual-in_err-received.ensures.1,
       ← c.in_ok-kind.ensures.test,
       ← c.processor.view_is,
-    ) (take_refused (left_as visit bad.err) _ bad.same _ bad.absent bad.full bad.only)
+    ) (take_refused (left_as visit bad.err) _ bad.same _ bad.absent bad.early bad.full bad.only)
 
 pub accept-requires-clause-news : goal.accept-requires-clause-news
 accept-requires-clause-news g c =

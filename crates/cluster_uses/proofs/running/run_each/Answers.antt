@@ -1,7 +1,7 @@
 use Rattle.std.proofs.Common.{rules, ◌≡◌, length, refl}
 use Rattle.std.proofs.lemmas.Option.{slice_get_read}
 use Rattle.cluster_uses.proofs.Crewing.{all_back}
-use Rattle.cluster_uses.proofs.running.run.Goals as goal
+use Rattle.cluster_uses.proofs.running.run_each.Goals as goal
 
 pub map_vec-requires-after_bounds : goal.map_vec-requires-after_bounds
 map_vec-requires-after_bounds g c κs within i x less read =

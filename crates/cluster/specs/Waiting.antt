@@ -1,0 +1,40 @@
+-- A call that waits for what its processor awaits.
+use Rattle.std.specs.Prelude.{ℕ, ◌≡◌, ◌≢◌, Option, Some, None, Result, Ok, Err, IsOk}
+use Rattle.journal.specs.Deadlocks.{IsDeadlock}
+use Rattle.book.specs.declared.refused.Refused.{Refused}
+use Rattle.replicas.specs.Local.{Local, calls}
+use Rattle.cluster.specs.declared.waited.Waited.{Waited}
+use Rattle.cluster.specs.declared.waited.Waited.TheVariants.{MayHaveCome, Stuck, Deserted}
+use Rattle.cluster.specs.Refusals.{flush_refusal}
+use Rattle.cluster.specs.Covers.{Covers, IsAllowed}
+use Rattle.cluster.specs.Entering.{IsAfter}
+use Rattle.cluster.specs.Taking.{IsLate}
+
+-- what is answered where a look came to this: after a sleep something may have come
+abbrev pub answer_of : Option Waited → Waited
+answer_of None = MayHaveCome
+answer_of (Some w) = w
+
+-- nothing was changed
+abbrev pub IsUnchanged : Local → Local → Type 0
+IsUnchanged m n = n ≡ m
+
+-- the call entered and changed nothing, and says so if the history that it found is a deadlock
+pub record HasLooked (old new : Local) (answer : Result Waited Refused) : Type 0 where
+  pub entered : IsAfter IsUnchanged old new
+  pub ok : IsOk answer
+  pub exact : IsDeadlock new.sizes new.seen → answer ≡ Ok Stuck
+
+-- A call that waits changes nothing but an entry that is spent, and what the processor has seen. It does nothing where
+-- nothing is awaited, and is refused where the entries are spent; else it looks. 'Stuck' is said of a deadlock alone, and
+-- 'deserted' only where what is awaited has not come, by what the processor has seen
+pub record IsWaitingCall (old new : Local) (answer : Result Waited Refused) : Type 0 where
+  pub kept : new ≡ record old { entries = new.entries; seen = new.seen; cut = new.cut }
+  pub idle : old.awaits ≡ None → (answer ≡ Ok MayHaveCome) × (new ≡ old)
+  pub outside : old.awaits ≢ None → (e : Refused) → flush_refusal old ≡ Some e → (answer ≡ Err e) × (new ≡ old)
+  pub looked : old.awaits ≢ None → flush_refusal old ≡ None → HasLooked old new answer
+  pub stuck : answer ≡ Ok Stuck → IsDeadlock new.sizes new.seen
+  pub deserted : answer ≡ Ok Deserted → IsLate new
+  pub calls_are : calls new ≡ calls old
+  pub covers : Covers new
+  pub allowed : IsAllowed old → IsAllowed new
