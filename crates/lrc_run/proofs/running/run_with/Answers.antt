@@ -1,8 +1,6 @@
 use Rattle.std.proofs.Common.{rules}
-use Rattle.lrc_script.specs.Plan.{items_of, plan_of}
-use Rattle.runs.specs.Reports.{IsReportOf}
+use Rattle.lrc_script.specs.Plan.{items_of}
 use Rattle.lrc_run.specs.Threads.{AreOutcomes}
-use Rattle.lrc_run.proofs.Failing.{told_ok}
 use Rattle.lrc_run.proofs.Joining.{all_walked}
 use Rattle.lrc_run.proofs.running.run_with.Goals as goal
 
@@ -13,7 +11,5 @@ conclude-requires-clause-walked g c κs within =
     all_walked c.in_ok-cluster.cluster sections c.in_ok-cluster.outcomes.items c.in_ok-processors.processors.items
     are c.in_ok-processors.ensures.ok
 
-pub returns : goal.returns
-returns g c =
-    told_ok c.conclude.result c.map_err-2.result (IsReportOf (plan_of c.args.script.now)) _
-    c.map_err-2.ensures.cases c.map_err-2.ensures.variant c.conclude.ensures
+pub returns-in-Ok : goal.returns-in-Ok
+returns-in-Ok g c = c.in-Ok.ensures.is
