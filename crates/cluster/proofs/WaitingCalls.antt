@@ -1,5 +1,5 @@
 -- A call that waits.
-use Rattle.std.proofs.Common.{ℕ, ◌≡◌, ◌≢◌, ◌↔◌, true, is_some, Result, Ok, Err, Option, Some, None, List, ◌++◌, refl, sym, ap, subst, ◌∙◌}
+use Rattle.std.proofs.Common.{◌≡◌, ◌≢◌, ◌↔◌, true, is_some, Result, Ok, Err, Option, Some, None, List, ◌++◌, refl, sym, ap, subst, ◌∙◌}
 use Rattle.std.specs.Result.{IsErrAnd}
 use Rattle.journal.specs.declared.event.Event.{Event}
 use Rattle.journal.specs.Deadlocks.{IsDeadlock}
@@ -19,7 +19,7 @@ use Rattle.cluster.specs.Kept.{view_of}
 use Rattle.cluster.specs.Refusals.{flush_refusal}
 use Rattle.cluster.specs.Waiting.{IsWaitingCall}
 use Rattle.cluster.proofs.Covering.{covers}
-use Rattle.cluster.proofs.Made.{alike_all, free_of, not_spent, seat_spent, unchanged_after, unchanged_is, unchanged_seen, unchanged_calls, unchanged_allowed, unchanged_sound}
+use Rattle.cluster.proofs.Made.{alike_all, free_of, not_spent, seat_spent, unchanged_is, unchanged_seen, unchanged_calls, unchanged_allowed, unchanged_sound}
 use Rattle.cluster.proofs.Visiting.{Visit, on}
 
 -- what is there is something

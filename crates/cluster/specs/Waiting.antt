@@ -1,5 +1,5 @@
 -- A call that waits for what its processor awaits.
-use Rattle.std.specs.Prelude.{ℕ, ◌≡◌, ◌≢◌, Option, Some, None, Result, Ok, Err, IsOk}
+use Rattle.std.specs.Prelude.{◌≡◌, ◌≢◌, Option, Some, None, Result, Ok, Err, IsOk}
 use Rattle.journal.specs.Deadlocks.{IsDeadlock}
 use Rattle.book.specs.declared.refused.Refused.{Refused}
 use Rattle.replicas.specs.Local.{Local, calls}
