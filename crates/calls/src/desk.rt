@@ -19,17 +19,20 @@ pub struct Desk<'r, T: BookTurn, R> {
     rt: &'r R,
     alloc: Global,
     again: bool,
+    blind: bool,
     crew: Option<Crew<T>>,
     kept: Kept,
 }
 
 impl<'r, T: BookTurn + Drop, R: Wait> Desk<'r, T, R> {
-    /// Nothing yet. What is refused memory is done once more if that is asked for.
-    pub fn new(rt: &'r R, alloc: Global, again: bool) -> Desk<'r, T, R> {
+    /// Nothing yet. What is refused memory is done once more if that is asked for, and nobody looks what a refused
+    /// call changed if it is blind.
+    pub fn new(rt: &'r R, alloc: Global, again: bool, blind: bool) -> Desk<'r, T, R> {
         Desk {
             rt,
             alloc,
             again,
+            blind,
             crew: None,
             kept: Kept::Nothing,
         }
@@ -117,11 +120,11 @@ impl<'r, T: BookTurn + Drop, R: Wait> Desk<'r, T, R> {
         }
     }
 
-    /// What can be seen of the processor; None where there is none.
+    /// What can be seen of the processor; None if there is none, or if nobody looks.
     fn seen(&self, p: usize) -> Result<Option<Look>, Fault> {
         match self.processor(p)? {
-            Some(processor) => Ok(Some(seen_of(processor, self.alloc)?)),
-            None => Ok(None),
+            Some(processor) if !self.blind => Ok(Some(seen_of(processor, self.alloc)?)),
+            _ => Ok(None),
         }
     }
 

@@ -1,4 +1,4 @@
-//! `calls [--ticket] [--few] [--again] [FILE]`: makes the calls of a list, a line each, and prints what each answers.
+//! `calls [--ticket] [--few] [--again] [--blind] [FILE]`: makes the calls of a list, a line each, and prints what each answers.
 //!
 //! The list is a file's, or standard input's. A line is one of these:
 //!
@@ -19,7 +19,8 @@
 //! is seen of its processor as it was; where it doesn't, its answer says so.
 //!
 //! `--ticket` takes the ticket lock in place of the array lock, and `--few` one with 4096 entries a processor. With
-//! `--again` a call that is refused memory is made once more, and only the second answer is printed.
+//! `--again` a call that is refused memory is made once more, and only the second answer is printed. With `--blind` nobody
+//! looks whether a refused call left what is seen: looking takes memory, and so a call takes no more than it needs.
 //!
 //! The status is 0; 2 at a line that is no call; 4 where memory or the output fails; 5 at wrong words or no such file.
 #![tactic(auto)]
@@ -109,12 +110,12 @@ fn serve<T: BookTurn + Drop, R: Wait>(
     alloc: Global,
     handle: &R,
     out: &mut BufWriter<Stdout>,
-    again: bool,
+    options: &Options,
     text: &str,
 ) -> Result<(), (usize, Fault)>
     requires { T.ENTRIES ≤ 2 ^ 40 }
 {
-    let mut desk = Desk::<T, R>::new(handle, alloc, again);
+    let mut desk = Desk::<T, R>::new(handle, alloc, options.again, options.blind);
     follow_all(&mut desk, out, text)
 }
 
@@ -126,12 +127,11 @@ fn serve_by<R: Wait>(
     out: &mut BufWriter<Stdout>,
     text: &str,
 ) -> Result<(), (usize, Fault)> {
-    let again = options.again;
     match (options.few, options.ticket) {
-        (false, false) => serve::<BookLock, R>(alloc, handle, out, again, text),
-        (false, true) => serve::<TicketBookLock, R>(alloc, handle, out, again, text),
-        (true, false) => serve::<FewArray, R>(alloc, handle, out, again, text),
-        (true, true) => serve::<FewTickets, R>(alloc, handle, out, again, text),
+        (false, false) => serve::<BookLock, R>(alloc, handle, out, options, text),
+        (false, true) => serve::<TicketBookLock, R>(alloc, handle, out, options, text),
+        (true, false) => serve::<FewArray, R>(alloc, handle, out, options, text),
+        (true, true) => serve::<FewTickets, R>(alloc, handle, out, options, text),
     }
 }
 
@@ -162,7 +162,7 @@ fn start<R: Wait>(rt: &HostRuntime, handle: &R, words: &[String]) -> io::Result<
     let Some(options) = options_of(words) else {
         writeln!(
             rt.stderr(),
-            "usage: calls [--ticket] [--few] [--again] [FILE]"
+            "usage: calls [--ticket] [--few] [--again] [--blind] [FILE]"
         )?;
         return Ok(5);
     };

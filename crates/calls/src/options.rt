@@ -9,6 +9,8 @@ pub struct Options<'w> {
     pub few: bool,
     /// A call that is refused memory is made once more.
     pub again: bool,
+    /// Nobody looks whether a refused call left what is seen of its processor.
+    pub blind: bool,
     /// The file that the list stands in.
     pub file: Option<&'w str>,
 }
@@ -20,6 +22,7 @@ fn with<'w>(options: Options<'w>, word: &'w str) -> Option<Options<'w>> {
         "--ticket" => options.ticket = true,
         "--few" => options.few = true,
         "--again" => options.again = true,
+        "--blind" => options.blind = true,
         _ if word.starts_with('-') || options.file.is_some() => return None,
         _ => options.file = Some(word),
     }
@@ -32,6 +35,7 @@ pub fn options_of<'w>(words: &'w [String]) -> Option<Options<'w>> {
         ticket: false,
         few: false,
         again: false,
+        blind: false,
         file: None,
     };
     for word in words.iter().skip(1) {

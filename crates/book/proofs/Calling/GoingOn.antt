@@ -1,12 +1,10 @@
 -- Whom an event lets go on, read off the book.
 use Rattle.std.proofs.Common.{◌≡◌, ℕ, ◌<◌, IfSome, IsSome, inl, inr, ◌↔◌, EachIndex, IsTrue, List, [], length, map, Bool, true, false, Option, Some, None, slice_get, subst, sym, refl, ap, ◌∙◌, arith}
-use Rattle.std.proofs.lemmas.Bool.{true≢false}
 use Rattle.std.proofs.lemmas.Option.{none-some, slice_get-map, same_Some}
 use Rattle.std.proofs.lemmas.List.{length-map}
 use Rattle.std.specs.Option.{option_map}
 use Rattle.lists.specs.Limits.{most_processors}
 use Rattle.lists.specs.Places.{Has}
-use Rattle.lists.proofs.Joined.{has-nil}
 use Rattle.transit.specs.Mail.{mail}
 use Rattle.journal.specs.declared.event.Event.{Event}
 use Rattle.journal.specs.declared.event.Kind.{Kind}
@@ -211,15 +209,6 @@ named_arrival {b} {now} {awaits} {flags} read p q ready is_ready may found is = 
   where
     own : has_come now.flags now.transit p Depart ≡ true
     own = subst (λ (c : State). has_come c.flags c.transit p Depart ≡ true) read.same (is_ready.0 may)
-
--- nobody is named after an arrival that completed none
-pub none_arrival : {b now : State} → b ≡ now → (p q : ℕ) (ready : Bool) → IsTrue ready ↔ IsSome (mail b.transit p)
-    → ready ≡ false → (found : List ℕ) → found ≡ [] → Has found q ↔ IsNamed now p Arrive q
-none_arrival {b} {now} same p q ready is_ready not found none = (
-  (λ has. absurd (has-nil q (subst (λ (xs : List ℕ). Has xs q) none has))),
-  (λ named. absurd (true≢false (sym (is_ready.1
-      (subst (λ (c : State). has_come c.flags c.transit p Depart ≡ true) (sym same) named.0)) ∙ not))),
-)
 
 -- and after a set
 pub named_set : {b now : State} {awaits : List (Option Awaited)} {flags : List (Option (List ℕ))}
