@@ -1,5 +1,5 @@
 -- Calls that do an instruction, or begin it, whatever they answer.
-use Rattle.std.proofs.Common.{ℕ, ◌≡◌, ◌+◌, ◌%◌, ◌^◌, Option, Some, Result, Ok, Err, OnOk, List, [], ◌∷◌, false, refl, sym, ap, ◌∙◌, append-nil}
+use Rattle.std.proofs.Common.{ℕ, ◌≡◌, ◌+◌, ◌%◌, ◌^◌, Option, Some, None, Result, Ok, Err, OnOk, List, [], ◌∷◌, false, refl, sym, ap, ◌∙◌, append-nil}
 use Rattle.std.specs.Result.{result_err}
 use Rattle.journal.specs.declared.event.Kind.{Kind}
 use Rattle.journal.specs.declared.event.Kind.TheVariants.{Load, Store}
@@ -14,8 +14,9 @@ use Rattle.replicas.specs.Local.{Local}
 use Rattle.cluster.specs.Calls.{IsCall}
 use Rattle.cluster.specs.Closing.{IsClosedBy}
 use Rattle.cluster.specs.Cutting.{IsCuttingCall}
-use Rattle.lrc_run.specs.Walks.{made, Makes, Tries, Does, Begins}
-use Rattle.lrc_run.proofs.Making.{begins_by, closes, does_by, makes_but}
+use Rattle.cluster.specs.Refusals.{flush_refusal}
+use Rattle.lrc_run.specs.Walks.{made, Makes, SeesMore, Tries, Does, Begins}
+use Rattle.lrc_run.proofs.Making.{begins_by, closes, does_by, makes_but, sees_after, sees_refused, sees_same, wanted_same}
 
 -- a call that begins an instruction
 pub begun_call : {A : Type 0} {first : Option Refused} {many : ℕ} {absent : Local → Type 0} (k last : Kind)
@@ -39,14 +40,26 @@ pub done_tries : {A : Type 0} (kinds : List Kind) (i : Instruction) (m n : Local
 done_tries kinds i m n (Ok x) are tries = record { kinds = kinds; are = are; makes = makes_but tries }
 done_tries kinds i m n (Err e) are tries = tt
 
+-- whoever cuts has seen no less
+sees_cut : (refused : Option Refused) (m n : Local) → IsCuttingCall m n refused → SeesMore m n
+sees_cut refused m n call = by refused (flush_refusal m) refl refl
+  where
+    by : (r f : Option Refused) → refused ≡ r → flush_refusal m ≡ f → SeesMore m n
+    by None f is before =
+        sees_after m n (λ a b cut. sees_same a b (ap (λ (l : Local). l.seen) cut.after)) (call.ok is).0
+    by (Some e) (Some x) is before = sees_same m n (ap (λ (l : Local). l.seen) (call.outside x before).1)
+    by (Some e) None is before = sees_refused m n (call.err e before is).0
+
 -- a cut is done, whatever it answers
-cut_does : {refused : Option Refused} (m n : Local) → IsCuttingCall m n refused → Does m n Cut
-cut_does m n call = record {
+pub cut_does : {refused : Option Refused} (m n : Local) → IsCuttingCall m n refused → Does m n Cut
+cut_does {refused} m n call = record {
   kinds = [];
   are = refl;
   makes = record {
     same = call.same;
+    sees = sees_cut refused m n call;
     more = ap kinds_of call.calls_are ∙ sym (append-nil (made m));
+    wanted = wanted_same m n call.same call.calls_are;
     uncut = λ none. absurd (none refl);
   };
 }

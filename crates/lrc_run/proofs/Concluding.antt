@@ -1,12 +1,12 @@
 -- What the processors of a cluster have made at the end of a run, and what the report says of it.
-use Rattle.std.proofs.Common.{ℕ, suc, ◌≡◌, ◌<◌, ◌↔◌, Bool, true, false, cond, Option, Some, None, List, [], ◌∷◌, ◌++◌, length, map, slice_get, slice_set, get_or, zero-add, ◌+◌, refl, sym, ap, subst, subst₂, ◌∙◌, inl, inr, append_assoc, ne_eqb, arith}
+use Rattle.std.proofs.Common.{ℕ, suc, ◌≡◌, ◌<◌, ◌↔◌, Bool, true, false, cond, Option, Some, None, List, [], ◌∷◌, ◌++◌, length, map, slice_get, slice_set, get_or, zero-add, ◌+◌, refl, sym, ap, subst, subst₂, ◌∙◌, inl, inr, append_assoc, append-nil, ne_eqb, arith}
 use Rattle.std.specs.Prelude.{◌==◌, IsTrue, is_some, MatchOption}
 use Rattle.std.specs.List.{sum_by}
 use Rattle.std.proofs.lemmas.Bool.{cases_eq, cond-false}
 use Rattle.std.proofs.lemmas.List.{length-set}
 use Rattle.std.proofs.lemmas.List.Sums.{sum_by-append, sum_by-cons}
-use Rattle.std.proofs.lemmas.Option.{slice_get_within, slice_get-get_or, slice_get_read}
-use Rattle.lists.proofs.Sets.{slice_get-set_found, slice_get-set_other}
+use Rattle.std.proofs.lemmas.Option.{same_Some, slice_get_within, slice_get-get_or, slice_get_read}
+use Rattle.lists.proofs.Sets.{slice_get-set_found, slice_get-set_other, slice_get-set_same}
 use Rattle.journal.specs.declared.event.Event.{Event}
 use Rattle.journal.specs.declared.event.Kind.TheVariants.{Arrive, Depart}
 use Rattle.journal.specs.declared.event.Kind.{Kind}
@@ -27,13 +27,14 @@ use Rattle.follows.specs.Follows.{Follows, calls_of, kinds_of, load_of, sizes_of
 use Rattle.follows.proofs.Recomputing.Recomputed.{recomputed_law, race_free_law}
 use Rattle.replicas.specs.Local.{Local}
 use Rattle.cluster.specs.Clusters.{Shared}
-use Rattle.cluster.specs.Finishing.{HasCallsOf, IsFinished, IsProcessorOf}
+use Rattle.cluster.specs.Finishing.{AreAllOf, HasCallsOf, IsFinished, IsProcessorOf}
 use Rattle.lrc_report.specs.declared.report.Report.{Report}
 use Rattle.runs.specs.Cuts.{HasNoCut}
-use Rattle.lrc_run.specs.Endings.{HasFollowed, HaveFollowed}
+use Rattle.lrc_run.specs.Endings.{HasFollowed, HaveFollowed, IsBeginning, IsReportAfter, IsReportWith}
 use Rattle.lrc_run.specs.Laws.{RaceFreeReportLaw}
-use Rattle.runs.specs.Reports.{HasRace, IsReportOf}
-use Rattle.lrc_run.specs.Walks.{AreWalked, Loads, Walks, new_at}
+use Rattle.runs.specs.Fetches.{FetchesAreWanted}
+use Rattle.runs.specs.Reports.{FetchesAreNeeded, HasRace}
+use Rattle.lrc_run.specs.Walks.{AreWalked, AreWanted, Loads, SeesMore, Walks, made, new_at}
 
 -- one that walked is its cluster's
 pub walked_of : (c : Shared) (p : ℕ) (m : Local) (section : List Instruction) → Walks (new_at c p) m section
@@ -47,8 +48,13 @@ walked_of c p m section walks = record {
 -- it made its section and the closing barrier
 pub walked_made : (c : Shared) (p : ℕ) (m : Local) (section : List Instruction) → Walks (new_at c p) m section
     → HasFollowed section [] m
-walked_made c p m section walks =
-    record { own = walks.kinds; are = walks.are; made_is = walks.makes.more; uncut = walks.makes.uncut }
+walked_made c p m section walks = record {
+  own = walks.kinds;
+  are = walks.are;
+  made_is = walks.makes.more;
+  wanted = walks.makes.wanted tt;
+  uncut = walks.makes.uncut;
+}
 
 -- and then these loads
 pub loads_made : (section : List Instruction) (m n : Local) (shown : List (ℕ × ℕ)) → HasFollowed section [] m
@@ -59,6 +65,7 @@ loads_made section m n shown walked loads = record {
   are = walked.are;
   made_is = loads.more ∙ ap (λ ks. ks ++ map load_of shown) walked.made_is
       ∙ append_assoc walked.own (Arrive ∷ Depart ∷ []) (map load_of shown);
+  wanted = loads.wanted walked.wanted;
   uncut = λ none. loads.uncut ∙ walked.uncut none;
 }
 
@@ -159,6 +166,35 @@ follows_all s c ms shown h all has p section at = record {
     shows true = all.addresses_are
     shows false = refl
 
+-- a history with the calls of processors whose fetches are wanted fetches only what accesses want
+pub needed_all : (s : Plan) (c : Shared) (ms : List Local) (h : List Event) → c.sizes ≡ sizes_of s → AreAllOf c ms
+    → ((p : ℕ) (m : Local) → slice_get ms p ≡ Some m → HasCallsOf h m)
+    → ((p : ℕ) (m : Local) → slice_get ms p ≡ Some m → AreWanted m) → FetchesAreNeeded s h
+needed_all s c ms h sizes all has wanted p less =
+    let many = all.all in
+    let same = ap (λ (x : Sizes). x.processors) sizes in
+    let within : p < length ms = omega arith in
+    let m = get_or ms p (new_at c p) in
+    let here = slice_get-get_or ms p (new_at c p) within in
+    let its = all.each p m here in
+    subst₂ FetchesAreWanted (ap (λ (x : Sizes). x.words) (its.sizes ∙ sizes))
+    (sym (has p m here).calls_are ∙ ap (part h) its.number) (wanted p m here)
+
+-- and so it is of processors that followed the script
+needed_followed : (s : Plan) (c : Shared) (ms : List Local) (shown : List (ℕ × ℕ)) (h : List Event)
+    → HaveFollowed s c ms shown → ((p : ℕ) (m : Local) → slice_get ms p ≡ Some m → HasCallsOf h m)
+    → FetchesAreNeeded s h
+needed_followed s c ms shown h all has = needed_all s c ms h all.sizes all.all has each
+  where
+    each : (p : ℕ) (m : Local) → slice_get ms p ≡ Some m → AreWanted m
+    each p m here =
+        let within = slice_get_within ms p m here in
+        let one_each = all.lawful.but_uneven.one_each in
+        let same = ap (λ (x : Sizes). x.processors) all.sizes in
+        let many = all.all.all in
+        let below : p < length s.sections = omega arith in
+        (all.each p (get_or s.sections p []) m (slice_get-get_or s.sections p [] below) here).wanted
+
 -- what processor 0 called
 pub first_calls : (s : Plan) (c : Shared) (ms : List Local) (shown : List (ℕ × ℕ)) (h : List Event)
     → HaveFollowed s c ms shown
@@ -231,35 +267,39 @@ pub report_is : (s : Plan) (c : Shared) (ms : List Local) (r : Report) (o : Opti
     → r.traffic.messages ≡ r.journal.base.spent.messages + messages r.journal.events
     → r.traffic.records ≡ r.journal.base.spent.records + records r.journal.events
     → r.traffic.words ≡ r.journal.base.spent.words + words r.journal.events
-    → IsReportOf s r
+    → IsReportWith s r ms
 report_is s c ms r o all finished race racy messages_are records_are words_are = record {
-  processors = finished.journal.processors ∙ ap (λ (x : Sizes). x.processors) all.sizes;
-  addresses_are = finished.journal.addresses_are ∙ ap addresses all.sizes;
-  history = h;
-  taken = taken;
-  holds = finished.journal.holds;
-  uncut = λ none. nothing_of taken (finished.cuts ∙ uncut_all s c ms r.shown.items all none);
-  tells = record {
-    well_formed = well_formed;
-    explained = finished.faithful.explained;
-    counted = subst (λ (x : Sizes). AreCounted x h) all.sizes finished.faithful.counted;
-    follows = follows;
-    recomputed = recomputed_law s h well_formed follows;
-    racy = let P : Bool → List Event → Type 0 = λ b h. IsTrue b ↔ HasRace h in
-        subst₂ P (sym racy) (sym is) (has_race c.sizes r.journal.base taken left o same race);
-    shown_addresses = all.addresses_are;
-    replies = record {
-      front = first.0 ++ Arrive ∷ Depart ∷ [];
-      ends = first.1 ∙ sym (append_assoc first.0 (Arrive ∷ Depart ∷ []) (map load_of r.shown.items));
+  is = record {
+    processors = finished.journal.processors ∙ ap (λ (x : Sizes). x.processors) all.sizes;
+    addresses_are = finished.journal.addresses_are ∙ ap addresses all.sizes;
+    history = h;
+    taken = taken;
+    holds = finished.journal.holds;
+    uncut = λ none. nothing_of taken (finished.cuts ∙ uncut_all s c ms r.shown.items all none);
+    tells = record {
+      well_formed = well_formed;
+      explained = finished.faithful.explained;
+      counted = subst (λ (x : Sizes). AreCounted x h) all.sizes finished.faithful.counted;
+      fetches = needed_followed s c ms r.shown.items h all finished.each;
+      follows = follows;
+      recomputed = recomputed_law s h well_formed follows;
+      racy = let P : Bool → List Event → Type 0 = λ b h. IsTrue b ↔ HasRace h in
+          subst₂ P (sym racy) (sym whole) (has_race c.sizes r.journal.base taken left o same race);
+      shown_addresses = all.addresses_are;
+      replies = record {
+        front = first.0 ++ Arrive ∷ Depart ∷ [];
+        ends = first.1 ∙ sym (append_assoc first.0 (Arrive ∷ Depart ∷ []) (map load_of r.shown.items));
+      };
+      messages_are = counts (λ e. messages_of e.kind) taken left r.traffic.messages r.journal.base.spent.messages
+          messages_are
+          base.after.messages_are ∙ ap messages (sym whole);
+      records_are = counts (λ e. records_of e.kind) taken left r.traffic.records r.journal.base.spent.records records_are
+          base.after.records_are ∙ ap records (sym whole);
+      words_are = counts (λ e. words_of e.kind) taken left r.traffic.words r.journal.base.spent.words words_are
+          base.after.words_are ∙ ap words (sym whole);
     };
-    messages_are = counts (λ e. messages_of e.kind) taken left r.traffic.messages r.journal.base.spent.messages
-        messages_are
-        base.after.messages_are ∙ ap messages (sym is);
-    records_are = counts (λ e. records_of e.kind) taken left r.traffic.records r.journal.base.spent.records records_are
-        base.after.records_are ∙ ap records (sym is);
-    words_are = counts (λ e. words_of e.kind) taken left r.traffic.words r.journal.base.spent.words words_are
-        base.after.words_are ∙ ap words (sym is);
   };
+  each = finished.each;
 }
   where
     h : List Event
@@ -271,8 +311,8 @@ report_is s c ms r o all finished race racy messages_are records_are words_are =
     left : List Event
     left = r.journal.events
 
-    is : h ≡ taken ++ left
-    is = finished.journal.holds.history
+    whole : h ≡ taken ++ left
+    whole = finished.journal.holds.history
 
     base : IsBaseOf r.journal.processors r.journal.addresses taken r.journal.base
     base = finished.journal.holds.base
@@ -282,7 +322,7 @@ report_is s c ms r o all finished race racy messages_are records_are words_are =
 
     same : SaysTheSame c.sizes r.journal.base taken left
     same = let B : ℕ → ℕ → Type 0 = λ p a. IsBaseOf p a taken r.journal.base in
-        same_law c.sizes r.journal.base taken left (subst (WellFormed c.sizes) is finished.faithful.well_formed)
+        same_law c.sizes r.journal.base taken left (subst (WellFormed c.sizes) whole finished.faithful.well_formed)
         (subst₂ B finished.journal.processors finished.journal.addresses_are base)
 
     follows : Follows s h
@@ -290,6 +330,56 @@ report_is s c ms r o all finished race racy messages_are records_are words_are =
 
     first : (own : List Kind) × (calls_of h 0 ≡ own ++ Arrive ∷ Depart ∷ map load_of r.shown.items)
     first = first_calls s c ms r.shown.items h all finished.each
+
+-- what goes on from more goes on from less
+pub begins_less : (m x : Local) (h : List Event) → SeesMore m x → IsBeginning x.seen h → IsBeginning m.seen h
+begins_less m x h sees begins = (
+  sees.0 ++ begins.0,
+  begins.1 ∙ ap (λ es. es ++ begins.0) sees.1 ∙ append_assoc m.seen sees.0 begins.0,
+)
+
+-- of the processors as they were before processor 0 loaded what is shown
+pub report_after : (s : Plan) (c : Shared) (ms : List Local) (m n : Local) (r : Report) → IsLawful s
+    → c.sizes ≡ sizes_of s → AreWalked c s.sections ms → slice_get ms 0 ≡ Some m → Loads m n r.shown.items
+    → IsReportWith s r (slice_set ms 0 n) → IsReportAfter s r ms
+report_after s c ms m n r lawful sizes walked at loads told =
+    record { is = told.is; begin = begin; calls_are = calls_are }
+  where
+    h : List Event
+    h = told.is.history
+
+    last : HasCallsOf h n
+    last = told.each 0 n (slice_get-set_same ms 0 n (slice_get_within ms 0 m at))
+
+    begin : (p : ℕ) (x : Local) → slice_get ms p ≡ Some x → IsBeginning x.seen h
+    begin p x here = elim (cases_eq p 0) [
+      | inl is ↦ (let Q : ℕ → Type 0 = λ q. slice_get ms q ≡ Some x in
+          let P : Local → Type 0 = λ y. IsBeginning y.seen h in
+          subst P (same_Some m x (sym at ∙ subst Q is here)) (begins_less m n h loads.sees last.begins))
+      | inr isnt ↦ (told.each p x (slice_get-set_other ms 0 p n isnt ∙ here)).begins
+    ]
+
+    first_are : calls_of h 0 ≡ made m ++ map load_of r.shown.items
+    first_are =
+        let w = walks_at s c ms lawful sizes walked 0 m at in
+        let number = loads.same.number ∙ (walked_of c 0 m w.0 w.1).number in
+        ap kinds_of (ap (part h) (sym number) ∙ last.calls_are) ∙ loads.more
+
+    calls_are : (p : ℕ) (x : Local) → slice_get ms p ≡ Some x
+        → calls_of h p ≡ made x ++ cond (p == 0) (map load_of r.shown.items) []
+    calls_are p x here = elim (cases_eq p 0) [
+      | inl is ↦ (let Q : ℕ → Type 0 = λ q. slice_get ms q ≡ Some x in
+          let same = same_Some m x (sym at ∙ subst Q is here) in
+          let P : ℕ → Type 0 = λ q. calls_of h q ≡ made x ++ cond (q == 0) (map load_of r.shown.items) [] in
+          let R : Local → Type 0 = λ y. calls_of h 0 ≡ made y ++ map load_of r.shown.items in
+          subst P (sym is) (subst R same first_are))
+      | inr isnt ↦ (let w = walks_at s c ms lawful sizes walked p x here in
+          let number = (walked_of c p x w.0 w.1).number in
+          let own = told.each p x (slice_get-set_other ms 0 p n isnt ∙ here) in
+          let none = cond-false (p == 0) (map load_of r.shown.items) [] (ne_eqb p 0 isnt) in
+          ap kinds_of (ap (part h) (sym number) ∙ own.calls_are) ∙ sym (append-nil (made x))
+          ∙ ap (λ ks. made x ++ ks) (sym none))
+    ]
 
 -- the report of a script that never races
 pub race_free_report : RaceFreeReportLaw

@@ -1,9 +1,11 @@
 -- The exchanges of a drawn order, one by one.
-use Rattle.std.proofs.Common.{ℕ, zero, suc, ◌≡◌, ◌+◌, ◌-◌, ◌%◌, ◌<◌, List, sym, ap, arith}
-use Rattle.std.specs.List.{swap}
+use Rattle.std.proofs.Common.{ℕ, zero, suc, ◌≡◌, ◌+◌, ◌-◌, ◌%◌, ◌<◌, List, [], ◌∷◌, ◌++◌, length, sym, ap, subst, ◌∙◌, arith}
+use Rattle.std.specs.List.{range_with_len, swap}
+use Rattle.std.proofs.lemmas.List.FromFn.{get_or-range_with_len, length-range_with_len}
 use Rattle.rand_pcg.specs.Lcg.{Lcg}
 use Rattle.rand_pcg.specs.Pcg.{pcg32}
-use Rattle.lrc_run.specs.Orders.{exchanged}
+use Rattle.runs.specs.Orders.{exchanged}
+use Rattle.lrc_run.specs.Orders.{AreBelow}
 
 -- one exchange
 pub exchanged-step : (i : ℕ) (g : Lcg) (xs : List ℕ) → 0 < i
@@ -18,3 +20,20 @@ exchanged-step (suc i) g xs h =
 pub exchanged-none : (i : ℕ) (g : Lcg) (xs : List ℕ) → i ≡ 0 → exchanged i g xs ≡ (xs, g)
 unfolding exchanged
 exchanged-none i g xs e = ap (λ k. exchanged k g xs) e
+
+-- rising numbers are below their count
+pub rising_below : (n : ℕ) (xs : List ℕ) → xs ≡ range_with_len 0 n → AreBelow n xs × (length xs ≡ n)
+rising_below n xs is =
+    (subst (AreBelow n) (sym is) (each n), ap length is ∙ length-range_with_len 0 n)
+  where
+    each : (n : ℕ) → AreBelow n (range_with_len 0 n)
+    each n k d less =
+        let within : k < n = omega (arith, less, length-range_with_len 0 n) in
+        omega (arith, within, get_or-range_with_len 0 n k d within)
+
+-- one more of them
+pub rising_more : (a n : ℕ) → range_with_len a (suc n) ≡ range_with_len a n ++ (a + n) ∷ []
+rising_more a zero = let same : a ≡ a + 0 = omega arith in ap (λ x. x ∷ []) same
+rising_more a (suc n) =
+    let same : a + 1 + n ≡ a + suc n = omega arith in
+    ap (λ xs. a ∷ xs) (rising_more (a + 1) n ∙ ap (λ x. range_with_len (a + 1) n ++ x ∷ []) same)

@@ -49,3 +49,8 @@ told_ok (Err e) (Err f) P Q is same holds = tt
 pub each_error : {A E : Type 0} (r : Result A E) (Q : E → Type 0) → ((e : E) → Q e) → IfErr r Q
 each_error (Ok x) Q all = tt
 each_error (Err e) Q all = all e
+
+-- what holds of an answer holds of it in weaker words
+pub ok_as : {A E : Type 0} (r : Result A E) (P Q : A → Type 0) → ((x : A) → P x → Q x) → IfOk r P → IfOk r Q
+ok_as (Ok x) P Q less holds = less x holds
+ok_as (Err e) P Q less holds = tt

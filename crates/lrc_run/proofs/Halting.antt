@@ -1,6 +1,6 @@
 -- What the journal holds where no processor got on.
-use Rattle.std.proofs.Common.{ℕ, ◌≡◌, ◌<◌, ◌≤◌, Bool, true, false, cond, Option, Some, None, List, [], ◌∷◌, ◌++◌, length, take, get_or, slice_get, refl, sym, ap, subst, ◌∙◌, append_assoc, arith}
-use Rattle.std.specs.Prelude.{◌==◌, nat_lt, MatchOption}
+use Rattle.std.proofs.Common.{ℕ, ◌≡◌, ◌<◌, ◌≤◌, Bool, true, false, cond, Some, List, [], ◌∷◌, ◌++◌, length, take, get_or, slice_get, refl, sym, ap, subst, ◌∙◌, append_assoc, arith}
+use Rattle.std.specs.Prelude.{◌==◌, nat_lt}
 use Rattle.std.proofs.Math.Seq.{take-length}
 use Rattle.std.proofs.lemmas.Bool.{ltb-true, ltb-false}
 use Rattle.std.proofs.lemmas.List.{get_or_past}
@@ -24,14 +24,15 @@ use Rattle.follows.specs.Instructions.{AreEventsOf, AreEventsOfAll}
 use Rattle.follows.proofs.Beginnings.{begins_after, begins_front, begins_whole, begins_within}
 use Rattle.replicas.specs.Local.{Local}
 use Rattle.cluster.specs.Clusters.{Shared}
-use Rattle.cluster.specs.Finishing.{AreAllOf, IsFinished, IsProcessorOf}
+use Rattle.cluster.specs.Finishing.{AreAllOf, HasCallsOf, IsFinished, IsProcessorOf}
 use Rattle.runs.specs.Cuts.{HasCut, HasNoCut}
 use Rattle.runs.specs.Ends.{IsJournalSoFar}
-use Rattle.lrc_run.specs.declared.steps.turns.Progress.{Progress}
-use Rattle.lrc_run.specs.declared.steps.turns.Progress.TheVariants.{Next, Passed, Waits}
-use Rattle.lrc_run.specs.Steps.{AreOnTheirWay, HaveBegun, IsAt, instruction_at}
-use Rattle.lrc_run.specs.Walks.{AreWalked, made, new_at}
-use Rattle.lrc_run.proofs.Concluding.{no_sum, nothing_of}
+use Rattle.runs.specs.declared.progress.Progress.{Progress}
+use Rattle.runs.specs.declared.progress.Progress.TheVariants.{Next, Passed, Waits}
+use Rattle.runs.specs.Turns.{instruction_at}
+use Rattle.lrc_run.specs.Steps.{AreOnTheirWay, IsAt}
+use Rattle.lrc_run.specs.Walks.{AreWanted, made, new_at}
+use Rattle.lrc_run.proofs.Concluding.{needed_all, no_sum, nothing_of}
 use Rattle.lrc_run.proofs.Stepping.{same_on_its_way}
 
 -- a cut among the first instructions is one of the section
@@ -45,6 +46,13 @@ at_uncut c p m section (Next n) is none = is.0.makes.uncut (λ cut. none (cut_of
 at_uncut c p m section (Waits n) is none =
     is.0.begins.makes.uncut ∙ is.0.done.makes.uncut (λ cut. none (cut_of_front n section cut))
 at_uncut c p m section Passed is none = is.makes.uncut none
+
+-- and its fetches are wanted
+at_wanted : (c : Shared) (p : ℕ) (m : Local) (section : List Instruction) (at : Progress)
+    → IsAt (new_at c p) m section at → AreWanted m
+at_wanted c p m section (Next n) is = is.0.makes.wanted tt
+at_wanted c p m section (Waits n) is = is.0.begins.makes.wanted (is.0.done.makes.wanted tt)
+at_wanted c p m section Passed is = is.makes.wanted tt
 
 -- the events of its first instructions and the first one of the next begin a section
 waits_begins : (section : List Instruction) (shown : List ℕ) (n : ℕ) (kinds : List Kind) (first last : Kind)
@@ -84,50 +92,58 @@ at_begins c p m section shown (Waits n) is =
     begun.begins.are)
 
 -- each of the script's processors has a section, and is somewhere on its way through it
-at_of : (s : Plan) (c : Shared) (ms : List Local) → IsLawful s → c.sizes ≡ sizes_of s
-    → HaveBegun c s.sections ms → (p : ℕ) (m : Local) → slice_get ms p ≡ Some m
+at_of : (s : Plan) (c : Shared) (ms : List Local) (all : List Progress) → IsLawful s → c.sizes ≡ sizes_of s
+    → AreOnTheirWay c s.sections ms all → (p : ℕ) (m : Local) → slice_get ms p ≡ Some m
     → (section : List Instruction) × (at : Progress) × (slice_get s.sections p ≡ Some section)
     × IsAt (new_at c p) m section at
-at_of s c ms lawful sizes begun p m here =
+at_of s c ms all lawful sizes way p m here =
     let within = slice_get_within ms p m here in
     let one_each = lawful.but_uneven.one_each in
     let same = ap (λ (x : Sizes). x.processors) sizes in
-    let way = begun.1 in
     let many = way.many in
     let long = way.long in
     let listed : p < length s.sections = omega arith in
-    let known : p < length begun.0 = omega arith in
+    let known : p < length all = omega arith in
     let section = get_or s.sections p [] in
-    let at = get_or begun.0 p Passed in
+    let at = get_or all p Passed in
     let its = slice_get-get_or s.sections p [] listed in
-    let there = slice_get-get_or begun.0 p Passed known in
+    let there = slice_get-get_or all p Passed known in
     (section, at, its, way.each p section m at its here there)
 
 -- they are all of the cluster
-pub halted_all : (s : Plan) (c : Shared) (ms : List Local) → IsLawful s → c.sizes ≡ sizes_of s
-    → HaveBegun c s.sections ms → AreAllOf c ms
-halted_all s c ms lawful sizes begun = record { all = begun.1.many; each = each }
+pub halted_all : (s : Plan) (c : Shared) (ms : List Local) (all : List Progress) → IsLawful s → c.sizes ≡ sizes_of s
+    → AreOnTheirWay c s.sections ms all → AreAllOf c ms
+halted_all s c ms all lawful sizes way = record { all = way.many; each = each }
   where
     each : (p : ℕ) (m : Local) → slice_get ms p ≡ Some m → IsProcessorOf c p m
     each p m here =
-        let is = at_of s c ms lawful sizes begun p m here in
+        let is = at_of s c ms all lawful sizes way p m here in
         let same = same_on_its_way (new_at c p) m is.0 is.1 is.3 in
         record { lock = same.lock; number = same.number; sizes = same.sizes }
 
+-- the journal so far is of the script, and its history has the calls of these processors
+pub record IsJournalWith (s : Plan) (j : Log) (ms : List Local) : Type 0 where
+  pub is : IsJournalSoFar s j
+  pub each : (p : ℕ) (m : Local) → slice_get ms p ≡ Some m → HasCallsOf is.history m
+
 -- the journal of a finished cluster whose processors are on their way
-pub halted_is : (s : Plan) (c : Shared) (ms : List Local) (j : Log) → IsLawful s → c.sizes ≡ sizes_of s
-    → HaveBegun c s.sections ms → IsFinished c.sizes ms j → IsJournalSoFar s j
-halted_is s c ms j lawful sizes begun finished = record {
-  processors = finished.journal.processors ∙ ap (λ (x : Sizes). x.processors) sizes;
-  addresses_are = finished.journal.addresses_are ∙ ap addresses sizes;
-  history = h;
-  taken = finished.taken;
-  holds = finished.journal.holds;
-  uncut = λ none. nothing_of finished.taken (finished.cuts ∙ no_sum ms (own none));
-  well_formed = subst (λ (x : Sizes). WellFormed x h) sizes finished.faithful.well_formed;
-  explained = finished.faithful.explained;
-  counted = subst (λ (x : Sizes). AreCounted x h) sizes finished.faithful.counted;
-  begins = begins;
+pub halted_is : (s : Plan) (c : Shared) (ms : List Local) (all : List Progress) (j : Log) → IsLawful s → c.sizes ≡ sizes_of s
+    → AreOnTheirWay c s.sections ms all → IsFinished c.sizes ms j → IsJournalWith s j ms
+halted_is s c ms all j lawful sizes way finished = record {
+  is = record {
+    processors = finished.journal.processors ∙ ap (λ (x : Sizes). x.processors) sizes;
+    addresses_are = finished.journal.addresses_are ∙ ap addresses sizes;
+    history = h;
+    taken = finished.taken;
+    holds = finished.journal.holds;
+    uncut = λ none. nothing_of finished.taken (finished.cuts ∙ no_sum ms (own none));
+    well_formed = subst (λ (x : Sizes). WellFormed x h) sizes finished.faithful.well_formed;
+    explained = finished.faithful.explained;
+    counted = subst (λ (x : Sizes). AreCounted x h) sizes finished.faithful.counted;
+    fetches = needed_all s c ms h sizes (halted_all s c ms all lawful sizes way) finished.each wanted;
+    begins = begins;
+  };
+  each = finished.each;
 }
   where
     h : List Event
@@ -135,31 +151,30 @@ halted_is s c ms j lawful sizes begun finished = record {
 
     own : HasNoCut s → (p : ℕ) (m : Local) → slice_get ms p ≡ Some m → m.own_cut ≡ 0
     own none p m here =
-        let is = at_of s c ms lawful sizes begun p m here in
+        let is = at_of s c ms all lawful sizes way p m here in
         at_uncut c p m is.0 is.1 is.3 (none p is.0 is.2)
+
+    wanted : (p : ℕ) (m : Local) → slice_get ms p ≡ Some m → AreWanted m
+    wanted p m here =
+        let is = at_of s c ms all lawful sizes way p m here in
+        at_wanted c p m is.0 is.1 is.3
 
     begins : BeginsScript s h
     begins p section its =
         let listed = slice_get_within s.sections p section its in
         let one_each = lawful.but_uneven.one_each in
         let same = ap (λ (x : Sizes). x.processors) sizes in
-        let many = begun.1.many in
-        let long = begun.1.long in
+        let many = way.many in
+        let long = way.long in
         let within : p < length ms = omega arith in
-        let known : p < length begun.0 = omega arith in
+        let known : p < length all = omega arith in
         let m = get_or ms p (new_at c p) in
         let here = slice_get-get_or ms p (new_at c p) within in
-        let there = slice_get-get_or begun.0 p Passed known in
+        let there = slice_get-get_or all p Passed known in
         let shown = cond (p == 0) s.shown [] in
-        let is = at_begins c p m section shown (get_or begun.0 p Passed)
-        (begun.1.each p section m (get_or begun.0 p Passed) its here there) in
-        let number = ((halted_all s c ms lawful sizes begun).each p m here).number in
+        let is = at_begins c p m section shown (get_or all p Passed)
+        (way.each p section m (get_or all p Passed) its here there) in
+        let number = ((halted_all s c ms all lawful sizes way).each p m here).number in
         let made_is : calls_of h p ≡ made m =
         ap kinds_of (ap (part h) (sym number) ∙ (finished.each p m here).calls_are) in
         subst (BeginsSection section shown) (sym made_is) is
-
--- where rounds ended with a processor that waits
-pub begun_at : (c : Shared) (sections : List (List Instruction)) (ms : List Local) (o : Option ℕ) (p : ℕ) → o ≡ Some p
-    → MatchOption o (AreWalked c sections ms) (λ _. HaveBegun c sections ms) → HaveBegun c sections ms
-begun_at c sections ms None p is answer = absurd (cc is)
-begun_at c sections ms (Some q) p is answer = answer

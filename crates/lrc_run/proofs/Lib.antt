@@ -1,8 +1,11 @@
 pub mod Making
+pub mod Adding
 pub mod Calling
 pub mod Stepping
+pub mod Turning
 pub mod Exchanging
 pub mod Concluding
 pub mod Failing
 pub mod Joining
 pub mod Halting
+pub mod ByTurns

@@ -1,14 +1,13 @@
 -- What calls on a processor add to those that it has made.
-use Rattle.std.proofs.Common.{ℕ, Bool, inl, inr, ◌≡◌, Option, Some, None, Result, Ok, Err, OnErr, OnOk, IfOk, List, [], ◌∷◌, ◌++◌, length, false, true, cond, refl, sym, ap, subst, ◌∙◌, append_assoc, append-nil}
+use Rattle.std.proofs.Common.{ℕ, Bool, inl, inr, ◌≡◌, Option, Some, None, Result, Ok, Err, OnOk, List, [], ◌∷◌, ◌++◌, length, false, true, cond, refl, sym, ap, subst, subst₂, ◌∙◌, append_assoc, append-nil}
 use Rattle.std.specs.Prelude.{not}
 use Rattle.std.specs.Result.{result_err}
 use Rattle.std.proofs.lemmas.Option.{slice_get_within}
 use Rattle.lists.proofs.Places.{slice_get-append_left, slice_get-last}
 use Rattle.journal.specs.declared.event.Event.{Event}
 use Rattle.journal.specs.declared.event.Kind.{Kind}
-use Rattle.journal.specs.declared.event.Kind.TheVariants.{Load, Store}
 use Rattle.journal.specs.Did.{event}
-use Rattle.journal.specs.Events.{part}
+use Rattle.journal.specs.Sizes.{Sizes}
 use Rattle.journal.specs.Waits.{awaited}
 use Rattle.lrc_script.specs.declared.script.Instruction.{Instruction}
 use Rattle.lrc_script.specs.declared.script.Instruction.TheVariants.{Barrier, Cut}
@@ -17,42 +16,77 @@ use Rattle.follows.specs.Follows.{is_fetch, kinds_of}
 use Rattle.follows.proofs.Calls.{kinds_of-append, kinds_of-one}
 use Rattle.follows.proofs.Instructions.{NoFetch, all-push, no_fetch_one}
 use Rattle.book.specs.declared.refused.Refused.{Refused}
-use Rattle.replicas.specs.Local.{Local, calls, noted}
-use Rattle.cluster.specs.Accesses.{IsStored, IsFetched}
-use Rattle.cluster.specs.Calls.{IsSameProcessor, IsCall}
+use Rattle.book.specs.declared.refused.Refused.TheVariants.{NoMemory, NotYet, NothingAwaited, SeatSpent}
+use Rattle.replicas.specs.Local.{Local, calls}
+use Rattle.cluster.specs.Calls.{IsSame, IsSameProcessor, IsCall, IsHanded, IsRefusedInside}
 use Rattle.cluster.specs.Closing.{IsClosedBy}
-use Rattle.cluster.specs.Taking.{awaited_event}
+use Rattle.cluster.specs.Entering.{IsAfter, entered}
+use Rattle.cluster.specs.Refusals.{is_spent, is_waiting, or_spent, take_test}
+use Rattle.cluster.specs.Taking.{IsLate, IsTaken, IsTakingCall, awaited_event}
 use Rattle.runs.specs.Cuts.{HasCut}
-use Rattle.lrc_run.specs.Walks.{made, Makes, MakesBut, Tries, Does, Begins, IsOnItsWay, Takes, DoesAll, Walks}
+use Rattle.runs.specs.Fetches.{FetchesAreWanted}
+use Rattle.runs.proofs.Fetches.{wanted-append, wanted_one}
+use Rattle.lrc_run.specs.Walks.{AreWanted, made, Makes, MakesBut, SeesMore, Tries, Does, Begins, IsOnItsWay, Takes, DoesAll, Walks}
 
 pub same_then : (l m n : Local) → IsSameProcessor l m → IsSameProcessor m n → IsSameProcessor l n
 same_then l m n a b = record { lock = b.lock ∙ a.lock; number = b.number ∙ a.number; sizes = b.sizes ∙ a.sizes }
 
+-- a processor that is as it was is the same
+same_none : (m n : Local) → n ≡ m → IsSameProcessor m n
+same_none m n e = record {
+  lock = ap (λ (x : Local). x.lock) e;
+  number = ap (λ (x : Local). x.number) e;
+  sizes = ap (λ (x : Local). x.sizes) e;
+}
+
+-- who has seen what it had has seen no less
+pub sees_same : (m n : Local) → n.seen ≡ m.seen → SeesMore m n
+sees_same m n e = ([], e ∙ sym (append-nil m.seen))
+
+pub sees_then : (l m n : Local) → SeesMore l m → SeesMore m n → SeesMore l n
+sees_then l m n a b = (a.0 ++ b.0, b.1 ∙ ap (λ es. es ++ b.0) a.1 ∙ append_assoc l.seen a.0 b.0)
+
+-- its fetches are wanted still where its calls are as they were
+pub wanted_same : (m n : Local) → IsSameProcessor m n → calls n ≡ calls m → AreWanted m → AreWanted n
+wanted_same m n same e was = subst₂ FetchesAreWanted (sym (ap (λ (s : Sizes). s.words) same.sizes)) (sym e) was
+
+-- and where it has some more that are
+pub wanted_more : (m n : Local) (es : List Event) → IsSameProcessor m n → calls n ≡ calls m ++ es
+    → FetchesAreWanted m.sizes.words es → AreWanted m → AreWanted n
+wanted_more m n es same e more was =
+    subst₂ FetchesAreWanted (sym (ap (λ (s : Sizes). s.words) same.sizes)) (sym e)
+    (wanted-append m.sizes.words (calls m) es was more)
+
 -- a processor that is as it was has made no call
 pub makes_none : (m n : Local) → n ≡ m → Makes m n []
 makes_none m n e = record {
-  same = record {
-    lock = ap (λ (x : Local). x.lock) e;
-    number = ap (λ (x : Local). x.number) e;
-    sizes =
-        ap (λ (x : Local). x.sizes) e;
-  };
+  same = same_none m n e;
+  sees = sees_same m n (ap (λ (x : Local). x.seen) e);
   more = ap made e ∙ sym (append-nil (made m));
+  wanted = wanted_same m n (same_none m n e) (ap calls e);
   uncut = ap (λ (x : Local). x.own_cut) e;
 }
 
 -- nor one whose calls are as they were
-pub makes_same : (m n : Local) → IsSameProcessor m n → calls n ≡ calls m → n.own_cut ≡ m.own_cut → Makes m n []
-makes_same m n same e uncut =
-    record { same = same; more = ap kinds_of e ∙ sym (append-nil (made m)); uncut = uncut }
+pub makes_same : (m n : Local) → IsSameProcessor m n → SeesMore m n → calls n ≡ calls m → n.own_cut ≡ m.own_cut
+    → Makes m n []
+makes_same m n same sees e uncut = record {
+  same = same;
+  sees = sees;
+  more = ap kinds_of e ∙ sym (append-nil (made m));
+  wanted = wanted_same m n same e;
+  uncut = uncut;
+}
 
 -- one more event is one more call
-pub makes_one : (m n : Local) (k : Kind) → is_fetch k ≡ false → IsSameProcessor m n
+pub makes_one : (m n : Local) (k : Kind) → is_fetch k ≡ false → IsSameProcessor m n → SeesMore m n
     → calls n ≡ calls m ++ event m.number k ∷ [] → n.own_cut ≡ m.own_cut → Makes m n (k ∷ [])
-makes_one m n k is same e uncut = record {
+makes_one m n k is same sees e uncut = record {
   same = same;
+  sees = sees;
   more = ap kinds_of e ∙ kinds_of-append (calls m) (event m.number k ∷ [])
       ∙ ap (λ ks. made m ++ ks) (kinds_of-one (event m.number k) is);
+  wanted = wanted_more m n (event m.number k ∷ []) same e (wanted_one m.sizes.words (event m.number k) is);
   uncut = uncut;
 }
 
@@ -60,32 +94,71 @@ makes_one m n k is same e uncut = record {
 pub makes_then : (l m n : Local) (xs ys : List Kind) → Makes l m xs → Makes m n ys → Makes l n (xs ++ ys)
 makes_then l m n xs ys first next = record {
   same = same_then l m n first.same next.same;
+  sees = sees_then l m n first.sees next.sees;
   more = next.more ∙ ap (λ ks. ks ++ ys) first.more ∙ append_assoc (made l) xs ys;
+  wanted = λ was. next.wanted (first.wanted was);
   uncut = next.uncut ∙ first.uncut;
 }
 
 -- what cuts nothing off doesn't where it may
 pub makes_but : {cuts : Type 0} {m n : Local} {kinds : List Kind} → Makes m n kinds → MakesBut cuts m n kinds
-makes_but makes = record { same = makes.same; more = makes.more; uncut = λ _. makes.uncut }
+makes_but makes = record {
+  same = makes.same;
+  sees = makes.sees;
+  more = makes.more;
+  wanted = makes.wanted;
+  uncut = λ _. makes.uncut;
+}
 
 -- what was made first, and then, where either may have cut something off
 pub but_then : {A B C : Type 0} (l m n : Local) (xs ys : List Kind) → (A → C) → (B → C) → MakesBut A l m xs
     → MakesBut B m n ys → MakesBut C l n (xs ++ ys)
 but_then l m n xs ys one other first next = record {
   same = same_then l m n first.same next.same;
+  sees = sees_then l m n first.sees next.sees;
   more = next.more ∙ ap (λ ks. ks ++ ys) first.more ∙ append_assoc (made l) xs ys;
+  wanted = λ was. next.wanted (first.wanted was);
   uncut = λ none. next.uncut (λ b. none (other b)) ∙ first.uncut (λ a. none (one a));
 }
 
--- a call after others that added nothing
-pub tries_after : {A : Type 0} (l m n : Local) (r : Result A Refused) (kinds : A → List Kind) → Makes l m []
-    → Tries m n r kinds → Tries l n r kinds
-tries_after l m n (Ok x) kinds first next = makes_then l m n [] (kinds x) first next
-tries_after l m n (Err e) kinds first next = makes_then l m n [] [] first next
+-- whoever hands its block in sees that
+pub sees_handed : (m n : Local) → IsHanded m n → SeesMore m n
+sees_handed m n e = (m.block, ap (λ (x : Local). x.seen) e)
 
--- a call that was refused, and one that adds no event
-pub makes_refused : (l m n : Local) → m ≡ l → Makes m n [] → Makes l n []
-makes_refused l m n same made = makes_then l m n [] [] (makes_none l m same) made
+-- and whoever closes its interval, too
+pub sees_closed : (k : Kind) (m n : Local) → IsClosedBy k m n → SeesMore m n
+sees_closed k m n e = (
+  m.block ++ event m.number k ∷ [],
+  ap (λ (x : Local). x.seen) e ∙ append_assoc m.seen m.block (event m.number k ∷ []),
+)
+
+-- and whoever takes sees what it took
+pub sees_taken : (m n : Local) → IsTaken m n → SeesMore m n
+sees_taken m n taken = (event m.number taken.kind ∷ [], ap (λ (x : Local). x.seen) taken.after)
+
+-- a call that entered has seen what it found there, and what it did
+pub sees_after : {done : Local → Local → Type 0} (m n : Local) → ((a b : Local) → done a b → SeesMore a b)
+    → IsAfter done m n → SeesMore m n
+sees_after m n sees after =
+    sees_then m (entered m after.rest after.cut) n (after.rest, refl) (sees (entered m after.rest after.cut) n after.after)
+
+-- and one that did nothing there what it found
+pub sees_refused : (m n : Local) → IsAfter IsSame m n → SeesMore m n
+sees_refused m n after = (after.rest, ap (λ (x : Local). x.seen) after.after.same)
+
+-- so has each call, whatever it answers
+pub sees_call : {first : Option Refused} {many : ℕ} {absent : Local → Type 0} {done : Local → Local → Type 0}
+    {added : List Event} {m n : Local} {refused : Option Refused} → ((a b : Local) → done a b → SeesMore a b)
+    → IsCall first many absent done added m n refused → SeesMore m n
+sees_call {first} {many} {absent} {done} {added} {m} {n} {refused} sees call = by refused first refl refl
+  where
+    by : (r f : Option Refused) → refused ≡ r → first ≡ f → SeesMore m n
+    by None f is before = sees_after m n sees (call.ok is).0
+    by (Some e) (Some x) is before = sees_same m n (ap (λ (l : Local). l.seen) (call.outside x before).1)
+    by (Some e) None is before = elim (call.err e before is) [
+      | inl inside ↦ sees_refused m n inside.entered
+      | inr unmade ↦ sees_same m n (ap (λ (l : Local). l.seen) unmade.1)
+    ]
 
 -- it is the same processor, whatever the answer
 pub tries_same : {A : Type 0} (m n : Local) (r : Result A Refused) (kinds : A → List Kind) → Tries m n r kinds
@@ -93,88 +166,30 @@ pub tries_same : {A : Type 0} (m n : Local) (r : Result A Refused) (kinds : A �
 tries_same m n (Ok x) kinds h = h.same
 tries_same m n (Err e) kinds h = h.same
 
--- a processor whose block or copies alone changed is the same
-same_but : (m n l : Local) → n ≡ l → IsSameProcessor m l → IsSameProcessor m n
-same_but m n l e same = subst (IsSameProcessor m) (sym e) same
-
--- a load
-pub tries_load : (m n : Local) (a : ℕ) (r : Result ℕ Refused) → OnErr r (n ≡ m)
-    → IfOk r (λ v. n ≡ noted m (Load a v)) → IfOk r (λ v. calls n ≡ calls m ++ event m.number (Load a v) ∷ [])
-    → Tries m n r (λ v. Load a v ∷ [])
-tries_load m n a (Ok v) err ok more =
-    makes_one m n (Load a v) refl (same_but m n _ ok (record { lock = refl; number = refl; sizes = refl })) more
-    (ap (λ (x : Local). x.own_cut) ok)
-tries_load m n a (Err e) err ok more = makes_none m n err
-
--- a store
-pub tries_store : {A : Type 0} (m n : Local) (a v : ℕ) (r : Result A Refused) → OnErr r (n ≡ m)
-    → OnOk r (IsStored m a v n)
-    → OnOk r (calls n ≡ calls m ++ event m.number (Store a v) ∷ [])
-    → Tries m n r (λ _. Store a v ∷ [])
-tries_store m n a v (Ok x) err ok more =
-    makes_one m n (Store a v) refl (same_but m n _ ok.after (record { lock = refl; number = refl; sizes = refl })) more
-    (ap (λ (x : Local). x.own_cut) ok.after)
-tries_store m n a v (Err e) err ok more = makes_none m n err
-
--- a fetch
-pub tries_fetch : {A : Type 0} (m n : Local) (page : ℕ) (r : Result A Refused) → OnErr r (n ≡ m)
-    → OnOk r (IsFetched m page n) → Tries m n r (λ _. [])
-tries_fetch m n page (Ok x) err ok = record {
-  same = same_but m n _ ok.after (record { lock = refl; number = refl; sizes = refl });
-  more = ap made ok.after ∙ ap kinds_of (sym (append_assoc (part m.seen m.number) m.block _))
-      ∙ kinds_of-append (calls m) (_ ∷ []);
-  uncut = ap (λ (x : Local). x.own_cut) ok.after;
-}
-tries_fetch m n page (Err e) err ok = makes_none m n err
-
--- a call that enters the book
-pub tries_call : {A : Type 0} (first : Option Refused) (many : ℕ) (absent : Local → Type 0)
-    (done : Local → Local → Type 0)
-    (added : List Event) (m n : Local) (r : Result A Refused) → IsCall first many absent done added m n (result_err r)
-    → Tries m n r (λ _. kinds_of added)
-tries_call first many absent done added m n (Ok x) call = record {
-  same = call.same;
-  more = ap kinds_of (call.ok refl).2 ∙ kinds_of-append (calls m) added;
-  uncut = call.uncut;
-}
-tries_call first many absent done added m n (Err e) call = makes_same m n call.same (call.kept (λ none. cc)) call.uncut
-
--- and that adds no event, whatever it answers
-pub makes_call : {A : Type 0} {first : Option Refused} {many : ℕ} {absent : Local → Type 0}
-    {done : Local → Local → Type 0}
-    (m n : Local) (r : Result A Refused) → IsCall first many absent done [] m n (result_err r) → Makes m n []
-makes_call {A} {first} {many} {absent} {done} m n (Ok x) call =
-    tries_call {A = A} first many absent done [] m n (Ok x) call
-makes_call {A} {first} {many} {absent} {done} m n (Err e) call =
-    tries_call {A = A} first many absent done [] m n (Err e) call
-
--- a call that closes the interval was made, and what comes next is awaited
+-- a call that closes the interval was made, the block is handed in, and what comes next is awaited
 pub closes : {A : Type 0} {first : Option Refused} {many : ℕ} {absent : Local → Type 0} (k : Kind)
     (m n : Local) (r : Result A Refused) {x : A} → is_fetch k ≡ false → r ≡ Ok x
     → IsCall first many absent (IsClosedBy k) (event m.number k ∷ []) m n (result_err r)
-    → Makes m n (k ∷ []) × (n.awaits ≡ awaited k)
+    → Makes m n (k ∷ []) × (n.block ≡ []) × (n.awaits ≡ awaited k)
 closes {A} {first} {many} {absent} k m n r {x} plain is call =
     let none : result_err r ≡ None = rw is refl in
     let done = call.ok none in
-    (makes_one m n k plain call.same done.2 call.uncut, ap (λ (l : Local). l.awaits) done.0.after)
+    let sees = sees_call (λ a b. sees_closed k a b) call in (
+      makes_one m n k plain call.same sees done.2 call.uncut,
+      ap (λ (l : Local). l.block) done.0.after,
+      ap (λ (l : Local). l.awaits) done.0.after,
+    )
 
 -- by it an instruction is begun
 pub begins_by : (k last : Kind) (i : Instruction) (m n : Local) → AreEventsOf i (k ∷ last ∷ []) → awaited k ≡ Some last
-    → Makes m n (k ∷ []) × (n.awaits ≡ awaited k) → Begins m n i
+    → Makes m n (k ∷ []) × (n.block ≡ []) × (n.awaits ≡ awaited k) → Begins m n i
 begins_by k last i m n are next made =
-    record { first = k; last = last; are = are; makes = made.0; awaits = made.1 ∙ next }
+    record { first = k; last = last; are = are; makes = made.0; handed = made.1; awaits = made.2 ∙ next }
 
 -- or done
 pub does_by : (k : Kind) (i : Instruction) (m n : Local) → AreEventsOf i (k ∷ [])
-    → Makes m n (k ∷ []) × (n.awaits ≡ awaited k) → Does m n i
+    → Makes m n (k ∷ []) × (n.block ≡ []) × (n.awaits ≡ awaited k) → Does m n i
 does_by k i m n are made = record { kinds = k ∷ []; are = are; makes = makes_but made.0 }
-
--- an instruction without events is done by a call that adds none
-pub does_by_none : {A : Type 0} (i : Instruction) (m n : Local) (r : Result A Refused) {x : A} → AreEventsOf i []
-    → r ≡ Ok x → Tries m n r (λ _. []) → Does m n i
-does_by_none {A} i m n r {x} are is tries =
-    let P : Result A Refused → Type 0 = λ r. Tries m n r (λ _. []) in
-    record { kinds = []; are = are; makes = makes_but (subst P is tries) }
 
 -- of two kinds that are no fetches the last one isn't
 no_fetch_last : (first last : Kind) → NoFetch (first ∷ last ∷ []) → is_fetch last ≡ false
@@ -188,30 +203,60 @@ no_fetch_last first last none = cases (is_fetch first) (is_fetch last) refl refl
     cases false true ef el e = absurd (cc)
 
 -- an instruction's events are no fetches, its last one too
-last_is_no_fetch : (i : Instruction) (first last : Kind) → AreEventsOf i (first ∷ last ∷ []) → is_fetch last ≡ false
+pub last_is_no_fetch : (i : Instruction) (first last : Kind) → AreEventsOf i (first ∷ last ∷ []) → is_fetch last ≡ false
 last_is_no_fetch i first last are = no_fetch_last first last (no_fetch_one i (first ∷ last ∷ []) are)
 
--- what is awaited stays so where a call is refused
-refused_awaits : (first : Option Refused) (many : ℕ) (absent : Local → Type 0) (done : Local → Local → Type 0)
-    (added : List Event) (m n : Local) (e : Refused) (f : Option Refused) → first ≡ f
-    → IsCall first many absent done added m n (Some e) → n.awaits ≡ m.awaits
-refused_awaits first many absent done added m n e (Some x) is call =
-    ap (λ (l : Local). l.awaits) (call.outside x is).1
-refused_awaits first many absent done added m n e None is call = elim (call.err e is refl) [
-  | inl inside ↦ ap (λ (l : Local). l.awaits) inside.entered.after.same
-  | inr outside ↦ ap (λ (l : Local). l.awaits) outside.1
+-- why a take is refused before it enters is never that it comes too early
+take_enters : (m : Local) → or_spent (take_test m) m ≡ Some NotYet → ⊥
+take_enters m = waits (not (is_waiting m))
+  where
+    spent : (b : Bool) → cond b (Some SeatSpent) None ≡ Some NotYet → ⊥
+    spent true e = absurd (cc)
+    spent false e = absurd (cc)
+
+    waits : (b : Bool) → or_spent (cond b (Some NothingAwaited) None) m ≡ Some NotYet → ⊥
+    waits true e = absurd (cc)
+    waits false e = spent (is_spent m) e
+
+-- a take that comes too early entered, and left all as it found it
+take_inside : (m n : Local) (f : Option Refused) → or_spent (take_test m) m ≡ f → IsTakingCall m n (Some NotYet)
+    → IsRefusedInside 1 IsLate m n NotYet
+take_inside m n (Some x) is call =
+    let out : Some NotYet ≡ Some x = (call.outside x is).0 in absurd (take_enters m (is ∙ sym out))
+take_inside m n None is call = elim (call.err NotYet is refl) [
+  | inl inside ↦ inside
+  | inr outside ↦ absurd (let other : NotYet ≡ NoMemory = outside.0 in cc)
 ]
 
 -- a take of what hasn't come
-pub takes_nothing : {A : Type 0} {first : Option Refused} {many : ℕ} {absent : Local → Type 0}
-    {done : Local → Local → Type 0} {added : List Event} (m n : Local) (r : Result A Refused) (e : Refused)
-    → r ≡ Err e → IsCall first many absent done added m n (result_err r) → Takes m n false
-takes_nothing {A} {first} {many} {absent} {done} {added} m n r e is call =
-    let refused = subst (λ (x : Result A Refused). IsCall first many absent done added m n (result_err x)) is call in
+pub takes_nothing : {A : Type 0} (m n : Local) (r : Result A Refused) → r ≡ Err NotYet
+    → IsTakingCall m n (result_err r) → Takes m n false
+takes_nothing {A} m n r is call =
+    let refused = subst (λ (x : Result A Refused). IsTakingCall m n (result_err x)) is call in
+    let inside = take_inside m n (or_spent (take_test m) m) refl refused in
+    record {
+      same = refused.same;
+      sees = sees_refused m n inside.entered;
+      yes = λ not. absurd (cc);
+      no = λ not. record {
+        calls_are = refused.kept (λ none. cc);
+        block_is = ap (λ (l : Local). l.block) inside.entered.after.same;
+        awaits_is = ap (λ (l : Local). l.awaits) inside.entered.after.same;
+        late = inside.not_yet.0 refl;
+      };
+      uncut = refused.uncut;
+    }
+
+-- and of what has
+pub takes_all : {A : Type 0} (m n : Local) (r : Result A Refused) {x : A} → r ≡ Ok x
+    → IsTakingCall m n (result_err r) → Takes m n true
+takes_all {A} m n r {x} is call =
+    let done = call.ok (rw is refl) in
     record {
       same = call.same;
-      yes = λ not. absurd (cc);
-      no = λ not. (refused.kept (λ none. cc), refused_awaits first many absent done added m n e first refl refused);
+      sees = sees_call (λ a b taken. sees_taken a b taken) call;
+      yes = λ yes. done.2;
+      no = λ no. absurd (cc);
       uncut = call.uncut;
     }
 
@@ -222,7 +267,8 @@ on_its_way l m n i true begun took = record {
   kinds = begun.first ∷ begun.last ∷ [];
   are = begun.are;
   makes = makes_but (makes_then l m n (begun.first ∷ []) (begun.last ∷ []) begun.makes
-      (makes_one m n begun.last (last_is_no_fetch i begun.first begun.last begun.are) took.same last took.uncut));
+      (makes_one m n begun.last (last_is_no_fetch i begun.first begun.last begun.are) took.same took.sees last
+      took.uncut));
 }
   where
     last : calls n ≡ calls m ++ event m.number begun.last ∷ []
@@ -231,8 +277,10 @@ on_its_way l m n i false begun took = record {
   first = begun.first;
   last = begun.last;
   are = begun.are;
-  makes = makes_then l m n (begun.first ∷ []) [] begun.makes (makes_same m n took.same (took.no refl).0 took.uncut);
-  awaits = (took.no refl).1 ∙ begun.awaits;
+  makes = makes_then l m n (begun.first ∷ []) [] begun.makes
+      (makes_same m n took.same took.sees (took.no refl).calls_are took.uncut);
+  handed = (took.no refl).block_is ∙ begun.handed;
+  awaits = (took.no refl).awaits_is ∙ begun.awaits;
 }
 
 -- no instruction is done yet

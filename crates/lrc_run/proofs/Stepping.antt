@@ -18,9 +18,10 @@ use Rattle.follows.specs.Follows.{sizes_of}
 use Rattle.replicas.specs.Local.{Local}
 use Rattle.cluster.specs.Calls.{IsSameProcessor}
 use Rattle.cluster.specs.Clusters.{AreNew, Shared}
-use Rattle.lrc_run.specs.declared.steps.turns.Progress.{Progress}
-use Rattle.lrc_run.specs.declared.steps.turns.Progress.TheVariants.{Next, Waits, Passed}
-use Rattle.lrc_run.specs.Steps.{AreOnTheirWay, IsAt, instruction_at, progress_after}
+use Rattle.runs.specs.declared.progress.Progress.{Progress}
+use Rattle.runs.specs.declared.progress.Progress.TheVariants.{Next, Waits, Passed}
+use Rattle.runs.specs.Turns.{instruction_at, progress_after}
+use Rattle.lrc_run.specs.Steps.{AreOnTheirWay, IsAt}
 use Rattle.lrc_run.specs.Walks.{AreWalked, DoesAll, Does, IsOnItsWay, Takes, Walks, new_at}
 use Rattle.lrc_run.proofs.Making.{does_more, does_none, on_its_way, same_then, walks_by}
 

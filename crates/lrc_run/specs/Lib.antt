@@ -1,6 +1,7 @@
 pub mod Walks
 pub mod Waiting
 pub mod Steps
+pub mod Turns
 pub mod Orders
 pub mod Endings
 pub mod Laws

@@ -2,7 +2,9 @@
 use Rattle.std.specs.Prelude.{ℕ, ◌≡◌, Bool, true, false, Some, List, [], ◌∷◌, ◌++◌, map, length, slice_get, Result, Ok, Err}
 use Rattle.book.specs.declared.refused.Refused.{Refused}
 use Rattle.journal.specs.declared.event.Kind.{Kind}
-use Rattle.journal.specs.declared.event.Kind.TheVariants.{Arrive, Depart}
+use Rattle.journal.specs.declared.event.Kind.TheVariants.{Arrive, Depart, Fetch}
+use Rattle.journal.specs.Did.{event}
+use Rattle.journal.specs.declared.event.Event.{Event}
 use Rattle.lrc_script.specs.declared.script.Instruction.{Instruction}
 use Rattle.lrc_script.specs.declared.script.Instruction.TheVariants.{Cut}
 use Rattle.follows.specs.Instructions.{AreEventsOf, AreEventsOfAll}
@@ -10,29 +12,65 @@ use Rattle.follows.specs.Follows.{kinds_of, load_of}
 use Rattle.replicas.specs.Local.{Local, calls, new_local}
 use Rattle.cluster.specs.Calls.{IsSameProcessor}
 use Rattle.cluster.specs.Clusters.{Shared}
-use Rattle.cluster.specs.Taking.{awaited_event}
+use Rattle.cluster.specs.Taking.{IsLate, awaited_event}
 use Rattle.runs.specs.Cuts.{HasCut}
+use Rattle.runs.specs.Fetches.{FetchesAreWanted}
 
 -- a processor's accepted calls, its fetches aside
 abbrev pub made : Local → List Kind
 made m = kinds_of (calls m)
 
--- it is the same processor, has made these calls besides, and has cut nothing off
+-- each fetch among its calls comes right before an access to its page
+abbrev pub AreWanted : Local → Type 0
+AreWanted m = FetchesAreWanted m.sizes.words (calls m)
+
+-- it has seen no less of the history
+abbrev pub SeesMore : Local → Local → Type 0
+SeesMore old new = (rest : List Event) × (new.seen ≡ old.seen ++ rest)
+
+-- it is the same processor, has just these calls besides, and has cut nothing off
+pub record Adds (old new : Local) (kinds : List Kind) : Type 0 where
+  pub same : IsSameProcessor old new
+  pub sees : SeesMore old new
+  pub calls_are : calls new ≡ calls old ++ map (event old.number) kinds
+  pub uncut : new.own_cut ≡ old.own_cut
+
+-- it has these, by the answer, or none where it was refused
+abbrev pub AddsBy : {A : Type 0} → Local → Local → Result A Refused → (A → List Kind) → Type 0
+AddsBy old new (Ok x) kinds = Adds old new (kinds x)
+AddsBy old new (Err e) kinds = Adds old new []
+
+-- it has a fetch of this page, or no call where it was refused
+abbrev pub FetchesBy : {A : Type 0} → Local → Local → Result A Refused → ℕ → Type 0
+FetchesBy old new (Ok x) page = (writers records words : ℕ) × Adds old new (Fetch writers page records words ∷ [])
+FetchesBy old new (Err e) page = Adds old new []
+
+-- it is the same processor, has made these calls besides, and fetches that they want, and has cut nothing off
 pub record Makes (old new : Local) (kinds : List Kind) : Type 0 where
   pub same : IsSameProcessor old new
+  pub sees : SeesMore old new
   pub more : made new ≡ made old ++ kinds
+  pub wanted : AreWanted old → AreWanted new
   pub uncut : new.own_cut ≡ old.own_cut
 
 -- the same, but that it may have cut something off where this is so
 pub record MakesBut (cuts : Type 0) (old new : Local) (kinds : List Kind) : Type 0 where
   pub same : IsSameProcessor old new
+  pub sees : SeesMore old new
   pub more : made new ≡ made old ++ kinds
+  pub wanted : AreWanted old → AreWanted new
   pub uncut : ¬ cuts → new.own_cut ≡ old.own_cut
+
+-- it is the same processor, has made no calls besides but maybe fetches, and has cut nothing off
+pub record MakesNone (old new : Local) : Type 0 where
+  pub same : IsSameProcessor old new
+  pub none : made new ≡ made old
+  pub uncut : new.own_cut ≡ old.own_cut
 
 -- it has made these calls, by the answer, or none where it was refused
 abbrev pub Tries : {A : Type 0} → Local → Local → Result A Refused → (A → List Kind) → Type 0
 Tries old new (Ok x) kinds = Makes old new (kinds x)
-Tries old new (Err e) kinds = Makes old new []
+Tries old new (Err e) kinds = MakesNone old new
 
 -- it has done this instruction, and cut nothing off but by a cut
 pub record Does (old new : Local) (i : Instruction) : Type 0 where
@@ -40,12 +78,13 @@ pub record Does (old new : Local) (i : Instruction) : Type 0 where
   pub are : AreEventsOf i kinds
   pub makes : MakesBut (i ≡ Cut) old new kinds
 
--- it has begun this instruction, and awaits the event that ends it
+-- it has begun this instruction, handed its block in, and awaits the event that ends it
 pub record Begins (old new : Local) (i : Instruction) : Type 0 where
   pub first : Kind
   pub last : Kind
   pub are : AreEventsOf i (first ∷ last ∷ [])
   pub makes : Makes old new (first ∷ [])
+  pub handed : new.block ≡ []
   pub awaits : new.awaits ≡ Some last
 
 -- it has done this instruction, or begun it
@@ -53,11 +92,19 @@ abbrev pub IsOnItsWay : Local → Local → Instruction → Bool → Type 0
 IsOnItsWay old new i true = Does old new i
 IsOnItsWay old new i false = Begins old new i
 
+-- it is as it was, and what it awaits hasn't come by what it has seen
+pub record FindsNothing (old new : Local) : Type 0 where
+  pub calls_are : calls new ≡ calls old
+  pub block_is : new.block ≡ old.block
+  pub awaits_is : new.awaits ≡ old.awaits
+  pub late : IsLate new
+
 -- it has taken what it awaited, or that hadn't come
 pub record Takes (old new : Local) (taken : Bool) : Type 0 where
   pub same : IsSameProcessor old new
+  pub sees : SeesMore old new
   pub yes : taken ≡ true → calls new ≡ calls old ++ awaited_event old.number old.awaits
-  pub no : taken ≡ false → (calls new ≡ calls old) × (new.awaits ≡ old.awaits)
+  pub no : taken ≡ false → FindsNothing old new
   pub uncut : new.own_cut ≡ old.own_cut
 
 -- it has done these instructions

@@ -3,7 +3,7 @@ ghost use Rattle.std.specs.Prelude.{◌≡◌, IfOk, ℕ, List, slice_set, slice
 ghost use Rattle.lrc_script.specs.Prelude.{IsLawful, Plan, plan_of};
 ghost use Rattle.follows.specs.Prelude.{sizes_of};
 ghost use Rattle.cluster.specs.Prelude.{AreAllOf};
-ghost use Rattle.lrc_run.specs.Prelude.{HaveFollowed, IsReportOf, AreWalked};
+ghost use Rattle.lrc_run.specs.Prelude.{AreWalked, HaveFollowed, IsReportAfter, IsReportWith};
 
 use crate::shown::show;
 use cluster::{BookTurn, Cluster, Processor};
@@ -25,7 +25,7 @@ pub(crate) fn conclude<T: BookTurn + Drop, R: Wait>(
     requires lawful { IsLawful (plan_of script.now) }
     requires sizes { cluster.sizes ≡ sizes_of (plan_of script.now) }
     requires walked { AreWalked cluster (plan_of script.now).sections processors.items }
-    ensures { IfOk result (IsReportOf (plan_of script.now)) }
+    ensures { IfOk result (λ r. IsReportAfter (plan_of script.now) r processors.items) }
 {
     let shown = show(rt, alloc, &cluster, &mut processors[0], &script.shown)?;
     Ok(report(cluster, processors, shown)?)
@@ -39,7 +39,7 @@ fn report<T: BookTurn>(
 ) -> Result<Report, AllocError>
     requires { AreAllOf cluster processors.items }
     ensures { (s : Plan) → HaveFollowed s cluster processors.items shown.items
-        → IfOk result (IsReportOf s) }
+        → IfOk result (λ r. IsReportWith s r processors.items × (r.shown ≡ shown)) }
 {
     let journal = cluster.finish(processors);
     let racy = journal.first_race()?.is_some();

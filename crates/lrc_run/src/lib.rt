@@ -2,15 +2,18 @@
 //!
 //! **What contracts see.** A script as its plan. A `Report` (of `lrc_report`) is one of the plan (`IsReportOf`) where its
 //! journal has the plan's sizes and holds what is left, after some of it was cut off, of a history that is well formed and
-//! explained and follows the plan; the verdict, the shown words and the traffic are those of the whole history (`Tells`).
+//! explained and follows the plan, and in which each fetch comes right before an access that wants its page; the verdict,
+//! the shown words and the traffic are those of the whole history (`Tells`).
 //!
 //! **What is proved.** Whatever the lock, the threads' way and the seed: a report that is answered is one of the plan. Its
 //! history's replies can be recomputed on one flat memory, with the same races; where the script never races there, the
-//! verdict is race-free and the history replays (module `laws`). Which fault a run tells, of those that its processors met;
-//! and the order that a round's generator draws.
+//! verdict is race-free and the history replays (module `laws`). Which fault a run tells, of those that its processors met.
+//! By turns: each round is in the order that the seed draws, from the generator's own definitions on, and what its turns
+//! make of the processors is what they come to; a take that came too early found its processor not ready.
 //!
 //! **What is only tested** (in `lrc_run_tests`): that no run is refused needlessly, and that its threads get on side by
-//! side; that the gate is asked before each instruction; the schedule of `step`, and which processor it tells as stuck.
+//! side; that the gate is asked before each instruction; and that the calls of one turn of `step` stand in the history
+//! before those of the next.
 #![tactic(auto)]
 
 mod course;

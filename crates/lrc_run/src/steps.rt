@@ -1,14 +1,17 @@
 //! All processors by turns on one thread.
-ghost use Rattle.std.specs.Prelude.{◌≡◌, ◌≤◌, ◌<◌, ◌^◌, ◌↔◌, All, IfOk, IsTrue, MatchOption, length, replicate, vec_len};
+ghost use Rattle.std.specs.Prelude.{◌≡◌, ◌≤◌, ◌<◌, ◌^◌, ◌↔◌, All, IfNone, IfOk, IsTrue, List, length, replicate, vec_len};
+ghost use Rattle.std.specs.List.{range_with_len};
 ghost use Rattle.lrc_script.specs.Prelude.{IsLawful, plan_of};
 ghost use Rattle.follows.specs.Prelude.{sizes_of};
 ghost use Rattle.cluster.specs.Prelude.{AreNew};
-ghost use Rattle.runs.specs.Prelude.{IsEndOf, IsReportOf};
-ghost use Rattle.lrc_run.specs.Prelude.{AreBelow, AreOnTheirWay, AreWalked, HaveBegun};
+ghost use Rattle.runs.specs.declared.progress.Progress.TheVariants as progress;
+ghost use Rattle.runs.specs.declared.progress.Progress.{Progress as AProgress};
+ghost use Rattle.runs.specs.Prelude.{IsEndBy, IsReportBy, drawn, generator_of, orders_of};
+ghost use Rattle.lrc_run.specs.Prelude.{AreBelow, AreOnTheirWay, AreTurned, AreTurnedBy, IsTurnOf};
 
 mod turns;
 
-use self::turns::{Progress, take_turn};
+use self::turns::take_turn;
 use crate::ending::conclude;
 use crate::orders::order;
 use cluster::{BookLock, BookTurn, Cluster, Processor};
@@ -16,7 +19,7 @@ use lrc_report::Report;
 use lrc_script::script::Script;
 use rand_core::SeedableRng;
 use rand_pcg::Pcg32;
-use runs::{Cause, Ended, Halt, RunFault};
+use runs::{Cause, Ended, Halt, Progress, RunFault};
 use std::alloc::{AllocError, Global};
 use std::sync::Wait;
 
@@ -32,7 +35,7 @@ pub fn step<R: Wait>(
     seed: Option<u64>,
 ) -> Result<Report, RunFault>
     requires { IsLawful (plan_of script.now) }
-    ensures { IfOk result (IsReportOf (plan_of script.now)) }
+    ensures { IfOk result (IsReportBy (plan_of script.now) (orders_of (plan_of script.now) seed)) }
 {
     step_with::<BookLock, R>(rt, alloc, script, seed)
 }
@@ -46,7 +49,7 @@ pub fn step_with<T: BookTurn + Drop, R: Wait>(
 ) -> Result<Report, RunFault>
     requires entries { T.ENTRIES ≤ 2 ^ 40 }
     requires lawful { IsLawful (plan_of script.now) }
-    ensures { IfOk result (IsReportOf (plan_of script.now)) }
+    ensures { IfOk result (IsReportBy (plan_of script.now) (orders_of (plan_of script.now) seed)) }
 {
     match step_as_far_with::<T, R>(rt, alloc, script, seed)? {
         Ended::Whole(report) => Ok(report),
@@ -65,7 +68,7 @@ pub fn step_as_far<R: Wait>(
     seed: Option<u64>,
 ) -> Result<Ended, RunFault>
     requires { IsLawful (plan_of script.now) }
-    ensures { IfOk result (IsEndOf (plan_of script.now)) }
+    ensures { IfOk result (IsEndBy (plan_of script.now) (orders_of (plan_of script.now) seed)) }
 {
     step_as_far_with::<BookLock, R>(rt, alloc, script, seed)
 }
@@ -79,7 +82,7 @@ pub fn step_as_far_with<T: BookTurn + Drop, R: Wait>(
 ) -> Result<Ended, RunFault>
     requires entries { T.ENTRIES ≤ 2 ^ 40 }
     requires lawful { IsLawful (plan_of script.now) }
-    ensures { IfOk result (IsEndOf (plan_of script.now)) }
+    ensures { IfOk result (IsEndBy (plan_of script.now) (orders_of (plan_of script.now) seed)) }
 {
     let (cluster, mut processors) = new_cluster::<T>(alloc, script)?;
     match go_round(rt, alloc, &cluster, &mut processors, script, seed)? {
@@ -136,9 +139,10 @@ fn go_round<T: BookTurn, R: Wait>(
     requires lawful { IsLawful (plan_of script.now) }
     requires sizes { cluster.now.sizes ≡ sizes_of (plan_of script.now) }
     requires new { AreNew cluster.now processors.old.items }
-    ensures { IfOk result (λ o. MatchOption o
-        (AreWalked cluster.now (plan_of script.now).sections processors.new.items)
-        (λ _. HaveBegun cluster.now (plan_of script.now).sections processors.new.items)) }
+    ensures { IfOk result (λ o. (all : List AProgress)
+        × AreTurnedBy cluster.now (plan_of script.now) seed processors.old.items
+        processors.new.items all
+        × IfNone o (All (λ x. x ≡ progress.Passed) all)) }
 {
     let (mut all, mut list) = match beginnings(alloc, processors.len()) {
         Ok(beginnings) => beginnings,
@@ -159,7 +163,7 @@ fn go_round<T: BookTurn, R: Wait>(
 
 /// Where each processor is at the start, and memory for the order of a round.
 fn beginnings(alloc: Global, count: usize) -> Result<(Vec<Progress>, Vec<usize>), AllocError>
-    ensures all { IfOk result (λ r. r.0.items ≡ replicate count (Progress.Next 0)) }
+    ensures all { IfOk result (λ r. r.0.items ≡ replicate count (progress.Next 0)) }
     ensures list { IfOk result (λ r. vec_len r.1 ≡ count) }
 {
     Ok((
@@ -169,7 +173,9 @@ fn beginnings(alloc: Global, count: usize) -> Result<(Vec<Progress>, Vec<usize>)
 }
 
 /// The generator of this seed.
-fn generator_of(seed: Option<u64>) -> Option<Pcg32> {
+fn generator_of(seed: Option<u64>) -> Option<Pcg32>
+    ensures { result ≡ generator_of seed }
+{
     match seed {
         Some(seed) => Some(Pcg32::seed_from_u64(seed)),
         None => None,
@@ -178,7 +184,7 @@ fn generator_of(seed: Option<u64>) -> Option<Pcg32> {
 
 /// Whether all have passed the closing barrier.
 fn have_passed(all: &[Progress]) -> bool
-    ensures { IsTrue result ↔ All (λ x. x ≡ Progress.Passed) all.now }
+    ensures { IsTrue result ↔ All (λ x. x ≡ progress.Passed) all.now }
 {
     all.iter().all(|progress| *progress == Progress::Passed)
 }
@@ -192,13 +198,22 @@ fn least_waiting(all: &[Progress]) -> usize {
 
 /// The order of the next round: rising numbers, exchanged as the generator draws.
 fn draw(generator: &mut Option<Pcg32>, list: &mut [usize])
-    ensures { AreBelow (length list.old) list.new × (length list.new ≡ length list.old) }
+    ensures list { list.new ≡ (drawn generator.old (length list.old)).0 }
+    ensures state { generator.new ≡ (drawn generator.old (length list.old)).1 }
+    ensures below { AreBelow (length list.old) list.new × (length list.new ≡ length list.old) }
+{
+    rise(list);
+    if let Some(generator) = generator {
+        order(generator, list);
+    }
+}
+
+/// The numbers from 0 on, rising.
+fn rise(list: &mut [usize])
+    ensures { list.new ≡ range_with_len 0 (length list.old) }
 {
     for place in 0..list.len() {
         list[place] = place;
-    }
-    if let Some(generator) = generator {
-        order(generator, list);
     }
 }
 
@@ -216,8 +231,8 @@ fn round<T: BookTurn, R: Wait>(
     requires list { AreBelow (vec_len processors.old) list.now }
     requires way { AreOnTheirWay cluster.now (plan_of script.now).sections processors.old.items
         all.old.items }
-    ensures { IfOk result (λ _. AreOnTheirWay cluster.now (plan_of script.now).sections
-        processors.new.items all.new.items) }
+    ensures { IfOk result (λ _. AreTurned (plan_of script.now).sections list.now
+        processors.old.items processors.new.items all.old.items all.new.items) }
 {
     let mut moved = false;
     for p in list {
@@ -243,8 +258,8 @@ fn turn_at<T: BookTurn, R: Wait>(
     requires way { AreOnTheirWay cluster.now (plan_of script.now).sections processors.old.items
         all.old.items }
     ensures long { vec_len processors.new ≡ vec_len processors.old }
-    ensures way { IfOk result (λ _. AreOnTheirWay cluster.now (plan_of script.now).sections
-        processors.new.items all.new.items) }
+    ensures turn { IfOk result (λ _. IsTurnOf (plan_of script.now).sections p
+        processors.old.items processors.new.items all.old.items all.new.items) }
 {
     let section = &script.sections[p];
     match take_turn(rt, cluster, &mut processors[p], section, all[p]) {

@@ -4,7 +4,7 @@ use Rattle.journal.specs.declared.event.Event.{Event}
 use Rattle.lrc_script.specs.Plan.{Plan}
 use Rattle.runs.specs.declared.ended.Ended.{Ended}
 use Rattle.runs.specs.declared.ended.Ended.TheVariants.{Halted, Whole}
-use Rattle.runs.specs.Ends.{IsEndOf}
+use Rattle.runs.specs.ByTurns.{IsEndBy, orders_of}
 use Rattle.lrc_explain.specs.Texts.{IsWritten}
 use Rattle.lrc_program.specs.Served.{IsRead}
 
@@ -18,18 +18,19 @@ abbrev pub IsTold : Bool → Option (List ℕ) → Option (List ℕ) → Ended �
 IsTold true old new ended = ⊤
 IsTold false old new ended = IsWritten old new ended
 
--- the script was run, as far as it goes, and the run was told or drawn
-pub record IsRunTold (picture halted : Bool) (script : Plan) (old new : Option (List ℕ)) : Type 0 where
+-- the script was run by turns in the orders of this seed, as far as it goes, and the run was told or drawn
+pub record IsRunTold (picture halted : Bool) (seed : Option ℕ) (script : Plan) (old new : Option (List ℕ))
+    : Type 0 where
   pub ended : Ended
-  pub end : IsEndOf script ended
+  pub end : IsEndBy script (orders_of script seed) ended
   pub halted_is : is_halted ended ≡ halted
   pub told : IsTold picture old new ended
 
 -- so was the script that the source had
-pub record IsExplained (picture halted : Bool) (source old new : Option (List ℕ)) : Type 0 where
+pub record IsExplained (picture halted : Bool) (seed : Option ℕ) (source old new : Option (List ℕ)) : Type 0 where
   pub script : Plan
   pub read : IsRead source script
-  pub run : IsRunTold picture halted script old new
+  pub run : IsRunTold picture halted seed script old new
 
 -- a history is these events behind so many others
 pub record IsBehind (opening : ℕ) (events history : List Event) : Type 0 where

@@ -66,7 +66,7 @@ fn print_run<T: Runs, R: Wait, W: Write>(
 ) -> Result<Option<String>, StudyFault>
     requires { IsLawful (plan_of script.now) }
     ensures told { IfOk result (λ line. IsRunTold options.now.picture (is_some line)
-        (plan_of script.now) (W.contents out.old) (W.contents out.new)) }
+        options.now.seed (plan_of script.now) (W.contents out.old) (W.contents out.new)) }
     ensures runs { IfErr result (λ fault. IsInputs fault → ⊥) }
     ensures early { IfErr result
         (λ fault. IsBeforeAnswer fault → Keeps (W.contents out.old) (W.contents out.new)) }
@@ -88,7 +88,7 @@ fn explain_script<T: Runs, R: Wait, S: Read, W: Write>(
     out: &mut W,
 ) -> Result<Option<String>, StudyFault>
     ensures explained { IfOk result (λ line. IsExplained options.now.picture (is_some line)
-        (S.remaining source.old) (W.contents out.old) (W.contents out.new)) }
+        options.now.seed (S.remaining source.old) (W.contents out.old) (W.contents out.new)) }
     ensures refused { IfErr result (λ fault. IsInputs fault → IsNoScript (S.remaining source.old)) }
     ensures early { IfErr result
         (λ fault. IsBeforeAnswer fault → Keeps (W.contents out.old) (W.contents out.new)) }
@@ -109,12 +109,12 @@ pub fn explain_program<T: Runs, R: Wait, S: Read, W: Write, E: Write>(
     out: &mut W,
     err: &mut E,
 ) -> u8
-    // The script that was read was run to its end, and the run was told whole.
-    ensures whole { result ≡ 0 → IsExplained options.now.picture false (S.remaining source.old)
-        (W.contents out.old) (W.contents out.new) }
-    // It was run as far as it goes, and can't go on; so far it was told whole.
-    ensures halted { result ≡ 3 → IsExplained options.now.picture true (S.remaining source.old)
-        (W.contents out.old) (W.contents out.new) }
+    // The script that was read was run by turns to its end, and the run was told whole.
+    ensures whole { result ≡ 0 → IsExplained options.now.picture false options.now.seed
+        (S.remaining source.old) (W.contents out.old) (W.contents out.new) }
+    // It was run so as far as it goes, and can't go on; so far it was told whole.
+    ensures halted { result ≡ 3 → IsExplained options.now.picture true options.now.seed
+        (S.remaining source.old) (W.contents out.old) (W.contents out.new) }
     // What is refused as a script is none.
     ensures refused { result ≡ 2 → IsNoScript (S.remaining source.old) }
     // But for status 4, a run is told whole or not at all.

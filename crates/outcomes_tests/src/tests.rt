@@ -2,10 +2,11 @@
 ghost use Rattle.std.specs.Prelude.{IfOk};
 ghost use Rattle.lrc_script.specs.Prelude.{IsLawful, plan_of};
 
+mod failing;
 mod output;
-mod sticks;
 
 use explore::{Progress, Silent, explore};
+use failing::Failing;
 use lrc_explore::ExploreFault;
 use lrc_script::script::{Script, parse};
 use output::Output;
@@ -15,7 +16,6 @@ use sample::text::TextFault;
 use std::alloc::Global;
 use std::sync::Wait;
 use std::test::Fail;
-use sticks::Sticks;
 
 /// A script of five states: a store, the closing barrier and a load.
 fn script_of(alloc: Global) -> Result<Script, Fail>
@@ -85,16 +85,30 @@ fn outputs(rt: HostRuntime) -> Result<(), Fail> {
     Ok(())
 }
 
-/// Whether a sample of so many seeds on this lock has this text.
+/// What a sample of so many seeds on this lock comes to, where runs fail from this seed on.
+fn sampled<R: Wait>(
+    rt: &R,
+    alloc: Global,
+    text: &[u8],
+    fails: u64,
+    lock: Lock,
+    seeds: u32,
+) -> Result<Result<Sampled, RunFault>, Fail> {
+    match parse(alloc, text) {
+        Ok(script) => Ok(sample(&Failing { fails }, rt, alloc, &script, lock, seeds)),
+        Err(_) => Err(Fail::from("no script")),
+    }
+}
+
+/// Whether a sample of so many seeds of this script has this text.
 fn has_text<R: Wait>(
     rt: &R,
     alloc: Global,
-    lock: Lock,
+    script: &[u8],
     seeds: u32,
     text: &[u8],
 ) -> Result<bool, Fail> {
-    let script = script_of(alloc)?;
-    let Ok(sampled) = sample(&Sticks { fails: 100 }, rt, alloc, &script, lock, seeds) else {
+    let Ok(sampled) = sampled(rt, alloc, script, 100, Lock::Ticket, seeds)? else {
         return Ok(false);
     };
     let mut out = Vec::new(alloc);
@@ -102,34 +116,41 @@ fn has_text<R: Wait>(
     Ok(told.is_ok() && out.as_slice() == text)
 }
 
+/// Two processors store to one word, and of whom processor 0 hears last, by the arrivals of the second round: processor 2
+/// without a seed and by the seeds 0 and 4, and processor 1 by the seeds 1, 2, 3 and 5, as a second program draws.
+const STORES: &[u8] = b"cluster 3 1 1 0\np 0\np 1\nstore 0 1\np 2\nstore 0 2\nshow 0\n";
+
+/// Its processor awaits a flag that nobody sets.
+const STICKS: &[u8] = b"cluster 1 1 1 0 1\np 0\nawait 0\nshow 0\n";
+
 /// Each seed counts, and the run without one; the first of each kind is told, and the more frequent first.
 #[test]
-fn stuck_runs(rt: HostRuntime) -> Result<(), Fail> {
-    let rows: [(Lock, u32, &[u8]); 3] = [
+fn sampled_runs(rt: HostRuntime) -> Result<(), Fail> {
+    let rows: [(&[u8], u32, &[u8]); 3] = [
         (
-            Lock::Ticket,
+            STORES,
             6,
-            b"runs 7\nresult 4 0 stuck 0\nresult 3 - stuck 1\n",
+            b"runs 7\nresult 4 1 racy words 0 1 replies\nresult 3 - racy words 0 2 replies\n",
         ),
-        (Lock::Ticket, 0, b"runs 1\nresult 1 - stuck 1\n"),
-        (Lock::Array, 2, b"runs 3\nresult 3 - stuck 9\n"),
+        (STICKS, 0, b"runs 1\nresult 1 - stuck 0\n"),
+        (STICKS, 2, b"runs 3\nresult 3 - stuck 0\n"),
     ];
-    for (lock, seeds, text) in rows {
-        assert!(&rt; has_text(&rt, rt.alloc(), lock, seeds, text)?);
+    for (script, seeds, text) in rows {
+        assert!(&rt; has_text(&rt, rt.alloc(), script, seeds, text)?);
     }
     Ok(())
 }
 
-/// A fault other than that it is stuck ends the sample.
+/// A fault other than that it is stuck ends the sample. The lock that is asked for is the one that runs get.
 #[test]
 fn failed_runs(rt: HostRuntime) -> Result<(), Fail> {
-    let alloc = rt.alloc();
-    let script = script_of(alloc)?;
-    let result = sample(&Sticks { fails: 3 }, &rt, alloc, &script, Lock::Ticket, 6);
-    let fault = RunFault {
-        processor: 1,
-        cause: Cause::Thread,
-    };
-    assert!(&rt; result.err() == Some(fault));
+    for (lock, processor) in [(Lock::Ticket, 1), (Lock::Array, 9)] {
+        let fault = RunFault {
+            processor,
+            cause: Cause::Thread,
+        };
+        let result = sampled(&rt, rt.alloc(), STORES, 3, lock, 6)?;
+        assert!(&rt; result.err() == Some(fault));
+    }
     Ok(())
 }

@@ -12,10 +12,11 @@ use Rattle.follows.specs.Follows.{sizes_of}
 use Rattle.runs.specs.declared.ended.Ended.{Ended}
 use Rattle.runs.specs.declared.ended.Ended.TheVariants.{Halted, Whole}
 use Rattle.runs.specs.Cuts.{HasNoCut}
-use Rattle.runs.specs.Reports.{IsReportOf}
+use Rattle.runs.specs.Reports.{FetchesAreNeeded, IsReportOf}
 
 -- the journal has the script's sizes and holds what is left, after some of it was cut off, of a history that is well
--- formed and explained, fetches what is missing and begins the script; and nothing is cut off where that has no cut
+-- formed and explained, fetches what is missing, where an access wants it, and begins the script; and nothing is cut off
+-- where that has no cut
 pub record IsJournalSoFar (s : Plan) (j : Log) : Type 0 where
   pub processors : j.processors ≡ s.processors
   pub addresses_are : j.addresses ≡ addresses s
@@ -26,6 +27,7 @@ pub record IsJournalSoFar (s : Plan) (j : Log) : Type 0 where
   pub well_formed : WellFormed (sizes_of s) history
   pub explained : Explained history
   pub counted : AreCounted (sizes_of s) history
+  pub fetches : FetchesAreNeeded s history
   pub begins : BeginsScript s history
 
 -- a report of the script, or such a journal

@@ -1,7 +1,8 @@
 -- What a report says of a script's run.
-use Rattle.std.specs.Prelude.{ℕ, ◌≡◌, ◌↔◌, IsTrue, List, [], ◌++◌, map}
+use Rattle.std.specs.Prelude.{ℕ, ◌≡◌, ◌<◌, ◌↔◌, IsTrue, List, [], ◌++◌, map}
 use Rattle.journal.specs.declared.event.Event.{Event}
 use Rattle.journal.specs.declared.event.Kind.{Kind}
+use Rattle.journal.specs.Events.{part}
 use Rattle.journal.specs.WellFormed.{WellFormed}
 use Rattle.journal.specs.Loads.{Explained}
 use Rattle.journal.specs.Counted.{AreCounted}
@@ -14,6 +15,7 @@ use Rattle.lrc_report.specs.declared.report.Report.{Report}
 use Rattle.follows.specs.Follows.{sizes_of, Follows, calls_of, load_of}
 use Rattle.follows.specs.Recomputed.{IsRecomputed}
 use Rattle.runs.specs.Cuts.{HasNoCut}
+use Rattle.runs.specs.Fetches.{FetchesAreWanted}
 
 -- some two accesses race
 abbrev pub HasRace : List Event → Type 0
@@ -24,12 +26,17 @@ pub record AreLastReplies (calls : List Kind) (shown : List (ℕ × ℕ)) : Type
   pub front : List Kind
   pub ends : calls ≡ front ++ map load_of shown
 
--- the history is well formed, explained, fetches what is missing and follows the script, and its replies can be
--- recomputed on one flat memory; the verdict, the shown words and the traffic are the history's
+-- no processor fetches a page but right before an access to it
+abbrev pub FetchesAreNeeded : Plan → List Event → Type 0
+FetchesAreNeeded s h = (p : ℕ) → p < s.processors → FetchesAreWanted s.words (part h p)
+
+-- the history is well formed, explained, fetches what is missing, where an access wants it, and follows the script, and
+-- its replies can be recomputed on one flat memory; the verdict, the shown words and the traffic are the history's
 pub record Tells (s : Plan) (r : Report) (h : List Event) : Type 0 where
   pub well_formed : WellFormed (sizes_of s) h
   pub explained : Explained h
   pub counted : AreCounted (sizes_of s) h
+  pub fetches : FetchesAreNeeded s h
   pub follows : Follows s h
   pub recomputed : (g : List Event) × IsRecomputed s h g
   pub racy : IsTrue r.racy ↔ HasRace h

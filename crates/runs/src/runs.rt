@@ -2,7 +2,7 @@
 ghost use Rattle.std.specs.Prelude.{ℕ, ◌<◌, IfOk, Option, Result};
 ghost use Rattle.std.specs.Thread.{IsSync};
 ghost use Rattle.lrc_script.specs.Prelude.{IsLawful, plan_of};
-ghost use Rattle.runs.specs.Prelude.{IsEndOf, IsReportOf};
+ghost use Rattle.runs.specs.Prelude.{IsEndBy, IsEndOf, IsReportBy, IsReportOf, orders_of};
 
 use crate::cause::RunFault;
 use crate::ended::Ended;
@@ -63,7 +63,8 @@ pub trait Runs {
     ) -> Result<Report, RunFault>
         requires { IsLawful (plan_of script.now) }
         ensures report { IfOk result (IsReportOf (plan_of script.now)) }
-        ensures stepped { stepped (plan_of script.now) lock seed result };
+        ensures stepped { stepped (plan_of script.now) lock seed result }
+        ensures turns { IfOk result (IsReportBy (plan_of script.now) (orders_of (plan_of script.now) seed)) };
 
     /// Runs the script as `step` does, but that a run that can't go on is no fault: it answers the journal so far.
     fn step_as_far<R: Wait>(
@@ -75,5 +76,6 @@ pub trait Runs {
         seed: Option<u64>,
     ) -> Result<Ended, RunFault>
         requires { IsLawful (plan_of script.now) }
-        ensures { IfOk result (IsEndOf (plan_of script.now)) };
+        ensures end { IfOk result (IsEndOf (plan_of script.now)) }
+        ensures turns { IfOk result (IsEndBy (plan_of script.now) (orders_of (plan_of script.now) seed)) };
 }

@@ -1,24 +1,24 @@
 -- What a script's runs came to, one run after another.
-use Rattle.std.proofs.Common.{◌+◌, ◌^◌, ◌<◌, ◌≤◌, ℕ, inl, inr, List, [], ◌∷◌, ◌++◌, subst, refl, arith}
+use Rattle.std.proofs.Common.{◌≡◌, ◌∙◌, ◌+◌, ◌^◌, ◌<◌, ◌≤◌, ℕ, inl, inr, List, [], ◌∷◌, ◌++◌, Option, Some, None, length, slice_get, subst₂, sym, refl, add-one, arith}
 use Rattle.std.specs.List.{sum_by}
 use Rattle.std.proofs.lemmas.List.{length-append}
 use Rattle.std.proofs.lemmas.Option.{none-some}
-use Rattle.lists.specs.Places.{Has}
 use Rattle.lists.proofs.Places.{push_cases}
 use Rattle.lrc_script.specs.Plan.{Plan}
+use Rattle.runs.specs.ByTurns.{orders_of}
 use Rattle.sample.specs.declared.outcome.Outcome.{Outcome}
 use Rattle.sample.specs.declared.tally.Line.{Line}
 use Rattle.sample.specs.declared.sampling.Sampled.{Sampled}
 use Rattle.sample.specs.Order.{AreFrequentFirst, AreSeenInOrder, IsNoted}
 use Rattle.sample.specs.Outcomes.{IsOutcomeOf}
 use Rattle.sample.specs.Samples.{IsMade, IsSampleOf}
-use Rattle.sample.specs.Tally.{IsTally, times_of}
+use Rattle.sample.specs.Tally.{IsTally, run_of, seed_of, times_of}
 
 -- before the first run
 pub made_none : (s : Plan) → IsMade s 0 []
 made_none s = record {
   outcomes = [];
-  are = record { many = refl; each = λ o has. absurd (none-some o has.1) };
+  are = record { many = refl; each = λ run o at. absurd (none-some o at) };
   noted = record {
     tally = record {
       each = λ line has. absurd (none-some line has.1);
@@ -30,18 +30,29 @@ made_none s = record {
   };
 }
 
+-- a run is that of its seed
+pub seed_run : (seed : Option ℕ) → seed_of (run_of seed) ≡ seed
+seed_run None = refl
+seed_run (Some seed) = rw add-one refl
+
 -- one run more
-pub made_next : (s : Plan) (n : ℕ) (o : Outcome) (old new : List Line) (is : IsMade s n old) → IsOutcomeOf s o
-    → IsNoted (is.outcomes ++ o ∷ []) new → IsMade s (n + 1) new
+pub made_next : (s : Plan) (n : ℕ) (o : Outcome) (old new : List Line) (is : IsMade s n old)
+    → IsOutcomeOf s (orders_of s (seed_of n)) o → IsNoted (is.outcomes ++ o ∷ []) new → IsMade s (n + 1) new
 made_next s n o old new is one noted = record {
   outcomes = is.outcomes ++ o ∷ [];
   are = record { many = omega (arith, length-append is.outcomes (o ∷ []), is.are.many); each = each };
   noted = noted;
 }
   where
-    each : (x : Outcome) → Has (is.outcomes ++ o ∷ []) x → IsOutcomeOf s x
-    each x has = elim (push_cases is.outcomes o has.0 x has.1)
-        [ inl old ↦ is.are.each x (has.0, old.1) | inr last ↦ subst (IsOutcomeOf s) last.1 one ]
+    last : (run : ℕ) (x : Outcome) → run ≡ length is.outcomes → o ≡ x → IsOutcomeOf s (orders_of s (seed_of run)) x
+    last run x at same =
+        let P : ℕ → Outcome → Type 0 = λ k y. IsOutcomeOf s (orders_of s (seed_of k)) y in
+        subst₂ P (sym (at ∙ is.are.many)) same one
+
+    each : (run : ℕ) (x : Outcome) → slice_get (is.outcomes ++ o ∷ []) run ≡ Some x
+        → IsOutcomeOf s (orders_of s (seed_of run)) x
+    each run x at = elim (push_cases is.outcomes o run x at)
+        [ inl old ↦ is.are.each run x old.1 | inr new ↦ last run x new.0 new.1 ]
 
 -- the counts fit
 pub made_few : (s : Plan) (n : ℕ) (lines : List Line) → n ≤ 2 ^ 32 → IsMade s n lines

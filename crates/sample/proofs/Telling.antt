@@ -38,7 +38,8 @@ false_by false none = refl
 false_by true none = absurd (none refl)
 
 pub race_free_outcome : RaceFreeOutcomeLaw
-race_free_outcome s answers (r, (is, are)) never =
+race_free_outcome s orders answers (r, (by, are)) never =
+    let is = by.report in
     let told = race_free_law s is.history is.tells.well_formed is.tells.explained is.tells.follows never in
     ap (λ (a : Answered). a.racy) are
     ∙ false_by r.racy (λ yes. let race = is.tells.racy.0 yes in told.0 race.0 race.1 race.2)

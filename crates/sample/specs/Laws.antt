@@ -24,5 +24,5 @@ FirstLaw = (outcomes : List Outcome) (lines : List Line) (line : Line) → IsTal
 
 -- a script that never races on one flat memory has no outcome with a race
 abbrev pub RaceFreeOutcomeLaw : Type 0
-RaceFreeOutcomeLaw = (s : Plan) (answers : Answered) → IsOutcomeOf s (Ended answers) → NeverRaces s
-    → answers.racy ≡ false
+RaceFreeOutcomeLaw = (s : Plan) (orders : ℕ → List ℕ) (answers : Answered) → IsOutcomeOf s orders (Ended answers)
+    → NeverRaces s → answers.racy ≡ false

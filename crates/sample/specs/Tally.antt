@@ -1,5 +1,5 @@
 -- Which outcomes came, how often, and where first.
-use Rattle.std.specs.Prelude.{ℕ, ◌≡◌, ◌<◌, ◌↔◌, ◌+◌, List, Option, Some, None, slice_get, length}
+use Rattle.std.specs.Prelude.{ℕ, zero, suc, ◌≡◌, ◌<◌, ◌↔◌, ◌+◌, List, Option, Some, None, slice_get, length}
 use Rattle.std.specs.List.{sum_by}
 use Rattle.lists.specs.Places.{Has, InOrder}
 use Rattle.sample.specs.declared.outcome.Outcome.{Outcome}
@@ -9,6 +9,11 @@ use Rattle.sample.specs.declared.tally.Line.{Line}
 abbrev pub run_of : Option ℕ → ℕ
 run_of None = 0
 run_of (Some seed) = seed + 1
+
+-- the seed of a run
+abbrev pub seed_of : ℕ → Option ℕ
+seed_of zero = None
+seed_of (suc seed) = Some seed
 
 abbrev pub times_of : Line → ℕ
 times_of line = line.times

@@ -1,7 +1,7 @@
 //! A script under many seeds.
-ghost use Rattle.std.specs.Prelude.{ℕ, ◌≡◌, ◌≤◌, ◌+◌, ◌^◌, IfOk, OnOk};
+ghost use Rattle.std.specs.Prelude.{ℕ, ◌≡◌, ◌≤◌, ◌+◌, ◌^◌, IfOk, List, OnOk};
 ghost use Rattle.lrc_script.specs.Prelude.{IsLawful, plan_of};
-ghost use Rattle.runs.specs.Prelude.{IsReportOf};
+ghost use Rattle.runs.specs.Prelude.{IsReportBy, orders_of};
 ghost use Rattle.sample.specs.Prelude.{IsMade, IsOutcomeOf, IsSampleOf, run_of};
 
 use crate::outcome::{Answers, Outcome};
@@ -33,8 +33,8 @@ fn outcome_of(
     script: &Script,
     answer: Result<Report, RunFault>,
 ) -> Result<Outcome, RunFault>
-    requires { IfOk answer (IsReportOf (plan_of script.now)) }
-    ensures { IfOk result (IsOutcomeOf (plan_of script.now)) }
+    ensures { (orders : ℕ → List ℕ) → IfOk answer (IsReportBy (plan_of script.now) orders)
+        → IfOk result (IsOutcomeOf (plan_of script.now) orders) }
 {
     match answer {
         Ok(report) => match Answers::of(alloc, script.processors, report) {

@@ -1,24 +1,13 @@
 //! A processor's turn.
-ghost use Rattle.std.specs.Prelude.{◌≡◌, ◌≤◌, IfOk, length, All, IsTrue, ◌↔◌};
-ghost use Rattle.replicas.specs.Prelude.{Local};
-ghost use Rattle.lrc_run.specs.Prelude.{IsAt, instruction_at, progress_after, IsOnItsWay};
+ghost use Rattle.std.specs.Prelude.{◌≡◌, IfOk, false};
+ghost use Rattle.cluster.specs.Taking.{IsLate};
+ghost use Rattle.lrc_run.specs.Prelude.{IsOnItsWay, TakesTurn, instruction_at, progress_after};
 
 use crate::walk::{begin, end};
 use cluster::{BookTurn, Cluster, Processor};
 use lrc_script::script::Instruction;
-use runs::Cause;
+use runs::{Cause, Progress};
 use std::sync::Wait;
-
-/// How far a processor is in its section.
-#[derive(Clone, Copy, PartialEq)]
-pub(crate) enum Progress {
-    /// Its next instruction is this one, or the closing barrier after the last.
-    Next(usize),
-    /// It waits in this one.
-    Waits(usize),
-    /// It has passed the closing barrier.
-    Passed,
-}
 
 /// The instruction at this place of the section, or the closing barrier after the last.
 fn instruction_at(section: &[Instruction], n: usize) -> Instruction
@@ -53,8 +42,7 @@ pub(crate) fn take_turn<T: BookTurn, R: Wait>(
     progress: Progress,
 ) -> Result<(Progress, bool), Cause>
     requires own { processor.old.lock ≡ cluster.now.lock }
-    ensures { IfOk result (λ r. (start : Local) → IsAt start processor.old section.now progress
-        → IsAt start processor.new section.now r.0) }
+    ensures { IfOk result (λ r. TakesTurn section.now processor.old progress processor.new r.0) }
 {
     match progress {
         Progress::Next(n) => {
@@ -77,7 +65,8 @@ fn go_on<T: BookTurn, R: Wait>(
     instruction: Instruction,
 ) -> Result<bool, Cause>
     requires own { processor.old.lock ≡ cluster.now.lock }
-    ensures { IfOk result (λ done. IsOnItsWay processor.old processor.new instruction done) }
+    ensures way { IfOk result (λ done. IsOnItsWay processor.old processor.new instruction done) }
+    ensures late { IfOk result (λ done. done ≡ false → IsLate processor.new) }
 {
     if begin(rt, cluster, processor, instruction)? {
         return Ok(true);

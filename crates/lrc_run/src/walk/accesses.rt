@@ -5,7 +5,7 @@
 //! again what each call does.
 ghost use Rattle.std.specs.Prelude.{◌≡◌, ◌+◌, ◌%◌, ◌^◌, OnOk, ℕ, [], ◌∷◌};
 ghost use Rattle.cluster.specs.Prelude.{IsSameProcessor};
-ghost use Rattle.lrc_run.specs.Prelude.{Makes, Tries};
+ghost use Rattle.lrc_run.specs.Prelude.{AddsBy, FetchesBy, Makes, Tries};
 ghost use Rattle.journal.specs.declared.event.Kind.TheVariants as kind;
 
 use book::Refused;
@@ -23,11 +23,12 @@ pub(crate) fn load<T: BookTurn, R: Wait>(
     requires own { processor.old.lock ≡ cluster.now.lock }
     ensures { Tries processor.old processor.new result (λ v. kind.Load address v ∷ []) }
 {
-    match load_roomy(rt, cluster, processor, address) {
+    match processor.load(address) {
         Err(Refused::Invalid(page)) => {
             fetch(rt, cluster, processor, page)?;
             load_roomy(rt, cluster, processor, address)
         }
+        Err(Refused::BlockFull) => load_roomy(rt, cluster, processor, address),
         answer => answer,
     }
 }
@@ -43,11 +44,12 @@ pub(crate) fn store<T: BookTurn, R: Wait>(
     requires own { processor.old.lock ≡ cluster.now.lock }
     ensures { Tries processor.old processor.new result (λ _. kind.Store address value ∷ []) }
 {
-    match store_roomy(rt, cluster, processor, address, value) {
+    match processor.store(address, value) {
         Err(Refused::Invalid(page)) => {
             fetch(rt, cluster, processor, page)?;
             store_roomy(rt, cluster, processor, address, value)
         }
+        Err(Refused::BlockFull) => store_roomy(rt, cluster, processor, address, value),
         answer => answer,
     }
 }
@@ -77,7 +79,7 @@ fn fetch<T: BookTurn, R: Wait>(
     page: usize,
 ) -> Result<(), Refused>
     requires own { processor.old.lock ≡ cluster.now.lock }
-    ensures { Tries processor.old processor.new result (λ _. []) }
+    ensures { FetchesBy processor.old processor.new result page }
 {
     match processor.fetch(page) {
         Err(Refused::BlockFull) => {
@@ -96,7 +98,7 @@ fn load_roomy<T: BookTurn, R: Wait>(
     address: usize,
 ) -> Result<u32, Refused>
     requires own { processor.old.lock ≡ cluster.now.lock }
-    ensures { Tries processor.old processor.new result (λ v. kind.Load address v ∷ []) }
+    ensures { AddsBy processor.old processor.new result (λ v. kind.Load address v ∷ []) }
 {
     match processor.load(address) {
         Err(Refused::BlockFull) => {
@@ -116,7 +118,7 @@ fn store_roomy<T: BookTurn, R: Wait>(
     value: u32,
 ) -> Result<(), Refused>
     requires own { processor.old.lock ≡ cluster.now.lock }
-    ensures { Tries processor.old processor.new result (λ _. kind.Store address value ∷ []) }
+    ensures { AddsBy processor.old processor.new result (λ _. kind.Store address value ∷ []) }
 {
     match processor.store(address, value) {
         Err(Refused::BlockFull) => {

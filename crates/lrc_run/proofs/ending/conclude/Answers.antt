@@ -1,6 +1,8 @@
-use Rattle.std.proofs.Common.{◌∙◌}
+use Rattle.std.proofs.Common.{ℕ, subst, sym, ◌∙◌}
+use Rattle.std.specs.Global.{Vec}
 use Rattle.lrc_script.specs.Plan.{plan_of}
-use Rattle.lrc_run.proofs.Concluding.{first_at, have_followed, walked_of, walks_at}
+use Rattle.lrc_run.specs.Walks.{Loads}
+use Rattle.lrc_run.proofs.Concluding.{first_at, have_followed, report_after, walked_of, walks_at}
 use Rattle.lrc_run.proofs.ending.conclude.Goals as goal
 
 pub show-requires-clause-own : goal.show-requires-clause-own
@@ -29,8 +31,12 @@ returns g c =
     let s = plan_of c.args.script.now in
     let ms = c.args.processors.items in
     let m = c.index_mut.result.now in
+    let n = c.show.new.processor in
     let at = first_at s c.args.cluster ms m c.requires.lawful c.requires.sizes c.requires.walked
     c.index_mut.ensures.value in
-    c.in_ok-report.ensures s (have_followed s c.args.cluster ms m c.show.new.processor c.in_ok-shown.shown.items
+    let told = c.in_ok-report.ensures s (have_followed s c.args.cluster ms m n c.in_ok-shown.shown.items
     c.requires.lawful c.requires.sizes c.requires.walked at c.in_ok-shown.ensures.ok
-    (c.in_ok-shown.ensures.addresses ∙ c.deref.ensures.value))
+    (c.in_ok-shown.ensures.addresses ∙ c.deref.ensures.value)) in
+    let P : Vec (ℕ × ℕ) → Type 0 = λ v. Loads m n v.items in
+    report_after s c.args.cluster ms m n _ c.requires.lawful c.requires.sizes c.requires.walked at
+    (subst P (sym told.1) c.in_ok-shown.ensures.ok) told.0

@@ -1,9 +1,10 @@
-use Rattle.std.proofs.Common.{◌≡◌, List, length, subst, arith}
+use Rattle.std.proofs.Common.{rules, ◌≡◌, ◌∙◌, ◌++◌, List, ap, drop, length, take, subst, arith}
+use Rattle.std.proofs.Math.Seq.{take-append_seam}
 use Rattle.std.specs.Prelude.{All}
 use Rattle.lrc_script.specs.Plan.{plan_of}
-use Rattle.lrc_run.specs.declared.steps.turns.Progress.{Progress}
-use Rattle.lrc_run.specs.declared.steps.turns.Progress.TheVariants.{Passed}
-use Rattle.lrc_run.proofs.Stepping.{all_begin, all_passed}
+use Rattle.runs.specs.declared.progress.Progress.{Progress}
+use Rattle.runs.specs.declared.progress.Progress.TheVariants.{Passed}
+use Rattle.lrc_run.proofs.Turning.{before_rounds, next_round, seen_same}
 use Rattle.lrc_run.proofs.steps.go_round.Goals as goal
 
 pub loop-init : goal.loop-init
@@ -11,16 +12,51 @@ loop-init g c =
     let ms = c.args.processors.now.items in
     let many : c.len.result ≡ length ms = omega (arith, c.len.ensures, c.args.processors.now.ok) in
     record {
-      way = all_begin c.args.cluster.now (plan_of c.args.script.now).sections ms c.in-Ok.beginnings.0.items c.len.result
-          c.requires.new many c.in-Ok.ensures.all;
+      between = before_rounds c.args.cluster.now (plan_of c.args.script.now) c.args.seed ms c.in-Ok.beginnings.0.items _
+          c.len.result c.requires.sizes c.requires.new many c.in-Ok.ensures.all c.generator_of-generator.ensures;
       long = omega (arith, c.in-Ok.ensures.list, many, c.requires.new.all);
     }
 
-pub loop-preserved : goal.loop-preserved
-loop-preserved g c = record { way = c.in_ok-round.ensures; long = c.loop.invariant.long }
-
 pub returns-then-have_passed : goal.returns-then-have_passed
 returns-then-have_passed g c =
-    let P : List Progress → Type 0 = λ xs. All (λ x. x ≡ Passed) xs in
-    all_passed c.args.cluster.now (plan_of c.args.script.now).sections c.loop.processors.items c.loop.all.items
-    c.loop.invariant.way (subst P c.deref.ensures.value (c.have_passed.ensures.0 c.if-have_passed.true))
+    let P : List Progress → Type 0 = λ xs. All (λ x. x ≡ Passed) xs in (
+      c.loop.all.items,
+      c.loop.invariant.between.by,
+      subst P c.deref.ensures.value (c.have_passed.ensures.0 c.if-have_passed.true),
+    )
+
+pub returns-then-not-branch : goal.returns-then-not-branch
+returns-then-not-branch g c =
+    let s = plan_of c.args.script.now in
+    let ns = c.loop.processors.items in
+    let os = c.round.new.processors.items in
+    let list = c.deref-in-loop.result.now in
+    let n = length c.deref_mut.result.now in
+    let many : n ≡ c.args.cluster.now.sizes.processors = omega (arith, c.deref_mut.ensures.len, c.loop.invariant.long) in
+    let order = c.draw.new.list in
+    let rest = drop (length order) c.loop.list.items in
+    let fits : c.loop.list.len ≡ length order = omega (arith, c.draw.ensures.below.1, c.deref_mut.ensures.len) in
+    let drawn_is : list ≡ order =
+    c.deref-in-loop.ensures.value ∙ ap (λ k. take k (order ++ rest)) fits ∙ take-append_seam order rest in
+    let next = next_round c.args.cluster.now s c.args.seed c.args.processors.now.items ns os os c.loop.all.items
+    c.round.new.all.items c.loop.generator c.draw.new.generator n list c.requires.sizes many c.loop.invariant.between
+    (drawn_is ∙ c.draw.ensures.list) c.draw.ensures.state c.in_ok-round.ensures (seen_same os) in
+    (c.round.new.all.items, next.by, tt)
+
+pub loop-preserved : goal.loop-preserved
+loop-preserved g c =
+    let s = plan_of c.args.script.now in
+    let ns = c.loop.processors.items in
+    let os = c.round.new.processors.items in
+    let list = c.deref-in-loop.result.now in
+    let n = length c.deref_mut.result.now in
+    let many : n ≡ c.args.cluster.now.sizes.processors = omega (arith, c.deref_mut.ensures.len, c.loop.invariant.long) in
+    let order = c.draw.new.list in
+    let rest = drop (length order) c.loop.list.items in
+    let fits : c.loop.list.len ≡ length order = omega (arith, c.draw.ensures.below.1, c.deref_mut.ensures.len) in
+    let drawn_is : list ≡ order =
+    c.deref-in-loop.ensures.value ∙ ap (λ k. take k (order ++ rest)) fits ∙ take-append_seam order rest in
+    let next = next_round c.args.cluster.now s c.args.seed c.args.processors.now.items ns os os c.loop.all.items
+    c.round.new.all.items c.loop.generator c.draw.new.generator n list c.requires.sizes many c.loop.invariant.between
+    (drawn_is ∙ c.draw.ensures.list) c.draw.ensures.state c.in_ok-round.ensures (seen_same os) in
+    record { between = next; long = search rules }

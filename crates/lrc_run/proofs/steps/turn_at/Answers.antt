@@ -1,7 +1,7 @@
 use Rattle.std.proofs.Common.{◌<◌, length, refl, arith}
 use Rattle.std.proofs.lemmas.Option.{slice_get_read}
 use Rattle.lrc_script.specs.Plan.{plan_of}
-use Rattle.lrc_run.proofs.Stepping.{all_turned, own_at, progress_read, section_read}
+use Rattle.lrc_run.proofs.Stepping.{own_at, progress_read, section_read}
 use Rattle.lrc_run.proofs.steps.turn_at.Goals as goal
 
 pub take_turn-requires-clause-own : goal.take_turn-requires-clause-own
@@ -13,8 +13,8 @@ take_turn-requires-clause-own g c κs within =
     own_at (plan_of c.args.script.now) c.args.cluster.now ms c.args.all.now.items p m c.requires.lawful c.requires.sizes
     c.requires.way (slice_get_read ms (length ms) p m refl inside c.index_mut.ensures.value)
 
-pub returns-in-Ok-clause-way : goal.returns-in-Ok-clause-way
-returns-in-Ok-clause-way g c =
+pub returns-in-Ok-clause-turn : goal.returns-in-Ok-clause-turn
+returns-in-Ok-clause-turn g c =
     let s = plan_of c.args.script.now in
     let ms = c.args.processors.now.items in
     let all = c.args.all.now.items in
@@ -23,10 +23,18 @@ returns-in-Ok-clause-way g c =
     let section = c.deref.result.now in
     let at = c.index.result.now in
     let inside : p < length ms = omega (arith, c.requires.within) in
-    all_turned c.args.cluster.now s.sections ms all p section m c.take_turn.new.processor at c.in-Ok.outcome.0
-    c.requires.way
-    (section_read s c.args.cluster.now ms all c.args.script.now.sections.items p c.index-section.result.now section
-    c.requires.lawful c.requires.sizes refl c.requires.way inside c.index-section.ensures c.deref.ensures.value)
-    (slice_get_read ms (length ms) p m refl inside c.index_mut.ensures.value)
-    (progress_read c.args.cluster.now s.sections ms all p at c.requires.way inside c.index.ensures)
-    c.in-Ok.ensures
+    record {
+      section = section;
+      before = m;
+      after = c.take_turn.new.processor;
+      at = at;
+      next = c.in-Ok.outcome.0;
+      section_is = section_read s c.args.cluster.now ms all c.args.script.now.sections.items p
+          c.index-section.result.now section c.requires.lawful c.requires.sizes refl c.requires.way inside
+          c.index-section.ensures c.deref.ensures.value;
+      before_is = slice_get_read ms (length ms) p m refl inside c.index_mut.ensures.value;
+      at_is = progress_read c.args.cluster.now s.sections ms all p at c.requires.way inside c.index.ensures;
+      takes = c.in-Ok.ensures;
+      new_is = refl;
+      to_is = refl;
+    }

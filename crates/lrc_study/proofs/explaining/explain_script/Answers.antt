@@ -4,7 +4,7 @@ use Rattle.lrc_study.proofs.explaining.explain_script.Goals as goal
 
 pub returns-clause-explained : goal.returns-clause-explained
 returns-clause-explained g c =
-    explained_by _ (plan_of c.in_ok-script.script) _ _ _ c.print_run.result c.in_ok-script.ensures.read
+    explained_by _ _ (plan_of c.in_ok-script.script) _ _ _ c.print_run.result c.in_ok-script.ensures.read
     c.print_run.ensures.told
 
 pub returns-clause-refused : goal.returns-clause-refused

@@ -1,11 +1,18 @@
-use Rattle.std.proofs.Common.{sym}
+use Rattle.std.proofs.Common.{subst, sym, Option, ℕ}
 use Rattle.lrc_script.specs.Plan.{plan_of}
+use Rattle.runs.specs.ByTurns.{orders_of}
+use Rattle.sample.specs.Outcomes.{IsOutcomeOf}
 use Rattle.sample.specs.Tally.{run_of}
-use Rattle.sample.proofs.Samples.{made_next}
+use Rattle.sample.proofs.Samples.{made_next, seed_run}
 use Rattle.sample.proofs.sampling.run_once.Goals as goal
 
 pub returns-in-Ok : goal.returns-in-Ok
 returns-in-Ok g c =
+    let s = plan_of c.args.script.now in
     let made = c.requires.made in
-    made_next (plan_of c.args.script.now) (run_of c.args.seed) c.in_ok-outcome.outcome c.args.lines.now.items
-    c.note.new.lines.items made c.in_ok-outcome.ensures (c.in-Ok.ensures made.outcomes made.noted (sym made.are.many))
+    let o = c.in_ok-outcome.outcome in
+    let P : Option ℕ → Type 0 = λ seed. IsOutcomeOf s (orders_of s seed) o in
+    let one = subst P (sym (seed_run c.args.seed))
+    (c.in_ok-outcome.ensures (orders_of s c.args.seed) c.step.ensures.turns) in
+    made_next s (run_of c.args.seed) o c.args.lines.now.items c.note.new.lines.items made one
+    (c.in-Ok.ensures made.outcomes made.noted (sym made.are.many))

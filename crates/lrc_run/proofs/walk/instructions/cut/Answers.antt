@@ -1,5 +1,8 @@
-use Rattle.lrc_run.proofs.Calling.{done_cut}
+use Rattle.lrc_run.proofs.Calling.{cut_does, done_cut}
 use Rattle.lrc_run.proofs.walk.instructions.cut.Goals as goal
+
+pub returns-in-Err-NoEpisode-clause-ok : goal.returns-in-Err-NoEpisode-clause-ok
+returns-in-Err-NoEpisode-clause-ok g c = cut_does c.args.processor.now c.cut.new.processor c.cut.ensures
 
 pub returns-in_default-2-clause-ok : goal.returns-in_default-2-clause-ok
 returns-in_default-2-clause-ok g c =

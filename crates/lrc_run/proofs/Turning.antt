@@ -1,0 +1,474 @@
+-- Turns one after another, and what they tell of a history that goes on from what the processors have seen.
+use Rattle.std.proofs.Common.{ℕ, zero, suc, ◌≡◌, Bool, true, false, Option, Some, List, [], ◌∷◌, ◌++◌, length, replicate, get_or, slice_get, slice_set, refl, sym, ap, subst, subst₂, ◌∙◌, inl, inr, append-nil, arith}
+use Rattle.std.proofs.lemmas.Bool.{cases_eq}
+use Rattle.std.proofs.lemmas.Option.{none-some, same_Some, slice_get-get_or, slice_get_within}
+use Rattle.lists.proofs.Sets.{slice_get-set_other, slice_get-set_same}
+use Rattle.journal.specs.declared.event.Event.{Event}
+use Rattle.journal.specs.declared.event.Kind.{Kind}
+use Rattle.journal.specs.Did.{event}
+use Rattle.journal.specs.Events.{part}
+use Rattle.journal.specs.Sizes.{Sizes}
+use Rattle.journal.specs.WellFormed.{Ready}
+use Rattle.lrc_script.specs.declared.script.Instruction.{Instruction}
+use Rattle.lrc_script.specs.Plan.{Plan}
+use Rattle.follows.specs.Follows.{kinds_of, sizes_of}
+use Rattle.follows.proofs.Calls.{kinds_of-append, kinds_of-one}
+use Rattle.replicas.specs.Local.{Local, calls}
+use Rattle.cluster.specs.Calls.{IsSameProcessor}
+use Rattle.cluster.specs.Clusters.{AreNew, Shared}
+use Rattle.cluster.specs.Taking.{IsLate, awaited_event}
+use Rattle.runs.specs.declared.progress.Progress.{Progress}
+use Rattle.runs.specs.declared.progress.Progress.TheVariants.{Next, Passed, Waits}
+use Rattle.rand_pcg.specs.Lcg.{Lcg}
+use Rattle.runs.specs.ByTurns.{orders_of}
+use Rattle.runs.specs.Orders.{drawn, generator_after, generator_of}
+use Rattle.runs.specs.Turns.{AreTurns, IsTurn, LooksInVain, Stage, instruction_at, progress_after, stage, turns_of}
+use Rattle.lrc_run.specs.Endings.{IsBeginning}
+use Rattle.lrc_run.specs.Steps.{AreOnTheirWay, IsAt}
+use Rattle.lrc_run.specs.Turns.{AreRounds, AreSeenOn, AreTurned, AreTurnedBy, IsTurnOf, SeesOn, TakesTurn}
+use Rattle.lrc_run.specs.Walks.{IsOnItsWay, MakesBut, SeesMore, Takes, made, new_at}
+use Rattle.lrc_run.proofs.Concluding.{begins_less}
+use Rattle.lrc_run.proofs.Making.{last_is_no_fetch, same_then, sees_same, sees_then, wanted_same}
+use Rattle.lrc_run.proofs.Stepping.{after_instruction, after_look, all_begin, all_turned, same_on_its_way}
+
+-- one turn more
+pub turned_more : (sections : List (List Instruction)) (ps : List ℕ) (p : ℕ) (ms ns os : List Local)
+    (all to end : List Progress) → AreTurned sections ps ms ns all to → IsTurnOf sections p ns os to end
+    → AreTurned sections (ps ++ p ∷ []) ms os all end
+turned_more sections [] p ms ns os all to end first next =
+    let P : List Local → List Progress → Type 0 = λ xs ys. IsTurnOf sections p xs os ys end in
+    (os, end, subst₂ P first.0 first.1 next, (refl, refl))
+turned_more sections (q ∷ ps) p ms ns os all to end first next =
+    (first.0, first.1, first.2, turned_more sections ps p first.0 ns os first.1 to end first.3 next)
+
+-- whoever goes on is the same processor
+way_same : (m x : Local) (i : Instruction) (done : Bool) → IsOnItsWay m x i done → IsSameProcessor m x
+way_same m x i true way = way.makes.same
+way_same m x i false way = way.makes.same
+
+way_sees : (m x : Local) (i : Instruction) (done : Bool) → IsOnItsWay m x i done → SeesMore m x
+way_sees m x i true way = way.makes.sees
+way_sees m x i false way = way.makes.sees
+
+turn_same : (section : List Instruction) (m x : Local) (at to : Progress) → TakesTurn section m at x to
+    → IsSameProcessor m x
+turn_same section m x (Next n) to turn = way_same m x (instruction_at section n) turn.done turn.way
+turn_same section m x (Waits n) to turn = turn.takes.same
+turn_same section m x Passed to turn = record {
+  lock = ap (λ (l : Local). l.lock) turn.0;
+  number = ap (λ (l : Local). l.number) turn.0;
+  sizes = ap (λ (l : Local). l.sizes) turn.0;
+}
+
+-- and has seen no less
+turn_sees : (section : List Instruction) (m x : Local) (at to : Progress) → TakesTurn section m at x to → SeesMore m x
+turn_sees section m x (Next n) to turn = way_sees m x (instruction_at section n) turn.done turn.way
+turn_sees section m x (Waits n) to turn = turn.takes.sees
+turn_sees section m x Passed to turn = ([], ap (λ (l : Local). l.seen) turn.0 ∙ sym (append-nil m.seen))
+
+-- where it is after its turn
+pub at_turned : (l m x : Local) (section : List Instruction) (at to : Progress) → IsAt l m section at
+    → TakesTurn section m at x to → IsAt l x section to
+at_turned l m x section (Next n) to at turn = subst (λ (y : Progress). IsAt l x section y) (sym turn.to_is)
+    (after_instruction l m x section n turn.done at.0 at.1 turn.way)
+at_turned l m x section (Waits n) to at turn = subst (λ (y : Progress). IsAt l x section y) (sym turn.to_is)
+    (after_look l m x section n turn.taken at turn.takes)
+at_turned l m x section Passed to at turn =
+    let P : Local → Progress → Type 0 = λ y z. IsAt l y section z in subst₂ P (sym turn.0) (sym turn.1) at
+
+-- where all are after a turn
+pub way_turned : (c : Shared) (sections : List (List Instruction)) (p : ℕ) (ms ns : List Local) (all to : List Progress)
+    → AreOnTheirWay c sections ms all → IsTurnOf sections p ms ns all to → AreOnTheirWay c sections ns to
+way_turned c sections p ms ns all to way turn =
+    let P : List Local → List Progress → Type 0 = λ xs ys. AreOnTheirWay c sections xs ys in
+    subst₂ P (sym turn.new_is) (sym turn.to_is)
+    (all_turned c sections ms all p turn.section turn.before turn.after turn.at turn.next way turn.section_is
+    turn.before_is turn.at_is
+    (λ start at. at_turned start turn.before turn.after turn.section turn.at turn.next at turn.takes))
+
+-- and after more of them
+pub ways_turned : (c : Shared) (sections : List (List Instruction)) (ps : List ℕ) (ms ns : List Local)
+    (all to : List Progress) → AreOnTheirWay c sections ms all → AreTurned sections ps ms ns all to
+    → AreOnTheirWay c sections ns to
+ways_turned c sections [] ms ns all to way turned =
+    let P : List Local → List Progress → Type 0 = λ xs ys. AreOnTheirWay c sections xs ys in
+    subst₂ P (sym turned.0) (sym turned.1) way
+ways_turned c sections (p ∷ ps) ms ns all to way turned =
+    ways_turned c sections ps turned.0 ns turned.1 to (way_turned c sections p ms turned.0 all turned.1 way turned.2)
+    turned.3
+
+-- the processors' stages: where each is, and what it has made
+abbrev pub stages_of : List Local → List Progress → List Stage
+stages_of [] all = []
+stages_of (m ∷ ms) [] = []
+stages_of (m ∷ ms) (at ∷ all) = stage at (made m) ∷ stages_of ms all
+
+pub stages_at : (ms : List Local) (all : List Progress) (p : ℕ) (m : Local) (at : Progress) → slice_get ms p ≡ Some m
+    → slice_get all p ≡ Some at → slice_get (stages_of ms all) p ≡ Some (stage at (made m))
+stages_at [] all p m at here there = absurd (none-some m here)
+stages_at (x ∷ ms) [] p m at here there = absurd (none-some at there)
+stages_at (x ∷ ms) (y ∷ all) zero m at here there =
+    let P : Progress → Local → Type 0 = λ a b. Some (stage y (made x)) ≡ Some (stage a (made b)) in
+    subst₂ P (same_Some y at there) (same_Some x m here) refl
+stages_at (x ∷ ms) (y ∷ all) (suc p) m at here there = stages_at ms all p m at here there
+
+-- each stage is a processor's
+pub record IsStageOf (ms : List Local) (all : List Progress) (p : ℕ) (x : Stage) : Type 0 where
+  pub processor : Local
+  pub at : Progress
+  pub processor_is : slice_get ms p ≡ Some processor
+  pub at_is : slice_get all p ≡ Some at
+  pub is : x ≡ stage at (made processor)
+
+pub stage_from : (ms : List Local) (all : List Progress) (p : ℕ) (x : Stage)
+    → slice_get (stages_of ms all) p ≡ Some x → IsStageOf ms all p x
+stage_from [] all p x here = absurd (none-some x here)
+stage_from (m ∷ ms) [] p x here = absurd (none-some x here)
+stage_from (m ∷ ms) (at ∷ all) zero x here = record {
+  processor = m;
+  at = at;
+  processor_is = refl;
+  at_is = refl;
+  is = sym (same_Some (stage at (made m)) x here);
+}
+stage_from (m ∷ ms) (at ∷ all) (suc p) x here =
+    let is = stage_from ms all p x here in
+    record { processor = is.processor; at = is.at; processor_is = is.processor_is; at_is = is.at_is; is = is.is }
+
+stages_set : (ms : List Local) (all : List Progress) (p : ℕ) (m : Local) (to : Progress)
+    → stages_of (slice_set ms p m) (slice_set all p to) ≡ slice_set (stages_of ms all) p (stage to (made m))
+stages_set [] all p m to = refl
+stages_set (x ∷ ms) [] zero m to = refl
+stages_set (x ∷ ms) [] (suc p) m to = refl
+stages_set (x ∷ ms) (y ∷ all) zero m to = refl
+stages_set (x ∷ ms) (y ∷ all) (suc p) m to = ap (λ xs. stage y (made x) ∷ xs) (stages_set ms all p m to)
+
+-- at the start
+pub stages_start : (ms : List Local) (n : ℕ) → length ms ≡ n
+    → ((p : ℕ) (m : Local) → slice_get ms p ≡ Some m → made m ≡ [])
+    → stages_of ms (replicate n (Next 0)) ≡ replicate n (stage (Next 0) [])
+stages_start [] zero long each = refl
+stages_start [] (suc n) long each = absurd (omega arith)
+stages_start (m ∷ ms) zero long each = absurd (omega arith)
+stages_start (m ∷ ms) (suc n) long each =
+    let first = ap (λ calls. stage (Next 0) calls) (each 0 m refl) in
+    let rest = stages_start ms n (omega arith) (λ p x here. each (suc p) x here) in
+    ap (λ (x : Stage). x ∷ stages_of ms (replicate n (Next 0))) first ∙ ap (λ xs. stage (Next 0) [] ∷ xs) rest
+
+-- new processors have made nothing
+pub nothing_made : (c : Shared) (ms : List Local) → AreNew c ms → (p : ℕ) (m : Local) → slice_get ms p ≡ Some m
+    → made m ≡ []
+nothing_made c ms new p m here = ap made (new.each p m here)
+
+-- one with an empty block that isn't ready by what it has seen looked in vain
+in_vain : (s : Plan) (h : List Event) (p : ℕ) (x : Local) → x.number ≡ p → x.sizes ≡ sizes_of s → x.block ≡ []
+    → IsLate x → IsBeginning x.seen h → LooksInVain s h p (made x)
+in_vain s h p x number sizes none late begins = record {
+  found = x.seen;
+  rest = begins.0;
+  begins = begins.1;
+  calls_are = ap kinds_of (ap (part x.seen) (sym number) ∙ sym (append-nil (part x.seen x.number))
+      ∙ ap (λ es. part x.seen x.number ++ es) (sym none));
+  late = let P : Sizes → ℕ → Type 0 = λ sizes q. ¬ Ready sizes x.seen q in subst₂ P sizes number late;
+}
+
+-- what a turn does is told of a history that goes on from what the processor has seen then
+turn_told : (s : Plan) (h : List Event) (p : ℕ) (l m x : Local) (section : List Instruction) (at to : Progress)
+    → x.number ≡ p → x.sizes ≡ sizes_of s → IsAt l m section at → TakesTurn section m at x to → IsBeginning x.seen h
+    → IsTurn s h p section at (made m) (stage to (made x))
+turn_told s h p l m x section (Next n) to number sizes is turn begins = by turn.done turn.way turn.late turn.to_is
+  where
+    by : (done : Bool) → IsOnItsWay m x (instruction_at section n) done → (done ≡ false → IsLate x)
+        → to ≡ progress_after section n done → IsTurn s h p section (Next n) (made m) (stage to (made x))
+    by true way late to_is = inl (record {
+      kinds = way.kinds;
+      are = way.are;
+      new_is = let P : Progress → List Kind → Type 0 = λ a b. stage to (made x) ≡ stage a b in
+          subst₂ P to_is way.makes.more refl;
+    })
+    by false way late to_is = inr (record {
+      first = way.first;
+      last = way.last;
+      are = way.are;
+      new_is = let P : Progress → List Kind → Type 0 = λ a b. stage to (made x) ≡ stage a b in
+          subst₂ P to_is way.makes.more refl;
+      vain = in_vain s h p x number sizes way.handed (late refl) begins;
+    })
+turn_told s h p l m x section (Waits n) to number sizes is turn begins = by turn.taken turn.takes turn.to_is
+  where
+    by : (taken : Bool) → Takes m x taken → to ≡ progress_after section n taken
+        → IsTurn s h p section (Waits n) (made m) (stage to (made x))
+    by true takes to_is = inl (record {
+      first = is.0.begins.first;
+      last = is.0.begins.last;
+      are = is.0.begins.are;
+      new_is = let P : Progress → List Kind → Type 0 = λ a b. stage to (made x) ≡ stage a b in
+          let last = event m.number is.0.begins.last in
+          let more = ap kinds_of (takes.yes refl ∙ ap (λ k. calls m ++ awaited_event m.number k) is.0.begins.awaits)
+          ∙ kinds_of-append (calls m) (last ∷ []) ∙ ap (λ ks. made m ++ ks) (kinds_of-one last
+          (last_is_no_fetch (instruction_at section n) is.0.begins.first is.0.begins.last is.0.begins.are)) in
+          subst₂ P to_is more refl;
+    })
+    by false takes to_is =
+        let none = takes.no refl in
+        let same = ap kinds_of none.calls_are in
+        let P : List Kind → Type 0 = LooksInVain s h p in
+        inr (record {
+          new_is = let P : Progress → List Kind → Type 0 = λ a b. stage to (made x) ≡ stage a b in
+              subst₂ P to_is same refl;
+          vain = subst P same (in_vain s h p x number sizes (none.block_is ∙ is.0.begins.handed) none.late begins);
+        })
+turn_told s h p l m x section Passed to number sizes is turn begins =
+    let P : Progress → List Kind → Type 0 = λ a b. stage to (made x) ≡ stage a b in
+    subst₂ P turn.1 (ap made turn.0) refl
+
+-- the history goes on from what each has seen
+abbrev pub AllBegin : List Local → List Event → Type 0
+AllBegin ms h = (p : ℕ) (m : Local) → slice_get ms p ≡ Some m → IsBeginning m.seen h
+
+-- turns are told of a history that goes on from what all have seen at their end
+pub turns_told : (s : Plan) (c : Shared) (h : List Event) (ps : List ℕ) (ms ns : List Local) (all to : List Progress)
+    → c.sizes ≡ sizes_of s → AreOnTheirWay c s.sections ms all → AreTurned s.sections ps ms ns all to → AllBegin ns h
+    → AllBegin ms h × AreTurns s h ps (stages_of ms all) (stages_of ns to)
+turns_told s c h [] ms ns all to sizes way turned begin =
+    let P : List Local → Type 0 = λ xs. AllBegin xs h in
+    let Q : List Local → List Progress → Type 0 = λ xs ys. stages_of xs ys ≡ stages_of ms all in
+    (subst P turned.0 begin, subst₂ Q (sym turned.0) (sym turned.1) refl)
+turns_told s c h (p ∷ ps) ms ns all to sizes way turned begin =
+    let turn = turned.2 in
+    let later = turns_told s c h ps turned.0 ns turned.1 to sizes
+    (way_turned c s.sections p ms turned.0 all turned.1 way turn) turned.3 begin in
+    let m = turn.before in
+    let x = turn.after in
+    let is = way.each p turn.section m turn.at turn.section_is turn.before_is turn.at_is in
+    let same = same_then (new_at c p) m x (same_on_its_way (new_at c p) m turn.section turn.at is)
+    (turn_same turn.section m x turn.at turn.next turn.takes) in
+    let within = slice_get_within ms p m turn.before_is in
+    let here : slice_get turned.0 p ≡ Some x = ap (λ xs. slice_get xs p) turn.new_is ∙ slice_get-set_same ms p x within in
+    let begins = later.0 p x here in
+    let one : _ = turn_told s h p (new_at c p) m x turn.section turn.at turn.next same.number (same.sizes ∙ sizes) is
+    turn.takes begins in
+    let P : List Local → List Progress → Type 0 =
+    λ xs ys. stages_of xs ys ≡ slice_set (stages_of ms all) p (stage turn.next (made x)) in
+    let others = subst₂ P (sym turn.new_is) (sym turn.to_is) (stages_set ms all p x turn.next) in (
+      first turn later.0 begins,
+      (
+        stages_of turned.0 turned.1,
+        record {
+          section = turn.section;
+          before = stage turn.at (made m);
+          after = stage turn.next (made x);
+          section_is = turn.section_is;
+          before_is = stages_at ms all p m turn.at turn.before_is turn.at_is;
+          turn = one;
+          others = others;
+        },
+        later.1,
+      ),
+    )
+  where
+    first : (turn : IsTurnOf s.sections p ms turned.0 all turned.1) → AllBegin turned.0 h
+        → IsBeginning turn.after.seen h → AllBegin ms h
+    first turn others mine q y here = elim (cases_eq q p) [
+      | inl is ↦ (let M : ℕ → Type 0 = λ k. slice_get ms k ≡ Some y in
+          let same = same_Some turn.before y (sym turn.before_is ∙ subst M is here) in
+          let P : Local → Type 0 = λ z. IsBeginning z.seen h in
+          subst P same (begins_less turn.before turn.after h
+          (turn_sees turn.section turn.before turn.after turn.at turn.next turn.takes) mine))
+      | inr isnt ↦ others q y (ap (λ xs. slice_get xs q) turn.new_is
+          ∙ slice_get-set_other ms p q turn.after isnt ∙ here)
+    ]
+
+-- turns, and then more of them
+turns-append : (s : Plan) (h : List Event) (ps qs : List ℕ) (xs ys zs : List Stage) → AreTurns s h ps xs ys
+    → AreTurns s h qs ys zs → AreTurns s h (ps ++ qs) xs zs
+turns-append s h [] qs xs ys zs first next = let P : List Stage → Type 0 = λ x. AreTurns s h qs x zs in subst P first next
+turns-append s h (p ∷ ps) qs xs ys zs first next =
+    (first.0, first.1, turns-append s h ps qs first.0 ys zs first.2 next)
+
+-- who saw on was before
+pub before_at : (ms ns : List Local) (p : ℕ) (n : Local) → AreSeenOn ms ns → slice_get ns p ≡ Some n
+    → (m : Local) × (slice_get ms p ≡ Some m)
+before_at ms ns p n on here =
+    let within = slice_get_within ns p n here in
+    let same = on.all in
+    (get_or ms p n, slice_get-get_or ms p n (omega arith))
+
+-- the stages of those who saw on stay
+stages_seen : (ms ns : List Local) (all : List Progress) → AreSeenOn ms ns → stages_of ns all ≡ stages_of ms all
+stages_seen [] [] all on = refl
+stages_seen [] (n ∷ ns) all on = absurd (let long = on.all in omega (arith, long))
+stages_seen (m ∷ ms) [] all on = absurd (let long = on.all in omega (arith, long))
+stages_seen (m ∷ ms) (n ∷ ns) [] on = refl
+stages_seen (m ∷ ms) (n ∷ ns) (at ∷ all) on =
+    let rest : AreSeenOn ms ns = record {
+      all = let long = on.all in omega (arith, long);
+      each = λ p x y here there. on.each (suc p) x y here there;
+    } in
+    ap (λ ks. stage at ks ∷ stages_of ns all) (ap kinds_of (on.each 0 m n refl refl).calls_are)
+    ∙ ap (λ xs. stage at (made m) ∷ xs) (stages_seen ms ns all rest)
+
+-- what goes on from what they saw then goes on from what they saw before
+begin_before : (ms ns : List Local) (h : List Event) → AreSeenOn ms ns → AllBegin ns h → AllBegin ms h
+begin_before ms ns h on begin p m here =
+    let within = slice_get_within ms p m here in
+    let same = on.all in
+    let n = get_or ns p m in
+    let there = slice_get-get_or ns p m (omega arith) in
+    begins_less m n h (on.each p m n here there).sees (begin p n there)
+
+-- nothing else changed
+makes_seen : {C : Type 0} (l m n : Local) (kinds : List Kind) → MakesBut C l m kinds → SeesOn m n → MakesBut C l n kinds
+makes_seen l m n kinds makes on = record {
+  same = same_then l m n makes.same on.same;
+  sees = sees_then l m n makes.sees on.sees;
+  more = ap kinds_of on.calls_are ∙ makes.more;
+  wanted = λ was. wanted_same m n on.same on.calls_are (makes.wanted was);
+  uncut = λ none. on.uncut ∙ makes.uncut none;
+}
+
+at_seen : (l m n : Local) (section : List Instruction) (at : Progress) → IsAt l m section at → SeesOn m n
+    → IsAt l n section at
+at_seen l m n section (Next k) is on = (
+  record {
+    kinds = is.0.kinds;
+    are = is.0.are;
+    makes = makes_seen l m n is.0.kinds is.0.makes on;
+  },
+  is.1,
+)
+at_seen l m n section (Waits k) is on =
+    let begun = is.0.begins in
+    let between = is.0.between in (
+      record {
+        between = between;
+        done = is.0.done;
+        begins = record {
+          first = begun.first;
+          last = begun.last;
+          are = begun.are;
+          makes = record {
+            same = same_then between m n begun.makes.same on.same;
+            sees = sees_then between m n begun.makes.sees on.sees;
+            more = ap kinds_of on.calls_are ∙ begun.makes.more;
+            wanted = λ was. wanted_same m n on.same on.calls_are (begun.makes.wanted was);
+            uncut = on.uncut ∙ begun.makes.uncut;
+          };
+          handed = on.block_is ∙ begun.handed;
+          awaits = on.awaits_is ∙ begun.awaits;
+        };
+      },
+      is.1,
+    )
+at_seen l m n section Passed is on =
+    record { kinds = is.kinds; are = is.are; makes = makes_seen l m n _ is.makes on }
+
+way_seen : (c : Shared) (sections : List (List Instruction)) (ms ns : List Local) (all : List Progress)
+    → AreOnTheirWay c sections ms all → AreSeenOn ms ns → AreOnTheirWay c sections ns all
+way_seen c sections ms ns all way on = record {
+  many = on.all ∙ way.many;
+  long = way.long;
+  each = λ p section n at its here there.
+      let before = before_at ms ns p n on here in
+      at_seen (new_at c p) before.0 n section at (way.each p section before.0 at its before.1 there)
+      (on.each p before.0 n before.1 here);
+}
+
+-- where all are after rounds
+way_rounds : (c : Shared) (s : Plan) (orders : ℕ → List ℕ) (k : ℕ) (ms ns : List Local) (all : List Progress)
+    → c.sizes ≡ sizes_of s → AreNew c ms → AreRounds s orders k ms ns all → AreOnTheirWay c s.sections ns all
+way_rounds c s orders zero ms ns all sizes new rounds =
+    let n = s.processors in
+    let many : n ≡ length ms = sym (new.all ∙ ap (λ (x : Sizes). x.processors) sizes) in
+    let P : List Local → Type 0 = λ xs. AreOnTheirWay c s.sections xs all in
+    subst P (sym rounds.0) (all_begin c s.sections ms all n new many rounds.1)
+way_rounds c s orders (suc k) ms ns all sizes new rounds =
+    let round = rounds.3 in
+    way_seen c s.sections round.turned ns all (ways_turned c s.sections (orders k) rounds.0 round.turned rounds.1 all
+    (way_rounds c s orders k ms rounds.0 rounds.1 sizes new rounds.2) round.turns) round.seen
+
+-- rounds are told of a history that goes on from what all have seen at their end
+pub rounds_told : (s : Plan) (c : Shared) (h : List Event) (orders : ℕ → List ℕ) (k : ℕ) (ms ns : List Local)
+    (all : List Progress) → c.sizes ≡ sizes_of s → AreNew c ms → AreRounds s orders k ms ns all → AllBegin ns h
+    → AreTurns s h (turns_of orders k) (replicate s.processors (stage (Next 0) [])) (stages_of ns all)
+rounds_told s c h orders zero ms ns all sizes new rounds begin =
+    let n = s.processors in
+    let many : length ms ≡ n = new.all ∙ ap (λ (x : Sizes). x.processors) sizes in
+    let P : List Local → List Progress → Type 0 = λ xs ys. stages_of xs ys ≡ replicate n (stage (Next 0) []) in
+    subst₂ P (sym rounds.0) (sym rounds.1) (stages_start ms n many (nothing_made c ms new))
+rounds_told s c h orders (suc k) ms ns all sizes new rounds begin =
+    let round = rounds.3 in
+    let way = way_rounds c s orders k ms rounds.0 rounds.1 sizes new rounds.2 in
+    let told = turns_told s c h (orders k) rounds.0 round.turned rounds.1 all sizes way round.turns
+    (begin_before round.turned ns h round.seen begin) in
+    let before = rounds_told s c h orders k ms rounds.0 rounds.1 sizes new rounds.2 told.0 in
+    let P : List Stage → Type 0 = λ xs. AreTurns s h (turns_of orders k ++ orders k)
+    (replicate s.processors (stage (Next 0) [])) xs in
+    subst P (sym (stages_seen round.turned ns all round.seen))
+    (turns-append s h (turns_of orders k) (orders k) (replicate s.processors (stage (Next 0) []))
+    (stages_of rounds.0 rounds.1) (stages_of round.turned all) before told.1)
+
+-- where all are after a round, and the generator then
+pub record IsBetweenRounds (c : Shared) (s : Plan) (seed : Option ℕ) (old new : List Local) (all : List Progress)
+    (generator : Option Lcg) : Type 0 where
+  pub by : AreTurnedBy c s seed old new all
+  pub drawn_is : generator ≡ generator_after seed s.processors by.count
+
+-- before the first one
+pub before_rounds : (c : Shared) (s : Plan) (seed : Option ℕ) (ms : List Local) (all : List Progress)
+    (generator : Option Lcg) (n : ℕ) → c.sizes ≡ sizes_of s → AreNew c ms → n ≡ length ms → all ≡ replicate n (Next 0)
+    → generator ≡ generator_of seed → IsBetweenRounds c s seed ms ms all generator
+before_rounds c s seed ms all generator n sizes new many are is = record {
+  by = record {
+    way = all_begin c s.sections ms all n new many are;
+    count = 0;
+    rounds = (
+      refl,
+      are ∙ ap (λ k. replicate k (Next 0))
+          (many ∙ new.all ∙ ap (λ (x : Sizes). x.processors) sizes),
+    );
+  };
+  drawn_is = is;
+}
+
+-- and after one more
+pub next_round : (c : Shared) (s : Plan) (seed : Option ℕ) (ms ns turned os : List Local) (all to : List Progress)
+    (old new : Option Lcg) (n : ℕ) (list : List ℕ) → c.sizes ≡ sizes_of s → n ≡ c.sizes.processors
+    → IsBetweenRounds c s seed ms ns all old → list ≡ (drawn old n).0 → new ≡ (drawn old n).1
+    → AreTurned s.sections list ns turned all to → AreSeenOn turned os → IsBetweenRounds c s seed ms os to new
+next_round c s seed ms ns turned os all to old new n list sizes many was order state turns seen =
+    let count = many ∙ ap (λ (x : Sizes). x.processors) sizes in
+    let k = was.by.count in
+    let P : Option Lcg → ℕ → Type 0 = λ g m. list ≡ (drawn g m).0 in
+    let Q : Option Lcg → ℕ → Type 0 = λ g m. new ≡ (drawn g m).1 in
+    let order_is : list ≡ orders_of s seed k = subst₂ P was.drawn_is count order in
+    let R : List ℕ → Type 0 = λ ps. AreTurned s.sections ps ns turned all to in
+    record {
+      by = record {
+        way = way_seen c s.sections turned os to (ways_turned c s.sections list ns turned all to was.by.way turns) seen;
+        count = suc k;
+        rounds = (ns, all, was.by.rounds, record { turned = turned; turns = subst R order_is turns; seen = seen });
+      };
+      drawn_is = subst₂ Q was.drawn_is count state;
+    }
+
+-- who did nothing saw on
+pub seen_same : (ms : List Local) → AreSeenOn ms ms
+seen_same ms = record {
+  all = refl;
+  each = λ p m n here there. sees_on m n (same_Some m n (sym here ∙ there));
+}
+  where
+    sees_on : (m n : Local) → m ≡ n → SeesOn m n
+    sees_on m n e = record {
+      same = record {
+        lock = ap (λ (x : Local). x.lock) (sym e);
+        number = ap (λ (x : Local). x.number) (sym e);
+        sizes = ap (λ (x : Local). x.sizes) (sym e);
+      };
+      sees = sees_same m n (ap (λ (x : Local). x.seen) (sym e));
+      calls_are = ap calls (sym e);
+      block_is = ap (λ (x : Local). x.block) (sym e);
+      awaits_is = ap (λ (x : Local). x.awaits) (sym e);
+      uncut = ap (λ (x : Local). x.own_cut) (sym e);
+    }

@@ -1,0 +1,24 @@
+use Rattle.std.proofs.Common.{add-one, take, ◌∙◌}
+use Rattle.std.proofs.lemmas.Option.{slice_get-get_or}
+use Rattle.lists.proofs.Places.{take-suc_at}
+use Rattle.lrc_script.specs.Plan.{plan_of}
+use Rattle.lrc_run.proofs.Turning.{turned_more, way_turned}
+use Rattle.lrc_run.proofs.steps.round.Goals as goal
+
+pub loop-p-preserved : goal.loop-p-preserved
+loop-p-preserved g c =
+    let sections = (plan_of c.args.script.now).sections in
+    let list = c.args.list.now in
+    let k = c.loop-p.p-index in
+    let was = c.loop-p.invariant in
+    let turn = c.in_ok-turn_at.ensures.turn in
+    let at = slice_get-get_or list k _ c.loop-p-test.true in
+    record {
+      way = way_turned c.args.cluster.now sections _ c.loop-p.processors.items c.turn_at.new.processors.items
+          c.loop-p.all.items c.turn_at.new.all.items was.way turn;
+      turned = rw (add-one, take-suc_at list k _ at)
+          (turned_more sections (take k list) _ c.args.processors.now.items c.loop-p.processors.items
+          c.turn_at.new.processors.items c.args.all.now.items c.loop-p.all.items c.turn_at.new.all.items was.turned
+          turn);
+      long = c.turn_at.ensures.long ∙ was.long;
+    }

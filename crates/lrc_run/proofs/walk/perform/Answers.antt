@@ -1,0 +1,11 @@
+use Rattle.std.proofs.Common.{rules, ◌≡◌, Bool, true, subst}
+use Rattle.lrc_run.specs.Walks.{Takes}
+use Rattle.lrc_run.proofs.Making.{on_its_way}
+use Rattle.lrc_run.proofs.walk.perform.Goals as goal
+
+pub returns-then-branch-2-clause-ok : goal.returns-then-branch-2-clause-ok
+returns-then-branch-2-clause-ok g c =
+    let taken : c.in_ok-end.field-0 ≡ true = search rules in
+    let P : Bool → Type 0 = λ b. Takes c.loop.processor c.end.new.processor b in
+    on_its_way c.args.processor.now c.loop.processor c.end.new.processor c.args.instruction true c.loop.invariant.begun
+    (subst P taken c.in_ok-end.ensures.ok)

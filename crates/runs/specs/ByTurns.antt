@@ -1,0 +1,39 @@
+-- What comes of a run by turns.
+use Rattle.std.specs.Prelude.{ℕ, ◌≡◌, ◌==◌, cond, Option, Some, List, [], ◌++◌, map, slice_get}
+use Rattle.lrc_script.specs.Plan.{Plan}
+use Rattle.lrc_report.specs.declared.report.Report.{Report}
+use Rattle.follows.specs.Follows.{calls_of, load_of}
+use Rattle.runs.specs.declared.ended.Ended.{Ended}
+use Rattle.runs.specs.declared.ended.Ended.TheVariants.{Halted, Whole}
+use Rattle.runs.specs.declared.ended.Halt.{Halt}
+use Rattle.runs.specs.declared.progress.Progress.TheVariants.{Passed}
+use Rattle.runs.specs.Ends.{IsJournalSoFar}
+use Rattle.runs.specs.Orders.{round_order}
+use Rattle.runs.specs.Reports.{IsReportOf}
+use Rattle.runs.specs.Turns.{AreReached, Stage}
+
+-- a report of the script's run by turns in these orders: in its history all processors have passed the closing barrier,
+-- and then processor 0 has loaded what is shown
+pub record IsReportBy (s : Plan) (orders : ℕ → List ℕ) (r : Report) : Type 0 where
+  pub report : IsReportOf s r
+  pub stages : List Stage
+  pub reached : AreReached s orders report.history stages
+  pub passed : (p : ℕ) (x : Stage) → slice_get stages p ≡ Some x → x.progress ≡ Passed
+  pub calls_are : (p : ℕ) (x : Stage) → slice_get stages p ≡ Some x
+      → calls_of report.history p ≡ x.calls ++ cond (p == 0) (map load_of r.shown.items) []
+
+-- or its journal so far: in its history the processors have come so far
+pub record IsHaltBy (s : Plan) (orders : ℕ → List ℕ) (halt : Halt) : Type 0 where
+  pub journal : IsJournalSoFar s halt.journal
+  pub stages : List Stage
+  pub reached : AreReached s orders journal.history stages
+  pub calls_are : (p : ℕ) (x : Stage) → slice_get stages p ≡ Some x → calls_of journal.history p ≡ x.calls
+
+-- one of the two
+abbrev pub IsEndBy : Plan → (ℕ → List ℕ) → Ended → Type 0
+IsEndBy s orders (Whole report) = IsReportBy s orders report
+IsEndBy s orders (Halted halt) = IsHaltBy s orders halt
+
+-- the orders of a seed, for the script's processors
+abbrev pub orders_of : Plan → Option ℕ → ℕ → List ℕ
+orders_of s seed round = round_order seed s.processors round
