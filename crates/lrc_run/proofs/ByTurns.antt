@@ -1,6 +1,6 @@
 -- What comes of processors that took their turns from the start on.
-use Rattle.std.proofs.Common.{ℕ, ◌≡◌, ◌==◌, cond, Option, None, List, [], ◌++◌, map, sym, ap, subst, ◌∙◌}
-use Rattle.std.specs.Prelude.{All, IfNone}
+use Rattle.std.proofs.Common.{ℕ, ◌≡◌, ◌==◌, cond, Option, List, [], ◌++◌, map, sym, ap, subst, ◌∙◌}
+use Rattle.std.specs.Prelude.{All}
 use Rattle.std.proofs.lemmas.Option.{get_or_from_slice_get, slice_get_within}
 use Rattle.journal.specs.declared.event.Event.{Event}
 use Rattle.journal.specs.Events.{part}
@@ -20,10 +20,8 @@ use Rattle.runs.specs.ByTurns.{IsEndBy, IsHaltBy, IsReportBy, orders_of}
 use Rattle.runs.specs.Ends.{IsEndOf}
 use Rattle.runs.specs.Turns.{AreReached, Stage}
 use Rattle.lrc_run.specs.Endings.{IsReportAfter}
-use Rattle.lrc_run.specs.Turns.{AreTurnedBy}
-use Rattle.lrc_run.specs.Walks.{AreWalked}
+use Rattle.lrc_run.specs.Turns.{AreTurnedBy, SeesDeadlock}
 use Rattle.lrc_run.proofs.Halting.{IsJournalWith, halted_all, halted_is}
-use Rattle.lrc_run.proofs.Stepping.{all_passed}
 use Rattle.lrc_run.proofs.Turning.{AllBegin, rounds_told, stage_from, stages_of}
 
 -- by turns from the start on all have come to where they are
@@ -33,42 +31,35 @@ reached : (s : Plan) (c : Shared) (seed : Option ℕ) (h : List Event) (ms ns : 
 reached s c seed h ms ns all sizes new by begin =
     record { rounds = by.count; turns = rounds_told s c h (orders_of s seed) by.count ms ns all sizes new by.rounds begin }
 
--- and where all have passed the closing barrier, all have walked
-pub walked_by : (s : Plan) (c : Shared) (seed o : Option ℕ) (ms ns : List Local) (all : List Progress)
-    → AreTurnedBy c s seed ms ns all → o ≡ None → IfNone o (All (λ x. x ≡ Passed) all) → AreWalked c s.sections ns
-walked_by s c seed o ms ns all by none passed =
-    let P : Option ℕ → Type 0 = λ x. IfNone x (All (λ x. x ≡ Passed) all) in
-    all_passed c s.sections ns all by.way (subst P none passed)
-
--- the report of a run by turns
-pub report_by : (s : Plan) (c : Shared) (seed o : Option ℕ) (ms ns : List Local) (all : List Progress) (r : Report)
-    → c.sizes ≡ sizes_of s → AreNew c ms → AreTurnedBy c s seed ms ns all → o ≡ None
-    → IfNone o (All (λ x. x ≡ Passed) all) → IsReportAfter s r ns → IsReportBy s (orders_of s seed) r
-report_by s c seed o ms ns all r sizes new by none passed after = record {
+-- the report of a run by turns: all have passed the closing barrier
+pub report_by : (s : Plan) (c : Shared) (seed : Option ℕ) (ms ns : List Local) (all : List Progress) (r : Report)
+    → c.sizes ≡ sizes_of s → AreNew c ms → AreTurnedBy c s seed ms ns all → All (λ x. x ≡ Passed) all
+    → IsReportAfter s r ns → IsReportBy s (orders_of s seed) r
+report_by s c seed ms ns all r sizes new by passed after = record {
   report = after.is;
   stages = stages_of ns all;
   reached = reached s c seed after.is.history ms ns all sizes new by after.begin;
   passed = λ p x here.
       let is = stage_from ns all p x here in
-      let P : Option ℕ → Type 0 = λ x. IfNone x (All (λ x. x ≡ Passed) all) in
       ap (λ (y : Stage). y.progress) is.is ∙ sym (get_or_from_slice_get all p is.at Passed is.at_is)
-      ∙ (subst P none passed) p Passed (slice_get_within all p is.at is.at_is);
+      ∙ passed p Passed (slice_get_within all p is.at is.at_is);
   calls_are = λ p x here.
       let is = stage_from ns all p x here in
       let P : Stage → Type 0 = λ y. calls_of after.is.history p ≡ y.calls ++ cond (p == 0) (map load_of r.shown.items) [] in
       subst P (sym is.is) (after.calls_are p is.processor is.processor_is);
 }
 
--- the journal of one that ended before
+-- the journal of one that is stuck
 pub halt_by : (s : Plan) (c : Shared) (seed : Option ℕ) (ms ns : List Local) (all : List Progress) (halt : Halt)
-    → IsLawful s → c.sizes ≡ sizes_of s → AreNew c ms → AreTurnedBy c s seed ms ns all
-    → IsFinished c.sizes ns halt.journal → IsHaltBy s (orders_of s seed) halt
-halt_by s c seed ms ns all halt lawful sizes new by finished =
-    with_journal (halted_is s c ns all halt.journal lawful sizes by.way finished)
+    → IsLawful s → c.sizes ≡ sizes_of s → AreNew c ms → AreTurnedBy c s seed ms ns all → SeesDeadlock ns
+    → halt.processor ≡ 0 → IsFinished c.sizes ns halt.journal → IsHaltBy s (orders_of s seed) halt
+halt_by s c seed ms ns all halt lawful sizes new by stuck first finished =
+    with_journal (halted_is s c ns all halt.journal lawful sizes by.way stuck finished)
   where
     with_journal : IsJournalWith s halt.journal ns → IsHaltBy s (orders_of s seed) halt
     with_journal told = record {
       journal = told.is;
+      least = first;
       stages = stages_of ns all;
       reached = reached s c seed told.is.history ms ns all sizes new by (λ p m here. (told.each p m here).begins);
       calls_are = λ p x here.
@@ -83,4 +74,4 @@ halt_by s c seed ms ns all halt lawful sizes new by finished =
 -- what a run by turns came to is an end of the script
 pub end_of : (s : Plan) (orders : ℕ → List ℕ) (e : Ended) → IsEndBy s orders e → IsEndOf s e
 end_of s orders (Whole report) by = by.report
-end_of s orders (Halted halt) by = by.journal
+end_of s orders (Halted halt) by = (by.journal, by.least)

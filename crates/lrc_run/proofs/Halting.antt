@@ -1,19 +1,21 @@
 -- What the journal holds where no processor got on.
-use Rattle.std.proofs.Common.{ℕ, ◌≡◌, ◌<◌, ◌≤◌, Bool, true, false, cond, Some, List, [], ◌∷◌, ◌++◌, length, take, get_or, slice_get, refl, sym, ap, subst, ◌∙◌, append_assoc, arith}
+use Rattle.std.proofs.Common.{ℕ, ◌≡◌, ◌<◌, ◌≤◌, Bool, true, false, cond, Some, List, [], ◌∷◌, ◌++◌, length, take, get_or, slice_get, refl, sym, ap, subst, ◌∙◌, append_assoc, append-nil, ◌+◌, arith}
 use Rattle.std.specs.Prelude.{◌==◌, nat_lt}
-use Rattle.std.proofs.Math.Seq.{take-length}
+use Rattle.std.proofs.Math.Seq.{take-append_seam, take-length}
 use Rattle.std.proofs.lemmas.Bool.{ltb-true, ltb-false}
 use Rattle.std.proofs.lemmas.List.{get_or_past}
 use Rattle.std.proofs.lemmas.Option.{slice_get-get_or, slice_get_within}
-use Rattle.lists.proofs.Places.{slice_get-from_take}
+use Rattle.lists.proofs.Places.{slice_get-append_right, slice_get-from_take}
 use Rattle.journal.specs.declared.event.Event.{Event}
 use Rattle.journal.specs.declared.event.Kind.TheVariants.{Arrive, Depart}
 use Rattle.journal.specs.declared.event.Kind.{Kind}
 use Rattle.journal.specs.Counted.{AreCounted}
+use Rattle.journal.specs.Deadlocks.{IsDeadlock}
 use Rattle.journal.specs.Events.{part}
 use Rattle.journal.specs.Log.{Log}
 use Rattle.journal.specs.Sizes.{Sizes, addresses}
-use Rattle.journal.specs.WellFormed.{WellFormed}
+use Rattle.journal.specs.WellFormed.{MayFollow, WellFormed}
+use Rattle.journal.proofs.Journals.Deadlocks.{deadlock_law}
 use Rattle.lrc_script.specs.declared.script.Instruction.{Instruction}
 use Rattle.lrc_script.specs.declared.script.Instruction.TheVariants.{Barrier, Cut}
 use Rattle.lrc_script.specs.Lawful.{IsLawful}
@@ -31,6 +33,7 @@ use Rattle.runs.specs.declared.progress.Progress.{Progress}
 use Rattle.runs.specs.declared.progress.Progress.TheVariants.{Next, Passed, Waits}
 use Rattle.runs.specs.Turns.{instruction_at}
 use Rattle.lrc_run.specs.Steps.{AreOnTheirWay, IsAt}
+use Rattle.lrc_run.specs.Turns.{SeesDeadlock}
 use Rattle.lrc_run.specs.Walks.{AreWanted, made, new_at}
 use Rattle.lrc_run.proofs.Concluding.{needed_all, no_sum, nothing_of}
 use Rattle.lrc_run.proofs.Stepping.{same_on_its_way}
@@ -121,6 +124,17 @@ halted_all s c ms all lawful sizes way = record { all = way.many; each = each }
         let same = same_on_its_way (new_at c p) m is.0 is.1 is.3 in
         record { lock = same.lock; number = same.number; sizes = same.sizes }
 
+-- nothing comes after a deadlock
+deadlock_last : (s : Sizes) (h front : List Event) → WellFormed s h → (rest : List Event) × (h ≡ front ++ rest)
+    → IsDeadlock s front → IsDeadlock s h
+deadlock_last s h front well_formed ([], is) stuck = subst (IsDeadlock s) (sym (is ∙ append-nil front)) stuck
+deadlock_last s h front well_formed (e ∷ rest, is) stuck =
+    let none : length front + 0 ≡ length front = omega arith in
+    let at : slice_get h (length front) ≡ Some e = ap (λ es. slice_get es (length front)) is
+    ∙ ap (slice_get (front ++ e ∷ rest)) (sym none) ∙ slice_get-append_right front (e ∷ rest) 0 in
+    let before : take (length front) h ≡ front = ap (take (length front)) is ∙ take-append_seam front (e ∷ rest) in
+    absurd (deadlock_law s front e stuck (subst (λ es. MayFollow s es e) before (well_formed (length front) e at)))
+
 -- the journal so far is of the script, and its history has the calls of these processors
 pub record IsJournalWith (s : Plan) (j : Log) (ms : List Local) : Type 0 where
   pub is : IsJournalSoFar s j
@@ -128,8 +142,8 @@ pub record IsJournalWith (s : Plan) (j : Log) (ms : List Local) : Type 0 where
 
 -- the journal of a finished cluster whose processors are on their way
 pub halted_is : (s : Plan) (c : Shared) (ms : List Local) (all : List Progress) (j : Log) → IsLawful s → c.sizes ≡ sizes_of s
-    → AreOnTheirWay c s.sections ms all → IsFinished c.sizes ms j → IsJournalWith s j ms
-halted_is s c ms all j lawful sizes way finished = record {
+    → AreOnTheirWay c s.sections ms all → SeesDeadlock ms → IsFinished c.sizes ms j → IsJournalWith s j ms
+halted_is s c ms all j lawful sizes way stuck finished = record {
   is = record {
     processors = finished.journal.processors ∙ ap (λ (x : Sizes). x.processors) sizes;
     addresses_are = finished.journal.addresses_are ∙ ap addresses sizes;
@@ -137,17 +151,29 @@ halted_is s c ms all j lawful sizes way finished = record {
     taken = finished.taken;
     holds = finished.journal.holds;
     uncut = λ none. nothing_of finished.taken (finished.cuts ∙ no_sum ms (own none));
-    well_formed = subst (λ (x : Sizes). WellFormed x h) sizes finished.faithful.well_formed;
+    well_formed = well_formed;
     explained = finished.faithful.explained;
     counted = subst (λ (x : Sizes). AreCounted x h) sizes finished.faithful.counted;
     fetches = needed_all s c ms h sizes (halted_all s c ms all lawful sizes way) finished.each wanted;
     begins = begins;
+    deadlock = deadlock;
   };
   each = finished.each;
 }
   where
     h : List Event
     h = finished.history
+
+    well_formed : WellFormed (sizes_of s) h
+    well_formed = subst (λ (x : Sizes). WellFormed x h) sizes finished.faithful.well_formed
+
+    deadlock : IsDeadlock (sizes_of s) h
+    deadlock =
+        let m = stuck.0 in
+        let own = (halted_all s c ms all lawful sizes way).each 0 m stuck.1 in
+        let P : Sizes → Type 0 = λ x. IsDeadlock x m.seen in
+        deadlock_last (sizes_of s) h m.seen well_formed (finished.each 0 m stuck.1).begins
+        (subst P (own.sizes ∙ sizes) stuck.2)
 
     own : HasNoCut s → (p : ℕ) (m : Local) → slice_get ms p ≡ Some m → m.own_cut ≡ 0
     own none p m here =

@@ -3,6 +3,7 @@ pub mod Adding
 pub mod Calling
 pub mod Stepping
 pub mod Turning
+pub mod Waiting
 pub mod Exchanging
 pub mod Concluding
 pub mod Failing

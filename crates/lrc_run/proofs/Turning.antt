@@ -1,5 +1,5 @@
 -- Turns one after another, and what they tell of a history that goes on from what the processors have seen.
-use Rattle.std.proofs.Common.{ℕ, zero, suc, ◌≡◌, Bool, true, false, Option, Some, List, [], ◌∷◌, ◌++◌, length, replicate, get_or, slice_get, slice_set, refl, sym, ap, subst, subst₂, ◌∙◌, inl, inr, append-nil, arith}
+use Rattle.std.proofs.Common.{ℕ, zero, suc, ◌≡◌, ◌<◌, Bool, true, false, Option, Some, List, [], ◌∷◌, ◌++◌, length, replicate, get_or, slice_get, slice_set, refl, sym, ap, subst, subst₂, ◌∙◌, inl, inr, append-nil, arith}
 use Rattle.std.proofs.lemmas.Bool.{cases_eq}
 use Rattle.std.proofs.lemmas.Option.{none-some, same_Some, slice_get-get_or, slice_get_within}
 use Rattle.lists.proofs.Sets.{slice_get-set_other, slice_get-set_same}
@@ -10,6 +10,7 @@ use Rattle.journal.specs.Events.{part}
 use Rattle.journal.specs.Sizes.{Sizes}
 use Rattle.journal.specs.WellFormed.{Ready}
 use Rattle.lrc_script.specs.declared.script.Instruction.{Instruction}
+use Rattle.lrc_script.specs.Lawful.{IsLawful}
 use Rattle.lrc_script.specs.Plan.{Plan}
 use Rattle.follows.specs.Follows.{kinds_of, sizes_of}
 use Rattle.follows.proofs.Calls.{kinds_of-append, kinds_of-one}
@@ -472,3 +473,12 @@ seen_same ms = record {
       awaits_is = ap (λ (x : Local). x.awaits) (sym e);
       uncut = ap (λ (x : Local). x.own_cut) (sym e);
     }
+
+-- a script has some processor
+pub some_of : (s : Plan) (c : Shared) (ms : List Local) (all : List Progress) → IsLawful s → c.sizes ≡ sizes_of s
+    → AreOnTheirWay c s.sections ms all → 0 < length ms
+some_of s c ms all lawful sizes way =
+    let some = lawful.but_uneven.sizes.some_processors in
+    let same = ap (λ (x : Sizes). x.processors) sizes in
+    let many = way.many in
+    omega arith

@@ -1,7 +1,7 @@
 -- The words that contracts name, passed on from one place. Declares nothing.
 pub use Rattle.lrc_run.specs.Walks.{AddsBy, AreWalked, Does, FetchesBy, IsOnItsWay, Loads, Makes, Takes, Tries, Walks}
 pub use Rattle.lrc_run.specs.Steps.{AreOnTheirWay, IsAt}
-pub use Rattle.lrc_run.specs.Turns.{AreSeenOn, AreTurned, AreTurnedBy, IsTurnOf, TakesTurn}
+pub use Rattle.lrc_run.specs.Turns.{AreSeenOn, AreTurned, AreTurnedBy, IsTurnOf, SeesDeadlock, SeesOn, TakesTurn}
 pub use Rattle.lrc_run.specs.Orders.{AreBelow}
 pub use Rattle.lrc_run.specs.Endings.{HaveFollowed, IsReportAfter, IsReportWith}
 pub use Rattle.runs.specs.Orders.{ordered}

@@ -1,6 +1,7 @@
 -- Turns of a cluster's processors.
 use Rattle.std.specs.Prelude.{ℕ, zero, suc, ◌≡◌, Bool, false, Option, Some, List, [], ◌∷◌, length, replicate, slice_get, slice_set}
 use Rattle.lrc_script.specs.declared.script.Instruction.{Instruction}
+use Rattle.journal.specs.Deadlocks.{IsDeadlock}
 use Rattle.lrc_script.specs.Plan.{Plan}
 use Rattle.replicas.specs.Local.{Local, calls}
 use Rattle.cluster.specs.Calls.{IsSameProcessor}
@@ -82,6 +83,10 @@ AreRounds s orders zero old new all = (new ≡ old) × (all ≡ replicate s.proc
 AreRounds s orders (suc k) old new all =
     (between : List Local) × (half : List Progress) × AreRounds s orders k old between half
     × IsRound s.sections (orders k) between new half all
+
+-- in what processor 0 has seen each processor waits, and none is ready
+abbrev pub SeesDeadlock : List Local → Type 0
+SeesDeadlock ms = (m : Local) × (slice_get ms 0 ≡ Some m) × IsDeadlock m.sizes m.seen
 
 -- new processors of the script's cluster have come so far by turns, in rounds of this seed's orders
 pub record AreTurnedBy (c : Shared) (s : Plan) (seed : Option ℕ) (old new : List Local) (all : List Progress)

@@ -6,10 +6,10 @@ ghost use Rattle.cluster.specs.Prelude.{AreAllOf};
 ghost use Rattle.lrc_run.specs.Prelude.{AreWalked, HaveFollowed, IsReportAfter, IsReportWith};
 
 use crate::shown::show;
+use book::Refused;
 use cluster::{BookTurn, Cluster, Processor};
 use lrc_report::Report;
 use lrc_script::script::Script;
-use runs::Cause;
 use std::alloc::{AllocError, Global};
 use std::sync::Wait;
 
@@ -21,7 +21,7 @@ pub(crate) fn conclude<T: BookTurn + Drop, R: Wait>(
     cluster: Cluster<T>,
     mut processors: Vec<Processor<T>>,
     script: &Script,
-) -> Result<Report, Cause>
+) -> Result<Report, Refused>
     requires lawful { IsLawful (plan_of script.now) }
     requires sizes { cluster.sizes ≡ sizes_of (plan_of script.now) }
     requires walked { AreWalked cluster (plan_of script.now).sections processors.items }

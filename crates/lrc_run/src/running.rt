@@ -38,9 +38,10 @@ pub fn run<R: Threads + Wait + Sync, G: Gate + Sync>(
 /// section, behind the gate at each instruction, and passes the closing barrier. When all threads have ended,
 /// processor 0 loads what is shown, and the cluster is finished.
 ///
-/// What a processor waits for is tried for `tries` times, and then it ends with [`Stuck`](Cause::Stuck). An error is
-/// the fault of the least processor whose cause isn't Stuck, and where there is none, of the least with Stuck. Memory
-/// that is refused outside of the threads is told with processor 0.
+/// What a processor waits for is looked for `tries` times, and then it ends with [`Stuck`](Cause::Stuck); between two
+/// looks its thread sleeps. It ends so at once where that can't come any more: each processor waits so, or has ended. An
+/// error is the fault of the least processor whose cause isn't Stuck, and where there is none, of the least with Stuck.
+/// Memory that is refused outside of the threads is told with processor 0.
 pub fn run_with<T: BookTurn + Send + Drop, R: Threads + Wait + Sync, G: Gate + Sync>(
     rt: &R,
     alloc: Global,
@@ -57,7 +58,10 @@ pub fn run_with<T: BookTurn + Send + Drop, R: Threads + Wait + Sync, G: Gate + S
         of_first,
     )?;
     let processors = gathered(alloc, outcomes)?;
-    conclude(rt, alloc, cluster, processors, script).map_err(of_first)
+    match conclude(rt, alloc, cluster, processors, script) {
+        Ok(report) => Ok(report),
+        Err(refused) => Err(of_first(Cause::Refused(refused))),
+    }
 }
 
 /// Outside of the threads a cause is told with processor 0.

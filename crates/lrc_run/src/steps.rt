@@ -1,20 +1,23 @@
 //! All processors by turns on one thread.
-ghost use Rattle.std.specs.Prelude.{◌≡◌, ◌≤◌, ◌<◌, ◌^◌, ◌↔◌, All, IfNone, IfOk, IsTrue, List, length, replicate, vec_len};
+ghost use Rattle.std.specs.Prelude.{◌≡◌, ◌≢◌, ◌≤◌, ◌<◌, ◌^◌, ◌↔◌, All, IfErr, IfOk, IsTrue, List, Some, false, true, length, replicate, slice_get, vec_len};
+ghost use Rattle.replicas.specs.Prelude.{Local};
 ghost use Rattle.std.specs.List.{range_with_len};
 ghost use Rattle.lrc_script.specs.Prelude.{IsLawful, plan_of};
 ghost use Rattle.follows.specs.Prelude.{sizes_of};
 ghost use Rattle.cluster.specs.Prelude.{AreNew};
+ghost use Rattle.runs.specs.declared.cause.Cause.TheVariants as cause;
 ghost use Rattle.runs.specs.declared.progress.Progress.TheVariants as progress;
 ghost use Rattle.runs.specs.declared.progress.Progress.{Progress as AProgress};
-ghost use Rattle.runs.specs.Prelude.{IsEndBy, IsReportBy, drawn, generator_of, orders_of};
-ghost use Rattle.lrc_run.specs.Prelude.{AreBelow, AreOnTheirWay, AreTurned, AreTurnedBy, IsTurnOf};
+ghost use Rattle.runs.specs.Prelude.{IsEndBy, IsReportBy, IsStuckBy, drawn, generator_of, orders_of};
+ghost use Rattle.lrc_run.specs.Prelude.{AreBelow, AreOnTheirWay, AreSeenOn, AreTurned, AreTurnedBy, IsTurnOf, SeesDeadlock};
 
 mod turns;
 
 use self::turns::take_turn;
 use crate::ending::conclude;
 use crate::orders::order;
-use cluster::{BookLock, BookTurn, Cluster, Processor};
+use book::Refused;
+use cluster::{BookLock, BookTurn, Cluster, Processor, Waited};
 use lrc_report::Report;
 use lrc_script::script::Script;
 use rand_core::SeedableRng;
@@ -26,8 +29,8 @@ use std::sync::Wait;
 /// Runs the script on one thread, in rounds in which each processor has a turn: by rising number, or with a seed
 /// in orders that are drawn by it. Two calls with the same script and seed give the same report.
 ///
-/// The fault is [`Stuck`](Cause::Stuck) of the least processor that waits, after a round in which none got on;
-/// a call's refusal with the processor whose turn it was; and what is refused outside of turns with processor 0.
+/// The fault is [`Stuck`](Cause::Stuck) of the least processor that waits, where each waits for what can't come any
+/// more; a call's refusal with the processor whose turn it was; and what is refused outside of turns with processor 0.
 pub fn step<R: Wait>(
     rt: &R,
     alloc: Global,
@@ -35,7 +38,9 @@ pub fn step<R: Wait>(
     seed: Option<u64>,
 ) -> Result<Report, RunFault>
     requires { IsLawful (plan_of script.now) }
-    ensures { IfOk result (IsReportBy (plan_of script.now) (orders_of (plan_of script.now) seed)) }
+    ensures turns { IfOk result (IsReportBy (plan_of script.now) (orders_of (plan_of script.now) seed)) }
+    ensures stuck { IfErr result (λ fault. fault.cause ≡ cause.Stuck
+        → IsStuckBy (plan_of script.now) (orders_of (plan_of script.now) seed) fault.processor) }
 {
     step_with::<BookLock, R>(rt, alloc, script, seed)
 }
@@ -49,7 +54,9 @@ pub fn step_with<T: BookTurn + Drop, R: Wait>(
 ) -> Result<Report, RunFault>
     requires entries { T.ENTRIES ≤ 2 ^ 40 }
     requires lawful { IsLawful (plan_of script.now) }
-    ensures { IfOk result (IsReportBy (plan_of script.now) (orders_of (plan_of script.now) seed)) }
+    ensures turns { IfOk result (IsReportBy (plan_of script.now) (orders_of (plan_of script.now) seed)) }
+    ensures stuck { IfErr result (λ fault. fault.cause ≡ cause.Stuck
+        → IsStuckBy (plan_of script.now) (orders_of (plan_of script.now) seed) fault.processor) }
 {
     match step_as_far_with::<T, R>(rt, alloc, script, seed)? {
         Ended::Whole(report) => Ok(report),
@@ -68,7 +75,8 @@ pub fn step_as_far<R: Wait>(
     seed: Option<u64>,
 ) -> Result<Ended, RunFault>
     requires { IsLawful (plan_of script.now) }
-    ensures { IfOk result (IsEndBy (plan_of script.now) (orders_of (plan_of script.now) seed)) }
+    ensures end { IfOk result (IsEndBy (plan_of script.now) (orders_of (plan_of script.now) seed)) }
+    ensures err { IfErr result (λ fault. fault.cause ≢ cause.Stuck) }
 {
     step_as_far_with::<BookLock, R>(rt, alloc, script, seed)
 }
@@ -82,26 +90,31 @@ pub fn step_as_far_with<T: BookTurn + Drop, R: Wait>(
 ) -> Result<Ended, RunFault>
     requires entries { T.ENTRIES ≤ 2 ^ 40 }
     requires lawful { IsLawful (plan_of script.now) }
-    ensures { IfOk result (IsEndBy (plan_of script.now) (orders_of (plan_of script.now) seed)) }
+    ensures end { IfOk result (IsEndBy (plan_of script.now) (orders_of (plan_of script.now) seed)) }
+    ensures err { IfErr result (λ fault. fault.cause ≢ cause.Stuck) }
 {
     let (cluster, mut processors) = new_cluster::<T>(alloc, script)?;
-    match go_round(rt, alloc, &cluster, &mut processors, script, seed)? {
-        None => match conclude(rt, alloc, cluster, processors, script) {
+    if go_round(rt, alloc, &cluster, &mut processors, script, seed)? {
+        return match conclude(rt, alloc, cluster, processors, script) {
             Ok(report) => Ok(Ended::Whole(report)),
-            Err(cause) => Err(outside(cause)),
-        },
-        Some(processor) => {
-            let journal = cluster.finish(processors);
-            Ok(Ended::Halted(Halt { processor, journal }))
-        }
+            Err(refused) => Err(outside(refused)),
+        };
     }
+    let journal = cluster.finish(processors);
+    // Each processor waits, so the least that does is processor 0.
+    Ok(Ended::Halted(Halt {
+        processor: 0,
+        journal,
+    }))
 }
 
-/// A fault outside of turns.
-fn outside(cause: Cause) -> RunFault {
+/// A refusal outside of turns.
+fn outside(refused: Refused) -> RunFault
+    ensures { result.cause ≢ cause.Stuck }
+{
     RunFault {
         processor: 0,
-        cause,
+        cause: Cause::Refused(refused),
     }
 }
 
@@ -113,6 +126,7 @@ fn new_cluster<T: BookTurn>(
     requires { T.ENTRIES ≤ 2 ^ 40 }
     ensures sizes { IfOk result (λ r. r.0.sizes ≡ sizes_of (plan_of script.now)) }
     ensures new { IfOk result (λ r. AreNew r.0 r.1.items) }
+    ensures err { IfErr result (λ fault. fault.cause ≢ cause.Stuck) }
 {
     match Cluster::new(
         alloc,
@@ -123,11 +137,11 @@ fn new_cluster<T: BookTurn>(
         script.flags,
     ) {
         Ok(made) => Ok(made),
-        Err(refused) => Err(outside(Cause::Refused(refused))),
+        Err(refused) => Err(outside(refused)),
     }
 }
 
-/// Rounds, until all have passed the closing barrier, or none got on: then it answers the least processor that waits.
+/// Rounds, until all have passed the closing barrier, or all wait for what can't come any more: whether they have passed.
 fn go_round<T: BookTurn, R: Wait>(
     rt: &R,
     alloc: Global,
@@ -135,27 +149,30 @@ fn go_round<T: BookTurn, R: Wait>(
     processors: &mut Vec<Processor<T>>,
     script: &Script,
     seed: Option<u64>,
-) -> Result<Option<usize>, RunFault>
+) -> Result<bool, RunFault>
     requires lawful { IsLawful (plan_of script.now) }
     requires sizes { cluster.now.sizes ≡ sizes_of (plan_of script.now) }
     requires new { AreNew cluster.now processors.old.items }
-    ensures { IfOk result (λ o. (all : List AProgress)
+    ensures ok { IfOk result (λ passed. (all : List AProgress)
         × AreTurnedBy cluster.now (plan_of script.now) seed processors.old.items
         processors.new.items all
-        × IfNone o (All (λ x. x ≡ progress.Passed) all)) }
+        × (passed ≡ true → All (λ x. x ≡ progress.Passed) all)
+        × (passed ≡ false → SeesDeadlock processors.new.items)) }
+    ensures err { IfErr result (λ fault. fault.cause ≢ cause.Stuck) }
 {
     let (mut all, mut list) = match beginnings(alloc, processors.len()) {
         Ok(beginnings) => beginnings,
-        Err(error) => return Err(outside(Cause::from(error))),
+        Err(error) => return Err(outside(Refused::from(error))),
     };
     let mut generator = generator_of(seed);
     for _ in rt.forever() {
         if have_passed(&all) {
-            return Ok(None);
+            return Ok(true);
         }
         draw(&mut generator, &mut list);
-        if !round(rt, cluster, processors, &mut all, script, &list)? {
-            return Ok(Some(least_waiting(&all)));
+        let moved = round(rt, cluster, processors, &mut all, script, &list)?;
+        if is_stuck(rt, cluster, processors, moved)? {
+            return Ok(false);
         }
     }
     unreachable!()
@@ -189,11 +206,27 @@ fn have_passed(all: &[Progress]) -> bool
     all.iter().all(|progress| *progress == Progress::Passed)
 }
 
-/// The least processor that waits.
-fn least_waiting(all: &[Progress]) -> usize {
-    all.iter()
-        .position(|progress| matches!(progress, Progress::Waits(_)))
-        .unwrap_or(0)
+/// Whether nothing can come any more, after a round in which nobody moved. Processor 0 looks, since each waits then.
+fn is_stuck<T: BookTurn, R: Wait>(
+    rt: &R,
+    cluster: &Cluster<T>,
+    processors: &mut Vec<Processor<T>>,
+    moved: bool,
+) -> Result<bool, RunFault>
+    requires some { 0 < vec_len processors.old }
+    requires own { (m : Local) → slice_get processors.old.items 0 ≡ Some m → m.lock ≡ cluster.now.lock }
+    ensures seen { AreSeenOn processors.old.items processors.new.items }
+    ensures stuck { IfOk result (λ stuck. stuck ≡ true → SeesDeadlock processors.new.items) }
+    ensures err { IfErr result (λ fault. fault.cause ≢ cause.Stuck) }
+{
+    if moved {
+        return Ok(false);
+    }
+    match cluster.wait(rt, &mut processors[0]) {
+        Ok(Waited::Stuck) => Ok(true),
+        Ok(_) => Ok(false),
+        Err(refused) => Err(outside(refused)),
+    }
 }
 
 /// The order of the next round: rising numbers, exchanged as the generator draws.
@@ -231,8 +264,9 @@ fn round<T: BookTurn, R: Wait>(
     requires list { AreBelow (vec_len processors.old) list.now }
     requires way { AreOnTheirWay cluster.now (plan_of script.now).sections processors.old.items
         all.old.items }
-    ensures { IfOk result (λ _. AreTurned (plan_of script.now).sections list.now
+    ensures turns { IfOk result (λ _. AreTurned (plan_of script.now).sections list.now
         processors.old.items processors.new.items all.old.items all.new.items) }
+    ensures err { IfErr result (λ fault. fault.cause ≢ cause.Stuck) }
 {
     let mut moved = false;
     for p in list {
@@ -260,6 +294,7 @@ fn turn_at<T: BookTurn, R: Wait>(
     ensures long { vec_len processors.new ≡ vec_len processors.old }
     ensures turn { IfOk result (λ _. IsTurnOf (plan_of script.now).sections p
         processors.old.items processors.new.items all.old.items all.new.items) }
+    ensures err { IfErr result (λ fault. fault.cause ≢ cause.Stuck) }
 {
     let section = &script.sections[p];
     match take_turn(rt, cluster, &mut processors[p], section, all[p]) {
@@ -268,9 +303,9 @@ fn turn_at<T: BookTurn, R: Wait>(
             all[p] = progress;
             Ok(moved)
         }
-        Err(cause) => Err(RunFault {
+        Err(refused) => Err(RunFault {
             processor: p,
-            cause,
+            cause: Cause::Refused(refused),
         }),
     }
 }

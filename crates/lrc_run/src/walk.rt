@@ -1,7 +1,7 @@
 //! A processor's way through its section.
-ghost use Rattle.std.specs.Prelude.{◌≡◌, OnOk};
+ghost use Rattle.std.specs.Prelude.{◌≡◌, IfOk, OnOk};
 ghost use Rattle.cluster.specs.Prelude.{IsSameProcessor};
-ghost use Rattle.lrc_run.specs.Prelude.{Does, Walks};
+ghost use Rattle.lrc_run.specs.Prelude.{Does, Takes, Walks};
 
 mod accesses;
 mod instructions;
@@ -10,8 +10,7 @@ pub(crate) use self::accesses::load;
 pub(crate) use self::instructions::{begin, end};
 use crate::course::Course;
 use crate::gate::Gate;
-use cluster::{BookTurn, Cluster, Processor};
-use crossbeam_utils::Backoff;
+use cluster::{BookTurn, Cluster, Processor, Waited};
 use lrc_script::script::Instruction;
 use runs::Cause;
 use std::sync::Wait;
@@ -20,7 +19,8 @@ use std::sync::Wait;
 /// has no gate. What the processor waits for is taken as soon as it has come.
 ///
 /// [`Gate`](Cause::Gate) where the gate stops it, [`Stuck`](Cause::Stuck) after `tries` answers in a row that
-/// what it waits for hasn't come, and else [`Refused`](Cause::Refused) with a call's refusal.
+/// what it waits for hasn't come, or as soon as that can't come any more, and else [`Refused`](Cause::Refused) with a
+/// call's refusal.
 pub(crate) fn walk<T: BookTurn, R: Wait, G: Gate>(
     rt: &R,
     cluster: &Cluster<T>,
@@ -39,8 +39,8 @@ pub(crate) fn walk<T: BookTurn, R: Wait, G: Gate>(
     perform(rt, cluster, processor, Instruction::Barrier, course.tries)
 }
 
-/// Does the instruction to its end. What it waits for is tried for `tries` times, and other threads get their
-/// chance between two tries.
+/// Does the instruction to its end. What it waits for is looked for `tries` times at most; between two looks the thread
+/// sleeps until that may have come.
 fn perform<T: BookTurn, R: Wait>(
     rt: &R,
     cluster: &Cluster<T>,
@@ -55,12 +55,30 @@ fn perform<T: BookTurn, R: Wait>(
     if begin(rt, cluster, processor, instruction)? {
         return Ok(());
     }
-    let backoff = Backoff::new();
-    for _ in 0..tries {
-        if end(rt, cluster, processor)? {
+    if end(rt, cluster, processor)? {
+        return Ok(());
+    }
+    for _ in 1..tries {
+        if look_again(rt, cluster, processor)? {
             return Ok(());
         }
-        backoff.snooze();
     }
     Err(Cause::Stuck)
+}
+
+/// Waits until what the processor awaits may have come, and looks for it: whether it took it. [`Stuck`](Cause::Stuck) if
+/// that can't come any more, and else refused as the wait and the take are.
+fn look_again<T: BookTurn, R: Wait>(
+    rt: &R,
+    cluster: &Cluster<T>,
+    processor: &mut Processor<T>,
+) -> Result<bool, Cause>
+    requires own { processor.old.lock ≡ cluster.now.lock }
+    ensures same { IsSameProcessor processor.old processor.new }
+    ensures ok { IfOk result (λ taken. Takes processor.old processor.new taken) }
+{
+    match cluster.wait(rt, processor)? {
+        Waited::MayHaveCome => Ok(end(rt, cluster, processor)?),
+        Waited::Stuck | Waited::Deserted => Err(Cause::Stuck),
+    }
 }

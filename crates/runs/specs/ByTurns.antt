@@ -22,9 +22,10 @@ pub record IsReportBy (s : Plan) (orders : ℕ → List ℕ) (r : Report) : Type
   pub calls_are : (p : ℕ) (x : Stage) → slice_get stages p ≡ Some x
       → calls_of report.history p ≡ x.calls ++ cond (p == 0) (map load_of r.shown.items) []
 
--- or its journal so far: in its history the processors have come so far
+-- or its journal so far, which is a deadlock: in its history the processors have come so far
 pub record IsHaltBy (s : Plan) (orders : ℕ → List ℕ) (halt : Halt) : Type 0 where
   pub journal : IsJournalSoFar s halt.journal
+  pub least : halt.processor ≡ 0
   pub stages : List Stage
   pub reached : AreReached s orders journal.history stages
   pub calls_are : (p : ℕ) (x : Stage) → slice_get stages p ≡ Some x → calls_of journal.history p ≡ x.calls
@@ -33,6 +34,10 @@ pub record IsHaltBy (s : Plan) (orders : ℕ → List ℕ) (halt : Halt) : Type 
 abbrev pub IsEndBy : Plan → (ℕ → List ℕ) → Ended → Type 0
 IsEndBy s orders (Whole report) = IsReportBy s orders report
 IsEndBy s orders (Halted halt) = IsHaltBy s orders halt
+
+-- by turns in these orders the script gets into a deadlock, of which this is the least processor
+abbrev pub IsStuckBy : Plan → (ℕ → List ℕ) → ℕ → Type 0
+IsStuckBy s orders p = (halt : Halt) × IsHaltBy s orders halt × (p ≡ halt.processor)
 
 -- the orders of a seed, for the script's processors
 abbrev pub orders_of : Plan → Option ℕ → ℕ → List ℕ

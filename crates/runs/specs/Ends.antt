@@ -2,6 +2,7 @@
 use Rattle.std.specs.Prelude.{◌≡◌, List, []}
 use Rattle.journal.specs.declared.event.Event.{Event}
 use Rattle.journal.specs.Counted.{AreCounted}
+use Rattle.journal.specs.Deadlocks.{IsDeadlock}
 use Rattle.journal.specs.Loads.{Explained}
 use Rattle.journal.specs.Log.{HoldsRest, Log}
 use Rattle.journal.specs.WellFormed.{WellFormed}
@@ -15,8 +16,8 @@ use Rattle.runs.specs.Cuts.{HasNoCut}
 use Rattle.runs.specs.Reports.{FetchesAreNeeded, IsReportOf}
 
 -- the journal has the script's sizes and holds what is left, after some of it was cut off, of a history that is well
--- formed and explained, fetches what is missing, where an access wants it, and begins the script; and nothing is cut off
--- where that has no cut
+-- formed and explained, fetches what is missing, where an access wants it, and begins the script, and that is a deadlock:
+-- each processor waits, and none is ready; and nothing is cut off where the script has no cut
 pub record IsJournalSoFar (s : Plan) (j : Log) : Type 0 where
   pub processors : j.processors ≡ s.processors
   pub addresses_are : j.addresses ≡ addresses s
@@ -29,8 +30,9 @@ pub record IsJournalSoFar (s : Plan) (j : Log) : Type 0 where
   pub counted : AreCounted (sizes_of s) history
   pub fetches : FetchesAreNeeded s history
   pub begins : BeginsScript s history
+  pub deadlock : IsDeadlock (sizes_of s) history
 
--- a report of the script, or such a journal
+-- a report of the script, or such a journal, with the least processor that waits: in a deadlock that is processor 0
 abbrev pub IsEndOf : Plan → Ended → Type 0
 IsEndOf s (Whole report) = IsReportOf s report
-IsEndOf s (Halted halt) = IsJournalSoFar s halt.journal
+IsEndOf s (Halted halt) = IsJournalSoFar s halt.journal × (halt.processor ≡ 0)

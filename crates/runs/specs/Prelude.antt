@@ -1,5 +1,5 @@
 -- The words that contracts name, passed on from one place. Declares nothing.
-pub use Rattle.runs.specs.ByTurns.{IsEndBy, IsHaltBy, IsReportBy, orders_of}
+pub use Rattle.runs.specs.ByTurns.{IsEndBy, IsHaltBy, IsReportBy, IsStuckBy, orders_of}
 pub use Rattle.runs.specs.Cuts.{HasCut, HasNoCut}
 pub use Rattle.runs.specs.Ends.{IsEndOf, IsJournalSoFar}
 pub use Rattle.runs.specs.Orders.{drawn, generator_of, ordered, round_order}

@@ -3,12 +3,12 @@
 use journal::Journal;
 use lrc_report::Report;
 
-/// A run that can't go on: in a whole round no processor got on.
+/// A run that can't go on: each processor waits, and what it waits for has come for none. No event can follow.
 #[derive(Drop)]
 pub struct Halt {
-    /// The least processor that waits.
+    /// The least processor that waits. Since each waits, it is processor 0.
     pub processor: usize,
-    /// All that was called until then. In it the last event of a processor that waits is an ask, an arrival or a watch.
+    /// All that was called until then. In it the last event of each processor is an ask, an arrival or a watch.
     pub journal: Journal,
 }
 

@@ -1,8 +1,9 @@
 //! What runs scripts.
-ghost use Rattle.std.specs.Prelude.{ℕ, ◌<◌, IfOk, Option, Result};
+ghost use Rattle.std.specs.Prelude.{ℕ, ◌≡◌, ◌<◌, IfErr, IfOk, Option, Result};
 ghost use Rattle.std.specs.Thread.{IsSync};
 ghost use Rattle.lrc_script.specs.Prelude.{IsLawful, plan_of};
-ghost use Rattle.runs.specs.Prelude.{IsEndBy, IsEndOf, IsReportBy, IsReportOf, orders_of};
+ghost use Rattle.runs.specs.Prelude.{IsEndBy, IsEndOf, IsReportBy, IsReportOf, IsStuckBy, orders_of};
+ghost use Rattle.runs.specs.declared.cause.Cause.TheVariants as cause;
 
 use crate::cause::RunFault;
 use crate::ended::Ended;
@@ -64,7 +65,9 @@ pub trait Runs {
         requires { IsLawful (plan_of script.now) }
         ensures report { IfOk result (IsReportOf (plan_of script.now)) }
         ensures stepped { stepped (plan_of script.now) lock seed result }
-        ensures turns { IfOk result (IsReportBy (plan_of script.now) (orders_of (plan_of script.now) seed)) };
+        ensures turns { IfOk result (IsReportBy (plan_of script.now) (orders_of (plan_of script.now) seed)) }
+        ensures stuck { IfErr result (λ fault. fault.cause ≡ cause.Stuck
+            → IsStuckBy (plan_of script.now) (orders_of (plan_of script.now) seed) fault.processor) };
 
     /// Runs the script as `step` does, but that a run that can't go on is no fault: it answers the journal so far.
     fn step_as_far<R: Wait>(

@@ -1,8 +1,8 @@
 -- What it is that a script's run came to.
-use Rattle.std.specs.Prelude.{ℕ, ◌≡◌, ⊤, List, length}
+use Rattle.std.specs.Prelude.{ℕ, ◌≡◌, List, length}
 use Rattle.lrc_script.specs.Plan.{Plan}
 use Rattle.lrc_report.specs.declared.report.Report.{Report}
-use Rattle.runs.specs.ByTurns.{IsReportBy}
+use Rattle.runs.specs.ByTurns.{IsReportBy, IsStuckBy}
 use Rattle.sample.specs.declared.outcome.Outcome.{Outcome}
 use Rattle.sample.specs.declared.outcome.Outcome.TheVariants.{Ended, Stuck}
 use Rattle.sample.specs.Answered.{Answered}
@@ -16,7 +16,8 @@ answered processors r = record {
   racy = r.racy;
 }
 
--- the answers are those of a report of the script's run by turns in these orders; of a run that is stuck nothing is known
+-- the answers are those of a report of the script's run by turns in these orders; or that run gets into a deadlock, of
+-- which this is the least processor
 abbrev pub IsOutcomeOf : Plan → (ℕ → List ℕ) → Outcome → Type 0
 IsOutcomeOf s orders (Ended answers) = (r : Report) × (IsReportBy s orders r × (answers ≡ answered s.processors r))
-IsOutcomeOf s orders (Stuck processor) = ⊤
+IsOutcomeOf s orders (Stuck processor) = IsStuckBy s orders processor

@@ -1,7 +1,8 @@
 //! A script under many seeds.
-ghost use Rattle.std.specs.Prelude.{ℕ, ◌≡◌, ◌≤◌, ◌+◌, ◌^◌, IfOk, List, OnOk};
+ghost use Rattle.std.specs.Prelude.{ℕ, ◌≡◌, ◌≤◌, ◌+◌, ◌^◌, IfErr, IfOk, List, OnOk};
 ghost use Rattle.lrc_script.specs.Prelude.{IsLawful, plan_of};
-ghost use Rattle.runs.specs.Prelude.{IsReportBy, orders_of};
+ghost use Rattle.runs.specs.Prelude.{IsReportBy, IsStuckBy};
+ghost use Rattle.runs.specs.declared.cause.Cause.TheVariants as cause;
 ghost use Rattle.sample.specs.Prelude.{IsMade, IsOutcomeOf, IsSampleOf, run_of};
 
 use crate::outcome::{Answers, Outcome};
@@ -34,6 +35,8 @@ fn outcome_of(
     answer: Result<Report, RunFault>,
 ) -> Result<Outcome, RunFault>
     ensures { (orders : ℕ → List ℕ) → IfOk answer (IsReportBy (plan_of script.now) orders)
+        → IfErr answer (λ fault. fault.cause ≡ cause.Stuck
+        → IsStuckBy (plan_of script.now) orders fault.processor)
         → IfOk result (IsOutcomeOf (plan_of script.now) orders) }
 {
     match answer {

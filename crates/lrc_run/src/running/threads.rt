@@ -65,7 +65,8 @@ impl<T: BookTurn + Drop> Thread<T> {
     }
 }
 
-/// Walks the section with this processor, and gives it back.
+/// Walks the section with this processor, and gives it back. One that goes no further says so to the cluster, since
+/// others may wait for it.
 fn walked<T: BookTurn, R: Wait, G: Gate>(
     rt: &R,
     cluster: &Cluster<T>,
@@ -76,8 +77,14 @@ fn walked<T: BookTurn, R: Wait, G: Gate>(
     requires own { processor.lock ≡ cluster.now.lock }
     ensures { IfOk result (λ m. Walks processor m section.now) }
 {
-    walk(rt, cluster, &mut processor, course, section)?;
-    Ok(processor)
+    let number = processor.number();
+    match walk(rt, cluster, &mut processor, course, section) {
+        Ok(()) => Ok(processor),
+        Err(cause) => {
+            cluster.end(number);
+            Err(cause)
+        }
+    }
 }
 
 /// Waits for all threads, and answers what came of their processors.
@@ -95,7 +102,8 @@ fn join_all<T: BookTurn + Drop, R: Threads>(
     outcomes
 }
 
-/// Moves the processor into a thread of its own, which walks the section.
+/// Moves the processor into a thread of its own, which walks the section. If that can't be started, the cluster is told
+/// that the processor makes no calls.
 fn start<'s, 'x: 's, T: BookTurn + Send + Drop, R: Threads + Wait + Sync, G: Gate + Sync>(
     scope: &'s Scope<'s, &'x ()>,
     rt: &'x R,
@@ -111,6 +119,7 @@ fn start<'s, 'x: 's, T: BookTurn + Send + Drop, R: Threads + Wait + Sync, G: Gat
         was: Snapshot::of(&processor),
         section: Snapshot::of(section),
     };
+    let number = processor.number();
     let section = section.as_slice();
     let started = scope.spawn_with(
         promise,
@@ -120,6 +129,9 @@ fn start<'s, 'x: 's, T: BookTurn + Send + Drop, R: Threads + Wait + Sync, G: Gat
         { walked(rt, cluster, processor, course, section) },
     );
     let handle = started.ok();
+    if handle.is_none() {
+        cluster.end(number);
+    }
     Thread { handle }
 }
 

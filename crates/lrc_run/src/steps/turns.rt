@@ -4,9 +4,10 @@ ghost use Rattle.cluster.specs.Taking.{IsLate};
 ghost use Rattle.lrc_run.specs.Prelude.{IsOnItsWay, TakesTurn, instruction_at, progress_after};
 
 use crate::walk::{begin, end};
+use book::Refused;
 use cluster::{BookTurn, Cluster, Processor};
 use lrc_script::script::Instruction;
-use runs::{Cause, Progress};
+use runs::Progress;
 use std::sync::Wait;
 
 /// The instruction at this place of the section, or the closing barrier after the last.
@@ -40,7 +41,7 @@ pub(crate) fn take_turn<T: BookTurn, R: Wait>(
     processor: &mut Processor<T>,
     section: &[Instruction],
     progress: Progress,
-) -> Result<(Progress, bool), Cause>
+) -> Result<(Progress, bool), Refused>
     requires own { processor.old.lock ≡ cluster.now.lock }
     ensures { IfOk result (λ r. TakesTurn section.now processor.old progress processor.new r.0) }
 {
@@ -63,7 +64,7 @@ fn go_on<T: BookTurn, R: Wait>(
     cluster: &Cluster<T>,
     processor: &mut Processor<T>,
     instruction: Instruction,
-) -> Result<bool, Cause>
+) -> Result<bool, Refused>
     requires own { processor.old.lock ≡ cluster.now.lock }
     ensures way { IfOk result (λ done. IsOnItsWay processor.old processor.new instruction done) }
     ensures late { IfOk result (λ done. done ≡ false → IsLate processor.new) }
@@ -71,5 +72,5 @@ fn go_on<T: BookTurn, R: Wait>(
     if begin(rt, cluster, processor, instruction)? {
         return Ok(true);
     }
-    Ok(end(rt, cluster, processor)?)
+    end(rt, cluster, processor)
 }

@@ -10,18 +10,16 @@ use super::accesses::{add, load, store};
 use book::Refused;
 use cluster::{BookTurn, Cluster, Processor};
 use lrc_script::script::Instruction;
-use runs::Cause;
 use std::sync::Wait;
 
-/// Does the instruction, or begins it where it waits for something: answers whether it is done.
-///
-/// [`Refused`](Cause::Refused) as its calls are.
+/// Does the instruction, or begins it where it waits for something: answers whether it is done. Refused as its calls
+/// are.
 pub(crate) fn begin<T: BookTurn, R: Wait>(
     rt: &R,
     cluster: &Cluster<T>,
     processor: &mut Processor<T>,
     instruction: Instruction,
-) -> Result<bool, Cause>
+) -> Result<bool, Refused>
     requires own { processor.old.lock ≡ cluster.now.lock }
     ensures same { IsSameProcessor processor.old processor.new }
     ensures ok { IfOk result (λ done. IsOnItsWay processor.old processor.new instruction done) }

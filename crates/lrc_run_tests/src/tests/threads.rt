@@ -50,28 +50,90 @@ fn fails<R: Threads + Wait + Sync + Abort, G: Gate + Sync>(
     Ok(())
 }
 
-/// What comes of a processor that tries three times, where the lock lets it enter that many times.
-fn fault_of_three<T: BookTurn + Drop + Send + Sync, R: Threads + Wait + Sync>(
+/// What comes of a processor that awaits a flag which nobody sets, where the lock lets it enter so many times.
+fn fault_of_waiting<T: BookTurn + Drop + Send + Sync, R: Threads + Wait + Sync>(
     rt: &R,
     alloc: Global,
+    tries: u64,
 ) -> Result<Option<RunFault>, Fail>
-    requires { T.ENTRIES ≤ 2 ^ 40 }
+    requires tries { 0 < tries }
+    requires entries { T.ENTRIES ≤ 2 ^ 40 }
 {
     let script = parse(alloc, b"cluster 1 1 1 0 1\np 0\nawait 0\nshow 0\n")?;
-    Ok(run_with::<T, R, Open>(rt, alloc, &script, &Open, 3).err())
+    Ok(run_with::<T, R, Open>(rt, alloc, &script, &Open, tries).err())
 }
 
-/// One entry to watch the flag, and one for each try: neither a try more nor one less.
-#[test]
-fn just_so_many_tries(rt: HostRuntime) -> Result<(), Fail> {
-    let fault = |cause| Some(RunFault {
+/// The fault of processor 0.
+fn of_first(cause: Cause) -> Option<RunFault> {
+    Some(RunFault {
         processor: 0,
         cause,
-    });
-    let enough = fault_of_three::<ArrayLock<Book, Rule, 4>, _>(&rt, rt.alloc())?;
-    assert_eq!(&rt; enough, fault(Cause::Stuck));
-    let short = fault_of_three::<ArrayLock<Book, Rule, 3>, _>(&rt, rt.alloc())?;
-    assert_eq!(&rt; short, fault(Cause::Refused(Refused::SeatSpent)));
+    })
+}
+
+/// One entry to watch the flag, and one for the only look.
+#[test]
+fn just_one_look(rt: HostRuntime) -> Result<(), Fail> {
+    let enough = fault_of_waiting::<ArrayLock<Book, Rule, 2>, _>(&rt, rt.alloc(), 1)?;
+    assert_eq!(&rt; enough, of_first(Cause::Stuck));
+    let short = fault_of_waiting::<ArrayLock<Book, Rule, 1>, _>(&rt, rt.alloc(), 1)?;
+    assert_eq!(&rt; short, of_first(Cause::Refused(Refused::SeatSpent)));
+    Ok(())
+}
+
+/// One entry more to wait, which finds that the flag can't come: the looks that are left aren't made.
+#[test]
+fn known_to_be_stuck(rt: HostRuntime) -> Result<(), Fail> {
+    let enough = fault_of_waiting::<ArrayLock<Book, Rule, 3>, _>(&rt, rt.alloc(), 1000)?;
+    assert_eq!(&rt; enough, of_first(Cause::Stuck));
+    let short = fault_of_waiting::<ArrayLock<Book, Rule, 2>, _>(&rt, rt.alloc(), 1000)?;
+    assert_eq!(&rt; short, of_first(Cause::Refused(Refused::SeatSpent)));
+    Ok(())
+}
+
+/// So many looks that nobody ends for want of them.
+const FOREVER: u64 = 1_000_000_000_000;
+
+/// How often a script is run: under another schedule each time.
+const TIMES: usize = 40;
+
+/// Each way in which a thread may end leaves nobody asleep: a run that slept for ever would not end within the time that a
+/// test has.
+#[test]
+fn nobody_sleeps_for_ever(rt: HostRuntime) -> Result<(), Fail> {
+    let alloc = rt.alloc();
+    // A deadlock of two; a flag that nobody sets; a barrier that one never reaches, since it waits for a lock.
+    let stuck: [&[u8]; 3] = [
+        b"cluster 2 1 1 2\np 0\nacquire 0\nbarrier\nacquire 1\np 1\nacquire 1\nbarrier\nacquire 0\nshow 0\n",
+        b"cluster 4 1 1 0 1\np 0\nawait 0\np 1\nawait 0\np 2\nawait 0\np 3\nawait 0\nshow 0\n",
+        b"cluster 2 1 1 1\np 0\nacquire 0\nbarrier\np 1\nacquire 0\nbarrier\nshow 0\n",
+    ];
+    for _ in 0..TIMES {
+        for text in stuck {
+            fails(&rt, alloc, text, &Open, FOREVER, 0, Cause::Stuck)?;
+        }
+    }
+    Ok(())
+}
+
+/// A processor that the gate stops leaves the others stuck: at the barrier, at a lock that it holds, at a flag that it
+/// would have set.
+#[test]
+fn stopped_and_waited_for(rt: HostRuntime) -> Result<(), Fail> {
+    let texts: [&[u8]; 3] = [
+        b"cluster 3 1 1 0\np 0\nbarrier\np 1\nload 0\nbarrier\np 2\nload 0\nbarrier\nshow 0\n",
+        b"cluster 2 1 1 1\np 0\nacquire 0\nrelease 0\np 1\nacquire 0\nrelease 0\nshow 0\n",
+        b"cluster 2 1 1 0 1\np 0\nload 0\nawait 0\np 1\nload 0\nset 0\nshow 0\n",
+    ];
+    let gate = StopsAt {
+        from: 1,
+        instruction: 2,
+    };
+    for _ in 0..TIMES {
+        for text in texts {
+            fails(&rt, rt.alloc(), text, &gate, FOREVER, 1, Cause::Gate)?;
+        }
+    }
     Ok(())
 }
 
@@ -87,7 +149,7 @@ fn another_has_spent_its_entries(rt: HostRuntime) -> Result<(), Fail> {
         rt.alloc(),
         &script,
         &Open,
-        2,
+        FOREVER,
     ).err();
     let spent = RunFault {
         processor: 1,

@@ -1,10 +1,11 @@
-use Rattle.std.proofs.Common.{rules, ◌≡◌, ◌∙◌, ◌++◌, List, ap, drop, length, take, subst, arith}
+use Rattle.std.proofs.Common.{rules, true, ◌≡◌, ◌∙◌, ◌++◌, List, ap, drop, length, take, subst, arith}
 use Rattle.std.proofs.Math.Seq.{take-append_seam}
 use Rattle.std.specs.Prelude.{All}
 use Rattle.lrc_script.specs.Plan.{plan_of}
 use Rattle.runs.specs.declared.progress.Progress.{Progress}
 use Rattle.runs.specs.declared.progress.Progress.TheVariants.{Passed}
-use Rattle.lrc_run.proofs.Turning.{before_rounds, next_round, seen_same}
+use Rattle.lrc_run.proofs.Turning.{before_rounds, next_round, some_of, ways_turned}
+use Rattle.lrc_run.proofs.Stepping.{own_at}
 use Rattle.lrc_run.proofs.steps.go_round.Goals as goal
 
 pub loop-init : goal.loop-init
@@ -17,19 +18,39 @@ loop-init g c =
       long = omega (arith, c.in-Ok.ensures.list, many, c.requires.new.all);
     }
 
-pub returns-then-have_passed : goal.returns-then-have_passed
-returns-then-have_passed g c =
+pub returns-then-have_passed-clause-ok : goal.returns-then-have_passed-clause-ok
+returns-then-have_passed-clause-ok g c =
     let P : List Progress → Type 0 = λ xs. All (λ x. x ≡ Passed) xs in (
       c.loop.all.items,
       c.loop.invariant.between.by,
-      subst P c.deref.ensures.value (c.have_passed.ensures.0 c.if-have_passed.true),
+      λ _. subst P c.deref.ensures.value (c.have_passed.ensures.0 c.if-have_passed.true),
+      λ no. absurd (cc),
     )
 
-pub returns-then-not-branch : goal.returns-then-not-branch
-returns-then-not-branch g c =
+pub is_stuck-requires-clause-own : goal.is_stuck-requires-clause-own
+is_stuck-requires-clause-own g c κs within = λ m here.
     let s = plan_of c.args.script.now in
-    let ns = c.loop.processors.items in
-    let os = c.round.new.processors.items in
+    let way = ways_turned c.args.cluster.now s.sections c.deref-in-loop.result.now c.loop.processors.items
+    c.round.new.processors.items c.loop.all.items c.round.new.all.items c.loop.invariant.between.by.way
+    c.in_ok-moved.ensures.turns in
+    own_at s c.args.cluster.now c.round.new.processors.items c.round.new.all.items 0 m c.requires.lawful
+    c.requires.sizes way here
+
+pub is_stuck-requires-clause-some : goal.is_stuck-requires-clause-some
+is_stuck-requires-clause-some g c κs within =
+    let s = plan_of c.args.script.now in
+    let way = ways_turned c.args.cluster.now s.sections c.deref-in-loop.result.now c.loop.processors.items
+    c.round.new.processors.items c.loop.all.items c.round.new.all.items c.loop.invariant.between.by.way
+    c.in_ok-moved.ensures.turns in
+    let some = some_of s c.args.cluster.now c.round.new.processors.items c.round.new.all.items c.requires.lawful
+    c.requires.sizes way in
+    omega (arith, some, c.round.new.processors.ok)
+
+pub returns-then-branch-clause-ok : goal.returns-then-branch-clause-ok
+returns-then-branch-clause-ok g c =
+    let s = plan_of c.args.script.now in
+    let turned = c.round.new.processors.items in
+    let os = c.is_stuck.new.processors.items in
     let list = c.deref-in-loop.result.now in
     let n = length c.deref_mut.result.now in
     let many : n ≡ c.args.cluster.now.sizes.processors = omega (arith, c.deref_mut.ensures.len, c.loop.invariant.long) in
@@ -38,16 +59,18 @@ returns-then-not-branch g c =
     let fits : c.loop.list.len ≡ length order = omega (arith, c.draw.ensures.below.1, c.deref_mut.ensures.len) in
     let drawn_is : list ≡ order =
     c.deref-in-loop.ensures.value ∙ ap (λ k. take k (order ++ rest)) fits ∙ take-append_seam order rest in
-    let next = next_round c.args.cluster.now s c.args.seed c.args.processors.now.items ns os os c.loop.all.items
-    c.round.new.all.items c.loop.generator c.draw.new.generator n list c.requires.sizes many c.loop.invariant.between
-    (drawn_is ∙ c.draw.ensures.list) c.draw.ensures.state c.in_ok-round.ensures (seen_same os) in
-    (c.round.new.all.items, next.by, tt)
+    let next = next_round c.args.cluster.now s c.args.seed c.args.processors.now.items c.loop.processors.items turned os
+    c.loop.all.items c.round.new.all.items c.loop.generator c.draw.new.generator n list c.requires.sizes many
+    c.loop.invariant.between (drawn_is ∙ c.draw.ensures.list) c.draw.ensures.state c.in_ok-moved.ensures.turns
+    c.is_stuck.ensures.seen in
+    let stuck : c.in_ok-is_stuck.field-0 ≡ true = search rules in
+    (c.round.new.all.items, next.by, (λ no. absurd (cc)), λ _. c.in_ok-is_stuck.ensures.stuck stuck)
 
 pub loop-preserved : goal.loop-preserved
 loop-preserved g c =
     let s = plan_of c.args.script.now in
-    let ns = c.loop.processors.items in
-    let os = c.round.new.processors.items in
+    let turned = c.round.new.processors.items in
+    let os = c.is_stuck.new.processors.items in
     let list = c.deref-in-loop.result.now in
     let n = length c.deref_mut.result.now in
     let many : n ≡ c.args.cluster.now.sizes.processors = omega (arith, c.deref_mut.ensures.len, c.loop.invariant.long) in
@@ -56,7 +79,8 @@ loop-preserved g c =
     let fits : c.loop.list.len ≡ length order = omega (arith, c.draw.ensures.below.1, c.deref_mut.ensures.len) in
     let drawn_is : list ≡ order =
     c.deref-in-loop.ensures.value ∙ ap (λ k. take k (order ++ rest)) fits ∙ take-append_seam order rest in
-    let next = next_round c.args.cluster.now s c.args.seed c.args.processors.now.items ns os os c.loop.all.items
-    c.round.new.all.items c.loop.generator c.draw.new.generator n list c.requires.sizes many c.loop.invariant.between
-    (drawn_is ∙ c.draw.ensures.list) c.draw.ensures.state c.in_ok-round.ensures (seen_same os) in
+    let next = next_round c.args.cluster.now s c.args.seed c.args.processors.now.items c.loop.processors.items turned os
+    c.loop.all.items c.round.new.all.items c.loop.generator c.draw.new.generator n list c.requires.sizes many
+    c.loop.invariant.between (drawn_is ∙ c.draw.ensures.list) c.draw.ensures.state c.in_ok-moved.ensures.turns
+    c.is_stuck.ensures.seen in
     record { between = next; long = search rules }

@@ -13,6 +13,6 @@ returns-in-Ok g c =
     let o = c.in_ok-outcome.outcome in
     let P : Option ℕ → Type 0 = λ seed. IsOutcomeOf s (orders_of s seed) o in
     let one = subst P (sym (seed_run c.args.seed))
-    (c.in_ok-outcome.ensures (orders_of s c.args.seed) c.step.ensures.turns) in
+    (c.in_ok-outcome.ensures (orders_of s c.args.seed) c.step.ensures.turns c.step.ensures.stuck) in
     made_next s (run_of c.args.seed) o c.args.lines.now.items c.note.new.lines.items made one
     (c.in-Ok.ensures made.outcomes made.noted (sym made.are.many))

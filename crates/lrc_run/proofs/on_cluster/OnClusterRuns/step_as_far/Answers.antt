@@ -9,10 +9,10 @@ pub returns-in-Array-clause-end : goal.returns-in-Array-clause-end
 returns-in-Array-clause-end g c =
     let s = plan_of c.args.script.now in
     let orders = orders_of s c.args.seed in
-    ok_as c.step_as_far.result (IsEndBy s orders) (IsEndOf s) (end_of s orders) c.step_as_far.ensures
+    ok_as c.step_as_far.result (IsEndBy s orders) (IsEndOf s) (end_of s orders) c.step_as_far.ensures.end
 
 pub returns-in-Ticket-clause-end : goal.returns-in-Ticket-clause-end
 returns-in-Ticket-clause-end g c =
     let s = plan_of c.args.script.now in
     let orders = orders_of s c.args.seed in
-    ok_as c.step_as_far_with.result (IsEndBy s orders) (IsEndOf s) (end_of s orders) c.step_as_far_with.ensures
+    ok_as c.step_as_far_with.result (IsEndBy s orders) (IsEndOf s) (end_of s orders) c.step_as_far_with.ensures.end

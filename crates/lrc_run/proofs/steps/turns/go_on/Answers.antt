@@ -1,11 +1,24 @@
 use Rattle.std.proofs.Common.{rules, ◌≡◌, Bool, false, subst}
-use Rattle.lrc_run.specs.Walks.{IsOnItsWay}
+use Rattle.cluster.specs.Taking.{IsLate}
+use Rattle.lrc_run.specs.Walks.{IsOnItsWay, Takes}
+use Rattle.lrc_run.proofs.Failing.{ok_as}
 use Rattle.lrc_run.proofs.Making.{on_its_way}
 use Rattle.lrc_run.proofs.steps.turns.go_on.Goals as goal
 
 pub returns-clause-way : goal.returns-clause-way
 returns-clause-way g c =
+    let l = c.args.processor.now in
+    let m = c.begin.new.processor in
+    let n = c.end.new.processor in
+    let i = c.args.instruction in
     let begun : c.in_ok-begin.field-0 ≡ false = search rules in
-    let P : Bool → Type 0 = λ b. IsOnItsWay c.args.processor.now c.begin.new.processor c.args.instruction b in
-    on_its_way c.args.processor.now c.begin.new.processor c.end.new.processor c.args.instruction c.in_ok-end.field-0
-    (subst P begun c.in_ok-begin.ensures.ok) c.in_ok-end.ensures.ok
+    let first = subst (λ (b : Bool). IsOnItsWay l m i b) begun c.in_ok-begin.ensures.ok in
+    ok_as c.end.result (Takes m n) (IsOnItsWay l n i) (λ taken took. on_its_way l m n i taken first took)
+    c.end.ensures.ok
+
+pub returns-clause-late : goal.returns-clause-late
+returns-clause-late g c =
+    let m = c.begin.new.processor in
+    let n = c.end.new.processor in
+    ok_as c.end.result (Takes m n) (λ done. done ≡ false → IsLate n) (λ taken took none. (took.no none).late)
+    c.end.ensures.ok

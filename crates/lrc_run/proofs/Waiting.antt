@@ -1,0 +1,82 @@
+-- What a call that waits leaves as it was.
+use Rattle.std.proofs.Common.{ℕ, ◌≡◌, ◌++◌, Bool, Option, Some, None, Result, Ok, List, slice_get, slice_set, inl, inr, refl, ap, subst, subst₂, sym, ◌∙◌}
+use Rattle.std.proofs.lemmas.Bool.{cases_eq}
+use Rattle.std.proofs.lemmas.List.{length-set}
+use Rattle.std.proofs.lemmas.Option.{same_Some, slice_get_within}
+use Rattle.lists.proofs.Sets.{slice_get-set_found, slice_get-set_other, slice_get-set_same}
+use Rattle.journal.specs.declared.event.Kind.{Kind}
+use Rattle.book.specs.declared.refused.Refused.{Refused}
+use Rattle.replicas.specs.Local.{Local, calls}
+use Rattle.cluster.specs.declared.waited.Waited.{Waited}
+use Rattle.cluster.specs.declared.waited.Waited.TheVariants.{Stuck}
+use Rattle.cluster.specs.Refusals.{flush_refusal}
+use Rattle.cluster.specs.Waiting.{IsWaitingCall}
+use Rattle.cluster.specs.Taking.{awaited_event}
+use Rattle.lrc_run.specs.Turns.{AreSeenOn, SeesDeadlock, SeesOn}
+use Rattle.lrc_run.specs.Walks.{SeesMore, Takes}
+use Rattle.lrc_run.proofs.Making.{same_then, sees_same, sees_then}
+use Rattle.lrc_run.proofs.Turning.{seen_same}
+
+-- whoever waits has seen no less
+sees_waiting : (m n : Local) (r : Result Waited Refused) → IsWaitingCall m n r → SeesMore m n
+sees_waiting m n r call = by m.awaits (flush_refusal m) refl refl
+  where
+    by : (k : Option Kind) (f : Option Refused) → m.awaits ≡ k → flush_refusal m ≡ f → SeesMore m n
+    by None f awaits refused = sees_same m n (ap (λ (l : Local). l.seen) (call.idle awaits).1)
+    by (Some k) (Some e) awaits refused =
+        sees_same m n (ap (λ (l : Local). l.seen) (call.outside (λ none. let some = sym awaits ∙ none in cc) e refused).1)
+    by (Some k) None awaits refused =
+        let entered = (call.looked (λ none. let some = sym awaits ∙ none in cc) refused).entered in
+        (entered.rest, ap (λ (l : Local). l.seen) entered.after)
+
+-- and is as it was otherwise
+pub waits_on : (m n : Local) (r : Result Waited Refused) → IsWaitingCall m n r → SeesOn m n
+waits_on m n r call = record {
+  same = record {
+    lock = ap (λ (l : Local). l.lock) call.kept;
+    number = ap (λ (l : Local). l.number) call.kept;
+    sizes = ap (λ (l : Local). l.sizes) call.kept;
+  };
+  sees = sees_waiting m n r call;
+  calls_are = call.calls_are;
+  block_is = ap (λ (l : Local). l.block) call.kept;
+  awaits_is = ap (λ (l : Local). l.awaits) call.kept;
+  uncut = ap (λ (l : Local). l.own_cut) call.kept;
+}
+
+-- a take after a wait is one after what came before
+pub takes_on : (l m n : Local) (taken : Bool) → SeesOn l m → Takes m n taken → Takes l n taken
+takes_on l m n taken on took = record {
+  same = same_then l m n on.same took.same;
+  sees = sees_then l m n on.sees took.sees;
+  yes = λ yes. took.yes yes ∙ ap (λ es. es ++ awaited_event m.number m.awaits) on.calls_are
+      ∙ ap (λ p. calls l ++ awaited_event p m.awaits) on.same.number
+      ∙ ap (λ k. calls l ++ awaited_event l.number k) on.awaits_is;
+  no = λ no.
+      let none = took.no no in
+      record {
+        calls_are = none.calls_are ∙ on.calls_are;
+        block_is = none.block_is ∙ on.block_is;
+        awaits_is = none.awaits_is ∙ on.awaits_is;
+        late = none.late;
+      };
+  uncut = took.uncut ∙ on.uncut;
+}
+
+-- one of all saw on
+pub seen_at : (ms : List Local) (m n : Local) → slice_get ms 0 ≡ Some m → SeesOn m n → AreSeenOn ms (slice_set ms 0 n)
+seen_at ms m n at on = record { all = length-set ms 0 n; each = each }
+  where
+    each : (p : ℕ) (x y : Local) → slice_get ms p ≡ Some x → slice_get (slice_set ms 0 n) p ≡ Some y → SeesOn x y
+    each p x y here there = elim (cases_eq p 0) [
+      | inl is ↦ (let M : ℕ → Type 0 = λ k. slice_get ms k ≡ Some x in
+          let N : ℕ → Type 0 = λ k. slice_get (slice_set ms 0 n) k ≡ Some y in
+          subst₂ SeesOn (same_Some m x (sym at ∙ subst M is here)) (slice_get-set_found ms 0 n y (subst N is there)) on)
+      | inr isnt ↦ (seen_same ms).each p x y here (sym (slice_get-set_other ms 0 p n isnt) ∙ there)
+    ]
+
+-- it sees a deadlock where it says so
+pub sees_deadlock : (ms : List Local) (m n : Local) (r : Result Waited Refused) → slice_get ms 0 ≡ Some m
+    → IsWaitingCall m n r → r ≡ Ok Stuck → SeesDeadlock (slice_set ms 0 n)
+sees_deadlock ms m n r at call is =
+    (n, slice_get-set_same ms 0 n (slice_get_within ms 0 m at), call.stuck is)
