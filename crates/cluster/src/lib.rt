@@ -8,9 +8,11 @@
 //!
 //! **What is proved.** The accesses: the answer and each refusal exactly. The calls that enter: `IsCall`. After each,
 //! `Covers`: what holds of the processor in every journal that the lock allows; `allowed_law` and `allowed`: there is one.
-//! `audit` and `finish`: faithful histories with each processor's calls.
+//! `audit` and `finish`: faithful histories with each processor's calls. `wait`: it says that all are stuck exactly if the
+//! history that it finds is a deadlock.
 //!
-//! **What is only tested** (in `cluster_uses`): that no call is refused needlessly, and that threads get on.
+//! **What is only tested** (in `cluster_uses`): that no call is refused needlessly, that threads get on, and that nobody
+//! sleeps for ever.
 #![tactic(auto)]
 
 mod bells;

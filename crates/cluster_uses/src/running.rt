@@ -260,7 +260,8 @@ fn work<T: BookTurn, R: Wait>(
     ensures number { result.0.number ≡ processor.number }
 {
     let outcome = perform_all(cluster, rt, &mut processor, tasks);
-    if outcome.is_err() {
+    // Whoever is stuck or deserted has told all others by that.
+    if let Err(Ended::Refused(_) | Ended::Left) = outcome {
         cluster.end(processor.number());
     }
     (processor, outcome)
