@@ -181,7 +181,7 @@ fn write_text<W: Write>(text: &str, out: &mut W) -> Result<(), TextFault>
 /// runs 1001
 /// result 999 0 race-free words 0 7 1 8 replies p1 0 7 p2 5
 /// result 1 - racy words 0 7 1 8 replies p1 0 0 p2 5
-/// result 1 17 stuck 1
+/// result 1 17 stuck 0
 /// ```
 ///
 /// After `result` stand how many runs came to it, and the first seed that gives it, `-` where it is the run without one.
