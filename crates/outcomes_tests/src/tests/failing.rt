@@ -1,8 +1,9 @@
 //! Runs that fail.
-ghost use Rattle.std.specs.Prelude.{◌<◌, IfErr, IfOk};
+ghost use Rattle.std.specs.Prelude.{◌≢◌, ◌<◌, IfErr, IfOk};
 ghost use Rattle.std.specs.Thread.{IsSync};
 ghost use Rattle.lrc_script.specs.Prelude.{IsLawful, plan_of};
 ghost use Rattle.runs.specs.Prelude.{IsEndBy, IsEndOf, IsReportBy, IsReportOf, orders_of};
+ghost use Rattle.runs.specs.declared.cause.Cause.TheVariants as cause;
 
 use lrc_report::Report;
 use lrc_run::OnCluster;
@@ -20,7 +21,9 @@ pub struct Failing {
 }
 
 /// The fault of a processor without a thread.
-fn no_thread(processor: usize) -> RunFault {
+fn no_thread(processor: usize) -> RunFault
+    ensures { result.cause ≢ cause.Stuck }
+{
     RunFault {
         processor,
         cause: Cause::Thread,
