@@ -29,6 +29,10 @@ const TOLD: u64 = 1;
 /// Nothing was told, and the processor sleeps or is about to.
 const ASLEEP: u64 = 2;
 
+/// How often a waiting thread looks before it sleeps, with a pause of the processor after each look. It doesn't yield: if
+/// there are more threads than idle processors, a yield lets threads run that wait as it does.
+const LOOKS_AWAKE: u32 = 128;
+
 /// The bell of one processor.
 #[derive(Drop)]
 struct Bell {
@@ -56,18 +60,33 @@ impl Bell {
         }
     }
 
-    /// Waits until it is told: it pauses, and then sleeps.
+    /// Waits until it is told: awake for a while, and then asleep.
     fn wait<R: Wait>(&self, rt: &R) {
+        if !self.wait_awake() {
+            self.wait_asleep(rt);
+        }
+    }
+
+    /// Looks for as long as a thread waits awake: whether it was told.
+    fn wait_awake(&self) -> bool {
         let backoff = Backoff::new();
+        for _ in 0..LOOKS_AWAKE {
+            if self.word.load(SeqCst) == TOLD {
+                return true;
+            }
+            backoff.reset();
+            backoff.spin();
+        }
+        false
+    }
+
+    /// Looks until it is told, and sleeps between two looks.
+    fn wait_asleep<R: Wait>(&self, rt: &R) {
         for _ in rt.forever() {
             if self.word.load(SeqCst) == TOLD {
                 return;
             }
-            if backoff.is_completed() {
-                self.sleep(rt);
-            } else {
-                backoff.snooze();
-            }
+            self.sleep(rt);
         }
     }
 
