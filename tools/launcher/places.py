@@ -22,7 +22,7 @@ class Program:
 
 
 # The program with all commands; and the one with these alone, which stands on fewer crates and so is built sooner.
-WHOLE, CORE = Program("lrc"), Program("lrc_core")
+WHOLE, CORE = Program("lrc"), Program("lrc_quick")
 CORE_COMMANDS = ("run", "step")
 # The launcher's own commands: to prove and build alone; to test what is built; to put it into a folder.
 PROVE, TEST, INSTALL = "prove", "test", "install"

@@ -8,7 +8,7 @@ use Rattle.std.proofs.lemmas.Option.{get_or_from_slice_get, slice_get_within}
 use Rattle.barrier.specs.declared.barrier.Stage.{Stage}
 use Rattle.barrier.specs.declared.barrier.Stage.TheVariants.{Away, Here, Free}
 use Rattle.vtime.specs.Times.{join}
-use Rattle.barrier.specs.Episodes.{Episodes, is_here, joined, departed, joins, HasGathered}
+use Rattle.barrier.specs.Episodes.{Episodes, is_here, arrived_at, departed, joins, HasGathered}
 
 -- one, or none
 abbrev one_here : Stage → ℕ
@@ -73,7 +73,7 @@ comes_last old stages read now p full away same is written test =
 
 -- an arrival is gathered
 pub gathered-more : (b : Episodes) (p : ℕ) (time : List ℕ) (times : List (List ℕ)) → slice_get b.stages p ≡ Some Away
-    → HasGathered b times → HasGathered (joined b p time) (times ++ time ∷ [])
+    → HasGathered b times → HasGathered (arrived_at b p time) (times ++ time ∷ [])
 gathered-more b p time times away has =
     let within = slice_get_within b.stages p Away away in
     let more = sum_by-set one_here b.stages p Here Here within in

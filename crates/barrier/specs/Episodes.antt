@@ -21,8 +21,8 @@ is_here Here = true
 is_here _ = false
 
 -- all have arrived for the open episode
-abbrev pub is_full : Episodes → Bool
-is_full b = list_all is_here b.stages
+abbrev pub episode_full : Episodes → Bool
+episode_full b = list_all is_here b.stages
 
 -- a full episode is complete: all may depart, and the next one opens
 abbrev pub completed : Bool → Episodes → Episodes
@@ -34,12 +34,12 @@ completed true b = record {
 }
 
 -- p is here, at this time
-abbrev pub joined : Episodes → ℕ → List ℕ → Episodes
-joined b p time = record b { stages = slice_set b.stages p Here; gathered = join b.gathered time }
+abbrev pub arrived_at : Episodes → ℕ → List ℕ → Episodes
+arrived_at b p time = record b { stages = slice_set b.stages p Here; gathered = join b.gathered time }
 
 -- the barrier after p arrived at this time
 abbrev pub arrived : Episodes → ℕ → List ℕ → Episodes
-arrived b p time = completed (is_full (joined b p time)) (joined b p time)
+arrived b p time = completed (episode_full (arrived_at b p time)) (arrived_at b p time)
 
 -- the barrier after p departed
 abbrev pub departed : Episodes → ℕ → Episodes

@@ -2,9 +2,9 @@
 ghost use Rattle.std.specs.Prelude.{ℕ, ◌≡◌, ◌≤◌, ◌<◌, ◌+◌, ◌↔◌, IsTrue, Some, List, [], length, replicate, slice_get};
 ghost use Rattle.std.specs.Prelude.{count_by};
 ghost use Rattle.std.specs.List.{list_all};
-ghost use Rattle.lists.specs.Prelude.{most_processors};
+ghost use Rattle.base.specs.Prelude.{most_processors};
 ghost use Rattle.vtime.specs.Times.{join};
-ghost use Rattle.barrier.specs.Episodes.{unmet, is_here, is_full, joined, arrived, departed, HasGathered, Gathers};
+ghost use Rattle.barrier.specs.Episodes.{unmet, is_here, episode_full, arrived_at, arrived, departed, HasGathered, Gathers};
 
 use smallvec::SmallVec;
 use std::alloc::Global;
@@ -38,7 +38,7 @@ pub struct Barrier {
 
 impl Model for Barrier {
     ghost use Rattle.std.specs.Prelude.{◌≡◌, ◌≤◌, length};
-    ghost use Rattle.lists.specs.Limits.{most_processors};
+    ghost use Rattle.base.specs.Limits.{most_processors};
     ghost use Rattle.barrier.specs.Episodes.{Episodes};
 
     ghost Value = { Episodes };
@@ -74,7 +74,7 @@ impl Barrier {
         ensures barrier { self.new ≡ arrived self.old processor time.now }
         ensures complete { IsTrue result ↔
             (count_by is_here self.old.stages + 1 ≡ length self.old.stages) }
-        ensures full { result ≡ is_full (joined self.old processor time.now) }
+        ensures full { result ≡ episode_full (arrived_at self.old processor time.now) }
         ensures same_length { length self.new.stages ≡ length self.old.stages }
 
         // Whichever arrivals led here, the time of a complete episode is the join of them all.
@@ -99,7 +99,7 @@ impl Barrier {
         requires { slice_get self.now.stages processor ≡ Some Stage.Away }
         ensures complete { IsTrue result ↔
             (count_by is_here self.now.stages + 1 ≡ length self.now.stages) }
-        ensures full { (time : List ℕ) → result ≡ is_full (joined self.now processor time) }
+        ensures full { (time : List ℕ) → result ≡ episode_full (arrived_at self.now processor time) }
     {
         count_here(self.stages.as_slice()) + 1 == self.stages.len()
     }

@@ -3,11 +3,11 @@
 use anyhow::Result;
 use book::Refused;
 use cluster::{BookLock, Cluster, Processor};
-use cluster_uses::{Call, Crew};
 use std::alloc::Global;
 use std::rt::Clock;
 use std::sync::Wait;
 use std::time::Instant;
+use test_crews::crews::{Call, Crew};
 
 /// A lock that is free is asked for, taken and released.
 const ROUND: [Call; 3] = [Call::Ask(0), Call::Take, Call::Release(0)];

@@ -5,10 +5,10 @@ use crate::alone::{Access, accesses, fetches, grants};
 use crate::scripts::{OnScript, do_on_script};
 use crate::threads::{Row, Tickets, entries, tasks};
 use anyhow::Result;
-use cluster_uses::Task;
 use std::rt::{Clock, Files};
 use std::sync::Wait;
 use std::thread::Threads;
+use test_crews::crews::Task;
 
 /// Adds one to the word at address 0, under lock 0.
 const ADD: Task = Task::Add {

@@ -3,22 +3,22 @@ ghost use Rattle.std.specs.Prelude.{◌≡◌, ◌≤◌, ◌*◌, ◌^◌, IfOk
 
 use anyhow::{Result, bail};
 use cluster::BookLock;
-use cluster_uses::{Crew, Task, run};
 use std::alloc::Global;
 use std::sync::Wait;
 use std::thread::Threads;
+use test_crews::counters::{Counter, count_in_many};
+use test_crews::crews::{Crew, Task, run};
 use turn::{ArrayLock, TicketLock, Turn};
-use turn_uses::{Tally, count_in_many};
 
 /// The ticket lock over a count.
-pub type Tickets = TicketLock<u64, Tally, 4294967296>;
+pub type Tickets = TicketLock<u64, Counter, 4294967296>;
 
 /// The array lock over a count.
-pub type Row = ArrayLock<u64, Tally, 4294967296>;
+pub type Row = ArrayLock<u64, Counter, 4294967296>;
 
 /// Each of so many threads enters the lock alone and leaves it so many times. Answers the count, to which each adds
 /// one while it is inside.
-pub fn entries<T: Turn<u64, Tally> + Drop, R: Threads + Wait + Sync>(
+pub fn entries<T: Turn<u64, Counter> + Drop, R: Threads + Wait + Sync>(
     rt: &R,
     alloc: Global,
     threads: usize,

@@ -39,24 +39,24 @@ pub record MayFlush (b : State) (p : ℕ) (block : List Event) : Type 0 where
   pub gives : MayGive by.sizes b p block
 
 -- by some history, p waits for nothing and may hand in this block
-pub record MayCall (b : State) (p : ℕ) (block : List Event) : Type 0 where
+pub record MayCloseIdle (b : State) (p : ℕ) (block : List Event) : Type 0 where
   pub by : IsToldBySome b
   pub hands_in : MayHandIn by.sizes b p block
 
 -- p may hand in this block and ask for lock l, which it doesn't hold by the same history
 pub record MayAsk (b : State) (p l : ℕ) (block : List Event) : Type 0 where
-  pub call : MayCall b p block
+  pub call : MayCloseIdle b p block
   pub range : l < call.by.sizes.locks
   pub free : ¬ Holds call.by.history p l
 
 -- p may hand in this block and release lock l, which it holds by the same history
 pub record MayRelease (b : State) (p l : ℕ) (block : List Event) : Type 0 where
-  pub call : MayCall b p block
+  pub call : MayCloseIdle b p block
   pub range : l < call.by.sizes.locks
   pub held : Holds call.by.history p l
 
 -- by some history, p is a processor
-pub record MayLook (b : State) (p : ℕ) : Type 0 where
+pub record IsProcessor (b : State) (p : ℕ) : Type 0 where
   pub by : IsToldBySome b
   pub processor : p < by.sizes.processors
 

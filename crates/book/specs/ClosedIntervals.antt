@@ -1,14 +1,14 @@
 -- What the closed intervals are by the history.
 use Rattle.std.specs.Prelude.{ℕ, ◌≡◌, ◌≢◌, ◌<◌, ◌≤◌, List, [], length, slice_get, slice_index, Some}
 use Rattle.journal.specs.declared.event.Event.{Event}
-use Rattle.lists.specs.Places.{Has, InOrder}
+use Rattle.base.specs.Places.{Has, InOrder}
 use Rattle.journal.specs.Sizes.{Sizes}
 use Rattle.journal.specs.Events.{count_of, interval_at, is_closing}
 use Rattle.journal.specs.Times.{ClosesAt}
 use Rattle.journal.specs.Groups.{StoresIn, IsContent}
 use Rattle.journal.specs.Missing.{closed_count, IsPlaced}
 use Rattle.page.specs.Changes.{Changes}
-use Rattle.interval.specs.declared.kept.Kept.{Kept}
+use Rattle.interval.specs.declared.kept_interval.KeptInterval.{KeptInterval}
 use Rattle.interval.specs.Intervals.{HasRisingPages}
 use Rattle.interval.specs.Closings.{Closings}
 
@@ -21,7 +21,7 @@ pub record AreContents (s : Sizes) (h : List Event) (owner number : ℕ) (record
 
 -- no kept interval has a number below its owner's first
 abbrev pub AreFromFirst : Closings → Type 0
-AreFromFirst c = (k : Kept) → Has c.kept k → slice_index c.first k.interval.owner ≤ k.interval.number
+AreFromFirst c = (k : KeptInterval) → Has c.kept k → slice_index c.first k.interval.owner ≤ k.interval.number
 
 -- the intervals closed so far, but for each owner's first ones, are kept in closing order
 pub record AreClosed (s : Sizes) (h : List Event) (c : Closings) : Type 0 where
@@ -30,15 +30,15 @@ pub record AreClosed (s : Sizes) (h : List Event) (c : Closings) : Type 0 where
   pub next : (q : ℕ) → q < s.processors → slice_index c.next q ≡ count_of is_closing h q
   pub first_long : length c.first ≡ s.processors
   pub from : AreFromFirst c
-  pub each : (k : Kept) → Has c.kept k → IsPlaced h k.interval.owner k.interval.number k.place
+  pub each : (k : KeptInterval) → Has c.kept k → IsPlaced h k.interval.owner k.interval.number k.place
   pub all : (q i : ℕ) → ClosesAt h q i → slice_index c.first q ≤ interval_at h q i
-      → (k : Kept) × Has c.kept k × (k.interval.owner ≡ q) × (k.interval.number ≡ interval_at h q i)
-  pub contents : (k : Kept) → Has c.kept k → AreContents s h k.interval.owner k.interval.number k.interval.records
-  pub rising : InOrder (λ (j k : Kept). j.place < k.place) c.kept
+      → (k : KeptInterval) × Has c.kept k × (k.interval.owner ≡ q) × (k.interval.number ≡ interval_at h q i)
+  pub contents : (k : KeptInterval) → Has c.kept k → AreContents s h k.interval.owner k.interval.number k.interval.records
+  pub rising : InOrder (λ (j k : KeptInterval). j.place < k.place) c.kept
 
 -- no interval is dropped that some processor's timestamp doesn't cover
-abbrev pub IsWithin : List ℕ → List (List ℕ) → Type 0
-IsWithin first times = (p q : ℕ) (t : List ℕ) → slice_get times p ≡ Some t → slice_index first q ≤ slice_index t q
+abbrev pub DropsOnlyCovered : List ℕ → List (List ℕ) → Type 0
+DropsOnlyCovered first times = (p q : ℕ) (t : List ℕ) → slice_get times p ≡ Some t → slice_index first q ≤ slice_index t q
 
 -- of each owner, someone's timestamp covers no more than what is dropped
 abbrev pub IsTight : List ℕ → List (List ℕ) → Type 0

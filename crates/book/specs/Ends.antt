@@ -8,7 +8,7 @@ use Rattle.book.specs.Refusals.{IsFullAt, IsWantOfRoom}
 
 -- the call makes the book `after` of the old one, with this many events in its journal; or it is refused, where the
 -- journal or memory has no room, and leaves the book as it was
-pub record Makes {A : Type 0} (events : ℕ) (after old new : State) (result : Result A Refused) : Type 0 where
+pub record EndsIn {A : Type 0} (events : ℕ) (after old new : State) (result : Result A Refused) : Type 0 where
   pub ok : OnOk result (new ≡ after)
   pub err : OnErr result (new ≡ old)
   pub full : IsFullAt events result
@@ -16,9 +16,9 @@ pub record Makes {A : Type 0} (events : ℕ) (after old new : State) (result : R
 
 -- the call hands the block in
 abbrev pub HandsIn : {A : Type 0} → List Event → State → State → Result A Refused → Type 0
-HandsIn block old new result = Makes (length old.journal.events + length block) (handed_in old block) old new result
+HandsIn block old new result = EndsIn (length old.journal.events + length block) (handed_in old block) old new result
 
 -- the call hands the block in, and closes the interval by an event, which makes this of the book
 abbrev pub Closes : {A : Type 0} → List Event → (State → State) → State → State → Result A Refused → Type 0
 Closes block f old new result =
-    Makes (length old.journal.events + length block + 1) (f (handed_in old block)) old new result
+    EndsIn (length old.journal.events + length block + 1) (f (handed_in old block)) old new result

@@ -1,7 +1,7 @@
 -- How the book holds its value.
 use Rattle.std.specs.Prelude.{◌+◌, ◌^◌, ◌≤◌, length, map}
 use Rattle.std.specs.Option.{option_map}
-use Rattle.lists.specs.Limits.{most_events}
+use Rattle.base.specs.Limits.{most_events}
 use Rattle.book.specs.Awaiting.{kind_of}
 use Rattle.book.specs.declared.protocol.Protocol.TheInside.{Inside}
 use Rattle.book.specs.State.{State}
@@ -21,7 +21,7 @@ state_of b = record {
 }
 
 -- what is owing has room
-pub record IsHeld (b : Inside) : Type 0 where
+pub record BookInvariant (b : Inside) : Type 0 where
   pub room : b.owing ≤ b.journal.room
   pub owing : b.owing ≤ 2 ^ 12
   pub few : length b.journal.events + b.owing ≤ most_events + 2 ^ 12

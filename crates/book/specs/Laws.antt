@@ -8,7 +8,7 @@ use Rattle.journal.specs.Sizes.{Sizes}
 use Rattle.journal.specs.Events.{count_of, is_closing}
 use Rattle.journal.specs.WellFormed.{Holds, Allowed}
 use Rattle.journal.specs.Brings.{Brings}
-use Rattle.journal.specs.Missing.{InClosingOrder, AreNews}
+use Rattle.journal.specs.Missing.{InClosingOrder, AreMissingNotices}
 use Rattle.vtime.specs.Times.{join}
 use Rattle.interval.specs.Closings.{between}
 use Rattle.page.specs.Changes.{Changes}
@@ -22,7 +22,7 @@ use Rattle.book.specs.News.{missing_in}
 use Rattle.book.specs.Transitions.{new_book, handed_in, handed_last, book_asked, book_released, book_arrived, book_set, book_watched, book_taken}
 use Rattle.book.specs.Cutting.{WasBookCut}
 use Rattle.book.specs.Calls.{MayHandIn, MayGive}
-use Rattle.book.specs.Told.{IsTold}
+use Rattle.book.specs.Told.{Represents}
 
 -- the records are those of p's open interval
 abbrev pub AreOpenRecords : Sizes → List Event → ℕ → List Changes → Type 0
@@ -30,47 +30,47 @@ AreOpenRecords s h p records = AreContents s h p (count_of is_closing h p) recor
 
 -- an empty book is told by the empty history
 abbrev pub NewLaw : Type 0
-NewLaw = (s : Sizes) → 0 < s.processors → IsTold s [] (new_book s)
+NewLaw = (s : Sizes) → 0 < s.processors → Represents s [] (new_book s)
 
 -- a block that is handed in, also by one who waits if it is empty
 abbrev pub HandInLaw : Type 0
-HandInLaw = (s : Sizes) (h block : List Event) (b : State) (p : ℕ) → IsTold s h b → MayGive s b p block
-    → IsTold s (h ++ block) (handed_in b block)
+HandInLaw = (s : Sizes) (h block : List Event) (b : State) (p : ℕ) → Represents s h b → MayGive s b p block
+    → Represents s (h ++ block) (handed_in b block)
 
 -- a last block
 abbrev pub LastLaw : Type 0
-LastLaw = (s : Sizes) (h block : List Event) (b : State) (p : ℕ) → IsTold s h b → MayGive s b p block
-    → IsTold s (h ++ block) (handed_last b block)
+LastLaw = (s : Sizes) (h block : List Event) (b : State) (p : ℕ) → Represents s h b → MayGive s b p block
+    → Represents s (h ++ block) (handed_last b block)
 
 -- an ask of a lock that p doesn't hold
 abbrev pub AskLaw : Type 0
-AskLaw = (s : Sizes) (h block : List Event) (b : State) (p l : ℕ) (records : List Changes) → IsTold s h b
+AskLaw = (s : Sizes) (h block : List Event) (b : State) (p l : ℕ) (records : List Changes) → Represents s h b
     → MayHandIn s b p block → AreOpenRecords s (h ++ block) p records → l < s.locks → ¬ Holds h p l
-    → IsTold s (did (h ++ block) p (Ask l)) (book_asked (handed_in b block) p l records)
+    → Represents s (did (h ++ block) p (Ask l)) (book_asked (handed_in b block) p l records)
 
 -- a release of a lock that p holds
 abbrev pub ReleaseLaw : Type 0
-ReleaseLaw = (s : Sizes) (h block : List Event) (b : State) (p l : ℕ) (records : List Changes) → IsTold s h b
+ReleaseLaw = (s : Sizes) (h block : List Event) (b : State) (p l : ℕ) (records : List Changes) → Represents s h b
     → MayHandIn s b p block → AreOpenRecords s (h ++ block) p records → l < s.locks → Holds h p l
-    → IsTold s (did (h ++ block) p (Release l)) (book_released (handed_in b block) p l records)
+    → Represents s (did (h ++ block) p (Release l)) (book_released (handed_in b block) p l records)
 
 -- an arrival
 abbrev pub ArriveLaw : Type 0
-ArriveLaw = (s : Sizes) (h block : List Event) (b : State) (p : ℕ) (records : List Changes) → IsTold s h b
+ArriveLaw = (s : Sizes) (h block : List Event) (b : State) (p : ℕ) (records : List Changes) → Represents s h b
     → MayHandIn s b p block → AreOpenRecords s (h ++ block) p records
-    → IsTold s (did (h ++ block) p Arrive) (book_arrived (handed_in b block) p records)
+    → Represents s (did (h ++ block) p Arrive) (book_arrived (handed_in b block) p records)
 
 -- a set of a flag
 abbrev pub SetLaw : Type 0
-SetLaw = (s : Sizes) (h block : List Event) (b : State) (p f : ℕ) (records : List Changes) → IsTold s h b
+SetLaw = (s : Sizes) (h block : List Event) (b : State) (p f : ℕ) (records : List Changes) → Represents s h b
     → MayHandIn s b p block → AreOpenRecords s (h ++ block) p records → f < s.flags
-    → IsTold s (did (h ++ block) p (Set f)) (book_set (handed_in b block) p f records)
+    → Represents s (did (h ++ block) p (Set f)) (book_set (handed_in b block) p f records)
 
 -- a watch of a flag
 abbrev pub WatchLaw : Type 0
-WatchLaw = (s : Sizes) (h block : List Event) (b : State) (p f : ℕ) (records : List Changes) → IsTold s h b
+WatchLaw = (s : Sizes) (h block : List Event) (b : State) (p f : ℕ) (records : List Changes) → Represents s h b
     → MayHandIn s b p block → AreOpenRecords s (h ++ block) p records → f < s.flags
-    → IsTold s (did (h ++ block) p (Watch f)) (book_watched (handed_in b block) p f records)
+    → Represents s (did (h ++ block) p (Watch f)) (book_watched (handed_in b block) p f records)
 
 -- p's message lets p do what it waits for, has the time of what that brings, and what p lacks of it
 pub record IsMessage (s : Sizes) (h : List Event) (b : State) (p : ℕ) (k : Kind) (m : Letter) : Type 0 where
@@ -80,28 +80,28 @@ pub record IsMessage (s : Sizes) (h : List Event) (b : State) (p : ℕ) (k : Kin
 
 -- what has come for one who waits
 abbrev pub MessageLaw : Type 0
-MessageLaw = (s : Sizes) (h : List Event) (b : State) (p : ℕ) (k : Kind) (m : Letter) → IsTold s h b
+MessageLaw = (s : Sizes) (h : List Event) (b : State) (p : ℕ) (k : Kind) (m : Letter) → Represents s h b
     → slice_get b.awaits p ≡ Some (Some k) → message_for b p k ≡ Some m
     → IsMessage s h b p k m
 
 -- a take of a grant, a departure or a flag's signal, with the trim after it
 abbrev pub TakeLaw : Type 0
-TakeLaw = (s : Sizes) (h : List Event) (b : State) (p : ℕ) (k : Kind) (m : Letter) → IsTold s h b
+TakeLaw = (s : Sizes) (h : List Event) (b : State) (p : ℕ) (k : Kind) (m : Letter) → Represents s h b
     → slice_get b.awaits p ≡ Some (Some k) → message_for b p k ≡ Some m
-    → IsTold s (did h p k) (book_taken b p k m)
+    → Represents s (did h p k) (book_taken b p k m)
 
 -- a cut, after which the same history tells the book
-abbrev pub CutLaw : Type 0
-CutLaw = (s : Sizes) (h : List Event) (old new : State) → IsTold s h old → WasBookCut old new → IsTold s h new
+abbrev pub BookCutLaw : Type 0
+BookCutLaw = (s : Sizes) (h : List Event) (old new : State) → Represents s h old → WasBookCut old new → Represents s h new
 
 -- what a taking brings of page n is news of it
 abbrev pub NewsLaw : Type 0
-NewsLaw = (s : Sizes) (h : List Event) (b : State) (p n : ℕ) (k : Kind) (u : List ℕ) → IsTold s h b
+NewsLaw = (s : Sizes) (h : List Event) (b : State) (p n : ℕ) (k : Kind) (u : List ℕ) → Represents s h b
     → p < s.processors → IsStamp s.processors h (Brings h p k) u
-    → AreNews s h p n (slice_index (time_of b p)) (slice_index (join (time_of b p) u))
+    → AreMissingNotices s h p n (slice_index (time_of b p)) (slice_index (join (time_of b p) u))
     (missing_in n (between b.closed (time_of b p) u))
 
 -- what lies between two timestamps is in closing order
 abbrev pub NewsOrderLaw : Type 0
-NewsOrderLaw = (s : Sizes) (h : List Event) (b : State) (n : ℕ) (old new : List ℕ) → IsTold s h b
+NewsOrderLaw = (s : Sizes) (h : List Event) (b : State) (n : ℕ) (old new : List ℕ) → Represents s h b
     → InClosingOrder (missing_in n (between b.closed old new))

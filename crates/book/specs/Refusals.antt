@@ -1,6 +1,6 @@
 -- How the book's calls are refused.
 use Rattle.std.specs.Prelude.{ℕ, ◌≡◌, ◌<◌, ◌⊎◌, ◌↔◌, Result, Err}
-use Rattle.lists.specs.Limits.{most_events}
+use Rattle.base.specs.Limits.{most_events}
 use Rattle.book.specs.declared.refused.Refused.{Refused}
 use Rattle.book.specs.declared.refused.Refused.TheVariants.{JournalFull, NoMemory}
 

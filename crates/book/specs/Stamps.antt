@@ -7,7 +7,7 @@ use Rattle.journal.specs.WellFormed.{LastIs}
 use Rattle.journal.specs.Waits.{awaited}
 
 -- the list has n items, and each is what it has to be at its place
-pub record AreAll {A : Type 0} (n : ℕ) (R : ℕ → A → Type 0) (xs : List A) : Type 0 where
+pub record EachAt {A : Type 0} (n : ℕ) (R : ℕ → A → Type 0) (xs : List A) : Type 0 where
   pub long : length xs ≡ n
   pub each : (i : ℕ) (x : A) → slice_get xs i ≡ Some x → R i x
 

@@ -6,12 +6,12 @@ use Rattle.journal.specs.WellFormed.{WellFormed}
 use Rattle.journal.specs.Pasts.{InPast}
 use Rattle.interval.specs.Closings.{between}
 use Rattle.transit.specs.Letters.{Letter}
-use Rattle.book.specs.Stamps.{AreAll, IsStamp, IsAwaited}
+use Rattle.book.specs.Stamps.{EachAt, IsStamp, IsAwaited}
 use Rattle.book.specs.Lines.{IsLock}
 use Rattle.book.specs.Mail.{IsMail}
 use Rattle.book.specs.Meetings.{IsBarrier}
 use Rattle.book.specs.Flags.{IsFlag}
-use Rattle.book.specs.ClosedIntervals.{AreClosed, IsWithin, IsTight}
+use Rattle.book.specs.ClosedIntervals.{AreClosed, DropsOnlyCovered, IsTight}
 use Rattle.journal.specs.Log.{Log, HoldsRest}
 use Rattle.book.specs.State.{State}
 
@@ -28,24 +28,24 @@ pub record HoldsSome (log : Log) (h : List Event) : Type 0 where
   pub rest : HoldsRest log taken h
 
 -- the book is told by the history
-pub record IsTold (s : Sizes) (h : List Event) (b : State) : Type 0 where
+pub record Represents (s : Sizes) (h : List Event) (b : State) : Type 0 where
   pub well_formed : WellFormed s h
   pub sizes : HasSizes s b
   pub holds : HoldsSome b.journal h
   pub closed : AreClosed s h b.closed
-  pub times : AreAll s.processors (λ p t. IsStamp s.processors h (InPast h p) t) b.times
-  pub locks : AreAll s.locks (IsLock s.processors h) b.locks.locks
+  pub times : EachAt s.processors (λ p t. IsStamp s.processors h (InPast h p) t) b.times
+  pub locks : EachAt s.locks (IsLock s.processors h) b.locks.locks
   pub barrier : IsBarrier s h b.barrier
-  pub flags : AreAll s.flags (IsFlag s.processors h) b.flags
-  pub awaits : AreAll s.processors (IsAwaited h) b.awaits
-  pub transit : AreAll s.processors (IsMail s h) b.transit
+  pub flags : EachAt s.flags (IsFlag s.processors h) b.flags
+  pub awaits : EachAt s.processors (IsAwaited h) b.awaits
+  pub transit : EachAt s.processors (IsMail s h) b.transit
   pub notices : (p : ℕ) (m : Letter) (t : List ℕ) → slice_get b.transit p ≡ Some (Some m)
       → slice_get b.times p ≡ Some t → m.notices ≡ between b.closed t m.time
-  pub within : IsWithin b.closed.first b.times
+  pub within : DropsOnlyCovered b.closed.first b.times
   pub tight : 1 < s.processors → IsTight b.closed.first b.times
 
 -- some history tells the book
 pub record IsToldBySome (b : State) : Type 0 where
   pub sizes : Sizes
   pub history : List Event
-  pub told : IsTold sizes history b
+  pub told : Represents sizes history b

@@ -15,7 +15,7 @@ use Rattle.vtime.specs.Times.{tick, join}
 use Rattle.interval.specs.Intervals.{ClosedInterval}
 use Rattle.interval.specs.Closings.{Closings, pushed, trimmed, between}
 use Rattle.lockq.specs.Lock.{unheld, lock_at, with_lock, asked, released}
-use Rattle.barrier.specs.Episodes.{Episodes, unmet, is_full, joined, arrived, departed}
+use Rattle.barrier.specs.Episodes.{Episodes, unmet, episode_full, arrived_at, arrived, departed}
 use Rattle.transit.specs.Letters.{Letter, letter}
 use Rattle.transit.specs.declared.message.Message.{Message}
 use Rattle.transit.specs.Letters.Kind.{grant, departure}
@@ -119,7 +119,7 @@ departure_to c t own = record { kind = departure; time = t; notices = between c 
 
 -- the departures that p's arrival at this time brings to those with these timestamps
 abbrev pub departures_to : Closings → Episodes → List (List ℕ) → ℕ → List ℕ → Option (List Letter)
-departures_to c b times p t = cond (is_full (joined b p t)) (Some (map (departure_to c (join b.gathered t)) times)) None
+departures_to c b times p t = cond (episode_full (arrived_at b p t)) (Some (map (departure_to c (join b.gathered t)) times)) None
 
 -- a complete episode lets all depart
 abbrev pub mail_met : Bool → State → List ℕ → List (Option Letter)
@@ -130,7 +130,7 @@ mail_met true b t = map (λ (own : List ℕ). Some (departure_to b.closed t own)
 abbrev pub book_arrived : State → ℕ → List Changes → State
 book_arrived b p records = record (closed_by b p Arrive records) {
   barrier = arrived b.barrier p (tick (time_of b p) p);
-  transit = mail_met (is_full (joined b.barrier p (tick (time_of b p) p))) (closed_by b p Arrive records)
+  transit = mail_met (episode_full (arrived_at b.barrier p (tick (time_of b p) p))) (closed_by b p Arrive records)
       (join b.barrier.gathered (tick (time_of b p) p));
 }
 

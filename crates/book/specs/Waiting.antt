@@ -7,11 +7,11 @@ use Rattle.journal.specs.Did.{did}
 use Rattle.journal.specs.Sizes.{Sizes}
 use Rattle.journal.specs.Events.{is_closing}
 use Rattle.journal.specs.WellFormed.{Ready}
-use Rattle.lists.specs.Limits.{most_processors}
+use Rattle.base.specs.Limits.{most_processors}
 use Rattle.lockq.specs.Lock.{lock_at}
 use Rattle.book.specs.State.{State}
 use Rattle.book.specs.Brought.{has_come}
-use Rattle.book.specs.Told.{IsTold}
+use Rattle.book.specs.Told.{Represents}
 
 -- p waits for this, which has come
 pub record HasComeFor (b : State) (k : Kind) (p : ℕ) : Type 0 where
@@ -28,7 +28,7 @@ pub record WaitsInVain (b : State) (p : ℕ) : Type 0 where
 pub record HasClosed (b : State) (p : ℕ) (k : Kind) : Type 0 where
   pub sizes : Sizes
   pub history : List Event
-  pub told : IsTold sizes (did history p k) b
+  pub told : Represents sizes (did history p k) b
   pub closes : is_closing k ≡ true
 
 -- after this event of p the book names q: who holds the released lock next, who waits for the departure where p may

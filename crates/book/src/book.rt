@@ -2,14 +2,14 @@
 ghost use Rattle.std.specs.Prelude.{◌≡◌, ◌≢◌, ℕ, ◌+◌, ◌*◌, ◌^◌, ◌<◌, ◌≤◌, ◌↔◌, ◌⊎◌, EachIndex, IsTrue, Some, Err};
 ghost use Rattle.std.specs.Prelude.{OnOk, OnErr, IfErr, IfOk, List, ◌++◌, map, length, count_by, slice_get, slice_index};
 ghost use Rattle.std.specs.Arc.{arc_value};
-ghost use Rattle.lists.specs.Prelude.{most_events, most_in_block, most_processors, Has};
+ghost use Rattle.base.specs.Prelude.{most_events, most_in_block, most_processors, Has};
 ghost use Rattle.journal.specs.Prelude.{Sizes, Ready, IsCutFault, IsDeadlock, did};
 ghost use Rattle.journal.specs.declared.event.Event.{Event as AnEvent};
 ghost use Rattle.interval.specs.Prelude.{HasRisingPages, is_of_page};
 ghost use Rattle.transit.specs.Prelude.{letter};
-ghost use Rattle.book.specs.Prelude.{brought, WasBookCut, MayFlush, MayCall, MayAsk, MayRelease, MayTakeSome};
-ghost use Rattle.book.specs.Prelude.{MayLook, new_book, handed_in, handed_last, book_watched, book_set, book_asked};
-ghost use Rattle.book.specs.Prelude.{book_released, book_arrived, Closes, HandsIn, IsFullAt, IsTold, IsWantOfRoom};
+ghost use Rattle.book.specs.Prelude.{brought, WasBookCut, MayFlush, MayCloseIdle, MayAsk, MayRelease, MayTakeSome};
+ghost use Rattle.book.specs.Prelude.{IsProcessor, new_book, handed_in, handed_last, book_watched, book_set, book_asked};
+ghost use Rattle.book.specs.Prelude.{book_released, book_arrived, Closes, HandsIn, IsFullAt, Represents, IsWantOfRoom};
 ghost use Rattle.book.specs.Prelude.{HasClosed, IsBlockOf, IsToldBySome, LetsOn, Takes};
 
 use crate::awaited::Awaited;
@@ -132,7 +132,7 @@ impl Book {
         block: &[Event],
         records: Vec<Arc<Record>>,
     ) -> Result<(), Refused>
-        requires call { MayCall self.old p block.now }
+        requires call { MayCloseIdle self.old p block.now }
         requires short { length block.now ≤ most_in_block }
         requires rising { HasRisingPages (map arc_value records.items) }
         ensures { Closes block.now (λ b. book_watched b p f (map arc_value records.items))
@@ -152,7 +152,7 @@ impl Book {
         block: &[Event],
         records: Vec<Arc<Record>>,
     ) -> Result<(), Refused>
-        requires call { MayCall self.old p block.now }
+        requires call { MayCloseIdle self.old p block.now }
         requires flag { f < length self.old.flags }
         requires short { length block.now ≤ most_in_block }
         requires rising { HasRisingPages (map arc_value records.items) }
@@ -234,7 +234,7 @@ impl Book {
         block: &[Event],
         records: Vec<Arc<Record>>,
     ) -> Result<(), Refused>
-        requires call { MayCall self.old p block.now }
+        requires call { MayCloseIdle self.old p block.now }
         requires short { length block.now ≤ most_in_block }
         requires rising { HasRisingPages (map arc_value records.items) }
         ensures { Closes block.now (λ b. book_arrived b p (map arc_value records.items))
@@ -262,7 +262,7 @@ impl Book {
         ensures ok { IfOk result (λ m. Takes self.old p (letter m) self.new) }
         ensures brings { IfOk result (λ m. (letter m).notices ≡ brought self.old p) }
         ensures err { OnErr result (self.new ≡ self.old) }
-        ensures absent { (s : Sizes) (h : List AnEvent) → IsTold s h self.old
+        ensures absent { (s : Sizes) (h : List AnEvent) → Represents s h self.old
             → result ≡ Err Refused.NotYet ↔ (¬ Ready s h p) }
         ensures full { result ≢ Err Refused.NotYet
             → IsFullAt (length self.old.journal.events + 1) result }
@@ -330,7 +330,7 @@ impl Book {
     /// costs the same however much has come.
     pub fn is_ready(&self, p: usize) -> bool
         requires call { MayTakeSome self.now p }
-        ensures { (s : Sizes) (h : List AnEvent) → IsTold s h self.now → IsTrue result ↔ Ready s h p }
+        ensures { (s : Sizes) (h : List AnEvent) → Represents s h self.now → IsTrue result ↔ Ready s h p }
     {
         let parts = &*self.parts;
         let Some(awaited) = parts.awaits[p] else {
@@ -343,7 +343,7 @@ impl Book {
     /// memory.
     pub fn is_deadlocked(&self) -> bool
         requires told { IsToldBySome self.now }
-        ensures { (s : Sizes) (h : List AnEvent) → IsTold s h self.now → IsTrue result ↔ IsDeadlock s h }
+        ensures { (s : Sizes) (h : List AnEvent) → Represents s h self.now → IsTrue result ↔ IsDeadlock s h }
     {
         let parts = &*self.parts;
         all_wait_in_vain(&parts.awaits, &parts.flags, &parts.transit)
@@ -356,8 +356,8 @@ impl Book {
     /// release.
     pub fn let_on(&self, p: usize, kind: Kind) -> Waiters
         requires closed { HasClosed self.now p kind }
-        ensures ready { (s : Sizes) (h : List AnEvent) (q : ℕ) → IsTold s h self.now → Has result q → Ready s h q }
-        ensures all { (s : Sizes) (h block : List AnEvent) (q : ℕ) → IsTold s (did (h ++ block) p kind) self.now
+        ensures ready { (s : Sizes) (h : List AnEvent) (q : ℕ) → Represents s h self.now → Has result q → Ready s h q }
+        ensures all { (s : Sizes) (h block : List AnEvent) (q : ℕ) → Represents s (did (h ++ block) p kind) self.now
             → IsBlockOf s p block → LetsOn s h block p kind q → Has result q }
         ensures within { (q : ℕ) → Has result q → q < length self.now.awaits }
     {
@@ -384,7 +384,7 @@ impl Book {
     /// How many notices of the page a take by `p` would bring now: none where `p` waits for nothing, or
     /// where what it waits for isn't there. It takes no memory.
     pub fn due(&self, p: usize, page: usize) -> usize
-        requires call { MayLook self.now p }
+        requires call { IsProcessor self.now p }
         ensures { result ≡ count_by (is_of_page page) (brought self.now p) }
     {
         let parts = &*self.parts;
@@ -399,7 +399,7 @@ impl Book {
     /// there, becomes the number for page n, as `due` answers it. Pages past the slice's end are not counted.
     /// It takes no memory, and costs in the order of the slice and of what a take would bring.
     pub fn count_due(&self, p: usize, counts: &mut [usize])
-        requires call { MayLook self.now p }
+        requires call { IsProcessor self.now p }
         ensures each { EachIndex counts.new (λ n. slice_index counts.new n
             ≡ count_by (is_of_page n) (brought self.now p)) }
         ensures same_length { length counts.new ≡ length counts.old }

@@ -1,7 +1,7 @@
 //! The laws of the transitions, as contracts of functions that do nothing: the check proves each by
 //! its name.
 ghost use Rattle.book.specs.Prelude.{NewLaw, HandInLaw, LastLaw, AskLaw, ReleaseLaw, ArriveLaw, SetLaw, WatchLaw};
-ghost use Rattle.book.specs.Prelude.{TakeLaw, CutLaw, MessageLaw, NewsLaw, NewsOrderLaw};
+ghost use Rattle.book.specs.Prelude.{TakeLaw, BookCutLaw, MessageLaw, NewsLaw, NewsOrderLaw};
 
 /// An empty book is told by the empty history.
 pub fn new_law()
@@ -50,7 +50,7 @@ pub fn take_law()
 
 /// A book that is told by a history is told by the same history after its journal was cut.
 pub fn cut_law()
-    ensures { CutLaw }
+    ensures { BookCutLaw }
 {}
 
 /// What has come for a processor lets it go on, and brings it what it lacks.

@@ -11,7 +11,7 @@
 //! that a book which a history tells is told after each call by that history with the call's events, and
 //! after a cut by the same history: the journal then holds what is left of it.
 //!
-//! **What is only tested**: (in `book_uses`): the texts of [`Refused`], the rows of the book's calls.
+//! **What is only tested**: (in `test_memory`): the texts of [`Refused`], the rows of the book's calls.
 #![tactic(auto)]
 
 mod awaited;

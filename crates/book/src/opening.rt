@@ -1,7 +1,7 @@
 //! What a book is made of before the first call.
 ghost use Rattle.std.specs.Prelude.{◌≡◌, ◌≤◌, IfOk, None, map, replicate};
 ghost use Rattle.std.specs.Option.{option_map};
-ghost use Rattle.lists.specs.Prelude.{most_processors};
+ghost use Rattle.base.specs.Prelude.{most_processors};
 ghost use Rattle.journal.specs.Prelude.{new_log};
 ghost use Rattle.interval.specs.Prelude.{Closings};
 ghost use Rattle.lockq.specs.Lock.{unheld};

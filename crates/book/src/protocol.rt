@@ -3,13 +3,13 @@ ghost use Rattle.std.specs.Prelude.{ℕ, ◌≡◌, ◌+◌, ◌^◌, ◌<◌, �
 ghost use Rattle.std.specs.Prelude.{slice_get, slice_set, slice_index};
 ghost use Rattle.std.specs.Arc.{arc_value};
 ghost use Rattle.std.specs.Option.{option_map};
-ghost use Rattle.lists.specs.Prelude.{most_in_block};
+ghost use Rattle.base.specs.Prelude.{most_in_block};
 ghost use Rattle.journal.specs.Prelude.{is_closing};
 ghost use Rattle.vtime.specs.Times.{tick};
 ghost use Rattle.interval.specs.Prelude.{HasRisingPages, KeepsBetween, pushed};
 ghost use Rattle.lockq.specs.Lock.{lock_at};
 ghost use Rattle.transit.specs.Prelude.{letter};
-ghost use Rattle.book.specs.Prelude.{kind_of, MayCall, IsOpen, MayBeSent, open_interval, closed_by, if_free};
+ghost use Rattle.book.specs.Prelude.{kind_of, MayCloseIdle, IsOpen, MayBeSent, open_interval, closed_by, if_free};
 ghost use Rattle.book.specs.Prelude.{grant_from, barrier_left, flag_joined, departures_to, time_of, Closes};
 
 mod going_on;
@@ -47,13 +47,13 @@ pub(crate) struct Protocol {
 
 impl Model for Protocol {
     ghost use Rattle.book.specs.State.{State};
-    ghost use Rattle.book.specs.Holding.{state_of, IsHeld};
+    ghost use Rattle.book.specs.Holding.{state_of, BookInvariant};
 
     ghost Value = { State };
 
     ghost view = { state_of };
 
-    ghost invariant = { IsHeld };
+    ghost invariant = { BookInvariant };
 }
 
 impl Protocol {
@@ -138,7 +138,7 @@ impl Protocol {
         block: &[Event],
         interval: Interval,
     ) -> Result<(), Refused>
-        requires call { MayCall self.old p block.now }
+        requires call { MayCloseIdle self.old p block.now }
         requires short { length block.now ≤ most_in_block }
         requires open { interval ≡ open_interval self.old p interval.records }
         requires rising { HasRisingPages interval.records }

@@ -1,6 +1,6 @@
 //! Room in the journal.
 ghost use Rattle.std.specs.Prelude.{◌≡◌, ◌+◌, ◌-◌, ◌^◌, ◌≤◌, ◌<◌, ◌++◌, All, IfErr, OnOk, length, Err};
-ghost use Rattle.lists.specs.Prelude.{most_events};
+ghost use Rattle.base.specs.Prelude.{most_events};
 ghost use Rattle.journal.specs.Prelude.{AddressInRange};
 ghost use Rattle.book.specs.Prelude.{IsFullAt, IsWantOfRoom};
 

@@ -2,7 +2,7 @@
 ghost use Rattle.std.specs.Prelude.{◌≡◌, ℕ, ◌<◌, ◌⊎◌, ◌↔◌, IsTrue, []};
 ghost use Rattle.std.specs.List.{position_from};
 ghost use Rattle.std.specs.Iterator.{YieldsFirst, item_count};
-ghost use Rattle.lists.specs.Prelude.{most_processors, Has};
+ghost use Rattle.base.specs.Prelude.{most_processors, Has};
 
 use std::marker::Model;
 use vtime::MOST_PROCESSORS;

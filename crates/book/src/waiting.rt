@@ -1,6 +1,6 @@
 //! Who waits, and who of them may go on.
 ghost use Rattle.std.specs.Prelude.{ℕ, ◌≡◌, ◌<◌, ◌↔◌, EachIndex, IfSome, IsTrue, Some, true, false, length, slice_get};
-ghost use Rattle.lists.specs.Prelude.{most_processors, Has};
+ghost use Rattle.base.specs.Prelude.{most_processors, Has};
 ghost use Rattle.book.specs.Prelude.{has_come, kind_of};
 ghost use Rattle.book.specs.declared.awaited.Awaited.{Awaited as AnAwaited};
 

@@ -7,10 +7,10 @@ use Rattle.book.specs.declared.refused.Refused.{Refused}
 use Rattle.book.specs.declared.refused.Refused.TheVariants.{OutOfRange, Waiting, BlockFull}
 use Rattle.book.specs.declared.refused.Refused.TheVariants as refused
 use Rattle.journal.specs.Sizes.{addresses}
-use Rattle.replicas.specs.Copies.{Copied, may_use}
-use Rattle.replicas.specs.Local.{Local}
-use Rattle.replicas.specs.Sound.{IsSound}
-use Rattle.cluster.specs.Refusals.{first_due, is_waiting, is_full, access_refusal}
+use Rattle.cluster.specs.Copies.Copies.{Copied, may_use}
+use Rattle.cluster.specs.Copies.Local.{Local}
+use Rattle.cluster.specs.Copies.Sound.{IsSound}
+use Rattle.cluster.specs.Refusals.{first_due, is_waiting, block_full, access_refusal}
 
 -- where there is no such page, the address is past the last
 over : (n w a : ℕ) → 0 < w → n ≤ a / w → n * w ≤ a
@@ -55,7 +55,7 @@ pub access_at : (was m : Local) (a : ℕ) (c : Copied) (r : Option Refused) → 
     → r ≡ first_due (
     (not (may_use c.page.access), refused.Invalid (a / was.sizes.words))
     ∷ (is_waiting m, Waiting)
-    ∷ (is_full m, BlockFull) ∷ [])
+    ∷ (block_full m, BlockFull) ∷ [])
     → r ≡ access_refusal m a
 access_at was m a c r same sound at why =
     let long = sound.copies.long in
@@ -66,4 +66,4 @@ access_at was m a c r same sound at why =
     (subst (λ (l : Local). r ≡ first_due (
     (not (may_use c.page.access), refused.Invalid (a / l.sizes.words))
     ∷ (is_waiting m, Waiting)
-    ∷ (is_full m, BlockFull) ∷ [])) same why)
+    ∷ (block_full m, BlockFull) ∷ [])) same why)

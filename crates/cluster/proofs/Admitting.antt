@@ -4,7 +4,7 @@ use Rattle.std.proofs.lemmas.Bool.{leb-false, not-false}
 use Rattle.journal.specs.declared.event.Kind.{Kind}
 use Rattle.journal.specs.declared.event.Kind.TheVariants.{Ask, Release, Arrive, Set, Watch}
 use Rattle.journal.specs.Events.{is_closing}
-use Rattle.replicas.specs.Local.{Local}
+use Rattle.cluster.specs.Copies.Local.{Local}
 use Rattle.cluster.specs.Refusals.{is_waiting, has_lock, flag_test, closing_test}
 use Rattle.cluster.specs.Closing.{MayMake}
 use Rattle.cluster.proofs.Refusing.{due_none, unawaited}

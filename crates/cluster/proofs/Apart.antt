@@ -7,23 +7,23 @@ use Rattle.std.proofs.lemmas.Option.{slice_get_within, slice_get-get_or}
 use Rattle.journal.specs.declared.event.Event.{Event}
 use Rattle.journal.specs.Sizes.{Sizes}
 use Rattle.journal.specs.Log.{Log}
-use Rattle.lists.proofs.Places.{push_cases}
+use Rattle.base.proofs.Places.{push_cases}
 use Rattle.turn.specs.Chairs.{lock, place, view, IsOutside, AreAll}
 use Rattle.turn.specs.declared.chair.ChairToken.{ChairToken}
 use Rattle.book.specs.State.{State}
-use Rattle.replicas.specs.Local.{Local}
+use Rattle.cluster.specs.Copies.Local.{Local}
 use Rattle.cluster.specs.declared.keeper.View.{View}
 use Rattle.cluster.specs.Clusters.{Shared}
-use Rattle.cluster.specs.Kept.{IsKept, Kept, GoesOn, all_cut, view_of}
-use Rattle.cluster.specs.Finishing.{AreAllOf, IsApart, AreApart, AreBlocksOf, IsFinishing, IsFinished}
+use Rattle.cluster.specs.Kept.{LockInvariant, Kept, ExtendsView, all_cut, view_of}
+use Rattle.cluster.specs.Finishing.{AreAllOf, IsTakenApart, AreTakenApart, AreBlocksOf, IsFinishing, IsFinished}
 use Rattle.cluster.proofs.FinishingCalls.{mapped_at}
 use Rattle.cluster.proofs.Histories.{faithful, journal_of}
 use Rattle.cluster.proofs.Sums.{same_sums}
 
 -- one more is taken apart
 pub apart_more : (ms : List Local) (cs : List (ChairToken State View)) (bs : List (List Event)) (m : Local)
-    (c : ChairToken State View) (b : List Event) → AreApart ms cs bs → IsApart m c b
-    → AreApart (ms ++ m ∷ []) (cs ++ c ∷ []) (bs ++ b ∷ [])
+    (c : ChairToken State View) (b : List Event) → AreTakenApart ms cs bs → IsTakenApart m c b
+    → AreTakenApart (ms ++ m ∷ []) (cs ++ c ∷ []) (bs ++ b ∷ [])
 apart_more ms cs bs m c b are one = record {
   chairs = let x = length_push cs c in let y = length_push ms m in let z = are.chairs in omega arith;
   blocks_are = let x = length_push bs b in let y = length_push ms m in let z = are.blocks_are in omega arith;
@@ -31,7 +31,7 @@ apart_more ms cs bs m c b are one = record {
 }
   where
     each : (p : ℕ) (n : Local) (d : ChairToken State View) (block : List Event) → slice_get (ms ++ m ∷ []) p ≡ Some n
-        → slice_get (cs ++ c ∷ []) p ≡ Some d → slice_get (bs ++ b ∷ []) p ≡ Some block → IsApart n d block
+        → slice_get (cs ++ c ∷ []) p ≡ Some d → slice_get (bs ++ b ∷ []) p ≡ Some block → IsTakenApart n d block
     each p n d block u v w = go (push_cases ms m p n u) (push_cases cs c p d v) (push_cases bs b p block w)
       where
         chairs : length cs ≡ length ms
@@ -42,23 +42,23 @@ apart_more ms cs bs m c b are one = record {
 
         go : ((p < length ms) × (slice_get ms p ≡ Some n)) ⊎ ((p ≡ length ms) × (m ≡ n))
             → ((p < length cs) × (slice_get cs p ≡ Some d)) ⊎ ((p ≡ length cs) × (c ≡ d))
-            → ((p < length bs) × (slice_get bs p ≡ Some block)) ⊎ ((p ≡ length bs) × (b ≡ block)) → IsApart n d block
+            → ((p < length bs) × (slice_get bs p ≡ Some block)) ⊎ ((p ≡ length bs) × (b ≡ block)) → IsTakenApart n d block
         go (inl x) (inl y) (inl z) = are.each p n d block x.1 y.1 z.1
         go (inr x) (inr y) (inr z) =
-            subst (λ (k : Local). IsApart k d block) x.1
-            (subst₂ (λ (k : ChairToken State View) (l : List Event). IsApart m k l) y.1 z.1 one)
+            subst (λ (k : Local). IsTakenApart k d block) x.1
+            (subst₂ (λ (k : ChairToken State View) (l : List Event). IsTakenApart m k l) y.1 z.1 one)
         go (inl x) (inr y) z = let less = x.0 in let same = y.0 in absurd (omega (arith, less, same, chairs))
         go (inl x) (inl y) (inr z) = let less = x.0 in let same = z.0 in absurd (omega (arith, less, same, blocks))
         go (inr x) (inl y) z = let less = y.0 in let same = x.0 in absurd (omega (arith, less, same, chairs))
         go (inr x) (inr y) (inl z) = let less = z.0 in let same = x.0 in absurd (omega (arith, less, same, blocks))
 
 module _ (c : Shared) (ms : List Local) (cs : List (ChairToken State View)) (bs : List (List Event))
-    (all : AreAllOf c ms) (are : AreApart ms cs bs) where
+    (all : AreAllOf c ms) (are : AreTakenApart ms cs bs) where
   -- the parts of the processor at this place
   record Parts (p : ℕ) (m : Local) : Type 0 where
     pub chair : ChairToken State View
     pub at : slice_get cs p ≡ Some chair
-    pub apart : (block : List Event) → slice_get bs p ≡ Some block → IsApart m chair block
+    pub apart : (block : List Event) → slice_get bs p ≡ Some block → IsTakenApart m chair block
     pub block : List Event
     pub block_at : slice_get bs p ≡ Some block
 
@@ -110,11 +110,11 @@ module _ (c : Shared) (ms : List Local) (cs : List (ChairToken State View)) (bs 
   }
 
   module _ (b : State) (some : 0 < c.sizes.processors) (kept : Kept b (map view cs)) where
-    goes : (p : ℕ) (m : Local) → slice_get ms p ≡ Some m → GoesOn kept.0 kept.1 p (view_of m.sizes m.seen m.cut m.own_cut)
+    goes : (p : ℕ) (m : Local) → slice_get ms p ≡ Some m → ExtendsView kept.0 kept.1 p (view_of m.sizes m.seen m.cut m.own_cut)
     goes p m at =
         let x = parts p m at in
         let a = x.apart x.block x.block_at in
-        let P : View → Type 0 = λ v. GoesOn kept.0 kept.1 p v in
+        let P : View → Type 0 = λ v. ExtendsView kept.0 kept.1 p v in
         subst P a.chair.view_is (kept.2.each p (view x.chair) (mapped_at view cs p x.chair x.at))
 
     sizes_are : kept.0 ≡ c.sizes
@@ -123,8 +123,8 @@ module _ (c : Shared) (ms : List Local) (cs : List (ChairToken State View)) (bs 
         let m = spare_local ms 0 (omega (arith, long, some)) in
         sym (goes 0 m.0 m.1).shape ∙ (all.each 0 m.0 m.1).sizes
 
-    start : IsKept c.sizes kept.1 b (map view cs)
-    start = let P : Sizes → Type 0 = λ s. IsKept s kept.1 b (map view cs) in subst P sizes_are kept.2
+    start : LockInvariant c.sizes kept.1 b (map view cs)
+    start = let P : Sizes → Type 0 = λ s. LockInvariant s kept.1 b (map view cs) in subst P sizes_are kept.2
 
     -- what the chairs' own cuts took off, the processors' did
     own_cuts : all_cut (map view cs) ≡ sum_by (λ (m : Local). m.own_cut) ms

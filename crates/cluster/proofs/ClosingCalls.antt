@@ -9,10 +9,10 @@ use Rattle.journal.specs.Did.{event, did}
 use Rattle.journal.specs.Waits.{awaited}
 use Rattle.journal.specs.Events.{is_closing, part}
 use Rattle.journal.specs.WellFormed.{WellFormed, Holds, KindInRange}
-use Rattle.lists.specs.Limits.{most_events}
+use Rattle.base.specs.Limits.{most_events}
 use Rattle.page.specs.Changes.{Changes}
 use Rattle.book.specs.State.{State}
-use Rattle.book.specs.Told.{IsTold}
+use Rattle.book.specs.Told.{Represents}
 use Rattle.book.specs.Waiting.{HasClosed}
 use Rattle.book.specs.Transitions.{handed_in}
 use Rattle.book.specs.declared.refused.Refused.{Refused}
@@ -20,13 +20,13 @@ use Rattle.book.specs.Refusals.{IsFullAt}
 use Rattle.book.proofs.Keeps.Whole.{ask_law, release_law, arrive_law, set_law, watch_law}
 use Rattle.turn.specs.declared.chair.ChairToken.{ChairToken}
 use Rattle.vtime.specs.Times.{tick}
-use Rattle.replicas.specs.Local.{Local, calls}
-use Rattle.replicas.specs.Records.{AreHarvests, DirtyAreMarked}
-use Rattle.replicas.specs.Sound.{IsSound, most_seen}
-use Rattle.replicas.specs.Steps.{found, handed, closed, cleaned, held_after}
-use Rattle.replicas.proofs.Calls.{called_sound}
-use Rattle.replicas.proofs.Locks.{held_mark}
-use Rattle.replicas.proofs.Records.{harvest_contents}
+use Rattle.cluster.specs.Copies.Local.{Local, calls}
+use Rattle.cluster.specs.Copies.Records.{AreHarvests, DirtyAreMarked}
+use Rattle.cluster.specs.Copies.Sound.{IsSound, most_seen}
+use Rattle.cluster.specs.Copies.Steps.{found, handed, interval_closed, cleaned, held_after}
+use Rattle.cluster.proofs.copies.Calls.{called_sound}
+use Rattle.cluster.proofs.copies.Locks.{held_mark}
+use Rattle.cluster.proofs.copies.Records.{harvest_contents}
 use Rattle.cluster.specs.declared.keeper.View.{View}
 use Rattle.cluster.specs.Refusals.{flush_refusal}
 use Rattle.cluster.specs.Calls.{IsCall, Nothing}
@@ -63,14 +63,14 @@ module _ (m : Local) (sound : IsSound m) (b : State) (f : Finds m b) where
 
   -- and is told then by one event more
   pub told_closed : (k : Kind) (records : List Changes) → MayMake m k → AreHarvests m.copies records
-      → IsTold m.sizes (did (h ++ m.block) m.number k) (book_closed k (handed_in b m.block) m.number records)
+      → Represents m.sizes (did (h ++ m.block) m.number k) (book_closed k (handed_in b m.block) m.number records)
   told_closed k records may are = go k may.closes may.in_range may.held
     where
-      told : IsTold m.sizes h b
+      told : Represents m.sizes h b
       told = f.kept.told
 
       go : (k : Kind) → is_closing k ≡ true → KindInRange m.sizes k → MayHold m.held k
-          → IsTold m.sizes (did (h ++ m.block) m.number k) (book_closed k (handed_in b m.block) m.number records)
+          → Represents m.sizes (did (h ++ m.block) m.number k) (book_closed k (handed_in b m.block) m.number records)
       go (Ask l) closes range held =
           ask_law m.sizes h m.block b m.number l records told (may_hand_in m sound b f may.idle)
           (harvest_contents (found m f.rest) (here_sound m sound b f) records are) range (lacks l range held)
@@ -155,7 +155,7 @@ module _ (m : Local) (sound : IsSound m) (b : State) (k : Kind) (may : MayMake m
   call_of_close (Err e) block new same ok err full = ([], rw err (call_of_nothing m b))
 
 -- the closing event is one call more
-calls_closed : (m : Local) (k : Kind) → IsSound m → calls (closed (handed m) k) ≡ calls m ++ event m.number k ∷ []
+calls_closed : (m : Local) (k : Kind) → IsSound m → calls (interval_closed (handed m) k) ≡ calls m ++ event m.number k ∷ []
 calls_closed m k sound =
     rw (append-nil, filter-append, eq-eqb m.number m.number refl) (ap (λ (xs : List Event). xs ++ event m.number k
     ∷ []) (sym (append-nil (part (m.seen ++ m.block) m.number)) ∙ calls_handed m sound))
@@ -214,11 +214,11 @@ module _ {m : Local} {b : State} {k : Kind} {records : List Changes} {after : Ch
   moved : history ≡ did ((m.seen ++ v.finds.rest) ++ m.block) m.number k
   moved = sym (append_assoc (m.seen ++ v.finds.rest) m.block (event m.number k ∷ []))
 
-  same : closed_now ≡ closed (handed then) k
+  same : closed_now ≡ interval_closed (handed then) k
   same =
       now_is v (m.block ++ event m.number k ∷ []) call closed_now refl
       (journal_closed k (handed_in b m.block) m.number records).1
-      ∙ ap (λ (h : List Event). record (closed (handed then) k) { seen = h }) moved
+      ∙ ap (λ (h : List Event). record (interval_closed (handed then) k) { seen = h }) moved
 
   -- it is as it has to be
   pub closed_good : IsSound closed_now

@@ -23,11 +23,11 @@ use Rattle.interval.specs.Intervals.{SentRecord}
 use Rattle.page.specs.declared.page.Access.{Access}
 use Rattle.page.specs.declared.page.Access.TheVariants.{Valid, Invalid}
 use Rattle.book.specs.News.{missing_of}
-use Rattle.replicas.specs.Copies.{Copied, IsReplica}
-use Rattle.replicas.specs.Local.{Local}
-use Rattle.replicas.specs.Sound.{IsSound}
+use Rattle.cluster.specs.Copies.Copies.{Copied, IsReplica}
+use Rattle.cluster.specs.Copies.Local.{Local}
+use Rattle.cluster.specs.Copies.Sound.{IsSound}
 use Rattle.cluster.specs.Kept.{view_of}
-use Rattle.cluster.specs.Covers.{Allows, IsCovered, Covers}
+use Rattle.cluster.specs.Covers.{LockAllows, IsCovered, HasCoverage}
 
 -- events of others have no part of p
 pub part_away : (es : List Event) (p : ℕ) → ((k : ℕ) (e : Event) → At es k e → e.processor ≢ p) → part es p ≡ []
@@ -108,10 +108,10 @@ module _ (m : Local) (sound : IsSound m) where
     }
 
   -- every history that the lock allows covers the processor
-  pub covers : Covers m
+  pub covers : HasCoverage m
   covers = record { each = each }
     where
-      each : (h : List Event) → Allows m h → IsCovered m h
+      each : (h : List Event) → LockAllows m h → IsCovered m h
       each h allows =
           let goes = allows.kept.each m.number (view_of m.sizes m.seen m.cut m.own_cut) allows.mine in
           let P : List Event → Type 0 = λ es. WellFormed m.sizes es in

@@ -20,18 +20,18 @@ use Rattle.cluster.specs.Laws.{FromBaseLaw, LeftLaw}
 use Rattle.journal.specs.Loads.{Explained}
 use Rattle.book.specs.Cutting.{WasBookCut, refused_by}
 use Rattle.book.specs.State.{State}
-use Rattle.book.specs.Told.{IsTold}
+use Rattle.book.specs.Told.{Represents}
 use Rattle.book.specs.declared.refused.Refused.{Refused}
 use Rattle.book.specs.declared.refused.Refused.TheVariants.{SeatSpent}
 use Rattle.book.proofs.Keeps.Whole.{cut_law}
 use Rattle.turn.specs.declared.chair.ChairToken.{ChairToken}
-use Rattle.replicas.specs.Local.{Local, calls}
-use Rattle.replicas.specs.Sound.{IsSound}
+use Rattle.cluster.specs.Copies.Local.{Local, calls}
+use Rattle.cluster.specs.Copies.Sound.{IsSound}
 use Rattle.cluster.specs.declared.keeper.View.{View}
 use Rattle.cluster.specs.Cutting.{IsCuttingCall, IsUncut, MayCutOff, WasCutOff}
 use Rattle.cluster.specs.Entering.{IsCallOf, entered}
 use Rattle.cluster.specs.Kept.{view_of}
-use Rattle.replicas.proofs.Entering as entering
+use Rattle.cluster.proofs.copies.Entering as entering
 use Rattle.cluster.specs.Refusals.{flush_refusal}
 use Rattle.cluster.proofs.Covering.{covers}
 use Rattle.cluster.proofs.Histories.{taken_is}
@@ -78,7 +78,7 @@ pub call_of_cutting : {E : Type 0} (m : Local) (b new : State) (r : Result (Unit
 call_of_cutting m b new (Ok a) ok err = ([], call_of_cut m b new ok)
 call_of_cutting m b new (Err e) ok err = ([], rw err (call_of_nothing m b))
 
-module _ (s : Sizes) (h : List Event) (b : State) (told : IsTold s h b) where
+module _ (s : Sizes) (h : List Event) (b : State) (told : Represents s h b) where
   abbrev cut : ℕ
   cut = b.journal.base.cut
 

@@ -19,29 +19,29 @@ use Rattle.journal.proofs.Copies.OpenBlocks.{with_page_same, with_page_other}
 use Rattle.journal.proofs.Copies.Pages.{stale_fetched, stale_counted, answers_fetched}
 use Rattle.journal.proofs.Intervals.Contents.{content_within}
 use Rattle.journal.proofs.Intervals.Dirty.{dirty_push, dirty_replaced}
-use Rattle.lists.specs.Places.{Has, InOrder}
-use Rattle.lists.specs.Records.{records_applied}
-use Rattle.lists.proofs.Joined.{has-map, in_order_tail, in_order-nil}
-use Rattle.lists.proofs.Places.{count_by-within}
-use Rattle.lists.proofs.Records.{length-records_applied}
-use Rattle.lists.proofs.Sets.{slice_get-set_found, slice_get-set_other}
+use Rattle.base.specs.Places.{Has, InOrder}
+use Rattle.base.specs.Records.{records_applied}
+use Rattle.base.proofs.Joined.{has-map, in_order_tail, in_order-nil}
+use Rattle.base.proofs.Places.{count_by-within}
+use Rattle.base.proofs.Records.{length-records_applied}
+use Rattle.base.proofs.Sets.{slice_get-set_found, slice_get-set_other}
 use Rattle.interval.specs.Intervals.{SentRecord}
 use Rattle.page.specs.declared.page.Access.TheVariants.{Invalid}
 use Rattle.page.specs.Contents.{IsClean}
-use Rattle.replicas.specs.declared.replica.Counts.{Counts}
+use Rattle.cluster.specs.declared.copies.page_copy.MissingCounts.{MissingCounts}
 use Rattle.book.specs.News.{missing_of}
-use Rattle.replicas.specs.Copies.{Copied, words_of, fetched, IsReplica, IsOwner, AllFit}
-use Rattle.replicas.specs.Counts.{AreCounts, AreCountable}
-use Rattle.replicas.specs.Local.{Local}
+use Rattle.cluster.specs.Copies.Copies.{Copied, record_words, fetched, IsReplica, IsOwner, AllFit}
+use Rattle.cluster.specs.Copies.Counts.{AreCounts, AreCountable}
+use Rattle.cluster.specs.Copies.Local.{Local}
 use Rattle.cluster.specs.Accesses.{AreNewest, fetched_at}
 use Rattle.cluster.specs.Refusals.{fetch_refusal}
-use Rattle.replicas.specs.Sound.{IsSound}
+use Rattle.cluster.specs.Copies.Sound.{IsSound}
 use Rattle.cluster.proofs.Newest.{newest}
 use Rattle.cluster.proofs.Stored.{stored_few}
 use Rattle.journal.proofs.Missing.Fetches.{words_counted}
-use Rattle.replicas.proofs.Replicas.{replica_long, replica_pushed}
+use Rattle.cluster.proofs.copies.Replicas.{replica_long, replica_pushed}
 use Rattle.cluster.proofs.Refusing.{MayFetch, may_fetch, stale_copy}
-use Rattle.replicas.proofs.Steps.{item_at}
+use Rattle.cluster.proofs.copies.Steps.{item_at}
 use Rattle.cluster.proofs.Noting.{noted_sound, valid_is_not_stale}
 
 -- rising numbers from b on and below n are few
@@ -81,7 +81,7 @@ module _ (m : Local) (sound : IsSound m) (n : ℕ) (c : Copied) (at : slice_get 
     short =
         let few = sound.sizes.words in
         let all =
-        rising_few (λ (w : ℕ × ℕ). w.0) (words_of x) 0 m.sizes.words (omega arith) content.sums.rising (λ w there.
+        rising_few (λ (w : ℕ × ℕ). w.0) (record_words x) 0 m.sizes.words (omega arith) content.sums.rising (λ w there.
         (omega arith, within w there)) in
         omega arith;
   }
@@ -89,12 +89,12 @@ module _ (m : Local) (sound : IsSound m) (n : ℕ) (c : Copied) (at : slice_get 
       placed : IsPlaced m.seen x.notice.owner x.notice.number x.place
       placed = stale.lacks.placed (missing_of x) (missing_here x h)
 
-      content : IsContent m.sizes m.seen x.notice.owner x.notice.number n (words_of x)
+      content : IsContent m.sizes m.seen x.notice.owner x.notice.number n (record_words x)
       content = stale.lacks.contents (missing_of x) (missing_here x h)
 
-      within : (w : ℕ × ℕ) → Has (words_of x) w → w.0 < m.sizes.words
+      within : (w : ℕ × ℕ) → Has (record_words x) w → w.0 < m.sizes.words
       within w there =
-          content_within m.sizes m.seen x.notice.owner x.notice.number n w.0 w.1 (words_of x) sound.sizes.some_words
+          content_within m.sizes m.seen x.notice.owner x.notice.number n w.0 w.1 (record_words x) sound.sizes.some_words
           content there
 
   -- they are few, since each is another closed interval
@@ -119,15 +119,15 @@ module _ (m : Local) (sound : IsSound m) (n : ℕ) (c : Copied) (at : slice_get 
           omega arith
 
   -- the records' words, as the journal has them
-  words_same : map (λ (x : Missing). x.words) (map missing_of c.missing) ≡ map words_of c.missing
+  words_same : map (λ (x : Missing). x.words) (map missing_of c.missing) ≡ map record_words c.missing
   words_same = map-map (λ (x : Missing). x.words) missing_of c.missing
 
   sums_same : sum_by (λ (x : Missing). length x.words) (map missing_of c.missing)
-      ≡ sum_by (λ (x : SentRecord). length (words_of x)) c.missing
+      ≡ sum_by (λ (x : SentRecord). length (record_words x)) c.missing
   sums_same =
       sym (sum-map (λ (x : Missing). length x.words) (map missing_of c.missing))
       ∙ ap sum (map-map (λ (x : Missing). length x.words) missing_of c.missing)
-      ∙ sum-map (λ (x : SentRecord). length (words_of x)) c.missing
+      ∙ sum-map (λ (x : SentRecord). length (record_words x)) c.missing
 
   -- and so are their words, since each is another store of what was seen
   pub missing_countable : AreCountable c.missing
@@ -149,7 +149,7 @@ module _ (m : Local) (sound : IsSound m) (n : ℕ) (c : Copied) (at : slice_get 
   )
 
   abbrev new : List ℕ
-  new = records_applied c.page.words (map words_of c.missing)
+  new = records_applied c.page.words (map record_words c.missing)
 
   -- each word with stores in the gap has the newest of them
   pub fetched_newest : AreNewest m.sizes m.seen m.number n c.page.words (fetched c).page.words
@@ -158,7 +158,7 @@ module _ (m : Local) (sound : IsSound m) (n : ℕ) (c : Copied) (at : slice_get 
       (newest m.sizes m.seen m.number n (map missing_of c.missing) stale.lacks (sound.copies.each n c at).order
       c.page.words)
 
-  module _ (k : Counts) (counts : AreCounts c.missing k) (free : fetch_refusal m n ≡ None) where
+  module _ (k : MissingCounts) (counts : AreCounts c.missing k) (free : fetch_refusal m n ≡ None) where
     abbrev e : Event
     e = event m.number (Fetch k.writers n k.records k.words)
 
@@ -195,7 +195,7 @@ module _ (m : Local) (sound : IsSound m) (n : ℕ) (c : Copied) (at : slice_get 
         let P : List Bool → Type 0 = λ ms. IsDirty m.sizes ((m.seen ++ m.block) ++ e ∷ []) m.number n c.page.words ms in
         rw (clean, ← append_assoc m.seen m.block (e ∷ []))
         (dirty_replaced m.sizes ((m.seen ++ m.block) ++ e ∷ []) m.number n c.page.words new sound.sizes.some_words
-        (length-records_applied c.page.words (map words_of c.missing) ∙ long) (subst P clean pushed))
+        (length-records_applied c.page.words (map record_words c.missing) ∙ long) (subst P clean pushed))
 
     here : IsReplica m.sizes m.seen (m.block ++ e ∷ []) m.number n new (fetched c)
     here = record {
@@ -252,7 +252,7 @@ module _ (m : Local) (sound : IsSound m) (n : ℕ) (c : Copied) (at : slice_get 
               let is : fetched c ≡ x = slice_get-set_found m.copies n (fetched c) x (subst P same found) in
               let clean = ((sound.copies.each n c at).stale invalid).2 in
               subst (λ (y : Copied). IsClean y.page) is (clean ∙ ap (λ j. replicate j false)
-              (sym (length-records_applied c.page.words (map words_of c.missing)))))
+              (sym (length-records_applied c.page.words (map record_words c.missing)))))
           | inr other ↦ sound.clean i x (sym (slice_get-set_other m.copies n i (fetched c) other) ∙ found) unmarked
         ]
 
@@ -267,7 +267,7 @@ stale_read was m n x same free read sound =
     (at, stale_copy m n x free at)
 
 -- the parts of a processor after a fetch
-pub fetch_done : (was m : Local) (n : ℕ) (x y : Copied) (k : Counts) (block : List Event) → was ≡ m → y ≡ fetched x
+pub fetch_done : (was m : Local) (n : ℕ) (x y : Copied) (k : MissingCounts) (block : List Event) → was ≡ m → y ≡ fetched x
     → block ≡ was.block ++ event was.number (Fetch k.writers n k.records k.words) ∷ []
     → record was { block = block; copies = slice_set was.copies n y } ≡ fetched_at m n x k
 fetch_done was m n x y k block same y_is block_is =

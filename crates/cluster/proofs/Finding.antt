@@ -8,12 +8,12 @@ use Rattle.journal.specs.Pasts.{InPast}
 use Rattle.journal.proofs.Times.Times.{time_unique}
 use Rattle.book.specs.State.{State, time_of}
 use Rattle.book.specs.Stamps.{IsStamp, IsAwaited}
-use Rattle.book.specs.Calls.{MayGive, MayHandIn, MayFlush, MayCall}
+use Rattle.book.specs.Calls.{MayGive, MayHandIn, MayFlush, MayCloseIdle}
 use Rattle.book.specs.Told.{IsToldBySome}
-use Rattle.replicas.specs.Local.{Local}
-use Rattle.replicas.specs.Sound.{IsSound}
-use Rattle.replicas.specs.Steps.{found}
-use Rattle.replicas.proofs.Entering.{found_sound}
+use Rattle.cluster.specs.Copies.Local.{Local}
+use Rattle.cluster.specs.Copies.Sound.{IsSound}
+use Rattle.cluster.specs.Copies.Steps.{found}
+use Rattle.cluster.proofs.copies.Entering.{found_sound}
 use Rattle.cluster.specs.Entering.{Finds}
 use Rattle.cluster.proofs.Histories.{told_few}
 
@@ -75,5 +75,5 @@ module _ (m : Local) (sound : IsSound m) (b : State) (f : Finds m b) where
     pub may_hand_in : MayHandIn m.sizes b m.number m.block
     may_hand_in = record { idle = awaits_found ∙ ap (λ (w : Option Kind). Some w) idle; inner = sound.inner }
 
-    abbrev pub may_call : MayCall b m.number m.block
+    abbrev pub may_call : MayCloseIdle b m.number m.block
     may_call = record { by = told_by_some; hands_in = may_hand_in }

@@ -9,14 +9,14 @@ use Rattle.journal.specs.declared.event.Event.{Event}
 use Rattle.journal.specs.declared.event.Kind.{Kind}
 use Rattle.journal.specs.Sizes.{Sizes}
 use Rattle.journal.specs.Events.{At}
-use Rattle.lists.proofs.Places.{append_cases, take-suc_at}
+use Rattle.base.proofs.Places.{append_cases, take-suc_at}
 use Rattle.book.specs.State.{State}
 use Rattle.book.specs.Calls.{MayFlush, MayGive}
 use Rattle.book.specs.Transitions.{handed_last}
 use Rattle.book.proofs.Keeps.Whole.{last_law}
-use Rattle.replicas.specs.Local.{Local}
-use Rattle.replicas.specs.Sound.{IsSound}
-use Rattle.replicas.proofs.Entering.{awaited_others}
+use Rattle.cluster.specs.Copies.Local.{Local}
+use Rattle.cluster.specs.Copies.Sound.{IsSound}
+use Rattle.cluster.proofs.copies.Entering.{awaited_others}
 use Rattle.cluster.specs.Covers.{IsCovered}
 use Rattle.cluster.specs.Finishing.{HasCallsOf, IsToCome, IsFinishing, AreBlocksOf}
 use Rattle.cluster.proofs.Covering.{covered_on, part_away}

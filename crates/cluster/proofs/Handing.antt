@@ -5,18 +5,18 @@ use Rattle.std.proofs.lemmas.List.Elements.{filter-append}
 use Rattle.journal.specs.declared.event.Event.{Event}
 use Rattle.journal.specs.Events.{At, part}
 use Rattle.journal.specs.Log.{Log}
-use Rattle.lists.specs.Limits.{most_events}
+use Rattle.base.specs.Limits.{most_events}
 use Rattle.book.specs.State.{State}
 use Rattle.book.specs.Transitions.{handed_in}
 use Rattle.book.specs.declared.refused.Refused.{Refused}
 use Rattle.book.specs.declared.refused.Refused.TheVariants.{JournalFull}
 use Rattle.book.specs.Refusals.{IsFullAt}
-use Rattle.book.specs.Told.{IsTold}
+use Rattle.book.specs.Told.{Represents}
 use Rattle.turn.specs.declared.chair.ChairToken.{ChairToken}
-use Rattle.replicas.specs.Steps.{handed}
-use Rattle.replicas.proofs.HandingIn.{handed_sound}
-use Rattle.replicas.specs.Local.{Local, calls}
-use Rattle.replicas.specs.Sound.{IsSound}
+use Rattle.cluster.specs.Copies.Steps.{handed}
+use Rattle.cluster.proofs.copies.HandingIn.{handed_sound}
+use Rattle.cluster.specs.Copies.Local.{Local, calls}
+use Rattle.cluster.specs.Copies.Sound.{IsSound}
 use Rattle.cluster.specs.declared.keeper.View.{View}
 use Rattle.cluster.specs.Refusals.{flush_refusal}
 use Rattle.cluster.specs.Calls.{IsCall, IsHanded, Nothing}
@@ -89,7 +89,7 @@ module _ {m : Local} {b new : State} {after : ChairToken State View} (t : Handed
   call : IsCallOf m b m.block (handed_in b m.block)
   call = call_of_block m v.sound b t.fits
 
-  told : IsTold m.sizes history (handed_in b m.block)
+  told : Represents m.sizes history (handed_in b m.block)
   told = call.told v.finds
 
   same : handed_now ≡ handed then

@@ -9,11 +9,11 @@ use Rattle.journal.specs.WellFormed.{WellFormed}
 use Rattle.journal.specs.Loads.{Explained}
 use Rattle.journal.specs.Counted.{AreCounted}
 use Rattle.journal.specs.Log.{Log, HoldsRest}
-use Rattle.lists.specs.Limits.{most_events}
-use Rattle.replicas.specs.Sound.{most_seen}
+use Rattle.base.specs.Limits.{most_events}
+use Rattle.cluster.specs.Copies.Sound.{most_seen}
 use Rattle.journal.proofs.Flat.FlatMemory.{flat_up_to}
 use Rattle.book.specs.State.{State}
-use Rattle.book.specs.Told.{IsTold}
+use Rattle.book.specs.Told.{Represents}
 use Rattle.cluster.specs.Histories.{IsFaithful, IsJournalOf}
 
 -- a history that is well formed and explained, and whose fetches count their gaps
@@ -28,7 +28,7 @@ faithful s h well explained counted = record {
 }
 
 -- a history that tells a book has the events cut off, and the journal's
-pub told_long : (s : Sizes) (h : List Event) (b : State) → IsTold s h b
+pub told_long : (s : Sizes) (h : List Event) (b : State) → Represents s h b
     → length h ≡ b.journal.base.cut + length b.journal.events
 told_long s h b told =
     let long = ap length told.holds.rest.history in
@@ -37,12 +37,12 @@ told_long s h b told =
     omega arith
 
 -- so it is short
-pub told_few : (s : Sizes) (h : List Event) (b : State) → IsTold s h b → length b.journal.events ≤ most_events
+pub told_few : (s : Sizes) (h : List Event) (b : State) → Represents s h b → length b.journal.events ≤ most_events
     → length h ≤ most_seen
 told_few s h b told few = let long = told_long s h b told in let cut = told.holds.rest.few in omega arith
 
 -- a journal like that of a book that the history tells
-pub journal_of : (s : Sizes) (h : List Event) (b : State) (j : Log) (told : IsTold s h b)
+pub journal_of : (s : Sizes) (h : List Event) (b : State) (j : Log) (told : Represents s h b)
     → j ≡ record b.journal { room = j.room } → IsJournalOf s told.holds.taken h j
 journal_of s h b j told same = record {
   processors = ap (λ (x : Log). x.processors) same ∙ told.sizes.processors;
@@ -55,7 +55,7 @@ journal_of s h b j told same = record {
 }
 
 -- what was cut off is its beginning
-pub taken_is : (s : Sizes) (h : List Event) (b : State) (told : IsTold s h b)
+pub taken_is : (s : Sizes) (h : List Event) (b : State) (told : Represents s h b)
     → told.holds.taken ≡ take b.journal.base.cut h
 taken_is s h b told =
     let cut = told.holds.rest.base.after.cut in

@@ -15,17 +15,17 @@ use Rattle.journal.specs.Loads.{Explained}
 use Rattle.journal.specs.Counted.{AreCounted}
 use Rattle.journal.proofs.Copies.Loads.{explained_push}
 use Rattle.journal.proofs.Missing.Counted.{counted_push}
-use Rattle.lists.specs.Limits.{most_events}
-use Rattle.lists.proofs.Places.{append_cases, push_cases}
-use Rattle.lists.proofs.Sets.{slice_get-set_found, slice_get-set_other, slice_get-set_same}
+use Rattle.base.specs.Limits.{most_events}
+use Rattle.base.proofs.Places.{append_cases, push_cases}
+use Rattle.base.proofs.Sets.{slice_get-set_found, slice_get-set_other, slice_get-set_same}
 use Rattle.book.specs.State.{State}
-use Rattle.book.specs.Told.{IsTold}
+use Rattle.book.specs.Told.{Represents}
 use Rattle.book.specs.Transitions.{handed_in}
 use Rattle.book.proofs.Keeps.Whole.{hand_in_law}
-use Rattle.replicas.specs.Local.{Local}
-use Rattle.replicas.specs.Sound.{IsSound}
+use Rattle.cluster.specs.Copies.Local.{Local}
+use Rattle.cluster.specs.Copies.Sound.{IsSound}
 use Rattle.cluster.specs.declared.keeper.View.{View}
-use Rattle.cluster.specs.Kept.{GoesOn, IsKept, Kept, Sees, added, view_of}
+use Rattle.cluster.specs.Kept.{ExtendsView, LockInvariant, Kept, Sees, added, view_of}
 use Rattle.cluster.specs.Covers.{IsCovered}
 use Rattle.cluster.specs.Entering.{Finds, IsCallOf}
 use Rattle.cluster.specs.Laws.{SeenLaw}
@@ -33,17 +33,17 @@ use Rattle.cluster.proofs.Covering.{covered_on}
 use Rattle.cluster.proofs.Finding.{may_give}
 use Rattle.cluster.proofs.Sums.{sum_by-set_at}
 
-module _ (s : Sizes) (h : List Event) (b : State) (views : List View) (kept : IsKept s h b views) (p : ℕ)
+module _ (s : Sizes) (h : List Event) (b : State) (views : List View) (kept : LockInvariant s h b views) (p : ℕ)
     (es : List Event) (mine : (k : ℕ) (e : Event) → At es k e → e.processor ≡ p) (cut own_cut : ℕ) where
   -- p has seen all, and for the others it is one of those that went on
   goes_on : (q : ℕ) (x : View) → slice_get (slice_set views p (view_of s (h ++ es) cut own_cut)) q ≡ Some x
-      → GoesOn s (h ++ es) q x
+      → ExtendsView s (h ++ es) q x
   goes_on q x found = elim (cases_eq q p) [
     | inl same ↦
         (let P : ℕ → Type 0 = λ k. slice_get (slice_set views p (view_of s (h ++ es) cut own_cut)) k ≡ Some x in
         let is : view_of s (h ++ es) cut own_cut ≡ x =
         slice_get-set_found views p (view_of s (h ++ es) cut own_cut) x (subst P same found) in
-        subst (GoesOn s (h ++ es) q) is (record {
+        subst (ExtendsView s (h ++ es) q) is (record {
           shape = refl;
           rest = [];
           begins = sym (append-nil (h ++ es));
@@ -76,11 +76,11 @@ module _ (s : Sizes) (h : List Event) (b : State) (views : List View) (kept : Is
         omega arith)
   ]
 
-  pub kept_on : (x : View) → slice_get views p ≡ Some x → (c : State) → IsTold s (h ++ es) c → Explained (h ++ es)
+  pub kept_on : (x : View) → slice_get views p ≡ Some x → (c : State) → Represents s (h ++ es) c → Explained (h ++ es)
       → AreCounted s (h ++ es) → length c.journal.events ≤ most_events → c.journal.room ≡ b.journal.room
       → b.journal.base.cut ≤ c.journal.base.cut → cut ≤ c.journal.base.cut
       → own_cut + b.journal.base.cut ≡ x.own_cut + c.journal.base.cut
-      → IsKept s (h ++ es) c (slice_set views p (view_of s (h ++ es) cut own_cut))
+      → LockInvariant s (h ++ es) c (slice_set views p (view_of s (h ++ es) cut own_cut))
   kept_on x at c told explained counted few room more mine own = record {
     told = told;
     explained = explained;
@@ -107,8 +107,8 @@ finds m b views at fact =
     let s = fact.0 in
     let h = fact.1 in
     let goes = fact.2.each m.number (view_of m.sizes m.seen m.cut m.own_cut) at in
-    let P : Sizes → Type 0 = λ z. IsKept z h b views in
-    let Q : List Event → Type 0 = λ xs. IsKept m.sizes xs b views in
+    let P : Sizes → Type 0 = λ z. LockInvariant z h b views in
+    let Q : List Event → Type 0 = λ xs. LockInvariant m.sizes xs b views in
     record {
       rest = goes.rest;
       views = views;
@@ -119,7 +119,7 @@ finds m b views at fact =
 
 -- the call keeps the fact
 pub call_kept : (m : Local) (old : State) (es : List Event) (new : State) (call : IsCallOf m old es new)
-    (f : Finds m old) → IsKept m.sizes ((m.seen ++ f.rest) ++ es) new
+    (f : Finds m old) → LockInvariant m.sizes ((m.seen ++ f.rest) ++ es) new
     (slice_set f.views m.number
     (view_of m.sizes ((m.seen ++ f.rest) ++ es) new.journal.base.cut (m.own_cut + call.taken)))
 call_kept m old es new call f =
@@ -212,7 +212,7 @@ module _ (m : Local) (sound : IsSound m) (b : State) where
       → length b.journal.events + length m.block + 1 ≤ most_events
       → new.journal.events ≡ b.journal.events ++ (m.block ++ event m.number k ∷ [])
       → new.journal.room ≡ b.journal.room → new.journal.base.cut ≡ b.journal.base.cut
-      → ((f : Finds m b) → IsTold m.sizes (did ((m.seen ++ f.rest) ++ m.block) m.number k) new)
+      → ((f : Finds m b) → Represents m.sizes (did ((m.seen ++ f.rest) ++ m.block) m.number k) new)
       → IsCallOf m b (m.block ++ event m.number k ∷ []) new
   call_of_event k new no_load no_fetch fits goes room cut told = record {
     mine = λ i e at. elim (push_cases m.block (event m.number k) i e at) [
@@ -242,7 +242,7 @@ module _ (m : Local) (sound : IsSound m) (b : State) where
       → ((w n r d : ℕ) → k ≢ Fetch w n r d) → length b.journal.events + 1 ≤ most_events
       → new.journal.events ≡ b.journal.events ++ event m.number k ∷ [] → new.journal.room ≡ b.journal.room
       → new.journal.base.cut ≡ b.journal.base.cut
-      → ((f : Finds m b) → IsTold m.sizes (did (m.seen ++ f.rest) m.number k) new)
+      → ((f : Finds m b) → Represents m.sizes (did (m.seen ++ f.rest) m.number k) new)
       → IsCallOf m b (event m.number k ∷ []) new
   call_of_event_alone k new no_load no_fetch fits goes room cut told = record {
     mine = λ i e at. elim (push_cases [] (event m.number k) i e at) [

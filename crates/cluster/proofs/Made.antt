@@ -5,23 +5,23 @@ use Rattle.std.proofs.lemmas.Bool.Decides.{leb_tells}
 use Rattle.std.proofs.lemmas.Option.{none-some}
 use Rattle.std.proofs.lemmas.List.Elements.{filter-append}
 use Rattle.journal.specs.declared.event.Event.{Event}
-use Rattle.lists.specs.Limits.{most_events}
+use Rattle.base.specs.Limits.{most_events}
 use Rattle.std.specs.Result.{IsErrAnd, result_err}
 use Rattle.turn.specs.declared.chair.ChairToken.{ChairToken}
-use Rattle.replicas.specs.Copies.{Copied}
+use Rattle.cluster.specs.Copies.Copies.{Copied}
 use Rattle.book.specs.State.{State}
 use Rattle.book.specs.declared.refused.Refused.{Refused}
 use Rattle.book.specs.declared.refused.Refused.TheVariants.{NotYet, JournalFull, NoMemory, SeatSpent}
 use Rattle.book.specs.Refusals.{IsFullAt, IsWantOfRoom}
-use Rattle.replicas.specs.Local.{Local, calls}
-use Rattle.replicas.specs.Sound.{IsSound}
-use Rattle.replicas.specs.Steps.{found, IsSameCopy, AreSameCopies}
-use Rattle.replicas.proofs.Entering as entering
-use Rattle.replicas.proofs.Waiting.{roomy_sound}
+use Rattle.cluster.specs.Copies.Local.{Local, calls}
+use Rattle.cluster.specs.Copies.Sound.{IsSound}
+use Rattle.cluster.specs.Copies.Steps.{found, IsSameCopy, AreSameCopies}
+use Rattle.cluster.proofs.copies.Entering as entering
+use Rattle.cluster.proofs.copies.Waiting.{roomy_sound}
 use Rattle.cluster.specs.Calls.{IsCall, IsRefusedInside, IsSame, IsSameProcessor, IsUnmade, Nothing}
 use Rattle.cluster.specs.declared.keeper.View.{View}
 use Rattle.cluster.specs.Refusals.{flush_refusal}
-use Rattle.cluster.specs.Entering.{Finds, IsCallOf, IsAfter, entered}
+use Rattle.cluster.specs.Entering.{Finds, IsCallOf, EnteredAndDid, entered}
 use Rattle.cluster.specs.Covers.{IsAllowed}
 use Rattle.cluster.proofs.Covering.{covers, part_away}
 use Rattle.cluster.proofs.Histories.{told_long}
@@ -131,7 +131,7 @@ module _ {m : Local} {b : State} {after : ChairToken State View} (v : Visit m b 
       subst IsSound (sym unchanged_is)
       (roomy_sound (entered m v.finds.rest cut) (entered_sound m b v.sound v.finds cut) cs alike)
 
-  pub unchanged_after : IsAfter IsSame m unchanged
+  pub unchanged_after : EnteredAndDid IsSame m unchanged
   unchanged_after = record {
     rest = v.finds.rest;
     away = v.finds.away;

@@ -14,11 +14,11 @@ use Rattle.journal.proofs.Copies.Stores.{store_writes}
 use Rattle.journal.proofs.Missing.InGroups.{AreGroups, groups_of, groups_gap, store_closed}
 use Rattle.journal.proofs.Missing.Placed.{placed_before}
 use Rattle.journal.proofs.Times.Closing.{closed_once}
-use Rattle.lists.specs.Places.{Has, InOrder}
-use Rattle.lists.specs.Records.{records_applied}
-use Rattle.lists.proofs.Joined.{in_order_concat}
-use Rattle.lists.proofs.LastWrites.{word_written}
-use Rattle.lists.proofs.Records.{records_same}
+use Rattle.base.specs.Places.{Has, InOrder}
+use Rattle.base.specs.Records.{records_applied}
+use Rattle.base.proofs.Joined.{in_order_concat}
+use Rattle.base.proofs.LastWrites.{word_written}
+use Rattle.base.proofs.Records.{records_same}
 use Rattle.cluster.specs.Accesses.{IsLastInGap, IsOutsideGap, AreNewest}
 
 -- the store at place i was closed before that at place k, or in one interval with it and it stands before

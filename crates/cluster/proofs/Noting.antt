@@ -15,21 +15,21 @@ use Rattle.journal.proofs.Copies.OpenBlocks.{answers_push}
 use Rattle.journal.proofs.Copies.Pages.{valid_load}
 use Rattle.journal.proofs.Intervals.Contents.{store_in}
 use Rattle.journal.proofs.Missing.Counted.{block_counts_push}
-use Rattle.lists.specs.Writes.{wrote}
-use Rattle.lists.specs.Records.{mark}
-use Rattle.lists.proofs.Places.{push_cases}
-use Rattle.lists.proofs.Sets.{slice_get-set_found, slice_get-set_other}
+use Rattle.base.specs.Writes.{wrote}
+use Rattle.base.specs.Records.{mark}
+use Rattle.base.proofs.Places.{push_cases}
+use Rattle.base.proofs.Sets.{slice_get-set_found, slice_get-set_other}
 use Rattle.page.specs.declared.page.Access.TheVariants.{Valid, Invalid}
 use Rattle.page.specs.Contents.{IsClean}
 use Rattle.book.specs.Calls.{IsInner}
-use Rattle.book.specs.Stamps.{AreAll}
-use Rattle.lists.specs.Limits.{most_in_block}
-use Rattle.replicas.specs.Copies.{Copied, IsReplica, written_at}
-use Rattle.replicas.specs.Local.{Local, noted}
+use Rattle.book.specs.Stamps.{EachAt}
+use Rattle.base.specs.Limits.{most_in_block}
+use Rattle.cluster.specs.Copies.Copies.{Copied, IsReplica, written_at}
+use Rattle.cluster.specs.Copies.Local.{Local, noted}
 use Rattle.cluster.specs.Accesses.{stored_at}
 use Rattle.cluster.specs.Refusals.{access_refusal}
-use Rattle.replicas.specs.Sound.{IsSound}
-use Rattle.replicas.proofs.Replicas.{replica_long, replica_pushed}
+use Rattle.cluster.specs.Copies.Sound.{IsSound}
+use Rattle.cluster.proofs.copies.Replicas.{replica_long, replica_pushed}
 use Rattle.cluster.proofs.Refusing.{MayAccess, may_access}
 
 pub valid_is_not_stale : Valid ≢ Invalid
@@ -71,7 +71,7 @@ abbrev pub StaysRight : Local → Kind → List Copied → List Bool → (ℕ �
 StaysRight m k cs st bases = record {
   answers : BlockAnswers m.sizes m.seen (m.block ++ event m.number k ∷ []) m.number bases;
   counts : BlockCounts m.sizes m.seen (m.block ++ event m.number k ∷ []) m.number;
-  copies : AreAll m.sizes.pages (λ n c.
+  copies : EachAt m.sizes.pages (λ n c.
       IsReplica m.sizes m.seen (m.block ++ event m.number k ∷ []) m.number n (bases n) c) cs;
   marks : length st ≡ 64;
   clean : (n : ℕ) (c : Copied) → slice_get cs n ≡ Some c → slice_get st n ≡ Some false → IsClean c.page;

@@ -9,15 +9,15 @@ use Rattle.interval.specs.Intervals.{SentRecord}
 use Rattle.transit.specs.Letters.{letter}
 use Rattle.transit.specs.declared.message.Message.{Message}
 use Rattle.book.specs.Brought.{brought}
-use Rattle.book.specs.Calls.{MayLook, MayTakeSome}
+use Rattle.book.specs.Calls.{IsProcessor, MayTakeSome}
 use Rattle.book.proofs.Parts.Told.{is_processor}
 use Rattle.book.specs.State.{State}
-use Rattle.book.specs.Told.{IsTold}
+use Rattle.book.specs.Told.{Represents}
 use Rattle.book.specs.Refusals.{IsWantOfRoom}
 use Rattle.book.specs.declared.refused.Refused.{Refused}
 use Rattle.book.specs.declared.refused.Refused.TheVariants.{NotYet}
-use Rattle.replicas.specs.Copies.{Copied}
-use Rattle.replicas.specs.Steps.{HaveRoom}
+use Rattle.cluster.specs.Copies.Copies.{Copied}
+use Rattle.cluster.specs.Copies.Steps.{HaveRoom}
 use Rattle.cluster.specs.Taking.{HasRoomFor}
 
 -- room by counts of these records is room for them
@@ -45,8 +45,8 @@ room_brought (Err e) b p copies same room = tt
 
 -- one who is ready isn't told that it is early
 pub never_absent : {A : Type 0} (r : Result A Refused) (b : State) (p : ℕ) → MayTakeSome b p
-    → ((s : Sizes) (h : List Event) → IsTold s h b → Ready s h p)
-    → ((s : Sizes) (h : List Event) → IsTold s h b → r ≡ Err NotYet ↔ (¬ Ready s h p)) → r ≢ Err NotYet
+    → ((s : Sizes) (h : List Event) → Represents s h b → Ready s h p)
+    → ((s : Sizes) (h : List Event) → Represents s h b → r ≡ Err NotYet ↔ (¬ Ready s h p)) → r ≢ Err NotYet
 never_absent r b p may ready absent is =
     let by = may.take.by in
     (absent by.sizes by.history by.told).0 is (ready by.sizes by.history by.told)
@@ -66,7 +66,7 @@ never_late (Err e) only is =
     elim only [ inl full ↦ absurd (cc (full, same)) | inr none ↦ absurd (cc (none, same)) ]
 
 -- who waits for something is a processor
-pub may_look : (b : State) (p : ℕ) → MayTakeSome b p → MayLook b p
+pub may_look : (b : State) (p : ℕ) → MayTakeSome b p → IsProcessor b p
 may_look b p may =
     let by = may.take.by in
     record { by = by; processor = is_processor by.sizes by.history b p (Some may.kind) by.told may.take.waits }

@@ -6,10 +6,10 @@ use Rattle.page.specs.declared.page.Access.{Access}
 use Rattle.page.specs.declared.page.Access.TheVariants.{Valid, Invalid}
 use Rattle.book.specs.declared.refused.Refused.{Refused}
 use Rattle.journal.specs.Sizes.{addresses}
-use Rattle.lists.specs.Limits.{most_in_block}
-use Rattle.replicas.specs.Copies.{Copied, may_use}
-use Rattle.replicas.specs.Local.{Local}
-use Rattle.cluster.specs.Refusals.{serves, has_valid, is_waiting, is_full, access_refusal, fetch_refusal}
+use Rattle.base.specs.Limits.{most_in_block}
+use Rattle.cluster.specs.Copies.Copies.{Copied, may_use}
+use Rattle.cluster.specs.Copies.Local.{Local}
+use Rattle.cluster.specs.Refusals.{serves, has_valid, is_waiting, block_full, access_refusal, fetch_refusal}
 
 -- the first doesn't apply, nor do the others
 pub due_none : (b : Bool) (r : Refused) (rest : Option Refused) → cond b (Some r) rest ≡ None
@@ -45,7 +45,7 @@ may_access m a none =
     let one = due_none (nat_le (addresses m.sizes) a) _ _ none in
     let two = due_none (not (has_valid m (a / m.sizes.words))) _ _ one.1 in
     let three = due_none (is_waiting m) _ _ two.1 in
-    let four = due_none (is_full m) _ _ three.1 in
+    let four = due_none (block_full m) _ _ three.1 in
     let found = serving (slice_get m.copies (a / m.sizes.words)) (not-false _ two.0) in
     record {
       within = leb-false (addresses m.sizes) a one.0;
@@ -92,7 +92,7 @@ pub may_fetch : (m : Local) (n : ℕ) → fetch_refusal m n ≡ None → MayFetc
 may_fetch m n none =
     let one = due_none (nat_le m.sizes.pages n) _ _ none in
     let two = due_none (is_waiting m) _ _ one.1 in
-    let three = due_none (is_full m) _ _ two.1 in
+    let three = due_none (block_full m) _ _ two.1 in
     let four = due_none (has_valid m n) _ _ three.1 in
     record {
       within = leb-false m.sizes.pages n one.0;

@@ -16,10 +16,10 @@ use Rattle.journal.proofs.Times.Times.{time_none, time_equal}
 use Rattle.journal.proofs.Copies.Pages.{valid_start, answers_start}
 use Rattle.journal.proofs.Intervals.Dirty.{dirty_start}
 use Rattle.journal.proofs.Missing.Counted.{counted_start, block_counts_start}
-use Rattle.lists.proofs.Sets.{index-zeros}
-use Rattle.lists.proofs.Joined.{in_order-nil}
-use Rattle.lists.proofs.Places.{push_cases, slice_get-append_right}
-use Rattle.lists.proofs.Sets.{slice_get-replicate_found, slice_get-replicate}
+use Rattle.base.proofs.Sets.{index-zeros}
+use Rattle.base.proofs.Joined.{in_order-nil}
+use Rattle.base.proofs.Places.{push_cases, slice_get-append_right}
+use Rattle.base.proofs.Sets.{slice_get-replicate_found, slice_get-replicate}
 use Rattle.turn.specs.Chairs.{LockId, lock, view, entries}
 use Rattle.turn.specs.declared.chair.ChairToken.{ChairToken}
 use Rattle.lockq.specs.Lock.{unheld}
@@ -27,14 +27,14 @@ use Rattle.book.specs.State.{State}
 use Rattle.book.specs.Transitions.{new_book}
 use Rattle.book.proofs.Keeps.Whole.{new_law}
 use Rattle.cluster.specs.declared.keeper.View.{View}
-use Rattle.replicas.specs.Copies.{Copied, IsReplica}
-use Rattle.replicas.specs.Local.{Local, blank, new_local}
+use Rattle.cluster.specs.Copies.Copies.{Copied, IsReplica}
+use Rattle.cluster.specs.Copies.Local.{Local, blank, new_local}
 use Rattle.cluster.specs.Seats.{local}
 use Rattle.cluster.specs.Clusters.{Shared, IsNewChair, IsSeatedAt, AreNew, AreCovered}
 use Rattle.cluster.proofs.Covering.{covers}
-use Rattle.replicas.specs.Sound.{AreSizes, IsSound}
-use Rattle.cluster.specs.Kept.{GoesOn, IsKept, nothing_seen, sizes_of}
-use Rattle.cluster.specs.Covers.{Allows}
+use Rattle.cluster.specs.Copies.Sound.{AreSizes, IsSound}
+use Rattle.cluster.specs.Kept.{ExtendsView, LockInvariant, nothing_seen, book_sizes}
+use Rattle.cluster.specs.Covers.{LockAllows}
 use Rattle.cluster.proofs.Noting.{valid_is_not_stale}
 
 blank_replica : (s : Sizes) (p n : ℕ) → IsReplica s [] [] p n (replicate s.words 0) (blank s)
@@ -95,14 +95,14 @@ start_sound l p s sizes mine = record {
 }
 
 -- an empty book with a view of nothing for each processor
-pub start_kept : (s : Sizes) → 0 < s.processors → IsKept s [] (new_book s) (replicate s.processors (nothing_seen s))
+pub start_kept : (s : Sizes) → 0 < s.processors → LockInvariant s [] (new_book s) (replicate s.processors (nothing_seen s))
 start_kept s some = record {
   told = new_law s some;
   explained = λ k p a v d. absurd (none-some (record { processor = p; kind = Load a v }) d);
   counted = counted_start s;
   few = omega arith;
   all = length-replicate s.processors (nothing_seen s);
-  each = λ p v at. subst (GoesOn s [] p) (slice_get-replicate_found s.processors (nothing_seen s) v p at) (record {
+  each = λ p v at. subst (ExtendsView s [] p) (slice_get-replicate_found s.processors (nothing_seen s) v p at) (record {
     shape = refl;
     rest = [];
     begins = refl;
@@ -118,7 +118,7 @@ start_kept s some = record {
 }
 
 -- the sizes of an empty book
-pub new_sizes : (s : Sizes) → 0 < s.words → sizes_of (new_book s) ≡ s
+pub new_sizes : (s : Sizes) → 0 < s.words → book_sizes (new_book s) ≡ s
 new_sizes s some =
     rw (
       length-replicate s.locks (unheld s.processors),
@@ -127,7 +127,7 @@ new_sizes s some =
     )
 
 -- each new processor has a place in it
-pub start_allowed : (l : LockId) (p : ℕ) (s : Sizes) → p < s.processors → Allows (new_local l p s) []
+pub start_allowed : (l : LockId) (p : ℕ) (s : Sizes) → p < s.processors → LockAllows (new_local l p s) []
 start_allowed l p s mine = record {
   book = new_book s;
   views = replicate s.processors (nothing_seen s);
@@ -171,7 +171,7 @@ new_covered c ms sizes new = record {
   allowed =
       λ p m at. (
         [],
-        subst (λ (x : Local). Allows x []) (sym (new.each p m at))
+        subst (λ (x : Local). LockAllows x []) (sym (new.each p m at))
             (start_allowed c.lock p c.sizes (within p m at)),
       );
   covers =

@@ -8,8 +8,8 @@ use Rattle.journal.specs.Did.{event}
 use Rattle.journal.specs.Events.{interval_at}
 use Rattle.journal.specs.Sizes.{Sizes}
 use Rattle.journal.specs.Copies.{HasCount, StoredInGap}
-use Rattle.lists.specs.Places.{Has}
-use Rattle.lists.proofs.Once.{once_le}
+use Rattle.base.specs.Places.{Has}
+use Rattle.base.proofs.Once.{once_le}
 
 -- where an event stores
 address_of : Kind → ℕ

@@ -8,10 +8,10 @@ use Rattle.journal.specs.declared.event.Kind.{Kind}
 use Rattle.journal.specs.declared.event.Kind.TheVariants.{Load, Fetch, Ask, Acquire}
 use Rattle.journal.specs.Did.{event, did}
 use Rattle.journal.specs.Events.{is_taking, part}
-use Rattle.journal.specs.Missing.{AreNews, InClosingOrder}
+use Rattle.journal.specs.Missing.{AreMissingNotices, InClosingOrder}
 use Rattle.journal.specs.WellFormed.{Allowed, Ready}
 use Rattle.journal.specs.Sizes.{Sizes}
-use Rattle.lists.specs.Limits.{most_events}
+use Rattle.base.specs.Limits.{most_events}
 use Rattle.turn.specs.declared.chair.ChairToken.{ChairToken}
 use Rattle.transit.specs.Letters.{Letter, letter}
 use Rattle.transit.specs.declared.message.Message.{Message}
@@ -23,18 +23,18 @@ use Rattle.book.specs.Calls.{MayTakeSome}
 use Rattle.book.specs.Laws.{IsMessage}
 use Rattle.book.specs.News.{missing_in}
 use Rattle.book.specs.State.{State, time_of}
-use Rattle.book.specs.Told.{IsTold}
+use Rattle.book.specs.Told.{Represents}
 use Rattle.book.specs.Transitions.{book_taken, Takes}
 use Rattle.book.specs.declared.refused.Refused.{Refused}
 use Rattle.book.specs.declared.refused.Refused.TheVariants.{NotYet, JournalFull, NoMemory}
 use Rattle.book.specs.Refusals.{IsFullAt}
 use Rattle.book.proofs.Keeps.Whole.{take_law, message_law, news_law, news_order_law}
-use Rattle.replicas.specs.Copies.{Copied}
-use Rattle.replicas.specs.Local.{Local, calls}
-use Rattle.replicas.specs.Sound.{IsSound, most_seen}
-use Rattle.replicas.specs.Steps.{AreAfterNews, AreSameCopies, MayLearn, found, took, held_after}
-use Rattle.replicas.proofs.Calls.{took_message, waits_to_take}
-use Rattle.replicas.proofs.Waiting.{may_learn}
+use Rattle.cluster.specs.Copies.Copies.{Copied}
+use Rattle.cluster.specs.Copies.Local.{Local, calls}
+use Rattle.cluster.specs.Copies.Sound.{IsSound, most_seen}
+use Rattle.cluster.specs.Copies.Steps.{AreAfterNews, AreSameCopies, MayLearn, found, took, held_after}
+use Rattle.cluster.proofs.copies.Calls.{took_message, waits_to_take}
+use Rattle.cluster.proofs.copies.Waiting.{may_learn}
 use Rattle.cluster.specs.declared.keeper.View.{View}
 use Rattle.cluster.specs.Calls.{IsCall}
 use Rattle.cluster.specs.Entering.{Finds, IsCallOf, entered}
@@ -98,11 +98,11 @@ module _ (m : Local) (sound : IsSound m) (b : State) (k : Kind) (waits : m.await
 
       abbrev IsNews : ℕ → List ℕ → List SentRecord → Type 0
       IsNews n t sent =
-          AreNews m.sizes (m.seen ++ f.rest) m.number n (slice_index t) (slice_index (join t x.time))
+          AreMissingNotices m.sizes (m.seen ++ f.rest) m.number n (slice_index t) (slice_index (join t x.time))
           (missing_in n sent)
 
       -- what it brings of each page is news
-      pub news_taken : (n : ℕ) → AreNews m.sizes (m.seen ++ f.rest) m.number n (slice_index m.time)
+      pub news_taken : (n : ℕ) → AreMissingNotices m.sizes (m.seen ++ f.rest) m.number n (slice_index m.time)
           (slice_index (join m.time x.time)) (missing_in n x.notices)
       news_taken n =
           let time = time_found m sound b f in
@@ -153,7 +153,7 @@ module _ (m : Local) (sound : IsSound m) (b : State) (k : Kind) (waits : m.await
 -- a take that the book refused
 pub take_refused : {m : Local} {b : State} {after : ChairToken State View} {done : Local → Local → Type 0}
     {added : List Event} (v : Visit m b b after) (cs : List Copied) (alike : AreSameCopies m.copies cs) (e : Refused)
-    → ((s : Sizes) (h : List Event) → IsTold s h b
+    → ((s : Sizes) (h : List Event) → Represents s h b
     → ◌≡◌ {A = Result Message Refused} (Err e) (Err NotYet) ↔ (¬ Ready s h m.number))
     → (◌≡◌ {A = Result Message Refused} (Err e) (Err NotYet) → cs ≡ m.copies)
     → (◌≢◌ {A = Result Message Refused} (Err e) (Err NotYet)

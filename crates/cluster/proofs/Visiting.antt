@@ -3,14 +3,14 @@
 use Rattle.std.proofs.Common.{ℕ, ◌≡◌, ◌<◌, ◌+◌, Some, List, ◌++◌, slice_get, slice_set, refl, sym, ap, ap₂, subst, subst₂, ◌∙◌, arith}
 use Rattle.journal.specs.declared.event.Event.{Event}
 use Rattle.journal.specs.Sizes.{Sizes}
-use Rattle.lists.proofs.Sets.{slice_get-set_same}
+use Rattle.base.proofs.Sets.{slice_get-set_same}
 use Rattle.std.proofs.lemmas.Option.{slice_get_within}
 use Rattle.turn.specs.Chairs.{LockId, lock, view, entries, IsInside}
 use Rattle.turn.specs.declared.chair.ChairToken.{ChairToken}
 use Rattle.turn.specs.declared.chair.Held.{Held}
 use Rattle.book.specs.State.{State}
-use Rattle.replicas.specs.Local.{Local}
-use Rattle.replicas.specs.Sound.{IsSound}
+use Rattle.cluster.specs.Copies.Local.{Local}
+use Rattle.cluster.specs.Copies.Sound.{IsSound}
 use Rattle.cluster.specs.declared.keeper.View.{View}
 use Rattle.cluster.specs.Seats.{local, IsSeated}
 use Rattle.cluster.specs.Kept.{added, view_of}

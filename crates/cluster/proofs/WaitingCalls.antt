@@ -7,11 +7,11 @@ use Rattle.journal.specs.Sizes.{Sizes}
 use Rattle.journal.specs.WellFormed.{Ready}
 use Rattle.turn.specs.declared.chair.ChairToken.{ChairToken}
 use Rattle.book.specs.State.{State}
-use Rattle.book.specs.Told.{IsTold}
+use Rattle.book.specs.Told.{Represents}
 use Rattle.book.specs.declared.refused.Refused.{Refused}
 use Rattle.book.specs.declared.refused.Refused.TheVariants.{SeatSpent}
-use Rattle.replicas.specs.Local.{Local}
-use Rattle.replicas.specs.Sound.{IsSound}
+use Rattle.cluster.specs.Copies.Local.{Local}
+use Rattle.cluster.specs.Copies.Sound.{IsSound}
 use Rattle.cluster.specs.declared.keeper.View.{View}
 use Rattle.cluster.specs.declared.waited.Waited.{Waited}
 use Rattle.cluster.specs.declared.waited.Waited.TheVariants.{MayHaveCome, Stuck, Deserted}
@@ -63,8 +63,8 @@ wait_spent {m} sound waits all = record {
 
 -- who looked
 pub wait_looked : {m : Local} {b : State} {after : ChairToken State View} (v : Visit m b b after) → m.awaits ≢ None
-    → (w : Waited) → ((s : Sizes) (h : List Event) → IsTold s h b → w ≡ Stuck ↔ IsDeadlock s h)
-    → ((s : Sizes) (h : List Event) → IsTold s h b → w ≡ Deserted → ¬ Ready s h m.number)
+    → (w : Waited) → ((s : Sizes) (h : List Event) → Represents s h b → w ≡ Stuck ↔ IsDeadlock s h)
+    → ((s : Sizes) (h : List Event) → Represents s h b → w ≡ Deserted → ¬ Ready s h m.number)
     → IsWaitingCall m (on after m) (Ok w)
 wait_looked {m} {b} {after} v waits w stuck deserted =
     let alike = alike_all m.copies in

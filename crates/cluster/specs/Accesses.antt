@@ -6,10 +6,10 @@ use Rattle.journal.specs.Sizes.{Sizes}
 use Rattle.journal.specs.WellFormed.{Does}
 use Rattle.journal.specs.Copies.{InGap}
 use Rattle.journal.specs.Intervals.{ClosedAt}
-use Rattle.replicas.specs.declared.replica.Counts.{Counts}
-use Rattle.replicas.specs.Copies.{Copied, fetched, written_at}
-use Rattle.replicas.specs.Counts.{AreCounts}
-use Rattle.replicas.specs.Local.{Local, noted}
+use Rattle.cluster.specs.declared.copies.page_copy.MissingCounts.{MissingCounts}
+use Rattle.cluster.specs.Copies.Copies.{Copied, fetched, written_at}
+use Rattle.cluster.specs.Copies.Counts.{AreCounts}
+use Rattle.cluster.specs.Copies.Local.{Local, noted}
 
 -- the processor's copy of the address's page has this word there
 pub record HasWord (m : Local) (a v : ℕ) : Type 0 where
@@ -25,7 +25,7 @@ stored_at m a v c = record (noted m (Store a v)) {
 }
 
 -- and it had one
-pub record IsStored (old : Local) (a v : ℕ) (new : Local) : Type 0 where
+pub record StoreDone (old : Local) (a v : ℕ) (new : Local) : Type 0 where
   pub copy : Copied
   pub at : slice_get old.copies (a / old.sizes.words) ≡ Some copy
   pub after : new ≡ stored_at old a v copy
@@ -54,15 +54,15 @@ AreNewest s j p n old new = (o v : ℕ) → slice_get new o ≡ Some v
     → IsLastInGap s j p n o v ⊎ ((slice_get old o ≡ Some v) × IsOutsideGap s j p n o)
 
 -- the processor after a fetch of page n with these counts, where c is its copy of the page
-abbrev pub fetched_at : Local → ℕ → Copied → Counts → Local
+abbrev pub fetched_at : Local → ℕ → Copied → MissingCounts → Local
 fetched_at m n c k =
     record (noted m (Fetch k.writers n k.records k.words)) { copies = slice_set m.copies n (fetched c) }
 
 -- and it had one, whose missing records are that many; each word with stores in the gap has the newest of them
-pub record IsFetched (old : Local) (n : ℕ) (new : Local) : Type 0 where
+pub record FetchDone (old : Local) (n : ℕ) (new : Local) : Type 0 where
   pub copy : Copied
   pub at : slice_get old.copies n ≡ Some copy
-  pub counts : Counts
+  pub counts : MissingCounts
   pub are : AreCounts copy.missing counts
   pub newest : AreNewest old.sizes old.seen old.number n copy.page.words (fetched copy).page.words
   pub after : new ≡ fetched_at old n copy counts

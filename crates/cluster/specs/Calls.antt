@@ -1,14 +1,14 @@
 -- What a call that enters the book does to its processor.
 use Rattle.std.specs.Prelude.{ℕ, ◌≡◌, ◌≢◌, ◌⊎◌, ◌↔◌, ◌+◌, ◌<◌, ◌≤◌, Option, Some, None, List, [], ◌++◌, length}
 use Rattle.journal.specs.declared.event.Event.{Event}
-use Rattle.lists.specs.Limits.{most_events}
+use Rattle.base.specs.Limits.{most_events}
 use Rattle.book.specs.declared.refused.Refused.{Refused}
 use Rattle.book.specs.declared.refused.Refused.TheVariants.{NotYet, JournalFull, NoMemory}
-use Rattle.replicas.specs.Local.{Local, calls}
-use Rattle.replicas.specs.Steps.{AreSameCopies, handed}
+use Rattle.cluster.specs.Copies.Local.{Local, calls}
+use Rattle.cluster.specs.Copies.Steps.{AreSameCopies, handed}
 use Rattle.cluster.specs.Refusals.{flush_refusal}
-use Rattle.cluster.specs.Entering.{IsAfter}
-use Rattle.cluster.specs.Covers.{Covers, IsAllowed}
+use Rattle.cluster.specs.Entering.{EnteredAndDid}
+use Rattle.cluster.specs.Covers.{HasCoverage, IsAllowed}
 
 -- all is the same, but that lists of missing records may have memory for more
 pub record IsSame (m n : Local) : Type 0 where
@@ -22,7 +22,7 @@ IsHanded m n = n ≡ handed m
 -- the call entered, and left all as it found it: what it waits for is absent, or the journal has no room for that many
 -- events, or no memory was to be had
 pub record IsRefusedInside (many : ℕ) (absent : Local → Type 0) (old new : Local) (e : Refused) : Type 0 where
-  pub entered : IsAfter IsSame old new
+  pub entered : EnteredAndDid IsSame old new
   pub why : (e ≡ NotYet) ⊎ (e ≡ JournalFull) ⊎ (e ≡ NoMemory)
   pub not_yet : e ≡ NotYet ↔ absent new
   -- whoever comes too early got no room
@@ -46,12 +46,12 @@ pub record IsCall (first : Option Refused) (many : ℕ) (absent : Local → Type
   pub same : IsSameProcessor old new
   pub outside : (e : Refused) → first ≡ Some e → (refused ≡ Some e) × (new ≡ old)
   pub ok : refused ≡ None
-      → IsAfter done old new × (length new.seen ≤ most_events + new.cut) × (calls new ≡ calls old ++ added)
+      → EnteredAndDid done old new × (length new.seen ≤ most_events + new.cut) × (calls new ≡ calls old ++ added)
   pub err : (e : Refused) → first ≡ None → refused ≡ Some e
       → IsRefusedInside many absent old new e ⊎ IsUnmade absent old new e
   pub kept : refused ≢ None → calls new ≡ calls old
   pub uncut : new.own_cut ≡ old.own_cut
-  pub covers : Covers new
+  pub covers : HasCoverage new
   pub allowed : IsAllowed old → IsAllowed new
 
 -- nothing is waited for

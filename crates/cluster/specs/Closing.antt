@@ -8,17 +8,17 @@ use Rattle.journal.specs.Events.{is_closing}
 use Rattle.journal.specs.WellFormed.{KindInRange}
 use Rattle.page.specs.Changes.{Changes}
 use Rattle.book.specs.State.{State}
-use Rattle.book.specs.Calls.{MayCall, MayAsk, MayRelease}
+use Rattle.book.specs.Calls.{MayCloseIdle, MayAsk, MayRelease}
 use Rattle.book.specs.Transitions.{book_asked, book_released, book_arrived, book_set, book_watched}
 use Rattle.book.specs.declared.refused.Refused.{Refused}
-use Rattle.replicas.specs.Local.{Local}
-use Rattle.replicas.specs.Steps.{handed, closed}
+use Rattle.cluster.specs.Copies.Local.{Local}
+use Rattle.cluster.specs.Copies.Steps.{handed, interval_closed}
 use Rattle.cluster.specs.Refusals.{or_spent}
 use Rattle.cluster.specs.Calls.{IsCall, Nothing}
 
 -- the block was handed in, and the interval closed by this event
 abbrev pub IsClosedBy : Kind → Local → Local → Type 0
-IsClosedBy k m n = n ≡ closed (handed m) k
+IsClosedBy k m n = n ≡ interval_closed (handed m) k
 
 -- the book after p does this, with the records of its open interval
 abbrev pub book_closed : Kind → State → ℕ → List Changes → State
@@ -33,8 +33,8 @@ book_closed _ b p records = b
 abbrev pub MayClose : Kind → State → ℕ → List Event → Type 0
 MayClose (Ask l) b p block = MayAsk b p l block
 MayClose (Release l) b p block = MayRelease b p l block
-MayClose (Set f) b p block = MayCall b p block × (f < length b.flags)
-MayClose _ b p block = MayCall b p block
+MayClose (Set f) b p block = MayCloseIdle b p block × (f < length b.flags)
+MayClose _ b p block = MayCloseIdle b p block
 
 -- the locks that a processor holds let it do this
 abbrev pub MayHold : List Bool → Kind → Type 0

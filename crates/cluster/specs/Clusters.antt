@@ -1,15 +1,15 @@
 -- A cluster as contracts see it, and its processors at the start.
 use Rattle.std.specs.Prelude.{ℕ, ◌≡◌, ◌≤◌, Some, List, [], length, replicate, slice_get, vec_capacity, false}
 use Rattle.journal.specs.Sizes.{Sizes}
-use Rattle.lists.specs.Limits.{most_in_block}
+use Rattle.base.specs.Limits.{most_in_block}
 use Rattle.turn.specs.Chairs.{LockId, lock, place, view, entries, IsOutside}
 use Rattle.turn.specs.declared.chair.ChairToken.{ChairToken}
 use Rattle.book.specs.State.{State}
 use Rattle.cluster.specs.declared.keeper.View.{View}
 use Rattle.cluster.specs.declared.processor.Parts.{Parts}
-use Rattle.replicas.specs.Local.{Local, blank, new_local}
+use Rattle.cluster.specs.Copies.Local.{Local, blank, new_local}
 use Rattle.cluster.specs.Kept.{nothing_seen}
-use Rattle.cluster.specs.Covers.{IsAllowed, Covers}
+use Rattle.cluster.specs.Covers.{IsAllowed, HasCoverage}
 
 -- its lock and its sizes
 pub record Shared : Type 0 where
@@ -58,4 +58,4 @@ pub record AreNew (c : Shared) (ms : List Local) : Type 0 where
 -- the lock may have some book for each processor, and each such book covers it
 pub record AreCovered (ms : List Local) : Type 0 where
   pub allowed : (p : ℕ) (m : Local) → slice_get ms p ≡ Some m → IsAllowed m
-  pub covers : (p : ℕ) (m : Local) → slice_get ms p ≡ Some m → Covers m
+  pub covers : (p : ℕ) (m : Local) → slice_get ms p ≡ Some m → HasCoverage m

@@ -11,20 +11,20 @@ use Rattle.journal.specs.Brought.{NoGap}
 use Rattle.page.specs.declared.page.Access.TheVariants.{Valid}
 use Rattle.book.specs.State.{State}
 use Rattle.cluster.specs.declared.keeper.View.{View}
-use Rattle.replicas.specs.Copies.{Copied}
-use Rattle.replicas.specs.Local.{Local, calls}
-use Rattle.cluster.specs.Kept.{IsKept, view_of}
+use Rattle.cluster.specs.Copies.Copies.{Copied}
+use Rattle.cluster.specs.Copies.Local.{Local, calls}
+use Rattle.cluster.specs.Kept.{LockInvariant, view_of}
 
 -- the lock may have a book that is told by this history, with what p has seen at p's place
-pub record Allows (m : Local) (h : List Event) : Type 0 where
+pub record LockAllows (m : Local) (h : List Event) : Type 0 where
   pub book : State
   pub views : List View
   pub mine : slice_get views m.number ≡ Some (view_of m.sizes m.seen m.cut m.own_cut)
-  pub kept : IsKept m.sizes h book views
+  pub kept : LockInvariant m.sizes h book views
 
 -- and there is such a history
 abbrev pub IsAllowed : Local → Type 0
-IsAllowed m = (h : List Event) × Allows m h
+IsAllowed m = (h : List Event) × LockAllows m h
 
 -- by this history and p's open block: p's part of it is its calls, its timestamp counts its past, and its copy of a
 -- page is valid exactly where nothing is missing, and then it is what p's past makes of the page
@@ -40,5 +40,5 @@ pub record IsCovered (m : Local) (h : List Event) : Type 0 where
   pub counted : AreCounted m.sizes (h ++ m.block)
 
 -- and so it is for every history that the lock allows
-pub record Covers (m : Local) : Type 0 where
-  pub each : (h : List Event) → Allows m h → IsCovered m h
+pub record HasCoverage (m : Local) : Type 0 where
+  pub each : (h : List Event) → LockAllows m h → IsCovered m h

@@ -8,13 +8,13 @@ use Rattle.journal.specs.Log.{Log}
 use Rattle.journal.specs.declared.cut.CutFault.{CutFault}
 use Rattle.book.specs.Cutting.{refused_by}
 use Rattle.journal.specs.Races.{RaceFree, IsFirstRace}
-use Rattle.lists.specs.Limits.{most_cut, most_events}
+use Rattle.base.specs.Limits.{most_cut, most_events}
 use Rattle.book.specs.declared.refused.Refused.{Refused}
 use Rattle.book.specs.declared.refused.Refused.TheVariants.{NoMemory, Racy, NoEpisode, BaseFull}
-use Rattle.replicas.specs.Local.{Local, calls}
+use Rattle.cluster.specs.Copies.Local.{Local, calls}
 use Rattle.cluster.specs.Calls.{IsSame, IsSameProcessor}
-use Rattle.cluster.specs.Covers.{Covers, IsAllowed}
-use Rattle.cluster.specs.Entering.{IsAfter}
+use Rattle.cluster.specs.Covers.{HasCoverage, IsAllowed}
+use Rattle.cluster.specs.Entering.{EnteredAndDid}
 use Rattle.cluster.specs.Refusals.{flush_refusal}
 
 -- of a history of which that many events were cut off, the next n are to be cut off: they end an episode, and no longer
@@ -46,9 +46,9 @@ IsNoCut log e = (f : CutFault) × (e ≡ refused_by f) × IsCutFault log f
 pub record IsCuttingCall (old new : Local) (refused : Option Refused) : Type 0 where
   pub same : IsSameProcessor old new
   pub outside : (e : Refused) → flush_refusal old ≡ Some e → (refused ≡ Some e) × (new ≡ old)
-  pub ok : refused ≡ None → IsAfter WasCutOff old new × (length new.seen ≤ most_events + new.cut)
+  pub ok : refused ≡ None → EnteredAndDid WasCutOff old new × (length new.seen ≤ most_events + new.cut)
   pub err : (e : Refused) → flush_refusal old ≡ None → refused ≡ Some e
-      → IsAfter IsSame old new × IsUncut new.sizes new.seen new.cut e
+      → EnteredAndDid IsSame old new × IsUncut new.sizes new.seen new.cut e
   pub calls_are : calls new ≡ calls old
-  pub covers : Covers new
+  pub covers : HasCoverage new
   pub allowed : IsAllowed old → IsAllowed new

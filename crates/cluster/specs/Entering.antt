@@ -4,16 +4,16 @@ use Rattle.journal.specs.declared.event.Event.{Event}
 use Rattle.journal.specs.Events.{At}
 use Rattle.journal.specs.Loads.{Explained}
 use Rattle.journal.specs.Counted.{AreCounted}
-use Rattle.lists.specs.Limits.{most_events}
+use Rattle.base.specs.Limits.{most_events}
 use Rattle.turn.specs.Chairs.{lock, place, view, entries, IsSameChair, IsInside, IsOutside, Stands}
 use Rattle.turn.specs.declared.chair.Held.{Held}
 use Rattle.turn.specs.declared.chair.ChairToken.{ChairToken}
 use Rattle.book.specs.State.{State}
-use Rattle.book.specs.Told.{IsTold}
-use Rattle.replicas.specs.Local.{Local}
-use Rattle.replicas.specs.Steps.{found}
+use Rattle.book.specs.Told.{Represents}
+use Rattle.cluster.specs.Copies.Local.{Local}
+use Rattle.cluster.specs.Copies.Steps.{found}
 use Rattle.cluster.specs.declared.keeper.View.{View}
-use Rattle.cluster.specs.Kept.{IsKept, Kept, Sees, added, view_of}
+use Rattle.cluster.specs.Kept.{LockInvariant, Kept, Sees, added, view_of}
 
 -- p finds this book: a history of it that is kept goes on from what p has seen
 pub record Finds (m : Local) (b : State) : Type 0 where
@@ -21,14 +21,14 @@ pub record Finds (m : Local) (b : State) : Type 0 where
   pub views : List View
   pub away : (k : ℕ) (e : Event) → At rest k e → e.processor ≢ m.number
   pub at : slice_get views m.number ≡ Some (view_of m.sizes m.seen m.cut m.own_cut)
-  pub kept : IsKept m.sizes (m.seen ++ rest) b views
+  pub kept : LockInvariant m.sizes (m.seen ++ rest) b views
 
 -- and leaves the new book, which its events make of the old one, with that many more events cut off
 pub record IsCallOf (m : Local) (old : State) (es : List Event) (new : State) : Type 0 where
   pub mine : (k : ℕ) (e : Event) → At es k e → e.processor ≡ m.number
   pub adds : added old.journal new.journal ≡ es
   pub room : new.journal.room ≡ old.journal.room
-  pub told : (f : Finds m old) → IsTold m.sizes ((m.seen ++ f.rest) ++ es) new
+  pub told : (f : Finds m old) → Represents m.sizes ((m.seen ++ f.rest) ++ es) new
   pub explained : (f : Finds m old) → Explained ((m.seen ++ f.rest) ++ es)
   pub counted : (f : Finds m old) → AreCounted m.sizes ((m.seen ++ f.rest) ++ es)
   pub few : (f : Finds m old) → length new.journal.events ≤ most_events
@@ -64,7 +64,7 @@ abbrev pub entered : Local → List Event → ℕ → Local
 entered m rest cut = record (found m rest) { entries = m.entries + 1; cut = cut }
 
 -- the call entered, and did this
-pub record IsAfter (done : Local → Local → Type 0) (old new : Local) : Type 0 where
+pub record EnteredAndDid (done : Local → Local → Type 0) (old new : Local) : Type 0 where
   pub rest : List Event
   pub away : (k : ℕ) (e : Event) → At rest k e → e.processor ≢ old.number
   pub cut : ℕ

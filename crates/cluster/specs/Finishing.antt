@@ -7,13 +7,13 @@ use Rattle.journal.specs.Events.{At, part}
 use Rattle.journal.specs.Loads.{Explained}
 use Rattle.journal.specs.Counted.{AreCounted}
 use Rattle.journal.specs.Log.{Log}
-use Rattle.lists.specs.Limits.{most_in_block}
+use Rattle.base.specs.Limits.{most_in_block}
 use Rattle.turn.specs.Chairs.{lock, IsOutside}
 use Rattle.turn.specs.declared.chair.ChairToken.{ChairToken}
 use Rattle.book.specs.State.{State}
-use Rattle.book.specs.Told.{IsTold}
-use Rattle.replicas.specs.Local.{Local, calls}
-use Rattle.replicas.specs.Sound.{IsSound}
+use Rattle.book.specs.Told.{Represents}
+use Rattle.cluster.specs.Copies.Local.{Local, calls}
+use Rattle.cluster.specs.Copies.Sound.{IsSound}
 use Rattle.cluster.specs.declared.keeper.View.{View}
 use Rattle.cluster.specs.Clusters.{Shared}
 use Rattle.cluster.specs.Entering.{IsChairOf}
@@ -47,7 +47,7 @@ pub record IsFinished (s : Sizes) (ms : List Local) (j : Log) : Type 0 where
   pub in_turn : (front : List Event) × (history ≡ front ++ flat_map (λ m. m.block) ms)
 
 -- a sound processor was taken apart into its chair and its open block
-pub record IsApart (m : Local) (c : ChairToken State View) (block : List Event) : Type 0 where
+pub record IsTakenApart (m : Local) (c : ChairToken State View) (block : List Event) : Type 0 where
   pub sound : IsSound m
   pub chair : IsChairOf m c
   pub lock_is : lock c ≡ m.lock
@@ -55,11 +55,11 @@ pub record IsApart (m : Local) (c : ChairToken State View) (block : List Event) 
   pub block_is : block ≡ m.block
 
 -- all of them
-pub record AreApart (ms : List Local) (cs : List (ChairToken State View)) (blocks : List (List Event)) : Type 0 where
+pub record AreTakenApart (ms : List Local) (cs : List (ChairToken State View)) (blocks : List (List Event)) : Type 0 where
   pub chairs : length cs ≡ length ms
   pub blocks_are : length blocks ≡ length ms
   pub each : (p : ℕ) (m : Local) (c : ChairToken State View) (block : List Event) → slice_get ms p ≡ Some m
-      → slice_get cs p ≡ Some c → slice_get blocks p ≡ Some block → IsApart m c block
+      → slice_get cs p ≡ Some c → slice_get blocks p ≡ Some block → IsTakenApart m c block
 
 -- the history goes on without the processor, whose block is to come
 pub record IsToCome (h : List Event) (m : Local) : Type 0 where
@@ -69,7 +69,7 @@ pub record IsToCome (h : List Event) (m : Local) : Type 0 where
 
 -- the blocks of the first k processors are handed in
 pub record IsFinishing (s : Sizes) (ms : List Local) (k : ℕ) (h : List Event) (b : State) : Type 0 where
-  pub told : IsTold s h b
+  pub told : Represents s h b
   pub explained : Explained h
   pub counted : AreCounted s h
   pub cuts : b.journal.base.cut ≡ sum_by (λ m. m.own_cut) ms

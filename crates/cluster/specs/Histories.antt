@@ -12,7 +12,7 @@ use Rattle.journal.specs.LoadsFrom.{ExplainedFrom}
 use Rattle.journal.specs.RacesFrom.{RaceFreeFrom, IsFirstRaceFrom}
 use Rattle.journal.specs.WellFormedFrom.{WellFormedFrom}
 use Rattle.journal.specs.Log.{Log, HoldsRest}
-use Rattle.replicas.specs.Local.{Local, calls}
+use Rattle.cluster.specs.Copies.Local.{Local, calls}
 
 -- some cluster of these sizes may do this: each load answers a latest store of its past, each fetch counts its gap, and
 -- up to the first race the replies are those of one flat memory

@@ -6,9 +6,9 @@ use Rattle.journal.specs.Events.{At}
 use Rattle.journal.specs.Loads.{Explained}
 use Rattle.journal.specs.Counted.{AreCounted}
 use Rattle.journal.specs.Log.{Log}
-use Rattle.lists.specs.Limits.{most_events, most_in_block}
+use Rattle.base.specs.Limits.{most_events, most_in_block}
 use Rattle.book.specs.State.{State}
-use Rattle.book.specs.Told.{IsTold}
+use Rattle.book.specs.Told.{Represents}
 use Rattle.cluster.specs.declared.keeper.View.{View}
 
 -- a processor of a cluster of these sizes has seen this; that many of its events were cut off, and that many by it
@@ -20,8 +20,8 @@ abbrev pub nothing_seen : Sizes → View
 nothing_seen s = view_of s [] 0 0
 
 -- the sizes of the cluster whose book it is
-abbrev pub sizes_of : State → Sizes
-sizes_of b = record {
+abbrev pub book_sizes : State → Sizes
+book_sizes b = record {
   processors = b.journal.processors;
   pages = b.journal.addresses / b.words;
   words = b.words;
@@ -30,7 +30,7 @@ sizes_of b = record {
 }
 
 -- the history goes on from what p has seen, without p
-pub record GoesOn (s : Sizes) (h : List Event) (p : ℕ) (v : View) : Type 0 where
+pub record ExtendsView (s : Sizes) (h : List Event) (p : ℕ) (v : View) : Type 0 where
   pub shape : v.shape ≡ s
   pub rest : List Event
   pub begins : h ≡ v.seen ++ rest
@@ -47,13 +47,13 @@ all_cut views = sum_by (λ v. v.own_cut) views
 -- the history tells the book, its loads are explained and its fetches count their gaps, and it goes on from
 -- what each processor has seen, who knows of no more cut off than was; somebody has seen all of it; and what was cut
 -- off is what the processors' own cuts took
-pub record IsKept (s : Sizes) (h : List Event) (b : State) (views : List View) : Type 0 where
-  pub told : IsTold s h b
+pub record LockInvariant (s : Sizes) (h : List Event) (b : State) (views : List View) : Type 0 where
+  pub told : Represents s h b
   pub explained : Explained h
   pub counted : AreCounted s h
   pub few : length b.journal.events ≤ most_events
   pub all : length views ≡ s.processors
-  pub each : (p : ℕ) (v : View) → slice_get views p ≡ Some v → GoesOn s h p v
+  pub each : (p : ℕ) (v : View) → slice_get views p ≡ Some v → ExtendsView s h p v
   pub behind : (p : ℕ) (v : View) → slice_get views p ≡ Some v → v.cut ≤ b.journal.base.cut
   pub cuts : all_cut views ≡ b.journal.base.cut
   pub whole : IsSeen views h
@@ -61,7 +61,7 @@ pub record IsKept (s : Sizes) (h : List Event) (b : State) (views : List View) :
 
 -- some history is kept so
 abbrev pub Kept : State → List View → Type 0
-Kept b views = (s : Sizes) × (h : List Event) × IsKept s h b views
+Kept b views = (s : Sizes) × (h : List Event) × LockInvariant s h b views
 
 -- the events by which the new journal goes on from the old one
 abbrev pub added : Log → Log → List Event
@@ -73,7 +73,7 @@ pub record Sees (found left : State) (p : ℕ) (old new : View) : Type 0 where
   pub history : List Event
   pub views : List View
   pub at : slice_get views p ≡ Some old
-  pub kept : IsKept old.shape history found views
+  pub kept : LockInvariant old.shape history found views
   pub shape : new.shape ≡ old.shape
   pub seen : new.seen ≡ history ++ added found.journal left.journal
   pub cut : new.cut ≡ left.journal.base.cut

@@ -6,11 +6,11 @@ use Rattle.journal.specs.WellFormedFrom.{IsAway}
 use Rattle.book.specs.State.{State}
 use Rattle.book.specs.Told.{HoldsSome}
 use Rattle.page.specs.declared.page.Access.TheVariants.{Valid}
-use Rattle.replicas.specs.Copies.{Copied}
-use Rattle.replicas.specs.Local.{Local}
+use Rattle.cluster.specs.Copies.Copies.{Copied}
+use Rattle.cluster.specs.Copies.Local.{Local}
 use Rattle.cluster.specs.declared.keeper.View.{View}
 use Rattle.cluster.specs.Kept.{IsSeen, Kept}
-use Rattle.cluster.specs.Covers.{Allows, Covers, IsAllowed}
+use Rattle.cluster.specs.Covers.{LockAllows, HasCoverage, IsAllowed}
 use Rattle.cluster.specs.Histories.{IsFaithful, IsFaithfulFrom, IsJournalOf}
 use Rattle.journal.specs.Log.{Log}
 use Rattle.journal.specs.Sizes.{Sizes}
@@ -33,8 +33,8 @@ AllowedLaw = (m n : Local) → n.number ≡ m.number → n.sizes ≡ m.sizes →
 -- a valid copy of one who has done something in the journal or its block is the base's page after the stores to it in
 -- the past within these, whatever book the lock has
 abbrev pub FromBaseLaw : Type 0
-FromBaseLaw = (m : Local) (h : List Event) (a : Allows m h) (n : ℕ) (c : Copied)
-    → Covers m → n < m.sizes.pages → slice_get m.copies n ≡ Some c → c.page.access ≡ Valid
+FromBaseLaw = (m : Local) (h : List Event) (a : LockAllows m h) (n : ℕ) (c : Copied)
+    → HasCoverage m → n < m.sizes.pages → slice_get m.copies n ≡ Some c → c.page.access ≡ Valid
     → ¬ IsAway (a.book.journal.events ++ m.block) m.number
     → LawfulFrom m.sizes a.book.journal.base (a.book.journal.events ++ m.block) m.number n c.page.words
 

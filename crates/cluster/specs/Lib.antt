@@ -14,3 +14,4 @@ pub mod Clusters
 pub mod Finishing
 pub mod Laws
 pub mod Prelude
+pub mod Copies

@@ -6,9 +6,9 @@ use Rattle.book.specs.declared.refused.Refused.TheVariants as refused
 use Rattle.journal.specs.declared.event.Kind.{Kind}
 use Rattle.journal.specs.declared.event.Kind.TheVariants.{Ask, Release, Arrive, Set, Watch}
 use Rattle.journal.specs.Sizes.{addresses}
-use Rattle.lists.specs.Limits.{most_in_block}
-use Rattle.replicas.specs.Copies.{Copied, may_use, words_if}
-use Rattle.replicas.specs.Local.{Local}
+use Rattle.base.specs.Limits.{most_in_block}
+use Rattle.cluster.specs.Copies.Copies.{Copied, may_use, words_if}
+use Rattle.cluster.specs.Copies.Local.{Local}
 
 -- the first of these that applies
 abbrev pub first_due : List (Bool × Refused) → Option Refused
@@ -38,12 +38,12 @@ abbrev pub is_waiting : Local → Bool
 is_waiting m = is_some m.awaits
 
 -- no event fits into the open block any more
-abbrev pub is_full : Local → Bool
-is_full m = nat_le most_in_block (length m.block)
+abbrev pub block_full : Local → Bool
+block_full m = nat_le most_in_block (length m.block)
 
 -- why the open block may not have one more event
 abbrev pub event_refusal : Local → Option Refused
-event_refusal m = first_due ((is_waiting m, Waiting) ∷ (is_full m, BlockFull) ∷ [])
+event_refusal m = first_due ((is_waiting m, Waiting) ∷ (block_full m, BlockFull) ∷ [])
 
 -- why a load or a store at this address is refused
 abbrev pub access_refusal : Local → ℕ → Option Refused
@@ -51,14 +51,14 @@ access_refusal m a = first_due (
     (nat_le (addresses m.sizes) a, OutOfRange)
     ∷ (not (has_valid m (a / m.sizes.words)), refused.Invalid (a / m.sizes.words))
     ∷ (is_waiting m, Waiting)
-    ∷ (is_full m, BlockFull) ∷ [])
+    ∷ (block_full m, BlockFull) ∷ [])
 
 -- why a fetch of this page is refused
 abbrev pub fetch_refusal : Local → ℕ → Option Refused
 fetch_refusal m n = first_due (
     (nat_le m.sizes.pages n, OutOfRange)
     ∷ (is_waiting m, Waiting)
-    ∷ (is_full m, BlockFull)
+    ∷ (block_full m, BlockFull)
     ∷ (has_valid m n, AlreadyValid) ∷ [])
 
 -- p has entered the book as often as it may

@@ -7,8 +7,8 @@ use Rattle.turn.specs.Chairs.{lock, place, view, entries, IsOutside}
 use Rattle.turn.specs.declared.chair.ChairToken.{ChairToken}
 use Rattle.book.specs.State.{State}
 use Rattle.cluster.specs.declared.keeper.View.{View}
-use Rattle.replicas.specs.Copies.{Copied}
-use Rattle.replicas.specs.Local.{Local}
+use Rattle.cluster.specs.Copies.Copies.{Copied}
+use Rattle.cluster.specs.Copies.Local.{Local}
 
 -- the processor with these parts
 abbrev pub local : ChairToken State View → ℕ → Sizes → List Event → List Copied → List Bool → List ℕ → List Bool

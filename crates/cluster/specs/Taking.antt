@@ -5,7 +5,7 @@ use Rattle.journal.specs.declared.event.Kind.{Kind}
 use Rattle.journal.specs.declared.event.Kind.TheVariants.{Acquire}
 use Rattle.journal.specs.Did.{event}
 use Rattle.journal.specs.Brings.{Brings}
-use Rattle.journal.specs.Missing.{AreNews}
+use Rattle.journal.specs.Missing.{AreMissingNotices}
 use Rattle.journal.specs.WellFormed.{Allowed, Ready}
 use Rattle.vtime.specs.Times.{join}
 use Rattle.interval.specs.Intervals.{SentRecord}
@@ -13,9 +13,9 @@ use Rattle.interval.specs.Closings.{is_of_page}
 use Rattle.book.specs.News.{missing_in}
 use Rattle.book.specs.Stamps.{IsStamp}
 use Rattle.book.specs.declared.refused.Refused.{Refused}
-use Rattle.replicas.specs.Copies.{Copied}
-use Rattle.replicas.specs.Local.{Local}
-use Rattle.replicas.specs.Steps.{AreAfterNews, took}
+use Rattle.cluster.specs.Copies.Copies.{Copied}
+use Rattle.cluster.specs.Copies.Local.{Local}
+use Rattle.cluster.specs.Copies.Steps.{AreAfterNews, took}
 use Rattle.cluster.specs.Refusals.{or_spent, take_test}
 use Rattle.cluster.specs.Calls.{IsCall}
 
@@ -38,7 +38,7 @@ pub record IsTaken (m n : Local) : Type 0 where
   pub stamp : IsStamp m.sizes.processors m.seen (Brings m.seen m.number kind) time
   pub sent : List SentRecord
   pub news : (page : ℕ)
-      → AreNews m.sizes m.seen m.number page (slice_index m.time) (slice_index (join m.time time))
+      → AreMissingNotices m.sizes m.seen m.number page (slice_index m.time) (slice_index (join m.time time))
       (missing_in page sent)
   pub told : AreAfterNews m.copies sent n.copies
   pub after : n ≡ took m kind time n.copies

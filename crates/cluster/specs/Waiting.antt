@@ -2,12 +2,12 @@
 use Rattle.std.specs.Prelude.{◌≡◌, ◌≢◌, Option, Some, None, Result, Ok, Err, IsOk}
 use Rattle.journal.specs.Deadlocks.{IsDeadlock}
 use Rattle.book.specs.declared.refused.Refused.{Refused}
-use Rattle.replicas.specs.Local.{Local, calls}
+use Rattle.cluster.specs.Copies.Local.{Local, calls}
 use Rattle.cluster.specs.declared.waited.Waited.{Waited}
 use Rattle.cluster.specs.declared.waited.Waited.TheVariants.{MayHaveCome, Stuck, Deserted}
 use Rattle.cluster.specs.Refusals.{flush_refusal}
-use Rattle.cluster.specs.Covers.{Covers, IsAllowed}
-use Rattle.cluster.specs.Entering.{IsAfter}
+use Rattle.cluster.specs.Covers.{HasCoverage, IsAllowed}
+use Rattle.cluster.specs.Entering.{EnteredAndDid}
 use Rattle.cluster.specs.Taking.{IsLate}
 
 -- what is answered where a look came to this: after a sleep something may have come
@@ -21,7 +21,7 @@ IsUnchanged m n = n ≡ m
 
 -- the call entered and changed nothing, and says so if the history that it found is a deadlock
 pub record HasLooked (old new : Local) (answer : Result Waited Refused) : Type 0 where
-  pub entered : IsAfter IsUnchanged old new
+  pub entered : EnteredAndDid IsUnchanged old new
   pub ok : IsOk answer
   pub exact : IsDeadlock new.sizes new.seen → answer ≡ Ok Stuck
 
@@ -36,5 +36,5 @@ pub record IsWaitingCall (old new : Local) (answer : Result Waited Refused) : Ty
   pub stuck : answer ≡ Ok Stuck → IsDeadlock new.sizes new.seen
   pub deserted : answer ≡ Ok Deserted → IsLate new
   pub calls_are : calls new ≡ calls old
-  pub covers : Covers new
+  pub covers : HasCoverage new
   pub allowed : IsAllowed old → IsAllowed new

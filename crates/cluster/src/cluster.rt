@@ -1,7 +1,7 @@
 //! Clusters.
 ghost use Rattle.std.specs.Prelude.{◌≡◌, ◌≢◌, ◌⊎◌, ◌↔◌, ◌^◌, ◌≤◌, ◌<◌, Err, IfErr, IfOk, IsTrue, ℕ, List, [], length};
 ghost use Rattle.std.specs.Prelude.{vec_len, vec_capacity, slice_get, Some};
-ghost use Rattle.replicas.specs.Prelude.{AreSizes};
+ghost use Rattle.cluster.specs.Copies.Prelude.{AreSizes};
 ghost use Rattle.cluster.specs.Prelude.{AreParts, AreNewChairs, AreSeated, AreNew, AreCovered};
 
 mod calls;
@@ -36,7 +36,7 @@ pub struct Cluster<T: BookTurn> {
 
 impl<T: BookTurn> Model for Cluster<T> {
     ghost use Rattle.std.specs.Prelude.{◌≡◌};
-    ghost use Rattle.replicas.specs.Sound.{AreSizes};
+    ghost use Rattle.cluster.specs.Copies.Sound.{AreSizes};
     ghost use Rattle.cluster.specs.Clusters.{Shared, shared};
 
     ghost Value = { Shared };

@@ -1,5 +1,5 @@
 //! What the book's lock keeps.
-ghost use Rattle.cluster.specs.Prelude.{Kept, nothing_seen, sizes_of, Sees};
+ghost use Rattle.cluster.specs.Prelude.{Kept, nothing_seen, book_sizes, Sees};
 
 use crate::shape::Shape;
 use book::Book;
@@ -22,13 +22,13 @@ pub struct View {
 pub struct Rule;
 
 impl Keeper<Book> for Rule {
-    ghost use Rattle.cluster.specs.Kept.{Kept, nothing_seen, sizes_of};
+    ghost use Rattle.cluster.specs.Kept.{Kept, nothing_seen, book_sizes};
 
     type View = View;
 
     ghost fact = { Kept };
 
-    ghost first = { λ b. nothing_seen (sizes_of b) };
+    ghost first = { λ b. nothing_seen (book_sizes b) };
 
     ghost nobody = { nothing_seen (record
         { processors = 0; pages = 0; words = 0; locks = 0; flags = 0 }) };

@@ -2,7 +2,7 @@
 //! yet, and a chair at the book's lock (Keleher, Cox and Zwaenepoel, Lazy Release Consistency for
 //! Software Distributed Shared Memory, ISCA 1992).
 //!
-//! **What contracts see.** A `Processor` is a `Local` (crate `replicas`): its lock and entries, number, sizes, what it has
+//! **What contracts see.** A `Processor` is a `Local` (crate `cluster`): its lock and entries, number, sizes, what it has
 //! seen of the journal, its open block, copies, marks, timestamp, locks held and what it waits for. A `Cluster` is a
 //! `Shared`: its lock and sizes. What the book's lock keeps is `IsKept`.
 //!
@@ -11,12 +11,13 @@
 //! `audit` and `finish`: faithful histories with each processor's calls. `wait`: it says that all are stuck exactly if the
 //! history that it finds is a deadlock.
 //!
-//! **What is only tested** (in `cluster_uses`): that no call is refused needlessly, that threads get on, and that nobody
+//! **What is only tested** (in `test_crews`): that no call is refused needlessly, that threads get on, and that nobody
 //! sleeps for ever.
 #![tactic(auto)]
 
 mod bells;
 mod cluster;
+pub mod copies;
 mod keeper;
 pub mod laws;
 mod processor;

@@ -4,21 +4,21 @@ ghost use Rattle.std.specs.Prelude.{length, map, replicate, slice_index_or};
 ghost use Rattle.std.specs.Arc.{arc_value};
 ghost use Rattle.std.specs.Option.{option_map};
 ghost use Rattle.std.specs.Result.{result_err};
-ghost use Rattle.lists.specs.Prelude.{most_in_block};
+ghost use Rattle.base.specs.Prelude.{most_in_block};
 ghost use Rattle.turn.specs.Prelude.{lock};
 ghost use Rattle.journal.specs.Prelude.{event, is_closing};
-ghost use Rattle.replicas.specs.Prelude.{blank, DirtyAreMarked, cleaned, AreSizes, calls, noted, new_local};
-ghost use Rattle.replicas.specs.Prelude.{AreHarvests};
+ghost use Rattle.cluster.specs.Copies.Prelude.{blank, DirtyAreMarked, cleaned, AreSizes, calls, noted, new_local};
+ghost use Rattle.cluster.specs.Copies.Prelude.{AreHarvests};
 ghost use Rattle.cluster.specs.Prelude.{AreParts, IsNewChair, page_of, has_valid, is_waiting, access_refusal};
 ghost use Rattle.cluster.specs.Prelude.{fetch_refusal, event_refusal, arrive_test, ask_test, release_test, flag_test};
-ghost use Rattle.cluster.specs.Prelude.{take_test, closing_test, HasWord, IsStored, IsFetched, Covers, IsApart};
+ghost use Rattle.cluster.specs.Prelude.{take_test, closing_test, HasWord, StoreDone, FetchDone, HasCoverage, IsTakenApart};
 
+use crate::copies::{Marks, Replica};
 use crate::keeper::{BookTurn, Rule};
 use crate::shape::Shape;
 use book::{Book, Refused};
 use journal::{Event, Kind};
 use page::Record;
-use replicas::{Marks, Replica};
 use std::alloc::{AllocError, Global};
 use std::marker::{Model, PhantomData};
 use std::sync::Arc;
@@ -83,10 +83,10 @@ pub struct Processor<T: BookTurn> {
 impl<T: BookTurn> Model for Processor<T> {
     ghost use Rattle.std.specs.Prelude.{◌≡◌, ◌≤◌, vec_capacity};
     ghost use Rattle.turn.specs.Chairs.{lock, view, entries, place, IsOutside};
-    ghost use Rattle.lists.specs.Limits.{most_in_block};
-    ghost use Rattle.replicas.specs.Local.{Local};
+    ghost use Rattle.base.specs.Limits.{most_in_block};
+    ghost use Rattle.cluster.specs.Copies.Local.{Local};
     ghost use Rattle.cluster.specs.Seats.{local};
-    ghost use Rattle.replicas.specs.Sound.{IsSound};
+    ghost use Rattle.cluster.specs.Copies.Sound.{IsSound};
     ghost use Rattle.cluster.specs.Seats.{IsSeated};
 
     ghost Value = { Local };
@@ -136,7 +136,7 @@ impl<T: BookTurn> Processor<T> {
 
     /// Its chair and its open block, at the end.
     pub(crate) fn into_parts(self) -> (Chair<Book, Rule>, Vec<Event>)
-        ensures { IsApart self result.0 result.1.items }
+        ensures { IsTakenApart self result.0 result.1.items }
     {
         (self.chair, self.block)
     }
@@ -210,7 +210,7 @@ impl<T: BookTurn> Processor<T> {
         ensures ok { IfOk result (λ v. self.new ≡ noted self.old (Kind.Load address v)) }
         ensures calls { IfOk result (λ v. calls self.new
             ≡ calls self.old ++ event self.old.number (Kind.Load address v) ∷ []) }
-        ensures covers { Covers self.new }
+        ensures covers { HasCoverage self.new }
     {
         let (page, offset) = self.admit(address)?;
         let value = self.replicas[page].load(offset);
@@ -226,10 +226,10 @@ impl<T: BookTurn> Processor<T> {
     pub fn store(&mut self, address: usize, value: u32) -> Result<(), Refused>
         ensures refused { result_err result ≡ access_refusal self.old address }
         ensures err { OnErr result (self.new ≡ self.old) }
-        ensures ok { OnOk result (IsStored self.old address value self.new) }
+        ensures ok { OnOk result (StoreDone self.old address value self.new) }
         ensures calls { OnOk result (calls self.new
             ≡ calls self.old ++ event self.old.number (Kind.Store address value) ∷ []) }
-        ensures covers { Covers self.new }
+        ensures covers { HasCoverage self.new }
     {
         let (page, offset) = self.admit(address)?;
         self.replicas[page].store(offset, value);
@@ -250,8 +250,8 @@ impl<T: BookTurn> Processor<T> {
     pub fn fetch(&mut self, page: usize) -> Result<(), Refused>
         ensures refused { result_err result ≡ fetch_refusal self.old page }
         ensures err { OnErr result (self.new ≡ self.old) }
-        ensures ok { OnOk result (IsFetched self.old page self.new) }
-        ensures covers { Covers self.new }
+        ensures ok { OnOk result (FetchDone self.old page self.new) }
+        ensures covers { HasCoverage self.new }
     {
         self.admit_fetch(page)?;
         let replica = &mut self.replicas[page];
@@ -273,7 +273,7 @@ impl<T: BookTurn> Processor<T> {
     pub(crate) fn harvest(&self) -> Result<Vec<Arc<Record>>, AllocError>
         ensures { IfOk result (λ rs. AreHarvests self.now.copies (map arc_value rs.items)) }
     {
-        replicas::harvest(
+        crate::copies::harvest(
             *self.block.allocator(),
             self.replicas.as_slice(),
             &self.stored,
@@ -410,5 +410,5 @@ pub(crate) fn clean(replicas: &mut Vec<Replica>, stored: &mut Marks)
     ensures copies { replicas.new.items ≡ map cleaned replicas.old.items }
     ensures stored { stored.new ≡ replicate 64 false }
 {
-    replicas::clean(replicas.as_mut_slice(), stored);
+    crate::copies::clean(replicas.as_mut_slice(), stored);
 }

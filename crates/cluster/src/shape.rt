@@ -1,6 +1,6 @@
 //! The sizes of a cluster.
 ghost use Rattle.std.specs.Prelude.{◌↔◌, IsTrue};
-ghost use Rattle.replicas.specs.Prelude.{AreSizes};
+ghost use Rattle.cluster.specs.Copies.Prelude.{AreSizes};
 
 use std::marker::Model;
 

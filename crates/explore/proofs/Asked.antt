@@ -3,8 +3,8 @@ use Rattle.std.proofs.Common.{◌≡◌, ◌≢◌, ℕ, ◌<◌, ◌↔◌, inl
 use Rattle.std.specs.Prelude.{None}
 use Rattle.std.proofs.lemmas.Bool.{cases_eq, cases_order}
 use Rattle.std.proofs.lemmas.Option.{same_Some, none-some, slice_get-get_or}
-use Rattle.lists.specs.Places.{Has}
-use Rattle.lists.proofs.Places.{push_cases}
+use Rattle.base.specs.Places.{Has}
+use Rattle.base.proofs.Places.{push_cases}
 use Rattle.journal.specs.declared.event.Event.{Event}
 use Rattle.journal.specs.declared.event.Kind.{Kind}
 use Rattle.journal.specs.declared.event.Kind.TheVariants.{Ask, Acquire, Arrive, Watch}
@@ -17,8 +17,8 @@ use Rattle.journal.proofs.Order.Places.{at_within}
 use Rattle.journal.proofs.Journals.WellFormed.{last_unique, last_now, last_longer, last_shorter}
 use Rattle.judge.specs.Why.{WaitsFor}
 use Rattle.explore.specs.Waiting.{AsksAt, AwaitsLock, IsFirstOf, TellsWaiting}
-use Rattle.explore.specs.Waits.{AreKept, ending, seated}
-use Rattle.explore.specs.declared.wait.Wait.{Wait}
+use Rattle.explore.specs.Waits.{AwaitedAreKept, ending, seated}
+use Rattle.explore.specs.declared.wait.WaitCode.{WaitCode}
 use Rattle.explore.specs.declared.wait.Seat.{Seat}
 use Rattle.explore.specs.declared.waiting.Waiting.{Waiting}
 use Rattle.explore.proofs.Waits.{ending_lock}
@@ -141,8 +141,8 @@ waits_other j p q k b apart = (
 )
 
 -- what is waited for after one more event
-pub waits_next : (j : List Event) (p : ℕ) (k : Kind) (waits : List (Option Wait)) (w : Option Wait) → p < length waits
-    → ending w ≡ awaited k → AreKept j waits → AreKept (did j p k) (slice_set waits p w)
+pub waits_next : (j : List Event) (p : ℕ) (k : Kind) (waits : List (Option WaitCode)) (w : Option WaitCode) → p < length waits
+    → ending w ≡ awaited k → AwaitedAreKept j waits → AwaitedAreKept (did j p k) (slice_set waits p w)
 waits_next j p k waits w within ends old q b = elim (cases_eq q p) [
   | inl is ↦
       subst (λ r. (ending (slice_index_or (slice_set waits p w) r None) ≡ Some b) ↔ WaitsFor (did j p k) r b) (sym is)

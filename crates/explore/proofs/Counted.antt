@@ -8,14 +8,14 @@ use Rattle.std.proofs.lemmas.Bool.{and_from, eq-eqb, false≢true}
 use Rattle.std.proofs.lemmas.Option.{none-some, same_Some}
 use mathlib.Core.Bool.{beq}
 use Rattle.journal.specs.declared.event.Event.{Event}
-use Rattle.explore.specs.declared.wait.Wait.{Wait}
+use Rattle.explore.specs.declared.wait.WaitCode.{WaitCode}
 use Rattle.explore.specs.declared.wait.Seat.{Seat}
 use Rattle.lrc_script.specs.Plan.{Plan}
-use Rattle.explore.specs.declared.found.Found.{Found}
-use Rattle.explore.specs.declared.machine.Machine.{Machine}
+use Rattle.explore.specs.declared.states.States.{States}
+use Rattle.explore.specs.declared.flat_state.FlatState.{FlatState}
 use Rattle.explore.specs.declared.waiting.Waiting.{Waiting}
 use Rattle.explore.specs.Found.{AreFound, states_of}
-use Rattle.explore.specs.Machines.{IsLike, Knows}
+use Rattle.explore.specs.Machines.{SameState, Knows}
 use Rattle.explore.specs.States.{HasStates}
 use Rattle.explore.specs.Waiting.{IsLikeWaiting}
 use Rattle.explore.proofs.Determined.{apart_at, same_machine}
@@ -42,7 +42,7 @@ own_bool : (b : Bool) → beq b b ≡ true
 own_bool true = refl
 own_bool false = refl
 
-module _ (E : Wait → Wait → Bool) (F : Seat → Seat → Bool) (own : (w : Wait) → E w w ≡ true)
+module _ (E : WaitCode → WaitCode → Bool) (F : Seat → Seat → Bool) (own : (w : WaitCode) → E w w ≡ true)
     (own_seat : (s : Seat) → F s s ≡ true) where
   like_waiting : (x y : Waiting) → IsLikeWaiting x y → waiting_eq E F x y ≡ true
   like_waiting x y like =
@@ -52,14 +52,14 @@ module _ (E : Wait → Wait → Bool) (F : Seat → Seat → Bool) (own : (w : W
       (and_from _ _ (itself beq own_bool x.flags y.flags like.flags)
       (itself nat_eq own_number x.asked.items y.asked.items like.asked))))
 
-  like_equal : (m n : Machine) → IsLike m n → machine_eq E F m n ≡ true
+  like_equal : (m n : FlatState) → SameState m n → machine_eq E F m n ≡ true
   like_equal m n like =
       and_from _ _ (itself nat_eq own_number m.done n.done like.done)
       (and_from _ _ (rows_eq m.replies.items n.replies.items (sym like.replies))
       (and_from _ _ (itself nat_eq own_number m.memory.items n.memory.items like.memory)
       (like_waiting m.waiting n.waiting like.waiting)))
 
-  like_trans : (a b c : Machine) → IsLike a b → IsLike b c → IsLike a c
+  like_trans : (a b c : FlatState) → SameState a b → SameState b c → SameState a c
   like_trans a b c first second = record {
     done = second.done ∙ first.done;
     replies = second.replies ∙ first.replies;
@@ -73,13 +73,13 @@ module _ (E : Wait → Wait → Bool) (F : Seat → Seat → Bool) (own : (w : W
     };
   }
 
-  module _ (s : Plan) (x : Found) (found : AreFound s x) (unique : IsDistinct (machine_eq E F) (states_of x)) where
+  module _ (s : Plan) (x : States) (found : AreFound s x) (unique : IsDistinct (machine_eq E F) (states_of x)) where
     -- some events that come to the state at a place
-    events_of : (i : ℕ) (o : Option Machine) → slice_get (states_of x) i ≡ o → List Event
+    events_of : (i : ℕ) (o : Option FlatState) → slice_get (states_of x) i ≡ o → List Event
     events_of i None is = []
     events_of i (Some m) is = (found.known i m is).0
 
-    knows_of : (i : ℕ) (m : Machine) (o : Option Machine) (is : slice_get (states_of x) i ≡ o) → o ≡ Some m
+    knows_of : (i : ℕ) (m : FlatState) (o : Option FlatState) (is : slice_get (states_of x) i ≡ o) → o ≡ Some m
         → Knows s (events_of i o is) m
     unfolding events_of
     knows_of i m None is some = absurd (none-some m some)

@@ -6,13 +6,13 @@ use Rattle.std.specs.Prelude.{None}
 use Rattle.std.specs.List.{AllByRecursion, IsDistinct}
 use Rattle.std.proofs.lemmas.Bool.{false≢true}
 use Rattle.std.proofs.lemmas.Option.{none-some, same_Some}
-use Rattle.lists.specs.Places.{Has, InOrder}
-use Rattle.lists.proofs.Joined.{has-cons, has-nil}
+use Rattle.base.specs.Places.{Has, InOrder}
+use Rattle.base.proofs.Joined.{has-cons, has-nil}
 use Rattle.journal.specs.declared.event.Event.{Event}
 use Rattle.lrc_script.specs.Plan.{Plan}
-use Rattle.explore.specs.declared.machine.Machine.{Machine}
+use Rattle.explore.specs.declared.flat_state.FlatState.{FlatState}
 use Rattle.explore.specs.declared.waiting.Waiting.{Waiting}
-use Rattle.explore.specs.Machines.{IsLike, Knows, items_of}
+use Rattle.explore.specs.Machines.{SameState, Knows, items_of}
 use Rattle.explore.specs.Waiting.{AreAsked, AsksAt, IsLikeWaiting, TellsWaiting}
 use Rattle.explore.proofs.Queued.{AskedBefore}
 use Rattle.explore.proofs.Waits.{ending_once, seated_once}
@@ -111,7 +111,7 @@ same_waiting g x y first second = record {
   asked = same_asked g y.asked.items x.asked.items second.asked first.asked;
 }
 
-pub same_machine : (s : Plan) (g : List Event) (m n : Machine) → Knows s g m → Knows s g n → IsLike m n
+pub same_machine : (s : Plan) (g : List Event) (m n : FlatState) → Knows s g m → Knows s g n → SameState m n
 same_machine s g m n first second = record {
   done = (
       let one = first.long in

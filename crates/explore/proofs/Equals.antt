@@ -8,16 +8,16 @@ use Rattle.std.specs.List.{list_any}
 use Rattle.std.proofs.lemmas.Bool.{and_from, and_parts, false≢true}
 use Rattle.std.proofs.lemmas.Cmp.{nat_list_eq_equiv}
 use Rattle.std.proofs.lemmas.List.{map-append}
-use Rattle.lists.specs.Places.{Has}
-use Rattle.lists.proofs.Joined.{has-cons, has-nil}
+use Rattle.base.specs.Places.{Has}
+use Rattle.base.proofs.Joined.{has-cons, has-nil}
 use mathlib.Core.Bool.{beq}
-use Rattle.explore.specs.declared.wait.Wait.{Wait}
+use Rattle.explore.specs.declared.wait.WaitCode.{WaitCode}
 use Rattle.explore.specs.declared.wait.Seat.{Seat}
-use Rattle.explore.specs.declared.machine.Machine.{Machine}
+use Rattle.explore.specs.declared.flat_state.FlatState.{FlatState}
 use Rattle.explore.specs.declared.waiting.Waiting.{Waiting}
 use Rattle.explore.specs.declared.explored.Outcome.{Outcome}
 use Rattle.explore.specs.Explored.{replies_of}
-use Rattle.explore.specs.Machines.{IsLike, items_of}
+use Rattle.explore.specs.Machines.{SameState, items_of}
 use Rattle.explore.specs.Searched.{IsAmong}
 use Rattle.explore.specs.Waiting.{IsLikeWaiting}
 
@@ -57,20 +57,20 @@ same_bool false true h = absurd (false≢true h)
 same_bool false false h = refl
 
 -- what `==` tests
-module _ (E : Wait → Wait → Bool) (F : Seat → Seat → Bool) where
+module _ (E : WaitCode → WaitCode → Bool) (F : Seat → Seat → Bool) where
   abbrev pub waiting_eq : Waiting → Waiting → Bool
   waiting_eq x y =
       pointwise (option_eq E) x.waits y.waits && (pointwise nat_eq x.arrivals y.arrivals
       && (pointwise (option_eq F) x.holders y.holders
       && (pointwise beq x.flags y.flags && pointwise nat_eq x.asked.items y.asked.items)))
 
-  abbrev pub machine_eq : Machine → Machine → Bool
+  abbrev pub machine_eq : FlatState → FlatState → Bool
   machine_eq m n =
       pointwise nat_eq m.done n.done
       && (pointwise (λ (v w : Vec ℕ). pointwise nat_eq v.items w.items) m.replies.items n.replies.items
       && (pointwise nat_eq m.memory.items n.memory.items && waiting_eq m.waiting n.waiting))
 
-module _ (E : Wait → Wait → Bool) (F : Seat → Seat → Bool) (same_wait : (a b : Wait) → E a b ≡ true → b ≡ a)
+module _ (E : WaitCode → WaitCode → Bool) (F : Seat → Seat → Bool) (same_wait : (a b : WaitCode) → E a b ≡ true → b ≡ a)
     (same_seat : (a b : Seat) → F a b ≡ true → b ≡ a) where
   waiting_like : (x y : Waiting) → waiting_eq E F x y ≡ true → IsLikeWaiting x y
   waiting_like x y h =
@@ -86,7 +86,7 @@ module _ (E : Wait → Wait → Bool) (F : Seat → Seat → Bool) (same_wait : 
         asked = same_numbers x.asked.items y.asked.items d.1;
       }
 
-  pub machine_like : (m n : Machine) → machine_eq E F m n ≡ true → IsLike m n
+  pub machine_like : (m n : FlatState) → machine_eq E F m n ≡ true → SameState m n
   machine_like m n h =
       let a = and_parts (pointwise nat_eq m.done n.done) _ h in
       let rows : Vec ℕ → Vec ℕ → Bool = λ v w. pointwise nat_eq v.items w.items in

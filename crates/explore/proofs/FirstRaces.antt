@@ -8,8 +8,8 @@ use Rattle.journal.proofs.Bases.Races.{race_shorter}
 use Rattle.journal.proofs.Order.HappensBefore.{shorter}
 use Rattle.journal.proofs.Order.Places.{at_longer, at_within}
 use Rattle.lrc_script.specs.Plan.{Plan}
-use Rattle.beginnings.specs.Beginnings.{IsFlatBeginning}
-use Rattle.beginnings.proofs.Beginnings.{front_begins}
+use Rattle.explore.specs.Prefixes.Beginnings.{IsFlatBeginning}
+use Rattle.explore.proofs.prefixes.Beginnings.{front_begins}
 
 -- a race of a front is one of the whole
 race_longer : (c j : List Event) (i k : ℕ) → Race c i k → Race (c ++ j) i k

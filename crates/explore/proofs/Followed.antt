@@ -3,26 +3,26 @@
 use Rattle.std.proofs.Common.{ℕ, zero, suc, ◌≡◌, ◌<◌, ◌≤◌, inl, inr, List, [], ◌∷◌, ◌++◌, Option, Some, length, slice_get, refl, sym, ap, subst, ◌∙◌, length-append, arith}
 use Rattle.std.specs.Prelude.{None}
 use Rattle.std.proofs.lemmas.Option.{same_Some, none-some, slice_get_within}
-use Rattle.lists.proofs.Places.{push_cases, slice_get-append_left, slice_get-last}
+use Rattle.base.proofs.Places.{push_cases, slice_get-append_left, slice_get-last}
 use Rattle.journal.specs.declared.event.Event.{Event}
 use Rattle.journal.specs.declared.event.Kind.{Kind}
 use Rattle.journal.specs.Did.{did, event}
 use Rattle.lrc_script.specs.Plan.{Plan}
-use Rattle.beginnings.specs.Beginnings.{IsFlatBeginning}
-use Rattle.explore.specs.declared.found.Found.{Found}
-use Rattle.explore.specs.declared.found.Origin.{Origin}
-use Rattle.explore.specs.declared.machine.Machine.{Machine}
-use Rattle.explore.specs.Found.{AreFound, ComesFrom, GoesOn, IsAdded, IsFollowed, IsKnown, Keeps, WasPushed, WasThere, states_of}
+use Rattle.explore.specs.Prefixes.Beginnings.{IsFlatBeginning}
+use Rattle.explore.specs.declared.states.States.{States}
+use Rattle.explore.specs.declared.states.Origin.{Origin}
+use Rattle.explore.specs.declared.flat_state.FlatState.{FlatState}
+use Rattle.explore.specs.Found.{AreFound, ComesFrom, StaysPossible, StateAdded, IsFollowed, IsKnown, Keeps, WasPushed, WasThere, states_of}
 use Rattle.explore.specs.Machines.{Knows}
 use Rattle.explore.proofs.Likes.{knows_like}
 
 -- states that are pushed on
-pub keeps_push : (old new : List Machine) (m : Machine) → new ≡ old ++ m ∷ [] → Keeps old new
+pub keeps_push : (old new : List FlatState) (m : FlatState) → new ≡ old ++ m ∷ [] → Keeps old new
 keeps_push old new m is place f at =
     ap (λ ms. slice_get ms place) is
     ∙ (slice_get-append_left old (m ∷ []) place (slice_get_within old place f at) ∙ at)
 
-pub known_kept : (s : Plan) (old new : List Machine) (g : List Event) → Keeps old new → IsKnown s old g → IsKnown s new g
+pub known_kept : (s : Plan) (old new : List FlatState) (g : List Event) → Keeps old new → IsKnown s old g → IsKnown s new g
 known_kept s old new g keeps known = record {
   place = known.place;
   state = known.state;
@@ -31,7 +31,7 @@ known_kept s old new g keeps known = record {
 }
 
 -- where a state comes from stays so
-comes_kept : (s : Plan) (old new : List Machine) (place : ℕ) (m : Machine) (o : Option Origin) → Keeps old new
+comes_kept : (s : Plan) (old new : List FlatState) (place : ℕ) (m : FlatState) (o : Option Origin) → Keeps old new
     → place ≤ length old → ComesFrom s old place m o → ComesFrom s new place m o
 comes_kept s old new place m None keeps within from = from
 comes_kept s old new place m (Some o) keeps within from = record {
@@ -43,13 +43,13 @@ comes_kept s old new place m (Some o) keeps within from = record {
       from.after f g (subst (λ x. slice_get old o.from ≡ Some x) same here.1) knows;
 }
   where
-    there : (xs : List Machine) (k : ℕ) → k < length xs → (x : Machine) × (slice_get xs k ≡ Some x)
+    there : (xs : List FlatState) (k : ℕ) → k < length xs → (x : FlatState) × (slice_get xs k ≡ Some x)
     there [] k lt = absurd (omega arith)
     there (x ∷ xs) zero lt = (x, refl)
     there (x ∷ xs) (suc k) lt = there xs k (omega arith)
 
 -- a state that comes from somewhere is pushed on
-module _ (s : Plan) (x y : Found) (m : Machine) (o : Option Origin) (pushed : WasPushed x y m o) where
+module _ (s : Plan) (x y : States) (m : FlatState) (o : Option Origin) (pushed : WasPushed x y m o) where
   pushed_keeps : Keeps (states_of x) (states_of y)
   pushed_keeps = keeps_push (states_of x) (states_of y) m pushed.states
 
@@ -61,7 +61,7 @@ module _ (s : Plan) (x y : Found) (m : Machine) (o : Option Origin) (pushed : Wa
   pushed_found old g knows from = record {
     long = (
         let before = old.long in
-        let states = ap (λ (ms : List Machine). length ms) pushed.states in
+        let states = ap (λ (ms : List FlatState). length ms) pushed.states in
         let origins = ap (λ (os : List (Option Origin)). length os) pushed.origins in
         let one = length-append (states_of x) (m ∷ []) in
         let two = length-append x.origins.items (o ∷ []) in
@@ -97,14 +97,14 @@ module _ (s : Plan) (x y : Found) (m : Machine) (o : Option Origin) (pushed : Wa
   pushed_known g knows = record { place = length (states_of x); state = m; at = pushed_at; knows = knows }
 
 -- a state that was there
-module _ (s : Plan) (x y : Found) (m : Machine) (was : WasThere x y m) where
+module _ (s : Plan) (x y : States) (m : FlatState) (was : WasThere x y m) where
   there_keeps : Keeps (states_of x) (states_of y)
   there_keeps place f at = ap (λ ms. slice_get ms place) was.states ∙ at
 
   pub there_found : AreFound s x → AreFound s y
   there_found old = record {
     long = ap (λ (os : List (Option Origin)). length os) was.origins ∙ old.long
-        ∙ ap (λ (ms : List Machine). length ms) (sym was.states);
+        ∙ ap (λ (ms : List FlatState). length ms) (sym was.states);
     known = λ place f at. old.known place f (ap (λ ms. slice_get ms place) (sym was.states) ∙ at);
     come = λ place f p at from_at.
         subst (λ ms. ComesFrom s ms place f p) (sym was.states)
@@ -122,10 +122,10 @@ module _ (s : Plan) (x y : Found) (m : Machine) (was : WasThere x y m) where
   }
 
 -- what a state comes to is found
-pub followed : (s : Plan) (x y : Found) (place p : ℕ) (k : Kind) (f m : Machine) → AreFound s x
-    → slice_get (states_of x) place ≡ Some f → GoesOn s f p k
+pub followed : (s : Plan) (x y : States) (place p : ℕ) (k : Kind) (f m : FlatState) → AreFound s x
+    → slice_get (states_of x) place ≡ Some f → StaysPossible s f p k
     → ((g : List Event) → Knows s g f → IsFlatBeginning s (did g p k) → Knows s (did g p k) m)
-    → IsAdded x y m (Some (record { from = place; event = event p k })) → IsFollowed s x y place p k
+    → StateAdded x y m (Some (record { from = place; event = event p k })) → IsFollowed s x y place p k
 followed s x y place p k f m old at goes steps (inl was) = record {
   keeps = there_keeps s x y m was;
   found = there_found s x y m was old;
@@ -133,7 +133,7 @@ followed s x y place p k f m old at goes steps (inl was) = record {
       let same = same_Some h f (sym here ∙ at) in
       let mine = subst (Knows s g) same knows in
       there_known s x y m was (did g p k) (steps g mine (goes g mine));
-  few = (let same = ap (λ (ms : List Machine). length ms) was.states in omega (arith, same));
+  few = (let same = ap (λ (ms : List FlatState). length ms) was.states in omega (arith, same));
 }
 followed s x y place p k f m old at goes steps (inr pushed) = record {
   keeps = pushed_keeps s x y m _ pushed;
@@ -150,34 +150,34 @@ followed s x y place p k f m old at goes steps (inr pushed) = record {
       let mine = subst (Knows s g) (same_Some h f (sym here ∙ at)) knows in
       pushed_known s x y m _ pushed (did g p k) (steps g mine (goes g mine));
   few = (
-      let more = ap (λ (ms : List Machine). length ms) pushed.states in
+      let more = ap (λ (ms : List FlatState). length ms) pushed.states in
       let one = length-append (states_of x) (m ∷ []) in
       omega (arith, more, one));
 }
 
 -- one state is added to none
-pub first_few : (x y : Found) (m : Machine) (o : Option Origin) → states_of x ≡ [] → IsAdded x y m o
+pub first_few : (x y : States) (m : FlatState) (o : Option Origin) → states_of x ≡ [] → StateAdded x y m o
     → length (states_of y) ≤ 1
 first_few x y m o none (inl was) =
-    let same = ap (λ (ms : List Machine). length ms) was.states in
-    let no = ap (λ (ms : List Machine). length ms) none in
+    let same = ap (λ (ms : List FlatState). length ms) was.states in
+    let no = ap (λ (ms : List FlatState). length ms) none in
     omega (arith, same, no)
 first_few x y m o none (inr pushed) =
-    let more = ap (λ (ms : List Machine). length ms) pushed.states in
+    let more = ap (λ (ms : List FlatState). length ms) pushed.states in
     let one = length-append (states_of x) (m ∷ []) in
-    let no = ap (λ (ms : List Machine). length ms) none in
+    let no = ap (λ (ms : List FlatState). length ms) none in
     omega (arith, more, one, no)
 
 -- the first state alone
-pub first_found : (s : Plan) (x y : Found) (m : Machine) → states_of x ≡ [] → x.origins.items ≡ [] → Knows s [] m
-    → IsAdded x y m None → AreFound s y
+pub first_found : (s : Plan) (x y : States) (m : FlatState) → states_of x ≡ [] → x.origins.items ≡ [] → Knows s [] m
+    → StateAdded x y m None → AreFound s y
 first_found s x y m states origins knows (inl was) =
     absurd (none-some was.state (sym (ap (λ ms. slice_get ms was.place) states) ∙ was.at))
 first_found s x y m states origins knows (inr pushed) =
     let all = pushed.states ∙ ap (λ ms. ms ++ m ∷ []) states in
     let from = pushed.origins ∙ ap (λ os. os ++ None ∷ []) origins in
     record {
-      long = ap (λ (os : List (Option Origin)). length os) from ∙ ap (λ (ms : List Machine). length ms) (sym all);
+      long = ap (λ (os : List (Option Origin)). length os) from ∙ ap (λ (ms : List FlatState). length ms) (sym all);
       known = λ place f at. (
         [],
         subst (Knows s []) (only m place f (ap (λ ms. slice_get ms place) (sym all) ∙ at)) knows,

@@ -6,15 +6,15 @@ use Rattle.std.proofs.lemmas.Option.{same_Some, slice_get_within}
 use Rattle.journal.specs.declared.event.Kind.{Kind}
 use Rattle.journal.specs.Did.{did}
 use Rattle.lrc_script.specs.Plan.{Plan}
-use Rattle.explore.specs.declared.found.Found.{Found}
-use Rattle.explore.specs.declared.machine.Machine.{Machine}
+use Rattle.explore.specs.declared.states.States.{States}
+use Rattle.explore.specs.declared.flat_state.FlatState.{FlatState}
 use Rattle.explore.specs.Followed.{AreFollowed, MayFollowAll}
-use Rattle.explore.specs.Found.{GoesOn, IsFollowed, IsKnown, Keeps, states_of}
+use Rattle.explore.specs.Found.{StaysPossible, IsFollowed, IsKnown, Keeps, states_of}
 use Rattle.explore.specs.Machines.{IsStepOf}
 use Rattle.explore.proofs.Followed.{known_kept}
 use Rattle.explore.proofs.Machines.{next_within, some_at}
 
-module _ (s : Plan) (x y : Found) (place : ℕ) (nexts : List (Option Kind)) (may : MayFollowAll s x place nexts) where
+module _ (s : Plan) (x y : States) (place : ℕ) (nexts : List (Option Kind)) (may : MayFollowAll s x place nexts) where
   pub none_followed : AreFollowed s x x place 0
   none_followed = record {
     keeps = λ k m at. at;
@@ -24,7 +24,7 @@ module _ (s : Plan) (x y : Found) (place : ℕ) (nexts : List (Option Kind)) (ma
   }
 
   -- the state at the place is still there
-  pub still_at : Keeps (states_of x) (states_of y) → (m : Machine) → slice_get (states_of y) place ≡ Some m
+  pub still_at : Keeps (states_of x) (states_of y) → (m : FlatState) → slice_get (states_of y) place ≡ Some m
       → slice_get (states_of x) place ≡ Some m
   still_at keeps m at =
       let f = some_at (states_of x) place may.within in
@@ -39,10 +39,10 @@ module _ (s : Plan) (x y : Found) (place : ℕ) (nexts : List (Option Kind)) (ma
 
     -- an event that may come next
     module _ (k : Kind) (here : slice_index_or nexts n None ≡ Some k) where
-      pub goes_on : (m : Machine) → slice_get (states_of y) place ≡ Some m → GoesOn s m n k
+      pub goes_on : (m : FlatState) → slice_get (states_of y) place ≡ Some m → StaysPossible s m n k
       goes_on m at g knows = (may.next m (still_at old.keeps m at) g knows n k).0 here
 
-      pub may_step : (m : Machine) → slice_get (states_of y) place ≡ Some m → IsStepOf m n k
+      pub may_step : (m : FlatState) → slice_get (states_of y) place ≡ Some m → IsStepOf m n k
       may_step m at =
           let g = old.found.known place m at in
           record {
@@ -61,7 +61,7 @@ module _ (s : Plan) (x y : Found) (place : ℕ) (nexts : List (Option Kind)) (ma
           let most = may.lawful.but_uneven.sizes.most_processors in
           omega arith
 
-      pub one_followed : (z : Found) → IsFollowed s y z place n k → AreFollowed s x z place (n + 1)
+      pub one_followed : (z : States) → IsFollowed s y z place n k → AreFollowed s x z place (n + 1)
       one_followed z followed = record {
         keeps = λ i m at. followed.keeps i m (old.keeps i m at);
         found = followed.found;

@@ -5,8 +5,8 @@ use Rattle.std.proofs.Common.{ℕ, zero, suc, ◌≡◌, ◌≢◌, ◌+◌, ◌
 use Rattle.std.proofs.lemmas.Bool.{cases_eq}
 use Rattle.std.proofs.lemmas.Option.{slice_get-get_or}
 use Rattle.std.proofs.lemmas.List.Elements.{All-get_or}
-use Rattle.lists.specs.Limits.{most_held}
-use Rattle.lists.proofs.Places.{push_induction}
+use Rattle.base.specs.Limits.{most_held}
+use Rattle.base.proofs.Places.{push_induction}
 use Rattle.journal.specs.declared.event.Event.{Event}
 use Rattle.journal.specs.declared.event.Kind.{Kind}
 use Rattle.journal.specs.InRange.{ProcessorsInRange}
@@ -15,13 +15,13 @@ use Rattle.lrc_script.specs.declared.script.Instruction.{Instruction}
 use Rattle.lrc_script.specs.declared.script.Instruction.TheVariants.{Load, Store, Add, Acquire, Release, Barrier, Set, Await, Cut}
 use Rattle.lrc_script.specs.Plan.{Plan}
 use Rattle.lrc_script.specs.Lawful.{IsLawful, IsSection}
-use Rattle.follows.specs.Begins.{BeginsSection}
-use Rattle.follows.specs.Follows.{calls_of, FollowsSection}
-use Rattle.follows.specs.Recomputed.{HasNoFetch}
-use Rattle.follows.proofs.Calls.{calls_of-own, calls_of-other}
-use Rattle.beginnings.specs.Beginnings.{IsFlatBeginning}
-use Rattle.beginnings.specs.Calling.{load_steps, section_steps, shown_by, steps_of, steps_of_all}
-use Rattle.beginnings.proofs.Calling.{follows_length}
+use Rattle.conformance.specs.Begins.{BeginsSection}
+use Rattle.conformance.specs.Follows.{calls_of, FollowsSection}
+use Rattle.conformance.specs.Recomputed.{HasNoFetch}
+use Rattle.conformance.proofs.Calls.{calls_of-own, calls_of-other}
+use Rattle.explore.specs.Prefixes.Beginnings.{IsFlatBeginning}
+use Rattle.explore.specs.Prefixes.Calling.{load_steps, section_steps, shown_by, steps_of, steps_of_all}
+use Rattle.explore.proofs.prefixes.Calling.{follows_length}
 
 -- steps of instructions
 two_at_most : (i : Instruction) → length (steps_of i) ≤ 2

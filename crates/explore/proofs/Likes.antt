@@ -6,23 +6,23 @@ use Rattle.journal.specs.Events.{count_of, is_arrive, is_depart}
 use Rattle.journal.specs.WellFormed.{Holds}
 use Rattle.judge.specs.Tells.{IsSet}
 use Rattle.lrc_script.specs.Plan.{Plan}
-use Rattle.follows.specs.Follows.{calls_of}
-use Rattle.explore.specs.declared.machine.Machine.{Machine}
+use Rattle.conformance.specs.Follows.{calls_of}
+use Rattle.explore.specs.declared.flat_state.FlatState.{FlatState}
 use Rattle.explore.specs.declared.waiting.Waiting.{Waiting}
-use Rattle.explore.specs.Machines.{IsLike, Knows}
+use Rattle.explore.specs.Machines.{SameState, Knows}
 use Rattle.explore.specs.Outcomes.{AreReplies}
 use Rattle.explore.specs.Waiting.{AreAsked, IsLikeWaiting, TellsWaiting}
-use Rattle.explore.specs.Waits.{AreKept, arrivals_open, seated}
-use Rattle.explore.specs.declared.wait.Wait.{Wait}
+use Rattle.explore.specs.Waits.{AwaitedAreKept, arrivals_open, seated}
+use Rattle.explore.specs.declared.wait.WaitCode.{WaitCode}
 use Rattle.explore.specs.declared.wait.Seat.{Seat}
 
 tells_like : (g : List Event) (x y : Waiting) → IsLikeWaiting x y → TellsWaiting g x → TellsWaiting g y
 tells_like g x y like tells = record {
-  long = ap (λ (ws : List (Option Wait)). length ws) like.waits ∙ tells.long;
+  long = ap (λ (ws : List (Option WaitCode)). length ws) like.waits ∙ tells.long;
   arrivals_long = ap (λ (ns : List ℕ). length ns) like.arrivals ∙ tells.arrivals_long;
   holders_long = ap (λ (hs : List (Option Seat)). length hs) like.holders ∙ tells.holders_long;
   flags_long = ap (λ (bs : List Bool). length bs) like.flags ∙ tells.flags_long;
-  waits = subst (AreKept g) (sym like.waits) tells.waits;
+  waits = subst (AwaitedAreKept g) (sym like.waits) tells.waits;
   arrivals = subst (λ ns. (p : ℕ) → slice_index ns p ≡ count_of is_arrive g p) (sym like.arrivals) tells.arrivals;
   departures =
       subst (λ ws. (p : ℕ) → count_of is_depart g p + arrivals_open (slice_index_or ws p None) ≡ count_of is_arrive g p)
@@ -34,7 +34,7 @@ tells_like g x y like tells = record {
   asked = subst (AreAsked g) (sym like.asked) tells.asked;
 }
 
-pub knows_like : (s : Plan) (g : List Event) (m n : Machine) → IsLike m n → Knows s g m → Knows s g n
+pub knows_like : (s : Plan) (g : List Event) (m n : FlatState) → SameState m n → Knows s g m → Knows s g n
 knows_like s g m n like knows = record {
   beginning = knows.beginning;
   long = ap (λ (ns : List ℕ). length ns) like.done ∙ knows.long;

@@ -6,8 +6,8 @@ use Rattle.std.proofs.lemmas.Bool.{cases_eq}
 use Rattle.std.proofs.lemmas.Option.{same_Some, slice_get-get_or, slice_get_within}
 use Rattle.std.proofs.lemmas.List.{length-replicate}
 use Rattle.std.proofs.lemmas.List.Elements.{All-get_or}
-use Rattle.lists.specs.Writes.{wrote}
-use Rattle.lists.proofs.LastWrites.{length-written, written-append}
+use Rattle.base.specs.Writes.{wrote}
+use Rattle.base.proofs.LastWrites.{length-written, written-append}
 use Rattle.journal.specs.declared.event.Event.{Event}
 use Rattle.journal.specs.declared.event.Kind.{Kind}
 use Rattle.journal.specs.declared.event.Kind.TheVariants as kind
@@ -19,17 +19,17 @@ use Rattle.journal.specs.WellFormed.{KindInRange, MayFollow}
 use Rattle.lrc_script.specs.declared.script.Instruction.{Instruction}
 use Rattle.lrc_script.specs.Plan.{Plan}
 use Rattle.lrc_script.specs.Lawful.{addresses, IsLawful, IsSection}
-use Rattle.follows.specs.Follows.{calls_of, is_fetch, sizes_of}
-use Rattle.follows.proofs.Calls.{calls_of-own, calls_of-other}
+use Rattle.conformance.specs.Follows.{calls_of, is_fetch, plan_sizes}
+use Rattle.conformance.proofs.Calls.{calls_of-own, calls_of-other}
 use Rattle.judge.specs.Sizes.{AreSmall}
-use Rattle.follows.proofs.Script.Sections.{told, told_load, is_load}
-use Rattle.beginnings.specs.declared.step.Step.{Step}
-use Rattle.beginnings.specs.declared.step.Step.TheVariants.{Call, Adds}
-use Rattle.explore.specs.declared.machine.Machine.{Machine}
-use Rattle.beginnings.specs.Beginnings.{IsFlatBeginning}
-use Rattle.beginnings.specs.Calling.{AreStepsOf, IsCalledNext, IsStep, last_reply, replyless, section_steps, shown_by}
-use Rattle.explore.specs.Machines.{AreLawfulSteps, HasWord, IsProper, Knows}
-use Rattle.beginnings.proofs.Beginnings.{next_begins}
+use Rattle.conformance.proofs.Script.Sections.{told, told_load, is_load}
+use Rattle.explore.specs.declared.prefixes.script_call.ScriptCall.{ScriptCall}
+use Rattle.explore.specs.declared.prefixes.script_call.ScriptCall.TheVariants.{Call, Adds}
+use Rattle.explore.specs.declared.flat_state.FlatState.{FlatState}
+use Rattle.explore.specs.Prefixes.Beginnings.{IsFlatBeginning}
+use Rattle.explore.specs.Prefixes.Calling.{AreStepsOf, IsCalledNext, IsStep, last_reply, replyless, section_steps, shown_by}
+use Rattle.explore.specs.Machines.{AreLawfulSteps, StepReads, IsProper, Knows}
+use Rattle.explore.proofs.prefixes.Beginnings.{next_begins}
 use Rattle.explore.proofs.Proper.{proper_section}
 
 -- a load with the word of the memory is the one that the step says
@@ -76,39 +76,39 @@ fetch_replyless : (k : Kind) → is_fetch (replyless k) ≡ is_fetch k
 fetch_replyless (kind.Load a v) = refl
 fetch_replyless _ = refl
 
-pub step_range : (s : Plan) (reply : ℕ) (x : Step) (k : Kind) → IsProper s x → IsStep reply x k
-    → KindInRange (sizes_of s) k
+pub step_range : (s : Plan) (reply : ℕ) (x : ScriptCall) (k : Kind) → IsProper s x → IsStep reply x k
+    → KindInRange (plan_sizes s) k
 step_range s reply (Call c) k proper is =
-    (range_replyless (sizes_of s) k).1
-    (subst (KindInRange (sizes_of s)) (sym is) ((range_replyless (sizes_of s) c).0 proper.0))
-step_range s reply (Adds a v) k proper is = subst (KindInRange (sizes_of s)) (sym is) proper
+    (range_replyless (plan_sizes s) k).1
+    (subst (KindInRange (plan_sizes s)) (sym is) ((range_replyless (plan_sizes s) c).0 proper.0))
+step_range s reply (Adds a v) k proper is = subst (KindInRange (plan_sizes s)) (sym is) proper
 
-step_call : (s : Plan) (reply : ℕ) (x : Step) (k : Kind) → IsProper s x → IsStep reply x k → is_fetch k ≡ false
+step_call : (s : Plan) (reply : ℕ) (x : ScriptCall) (k : Kind) → IsProper s x → IsStep reply x k → is_fetch k ≡ false
 step_call s reply (Call c) k proper is =
     sym (fetch_replyless k) ∙ ap is_fetch is ∙ fetch_replyless c ∙ proper.1
 step_call s reply (Adds a v) k proper is = ap is_fetch is
 
 -- and its address has a word
-pub step_word : (s : Plan) (x : Step) (size : ℕ) → size ≡ addresses s → IsProper s x → HasWord size x
+pub step_word : (s : Plan) (x : ScriptCall) (size : ℕ) → size ≡ addresses s → IsProper s x → StepReads size x
 step_word s (Call (kind.Load a v)) size is proper = subst (λ n. a < n) (sym is) proper.0
 step_word s _ size is proper = tt
 
 -- the memory keeps its length
-pub memory_long : (s : Plan) (g : List Event) (m : Machine) → Knows s g m → length m.memory.items ≡ addresses s
+pub memory_long : (s : Plan) (g : List Event) (m : FlatState) → Knows s g m → length m.memory.items ≡ addresses s
 memory_long s g m knows =
     ap (λ (xs : List ℕ). length xs) knows.memory
     ∙ length-written (λ (e : Event). flat_write e.kind) (replicate (addresses s) 0) g
     ∙ length-replicate (addresses s) 0
 
 -- the section that a row of steps is of
-pub record IsRowOf (s : Plan) (p : ℕ) (row : Vec Step) : Type 0 where
+pub record IsRowOf (s : Plan) (p : ℕ) (row : Vec ScriptCall) : Type 0 where
   pub section : List Instruction
   pub at : slice_get s.sections p ≡ Some section
   pub are : row.items ≡ section_steps section (shown_by s p)
 
-pub row_of : (s : Plan) (steps : List (Vec Step)) (p : ℕ) (row : Vec Step) → AreStepsOf s steps
+pub row_steps : (s : Plan) (steps : List (Vec ScriptCall)) (p : ℕ) (row : Vec ScriptCall) → AreStepsOf s steps
     → slice_get steps p ≡ Some row → IsRowOf s p row
-row_of s steps p row are at =
+row_steps s steps p row are at =
     let within = slice_get_within steps p row at in
     let long = are.long in
     let here : slice_get s.sections p ≡ Some (slice_index_or s.sections p []) =
@@ -127,7 +127,7 @@ shown_small s p lawful = go (p == 0)
     go false = λ k d lt. absurd (omega arith)
 
 -- its steps are proper
-pub row_proper : (s : Plan) (p : ℕ) (row : Vec Step) (n : ℕ) (x : Step) → IsLawful s → IsRowOf s p row
+pub row_proper : (s : Plan) (p : ℕ) (row : Vec ScriptCall) (n : ℕ) (x : ScriptCall) → IsLawful s → IsRowOf s p row
     → slice_get row.items n ≡ Some x → IsProper s x
 row_proper s p row n x lawful of at =
     let section_lawful = subst (IsSection s)
@@ -138,7 +138,7 @@ row_proper s p row n x lawful of at =
     proper_section s of.section (shown_by s p) section_lawful.in_range (shown_small s p lawful) x
     (n, subst (λ xs. slice_get xs n ≡ Some x) of.are at)
 
-module _ (s : Plan) (g : List Event) (m : Machine) (p : ℕ) (row : Vec Step) (lawful : IsLawful s) (of : IsRowOf s p row)
+module _ (s : Plan) (g : List Event) (m : FlatState) (p : ℕ) (row : Vec ScriptCall) (lawful : IsLawful s) (of : IsRowOf s p row)
     (small : p < 16) (knows : Knows s g m) where
   called : (k : Kind) → IsFlatBeginning s (did g p k) → IsCalledNext row.items (calls_of g p) k
   called k h =
@@ -154,16 +154,16 @@ module _ (s : Plan) (g : List Event) (m : Machine) (p : ℕ) (row : Vec Step) (l
       omega (arith, within, done)
 
   -- else the next step says which it may be
-  pub at_step : (reply : ℕ) → reply ≡ last_reply (calls_of g p) → (x : Step)
+  pub at_step : (reply : ℕ) → reply ≡ last_reply (calls_of g p) → (x : ScriptCall)
       → slice_get row.items (slice_index m.done p) ≡ Some x → (c : Kind)
       → ((k : Kind) → (c ≡ k) ↔ (IsStep reply x k × AnswersWord m.memory.items k)) → (k : Kind)
-      → IsFlatBeginning s (did g p k) ↔ (MayFollow (sizes_of s) g (event p c) × (c ≡ k))
+      → IsFlatBeginning s (did g p k) ↔ (MayFollow (plan_sizes s) g (event p c) × (c ≡ k))
   at_step reply told x at c says k = (there, back)
     where
       next_at : slice_get row.items (length (calls_of g p)) ≡ Some x
       next_at = subst (λ n. slice_get row.items n ≡ Some x) (knows.done p small) at
 
-      there : IsFlatBeginning s (did g p k) → MayFollow (sizes_of s) g (event p c) × (c ≡ k)
+      there : IsFlatBeginning s (did g p k) → MayFollow (plan_sizes s) g (event p c) × (c ≡ k)
       there h =
           let next = called k h in
           let all = ((next_begins s g p k).0 h).1 in
@@ -172,16 +172,16 @@ module _ (s : Plan) (g : List Event) (m : Machine) (p : ℕ) (row : Vec Step) (l
           let mine = subst (λ r. IsStep r x k) (sym told) step in
           let word = subst (λ xs. AnswersWord xs k) (sym knows.memory) all.answers in
           let is = (says k).1 (mine, word) in
-          (subst (λ y. MayFollow (sizes_of s) g (event p y)) (sym is) all.may_follow, is)
+          (subst (λ y. MayFollow (plan_sizes s) g (event p y)) (sym is) all.may_follow, is)
 
-      back : MayFollow (sizes_of s) g (event p c) × (c ≡ k) → IsFlatBeginning s (did g p k)
+      back : MayFollow (plan_sizes s) g (event p c) × (c ≡ k) → IsFlatBeginning s (did g p k)
       back h =
           let both = (says k).0 h.1 in
           let step = subst (λ r. IsStep r x k) told both.0 in
           (next_begins s g p k).1 (
             knows.beginning,
             record {
-              may_follow = subst (λ y. MayFollow (sizes_of s) g (event p y)) h.1 h.0;
+              may_follow = subst (λ y. MayFollow (plan_sizes s) g (event p y)) h.1 h.0;
               calls = record {
                 call = step_call s (last_reply (calls_of g p)) x k (row_proper s p row (slice_index m.done p) x lawful of at) step;
                 next = λ section here.
@@ -194,7 +194,7 @@ module _ (s : Plan) (g : List Event) (m : Machine) (p : ℕ) (row : Vec Step) (l
           )
 
 -- the sizes of a lawful script
-pub sizes_small : (s : Plan) → IsLawful s → AreSmall (sizes_of s)
+pub sizes_small : (s : Plan) → IsLawful s → AreSmall (plan_sizes s)
 sizes_small s lawful =
     let sizes = lawful.but_uneven.sizes in
     record {
@@ -206,13 +206,13 @@ sizes_small s lawful =
     }
 
 -- its rows of steps are as many as its processors
-pub rows_many : (s : Plan) (steps : List (Vec Step)) → AreLawfulSteps s steps → s.processors ≡ length steps
+pub rows_many : (s : Plan) (steps : List (Vec ScriptCall)) → AreLawfulSteps s steps → s.processors ≡ length steps
 rows_many s steps steps_are =
     let one = steps_are.lawful.but_uneven.one_each in
     let long = steps_are.are.long in
     omega arith
 
-pub rows_few : (s : Plan) (steps : List (Vec Step)) → AreLawfulSteps s steps → length steps ≤ 16
+pub rows_few : (s : Plan) (steps : List (Vec ScriptCall)) → AreLawfulSteps s steps → length steps ≤ 16
 rows_few s steps steps_are =
     let many = rows_many s steps steps_are in
     let most = steps_are.lawful.but_uneven.sizes.most_processors in
@@ -230,13 +230,13 @@ pub read_at : {A : Type 0} (xs : List A) (k : ℕ) (x : A) → k < length xs →
 read_at xs k x lt is = slice_get-get_or xs k x lt ∙ ap Some (sym is)
 
 -- an address in range is one of the memory
-pub kind_address : (s : Plan) (k : Kind) (size : ℕ) → size ≡ addresses s → KindInRange (sizes_of s) k → AddressInRange size k
+pub kind_address : (s : Plan) (k : Kind) (size : ℕ) → size ≡ addresses s → KindInRange (plan_sizes s) k → AddressInRange size k
 kind_address s (kind.Load a v) size is range = subst (λ n. a < n) (sym is) range
 kind_address s (kind.Store a v) size is range = subst (λ n. a < n) (sym is) range
 kind_address s _ size is range = tt
 
 module _ (s : Plan) (g : List Event) (p : ℕ) (k : Kind) (next : IsFlatBeginning s (did g p k)) where
-  pub next_may : MayFollow (sizes_of s) g (event p k)
+  pub next_may : MayFollow (plan_sizes s) g (event p k)
   next_may = ((next_begins s g p k).0 next).1.may_follow
 
   pub next_call : is_fetch k ≡ false

@@ -1,37 +1,37 @@
 -- Steps of lawful scripts: their numbers are in range, and none is a fetch.
 use Rattle.std.proofs.Common.{ℕ, ◌<◌, inl, inr, List, [], ◌∷◌, ◌++◌, All, refl, subst}
 use Rattle.std.proofs.lemmas.List.Elements.{All-head, All-tail}
-use Rattle.lists.specs.Places.{Has}
-use Rattle.lists.proofs.Joined.{has-nil, has-cons, has-append}
+use Rattle.base.specs.Places.{Has}
+use Rattle.base.proofs.Joined.{has-nil, has-cons, has-append}
 use Rattle.journal.specs.declared.event.Kind.TheVariants as kind
 use Rattle.lrc_script.specs.declared.script.Instruction.{Instruction}
 use Rattle.lrc_script.specs.declared.script.Instruction.TheVariants.{Load, Store, Add, Acquire, Release, Barrier, Set, Await, Cut}
 use Rattle.lrc_script.specs.Plan.{Plan}
 use Rattle.lrc_script.specs.Lawful.{addresses, IsInRange}
-use Rattle.beginnings.specs.declared.step.Step.{Step}
-use Rattle.beginnings.specs.declared.step.Step.TheVariants.{Call, Adds}
-use Rattle.beginnings.specs.Calling.{load_steps, section_steps, steps_of, steps_of_all}
+use Rattle.explore.specs.declared.prefixes.script_call.ScriptCall.{ScriptCall}
+use Rattle.explore.specs.declared.prefixes.script_call.ScriptCall.TheVariants.{Call, Adds}
+use Rattle.explore.specs.Prefixes.Calling.{load_steps, section_steps, steps_of, steps_of_all}
 use Rattle.explore.specs.Machines.{IsProper}
 
 -- each of these steps is proper
-abbrev pub AreProper : Plan → List Step → Type 0
-AreProper s steps = (x : Step) → Has steps x → IsProper s x
+abbrev pub AreProper : Plan → List ScriptCall → Type 0
+AreProper s steps = (x : ScriptCall) → Has steps x → IsProper s x
 
 none_proper : (s : Plan) → AreProper s []
 none_proper s x has = absurd (has-nil x has)
 
-more_proper : (s : Plan) (y : Step) (steps : List Step) → IsProper s y → AreProper s steps → AreProper s (y ∷ steps)
+more_proper : (s : Plan) (y : ScriptCall) (steps : List ScriptCall) → IsProper s y → AreProper s steps → AreProper s (y ∷ steps)
 more_proper s y steps first rest x has =
     elim ((has-cons y steps x).0 has) [ inl is ↦ subst (IsProper s) is first | inr later ↦ rest x later ]
 
-append_proper : (s : Plan) (xs ys : List Step) → AreProper s xs → AreProper s ys → AreProper s (xs ++ ys)
+append_proper : (s : Plan) (xs ys : List ScriptCall) → AreProper s xs → AreProper s ys → AreProper s (xs ++ ys)
 append_proper s xs ys first rest x has =
     elim ((has-append xs ys x).0 has) [ inl before ↦ first x before | inr later ↦ rest x later ]
 
-one : (s : Plan) (x : Step) → IsProper s x → AreProper s (x ∷ [])
+one : (s : Plan) (x : ScriptCall) → IsProper s x → AreProper s (x ∷ [])
 one s x is = more_proper s x [] is (none_proper s)
 
-two : (s : Plan) (x y : Step) → IsProper s x → IsProper s y → AreProper s (x ∷ y ∷ [])
+two : (s : Plan) (x y : ScriptCall) → IsProper s x → IsProper s y → AreProper s (x ∷ y ∷ [])
 two s x y first second = more_proper s x (y ∷ []) first (one s y second)
 
 proper_of : (s : Plan) (i : Instruction) → IsInRange s i → AreProper s (steps_of i)

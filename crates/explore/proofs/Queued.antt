@@ -1,9 +1,9 @@
 -- Who waits for a lock after one more event.
 use Rattle.std.proofs.Common.{◌≡◌, ◌≢◌, ℕ, ◌<◌, inl, inr, List, [], ◌∷◌, ◌++◌, length, not, ◌==◌, subst, sym, refl, ap, ◌∙◌, arith}
 use Rattle.std.proofs.lemmas.Bool.{cases_eq, eq-eqb, ne_eqb, false≢true}
-use Rattle.lists.specs.Places.{Has, InOrder}
-use Rattle.lists.proofs.Joined.{has-nil, has-cons, has-append, in_order-append, in_order_single}
-use Rattle.lists.proofs.Picked.{has-filter, in_order-filter}
+use Rattle.base.specs.Places.{Has, InOrder}
+use Rattle.base.proofs.Joined.{has-nil, has-cons, has-append, in_order-append, in_order_single}
+use Rattle.base.proofs.Picked.{has-filter, in_order-filter}
 use Rattle.journal.specs.declared.event.Event.{Event}
 use Rattle.journal.specs.declared.event.Kind.{Kind}
 use Rattle.journal.specs.declared.event.Kind.TheVariants.{Ask, Acquire}
@@ -11,7 +11,7 @@ use Rattle.journal.specs.Did.{did, event}
 use Rattle.journal.specs.Sizes.{Sizes}
 use Rattle.journal.specs.WellFormed.{LastIs, MayFollow}
 use Rattle.journal.proofs.Journals.WellFormed.{last_now}
-use Rattle.explore.specs.Waiting.{AreAsked, AreAskedAfter, AsksAt, without}
+use Rattle.explore.specs.Waiting.{AreAsked, AreAskedAfter, AsksAt, unqueued}
 use Rattle.explore.proofs.Asked.{asks_acquires, asks_fresh, asks_old, asks_other, asks_own}
 
 -- p is one of these
@@ -103,7 +103,7 @@ module _ (s : Sizes) (j : List Event) (p : ℕ) (k : Kind) (asked : List ℕ) (m
           let now = asks_own j p m k (subst (λ r. AsksAt (did j p k) r m) (sym (has_single p b one)) asks_b) in
           omega (arith, before, now.0)
 
-  pub asked_less : (l : ℕ) → k ≡ Acquire l → AreAsked (did j p k) (without asked p)
+  pub asked_less : (l : ℕ) → k ≡ Acquire l → AreAsked (did j p k) (unqueued asked p)
   asked_less l is = record {
     each = λ q. (there q, back q);
     order =
@@ -115,14 +115,14 @@ module _ (s : Sizes) (j : List Event) (p : ℕ) (k : Kind) (asked : List ℕ) (m
       no_ask : (m : ℕ) → k ≢ Ask m
       no_ask m same = let both = sym is ∙ same in absurd cc
 
-      there : (q : ℕ) → Has (without asked p) q → (i : ℕ) × AsksAt (did j p k) q i
+      there : (q : ℕ) → Has (unqueued asked p) q → (i : ℕ) × AsksAt (did j p k) q i
       there q has =
           let r = (has-filter (λ r. not (r == p)) asked q).0 has in
           let asks = (old.each q).0 r.0 in
           let isnt : p ≢ q = λ same. false≢true (ap not (sym (eq-eqb q p (sym same))) ∙ r.1) in
           (asks.0, (asks_other j p q asks.0 k isnt).0 asks.1)
 
-      back : (q : ℕ) → (i : ℕ) × AsksAt (did j p k) q i → Has (without asked p) q
+      back : (q : ℕ) → (i : ℕ) × AsksAt (did j p k) q i → Has (unqueued asked p) q
       back q asks = elim (cases_eq p q) [
         | inl same ↦
             (let mine = asks_own j p asks.0 k (subst (λ r. AsksAt (did j p k) r asks.0) (sym same) asks.1) in

@@ -6,15 +6,15 @@ use Rattle.std.specs.Prelude.{None}
 use Rattle.std.specs.Global.{Vec}
 use Rattle.std.proofs.lemmas.Bool.{cases_eq}
 use Rattle.std.proofs.lemmas.Option.{none-some, same_Some, slice_get-map, slice_get_within}
-use Rattle.lists.proofs.Sets.{slice_get-set_other, slice_get-set_same}
+use Rattle.base.proofs.Sets.{slice_get-set_other, slice_get-set_same}
 use Rattle.journal.specs.declared.event.Event.{Event}
 use Rattle.journal.specs.declared.event.Kind.{Kind}
 use Rattle.journal.specs.declared.event.Kind.TheVariants as kind
 use Rattle.journal.specs.Did.{did}
 use Rattle.lrc_script.specs.Plan.{Plan}
-use Rattle.follows.specs.Follows.{calls_of, is_fetch}
-use Rattle.follows.proofs.Calls.{calls_of-own, calls_of-other}
-use Rattle.beginnings.specs.Calling.{last_reply, reply_after}
+use Rattle.conformance.specs.Follows.{calls_of, is_fetch}
+use Rattle.conformance.proofs.Calls.{calls_of-own, calls_of-other}
+use Rattle.explore.specs.Prefixes.Calling.{last_reply, reply_after}
 use Rattle.explore.specs.Machines.{items_of, last_or}
 use Rattle.explore.specs.Outcomes.{AreReplies, replies_in}
 

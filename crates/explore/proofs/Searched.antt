@@ -7,21 +7,21 @@ use Rattle.std.specs.Global.{Vec}
 use Rattle.std.proofs.lemmas.Bool.{cases_eq, cases_lt}
 use Rattle.std.proofs.lemmas.List.{get_or_past}
 use Rattle.std.proofs.lemmas.Option.{none-some, same_Some, slice_get_within}
-use Rattle.lists.specs.Places.{Has, IsOnce}
-use Rattle.lists.proofs.Joined.{has-append, has-cons, has-nil, in_order-append, in_order-nil, in_order_single}
-use Rattle.lists.proofs.Places.{push_induction}
-use Rattle.lists.proofs.Sets.{same_places}
+use Rattle.base.specs.Places.{Has, IsOnce}
+use Rattle.base.proofs.Joined.{has-append, has-cons, has-nil, in_order-append, in_order-nil, in_order_single}
+use Rattle.base.proofs.Places.{push_induction}
+use Rattle.base.proofs.Sets.{same_places}
 use Rattle.journal.specs.declared.event.Event.{Event}
 use Rattle.journal.specs.declared.event.Kind.{Kind}
 use Rattle.journal.specs.Did.{did}
 use Rattle.lrc_script.specs.Plan.{Plan}
-use Rattle.follows.specs.Follows.{calls_of, Follows}
-use Rattle.beginnings.specs.declared.step.Step.{Step}
-use Rattle.beginnings.specs.Beginnings.{IsFlatBeginning, IsHang}
-use Rattle.beginnings.specs.Laws.{HasNoNeighbours}
-use Rattle.beginnings.specs.Calling.{section_steps, shown_by}
-use Rattle.beginnings.proofs.Beginnings.{next_begins, whole_done}
-use Rattle.explore.specs.declared.machine.Machine.{Machine}
+use Rattle.conformance.specs.Follows.{calls_of, Follows}
+use Rattle.explore.specs.declared.prefixes.script_call.ScriptCall.{ScriptCall}
+use Rattle.explore.specs.Prefixes.Beginnings.{IsFlatBeginning, IsHang}
+use Rattle.explore.specs.Prefixes.Laws.{HasNoNeighbours}
+use Rattle.explore.specs.Prefixes.Calling.{section_steps, shown_by}
+use Rattle.explore.proofs.prefixes.Beginnings.{next_begins, whole_done}
+use Rattle.explore.specs.declared.flat_state.FlatState.{FlatState}
 use Rattle.explore.specs.declared.neighbours.Neighbours.{Neighbours}
 use Rattle.explore.specs.declared.search.Search.{Search}
 use Rattle.explore.specs.Explored.{AreOutcomes, replies_of}
@@ -30,12 +30,12 @@ use Rattle.explore.specs.Found.{AreFound, IsKnown, Keeps, states_of}
 use Rattle.explore.specs.Machines.{Knows, items_of}
 use Rattle.explore.specs.Nexts.{AreNexts, IsConflict}
 use Rattle.explore.specs.Outcomes.{AreReplies}
-use Rattle.explore.specs.Searched.{AreShown, Hangs, IsAmong, IsClosed, IsNoted, IsQuiet, IsLookedThrough, IsSearched, IsShownBy, MayLook, MayNote, NoneHangs}
+use Rattle.explore.specs.Searched.{AreShown, Hangs, IsAmong, IsClosed, OutcomesNoted, IsQuiet, IsLookedThrough, VisitedUpTo, IsShownBy, HasUnvisited, MayNote, NoneHangs}
 use Rattle.explore.proofs.Followed.{known_kept}
 use Rattle.explore.proofs.Machines.{next_within, some_at}
 
 -- a state of the first ones was there before
-pub was_at : (old new : List Machine) (place : ℕ) (m : Machine) → Keeps old new → place < length old
+pub was_at : (old new : List FlatState) (place : ℕ) (m : FlatState) → Keeps old new → place < length old
     → slice_get new place ≡ Some m → slice_get old place ≡ Some m
 was_at old new place m keeps lt at =
     let f = some_at old place lt in
@@ -53,7 +53,7 @@ follows_ends s g p k one follows next =
     let lt = slice_get_within (section_steps section.0 (shown_by s p)) (length (calls_of g p)) called.step called.at in
     omega arith
 
-module _ (s : Plan) (old new : List Machine) (n : ℕ) (keeps : Keeps old new) (within : n ≤ length old) where
+module _ (s : Plan) (old new : List FlatState) (n : ℕ) (keeps : Keeps old new) (within : n ≤ length old) where
   shown_kept : (replies : List (List ℕ)) → IsShownBy s old n replies ↔ IsShownBy s new n replies
   shown_kept replies = (
     λ x. record {
@@ -88,7 +88,7 @@ module _ (s : Plan) (old new : List Machine) (n : ℕ) (keeps : Keeps old new) (
   }
 
   pub noted_kept : (x y : Search) → states_of x.found ≡ old → states_of y.found ≡ new → y.outcomes.keys ≡ x.outcomes.keys
-      → y.hang ≡ x.hang → IsNoted s x n → IsNoted s y n
+      → y.hang ≡ x.hang → OutcomesNoted s x n → OutcomesNoted s y n
   noted_kept x y is_old is_new outcomes hang noted =
       let shows = subst (λ ms. AreShown s ms n (map replies_of x.outcomes.keys)) is_old noted.shown in
       let hung = subst (λ ms. MatchOption x.hang (NoneHangs s ms n) (Hangs s ms)) is_old noted.hang in
@@ -115,7 +115,7 @@ module _ (s : Plan) (old new : List Machine) (n : ℕ) (keeps : Keeps old new) (
   quiet_kept quiet place m g p q a b lt at knows = quiet place m g p q a b lt (was_at old new place m keeps (omega arith) at) knows
 
 -- before the first state is looked at
-pub begun : (s : Plan) (x : Search) → AreFound s x.found → x.outcomes.keys ≡ [] → x.hang ≡ None → IsSearched s x 0
+pub begun : (s : Plan) (x : Search) → AreFound s x.found → x.outcomes.keys ≡ [] → x.hang ≡ None → VisitedUpTo s x 0
 begun s x found outcomes hang = record {
   found = found;
   within = omega arith;
@@ -132,7 +132,7 @@ begun s x found outcomes hang = record {
 }
 
 -- the state at this place is neither whole nor a hang
-module _ (s : Plan) (states : List Machine) (n : ℕ) (f : Machine) (at : slice_get states n ≡ Some f)
+module _ (s : Plan) (states : List FlatState) (n : ℕ) (f : FlatState) (at : slice_get states n ≡ Some f)
     (unfinished : (g : List Event) → Knows s g f → ¬ Follows s g) where
   skipped_shown : (replies : List (List ℕ)) → IsShownBy s states n replies ↔ IsShownBy s states (n + 1) replies
   skipped_shown replies = (
@@ -179,7 +179,7 @@ module _ (s : Plan) (states : List Machine) (n : ℕ) (f : Machine) (at : slice_
       }))
 
 -- something may come next after it
-module _ (s : Plan) (states : List Machine) (n : ℕ) (f : Machine) (at : slice_get states n ≡ Some f)
+module _ (s : Plan) (states : List FlatState) (n : ℕ) (f : FlatState) (at : slice_get states n ≡ Some f)
     (one : length s.sections ≡ s.processors)
     (goes : (g : List Event) → Knows s g f → ((p : ℕ) (k : Kind) → ¬ IsFlatBeginning s (did g p k)) → ⊥) where
   skipped_hang : (o : Option ℕ) → MatchOption o (NoneHangs s states n) (Hangs s states)
@@ -192,7 +192,7 @@ module _ (s : Plan) (states : List Machine) (n : ℕ) (f : Machine) (at : slice_
   ]
   skipped_hang (Some place) h = h
 
-  pub noted_skips : (x : Search) → states_of x.found ≡ states → IsNoted s x n → IsNoted s x (n + 1)
+  pub noted_skips : (x : Search) → states_of x.found ≡ states → OutcomesNoted s x n → OutcomesNoted s x (n + 1)
   noted_skips x is noted = record {
     shown =
         unfinished_shown s states n f at (λ g knows follows. goes g knows (λ p k next. follows_ends s g p k one follows next))
@@ -203,7 +203,7 @@ module _ (s : Plan) (states : List Machine) (n : ℕ) (f : Machine) (at : slice_
   }
 
 -- the state is a hang
-hung : (s : Plan) (states : List Machine) (n : ℕ) (f : Machine) → slice_get states n ≡ Some f
+hung : (s : Plan) (states : List FlatState) (n : ℕ) (f : FlatState) → slice_get states n ≡ Some f
     → ((g : List Event) → Knows s g f → IsHang s g) → (o : Option ℕ)
     → MatchOption o (NoneHangs s states n) (Hangs s states) → Hangs s states (unwrap_or o n)
 hung s states n f at hangs None h = record {
@@ -212,10 +212,10 @@ hung s states n f at hangs None h = record {
 }
 hung s states n f at hangs (Some place) h = h
 
-pub noted_hangs : (s : Plan) (x y : Search) (steps : List (Vec Step)) (n : ℕ) (f : Machine) → MayNote s x steps n
+pub noted_hangs : (s : Plan) (x y : Search) (steps : List (Vec ScriptCall)) (n : ℕ) (f : FlatState) → MayNote s x steps n
     → slice_get (states_of x.found) n ≡ Some f → ((g : List Event) → Knows s g f → ¬ Follows s g)
     → states_of y.found ≡ states_of x.found → y.outcomes.keys ≡ x.outcomes.keys → y.hang ≡ Some (unwrap_or x.hang n)
-    → IsNoted s y (n + 1)
+    → OutcomesNoted s y (n + 1)
 noted_hangs s x y steps n f may at unfinished found outcomes hang =
     let is_hang : (g : List Event) → Knows s g f → IsHang s g = λ g knows. record {
       beginning = knows.beginning;
@@ -246,7 +246,7 @@ same_replies s g a b first second = same_places a b (λ k. elim (cases_lt k s.pr
 ])
 
 -- the state is whole
-module _ (s : Plan) (x : Search) (steps : List (Vec Step)) (n : ℕ) (f : Machine) (may : MayNote s x steps n)
+module _ (s : Plan) (x : Search) (steps : List (Vec ScriptCall)) (n : ℕ) (f : FlatState) (may : MayNote s x steps n)
     (at : slice_get (states_of x.found) n ≡ Some f) (whole : (g : List Event) → Knows s g f → Follows s g) where
   shows_mine : IsShownBy s (states_of x.found) (n + 1) (items_of f.replies.items)
   shows_mine =
@@ -340,7 +340,7 @@ module _ (s : Plan) (x : Search) (steps : List (Vec Step)) (n : ℕ) (f : Machin
 
   pub noted_whole : (y : Search) → states_of y.found ≡ states_of x.found → y.hang ≡ x.hang
       → IsAmong (map replies_of x.outcomes.keys) (map replies_of y.outcomes.keys) (items_of f.replies.items)
-      → IsNoted s y (n + 1)
+      → OutcomesNoted s y (n + 1)
   noted_whole y found hang among = record {
     shown =
         subst (λ ms. AreShown s ms (n + 1) (map replies_of y.outcomes.keys)) (sym found)
@@ -352,10 +352,10 @@ module _ (s : Plan) (x : Search) (steps : List (Vec Step)) (n : ℕ) (f : Machin
   }
 
 -- a state more was looked at
-pub looked : (s : Plan) (x z : Search) (steps : List (Vec Step)) (n : ℕ) (nexts : List (Option Kind)) → MayLook s x steps n
-    → ((m : Machine) → slice_get (states_of x.found) n ≡ Some m → AreNexts s m nexts)
+pub looked : (s : Plan) (x z : Search) (steps : List (Vec ScriptCall)) (n : ℕ) (nexts : List (Option Kind)) → HasUnvisited s x steps n
+    → ((m : FlatState) → slice_get (states_of x.found) n ≡ Some m → AreNexts s m nexts)
     → ((p q : ℕ) (a b : Kind) → ¬ IsConflict nexts p q a b) → AreFollowed s x.found z.found n (length nexts)
-    → IsNoted s z (n + 1) → IsSearched s z (n + 1)
+    → OutcomesNoted s z (n + 1) → VisitedUpTo s z (n + 1)
 looked s x z steps n nexts may are none followed noted =
     let old = states_of x.found in
     let new = states_of z.found in
@@ -387,7 +387,7 @@ looked s x z steps n nexts may are none followed noted =
     }
 
 -- where all states are looked at, each beginning comes to one of them
-pub complete : (s : Plan) (x : Search) → IsSearched s x (length (states_of x.found)) → (g : List Event)
+pub complete : (s : Plan) (x : Search) → VisitedUpTo s x (length (states_of x.found)) → (g : List Event)
     → IsFlatBeginning s g → IsKnown s (states_of x.found) g
 complete s x searched =
     push_induction (λ g. IsFlatBeginning s g → IsKnown s (states_of x.found) g) (λ begins. searched.found.first)
@@ -396,20 +396,20 @@ complete s x searched =
     searched.closed before.place before.state g e.processor e.kind
     (slice_get_within (states_of x.found) before.place before.state before.at) before.at before.knows begins)
 
-pub none_hangs : (s : Plan) (x : Search) → IsSearched s x (length (states_of x.found))
+pub none_hangs : (s : Plan) (x : Search) → VisitedUpTo s x (length (states_of x.found))
     → NoneHangs s (states_of x.found) (length (states_of x.found)) → (g : List Event) → ¬ IsHang s g
 none_hangs s x searched none g hang =
     let known = complete s x searched g hang.beginning in
     none known.place known.state g (slice_get_within (states_of x.found) known.place known.state known.at) known.at
     known.knows hang
 
-pub no_neighbours : (s : Plan) (x : Search) → IsSearched s x (length (states_of x.found)) → HasNoNeighbours s
+pub no_neighbours : (s : Plan) (x : Search) → VisitedUpTo s x (length (states_of x.found)) → HasNoNeighbours s
 no_neighbours s x searched g p q a b first second apart =
     let known = complete s x searched g ((next_begins s g p a).0 first).0 in
     searched.quiet known.place known.state g p q a b
     (slice_get_within (states_of x.found) known.place known.state known.at) known.at known.knows first second apart
 
-pub all_outcomes : (s : Plan) (x : Search) → IsSearched s x (length (states_of x.found))
+pub all_outcomes : (s : Plan) (x : Search) → VisitedUpTo s x (length (states_of x.found))
     → AreOutcomes s (map replies_of x.outcomes.keys)
 all_outcomes s x searched =
     let shown = searched.noted.shown in
@@ -435,7 +435,7 @@ all_outcomes s x searched =
     }
 
 -- whatever was found is of the script
-pub through_found : (s : Plan) (x : Search) (steps : List (Vec Step)) (most : ℕ) (o : Option Neighbours)
+pub through_found : (s : Plan) (x : Search) (steps : List (Vec ScriptCall)) (most : ℕ) (o : Option Neighbours)
     → IsLookedThrough s x steps most o → AreFound s x.found
 through_found s x steps most None through = through.found
 through_found s x steps most (Some ns) racing = racing.found

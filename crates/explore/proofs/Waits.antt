@@ -11,20 +11,20 @@ use Rattle.journal.specs.Events.{count_of, is_arrive, is_depart}
 use Rattle.journal.specs.Waits.{awaited}
 use Rattle.journal.proofs.Order.Places.{count_of-append}
 use Rattle.judge.specs.Why.{WaitsFor}
-use Rattle.explore.specs.declared.wait.Wait.{Wait}
-use Rattle.explore.specs.declared.wait.Wait.TheVariants.{Lock, Barrier, Flag}
+use Rattle.explore.specs.declared.wait.WaitCode.{WaitCode}
+use Rattle.explore.specs.declared.wait.WaitCode.TheVariants.{Lock, Barrier, Flag}
 use Rattle.explore.specs.declared.wait.Seat.{Seat}
-use Rattle.explore.specs.Waits.{AreKept, arrivals_open, end_of, ending, seated}
+use Rattle.explore.specs.Waits.{AwaitedAreKept, arrivals_open, end_of, ending, seated}
 
 -- who waits for a lock is kept as that
-pub ending_lock : (o : Option Wait) (l : ℕ) → ending o ≡ Some (kind.Acquire l) → o ≡ Some (Lock l)
+pub ending_lock : (o : Option WaitCode) (l : ℕ) → ending o ≡ Some (kind.Acquire l) → o ≡ Some (Lock l)
 ending_lock None l is = absurd (none-some (kind.Acquire l) is)
 ending_lock (Some (Lock m)) l is = cc
 ending_lock (Some Barrier) l is = absurd cc
 ending_lock (Some (Flag f)) l is = absurd cc
 
 -- a wait is one with its end
-end_once : (v w : Wait) → end_of v ≡ end_of w → v ≡ w
+end_once : (v w : WaitCode) → end_of v ≡ end_of w → v ≡ w
 end_once (Lock l) (Lock m) is = cc
 end_once (Lock l) Barrier is = absurd cc
 end_once (Lock l) (Flag f) is = absurd cc
@@ -35,7 +35,7 @@ end_once (Flag f) (Lock m) is = absurd cc
 end_once (Flag f) Barrier is = absurd cc
 end_once (Flag f) (Flag g) is = cc
 
-pub ending_once : (a b : Option Wait) → ending a ≡ ending b → a ≡ b
+pub ending_once : (a b : Option WaitCode) → ending a ≡ ending b → a ≡ b
 ending_once None None is = refl
 ending_once None (Some w) is = absurd (none-some (end_of w) is)
 ending_once (Some v) None is = absurd (none-some (end_of v) (sym is))
@@ -56,28 +56,28 @@ seated_once (Some s) None is = absurd (none-some s.0 (sym is))
 seated_once (Some s) (Some t) is = ap Some (seat_once s t (same_Some s.0 t.0 is))
 
 -- at the barrier one arrival is open, and else none
-open_at : (o : Option Wait) (k : Kind) → ending o ≡ Some k → arrivals_open o ≡ cond (is_depart k) 1 0
+open_at : (o : Option WaitCode) (k : Kind) → ending o ≡ Some k → arrivals_open o ≡ cond (is_depart k) 1 0
 open_at None k is = absurd (none-some k is)
 open_at (Some (Lock l)) k is = subst (λ b. arrivals_open (Some (Lock l)) ≡ cond (is_depart b) 1 0) (same_Some (kind.Acquire l) k is) refl
 open_at (Some Barrier) k is = subst (λ b. arrivals_open (Some Barrier) ≡ cond (is_depart b) 1 0) (same_Some kind.Depart k is) refl
 open_at (Some (Flag f)) k is = subst (λ b. arrivals_open (Some (Flag f)) ≡ cond (is_depart b) 1 0) (same_Some (kind.Await f) k is) refl
 
-open_none : (o : Option Wait) → ending o ≡ None → arrivals_open o ≡ 0
+open_none : (o : Option WaitCode) → ending o ≡ None → arrivals_open o ≡ 0
 open_none None is = refl
 open_none (Some w) is = absurd (none-some (end_of w) (sym is))
 
-pub open_barrier : (o : Option Wait) → ending o ≡ Some kind.Depart → arrivals_open o ≡ 1
+pub open_barrier : (o : Option WaitCode) → ending o ≡ Some kind.Depart → arrivals_open o ≡ 1
 open_barrier o is = open_at o kind.Depart is
 
 -- after an arrival one is open
-open_after : (k : Kind) (o : Option Wait) → ending o ≡ awaited k → arrivals_open o ≡ cond (is_arrive k) 1 0
+open_after : (k : Kind) (o : Option WaitCode) → ending o ≡ awaited k → arrivals_open o ≡ cond (is_arrive k) 1 0
 open_after (kind.Ask l) o is = open_at o (kind.Acquire l) is
 open_after kind.Arrive o is = open_at o kind.Depart is
 open_after (kind.Watch f) o is = open_at o (kind.Await f) is
 open_after _ o is = open_none o is
 
 -- before a departure one is open, and before any other event of its processor none is
-open_before : (k : Kind) (o : Option Wait) → ((b : Kind) → ending o ≡ Some b → b ≡ k)
+open_before : (k : Kind) (o : Option WaitCode) → ((b : Kind) → ending o ≡ Some b → b ≡ k)
     → (k ≡ kind.Depart → ending o ≡ Some kind.Depart) → arrivals_open o ≡ cond (is_depart k) 1 0
 open_before kind.Depart o only departs = open_at o kind.Depart (departs refl)
 open_before k None only departs = quiet k departs
@@ -107,9 +107,9 @@ others_one is j p q k apart =
     omega (arith, more)
 
 -- so departures are told by arrivals and waits, after one more event, too
-pub departures_next : (j : List Event) (p : ℕ) (k : Kind) (waits : List (Option Wait)) (o : Option Wait)
+pub departures_next : (j : List Event) (p : ℕ) (k : Kind) (waits : List (Option WaitCode)) (o : Option WaitCode)
     → p < length waits → ending o ≡ awaited k → ((b : Kind) → WaitsFor j p b → b ≡ k)
-    → (k ≡ kind.Depart → WaitsFor j p kind.Depart) → AreKept j waits
+    → (k ≡ kind.Depart → WaitsFor j p kind.Depart) → AwaitedAreKept j waits
     → ((q : ℕ) → count_of is_depart j q + arrivals_open (slice_index_or waits q None) ≡ count_of is_arrive j q) → (q : ℕ)
     → count_of is_depart (did j p k) q + arrivals_open (slice_index_or (slice_set waits p o) q None)
     ≡ count_of is_arrive (did j p k) q

@@ -1,7 +1,7 @@
 -- What an answer says of all runs of a script on one flat memory.
 use Rattle.std.specs.Prelude.{ℕ, ◌≡◌, ◌+◌, ◌<◌, ◌≤◌, ◌↔◌, MatchOption, Option, List, map, length}
 use Rattle.std.specs.Global.{Vec}
-use Rattle.lists.specs.Places.{Has, IsOnce}
+use Rattle.base.specs.Places.{Has, IsOnce}
 use Rattle.journal.specs.declared.event.Event.{Event}
 use Rattle.journal.specs.Races.{IsFirstRace}
 use Rattle.lrc_script.specs.Plan.{Plan}
@@ -11,11 +11,11 @@ use Rattle.explore.specs.declared.explored.Outcome.{Outcome}
 use Rattle.explore.specs.declared.explored.RacyEvents.{RacyEvents}
 use Rattle.explore.specs.declared.explored.Verdict.{Verdict}
 use Rattle.explore.specs.declared.explored.Verdict.TheVariants as verdict
-use Rattle.beginnings.specs.Beginnings.{IsFlatBeginning, IsFlatRaceFree, IsHang}
+use Rattle.explore.specs.Prefixes.Beginnings.{IsFlatBeginning, IsFlatRaceFree, IsHang}
 use Rattle.explore.specs.Outcomes.{IsOutcome}
 use Rattle.explore.specs.Room.{states_to_look_at}
 use Rattle.explore.specs.States.{HasStates}
-use Rattle.explore.specs.Waiting.{AreWaits}
+use Rattle.explore.specs.Waiting.{AreAwaited}
 
 -- a beginning whose last event is the first that races
 pub record IsRacy (s : Plan) (racy : RacyEvents) : Type 0 where
@@ -28,7 +28,7 @@ pub record IsRacy (s : Plan) (racy : RacyEvents) : Type 0 where
 pub record IsHangOf (s : Plan) (hang : Hang) : Type 0 where
   pub is : IsHang s hang.events.items
   pub long : length hang.waits.items ≡ s.processors
-  pub waits : AreWaits hang.events.items hang.waits.items
+  pub waits : AreAwaited hang.events.items hang.waits.items
 
 -- an outcome, as it lies outside of memory
 abbrev pub replies_of : Outcome → List (List ℕ)

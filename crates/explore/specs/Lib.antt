@@ -11,3 +11,4 @@ pub mod States
 pub mod Racing
 pub mod Searched
 pub mod Prelude
+pub mod Prefixes

@@ -9,12 +9,12 @@ use Rattle.journal.specs.Flat.{memory_after}
 use Rattle.journal.specs.WellFormed.{KindInRange}
 use Rattle.lrc_script.specs.Plan.{Plan}
 use Rattle.lrc_script.specs.Lawful.{addresses, IsLawful}
-use Rattle.follows.specs.Follows.{calls_of, is_fetch, sizes_of}
-use Rattle.beginnings.specs.declared.step.Step.{Step}
-use Rattle.beginnings.specs.declared.step.Step.TheVariants.{Call, Adds}
-use Rattle.explore.specs.declared.machine.Machine.{Machine}
-use Rattle.beginnings.specs.Beginnings.{IsFlatBeginning}
-use Rattle.beginnings.specs.Calling.{AreStepsOf}
+use Rattle.conformance.specs.Follows.{calls_of, is_fetch, plan_sizes}
+use Rattle.explore.specs.declared.prefixes.script_call.ScriptCall.{ScriptCall}
+use Rattle.explore.specs.declared.prefixes.script_call.ScriptCall.TheVariants.{Call, Adds}
+use Rattle.explore.specs.declared.flat_state.FlatState.{FlatState}
+use Rattle.explore.specs.Prefixes.Beginnings.{IsFlatBeginning}
+use Rattle.explore.specs.Prefixes.Calling.{AreStepsOf}
 use Rattle.explore.specs.Outcomes.{AreReplies}
 use Rattle.explore.specs.Waiting.{IsLikeWaiting, TellsWaiting}
 
@@ -28,7 +28,7 @@ last_or word [] = word
 last_or word (w ∷ words) = last_or w words
 
 -- the machine has done these events of the script
-pub record Knows (s : Plan) (g : List Event) (m : Machine) : Type 0 where
+pub record Knows (s : Plan) (g : List Event) (m : FlatState) : Type 0 where
   pub beginning : IsFlatBeginning s g
   pub long : length m.done ≡ 16
   pub done : (p : ℕ) → p < 16 → slice_index m.done p ≡ length (calls_of g p)
@@ -37,36 +37,36 @@ pub record Knows (s : Plan) (g : List Event) (m : Machine) : Type 0 where
   pub waiting : TellsWaiting g m.waiting
 
 -- two machines are in the same state
-pub record IsLike (m n : Machine) : Type 0 where
+pub record SameState (m n : FlatState) : Type 0 where
   pub done : n.done ≡ m.done
   pub replies : items_of n.replies.items ≡ items_of m.replies.items
   pub memory : n.memory.items ≡ m.memory.items
   pub waiting : IsLikeWaiting m.waiting n.waiting
 
 -- the numbers of the step are the script's, and it is no fetch
-abbrev pub IsProper : Plan → Step → Type 0
-IsProper s (Call k) = KindInRange (sizes_of s) k × (is_fetch k ≡ false)
+abbrev pub IsProper : Plan → ScriptCall → Type 0
+IsProper s (Call k) = KindInRange (plan_sizes s) k × (is_fetch k ≡ false)
 IsProper s (Adds a v) = a < addresses s
 
 -- of the step the memory has the word, where it loads one
-abbrev pub HasWord : ℕ → Step → Type 0
-HasWord size (Call (Load a v)) = a < size
-HasWord size _ = Unit {0}
+abbrev pub StepReads : ℕ → ScriptCall → Type 0
+StepReads size (Call (Load a v)) = a < size
+StepReads size _ = Unit {0}
 
 -- these are the steps of a lawful script
-pub record AreLawfulSteps (s : Plan) (steps : List (Vec Step)) : Type 0 where
+pub record AreLawfulSteps (s : Plan) (steps : List (Vec ScriptCall)) : Type 0 where
   pub lawful : IsLawful s
   pub are : AreStepsOf s steps
 
 -- the machine has done some events of a lawful script, whose steps are these
-pub record IsRunning (m : Machine) (steps : List (Vec Step)) : Type 0 where
+pub record IsRunning (m : FlatState) (steps : List (Vec ScriptCall)) : Type 0 where
   pub plan : Plan
   pub lawful : AreLawfulSteps plan steps
   pub events : List Event
   pub knows : Knows plan events m
 
 -- p may do this after some events of a lawful script
-pub record IsStepOf (m : Machine) (p : ℕ) (k : Kind) : Type 0 where
+pub record IsStepOf (m : FlatState) (p : ℕ) (k : Kind) : Type 0 where
   pub plan : Plan
   pub lawful : IsLawful plan
   pub events : List Event

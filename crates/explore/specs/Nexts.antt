@@ -5,19 +5,19 @@ use Rattle.journal.specs.declared.event.Kind.{Kind}
 use Rattle.journal.specs.Did.{did, event}
 use Rattle.journal.specs.Races.{Conflict}
 use Rattle.lrc_script.specs.Plan.{Plan}
-use Rattle.beginnings.specs.Beginnings.{IsFlatBeginning}
-use Rattle.explore.specs.declared.machine.Machine.{Machine}
+use Rattle.explore.specs.Prefixes.Beginnings.{IsFlatBeginning}
+use Rattle.explore.specs.declared.flat_state.FlatState.{FlatState}
 use Rattle.explore.specs.declared.neighbours.Neighbours.{Neighbours}
-use Rattle.explore.specs.Found.{GoesOn}
+use Rattle.explore.specs.Found.{StaysPossible}
 use Rattle.explore.specs.Machines.{Knows}
 
 -- of each processor what it may do next, whatever events come to m
-abbrev pub AreNexts : Plan → Machine → List (Option Kind) → Type 0
+abbrev pub AreNexts : Plan → FlatState → List (Option Kind) → Type 0
 AreNexts s m nexts = (g : List Event) → Knows s g m → (p : ℕ) (k : Kind)
     → (slice_index_or nexts p None ≡ Some k) ↔ IsFlatBeginning s (did g p k)
 
 -- nothing may come next, whatever events come to m
-abbrev pub IsOver : Plan → Machine → Type 0
+abbrev pub IsOver : Plan → FlatState → Type 0
 IsOver s m = (g : List Event) (p : ℕ) (k : Kind) → Knows s g m → ¬ IsFlatBeginning s (did g p k)
 
 -- what p and q may do next conflicts
@@ -28,9 +28,9 @@ pub record IsConflict (nexts : List (Option Kind)) (p q : ℕ) (a b : Kind) : Ty
   pub conflict : Conflict (event p a) (event q b)
 
 -- two events that conflict may come next after the state at this place
-pub record AreNeighbours (s : Plan) (states : List Machine) (x : Neighbours) : Type 0 where
+pub record AreNeighbours (s : Plan) (states : List FlatState) (x : Neighbours) : Type 0 where
   pub within : x.place < length states
   pub apart : x.first.processor ≢ x.second.processor
   pub conflict : Conflict x.first x.second
-  pub first : (m : Machine) → slice_get states x.place ≡ Some m → GoesOn s m x.first.processor x.first.kind
-  pub second : (m : Machine) → slice_get states x.place ≡ Some m → GoesOn s m x.second.processor x.second.kind
+  pub first : (m : FlatState) → slice_get states x.place ≡ Some m → StaysPossible s m x.first.processor x.first.kind
+  pub second : (m : FlatState) → slice_get states x.place ≡ Some m → StaysPossible s m x.second.processor x.second.kind

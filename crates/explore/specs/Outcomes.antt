@@ -4,8 +4,8 @@ use Rattle.journal.specs.declared.event.Event.{Event}
 use Rattle.journal.specs.declared.event.Kind.{Kind}
 use Rattle.journal.specs.declared.event.Kind.TheVariants.{Load}
 use Rattle.lrc_script.specs.Plan.{Plan}
-use Rattle.follows.specs.Follows.{calls_of}
-use Rattle.beginnings.specs.Beginnings.{IsWhole}
+use Rattle.conformance.specs.Follows.{calls_of}
+use Rattle.explore.specs.Prefixes.Beginnings.{IsWhole}
 
 -- what the loads among these calls answered, in order
 abbrev pub replies_in : List Kind → List ℕ

@@ -4,16 +4,16 @@ use Rattle.std.specs.Global.{Vec}
 use Rattle.journal.specs.declared.event.Event.{Event}
 use Rattle.journal.specs.Races.{Race}
 use Rattle.lrc_script.specs.Plan.{Plan}
-use Rattle.beginnings.specs.declared.step.Step.{Step}
-use Rattle.beginnings.specs.Beginnings.{IsFlatBeginning}
-use Rattle.explore.specs.declared.found.Found.{Found}
+use Rattle.explore.specs.declared.prefixes.script_call.ScriptCall.{ScriptCall}
+use Rattle.explore.specs.Prefixes.Beginnings.{IsFlatBeginning}
+use Rattle.explore.specs.declared.states.States.{States}
 use Rattle.explore.specs.declared.neighbours.Neighbours.{Neighbours}
 use Rattle.explore.specs.Found.{AreFound, states_of}
 use Rattle.explore.specs.Machines.{AreLawfulSteps}
 use Rattle.explore.specs.Nexts.{AreNeighbours}
 
 -- two next events of a lawful script conflict
-pub record AreRacing (s : Plan) (x : Found) (steps : List (Vec Step)) (neighbours : Neighbours) : Type 0 where
+pub record AreRacing (s : Plan) (x : States) (steps : List (Vec ScriptCall)) (neighbours : Neighbours) : Type 0 where
   pub lawful : AreLawfulSteps s steps
   pub found : AreFound s x
   pub are : AreNeighbours s (states_of x) neighbours

@@ -2,13 +2,13 @@
 use Rattle.std.specs.Prelude.{ℕ, ◌<◌, List}
 use Rattle.journal.specs.declared.event.Event.{Event}
 use Rattle.lrc_script.specs.Plan.{Plan}
-use Rattle.beginnings.specs.Beginnings.{IsFlatBeginning}
-use Rattle.explore.specs.declared.machine.Machine.{Machine}
+use Rattle.explore.specs.Prefixes.Beginnings.{IsFlatBeginning}
+use Rattle.explore.specs.declared.flat_state.FlatState.{FlatState}
 use Rattle.explore.specs.Machines.{Knows}
 
 -- one machine can have done either: what each processor has done, the words, and who waits for what are the same
 pub record IsOneState (s : Plan) (g h : List Event) : Type 0 where
-  pub machine : Machine
+  pub machine : FlatState
   pub first : Knows s g machine
   pub second : Knows s h machine
 

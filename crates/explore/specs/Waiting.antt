@@ -1,12 +1,12 @@
 -- What is kept of who waits for what, by the events so far.
 use Rattle.std.specs.Prelude.{ℕ, ◌≡◌, ◌↔◌, ◌+◌, ◌<◌, ◌==◌, not, false, IsTrue, Option, Some, None, List, [], ◌∷◌, ◌++◌, filter, length, slice_get, slice_index, slice_index_or}
-use Rattle.lists.specs.Places.{Has, InOrder}
+use Rattle.base.specs.Places.{Has, InOrder}
 use Rattle.journal.specs.declared.event.Event.{Event}
 use Rattle.journal.specs.declared.event.Kind.{Kind}
 use Rattle.journal.specs.declared.event.Kind.TheVariants.{Ask, Acquire}
-use Rattle.explore.specs.declared.wait.Wait.{Wait}
-use Rattle.explore.specs.declared.wait.Wait.TheVariants.{Lock}
-use Rattle.lists.specs.Limits.{most_held}
+use Rattle.explore.specs.declared.wait.WaitCode.{WaitCode}
+use Rattle.explore.specs.declared.wait.WaitCode.TheVariants.{Lock}
+use Rattle.base.specs.Limits.{most_held}
 use Rattle.journal.specs.Did.{event}
 use Rattle.journal.specs.Sizes.{Sizes}
 use Rattle.journal.specs.Events.{count_of, is_arrive, is_depart}
@@ -15,11 +15,11 @@ use Rattle.judge.specs.Sizes.{AreSmall}
 use Rattle.judge.specs.Tells.{IsSet}
 use Rattle.judge.specs.Why.{WaitsFor}
 use Rattle.explore.specs.declared.waiting.Waiting.{Waiting}
-use Rattle.explore.specs.Waits.{AreKept, arrivals_open, seated}
+use Rattle.explore.specs.Waits.{AwaitedAreKept, arrivals_open, seated}
 
 -- of each processor what it waits for, where it waits
-abbrev pub AreWaits : List Event → List (Option Kind) → Type 0
-AreWaits g waits = (p : ℕ) (k : Kind) → (slice_index_or waits p None ≡ Some k) ↔ WaitsFor g p k
+abbrev pub AreAwaited : List Event → List (Option Kind) → Type 0
+AreAwaited g waits = (p : ℕ) (k : Kind) → (slice_index_or waits p None ≡ Some k) ↔ WaitsFor g p k
 
 -- p's last event asks for a lock, at place i
 abbrev pub AsksAt : List Event → ℕ → ℕ → Type 0
@@ -37,7 +37,7 @@ pub record TellsWaiting (j : List Event) (x : Waiting) : Type 0 where
   pub arrivals_long : length x.arrivals ≡ 16
   pub holders_long : length x.holders ≡ 32
   pub flags_long : length x.flags ≡ 32
-  pub waits : AreKept j x.waits
+  pub waits : AwaitedAreKept j x.waits
   pub arrivals : (p : ℕ) → slice_index x.arrivals p ≡ count_of is_arrive j p
   pub departures : (p : ℕ) → count_of is_depart j p + arrivals_open (slice_index_or x.waits p None) ≡ count_of is_arrive j p
   pub holders : (l q : ℕ) → (seated (slice_index_or x.holders l None) ≡ Some q) ↔ Holds j q l
@@ -63,7 +63,7 @@ pub record IsPossible (x : Waiting) (processors p : ℕ) (k : Kind) : Type 0 whe
   pub tells : TellsWaiting events x
 
 -- p's event of this kind may come after events that this tells, which are few
-pub record IsDue (x : Waiting) (p : ℕ) (k : Kind) : Type 0 where
+pub record IsEnabled (x : Waiting) (p : ℕ) (k : Kind) : Type 0 where
   pub sizes : Sizes
   pub small : AreSmall sizes
   pub events : List Event
@@ -72,21 +72,21 @@ pub record IsDue (x : Waiting) (p : ℕ) (k : Kind) : Type 0 where
   pub few : length events < most_held
 
 -- these without p
-abbrev pub without : List ℕ → ℕ → List ℕ
-without asked p = filter (λ q. not (q == p)) asked
+abbrev pub unqueued : List ℕ → ℕ → List ℕ
+unqueued asked p = filter (λ q. not (q == p)) asked
 
 -- who waits for a lock, after p's event of this kind
 abbrev pub AreAskedAfter : List ℕ → List ℕ → ℕ → Kind → Type 0
 AreAskedAfter old new p (Ask l) = new ≡ old ++ p ∷ []
-AreAskedAfter old new p (Acquire l) = new ≡ without old p
+AreAskedAfter old new p (Acquire l) = new ≡ unqueued old p
 AreAskedAfter old new p _ = new ≡ old
 
 -- q waits for l
-abbrev pub AwaitsLock : List (Option Wait) → ℕ → ℕ → Type 0
+abbrev pub AwaitsLock : List (Option WaitCode) → ℕ → ℕ → Type 0
 AwaitsLock waits q l = slice_index_or waits q None ≡ Some (Lock l)
 
 -- q is the first of these that waits for l
-pub record IsFirstOf (asked : List ℕ) (waits : List (Option Wait)) (l q : ℕ) : Type 0 where
+pub record IsFirstOf (asked : List ℕ) (waits : List (Option WaitCode)) (l q : ℕ) : Type 0 where
   pub place : ℕ
   pub at : slice_get asked place ≡ Some q
   pub awaits : AwaitsLock waits q l

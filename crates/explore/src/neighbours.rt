@@ -6,8 +6,8 @@ ghost use Rattle.lrc_script.specs.Prelude.{Plan};
 ghost use Rattle.explore.specs.Machines.{AreLawfulSteps, IsRunning};
 ghost use Rattle.explore.specs.Nexts.{AreNexts, IsConflict};
 
-use crate::machine::Machine;
-use beginnings::Step;
+use crate::flat_state::FlatState;
+use crate::prefixes::ScriptCall;
 use journal::{Event, Kind};
 
 /// Two events of two processors that conflict, and the place of a state after which either may come next.
@@ -19,7 +19,7 @@ pub struct Neighbours {
 }
 
 /// What each processor may do next.
-pub fn nexts_of(state: &Machine, steps: &[Vec<Step>]) -> [Option<Kind>; 16]
+pub fn nexts_of(state: &FlatState, steps: &[Vec<ScriptCall>]) -> [Option<Kind>; 16]
     requires { IsRunning state.now steps.now }
     ensures nexts { (s : Plan) → AreLawfulSteps s steps.now → AreNexts s state.now result }
     ensures long { length result ≡ 16 }

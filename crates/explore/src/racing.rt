@@ -2,24 +2,24 @@
 ghost use Rattle.std.specs.Prelude.{◌≡◌, ℕ, IfOk};
 ghost use Rattle.journal.specs.Prelude.{Race};
 ghost use Rattle.lrc_script.specs.Prelude.{IsLawful, Plan, plan_of};
-ghost use Rattle.beginnings.specs.Prelude.{IsFlatBeginning};
+ghost use Rattle.explore.specs.Prefixes.Prelude.{IsFlatBeginning};
 ghost use Rattle.explore.specs.Explored.{IsRacy};
 ghost use Rattle.explore.specs.Racing.{AreRacing, IsRacingBeginning};
 
 use crate::explored::RacyEvents;
-use crate::found::Found;
 use crate::neighbours::Neighbours;
-use beginnings::Step;
+use crate::prefixes::ScriptCall;
+use crate::states::States;
+use causes::race;
 use journal::Event;
 use lrc_script::script::Script;
 use std::alloc::{AllocError, Global};
-use why::race;
 
 /// The events to the state, and then the two that conflict, one after the other.
 fn racing_events(
     alloc: Global,
-    steps: &[Vec<Step>],
-    found: &Found,
+    steps: &[Vec<ScriptCall>],
+    found: &States,
     neighbours: Neighbours,
 ) -> Result<Vec<Event>, AllocError>
     requires { (s : Plan) × AreRacing s found.now steps.now neighbours }
@@ -63,8 +63,8 @@ fn up_to_race(alloc: Global, script: &Script, events: Vec<Event>) -> Result<Racy
 pub fn racy_events(
     alloc: Global,
     script: &Script,
-    steps: &[Vec<Step>],
-    found: &Found,
+    steps: &[Vec<ScriptCall>],
+    found: &States,
     neighbours: Neighbours,
 ) -> Result<RacyEvents, AllocError>
     requires { AreRacing (plan_of script.now) found.now steps.now neighbours }

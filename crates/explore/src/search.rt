@@ -2,22 +2,22 @@
 ghost use Rattle.std.specs.Prelude.{◌≡◌, ◌≢◌, ◌↔◌, ℕ, ◌+◌, ◌<◌, ◌≤◌, IfOk, OnOk, IsTrue, List, MatchOption, None, Some, length, map, slice_get};
 ghost use Rattle.journal.specs.declared.event.Event.{Event as AnEvent};
 ghost use Rattle.lrc_script.specs.Prelude.{IsLawful, Plan, plan_of};
-ghost use Rattle.beginnings.specs.Prelude.{IsHang};
+ghost use Rattle.explore.specs.Prefixes.Prelude.{IsHang};
 ghost use Rattle.explore.specs.Explored.{IsExplored, IsHangOf, IsVerdictOn, replies_of};
 ghost use Rattle.explore.specs.Found.{AreFound, states_of};
 ghost use Rattle.explore.specs.Machines.{AreLawfulSteps};
-ghost use Rattle.explore.specs.Searched.{Hangs, IsAmong, IsLookedAt, IsLookedThrough, IsNoted, IsSearched, MayLook};
+ghost use Rattle.explore.specs.Searched.{Hangs, IsAmong, IsLookedAt, IsLookedThrough, OutcomesNoted, VisitedUpTo, HasUnvisited};
 ghost use Rattle.explore.specs.Room.{states_to_look_at};
 ghost use Rattle.explore.specs.Searched.{MayNote};
 
 use crate::explored::{Explored, Hang, Outcome, Verdict};
-use crate::found::Found;
-use crate::machine::Machine;
+use crate::flat_state::FlatState;
 use crate::neighbours::{Neighbours, is_over, neighbours_in, nexts_of};
+use crate::prefixes::{ScriptCall, steps_of_script};
 use crate::progress::Progress;
 use crate::racing::racy_events;
 use crate::room::states_to_look_at;
-use beginnings::{Step, steps_of_script};
+use crate::states::States;
 use indexmap::IndexSet;
 use lrc_script::script::Script;
 use std::alloc::{AllocError, Global};
@@ -26,7 +26,7 @@ use std::mem;
 /// What a search has found so far.
 #[derive(Drop)]
 pub struct Search {
-    found: Found,
+    found: States,
     /// What the whole runs among them show.
     outcomes: IndexSet<Outcome>,
     /// The place of a state that hangs.
@@ -60,21 +60,21 @@ impl Search {
     /// The first state alone. The only error is running out of memory.
     fn new(alloc: Global, script: &Script) -> Result<Search, AllocError>
         requires { IsLawful (plan_of script.now) }
-        ensures searched { IfOk result (λ x. IsSearched (plan_of script.now) x 0) }
+        ensures searched { IfOk result (λ x. VisitedUpTo (plan_of script.now) x 0) }
         ensures few { IfOk result (λ x. length (states_of x.found) ≤ 1) }
     {
         Ok(Search {
-            found: Found::new(alloc, Machine::new(alloc, script)?)?,
+            found: States::new(alloc, FlatState::new(alloc, script)?)?,
             outcomes: IndexSet::new(alloc),
             hang: None,
         })
     }
 
     /// Takes note of a state after which nothing may come next: it is whole, or it hangs.
-    fn note_end(&mut self, steps: &[Vec<Step>], place: usize) -> Result<(), AllocError>
+    fn note_end(&mut self, steps: &[Vec<ScriptCall>], place: usize) -> Result<(), AllocError>
         requires { (s : Plan) × MayNote s self.old steps.now place }
         ensures found { OnOk result (self.new.found ≡ self.old.found) }
-        ensures noted { OnOk result ((s : Plan) → MayNote s self.old steps.now place → IsNoted s self.new (place + 1)) }
+        ensures noted { OnOk result ((s : Plan) → MayNote s self.old steps.now place → OutcomesNoted s self.new (place + 1)) }
     {
         let state = self.found.at(place);
         if state.is_whole(steps) {
@@ -89,13 +89,13 @@ impl Search {
     /// found, and what there is to note is noted.
     fn look_at(
         &mut self,
-        steps: &[Vec<Step>],
+        steps: &[Vec<ScriptCall>],
         place: usize,
     ) -> Result<Option<Neighbours>, AllocError>
-        requires { (s : Plan) × MayLook s self.old steps.now place }
-        ensures looked { IfOk result (λ o. (s : Plan) → MayLook s self.old steps.now place
+        requires { (s : Plan) × HasUnvisited s self.old steps.now place }
+        ensures looked { IfOk result (λ o. (s : Plan) → HasUnvisited s self.old steps.now place
             → IsLookedAt s self.new steps.now (place + 1) o) }
-        ensures few { IfOk result (λ _. (s : Plan) → MayLook s self.old steps.now place
+        ensures few { IfOk result (λ _. (s : Plan) → HasUnvisited s self.old steps.now place
             → length (states_of self.new.found) ≤ length (states_of self.old.found) + 16) }
     {
         let nexts = nexts_of(self.found.at(place), steps);
@@ -116,14 +116,14 @@ impl Search {
     /// Looks at each state that there is, until two events conflict or more than `most` states are found.
     fn look_at_all<P: Progress>(
         &mut self,
-        steps: &[Vec<Step>],
+        steps: &[Vec<ScriptCall>],
         most: usize,
         progress: &mut P,
     ) -> Result<Option<Neighbours>, AllocError>
-        requires { (s : Plan) × AreLawfulSteps s steps.now × IsSearched s self.old 0 }
-        ensures looked { IfOk result (λ o. (s : Plan) → AreLawfulSteps s steps.now → IsSearched s self.old 0
+        requires { (s : Plan) × AreLawfulSteps s steps.now × VisitedUpTo s self.old 0 }
+        ensures looked { IfOk result (λ o. (s : Plan) → AreLawfulSteps s steps.now → VisitedUpTo s self.old 0
             → IsLookedThrough s self.new steps.now most o) }
-        ensures few { IfOk result (λ _. (s : Plan) → AreLawfulSteps s steps.now → IsSearched s self.old 0
+        ensures few { IfOk result (λ _. (s : Plan) → AreLawfulSteps s steps.now → VisitedUpTo s self.old 0
             → length (states_of self.old.found) ≤ 1 → length (states_of self.new.found) ≤ most + 16) }
     {
         for place in 0..most {
@@ -158,7 +158,7 @@ impl Search {
     /// The hang that was noted, if there is one. The only error is running out of memory.
     fn hang(&self, alloc: Global, script: &Script) -> Result<Option<Hang>, AllocError>
         requires lawful { IsLawful (plan_of script.now) }
-        requires searched { IsSearched (plan_of script.now) self.now (length (states_of self.now.found)) }
+        requires searched { VisitedUpTo (plan_of script.now) self.now (length (states_of self.now.found)) }
         ensures { IfOk result (λ o. MatchOption o ((g : List AnEvent) → ¬ IsHang (plan_of script.now) g)
             (IsHangOf (plan_of script.now))) }
     {
@@ -172,7 +172,7 @@ impl Search {
     /// error is running out of memory.
     fn race_free(&mut self, alloc: Global, script: &Script) -> Result<Verdict, AllocError>
         requires lawful { IsLawful (plan_of script.now) }
-        requires searched { IsSearched (plan_of script.now) self.old (length (states_of self.old.found)) }
+        requires searched { VisitedUpTo (plan_of script.now) self.old (length (states_of self.old.found)) }
         ensures { IfOk result (λ v. (most states : ℕ) → IsVerdictOn (plan_of script.now) most states v) }
     {
         let hang = self.hang(alloc, script)?;
@@ -187,7 +187,7 @@ impl Search {
         &mut self,
         alloc: Global,
         script: &Script,
-        steps: &[Vec<Step>],
+        steps: &[Vec<ScriptCall>],
         most: usize,
         neighbours: Option<Neighbours>,
     ) -> Result<Verdict, AllocError>
@@ -212,12 +212,12 @@ impl Search {
         &mut self,
         alloc: Global,
         script: &Script,
-        steps: &[Vec<Step>],
+        steps: &[Vec<ScriptCall>],
         most: usize,
         progress: &mut P,
     ) -> Result<Explored, AllocError>
         requires steps { AreLawfulSteps (plan_of script.now) steps.now }
-        requires searched { IsSearched (plan_of script.now) self.old 0 }
+        requires searched { VisitedUpTo (plan_of script.now) self.old 0 }
         requires few { length (states_of self.old.found) ≤ 1 }
         ensures { IfOk result (IsExplored (plan_of script.now) most) }
     {
@@ -232,7 +232,7 @@ impl Search {
 fn explore_steps<P: Progress>(
     alloc: Global,
     script: &Script,
-    steps: &[Vec<Step>],
+    steps: &[Vec<ScriptCall>],
     most: usize,
     progress: &mut P,
 ) -> Result<Explored, AllocError>
@@ -253,7 +253,7 @@ fn explore_steps<P: Progress>(
 ///
 /// A state is what each processor has done, with the replies to its loads, the words, and who waits for what. Two
 /// accesses that conflict and may both come next make a race; where no state has such, no run races (by the law of
-/// neighbours in crate `beginnings`), on one flat memory or on the real one.
+/// neighbours in crate `explore`), on one flat memory or on the real one.
 pub fn explore<P: Progress>(
     alloc: Global,
     script: &Script,

@@ -10,7 +10,7 @@ use journal::Kind;
 
 /// What a processor waits for.
 #[derive(Clone, Copy, PartialEq, Eq)]
-pub enum Wait {
+pub enum WaitCode {
     /// A lock that it has asked for.
     Lock(u8),
     /// The others, at the barrier.
@@ -19,34 +19,34 @@ pub enum Wait {
     Flag(u8),
 }
 
-impl Wait {
+impl WaitCode {
     /// The event that ends the wait.
     fn end(self) -> Kind
         ensures { result ≡ end_of self }
     {
         match self {
-            Wait::Lock(lock) => Kind::Acquire(lock as usize),
-            Wait::Barrier => Kind::Depart,
-            Wait::Flag(flag) => Kind::Await(flag as usize),
+            WaitCode::Lock(lock) => Kind::Acquire(lock as usize),
+            WaitCode::Barrier => Kind::Depart,
+            WaitCode::Flag(flag) => Kind::Await(flag as usize),
         }
     }
 
     /// What the processor of an event of this kind waits for after it, if it waits.
-    pub fn after(kind: Kind) -> Option<Wait>
+    pub fn after(kind: Kind) -> Option<WaitCode>
         requires { (s : TheSizes) × AreSmall s × KindInRange s kind }
         ensures { ending result ≡ awaited kind }
     {
         match kind {
-            Kind::Ask(lock) => Some(Wait::Lock(lock as u8)),
-            Kind::Arrive => Some(Wait::Barrier),
-            Kind::Watch(flag) => Some(Wait::Flag(flag as u8)),
+            Kind::Ask(lock) => Some(WaitCode::Lock(lock as u8)),
+            Kind::Arrive => Some(WaitCode::Barrier),
+            Kind::Watch(flag) => Some(WaitCode::Flag(flag as u8)),
             _ => None,
         }
     }
 }
 
 /// The event that ends the wait, if there is one.
-pub fn end_of(wait: Option<Wait>) -> Option<Kind>
+pub fn end_of(wait: Option<WaitCode>) -> Option<Kind>
     ensures { result ≡ ending wait }
 {
     match wait {

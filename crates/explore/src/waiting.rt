@@ -1,18 +1,18 @@
 //! Who waits for what, and what has come.
 ghost use Rattle.std.specs.Prelude.{◌≡◌, ◌↔◌, ℕ, ◌+◌, ◌<◌, ◌≤◌, ◌^◌, ◌==◌, ◌&&◌, [], ◌∷◌, ◌++◌, IsTrue};
 ghost use Rattle.std.specs.Prelude.{All, List, IfOk, MatchOption, OnOk, cond, false, length, slice_index, slice_index_or};
-ghost use Rattle.lists.specs.Prelude.{Has};
+ghost use Rattle.base.specs.Prelude.{Has};
 ghost use Rattle.journal.specs.declared.event.Event.{Event as AnEvent};
 ghost use Rattle.journal.specs.declared.event.Kind.{Kind as AKind};
 ghost use Rattle.journal.specs.declared.event.Kind.TheVariants.{Ask, Depart};
 ghost use Rattle.journal.specs.Sizes.{Sizes as TheSizes};
 ghost use Rattle.journal.specs.WellFormed.{Allowed, KindInRange, LastIs, MayBeGranted, MayFollow};
 ghost use Rattle.journal.specs.Prelude.{Holds, count_of, did, event, is_arrive, is_depart, is_taking};
-ghost use Rattle.judge.specs.Prelude.{AreSmall, WaitsFor, holder_after, set_after};
-ghost use Rattle.explore.specs.Waiting.{AreAskedAfter, AwaitsLock, IsDue, IsFirstOf, IsLikeWaiting, IsPossible, TellsWaiting, without};
+ghost use Rattle.judge.specs.Prelude.{AreSmall, WaitsFor, holder_after, is_set_after};
+ghost use Rattle.explore.specs.Waiting.{AreAskedAfter, AwaitsLock, IsEnabled, IsFirstOf, IsLikeWaiting, IsPossible, TellsWaiting, unqueued};
 ghost use Rattle.explore.specs.Waits.{seated};
 
-use crate::wait::{Seat, Wait, end_of};
+use crate::wait::{Seat, WaitCode, end_of};
 use journal::Kind;
 use std::alloc::{AllocError, Global};
 
@@ -22,7 +22,7 @@ use std::alloc::{AllocError, Global};
 pub struct Waiting {
     /// What each processor waits for.
     #[derive_where(skip(Hash))]
-    waits: [Option<Wait>; 16],
+    waits: [Option<WaitCode>; 16],
     /// How often each has arrived at the barrier. It has departed as often, unless it waits there.
     arrivals: [u32; 16],
     /// Who holds each lock.
@@ -82,7 +82,7 @@ fn hold(holders: &mut [Option<Seat>; 32], processor: usize, kind: Kind)
 fn set(flags: &mut [bool; 32], kind: Kind)
     requires { (s : TheSizes) × AreSmall s × KindInRange s kind }
     ensures flags { (f : ℕ) → slice_index_or flags.new f false
-        ≡ set_after (slice_index_or flags.old f false) f kind }
+        ≡ is_set_after (slice_index_or flags.old f false) f kind }
     ensures long { length flags.new ≡ length flags.old }
 {
     if let Kind::Set(flag) = kind {
@@ -92,7 +92,7 @@ fn set(flags: &mut [bool; 32], kind: Kind)
 
 /// Takes the processor out.
 fn leave(asked: &mut Vec<usize>, processor: usize)
-    ensures { asked.new.items ≡ without asked.old.items processor }
+    ensures { asked.new.items ≡ unqueued asked.old.items processor }
 {
     asked.retain(|other| *other != processor);
 }
@@ -110,14 +110,14 @@ fn queue(asked: &mut Vec<usize>, processor: usize, kind: Kind) -> Result<(), All
 }
 
 /// The first of these processors that waits for the lock.
-fn first_of(asked: &[usize], waits: &[Option<Wait>; 16], lock: usize) -> Option<usize>
+fn first_of(asked: &[usize], waits: &[Option<WaitCode>; 16], lock: usize) -> Option<usize>
     requires small { All (λ q. q < 16) asked.now }
     requires lock { lock < 32 }
     ensures { MatchOption result ((q : ℕ) → Has asked.now q → ¬ AwaitsLock waits.now q lock)
         (IsFirstOf asked.now waits.now lock) }
 {
     for processor in asked {
-        if waits[*processor] == Some(Wait::Lock(lock as u8)) {
+        if waits[*processor] == Some(WaitCode::Lock(lock as u8)) {
             return Some(*processor);
         }
     }
@@ -252,7 +252,7 @@ impl Waiting {
     /// Takes note of the processor's next event. The only error is running out of memory, after which this may tell
     /// no events.
     pub fn note(&mut self, processor: usize, kind: Kind) -> Result<(), AllocError>
-        requires { IsDue self.old processor kind }
+        requires { IsEnabled self.old processor kind }
         ensures { OnOk result ((s : TheSizes) (j : List AnEvent) → TellsWaiting j self.old
             → MayFollow s j (event processor kind) → processor < 16
             → TellsWaiting (did j processor kind) self.new) }
@@ -261,7 +261,7 @@ impl Waiting {
         count(&mut self.arrivals, processor, kind);
         hold(&mut self.holders, processor, kind);
         set(&mut self.flags, kind);
-        self.waits[processor] = Wait::after(kind);
+        self.waits[processor] = WaitCode::after(kind);
         Ok(())
     }
 }

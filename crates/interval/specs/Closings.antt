@@ -4,13 +4,13 @@ use Rattle.std.specs.List.{flat_map}
 use Rattle.std.specs.Option.{option_and_then}
 use Rattle.page.specs.Changes.{Changes}
 use Rattle.interval.specs.declared.notice.Notice.{Notice}
-use Rattle.interval.specs.declared.kept.Kept.{Kept}
+use Rattle.interval.specs.declared.kept_interval.KeptInterval.{KeptInterval}
 use Rattle.interval.specs.Intervals.{ClosedInterval, SentRecord}
 
 -- `kept` is in closing order. For each owner, `first` is the number of its first interval that is kept, or
 -- of its next one where none is, and `next` the number of its next one. `pushed` counts all ever closed
 pub record Closings : Type 0 where
-  pub kept : List Kept
+  pub kept : List KeptInterval
   pub first : List ℕ
   pub next : List ℕ
   pub pushed : ℕ
@@ -25,7 +25,7 @@ pushed c interval = record {
 }
 
 -- the owner's interval has a number below `to`
-abbrev pub is_trimmed : ℕ → ℕ → Kept → Bool
+abbrev pub is_trimmed : ℕ → ℕ → KeptInterval → Bool
 is_trimmed owner to k = k.interval.owner == owner && nat_lt k.interval.number to
 
 -- the owner's intervals with numbers below `to` are dropped
@@ -38,13 +38,13 @@ trimmed c owner to = record {
 }
 
 -- the timestamp `new` covers the interval and `old` doesn't
-abbrev pub is_news : List ℕ → List ℕ → Kept → Bool
+abbrev pub is_news : List ℕ → List ℕ → KeptInterval → Bool
 is_news old new k =
     nat_le (slice_index old k.interval.owner) k.interval.number && nat_lt k.interval.number
     (slice_index new k.interval.owner)
 
 -- a record of the interval, under its notice
-abbrev pub sent_record : Kept → Changes → SentRecord
+abbrev pub sent_record : KeptInterval → Changes → SentRecord
 sent_record k r = record {
   notice = record { page = r.page; owner = k.interval.owner; number = k.interval.number };
   place = k.place;
@@ -52,7 +52,7 @@ sent_record k r = record {
 }
 
 -- all of the interval's records
-abbrev pub sent_interval : Kept → List SentRecord
+abbrev pub sent_interval : KeptInterval → List SentRecord
 sent_interval k = map (sent_record k) k.interval.records
 
 -- the kept intervals that `new` covers and `old` doesn't, in closing order
@@ -71,7 +71,7 @@ abbrev pub is_of_page : ℕ → SentRecord → Bool
 is_of_page page s = s.notice.page == page
 
 -- the interval is that of the notice
-abbrev pub is_noticed : Notice → Kept → Bool
+abbrev pub is_noticed : Notice → KeptInterval → Bool
 is_noticed n k = k.interval.owner == n.owner && k.interval.number == n.number
 
 -- the record that the notice announces, where its interval is kept and has one

@@ -1,6 +1,6 @@
 -- Closed intervals and what is sent of them, as contracts see them.
 use Rattle.std.specs.Prelude.{ℕ, ◌≡◌, ◌<◌, ◌⊎◌, List}
-use Rattle.lists.specs.Places.{InOrder}
+use Rattle.base.specs.Places.{InOrder}
 use Rattle.page.specs.Changes.{Changes}
 use Rattle.interval.specs.declared.notice.Notice.{Notice}
 

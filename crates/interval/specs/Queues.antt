@@ -1,30 +1,30 @@
 -- How the kept intervals lie: one queue for each owner.
 use Rattle.std.specs.Prelude.{ℕ, ◌≡◌, ◌≢◌, ◌↔◌, ◌+◌, ◌-◌, ◌^◌, ◌<◌, min, max, drop, take, nat_lt, cond, Some, List, [], ◌∷◌, map, length, slice_get}
 use Rattle.std.specs.List.{flat_map}
-use Rattle.lists.specs.Places.{Has, InOrder}
-use Rattle.interval.specs.declared.kept.Kept.{Kept}
+use Rattle.base.specs.Places.{Has, InOrder}
+use Rattle.interval.specs.declared.kept_interval.KeptInterval.{KeptInterval}
 use Rattle.interval.specs.Intervals.{HasRisingPages}
 use Rattle.interval.specs.Closings.{Closings}
 
 -- the kept intervals of one owner by rising number, from `first` on
 pub record Queue : Type 0 where
   pub first : ℕ
-  pub kept : List Kept
+  pub kept : List KeptInterval
 
 -- the list with k at its place. One that has an interval with k's closing number stays as it is, and k
 -- is dropped
-abbrev pub placed : Kept → List Kept → List Kept
+abbrev pub placed : KeptInterval → List KeptInterval → List KeptInterval
 placed k [] = k ∷ []
 placed k (x ∷ xs) =
     cond (nat_lt k.place x.place) (k ∷ x ∷ xs) (cond (nat_lt x.place k.place) (x ∷ placed k xs) (x ∷ xs))
 
 -- the intervals by rising closing number, one for each such number
-abbrev pub by_place : List Kept → List Kept
+abbrev pub by_place : List KeptInterval → List KeptInterval
 by_place [] = []
 by_place (x ∷ xs) = placed x (by_place xs)
 
 -- all queues as one list in closing order
-abbrev pub merged : List Queue → List Kept
+abbrev pub merged : List Queue → List KeptInterval
 merged queues = by_place (flat_map (λ (q : Queue). q.kept) queues)
 
 -- what the queues hold, in the words of contracts
@@ -37,7 +37,7 @@ closings queues count = record {
 }
 
 -- the interval at index i of the owner's queue
-pub record IsQueued (owner count : ℕ) (queue : Queue) (i : ℕ) (k : Kept) : Type 0 where
+pub record IsQueued (owner count : ℕ) (queue : Queue) (i : ℕ) (k : KeptInterval) : Type 0 where
   pub owner_is : k.interval.owner ≡ owner
   pub number_is : k.interval.number ≡ queue.first + i
   pub closed : k.place < count
@@ -45,28 +45,28 @@ pub record IsQueued (owner count : ℕ) (queue : Queue) (i : ℕ) (k : Kept) : T
 
 -- the owner's queue, when that many intervals were closed in all
 pub record IsQueue (owner count : ℕ) (queue : Queue) : Type 0 where
-  pub each : (i : ℕ) (k : Kept) → slice_get queue.kept i ≡ Some k → IsQueued owner count queue i k
-  pub rising : InOrder (λ (j k : Kept). j.place < k.place) queue.kept
+  pub each : (i : ℕ) (k : KeptInterval) → slice_get queue.kept i ≡ Some k → IsQueued owner count queue i k
+  pub rising : InOrder (λ (j k : KeptInterval). j.place < k.place) queue.kept
 
 -- one queue for each owner, and no closing number in two of them; the count of all that were closed fits a word
 pub record AreQueues (queues : List Queue) (count : ℕ) : Type 0 where
   pub few : count < 2 ^ 64
   pub each : (q : ℕ) (queue : Queue) → slice_get queues q ≡ Some queue → IsQueue q count queue
-  pub apart : (q r : ℕ) (a b : Queue) (j k : Kept) → slice_get queues q ≡ Some a → slice_get queues r ≡ Some b
+  pub apart : (q r : ℕ) (a b : Queue) (j k : KeptInterval) → slice_get queues q ≡ Some a → slice_get queues r ≡ Some b
       → Has a.kept j → Has b.kept k → j.place ≡ k.place → q ≡ r
 
 -- the list has just these intervals, in any order, and no closing number twice
-pub record AreAll (ks list : List Kept) : Type 0 where
-  pub same : (k : Kept) → Has list k ↔ Has ks k
-  pub apart : InOrder (λ (j k : Kept). j.place ≢ k.place) list
+pub record SameIntervals (ks list : List KeptInterval) : Type 0 where
+  pub same : (k : KeptInterval) → Has list k ↔ Has ks k
+  pub apart : InOrder (λ (j k : KeptInterval). j.place ≢ k.place) list
 
 -- the queue without the intervals with numbers below `to`
-abbrev pub without : Queue → ℕ → Queue
-without queue to = record {
+abbrev pub dropped_below : Queue → ℕ → Queue
+dropped_below queue to = record {
   first = max queue.first (min to (queue.first + length queue.kept));
   kept = drop (to - queue.first) queue.kept;
 }
 
 -- the queue's intervals with numbers within from..to
-abbrev pub within : Queue → ℕ → ℕ → List Kept
+abbrev pub within : Queue → ℕ → ℕ → List KeptInterval
 within queue from to = drop (from - queue.first) (take (to - queue.first) queue.kept)

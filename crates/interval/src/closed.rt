@@ -5,9 +5,9 @@ ghost use Rattle.std.specs.Prelude.{EachIndex, map};
 ghost use Rattle.std.specs.Option.{option_copied};
 ghost use Rattle.vtime.specs.Times.{tick};
 ghost use Rattle.interval.specs.Prelude.{HasRisingPages, IsInClosingOrder, KeepsBetween, pushed, trimmed, is_news};
-ghost use Rattle.interval.specs.Prelude.{between, is_of_page, record_of, AreAll};
+ghost use Rattle.interval.specs.Prelude.{between, is_of_page, record_of, SameIntervals};
 
-use crate::kept::{Interval, Kept};
+use crate::kept_interval::{Interval, KeptInterval};
 use crate::notice::{Notice, Sent};
 use crate::queue::Queue;
 use page::Record;
@@ -63,7 +63,7 @@ impl Closed {
         ensures err { OnErr result (self.new ≡ self.old) }
     {
         let owner = interval.owner;
-        self.queues[owner].push(Kept {
+        self.queues[owner].push(KeptInterval {
             place: self.pushed,
             interval,
         })?;
@@ -152,9 +152,9 @@ impl Closed {
     }
 
     /// The intervals that `new` covers and `old` doesn't, owner by owner.
-    fn news(&self, old: &VTime, new: &VTime) -> Result<Vec<&Kept>, AllocError>
+    fn news(&self, old: &VTime, new: &VTime) -> Result<Vec<&KeptInterval>, AllocError>
         requires { KeepsBetween self.now old.now new.now }
-        ensures { IfOk result (λ news. AreAll (filter (is_news old.now new.now) self.now.kept)
+        ensures { IfOk result (λ news. SameIntervals (filter (is_news old.now new.now) self.now.kept)
             (map (λ k. k.now) news.items)) }
     {
         let mut news = Vec::new(*self.queues.allocator());

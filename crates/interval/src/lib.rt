@@ -11,10 +11,10 @@
 #![tactic(auto)]
 
 mod closed;
-mod kept;
+mod kept_interval;
 mod notice;
 mod queue;
 
 pub use closed::Closed;
-pub use kept::{Interval, Kept};
+pub use kept_interval::{Interval, KeptInterval};
 pub use notice::{Notice, Sent};

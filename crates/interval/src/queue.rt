@@ -1,9 +1,9 @@
 //! The kept intervals of one owner.
 ghost use Rattle.std.specs.Prelude.{◌≡◌, ◌-◌, ◌≤◌, [], ◌∷◌, ◌++◌, map, slice_get, OnOk, OnErr};
 ghost use Rattle.std.specs.Option.{option_copied};
-ghost use Rattle.interval.specs.Prelude.{within, without, pages_of, AreCounted, HasRoom};
+ghost use Rattle.interval.specs.Prelude.{within, dropped_below, pages_of, CountsGrew, HasRoom};
 
-use crate::kept::Kept;
+use crate::kept_interval::KeptInterval;
 use std::alloc::{AllocError, Global};
 use std::collections::VecDeque;
 use std::marker::Model;
@@ -12,7 +12,7 @@ use std::marker::Model;
 #[derive(Drop)]
 pub(crate) struct Queue {
     first: u64,
-    kept: VecDeque<Kept>,
+    kept: VecDeque<KeptInterval>,
 }
 
 impl Model for Queue {
@@ -43,7 +43,7 @@ impl Queue {
     }
 
     /// Adds the owner's next interval.
-    pub(crate) fn push(&mut self, kept: Kept) -> Result<(), AllocError>
+    pub(crate) fn push(&mut self, kept: KeptInterval) -> Result<(), AllocError>
         ensures ok { OnOk result (self.new
             ≡ record { first = self.old.first; kept = self.old.kept ++ kept ∷ [] }) }
         ensures err { OnErr result (self.new ≡ self.old) }
@@ -53,7 +53,7 @@ impl Queue {
     }
 
     /// The interval with this number, if it was closed.
-    pub(crate) fn numbered(&self, number: u64) -> Option<&Kept>
+    pub(crate) fn numbered(&self, number: u64) -> Option<&KeptInterval>
         requires { self.now.first ≤ number }
         ensures { option_copied result ≡ slice_get self.now.kept (number - self.now.first) }
     {
@@ -65,7 +65,7 @@ impl Queue {
         &'q self,
         from: u64,
         to: u64,
-        news: &mut Vec<&'q Kept>,
+        news: &mut Vec<&'q KeptInterval>,
     ) -> Result<(), AllocError>
         requires { self.now.first ≤ from }
         ensures { OnOk result (map (λ k. k.now) news.new.items
@@ -84,7 +84,7 @@ impl Queue {
     pub(crate) fn count_pages(&self, from: u64, to: u64, base: usize, counts: &mut [usize])
         requires kept { self.now.first ≤ from }
         requires room { HasRoom base (pages_of (within self.now from to)) counts.old }
-        ensures { AreCounted base (pages_of (within self.now from to)) counts.old counts.new }
+        ensures { CountsGrew base (pages_of (within self.now from to)) counts.old counts.new }
     {
         let start = (from - self.first) as usize;
         let end = to.saturating_sub(self.first).min(self.kept.len() as u64) as usize;
@@ -95,7 +95,7 @@ impl Queue {
 
     /// Drops the intervals with numbers below `to`.
     pub(crate) fn trim(&mut self, to: u64)
-        ensures { self.new ≡ without self.old to }
+        ensures { self.new ≡ dropped_below self.old to }
     {
         let count = to.saturating_sub(self.first).min(self.kept.len() as u64);
         for _ in 0..count {

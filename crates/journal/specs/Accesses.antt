@@ -80,7 +80,7 @@ pub record IsLoadNoted (x y : Accesses) (a p : ℕ) (t : ℕ → ℕ) : Type 0 w
   pub same_loads : (b q : ℕ) → b ≢ a → load_entry y b q ≡ load_entry x b q
 
 -- p's event of this kind at the timestamp t is taken note of
-abbrev pub IsNoted : Accesses → Accesses → ℕ → (ℕ → ℕ) → Kind → Type 0
-IsNoted x y p t (Load a v) = IsLoadNoted x y a p t
-IsNoted x y p t (Store a v) = IsStoreNoted x y a p t
-IsNoted x y p t _ = y ≡ x
+abbrev pub AccessNoted : Accesses → Accesses → ℕ → (ℕ → ℕ) → Kind → Type 0
+AccessNoted x y p t (Load a v) = IsLoadNoted x y a p t
+AccessNoted x y p t (Store a v) = IsStoreNoted x y a p t
+AccessNoted x y p t _ = y ≡ x

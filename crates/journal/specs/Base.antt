@@ -22,5 +22,5 @@ no_base addresses = record {
 }
 
 -- how many arrivals of each processor were cut off and not departed from: one, where anything was
-abbrev pub arrived : Base → ℕ
-arrived b = min b.cut 1
+abbrev pub arrivals_cut : Base → ℕ
+arrivals_cut b = min b.cut 1

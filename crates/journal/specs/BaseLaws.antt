@@ -58,8 +58,8 @@ CopyLaw = (s : Sizes) (b : Base) (c j : List Event) (p n : ℕ) (page : List ℕ
     → Lawful s (c ++ j) p n page → LawfulFrom s b j p n page
 
 -- where d, which follows what was cut off, is cut off in turn, the base after it is that of both
-abbrev pub CutLaw : Type 0
-CutLaw = (s : Sizes) (b after : Base) (c d : List Event)
+abbrev pub CutTwiceLaw : Type 0
+CutTwiceLaw = (s : Sizes) (b after : Base) (c d : List Event)
     → WellFormed s (c ++ d) → IsBaseOf s.processors (addresses s) c b
     → EndsEpisode s.processors d → RaceFreeFrom b d → IsBaseAfter b d after
     → IsBaseOf s.processors (addresses s) (c ++ d) after

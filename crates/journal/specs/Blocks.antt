@@ -6,7 +6,7 @@ use Rattle.journal.specs.declared.event.Kind.TheVariants.{Load, Store}
 use Rattle.journal.specs.Sizes.{Sizes}
 use Rattle.journal.specs.Events.{At, is_taking}
 use Rattle.journal.specs.WellFormed.{Does}
-use Rattle.lists.specs.Writes.{written}
+use Rattle.base.specs.Writes.{written}
 use Rattle.journal.specs.Copies.{Lawful}
 
 -- what an event stores in page n

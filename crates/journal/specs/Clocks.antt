@@ -1,6 +1,6 @@
 -- What the race checker's timestamps are by the events so far.
 use Rattle.std.specs.Prelude.{ℕ, ◌≡◌, ◌<◌, ◌≤◌, ◌+◌, ◌-◌, ◌==◌, cond, List, slice_index, vec_len}
-use Rattle.lists.specs.Limits.{most_processors}
+use Rattle.base.specs.Limits.{most_processors}
 use Rattle.journal.specs.declared.event.Event.{Event}
 use Rattle.journal.specs.declared.event.Kind.TheVariants.{Release, Set}
 use Rattle.journal.specs.declared.clocks.Clocks.{Clocks}

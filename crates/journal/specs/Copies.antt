@@ -3,8 +3,8 @@ use Rattle.std.specs.Prelude.{ℕ, ◌≡◌, ◌/◌, ◌%◌, ◌↔◌, Optio
 use Rattle.journal.specs.declared.event.Event.{Event}
 use Rattle.journal.specs.declared.event.Kind.{Kind}
 use Rattle.journal.specs.declared.event.Kind.TheVariants.{Store, Fetch}
-use Rattle.lists.specs.Places.{Has, InOrder, IsOnce}
-use Rattle.lists.specs.Writes.{written}
+use Rattle.base.specs.Places.{Has, InOrder, IsOnce}
+use Rattle.base.specs.Writes.{written}
 use Rattle.journal.specs.Sizes.{Sizes}
 use Rattle.journal.specs.Events.{At, interval_at}
 use Rattle.journal.specs.Order.{HappensBefore}

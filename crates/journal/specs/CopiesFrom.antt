@@ -1,7 +1,7 @@
 -- What a copy of a page has to be from a base.
 use Rattle.std.specs.Prelude.{ℕ, ◌≡◌, ◌*◌, ◌↔◌, List, take, drop}
 use Rattle.journal.specs.declared.event.Event.{Event}
-use Rattle.lists.specs.Places.{Has, InOrder, IsOnce}
+use Rattle.base.specs.Places.{Has, InOrder, IsOnce}
 use Rattle.journal.specs.Sizes.{Sizes}
 use Rattle.journal.specs.Copies.{StoresTo, page_after}
 use Rattle.journal.specs.Base.{Base}

@@ -1,6 +1,6 @@
 -- What a cut does to a journal, and why it is refused.
 use Rattle.std.specs.Prelude.{ℕ, ◌≡◌, ◌+◌, ◌<◌, ◌≤◌, take, drop}
-use Rattle.lists.specs.Limits.{most_cut}
+use Rattle.base.specs.Limits.{most_cut}
 use Rattle.journal.specs.declared.cut.CutFault.{CutFault}
 use Rattle.journal.specs.declared.cut.CutFault.TheVariants.{Racy, NoEpisode, BaseFull, NoMemory}
 use Rattle.journal.specs.Log.{Log}

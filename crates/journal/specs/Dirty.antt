@@ -1,8 +1,8 @@
 -- A page's dirty bits: what its processor stored there since its last closing event.
 use Rattle.std.specs.Prelude.{ℕ, ◌≡◌, Bool, false, List, length, replicate}
 use Rattle.journal.specs.declared.event.Event.{Event}
-use Rattle.lists.specs.Writes.{written}
-use Rattle.lists.specs.Records.{marked}
+use Rattle.base.specs.Writes.{written}
+use Rattle.base.specs.Records.{marked}
 use Rattle.journal.specs.Sizes.{Sizes}
 use Rattle.journal.specs.Blocks.{write_in}
 use Rattle.journal.specs.Groups.{since}

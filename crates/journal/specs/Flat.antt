@@ -4,7 +4,7 @@ use Rattle.journal.specs.declared.event.Event.{Event}
 use Rattle.journal.specs.declared.event.Kind.{Kind}
 use Rattle.journal.specs.declared.event.Kind.TheVariants.{Load, Store}
 use Rattle.journal.specs.WellFormed.{Does}
-use Rattle.lists.specs.Writes.{written}
+use Rattle.base.specs.Writes.{written}
 
 -- the address and the value of a store
 abbrev pub flat_write : Kind → Option (ℕ × ℕ)

@@ -2,8 +2,8 @@
 use Rattle.std.specs.Prelude.{ℕ, ◌≡◌, ◌<◌, ◌/◌, ◌↔◌, ◌==◌, cond, fold, List, [], ◌∷◌, ◌++◌, slice_get}
 use Rattle.journal.specs.declared.event.Event.{Event}
 use Rattle.journal.specs.declared.event.Kind.TheVariants.{Store}
-use Rattle.lists.specs.Places.{Has, InOrder}
-use Rattle.lists.specs.Records.{IsRecordOf}
+use Rattle.base.specs.Places.{Has, InOrder}
+use Rattle.base.specs.Records.{IsRecordOf}
 use Rattle.journal.specs.Sizes.{Sizes}
 use Rattle.journal.specs.Events.{is_closing, interval_at}
 use Rattle.journal.specs.WellFormed.{Does}

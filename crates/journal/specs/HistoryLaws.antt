@@ -12,8 +12,8 @@ pub record IsOf (s : Sizes) (log : Log) : Type 0 where
   pub addresses_are : log.addresses ≡ addresses s
 
 -- a journal of which nothing was cut off holds all of its history
-abbrev pub WholeLaw : Type 0
-WholeLaw = (log : Log) (h : List Event) → HoldsHistory log h → HoldsRest log [] h
+abbrev pub UncutHistoryLaw : Type 0
+UncutHistoryLaw = (log : Log) (h : List Event) → HoldsHistory log h → HoldsRest log [] h
 
 -- what a cut takes, c has after it; the history stays as it was
 abbrev pub HistoryLaw : Type 0

@@ -1,10 +1,10 @@
 -- How a journal holds its events: behind an arrival of each processor, which stands for what was cut off.
 use Rattle.std.specs.Prelude.{◌+◌, ◌≤◌, IfSome, take, drop, vec_len, vec_capacity}
-use Rattle.lists.specs.Limits.{most_held, most_processors}
+use Rattle.base.specs.Limits.{most_held, most_processors}
 use Rattle.journal.specs.declared.journal.Journal.TheInside.{Inside}
 use Rattle.journal.specs.Log.{Log}
 use Rattle.journal.specs.InRange.{AddressesInRange, ProcessorsInRange}
-use Rattle.journal.specs.Kept.{base_of, IsKept}
+use Rattle.journal.specs.Kept.{base_of, IsBaseState}
 use Rattle.journal.specs.Opening.{IsOpening}
 use Rattle.journal.specs.Episodes.{AreEpisodes, IsRaceOfPart}
 
@@ -20,14 +20,14 @@ log_of j =
 
 -- the memory that is reserved is there, processors and events are few enough, the events' processors and addresses in
 -- range, and what is known of episodes and of a race is so
-pub record IsHeld (j : Inside) : Type 0 where
+pub record JournalInvariant (j : Inside) : Type 0 where
   pub reserved : vec_len j.events + j.room ≤ vec_capacity j.events
   pub few : vec_len j.events ≤ j.processors + most_held
   pub few_processors : j.processors ≤ most_processors
   pub opening : IsOpening j.processors (take j.processors j.events.items)
   pub by_processors : ProcessorsInRange j.processors j.events.items
   pub in_range : AddressesInRange j.addresses j.events.items
-  pub kept : IsKept j.addresses j.kept
+  pub kept : IsBaseState j.addresses j.kept
   pub episodes : AreEpisodes j.processors (drop j.processors j.events.items) j.episodes
   pub race : IfSome j.race
       (λ r. IsRaceOfPart j.processors (base_of j.kept) (drop j.processors j.events.items) r.0 r.1)

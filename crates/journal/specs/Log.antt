@@ -1,6 +1,6 @@
 -- What contracts see of a journal.
 use Rattle.std.specs.Prelude.{ℕ, ◌≡◌, ◌≤◌, List, [], ◌++◌}
-use Rattle.lists.specs.Limits.{most_cut}
+use Rattle.base.specs.Limits.{most_cut}
 use Rattle.journal.specs.declared.event.Event.{Event}
 use Rattle.journal.specs.Base.{Base, no_base}
 use Rattle.journal.specs.Cuts.{IsBaseOf}

@@ -1,7 +1,7 @@
 -- What a stale copy of a page misses, by intervals.
 use Rattle.std.specs.Prelude.{ℕ, ◌≡◌, ◌≢◌, ◌<◌, ◌≤◌, ◌↔◌, Bool, true, false, count_by, take, List, [], ◌∷◌}
 use Rattle.journal.specs.declared.event.Event.{Event}
-use Rattle.lists.specs.Places.{Has, InOrder}
+use Rattle.base.specs.Places.{Has, InOrder}
 use Rattle.journal.specs.Sizes.{Sizes}
 use Rattle.journal.specs.Events.{is_closing, interval_at}
 use Rattle.journal.specs.Times.{ClosesAt}
@@ -46,7 +46,7 @@ pub record AreMissing (s : Sizes) (j : List Event) (p n : ℕ) (missing : List M
   pub contents : (x : Missing) → Has missing x → IsContent s j x.owner x.number n x.words
 
 -- these are others' intervals that store in the page and that the time t' counts and t doesn't
-pub record AreNews (s : Sizes) (j : List Event) (p n : ℕ) (t t' : ℕ → ℕ) (new : List Missing) : Type 0 where
+pub record AreMissingNotices (s : Sizes) (j : List Event) (p n : ℕ) (t t' : ℕ → ℕ) (new : List Missing) : Type 0 where
   pub each : (q m : ℕ)
       → ((x : Missing) × Has new x × (x.owner ≡ q) × (x.number ≡ m))
       ↔ ((i : ℕ) × StoresIn s j q m n i × (q ≢ p) × (t q ≤ m) × (m < t' q))

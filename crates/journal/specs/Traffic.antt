@@ -16,9 +16,9 @@ abbrev pub records_of : Kind → ℕ
 records_of (Fetch writers n records words) = records
 records_of _ = 0
 
-abbrev pub words_of : Kind → ℕ
-words_of (Fetch writers n records words) = words
-words_of _ = 0
+abbrev pub words_fetched : Kind → ℕ
+words_fetched (Fetch writers n records words) = words
+words_fetched _ = 0
 
 abbrev pub messages : List Event → ℕ
 messages j = sum_by (λ e. messages_of e.kind) j
@@ -27,4 +27,4 @@ abbrev pub records : List Event → ℕ
 records j = sum_by (λ e. records_of e.kind) j
 
 abbrev pub words : List Event → ℕ
-words j = sum_by (λ e. words_of e.kind) j
+words j = sum_by (λ e. words_fetched e.kind) j

@@ -4,11 +4,11 @@ use Rattle.std.specs.Prelude.{ℕ, ◌≡◌, ◌≢◌, ◌+◌, ◌<◌, ◌�
 use Rattle.journal.specs.declared.event.Event.{Event}
 use Rattle.journal.specs.declared.event.Kind.{Kind}
 use Rattle.journal.specs.declared.event.Kind.TheVariants.{Ask, Acquire, Release, Arrive, Depart, Set, Watch, Await}
-use Rattle.lists.specs.Places.{Has}
+use Rattle.base.specs.Places.{Has}
 use Rattle.journal.specs.Sizes.{Sizes}
 use Rattle.journal.specs.Events.{At, count_of, is_arrive, is_depart}
 use Rattle.journal.specs.WellFormed.{KindInRange, Does, LastIs, Holds, Answers}
-use Rattle.journal.specs.Base.{Base, arrived}
+use Rattle.journal.specs.Base.{Base, arrivals_cut}
 
 -- p has done nothing here
 abbrev pub IsAway : List Event → ℕ → Type 0
@@ -38,7 +38,7 @@ pub record MayBeGrantedFrom (b : Base) (j : List Event) (i l : ℕ) : Type 0 whe
 
 -- every processor has arrived at least that many times, with the arrival that was cut off
 abbrev pub AllArrivedFrom : Sizes → Base → List Event → ℕ → Type 0
-AllArrivedFrom s b j n = (q : ℕ) → q < s.processors → n ≤ count_of is_arrive j q + arrived b
+AllArrivedFrom s b j n = (q : ℕ) → q < s.processors → n ≤ count_of is_arrive j q + arrivals_cut b
 
 -- what has to hold for p to do this next
 abbrev pub AllowedFrom : Sizes → Base → List Event → ℕ → Kind → Type 0

@@ -1,7 +1,7 @@
 //! The timestamps that a journal's events give, an event at a time.
 ghost use Rattle.std.specs.Prelude.{◌≡◌, ◌↔◌, ℕ, ◌+◌, ◌-◌, ◌<◌, ◌≤◌, ◌^◌, ◌==◌, ◌&&◌, [], IsTrue, EachIndex, IfOk};
 ghost use Rattle.std.specs.Prelude.{OnOk, cond, max, length, take, slice_get, slice_index, vec_len, true};
-ghost use Rattle.lists.specs.Prelude.{most_held, most_processors};
+ghost use Rattle.base.specs.Prelude.{most_held, most_processors};
 ghost use Rattle.journal.specs.Prelude.{ProcessorsInRange, entry, kept_entry, IsClosedAt, IsJoinedAt, AreClocks};
 ghost use Rattle.journal.specs.Prelude.{IsArrived};
 

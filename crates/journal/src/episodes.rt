@@ -1,7 +1,7 @@
 //! Where a journal is cut: at the last arrival of its last complete episode.
 ghost use Rattle.std.specs.Prelude.{◌≡◌, ◌↔◌, ℕ, ◌+◌, ◌<◌, ◌≤◌, ◌^◌, ◌==◌, ◌&&◌, [], IsTrue, EachIndex, MatchOption};
 ghost use Rattle.std.specs.Prelude.{cond, length, slice_index, take};
-ghost use Rattle.lists.specs.Prelude.{most_held, most_processors};
+ghost use Rattle.base.specs.Prelude.{most_held, most_processors};
 ghost use Rattle.journal.specs.Prelude.{is_arrive, ProcessorsInRange, AreEpisodes};
 
 use crate::event::Event;

@@ -2,15 +2,15 @@
 ghost use Rattle.std.specs.Prelude.{drop, vec_len, vec_capacity, ◌+◌, ◌≡◌, ◌-◌, ◌^◌, ◌<◌, ◌≤◌, ◌++◌, ◌∷◌, [], ◌↔◌};
 ghost use Rattle.std.specs.Prelude.{IfOk, IfErr, OnOk, OnErr, IfSome, IsSome, IsTrue, MatchOption, length, replicate};
 ghost use Rattle.std.specs.Prelude.{max, option_copied, slice_get, take};
-ghost use Rattle.lists.specs.Prelude.{most_held, most_processors, most_cut};
+ghost use Rattle.base.specs.Prelude.{most_held, most_processors, most_cut};
 ghost use Rattle.journal.specs.Prelude.{AddressInRange, AddressesInRange, new_log, ExplainedFrom, Replays};
 ghost use Rattle.journal.specs.Prelude.{memory_after, RaceFreeFrom, IsFirstRaceFrom, WasCut, IsCutFault, messages};
-ghost use Rattle.journal.specs.Prelude.{records, words, IsOpening, IsCut, NoCut, IsKept, base_of};
+ghost use Rattle.journal.specs.Prelude.{records, words, IsOpening, IsCut, NoCut, IsBaseState, base_of};
 
+use crate::base_state::Kept;
 use crate::cut::CutFault;
 use crate::episodes::Episodes;
 use crate::event::{Event, Kind};
-use crate::kept::Kept;
 use crate::limits::MOST_CUT;
 use crate::race::first_race_of;
 use crate::replay::replay_of;
@@ -41,11 +41,11 @@ impl Model for Journal {
 
     ghost Value = { Log };
 
-    ghost use Rattle.journal.specs.Holding.{log_of, IsHeld};
+    ghost use Rattle.journal.specs.Holding.{log_of, JournalInvariant};
 
     ghost view = { log_of };
 
-    ghost invariant = { IsHeld };
+    ghost invariant = { JournalInvariant };
 }
 
 /// An arrival of each processor. The only error is running out of memory.
@@ -297,7 +297,7 @@ impl Journal {
     /// Takes the first events off, of which this is kept.
     fn take_off(&mut self, taken: usize, kept: Kept)
         requires taken { taken ≤ length self.old.events }
-        requires kept { IsKept self.old.addresses kept }
+        requires kept { IsBaseState self.old.addresses kept }
         ensures { self.new ≡ record self.old { events = drop taken self.old.events; base = base_of kept } }
     {
         take_out(&mut self.events, self.processors, taken);

@@ -1,6 +1,6 @@
 //! The laws of what is left after a cut and of deadlocks, as contracts of functions that do nothing: the check proves
 //! each by its name.
-ghost use Rattle.journal.specs.Prelude.{SameLaw, WellFormedLaw, FlatLaw, CopyLaw, CutLaw, UncutLaw, WholeLaw};
+ghost use Rattle.journal.specs.Prelude.{SameLaw, WellFormedLaw, FlatLaw, CopyLaw, CutTwiceLaw, UncutLaw, UncutHistoryLaw};
 ghost use Rattle.journal.specs.Prelude.{HistoryLaw, DeadlockLaw};
 
 /// What was cut off happens before all that is left, of which order, pasts, races and explained loads are
@@ -28,7 +28,7 @@ pub fn copy_law()
 
 /// Cuts add up: the base after one more cut is that of all events cut off.
 pub fn cut_law()
-    ensures { CutLaw }
+    ensures { CutTwiceLaw }
 {}
 
 /// Where nothing was cut off, a journal says from the base what it says without one.
@@ -39,7 +39,7 @@ pub fn uncut_law()
 /// A journal of which nothing was cut off holds all of its history, and a cut leaves the history as it
 /// was.
 pub fn history_law()
-    ensures whole { WholeLaw }
+    ensures whole { UncutHistoryLaw }
     ensures cut { HistoryLaw }
 {}
 

@@ -9,17 +9,17 @@
 //! define, and up to its first race an explained journal replays. Lemmas for the crates above lie in
 //! proofs/, a folder a topic. `Clocks` has the timestamps of a journal that is taken an event at a time (`AreClocks`).
 //!
-//! **What is only tested** (in `journal_tests`): that memory isn't refused needlessly, and that a journal of 2^20 events is
+//! **What is only tested** (in `test_memory`): that memory isn't refused needlessly, and that a journal of 2^20 events is
 //! checked in a test's time.
 #![tactic(auto)]
 
+mod base_state;
 mod clock;
 mod clocks;
 mod cut;
 mod episodes;
 mod event;
 mod journal;
-mod kept;
 mod kinds;
 mod laws;
 mod limits;

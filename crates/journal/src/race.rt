@@ -2,11 +2,11 @@
 //! each address (FastTrack: Flanagan and Freund 2009).
 ghost use Rattle.std.specs.Prelude.{◌≡◌, ◌≢◌, ◌↔◌, ◌==◌, ℕ, ◌+◌, ◌<◌, ◌≤◌, ◌^◌, ◌%◌, [], IsTrue, IfOk, MatchOption};
 ghost use Rattle.std.specs.Prelude.{cond, Some, length, take, slice_get, slice_index, vec_len};
-ghost use Rattle.lists.specs.Prelude.{most_held, most_processors};
+ghost use Rattle.base.specs.Prelude.{most_held, most_processors};
 ghost use Rattle.journal.specs.Prelude.{address_of, is_closing, IsTimeOf, Conflict, Race, IsFirstRace, RaceFree};
 ghost use Rattle.journal.specs.Prelude.{AddressInRange, AddressesInRange, ProcessorsInRange, entry, epoch_entry};
 ghost use Rattle.journal.specs.Prelude.{loads_entry, AreWithin, AreLoadsAfter, AreAccesses, ConflictsAreCounted};
-ghost use Rattle.journal.specs.Prelude.{IsNoted};
+ghost use Rattle.journal.specs.Prelude.{AccessNoted};
 
 use crate::clock::{Clock, others_are_within, tick, zeros};
 use crate::clocks::Clocks;
@@ -166,7 +166,7 @@ impl Accesses {
         requires loads { AddressInRange (vec_len self.old.loads) event.kind }
         ensures last_long { vec_len self.new.last ≡ vec_len self.old.last }
         ensures loads_long { vec_len self.new.loads ≡ vec_len self.old.loads }
-        ensures noted { IsNoted self.old self.new event.processor (slice_index time.now) event.kind }
+        ensures noted { AccessNoted self.old self.new event.processor (slice_index time.now) event.kind }
     {
         match event.kind {
             Kind::Load(address, _) => {

@@ -1,6 +1,6 @@
 //! Replay on one flat memory.
 ghost use Rattle.std.specs.Prelude.{◌≡◌, ◌↔◌, IfOk, IfSome, IsSome, IsTrue, length};
-ghost use Rattle.lists.specs.Prelude.{wrote};
+ghost use Rattle.base.specs.Prelude.{wrote};
 ghost use Rattle.journal.specs.Prelude.{Replays, memory_after, flat_write, AnswersWord, AddressInRange};
 ghost use Rattle.journal.specs.Prelude.{AddressesInRange};
 

@@ -1,7 +1,7 @@
 //! What a journal's events cost in messages, records and words.
 ghost use Rattle.std.specs.Prelude.{◌≡◌, ◌+◌, ◌^◌, ◌<◌, ◌≤◌, length};
-ghost use Rattle.lists.specs.Prelude.{most_cut, most_held};
-ghost use Rattle.journal.specs.Prelude.{AreCosts, messages, records, words, messages_of, records_of, words_of};
+ghost use Rattle.base.specs.Prelude.{most_cut, most_held};
+ghost use Rattle.journal.specs.Prelude.{AreCosts, messages, records, words, messages_of, records_of, words_fetched};
 
 use crate::event::{Event, Kind};
 
@@ -20,7 +20,7 @@ pub struct Traffic {
 pub(crate) fn cost_of(kind: Kind) -> Traffic
     ensures messages { result.messages ≡ messages_of kind }
     ensures records { result.records ≡ records_of kind }
-    ensures words { result.words ≡ words_of kind }
+    ensures words { result.words ≡ words_fetched kind }
     ensures few { (result.messages < 2 ^ 33) × (result.records < 2 ^ 33) × (result.words < 2 ^ 33) }
 {
     let messages = match kind {

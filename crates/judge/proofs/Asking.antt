@@ -11,35 +11,35 @@ use Rattle.journal.specs.Did.{event}
 use Rattle.journal.specs.WellFormed.{LastIs}
 use Rattle.journal.proofs.Order.Places.{at_within}
 use Rattle.journal.proofs.Journals.WellFormed.{last_unique}
-use Rattle.judge.specs.declared.front.Last.{Last}
+use Rattle.judge.specs.declared.front.LastEvent.{LastEvent}
 use Rattle.judge.specs.Tells.{IsFirstAsk, IsLastOf, NobodyAsks}
 
 -- q's last event asks for l, at place i
-abbrev pub AsksAt : List (Option Last) → ℕ → ℕ → ℕ → Type 0
+abbrev pub AsksAt : List (Option LastEvent) → ℕ → ℕ → ℕ → Type 0
 AsksAt last l q i = slice_index_or last q None ≡ Some (record { place = i; kind = Ask l })
 
 -- what is found so far is an ask at the limit, or nothing
-abbrev pub IsFound : List (Option Last) → ℕ → ℕ → Option (ℕ × ℕ) → ℕ → Type 0
+abbrev pub IsFound : List (Option LastEvent) → ℕ → ℕ → Option (ℕ × ℕ) → ℕ → Type 0
 IsFound last end l found limit =
     MatchOption found (limit ≡ end) (λ (x : ℕ × ℕ). (x.1 ≡ limit) × AsksAt last l x.0 x.1)
 
 -- the asks of the first n processors stand from the limit on
-abbrev pub AreFrom : List (Option Last) → ℕ → ℕ → ℕ → Type 0
+abbrev pub AreFrom : List (Option LastEvent) → ℕ → ℕ → ℕ → Type 0
 AreFrom last l limit n = (q i : ℕ) → q < n → AsksAt last l q i → limit ≤ i
 
 -- one processor more, whose ask stands before the limit
-pub from_lower : (last : List (Option Last)) (l limit n i : ℕ) → AsksAt last l n i → i < limit
+pub from_lower : (last : List (Option LastEvent)) (l limit n i : ℕ) → AsksAt last l n i → i < limit
     → AreFrom last l limit n → AreFrom last l i (n + 1)
 from_lower last l limit n i asks lower from q k lt there = elim (cases_eq q n) [
   | inl is ↦
       (let one = same_Some _ _ (sym asks ∙ ap (λ m. slice_index_or last m None) (sym is) ∙ there) in
-      let same = ap (λ (x : Last). x.place) one in
+      let same = ap (λ (x : LastEvent). x.place) one in
       omega arith)
   | inr isnt ↦ (let le = from q k (omega arith) there in omega arith)
 ]
 
 -- or none does
-pub from_same : (last : List (Option Last)) (l limit n : ℕ) → ((i : ℕ) → AsksAt last l n i → limit ≤ i)
+pub from_same : (last : List (Option LastEvent)) (l limit n : ℕ) → ((i : ℕ) → AsksAt last l n i → limit ≤ i)
     → AreFrom last l limit n → AreFrom last l limit (n + 1)
 from_same last l limit n none from q k lt there = elim (cases_eq q n) [
   | inl is ↦ none k (ap (λ m. slice_index_or last m None) (sym is) ∙ there)
@@ -47,22 +47,22 @@ from_same last l limit n none from q k lt there = elim (cases_eq q n) [
 ]
 
 -- what is kept of a processor's last event is that
-pub last_kept : (j : List Event) (p i : ℕ) (a : Kind) (o : Option Last) → IsLastOf j p o → LastIs j p i a
+pub last_kept : (j : List Event) (p i : ℕ) (a : Kind) (o : Option LastEvent) → IsLastOf j p o → LastIs j p i a
     → o ≡ Some (record { place = i; kind = a })
 last_kept j p i a None none is = absurd (none i (event p a) is.does refl)
 last_kept j p i a (Some x) last is =
     let same = last_unique j p x.place i x.kind a last is in
-    ap (λ (y : Last). Some y) (subst (λ n. x ≡ record { place = n; kind = a }) same.0
+    ap (λ (y : LastEvent). Some y) (subst (λ n. x ≡ record { place = n; kind = a }) same.0
     (subst (λ k. x ≡ record { place = x.place; kind = k }) same.1 refl))
 
 -- and stands within the list
-asks_within : (last : List (Option Last)) (l q i : ℕ) → AsksAt last l q i → q < length last
+asks_within : (last : List (Option LastEvent)) (l q i : ℕ) → AsksAt last l q i → q < length last
 asks_within last l q i asks = elim (cases_lt q (length last)) [
   | inl lt ↦ lt
   | inr le ↦ absurd (none-some _ (sym (get_or_past last q None le) ∙ asks))
 ]
 
-module _ (j : List Event) (last : List (Option Last)) (l limit : ℕ)
+module _ (j : List Event) (last : List (Option LastEvent)) (l limit : ℕ)
     (lasts : (p : ℕ) → IsLastOf j p (slice_index_or last p None)) (from : AreFrom last l limit 16)
     (long : length last ≡ 16) where
   all_from : (q k : ℕ) → LastIs j q k (Ask l) → limit ≤ k

@@ -3,9 +3,9 @@ use Rattle.std.proofs.Common.{ℕ, ◌≡◌, ◌≢◌, ◌+◌, ◌<◌, ◌�
 use Rattle.std.proofs.lemmas.List.{length-map}
 use Rattle.std.proofs.lemmas.Option.{slice_get_within}
 use Rattle.journal.specs.Copies.{HasCount}
-use Rattle.lists.specs.Places.{Has}
-use Rattle.lists.proofs.Once.{once_le, once-append}
-use Rattle.lists.proofs.Joined.{has-nil, has-cons, has-append, in_order_single, has-map, in_order-map, in_order_weaker, in_order-nil}
+use Rattle.base.specs.Places.{Has}
+use Rattle.base.proofs.Once.{once_le, once-append}
+use Rattle.base.proofs.Joined.{has-nil, has-cons, has-append, in_order_single, has-map, in_order-map, in_order_weaker, in_order-nil}
 
 count_le : {A : Type 0} (P : A → Type 0) (a b : ℕ) → HasCount P a → HasCount P b → a ≤ b
 count_le P a b x y =

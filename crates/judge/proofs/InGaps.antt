@@ -3,7 +3,7 @@ use Rattle.std.proofs.Common.{ℕ, ◌≡◌, ◌≢◌, ◌<◌, ◌≤◌, ◌
 use Rattle.std.proofs.lemmas.Bool.{cases_lt}
 use Rattle.std.proofs.lemmas.Option.{none-some}
 use Rattle.std.proofs.Math.Seq.{take-append_seam}
-use Rattle.lists.proofs.Places.{push_cases}
+use Rattle.base.proofs.Places.{push_cases}
 use Rattle.journal.specs.declared.event.Event.{Event}
 use Rattle.journal.specs.declared.event.Kind.TheVariants.{Store, Fetch}
 use Rattle.journal.specs.Did.{did, event}
@@ -23,7 +23,7 @@ use Rattle.journal.proofs.Times.Pushes.{covered}
 use Rattle.journal.proofs.Copies.Stores.{store_same, stores_to}
 use Rattle.journal.proofs.Copies.Brought.{brought_longer, brought_past, brought_push, gap_is}
 use Rattle.journal.proofs.Missing.Gaps.{gap_apart, not_mine}
-use Rattle.judge.specs.Gaps.{StoresAt, StoresInPage, StoresWord, IsFetched}
+use Rattle.judge.specs.Gaps.{StoresAt, StoresInPage, StoresWord, FetchedUpTo}
 use Rattle.judge.proofs.Rows.{IsMore}
 
 -- a store stays in its interval as the history goes on
@@ -135,7 +135,7 @@ pages_next s j q a v =
 
 -- what fetches of the page by p have brought stays under any other event
 pub fetched_other : (s : Sizes) (j : List Event) (e : Event) (p n : ℕ) (m : ℕ → ℕ)
-    → ((w r d : ℕ) → e ≢ event p (Fetch w n r d)) → IsFetched s j p n m → IsFetched s (j ++ e ∷ []) p n m
+    → ((w r d : ℕ) → e ≢ event p (Fetch w n r d)) → FetchedUpTo s j p n m → FetchedUpTo s (j ++ e ∷ []) p n m
 fetched_other s j e p n m none is = record { brought = brought; within = within }
   where
     within : (q : ℕ) → m q ≤ count_of is_closing (j ++ e ∷ []) q
@@ -168,7 +168,7 @@ fetched_other s j e p n m none is = record { brought = brought; within = within 
 
 -- a fetch brings what p's past has
 pub fetched_now : (s : Sizes) (j : List Event) (p n w r d : ℕ) (t : ℕ → ℕ) → IsTimeOf j p t
-    → IsFetched s (did j p (Fetch w n r d)) p n t
+    → FetchedUpTo s (did j p (Fetch w n r d)) p n t
 fetched_now s j p n w r d t time = record { brought = brought; within = within }
   where
     e : Event
@@ -200,14 +200,14 @@ fetched_now s j p n w r d t time = record { brought = brought; within = within }
     ]
 
 -- before the first event nothing is brought
-pub fetched_none : (s : Sizes) (p n : ℕ) (m : ℕ → ℕ) → ((q : ℕ) → m q ≡ 0) → IsFetched s [] p n m
+pub fetched_none : (s : Sizes) (p n : ℕ) (m : ℕ → ℕ) → ((q : ℕ) → m q ≡ 0) → FetchedUpTo s [] p n m
 fetched_none s p n m none = record {
   brought = λ q i a v apart does page. absurd (none-some (event q (Store a v)) does);
   within = λ q. (let zero_here = none q in omega arith);
 }
 
 -- what is in the gap, by intervals: what p's timestamp counts and its last fetch of the page didn't bring
-pub stored_is : (s : Sizes) (j : List Event) (p n q k a : ℕ) (m t : ℕ → ℕ) → IsFetched s j p n m → IsTimeOf j p t
+pub stored_is : (s : Sizes) (j : List Event) (p n q k a : ℕ) (m t : ℕ → ℕ) → FetchedUpTo s j p n m → IsTimeOf j p t
     → q ≢ p → StoredInGap s j p n (q, k, a) ↔ (StoresWord s j n q (k, a) × (m q ≤ k) × (k < t q))
 stored_is s j p n q k a m t fetched time apart = (there, back)
   where

@@ -8,25 +8,25 @@ use Rattle.journal.specs.Sizes.{Sizes}
 use Rattle.journal.specs.Entries.{entry}
 use Rattle.judge.specs.declared.gaps.Gaps.{Gaps}
 use Rattle.judge.specs.Sizes.{sizes_of}
-use Rattle.judge.specs.Gaps.{AreGapsOf, IsFetched, StoresAt, StoresInPage, StoresWord}
-use Rattle.judge.specs.Tallies.{IsTally, row_of}
+use Rattle.judge.specs.Gaps.{AreGapsOf, FetchedUpTo, StoresAt, StoresInPage, StoresWord}
+use Rattle.judge.specs.Tallies.{IsTallyOf, row_index}
 use Rattle.judge.proofs.Rows.{tally_same}
 use Rattle.judge.proofs.InGaps.{pages_other, stores_other, words_other}
 
 -- under an event that is no store the tallies stay
 pub gaps_kept : (j : List Event) (e : Event) (g : Gaps) (fetched : Vec (List ℕ))
     → ((q a v : ℕ) → e ≢ event q (Store a v))
-    → ((n p : ℕ) → p < 16 → IsFetched (sizes_of g.sizes) (j ++ e ∷ []) p n (entry fetched.items (row_of n p)))
+    → ((n p : ℕ) → p < 16 → FetchedUpTo (sizes_of g.sizes) (j ++ e ∷ []) p n (entry fetched.items (row_index n p)))
     → AreGapsOf j g → AreGapsOf (j ++ e ∷ []) (record g { fetched = fetched })
 gaps_kept j e g fetched none fetches are = record {
   fetched = fetches;
   intervals =
-      subst (λ x. IsTally (StoresInPage s (j ++ e ∷ [])) (λ z. z) (StoresInPage s (j ++ e ∷ [])) x g.intervals) long
+      subst (λ x. IsTallyOf (StoresInPage s (j ++ e ∷ [])) (λ z. z) (StoresInPage s (j ++ e ∷ [])) x g.intervals) long
       (tally_same (StoresInPage s j) (StoresInPage s (j ++ e ∷ [])) (λ z. z) (StoresInPage s j)
       (StoresInPage s (j ++ e ∷ [])) (length j) g.intervals (pages_other s j e none) (pages_other s j e none)
       are.intervals);
   words =
-      subst (λ x. IsTally (StoresWord s (j ++ e ∷ [])) (λ z. z.0) (StoresAt (j ++ e ∷ [])) x g.words) long
+      subst (λ x. IsTallyOf (StoresWord s (j ++ e ∷ [])) (λ z. z.0) (StoresAt (j ++ e ∷ [])) x g.words) long
       (tally_same (StoresWord s j) (StoresWord s (j ++ e ∷ [])) (λ z. z.0) (StoresAt j) (StoresAt (j ++ e ∷ []))
       (length j) g.words (words_other s j e none) (stores_other j e none) are.words);
 }

@@ -11,12 +11,12 @@ use Rattle.journal.specs.Did.{event}
 use Rattle.journal.specs.Sizes.{Sizes}
 use Rattle.journal.specs.Events.{At, count_of}
 use Rattle.journal.specs.WellFormed.{Holds, LastIs}
-use Rattle.lists.proofs.Places.{push_cases}
+use Rattle.base.proofs.Places.{push_cases}
 use Rattle.journal.proofs.Order.Places.{at_last, at_longer, count_of-append}
 use Rattle.journal.proofs.Journals.WellFormed.{last_now, last_longer, holds_now, holds_longer, holds_cases}
-use Rattle.judge.specs.declared.front.Last.{Last}
+use Rattle.judge.specs.declared.front.LastEvent.{LastEvent}
 use Rattle.judge.specs.Lax.{AllowedLax}
-use Rattle.judge.specs.Tells.{IsLastOf, IsSet, holder_after, set_after}
+use Rattle.judge.specs.Tells.{IsLastOf, IsSet, holder_after, is_set_after}
 
 -- one event and no other
 one_away : (e : Event) (p : ℕ) → e.processor ≢ p → (m : ℕ) (f : Event) → At (e ∷ []) m f → f.processor ≢ p
@@ -26,7 +26,7 @@ one_away e p isnt m f at is = elim (push_cases [] e m f at) [
 ]
 
 -- another processor's event leaves the last one
-last_other : (j : List Event) (e : Event) (p : ℕ) (o : Option Last) → e.processor ≢ p → IsLastOf j p o
+last_other : (j : List Event) (e : Event) (p : ℕ) (o : Option LastEvent) → e.processor ≢ p → IsLastOf j p o
     → IsLastOf (j ++ e ∷ []) p o
 last_other j e p None apart none = λ m f at is. elim (push_cases j e m f at) [
   | inl old ↦ none m f old.1 is
@@ -34,7 +34,7 @@ last_other j e p None apart none = λ m f at is. elim (push_cases j e m f at) [
 ]
 last_other j e p (Some x) apart last = last_longer j (e ∷ []) p x.place x.kind (one_away e p apart) last
 
-pub lasts_next : (j : List Event) (e : Event) (last : List (Option Last)) (place : ℕ) → e.processor < length last
+pub lasts_next : (j : List Event) (e : Event) (last : List (Option LastEvent)) (place : ℕ) → e.processor < length last
     → place ≡ length j → ((p : ℕ) → IsLastOf j p (slice_index_or last p None)) → (p : ℕ)
     → IsLastOf (j ++ e ∷ []) p
     (slice_index_or (slice_set last e.processor (Some (record { place = place; kind = e.kind }))) p None)
@@ -46,10 +46,10 @@ lasts_next j e last place within is old p = elim (cases_eq p e.processor) [
       (last_other j e p (slice_index_or last p None) (λ one. isnt (sym one)) (old p))
 ]
   where
-    now : Last
+    now : LastEvent
     now = record { place = place; kind = e.kind }
 
-    next : List (Option Last)
+    next : List (Option LastEvent)
     next = slice_set last e.processor (Some now)
 
 -- a count of one more event
@@ -148,7 +148,7 @@ set_kept j e f b isnt was = (
 )
 
 pub sets_next : (j : List Event) (p : ℕ) (k : Kind) (f : ℕ) (b : Bool) → IsTrue b ↔ IsSet j f
-    → IsTrue (set_after b f k) ↔ IsSet (j ++ event p k ∷ []) f
+    → IsTrue (is_set_after b f k) ↔ IsSet (j ++ event p k ∷ []) f
 sets_next j p (Set g) f b was = elim (cases_eq g f) [
   | inl is ↦ subst (λ x. IsTrue (x || b) ↔ IsSet (j ++ event p (Set g) ∷ []) f) (sym (eq-eqb g f is)) (
     λ _. subst (IsSet (j ++ event p (Set g) ∷ [])) is (length j, p, at_last j (event p (Set g))),

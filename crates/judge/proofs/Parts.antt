@@ -9,8 +9,8 @@ use Rattle.journal.specs.Copies.{HasCount, StoredInGap, GapCounts}
 use Rattle.journal.specs.declared.event.Kind.TheVariants.{Store}
 use Rattle.journal.specs.Did.{event}
 use Rattle.journal.proofs.Missing.Counted.{count_of_same}
-use Rattle.judge.specs.Gaps.{StoresInPage, StoresWord, IsFetched, CountsAmong}
-use Rattle.judge.specs.Tallies.{IsRow, is_between}
+use Rattle.judge.specs.Gaps.{StoresInPage, StoresWord, FetchedUpTo, CountsAmong}
+use Rattle.judge.specs.Tallies.{IsTallyRow, is_between}
 use Rattle.judge.proofs.Counts.{count_none, count_join, count_map, count_some, count_zero, count_one}
 use Rattle.judge.proofs.Rows.{row_counts}
 use Rattle.judge.proofs.InGaps.{stored_is, own_none}
@@ -36,8 +36,8 @@ counts_own s j p n q mine = record {
 
 -- another's count what lies between the timestamps
 pub counts_part : (s : Sizes) (j : List Event) (p n q : ℕ) (m t : ℕ → ℕ) (intervals words : List ℕ)
-    (w r d : ℕ) → q ≢ p → IsFetched s j p n m → IsTimeOf j p t → IsRow (StoresInPage s j n q) (λ k. k) intervals
-    → IsRow (StoresWord s j n q) (λ x. x.0) words → r ≡ count_by (is_between (m q) (t q)) intervals
+    (w r d : ℕ) → q ≢ p → FetchedUpTo s j p n m → IsTimeOf j p t → IsTallyRow (StoresInPage s j n q) (λ k. k) intervals
+    → IsTallyRow (StoresWord s j n q) (λ x. x.0) words → r ≡ count_by (is_between (m q) (t q)) intervals
     → d ≡ count_by (is_between (m q) (t q)) words → w ≡ cond (nat_lt 0 r) 1 0
     → CountsAmong s j p n (λ x. x ≡ q) w r d
 counts_part s j p n q m t intervals words w r d apart fetched time in_rows in_words rs ds ws = record {

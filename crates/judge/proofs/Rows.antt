@@ -4,12 +4,12 @@ use Rattle.std.proofs.lemmas.Bool.{cases_eq, cases_lt, ltb-true, lt-ltb, le-ltb,
 use Rattle.std.proofs.lemmas.Option.{none-some}
 use Rattle.std.proofs.lemmas.List.Sums.{sum_by-cons, length-filter}
 use Rattle.journal.specs.Copies.{HasCount}
-use Rattle.lists.specs.Places.{Has}
-use Rattle.lists.proofs.Joined.{has-nil, has-cons, has-append, has-map, in_order-append, in_order_single}
-use Rattle.lists.proofs.Once.{once-append}
-use Rattle.lists.proofs.Picked.{has-filter, in_order-filter}
+use Rattle.base.specs.Places.{Has}
+use Rattle.base.proofs.Joined.{has-nil, has-cons, has-append, has-map, in_order-append, in_order_single}
+use Rattle.base.proofs.Once.{once-append}
+use Rattle.base.proofs.Picked.{has-filter, in_order-filter}
 use Rattle.judge.specs.declared.tally.Tally.{Tally}
-use Rattle.judge.specs.Tallies.{row_of, numbers, mark, is_between, IsAdded, Adds, IsRow, IsMark, IsTally}
+use Rattle.judge.specs.Tallies.{row_index, numbers, mark, is_between, TallyAdded, Adds, IsTallyRow, IsMark, IsTallyOf}
 
 count_cons : (p : ℕ → Bool) (k : ℕ) (row : List ℕ) → count_by p (k ∷ row) ≡ cond (p k) 1 0 + count_by p row
 count_cons p k row = sum_by-cons (λ x. cond (p x) 1 0) k row
@@ -99,7 +99,7 @@ between_is from to k = (there (cases_lt k from), back)
         and_from (not (nat_lt k from)) (nat_lt k to) (ap not (le-ltb k from h.0)) (lt-ltb k to h.1)
 
 -- so many values have an interval between
-pub row_counts : {A : Type 0} (values : A → Type 0) (f : A → ℕ) (row : List ℕ) (from to : ℕ) → IsRow values f row
+pub row_counts : {A : Type 0} (values : A → Type 0) (f : A → ℕ) (row : List ℕ) (from to : ℕ) → IsTallyRow values f row
     → HasCount (λ x. values x × (from ≤ f x) × (f x < to)) (count_by (is_between from to) row)
 row_counts {A} values f row from to is = record {
   list = filter pick is.list;
@@ -120,8 +120,8 @@ map_append f [] y = refl
 map_append f (x ∷ xs) y = ap (λ ys. f x ∷ ys) (map_append f xs y)
 
 -- the row of the same values
-pub row_same : {A : Type 0} (P Q : A → Type 0) (f : A → ℕ) (row : List ℕ) → ((x : A) → P x ↔ Q x) → IsRow P f row
-    → IsRow Q f row
+pub row_same : {A : Type 0} (P Q : A → Type 0) (f : A → ℕ) (row : List ℕ) → ((x : A) → P x ↔ Q x) → IsTallyRow P f row
+    → IsTallyRow Q f row
 row_same P Q f row same is = record {
   list = is.list;
   each = λ x. (λ h. (same x).0 ((is.each x).0 h), λ v. (is.each x).1 ((same x).1 v));
@@ -132,8 +132,8 @@ row_same P Q f row same is = record {
 
 -- the row with a value more, of an interval that none is past
 pub row_next : {A : Type 0} (P Q : A → Type 0) (f : A → ℕ) (row : List ℕ) (y : A)
-    → ((x : A) → Q x ↔ (P x ⊎ (x ≡ y))) → ¬ P y → ((x : A) → P x → f x ≤ f y) → IsRow P f row
-    → IsRow Q f (row ++ f y ∷ [])
+    → ((x : A) → Q x ↔ (P x ⊎ (x ≡ y))) → ¬ P y → ((x : A) → P x → f x ≤ f y) → IsTallyRow P f row
+    → IsTallyRow Q f (row ++ f y ∷ [])
 row_next {A} P Q f row y one fresh past is = record {
   list = is.list ++ y ∷ [];
   each = λ x. (
@@ -173,14 +173,14 @@ pub record IsMore {A : Type 0} (old new : ℕ → ℕ → A → Type 0) (n q : �
 pub tally_next : {A : Type 0} (P Q : ℕ → ℕ → A → Type 0) (f : A → ℕ) (M N : ℕ → ℕ → ℕ → Type 0) (most : ℕ)
     (old new : Tally) (n x q : ℕ) (y : A) → q < 16 → IsMore P Q n q y → IsMore M N x q (f y)
     → (P n q y ↔ M x q (f y)) → ((z : A) → P n q z → f z ≤ f y) → ((k : ℕ) → M x q k → k ≤ f y)
-    → Adds old new (row_of n q) (row_of x q) (f y) → IsTally P f M most old → IsTally Q f N (most + 1) new
+    → Adds old new (row_index n q) (row_index x q) (f y) → IsTallyOf P f M most old → IsTallyOf Q f N (most + 1) new
 tally_next {A} P Q f M N most old new n x q y lt more marked link past marked_past adds is =
     elim adds [ inl added ↦ add added | inr known ↦ keep known ]
   where
-    was : f y < mark old (row_of x q) → P n q y
+    was : f y < mark old (row_index x q) → P n q y
     was less =
         let last = (is.marks x q lt).last (λ none. omega arith) in
-        let le = marked_past (mark old (row_of x q) - 1) last in
+        let le = marked_past (mark old (row_index x q) - 1) last in
         link.1 (subst (M x q) (omega arith) last)
 
     others_row : (m r : ℕ) → ((m ≡ n) × (r ≡ q) → ⊥) → (z : A) → P m r z ↔ Q m r z
@@ -189,23 +189,23 @@ tally_next {A} P Q f M N most old new n x q y lt more marked link past marked_pa
       λ h. elim (more.others m r z h) [ inl o ↦ o | inr s ↦ absurd (apart (s.0, s.1)) ],
     )
 
-    mark_kept : (a r : ℕ) → ((a ≡ x) × (r ≡ q) → ⊥) → IsMark (M a r) (mark old (row_of a r))
-        → IsMark (N a r) (mark old (row_of a r))
+    mark_kept : (a r : ℕ) → ((a ≡ x) × (r ≡ q) → ⊥) → IsMark (M a r) (mark old (row_index a r))
+        → IsMark (N a r) (mark old (row_index a r))
     mark_kept a r apart m = record {
       below = λ k h. elim (marked.others a r k h) [ inl o ↦ m.below k o | inr s ↦ absurd (apart (s.0, s.1)) ];
-      last = λ some. marked.same a r (mark old (row_of a r) - 1) (m.last some);
+      last = λ some. marked.same a r (mark old (row_index a r) - 1) (m.last some);
     }
 
-    keep : (f y < mark old (row_of x q)) × (new ≡ old) → IsTally Q f N (most + 1) new
-    keep h = subst (λ t. IsTally Q f N (most + 1) t) (sym h.1) (record {
-      rows = λ m r within. row_same (P m r) (Q m r) f (numbers old.rows.items (row_of m r)) (all m r) (is.rows m r within);
+    keep : (f y < mark old (row_index x q)) × (new ≡ old) → IsTallyOf Q f N (most + 1) new
+    keep h = subst (λ t. IsTallyOf Q f N (most + 1) t) (sym h.1) (record {
+      rows = λ m r within. row_same (P m r) (Q m r) f (numbers old.rows.items (row_index m r)) (all m r) (is.rows m r within);
       marks = λ a r within. record {
         below = λ k g. (is.marks a r within).below k (elim (marked.others a r k g) [
           | inl o ↦ o
           | inr s ↦ subst (λ z. M z r k) (sym s.0) (subst (λ z. M x z k) (sym s.1)
               (subst (M x q) (sym s.2) (link.0 (was h.0))))
         ]);
-        last = λ some. marked.same a r (mark old (row_of a r) - 1) ((is.marks a r within).last some);
+        last = λ some. marked.same a r (mark old (row_index a r) - 1) ((is.marks a r within).last some);
       };
       few = λ r. (let few = is.few r in omega arith);
     })
@@ -219,7 +219,7 @@ tally_next {A} P Q f M N most old new n x q y lt more marked link past marked_pa
           ],
         )
 
-    add : IsAdded old new (row_of n q) (row_of x q) (f y) → IsTally Q f N (most + 1) new
+    add : TallyAdded old new (row_index n q) (row_index x q) (f y) → IsTallyOf Q f N (most + 1) new
     add a = record { rows = rows; marks = marks; few = few }
       where
         fresh : ¬ P n q y
@@ -231,25 +231,25 @@ tally_next {A} P Q f M N most old new n x q y lt more marked link past marked_pa
           λ h. elim h [ inl o ↦ more.same n q z o | inr s ↦ subst (Q n q) (sym s) more.now ],
         )
 
-        here : IsRow (Q n q) f (numbers new.rows.items (row_of n q))
+        here : IsTallyRow (Q n q) f (numbers new.rows.items (row_index n q))
         here =
-            subst (IsRow (Q n q) f) (sym a.more)
-            (row_next (P n q) (Q n q) f (numbers old.rows.items (row_of n q)) y one fresh past (is.rows n q lt))
+            subst (IsTallyRow (Q n q) f) (sym a.more)
+            (row_next (P n q) (Q n q) f (numbers old.rows.items (row_index n q)) y one fresh past (is.rows n q lt))
 
-        rows : (m r : ℕ) → r < 16 → IsRow (Q m r) f (numbers new.rows.items (row_of m r))
-        rows m r within = elim (cases_eq (row_of m r) (row_of n q)) [
+        rows : (m r : ℕ) → r < 16 → IsTallyRow (Q m r) f (numbers new.rows.items (row_index m r))
+        rows m r within = elim (cases_eq (row_index m r) (row_index n q)) [
           | inl same ↦
               (let first : n ≡ m = omega arith in
               let second : q ≡ r = omega arith in
-              subst (λ z. IsRow (Q z r) f (numbers new.rows.items (row_of z r))) first
-              (subst (λ z. IsRow (Q n z) f (numbers new.rows.items (row_of n z))) second here))
+              subst (λ z. IsTallyRow (Q z r) f (numbers new.rows.items (row_index z r))) first
+              (subst (λ z. IsTallyRow (Q n z) f (numbers new.rows.items (row_index n z))) second here))
           | inr apart ↦
-              subst (IsRow (Q m r) f) (sym (a.others (row_of m r) apart))
-              (row_same (P m r) (Q m r) f (numbers old.rows.items (row_of m r))
+              subst (IsTallyRow (Q m r) f) (sym (a.others (row_index m r) apart))
+              (row_same (P m r) (Q m r) f (numbers old.rows.items (row_index m r))
               (others_row m r (λ s. apart (let first = s.0 in let second = s.1 in omega arith))) (is.rows m r within))
         ]
 
-        now : IsMark (N x q) (mark new (row_of x q))
+        now : IsMark (N x q) (mark new (row_index x q))
         now = record {
           below = λ k h. elim (marked.others x q k h) [
             | inl o ↦ (let le = marked_past k o in let is = a.marked in omega arith)
@@ -258,23 +258,23 @@ tally_next {A} P Q f M N most old new n x q y lt more marked link past marked_pa
           last = λ some. subst (N x q) (let is = a.marked in omega arith) marked.now;
         }
 
-        marks : (b r : ℕ) → r < 16 → IsMark (N b r) (mark new (row_of b r))
-        marks b r within = elim (cases_eq (row_of b r) (row_of x q)) [
+        marks : (b r : ℕ) → r < 16 → IsMark (N b r) (mark new (row_index b r))
+        marks b r within = elim (cases_eq (row_index b r) (row_index x q)) [
           | inl same ↦
               (let first : x ≡ b = omega arith in
               let second : q ≡ r = omega arith in
-              subst (λ z. IsMark (N z r) (mark new (row_of z r))) first
-              (subst (λ z. IsMark (N x z) (mark new (row_of x z))) second now))
+              subst (λ z. IsMark (N z r) (mark new (row_index z r))) first
+              (subst (λ z. IsMark (N x z) (mark new (row_index x z))) second now))
           | inr apart ↦
-              subst (IsMark (N b r)) (sym (a.others_marked (row_of b r) apart))
+              subst (IsMark (N b r)) (sym (a.others_marked (row_index b r) apart))
               (mark_kept b r (λ s. apart (let first = s.0 in let second = s.1 in omega arith)) (is.marks b r within))
         ]
 
         few : (r : ℕ) → length (numbers new.rows.items r) ≤ most + 1
-        few r = elim (cases_eq r (row_of n q)) [
+        few r = elim (cases_eq r (row_index n q)) [
           | inl same ↦
-              (let long = length-append (numbers old.rows.items (row_of n q)) (f y ∷ []) in
-              let old_few = is.few (row_of n q) in
+              (let long = length-append (numbers old.rows.items (row_index n q)) (f y ∷ []) in
+              let old_few = is.few (row_index n q) in
               let P : ℕ → Type 0 = λ z. length (numbers new.rows.items z) ≤ most + 1 in
               let Q : List ℕ → Type 0 = λ zs. length zs ≤ most + 1 in
               subst P (sym same) (subst Q (sym a.more) (omega arith)))
@@ -286,20 +286,20 @@ tally_next {A} P Q f M N most old new n x q y lt more marked link past marked_pa
 
 -- values that stay leave the tally
 pub tally_same : {A : Type 0} (P Q : ℕ → ℕ → A → Type 0) (f : A → ℕ) (M N : ℕ → ℕ → ℕ → Type 0) (most : ℕ) (t : Tally)
-    → ((m r : ℕ) (z : A) → P m r z ↔ Q m r z) → ((m r k : ℕ) → M m r k ↔ N m r k) → IsTally P f M most t
-    → IsTally Q f N (most + 1) t
+    → ((m r : ℕ) (z : A) → P m r z ↔ Q m r z) → ((m r k : ℕ) → M m r k ↔ N m r k) → IsTallyOf P f M most t
+    → IsTallyOf Q f N (most + 1) t
 tally_same P Q f M N most t same marks is = record {
-  rows = λ m r lt. row_same (P m r) (Q m r) f (numbers t.rows.items (row_of m r)) (same m r) (is.rows m r lt);
+  rows = λ m r lt. row_same (P m r) (Q m r) f (numbers t.rows.items (row_index m r)) (same m r) (is.rows m r lt);
   marks = λ a r lt. record {
     below = λ k h. (is.marks a r lt).below k ((marks a r k).1 h);
-    last = λ some. (marks a r (mark t (row_of a r) - 1)).0 ((is.marks a r lt).last some);
+    last = λ some. (marks a r (mark t (row_index a r) - 1)).0 ((is.marks a r lt).last some);
   };
   few = λ r. (let few = is.few r in omega arith);
 }
 
 -- a row of no values
-pub row_none : {A : Type 0} (P : A → Type 0) (f : A → ℕ) (row : List ℕ) → row ≡ [] → ((x : A) → ¬ P x) → IsRow P f row
-row_none {A} P f row is none = subst (IsRow P f) (sym is) (record {
+pub row_none : {A : Type 0} (P : A → Type 0) (f : A → ℕ) (row : List ℕ) → row ≡ [] → ((x : A) → ¬ P x) → IsTallyRow P f row
+row_none {A} P f row is none = subst (IsTallyRow P f) (sym is) (record {
   list = [];
   each = λ x. (λ h. absurd (has-nil x h), λ v. absurd (none x v));
   once = λ i k a b lt at to. absurd (none-some a at);
@@ -310,12 +310,12 @@ row_none {A} P f row is none = subst (IsRow P f) (sym is) (record {
 -- a tally of no values
 pub tally_none : {A : Type 0} (P : ℕ → ℕ → A → Type 0) (f : A → ℕ) (M : ℕ → ℕ → ℕ → Type 0) (most : ℕ) (t : Tally)
     → ((r : ℕ) → numbers t.rows.items r ≡ []) → ((m : ℕ) → mark t m ≡ 0) → ((m r : ℕ) (z : A) → ¬ P m r z)
-    → ((m r k : ℕ) → ¬ M m r k) → IsTally P f M most t
+    → ((m r k : ℕ) → ¬ M m r k) → IsTallyOf P f M most t
 tally_none P f M most t empty zeros none unmarked = record {
-  rows = λ m r lt. row_none (P m r) f (numbers t.rows.items (row_of m r)) (empty (row_of m r)) (none m r);
+  rows = λ m r lt. row_none (P m r) f (numbers t.rows.items (row_index m r)) (empty (row_index m r)) (none m r);
   marks = λ a r lt. record {
     below = λ k h. absurd (unmarked a r k h);
-    last = λ some. absurd (some (zeros (row_of a r)));
+    last = λ some. absurd (some (zeros (row_index a r)));
   };
   few = λ r. subst (λ (ks : List ℕ). length ks ≤ most) (sym (empty r)) (omega arith);
 }

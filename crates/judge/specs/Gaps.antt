@@ -10,10 +10,10 @@ use Rattle.journal.specs.Clocks.{AreClocks}
 use Rattle.journal.specs.Entries.{entry}
 use Rattle.journal.specs.Brought.{Brought}
 use Rattle.journal.specs.Copies.{HasCount, StoredInGap}
-use Rattle.judge.specs.declared.gaps.Counts.{Counts}
+use Rattle.judge.specs.declared.gaps.CountedGap.{CountedGap}
 use Rattle.judge.specs.declared.gaps.Gaps.{Gaps}
 use Rattle.judge.specs.Sizes.{AreSmall, sizes_of}
-use Rattle.judge.specs.Tallies.{IsTally, row_of}
+use Rattle.judge.specs.Tallies.{IsTallyOf, row_index}
 
 -- q stores at address a in its interval k
 abbrev pub StoresAt : List Event → ℕ → ℕ → ℕ → Type 0
@@ -28,17 +28,17 @@ abbrev pub StoresInPage : Sizes → List Event → ℕ → ℕ → ℕ → Type 
 StoresInPage s j n q k = (a : ℕ) × StoresWord s j n q (k, a)
 
 -- of each other processor's stores to page n, p's fetches of it have brought those of the first m q intervals
-pub record IsFetched (s : Sizes) (j : List Event) (p n : ℕ) (m : ℕ → ℕ) : Type 0 where
+pub record FetchedUpTo (s : Sizes) (j : List Event) (p n : ℕ) (m : ℕ → ℕ) : Type 0 where
   pub brought : (q i a v : ℕ) → q ≢ p → Does j i q (Store a v) → a / s.words ≡ n
       → Brought j p n i ↔ (interval_at j q i < m q)
   pub within : (q : ℕ) → m q ≤ count_of is_closing j q
 
 -- what is kept is the history's
 pub record AreGapsOf (j : List Event) (g : Gaps) : Type 0 where
-  pub fetched : (n p : ℕ) → p < 16 → IsFetched (sizes_of g.sizes) j p n (entry g.fetched.items (row_of n p))
-  pub intervals : IsTally (StoresInPage (sizes_of g.sizes) j) (λ k. k) (StoresInPage (sizes_of g.sizes) j) (length j)
+  pub fetched : (n p : ℕ) → p < 16 → FetchedUpTo (sizes_of g.sizes) j p n (entry g.fetched.items (row_index n p))
+  pub intervals : IsTallyOf (StoresInPage (sizes_of g.sizes) j) (λ k. k) (StoresInPage (sizes_of g.sizes) j) (length j)
       g.intervals
-  pub words : IsTally (StoresWord (sizes_of g.sizes) j) (λ x. x.0) (StoresAt j) (length j) g.words
+  pub words : IsTallyOf (StoresWord (sizes_of g.sizes) j) (λ x. x.0) (StoresAt j) (length j) g.words
 
 -- there is a row for each page and processor, and a mark of words for each address and processor
 pub record AreLong (g : Gaps) : Type 0 where
@@ -50,7 +50,7 @@ pub record AreLong (g : Gaps) : Type 0 where
   pub words_marks : vec_len g.words.marks ≡ (g.sizes.pages * g.sizes.words) * 16
 
 -- no more than that many processors can have
-pub record AreFew (parts : ℕ) (c : Counts) : Type 0 where
+pub record AreFew (parts : ℕ) (c : CountedGap) : Type 0 where
   pub writers : c.writers ≤ parts
   pub records : c.records ≤ parts * 2 ^ 22
   pub words : c.words ≤ parts * 2 ^ 22

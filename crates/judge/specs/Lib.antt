@@ -7,3 +7,4 @@ pub mod Tallies
 pub mod Gaps
 pub mod Miscounted
 pub mod Prelude
+pub mod Sources

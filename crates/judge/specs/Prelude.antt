@@ -2,8 +2,8 @@
 pub use Rattle.judge.specs.Sizes.{AreSmall, sizes_of}
 pub use Rattle.judge.specs.Lax.{LaxLaw, MayFollowLax, WellFormedIn}
 pub use Rattle.judge.specs.Why.{IsFirstIllFormed, IsInTurn, IsVerdict, WaitsFor, WhyLaw}
-pub use Rattle.judge.specs.Tells.{IsFirstAsk, NobodyAsks, Tells, holder_after, set_after}
+pub use Rattle.judge.specs.Tells.{IsFirstAsk, NobodyAsks, IsFrontOf, holder_after, is_set_after}
 pub use Rattle.judge.specs.Ranges.{RangeLaw}
-pub use Rattle.judge.specs.Tallies.{Adds, is_between, mark, numbers, row_of}
-pub use Rattle.judge.specs.Gaps.{AreFew, AreGapsOf, AreLong, CountsAmong, IsFetched, StoresInPage, TellsGaps}
+pub use Rattle.judge.specs.Tallies.{Adds, is_between, mark, numbers, row_index}
+pub use Rattle.judge.specs.Gaps.{AreFew, AreGapsOf, AreLong, CountsAmong, FetchedUpTo, StoresInPage, TellsGaps}
 pub use Rattle.judge.specs.Miscounted.{CountsGap, IsFirstMiscounted, IsWithin, Miscounts}

@@ -1,6 +1,6 @@
 -- The sizes that a history is judged by.
 use Rattle.std.specs.Prelude.{◌≤◌}
-use Rattle.lists.specs.Limits.{most_processors}
+use Rattle.base.specs.Limits.{most_processors}
 use Rattle.journal.specs.Sizes.{Sizes}
 use Rattle.judge.specs.declared.sizes.Sizes.{Sizes as Given}
 

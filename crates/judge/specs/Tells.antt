@@ -5,7 +5,7 @@ use Rattle.journal.specs.declared.event.Kind.{Kind}
 use Rattle.journal.specs.declared.event.Kind.TheVariants.{Ask, Acquire, Release, Set}
 use Rattle.journal.specs.Events.{At, count_of, is_arrive, is_depart}
 use Rattle.journal.specs.WellFormed.{Does, Holds, LastIs}
-use Rattle.judge.specs.declared.front.Last.{Last}
+use Rattle.judge.specs.declared.front.LastEvent.{LastEvent}
 use Rattle.judge.specs.declared.front.Front.{Front}
 use Rattle.judge.specs.Sizes.{AreSmall, sizes_of}
 
@@ -14,15 +14,15 @@ abbrev pub HasDoneNothing : List Event → ℕ → Type 0
 HasDoneNothing j p = (m : ℕ) (e : Event) → At j m e → e.processor ≢ p
 
 -- this is p's last event, if it has one
-abbrev pub IsLastOf : List Event → ℕ → Option Last → Type 0
-IsLastOf j p o = MatchOption o (HasDoneNothing j p) (λ (x : Last). LastIs j p x.place x.kind)
+abbrev pub IsLastOf : List Event → ℕ → Option LastEvent → Type 0
+IsLastOf j p o = MatchOption o (HasDoneNothing j p) (λ (x : LastEvent). LastIs j p x.place x.kind)
 
 -- some processor has set f
 abbrev pub IsSet : List Event → ℕ → Type 0
 IsSet j f = (k : ℕ) × (q : ℕ) × Does j k q (Set f)
 
 -- the front tells this history so far
-pub record Tells (j : List Event) (x : Front) : Type 0 where
+pub record IsFrontOf (j : List Event) (x : Front) : Type 0 where
   pub sizes : AreSmall (sizes_of x.sizes)
   pub place : x.place ≡ length j
   pub long : length x.last ≡ 16
@@ -48,6 +48,6 @@ holder_after held l p (Release m) = cond (m == l) None held
 holder_after held l p _ = held
 
 -- whether f is set after an event of this kind
-abbrev pub set_after : Bool → ℕ → Kind → Bool
-set_after was f (Set g) = (g == f) || was
-set_after was f _ = was
+abbrev pub is_set_after : Bool → ℕ → Kind → Bool
+is_set_after was f (Set g) = (g == f) || was
+is_set_after was f _ = was

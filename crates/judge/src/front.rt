@@ -1,15 +1,15 @@
 //! What a history so far says of what may come next.
 ghost use Rattle.std.specs.Prelude.{◌≡◌, ◌↔◌, ℕ, ◌+◌, ◌<◌, ◌≤◌, ◌^◌, ◌==◌, ◌&&◌, [], ◌∷◌, ◌++◌, Bool, IsTrue};
 ghost use Rattle.std.specs.Prelude.{List, MatchOption, cond, false, slice_index, slice_index_or};
-ghost use Rattle.lists.specs.Prelude.{most_held};
+ghost use Rattle.base.specs.Prelude.{most_held};
 ghost use Rattle.journal.specs.declared.event.Event.{Event};
 ghost use Rattle.journal.specs.declared.event.Kind.{Kind as AKind};
 ghost use Rattle.journal.specs.declared.event.Kind.TheVariants.{Acquire, Ask, Await, Depart};
 ghost use Rattle.journal.specs.Sizes.{Sizes as TheSizes};
 ghost use Rattle.journal.specs.WellFormed.{KindInRange};
 ghost use Rattle.journal.specs.Prelude.{Holds, event, is_arrive, is_depart};
-ghost use Rattle.judge.specs.Prelude.{AreSmall, IsFirstAsk, IsInTurn, IsVerdict, MayFollowLax, NobodyAsks, Tells};
-ghost use Rattle.judge.specs.Prelude.{WaitsFor, holder_after, set_after, sizes_of};
+ghost use Rattle.judge.specs.Prelude.{AreSmall, IsFirstAsk, IsInTurn, IsVerdict, MayFollowLax, NobodyAsks, IsFrontOf};
+ghost use Rattle.judge.specs.Prelude.{WaitsFor, holder_after, is_set_after, sizes_of};
 
 use crate::kinds::{awaited_after, is_same};
 use crate::sizes::Sizes;
@@ -18,7 +18,7 @@ use journal::{Event, Kind};
 
 /// What a processor did last, and where.
 #[derive(Clone, Copy)]
-pub(crate) struct Last {
+pub(crate) struct LastEvent {
     pub(crate) place: usize,
     pub(crate) kind: Kind,
 }
@@ -30,7 +30,7 @@ pub(crate) struct Front {
     /// How many events there are.
     pub(crate) place: usize,
     /// The last event of each processor.
-    pub(crate) last: [Option<Last>; 16],
+    pub(crate) last: [Option<LastEvent>; 16],
     /// How often each processor has arrived.
     pub(crate) arrivals: [u32; 16],
     /// How often it has departed.
@@ -42,7 +42,7 @@ pub(crate) struct Front {
 }
 
 /// The place of a processor's last event, if that asks for the lock.
-fn asked_at(last: Option<Last>, lock: usize) -> Option<usize>
+fn asked_at(last: Option<LastEvent>, lock: usize) -> Option<usize>
     ensures { (i : ℕ) → (result ≡ Some i) ↔ (last ≡ Some (record { place = i; kind = Ask lock })) }
 {
     let last = last?;
@@ -87,7 +87,7 @@ fn hold(holders: &mut [Option<usize>; 32], event: Event)
 fn set(flags: &mut [bool; 32], kind: Kind)
     requires { (s : TheSizes) × AreSmall s × KindInRange s kind }
     ensures { (f : ℕ) → slice_index_or flags.new f false
-        ≡ set_after (slice_index_or flags.old f false) f kind }
+        ≡ is_set_after (slice_index_or flags.old f false) f kind }
 {
     if let Kind::Set(flag) = kind {
         flags[flag] = true;
@@ -98,7 +98,7 @@ impl Front {
     /// Before the first event.
     pub(crate) fn new(sizes: Sizes) -> Front
         requires { AreSmall (sizes_of sizes) }
-        ensures tells { Tells [] result }
+        ensures tells { IsFrontOf [] result }
         ensures sizes { result.sizes ≡ sizes }
     {
         Front {
@@ -115,7 +115,7 @@ impl Front {
     /// What the processor waits for.
     fn awaited(&self, processor: usize) -> Option<Kind>
         requires { processor < 16 }
-        ensures { (j : List Event) → Tells j self.now → (k : AKind)
+        ensures { (j : List Event) → IsFrontOf j self.now → (k : AKind)
             → (result ≡ Some k) ↔ WaitsFor j processor k }
     {
         let last = self.last[processor]?;
@@ -124,7 +124,7 @@ impl Front {
 
     /// Of the open asks of the lock, whose is the first one, and its place.
     fn first_ask(&self, lock: usize) -> Option<(usize, usize)>
-        ensures { (j : List Event) → Tells j self.now
+        ensures { (j : List Event) → IsFrontOf j self.now
             → MatchOption result (NobodyAsks j lock) (λ x. IsFirstAsk j lock x.0 x.1) }
     {
         let mut first = None;
@@ -143,7 +143,7 @@ impl Front {
     /// Why the lock is not granted to the processor, whose ask of it is open.
     fn not_granted(&self, processor: usize, lock: usize, lax: bool) -> Option<Why>
         requires { lock < 32 }
-        ensures { (j : List Event) → Tells j self.now
+        ensures { (j : List Event) → IsFrontOf j self.now
             → IsInTurn (sizes_of self.now.sizes) j (event processor (Acquire lock))
             → WaitsFor j processor (Acquire lock)
             → IsVerdict lax (sizes_of self.now.sizes) j (event processor (Acquire lock)) result }
@@ -166,7 +166,7 @@ impl Front {
     fn not_departed(&self, processor: usize) -> Option<Why>
         requires processor { processor < 16 }
         requires processors { self.now.sizes.processors ≤ 16 }
-        ensures { (j : List Event) → Tells j self.now
+        ensures { (j : List Event) → IsFrontOf j self.now
             → IsInTurn (sizes_of self.now.sizes) j (event processor Depart)
             → WaitsFor j processor Depart → (lax : Bool)
             → IsVerdict lax (sizes_of self.now.sizes) j (event processor Depart) result }
@@ -182,8 +182,8 @@ impl Front {
 
     /// Why the event, which its processor waits for, may not come next.
     fn not_let_on(&self, event: Event, lax: bool) -> Option<Why>
-        requires { (j : List Event) × Tells j self.now × IsInTurn (sizes_of self.now.sizes) j event }
-        ensures { (j : List Event) → Tells j self.now → IsInTurn (sizes_of self.now.sizes) j event
+        requires { (j : List Event) × IsFrontOf j self.now × IsInTurn (sizes_of self.now.sizes) j event }
+        ensures { (j : List Event) → IsFrontOf j self.now → IsInTurn (sizes_of self.now.sizes) j event
             → WaitsFor j event.processor event.kind
             → IsVerdict lax (sizes_of self.now.sizes) j event result }
     {
@@ -203,8 +203,8 @@ impl Front {
 
     /// Why the event may not come next, whose processor waits for nothing.
     fn not_free(&self, event: Event) -> Option<Why>
-        requires { (j : List Event) × Tells j self.now × IsInTurn (sizes_of self.now.sizes) j event }
-        ensures { (j : List Event) → Tells j self.now → IsInTurn (sizes_of self.now.sizes) j event
+        requires { (j : List Event) × IsFrontOf j self.now × IsInTurn (sizes_of self.now.sizes) j event }
+        ensures { (j : List Event) → IsFrontOf j self.now → IsInTurn (sizes_of self.now.sizes) j event
             → ¬ WaitsFor j event.processor event.kind → (lax : Bool)
             → IsVerdict lax (sizes_of self.now.sizes) j event result }
     {
@@ -231,7 +231,7 @@ impl Front {
     /// Whether the processor holds the lock.
     fn holds(&self, processor: usize, lock: usize) -> bool
         requires { lock < 32 }
-        ensures { (j : List Event) → Tells j self.now → IsTrue result ↔ Holds j processor lock }
+        ensures { (j : List Event) → IsFrontOf j self.now → IsTrue result ↔ Holds j processor lock }
     {
         match self.holders[lock] {
             Some(holder) => holder == processor,
@@ -242,8 +242,8 @@ impl Front {
     /// Why the event may not come next; None where it may. `lax` leaves out that a lock's asks are granted in their
     /// order.
     pub(crate) fn may_follow(&self, event: Event, lax: bool) -> Option<Why>
-        requires { (j : List Event) × Tells j self.now }
-        ensures { (j : List Event) → Tells j self.now
+        requires { (j : List Event) × IsFrontOf j self.now }
+        ensures { (j : List Event) → IsFrontOf j self.now
             → IsVerdict lax (sizes_of self.now.sizes) j event result }
     {
         if event.processor >= self.sizes.processors {
@@ -267,10 +267,10 @@ impl Front {
     /// Takes note of the event, which may come next.
     pub(crate) fn note(&mut self, event: Event)
         requires few { self.old.place < most_held }
-        requires may_follow { (j : List Event) × Tells j self.old
+        requires may_follow { (j : List Event) × IsFrontOf j self.old
             × MayFollowLax (sizes_of self.old.sizes) j event }
-        ensures tells { (j : List Event) → Tells j self.old
-            → MayFollowLax (sizes_of self.old.sizes) j event → Tells (j ++ event ∷ []) self.new }
+        ensures tells { (j : List Event) → IsFrontOf j self.old
+            → MayFollowLax (sizes_of self.old.sizes) j event → IsFrontOf (j ++ event ∷ []) self.new }
         ensures sizes { self.new.sizes ≡ self.old.sizes }
     {
         let place = self.place;
@@ -278,7 +278,7 @@ impl Front {
         count(&mut self.arrivals, &mut self.departures, event);
         hold(&mut self.holders, event);
         set(&mut self.flags, kind);
-        self.last[event.processor] = Some(Last { place, kind });
+        self.last[event.processor] = Some(LastEvent { place, kind });
         self.place += 1;
     }
 }

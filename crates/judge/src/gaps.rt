@@ -1,13 +1,13 @@
 //! What fetches have to count.
 ghost use Rattle.std.specs.Prelude.{◌≡◌, ℕ, ◌+◌, ◌*◌, ◌<◌, ◌≤◌, ◌^◌, [], ◌∷◌, ◌++◌, IfOk, OnOk, List, Some, length};
 ghost use Rattle.std.specs.Prelude.{cond, nat_lt, slice_get, slice_index, take};
-ghost use Rattle.lists.specs.Prelude.{most_held};
+ghost use Rattle.base.specs.Prelude.{most_held};
 ghost use Rattle.journal.specs.declared.event.Event.{Event};
 ghost use Rattle.journal.specs.Copies.{GapCounts};
 ghost use Rattle.journal.specs.declared.event.Kind.TheVariants.{Fetch, Store};
 ghost use Rattle.journal.specs.Prelude.{HasCount, IsTimeOf, did};
 ghost use Rattle.judge.specs.Prelude.{AreFew, AreGapsOf, AreLong, AreSmall, CountsAmong, IsWithin, TellsGaps, sizes_of};
-ghost use Rattle.judge.specs.Prelude.{IsFetched, StoresInPage, row_of};
+ghost use Rattle.judge.specs.Prelude.{FetchedUpTo, StoresInPage, row_index};
 
 use crate::sizes::Sizes;
 use crate::tally::Tally;
@@ -16,7 +16,7 @@ use std::alloc::{AllocError, Global};
 
 /// What a fetch counts: processors whose stores it brings, intervals of these stores, and words in them.
 #[derive(Clone, Copy)]
-pub(crate) struct Counts {
+pub(crate) struct CountedGap {
     pub(crate) writers: usize,
     pub(crate) records: usize,
     pub(crate) words: usize,
@@ -39,12 +39,12 @@ pub struct Gaps {
     pub(crate) words: Tally,
 }
 
-impl Counts {
+impl CountedGap {
     /// Of nothing.
-    fn none() -> Counts
+    fn none() -> CountedGap
         ensures { result ≡ record { writers = 0; records = 0; words = 0 } }
     {
-        Counts {
+        CountedGap {
             writers: 0,
             records: 0,
             words: 0,
@@ -52,7 +52,7 @@ impl Counts {
     }
 
     /// With those of one more processor, after that many.
-    fn and(self, other: Counts, parts: usize) -> Counts
+    fn and(self, other: CountedGap, parts: usize) -> CountedGap
         requires parts { parts < 16 }
         requires few { AreFew parts self }
         requires other_few { AreFew 1 other }
@@ -63,7 +63,7 @@ impl Counts {
           words = self.words + other.words;
         } }
     {
-        Counts {
+        CountedGap {
             writers: self.writers + other.writers,
             records: self.records + other.records,
             words: self.words + other.words,
@@ -75,7 +75,7 @@ impl Counts {
 fn row_at(number: usize, processor: usize) -> usize
     requires processor { processor < 16 }
     requires number { number ≤ 2 ^ 12 }
-    ensures { result ≡ row_of number processor }
+    ensures { result ≡ row_index number processor }
 {
     number * 16 + processor
 }
@@ -128,7 +128,7 @@ impl Gaps {
         requires processor { processor < 16 }
         requires page { page < self.now.sizes.pages }
         ensures { (j : List Event) → TellsGaps j self.now
-            → IsFetched (sizes_of self.now.sizes) j processor page (slice_index result.now) }
+            → FetchedUpTo (sizes_of self.now.sizes) j processor page (slice_index result.now) }
     {
         &self.fetched[row_at(page, processor)]
     }
@@ -146,7 +146,7 @@ impl Gaps {
     }
 
     /// What a fetch of the page by this processor has to count of one's stores.
-    fn part(&self, processor: usize, page: usize, by: usize) -> Counts
+    fn part(&self, processor: usize, page: usize, by: usize) -> CountedGap
         requires tells { (j : List Event) × TellsGaps j self.now × (length j < 2 ^ 22) }
         requires processor { processor < 16 }
         requires page { page < self.now.sizes.pages }
@@ -157,14 +157,14 @@ impl Gaps {
             result.writers result.records result.words }
     {
         if by == processor {
-            return Counts::none();
+            return CountedGap::none();
         }
         let row = row_at(page, by);
         let from = self.fetched[row_at(page, processor)][by];
         let to = self.clocks.of(processor)[by];
         let records = self.intervals.count(row, from, to);
         let words = self.words.count(row, from, to);
-        Counts {
+        CountedGap {
             writers: writers_of(records),
             records,
             words,
@@ -172,14 +172,14 @@ impl Gaps {
     }
 
     /// What a fetch of the page by this processor has to count, if it comes next.
-    pub(crate) fn due(&self, processor: usize, page: usize) -> Counts
+    pub(crate) fn due(&self, processor: usize, page: usize) -> CountedGap
         requires tells { (j : List Event) × TellsGaps j self.now × (length j < 2 ^ 22) }
         requires processor { processor < 16 }
         requires page { page < self.now.sizes.pages }
         ensures { (j : List Event) → TellsGaps j self.now → GapCounts (sizes_of self.now.sizes) j processor page
             result.writers result.records result.words }
     {
-        let mut due = Counts::none();
+        let mut due = CountedGap::none();
         for by in 0..self.sizes.processors {
             due = due.and(self.part(processor, page, by), by);
         }

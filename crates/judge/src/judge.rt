@@ -1,6 +1,6 @@
 //! The first event of a history that no cluster could make.
 ghost use Rattle.std.specs.Prelude.{◌≤◌, MatchOption, length};
-ghost use Rattle.lists.specs.Prelude.{most_held};
+ghost use Rattle.base.specs.Prelude.{most_held};
 ghost use Rattle.judge.specs.Prelude.{AreSmall, IsFirstIllFormed, WellFormedIn, sizes_of};
 
 use crate::front::Front;

@@ -12,7 +12,7 @@
 //! `first_miscounted` answers None exactly where each fetch counts its gap, else the first one that does not, with the
 //! counts of its gap. `Gaps` tells the same of any history, an event at a time: what each processor's copies of pages lack.
 //!
-//! **What is only tested** (crate `judge_uses`): that these definitions say what they are to say, by histories worked
+//! **What is only tested** (crate `test_memory`): that these definitions say what they are to say, by histories worked
 //! by hand; and that `first_ill_formed` judges 2^20 events in a test's time. Only `first_miscounted` takes memory.
 #![tactic(auto)]
 
@@ -23,6 +23,7 @@ mod kinds;
 mod laws;
 mod miscounted;
 mod sizes;
+pub mod sources;
 mod tally;
 mod why;
 

@@ -1,12 +1,12 @@
 //! The first fetch of a history that counts what it should not.
 ghost use Rattle.std.specs.Prelude.{◌≡◌, ◌↔◌, ◌<◌, ◌≤◌, ◌^◌, IfOk, IfSome, IsTrue, List, MatchOption, length, true};
-ghost use Rattle.lists.specs.Prelude.{most_held};
+ghost use Rattle.base.specs.Prelude.{most_held};
 ghost use Rattle.journal.specs.declared.event.Event.{Event};
 ghost use Rattle.journal.specs.Counted.{AreCounted};
 ghost use Rattle.judge.specs.Prelude.{AreSmall, CountsGap, IsFirstMiscounted, IsWithin, Miscounts};
 ghost use Rattle.judge.specs.Prelude.{TellsGaps, WellFormedIn, sizes_of};
 
-use crate::gaps::{Counts, Gaps};
+use crate::gaps::{CountedGap, Gaps};
 use crate::sizes::Sizes;
 use journal::{Event, Kind};
 use std::alloc::{AllocError, Global};
@@ -25,7 +25,7 @@ pub struct Miscounted {
 }
 
 /// Whether these are the counts.
-fn is_count(due: Counts, writers: u32, records: u32, words: u32) -> bool
+fn is_count(due: CountedGap, writers: u32, records: u32, words: u32) -> bool
     ensures { IsTrue result ↔ (due ≡ record { writers = writers; records = records; words = words }) }
 {
     due.writers == writers as usize

@@ -5,10 +5,10 @@ use Rattle.std.specs.List.{range_with_len}
 use Rattle.std.proofs.lemmas.List.{length-append, get_or-set_same}
 use Rattle.std.proofs.lemmas.List.FromFn.{length-range_with_len, get_or-range_with_len}
 use Rattle.std.proofs.lemmas.Option.{slice_get-get_or}
-use Rattle.lists.specs.Places.{Has, IsOnce}
-use Rattle.lists.proofs.Joined.{has-append, has-cons, has-nil, in_order-nil, in_order-cons, in_order_tail}
-use Rattle.lists.proofs.Once.{once_le, once-append}
-use Rattle.lockq.specs.Lock.{Lock, Locks, lock_at, with_lock, unheld, line, asked, joined, IsOrderly}
+use Rattle.base.specs.Places.{Has, IsOnce}
+use Rattle.base.proofs.Joined.{has-append, has-cons, has-nil, in_order-nil, in_order-cons, in_order_tail}
+use Rattle.base.proofs.Once.{once_le, once-append}
+use Rattle.lockq.specs.Lock.{Lock, Locks, lock_at, with_lock, unheld, line, asked, queued, IsOrderly}
 
 -- a list of one item
 once-one : (p : ℕ) → IsOnce (p ∷ [])
@@ -96,4 +96,4 @@ lock_at-with_lock s l k lt = get_or-set_same s.locks l k (unheld s.processors) l
 
 -- who asks while the lock is held is last in the queue
 pub asked-held : (k : Lock) (q p : ℕ) → k.holder ≡ Some q → asked k p ≡ record k { queue = k.queue ++ p ∷ [] }
-asked-held k q p held = ap (λ (h : Option ℕ). joined h k p) held
+asked-held k q p held = ap (λ (h : Option ℕ). queued h k p) held

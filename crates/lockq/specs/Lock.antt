@@ -1,7 +1,7 @@
 -- Distributed locks. An asker holds a lock from the moment when its grant is due.
 use Rattle.std.specs.Prelude.{ℕ, ◌≡◌, ◌<◌, Option, Some, None, List, [], ◌∷◌, ◌++◌, length, replicate, slice_index_or, slice_set}
 use Rattle.std.specs.Option.{option_to_list}
-use Rattle.lists.specs.Places.{Has, IsOnce}
+use Rattle.base.specs.Places.{Has, IsOnce}
 
 -- who holds the lock, who is queued for it, and the time that its last release left with it
 pub record Lock : Type 0 where
@@ -30,13 +30,13 @@ abbrev pub line : Lock → List ℕ
 line k = option_to_list k.holder ++ k.queue
 
 -- p joins the line: it holds the lock where nobody does, and is last in the queue otherwise
-abbrev pub joined : Option ℕ → Lock → ℕ → Lock
-joined None k p = record k { holder = Some p }
-joined (Some q) k p = record k { queue = k.queue ++ p ∷ [] }
+abbrev pub queued : Option ℕ → Lock → ℕ → Lock
+queued None k p = record k { holder = Some p }
+queued (Some q) k p = record k { queue = k.queue ++ p ∷ [] }
 
 -- the lock after p asked for it
 abbrev pub asked : Lock → ℕ → Lock
-asked k p = joined k.holder k p
+asked k p = queued k.holder k p
 
 -- the lock goes to the first of the queue
 abbrev pub passed : List ℕ → List ℕ → Lock

@@ -1,6 +1,6 @@
 //! The lines of processors at distributed locks.
 ghost use Rattle.std.specs.Prelude.{◌≡◌, ◌≤◌, ◌<◌, ◌↔◌, IsTrue, IfOk, None, Some, [], length, replicate, slice_get};
-ghost use Rattle.lists.specs.Prelude.{most_processors, Has};
+ghost use Rattle.base.specs.Prelude.{most_processors, Has};
 ghost use Rattle.lockq.specs.Lock.{unheld, lock_at, with_lock, line, asked, released, IsOrderly};
 
 use std::alloc::{AllocError, Global};

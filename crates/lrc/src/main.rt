@@ -1,7 +1,7 @@
 //! `lrc`: runs scripts of a shared memory and prints the final words, a race verdict and the traffic; explains a run;
 //! samples the runs of a script; looks at all its schedules; or judges a trace.
 //!
-//! What it does with a script that it runs, and what is proved of it, is in crate `lrc_program`; the rest is in `lrc_study`.
+//! What it does with a script that it runs, and what is proved of it, is in crate `lrc_program`; the rest is in `lrc_commands`.
 //! Here what runs scripts is handed in.
 #![tactic(auto)]
 
@@ -9,9 +9,9 @@ mod progress;
 mod studies;
 
 use crate::studies::{check_file, explain_file, explore_file, sample_file};
-use lrc_main::{answer_words, refuse, run_file, words_of};
 use lrc_options::command_line::options;
 use lrc_options::options::{Asked, Commands};
+use lrc_program::{answer_words, refuse, run_file, words_of};
 use lrc_run::OnCluster;
 use std::process::ExitCode;
 use std::sync::Wait;

@@ -3,12 +3,12 @@
 ghost use Rattle.std.specs.Prelude.{◌<◌, IfOk};
 ghost use Rattle.std.specs.Thread.{IsSync};
 ghost use Rattle.lrc_script.specs.Prelude.{IsLawful, plan_of};
-ghost use Rattle.runs.specs.Prelude.{IsEndOf, IsReportOf};
+ghost use Rattle.conformance.specs.Prelude.{IsEndOf, IsReportOf};
 
+use conformance::{Ended, LockChoice, RunFault, Runs};
 use explore::Progress;
 use lrc_report::Report;
 use lrc_script::script::Script;
-use runs::{Ended, Lock, RunFault, Runs};
 use std::alloc::Global;
 use std::cell::Cell;
 use std::io::IsTerminal;
@@ -121,7 +121,7 @@ impl<T: Runs> Runs for Counted<'_, T> {
         rt: &R,
         alloc: Global,
         script: &Script,
-        lock: Lock,
+        lock: LockChoice,
         tries: u64,
     ) -> Result<Report, RunFault> {
         self.runs.run(rt, alloc, script, lock, tries)
@@ -132,7 +132,7 @@ impl<T: Runs> Runs for Counted<'_, T> {
         rt: &R,
         alloc: Global,
         script: &Script,
-        lock: Lock,
+        lock: LockChoice,
         seed: Option<u64>,
     ) -> Result<Report, RunFault> {
         let result = self.runs.step(rt, alloc, script, lock, seed);
@@ -145,7 +145,7 @@ impl<T: Runs> Runs for Counted<'_, T> {
         rt: &R,
         alloc: Global,
         script: &Script,
-        lock: Lock,
+        lock: LockChoice,
         seed: Option<u64>,
     ) -> Result<Ended, RunFault> {
         self.runs.step_as_far(rt, alloc, script, lock, seed)

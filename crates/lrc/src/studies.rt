@@ -1,14 +1,14 @@
 //! The files of the commands that study a script or a trace.
 
 use crate::progress::{Counted, Found};
+use lrc_commands::checking::check_program;
+use lrc_commands::explaining::explain_program;
+use lrc_commands::exploring::explore_program;
+use lrc_commands::sampling::sample_program;
 use lrc_options::options::{ExplainOptions, ExploreOptions, SampleOptions, TraceOptions};
 use lrc_program::fault::ProgramFault;
 use lrc_program::program::say;
 use lrc_run::OnCluster;
-use lrc_study::checking::check_program;
-use lrc_study::explaining::explain_program;
-use lrc_study::exploring::explore_program;
-use lrc_study::sampling::sample_program;
 use std::fs::File;
 use std::sync::Wait;
 

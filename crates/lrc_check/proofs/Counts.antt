@@ -1,7 +1,7 @@
 -- The first fetch that does not count its gap, in a history and in its fronts.
 use Rattle.std.proofs.Common.{◌≡◌, ℕ, ◌<◌, ◌≤◌, suc, List, ◌++◌, length, take, subst, sym, refl, ◌∙◌, take-take, arith}
 use Rattle.std.proofs.lemmas.List.{take-append-le, length-take-le}
-use Rattle.lists.proofs.Places.{slice_get-take, slice_get-take_within, slice_get-from_take}
+use Rattle.base.proofs.Places.{slice_get-take, slice_get-take_within, slice_get-from_take}
 use Rattle.journal.specs.declared.event.Event.{Event}
 use Rattle.journal.specs.declared.event.Kind.TheVariants.{Fetch}
 use Rattle.journal.specs.Did.{event}

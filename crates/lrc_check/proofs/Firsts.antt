@@ -14,10 +14,10 @@ use Rattle.judge.specs.declared.miscounted.Miscounted.{Miscounted}
 use Rattle.judge.specs.Lax.{WellFormedIn}
 use Rattle.judge.specs.Miscounted.{IsFirstMiscounted}
 use Rattle.judge.specs.Why.{IsFirstIllFormed}
-use Rattle.sources.specs.Answers.{IsFirstUnexplained}
+use Rattle.judge.specs.Sources.Answers.{IsFirstUnexplained}
 use Rattle.lrc_check.specs.declared.checked.Unexplained.{Unexplained}
 use Rattle.lrc_check.specs.declared.checked.Checked.TheVariants as found
-use Rattle.lrc_check.specs.Faithful.{IsFaithful, IsFirstUnfaithful}
+use Rattle.lrc_check.specs.Faithful.{IsAccepted, IsFirstUnfaithful}
 use Rattle.lrc_check.specs.Checked.{AreLatestOf, IsChecked, IsExplainedFront, IsFront}
 use Rattle.lrc_check.proofs.Counts.{counted_before, counted_never, miscounted_taken}
 use Rattle.lrc_check.proofs.Fronts.{explained_before, explained_take, latest_taken, may_within, unexplained_never, unexplained_taken, well_take}
@@ -158,7 +158,7 @@ ill_formed_checked lax s j front front' x ill is explained same counted = (
 
 -- where there is none, the history is faithful
 pub faithful_whole : (lax : Bool) (s : Sizes) (j front front' : List Event) → WellFormedIn lax s j → front ≡ j
-    → Explained front → front' ≡ front → (lax ≡ false → AreCounted s front') → IsFaithful lax s j
+    → Explained front → front' ≡ front → (lax ≡ false → AreCounted s front') → IsAccepted lax s j
 faithful_whole lax s j front front' well is explained same counted = record {
   well_formed = well;
   explained = subst Explained is explained;

@@ -1,7 +1,7 @@
 -- A history and its fronts: what holds of a front where it holds of the history, and the other way round.
 use Rattle.std.proofs.Common.{◌≡◌, ℕ, ◌<◌, ◌≤◌, suc, ◌↔◌, Bool, true, false, List, [], ◌∷◌, ◌++◌, Option, Some, slice_get, length, take, drop, subst, sym, ap, ◌∙◌, take-take, take-append-drop, arith}
 use Rattle.std.proofs.lemmas.List.{take-append-le, length-take-le}
-use Rattle.lists.proofs.Places.{slice_get-take, slice_get-take_within, slice_get-from_take, take-suc_at}
+use Rattle.base.proofs.Places.{slice_get-take, slice_get-take_within, slice_get-from_take, take-suc_at}
 use Rattle.journal.specs.declared.event.Event.{Event}
 use Rattle.journal.specs.declared.event.Kind.TheVariants.{Load}
 use Rattle.journal.specs.Did.{did, event}
@@ -11,10 +11,10 @@ use Rattle.journal.specs.WellFormed.{Does}
 use Rattle.journal.specs.Loads.{Explained, IsAnswer}
 use Rattle.journal.proofs.Order.Places.{at_last, at_longer, at_within, does_same}
 use Rattle.judge.specs.Lax.{MayFollowIn, WellFormedIn}
-use Rattle.sources.specs.Answers.{IsFirstUnexplained}
-use Rattle.sources.specs.Latest.{IsLatest}
-use Rattle.sources.proofs.Answering.{stays_law}
-use Rattle.sources.proofs.InRows.{latest_longer, latest_shorter}
+use Rattle.judge.specs.Sources.Answers.{IsFirstUnexplained}
+use Rattle.judge.specs.Sources.Latest.{IsLatest}
+use Rattle.judge.proofs.sources.Answering.{stays_law}
+use Rattle.judge.proofs.sources.InRows.{latest_longer, latest_shorter}
 use Rattle.lrc_check.specs.Checked.{AreLatestOf}
 
 -- ---- well formed, lax or not

@@ -10,12 +10,12 @@ use Rattle.journal.specs.Races.{IsFirstRace, RaceFree}
 use Rattle.judge.specs.declared.judge.IllFormed.{IllFormed}
 use Rattle.judge.specs.Miscounted.{IsFirstMiscounted}
 use Rattle.judge.specs.Why.{IsFirstIllFormed}
-use Rattle.sources.specs.Answers.{IsFirstUnexplained}
-use Rattle.sources.specs.Latest.{IsLatest}
+use Rattle.judge.specs.Sources.Answers.{IsFirstUnexplained}
+use Rattle.judge.specs.Sources.Latest.{IsLatest}
 use Rattle.lrc_check.specs.declared.checked.Unexplained.{Unexplained}
 use Rattle.lrc_check.specs.declared.checked.Checked.{Checked}
 use Rattle.lrc_check.specs.declared.checked.Checked.TheVariants as found
-use Rattle.lrc_check.specs.Faithful.{IsFaithful, IsFirstUnfaithful}
+use Rattle.lrc_check.specs.Faithful.{IsAccepted, IsFirstUnfaithful}
 
 -- what the events cost, by what they say themselves
 pub record IsTrafficOf (j : List Event) (t : Traffic) : Type 0 where
@@ -39,7 +39,7 @@ IsExplainedFront j load front = MatchOption load (front ≡ j) (λ x. front ≡ 
 -- what is said of a history is true
 abbrev pub IsChecked : Bool → Sizes → List Event → Checked → Type 0
 IsChecked lax s j (found.Faithful race traffic) =
-    IsFaithful lax s j × MatchOption race (RaceFree j) (λ r. IsFirstRace j r.0 r.1) × IsTrafficOf j traffic
+    IsAccepted lax s j × MatchOption race (RaceFree j) (λ r. IsFirstRace j r.0 r.1) × IsTrafficOf j traffic
 IsChecked lax s j (found.IllFormed x) = IsFirstUnfaithful lax s j x.place × IsFirstIllFormed lax s j x
 IsChecked lax s j (found.Unexplained x) =
     IsFirstUnfaithful lax s j x.place × IsFirstUnexplained j x.place × AreLatestOf j x.place x.latest

@@ -8,7 +8,7 @@ use Rattle.judge.specs.Lax.{WellFormedIn}
 
 -- each event may follow what stands before it, lax or not, each load answers a latest store of its past, and, unless
 -- lax, each fetch counts its gap
-pub record IsFaithful (lax : Bool) (s : Sizes) (j : List Event) : Type 0 where
+pub record IsAccepted (lax : Bool) (s : Sizes) (j : List Event) : Type 0 where
   pub well_formed : WellFormedIn lax s j
   pub explained : Explained j
   pub counted : lax ≡ false → AreCounted s j
@@ -17,5 +17,5 @@ pub record IsFaithful (lax : Bool) (s : Sizes) (j : List Event) : Type 0 where
 -- is, however it goes on
 pub record IsFirstUnfaithful (lax : Bool) (s : Sizes) (j : List Event) (k : ℕ) : Type 0 where
   pub within : k < length j
-  pub before : IsFaithful lax s (take k j)
-  pub never : (es : List Event) → ¬ IsFaithful lax s (take (suc k) j ++ es)
+  pub before : IsAccepted lax s (take k j)
+  pub never : (es : List Event) → ¬ IsAccepted lax s (take (suc k) j ++ es)

@@ -2,8 +2,8 @@
 use Rattle.std.specs.Prelude.{ℕ, ◌≡◌, Bool, List, ⊤}
 use Rattle.journal.specs.declared.event.Event.{Event}
 use Rattle.journal.specs.Sizes.{Sizes}
-use Rattle.traces.specs.Lawful.{IsTrace}
-use Rattle.traces.specs.Text.{text}
+use Rattle.lrc_check.specs.Traces.Lawful.{IsTrace}
+use Rattle.lrc_check.specs.Traces.Text.{trace_text}
 use Rattle.lrc_check.specs.declared.checked.Checked.{Checked}
 use Rattle.lrc_check.specs.declared.fault.CheckFault.{CheckFault}
 use Rattle.lrc_check.specs.declared.fault.CheckFault.TheVariants.{Output, Trace}
@@ -14,7 +14,7 @@ pub record IsFoundOf (lax : Bool) (bytes : List ℕ) (found : Checked) : Type 0 
   pub sizes : Sizes
   pub events : List Event
   pub trace : IsTrace sizes events
-  pub text_is : bytes ≡ text sizes events
+  pub text_is : bytes ≡ trace_text sizes events
   pub checked : IsChecked lax sizes events found
 
 -- the fault is the trace's

@@ -2,3 +2,4 @@ pub mod Faithful
 pub mod Checked
 pub mod Found
 pub mod Prelude
+pub mod Traces

@@ -1,10 +1,10 @@
 //! Reads a trace, judges it, and prints what was found.
 ghost use Rattle.std.specs.Prelude.{◌≡◌, IfErr, IfOk, OnOk};
 ghost use Rattle.std.specs.Io.KnownBytes.{Appends, Keeps};
-ghost use Rattle.traces.specs.Prelude.{IsNoTrace};
+ghost use Rattle.lrc_check.specs.Traces.Prelude.{IsNoTrace};
 ghost use Rattle.judge.specs.Prelude.{AreSmall};
 ghost use Rattle.judge.specs.Prelude.{sizes_of as judged_sizes};
-ghost use Rattle.traces.specs.Prelude.{IsTrace, head, sizes_of};
+ghost use Rattle.lrc_check.specs.Traces.Prelude.{IsTrace, head, sizes_of};
 ghost use Rattle.lrc_script.specs.Prelude.{AreSizes};
 ghost use Rattle.lrc_check.specs.Prelude.{IsBeforeOutput, IsChecked, IsFoundOf, IsTraces};
 
@@ -12,13 +12,13 @@ use crate::checked::Checked;
 use crate::fault::CheckFault;
 use crate::judging::judge_history;
 use crate::text::text_of;
+use crate::traces::trace::{Trace, read};
 use lrc_report::render::OutFault;
 use std::alloc::Global;
 use std::io::Write;
-use traces::trace::{Trace, read};
 
 /// The trace's sizes, as they are judged by.
-fn sizes_for(sizes: traces::trace::Sizes) -> judge::Sizes
+fn sizes_for(sizes: crate::traces::trace::Sizes) -> judge::Sizes
     requires { AreSizes (head (sizes_of sizes)) }
     ensures same { judged_sizes result ≡ sizes_of sizes }
     ensures small { AreSmall (judged_sizes result) }

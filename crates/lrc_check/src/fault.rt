@@ -1,12 +1,12 @@
 //! Why a trace isn't judged.
 ghost use Rattle.std.specs.Prelude.{◌≡◌, ◌≢◌};
-ghost use Rattle.traces.specs.declared.fault.TraceFault.TheVariants as trace;
+ghost use Rattle.lrc_check.specs.declared.traces.fault.TraceFault.TheVariants as trace;
 ghost use Rattle.lrc_check.specs.declared.fault.CheckFault.TheVariants as check;
 ghost use Rattle.lrc_check.specs.Prelude.{IsTraces};
 
+use crate::traces::fault::TraceFault;
 use lrc_report::render::OutFault;
 use std::alloc::AllocError;
-use traces::fault::TraceFault;
 
 /// Why a trace isn't judged, or what was found isn't told.
 #[derive(Clone, Copy, Debug, PartialEq, Eq)]

@@ -1,18 +1,18 @@
 //! Judges a history.
 ghost use Rattle.std.specs.Prelude.{◌≡◌, ◌<◌, ◌≤◌, IfOk, IfSome, MatchOption, false, length, take};
-ghost use Rattle.lists.specs.Prelude.{most_held};
+ghost use Rattle.base.specs.Prelude.{most_held};
 ghost use Rattle.journal.specs.Sizes.{addresses};
 ghost use Rattle.journal.specs.Counted.{AreCounted};
 ghost use Rattle.journal.specs.Loads.{Explained};
 ghost use Rattle.journal.specs.Prelude.{AddressesInRange, IsFirstRace, ProcessorsInRange, RaceFree};
 ghost use Rattle.judge.specs.Prelude.{AreSmall, IsFirstIllFormed, IsFirstMiscounted, WellFormedIn, sizes_of};
-ghost use Rattle.sources.specs.Prelude.{IsFirstUnexplained};
+ghost use Rattle.judge.specs.Sources.Prelude.{IsFirstUnexplained};
 ghost use Rattle.lrc_check.specs.Prelude.{AreLatestOf, IsChecked, IsExplainedFront, IsFront, IsTrafficOf};
 
 use crate::checked::{Checked, Unexplained};
 use journal::{Event, Kind, Traffic, first_race_of, traffic_of};
+use judge::sources::{Sources, first_unexplained};
 use judge::{IllFormed, Miscounted, Sizes, first_ill_formed, first_miscounted, lax_law, range_law};
-use sources::{Sources, first_unexplained};
 use std::alloc::{AllocError, Global};
 
 /// How many addresses there are.

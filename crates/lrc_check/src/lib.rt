@@ -19,6 +19,7 @@ mod checking;
 mod fault;
 mod judging;
 mod text;
+pub mod traces;
 
 pub use checked::{Checked, Unexplained};
 pub use checking::{check, check_trace};

@@ -1,12 +1,12 @@
 //! The store that stands last before each access, whether or not it is ordered before it.
 ghost use Rattle.std.specs.Prelude.{◌≡◌, ◌≤◌, ◌<◌, [], List, length};
-ghost use Rattle.lists.specs.Prelude.{most_held, most_processors};
+ghost use Rattle.base.specs.Prelude.{most_held, most_processors};
 ghost use Rattle.journal.specs.declared.event.Event.{Event};
 ghost use Rattle.journal.specs.Prelude.{AddressInRange, AddressesInRange, ProcessorsInRange};
-ghost use Rattle.sources.specs.Prelude.{Tells};
+ghost use Rattle.judge.specs.Sources.Prelude.{AreStoresOf};
 
 use journal::{Event, Kind};
-use sources::Sources;
+use judge::sources::Sources;
 use std::alloc::{AllocError, Global};
 
 /// The last store to the address of an access that stands before it in the history, by whomever.
@@ -20,7 +20,7 @@ pub struct Earlier {
 
 /// The last store to the address of the event, where it is an access that comes next.
 fn earlier_at(sources: &Sources, last: &[Option<usize>], event: Event) -> Option<Earlier>
-    requires tells { (j : List Event) × Tells j sources.now }
+    requires tells { (j : List Event) × AreStoresOf j sources.now }
     requires processor { event.processor < sources.now.processors }
     requires address { AddressInRange sources.now.addresses event.kind }
 {
@@ -56,7 +56,7 @@ fn find_stores(
 ) -> Result<(), AllocError>
     requires few { length events.now ≤ most_held }
     requires places { length found.old ≡ length events.now }
-    requires tells { Tells [] sources.old }
+    requires tells { AreStoresOf [] sources.old }
     requires addresses { AddressesInRange sources.old.addresses events.now }
     requires processors { ProcessorsInRange sources.old.processors events.now }
 {
@@ -72,7 +72,7 @@ fn find_stores(
 /// Of each event of a history, in order: the last store to its address before it, where it is an access and there is such a
 /// store; else None. The only error is running out of memory.
 ///
-/// It takes time as `why::loads` does.
+/// It takes time as `causes::loads` does.
 pub fn stores_before(
     alloc: Global,
     processors: usize,

@@ -1,6 +1,6 @@
 //! What is looked up of a history before it is told.
 ghost use Rattle.std.specs.Prelude.{◌≤◌, length};
-ghost use Rattle.lists.specs.Prelude.{most_held, most_processors};
+ghost use Rattle.base.specs.Prelude.{most_held, most_processors};
 ghost use Rattle.journal.specs.Prelude.{AddressesInRange, ProcessorsInRange};
 
 use crate::earlier::{Earlier, stores_before};
@@ -8,9 +8,9 @@ use crate::fault::ExplainFault;
 use crate::journey::ways_to_loads;
 use crate::lacks::dues_of;
 use crate::shape::Shape;
+use causes::{Due, FirstRace, Source, loads, race};
 use journal::Event;
 use std::alloc::{AllocError, Global};
-use why::{Due, FirstRace, Source, loads, race};
 
 /// What is found of the loads of a history.
 #[derive(Drop)]
@@ -25,7 +25,7 @@ pub struct Loads {
 
 /// What is found of a history.
 #[derive(Drop)]
-pub struct Found {
+pub struct Findings {
     pub race: Option<FirstRace>,
     pub loads: Loads,
     /// Of each event, the records that it tells of; empty where nobody knows what a page is.
@@ -56,7 +56,7 @@ fn loads_of(
 
 /// What is found of these events of a run of this shape. OutOfRange where its addresses aren't pages of so many words, or a
 /// memory of such pages can't have the events.
-pub fn found_of(alloc: Global, shape: Shape, events: &[Event]) -> Result<Found, ExplainFault>
+pub fn found_of(alloc: Global, shape: Shape, events: &[Event]) -> Result<Findings, ExplainFault>
     requires few { length events.now ≤ most_held }
     requires few_processors { shape.processors ≤ most_processors }
     requires addresses { AddressesInRange shape.addresses events.now }
@@ -65,5 +65,5 @@ pub fn found_of(alloc: Global, shape: Shape, events: &[Event]) -> Result<Found, 
     let race = race(alloc, shape.processors, shape.addresses, events)?;
     let loads = loads_of(alloc, shape.processors, shape.addresses, events)?;
     let dues = dues_of(alloc, shape, events)?;
-    Ok(Found { race, loads, dues })
+    Ok(Findings { race, loads, dues })
 }

@@ -1,6 +1,6 @@
 //! The events that are told, and how they are numbered.
 ghost use Rattle.std.specs.Prelude.{◌<◌, ◌≤◌, IsTrue, length};
-ghost use Rattle.lists.specs.Prelude.{most_held, most_processors};
+ghost use Rattle.base.specs.Prelude.{most_held, most_processors};
 ghost use Rattle.journal.specs.Prelude.{AddressInRange, AddressesInRange, ProcessorsInRange};
 
 use journal::{Event, Journal, Kind, MOST_HELD, MOST_PROCESSORS};

@@ -1,14 +1,14 @@
 //! How what a load answers came to its processor: the ways from stores to loads.
 ghost use Rattle.std.specs.Prelude.{◌<◌, ◌≤◌, length};
-ghost use Rattle.lists.specs.Prelude.{most_held, most_processors};
+ghost use Rattle.base.specs.Prelude.{most_held, most_processors};
 ghost use Rattle.journal.specs.Prelude.{ProcessorsInRange};
-ghost use Rattle.why.specs.Prelude.{AreWays};
+ghost use Rattle.causes.specs.Prelude.{AreWays};
 
 use crate::history::Numbers;
 use crate::text::Text;
+use causes::{Source, Ways};
 use journal::{Event, Kind};
 use std::alloc::{AllocError, Global};
-use why::{Source, Ways};
 
 /// How many crossings are told at most.
 const MOST_CROSSINGS: usize = 3;
@@ -56,7 +56,7 @@ fn add_ways(
 /// Of each event, the places of a way from the store that it answers to it, where it is a load; else None. The only
 /// error is running out of memory.
 ///
-/// It takes time as `why::Ways::new` does, and for each load as `why::Ways::way` does.
+/// It takes time as `causes::Ways::new` does, and for each load as `causes::Ways::way` does.
 pub fn ways_to_loads(
     alloc: Global,
     processors: usize,

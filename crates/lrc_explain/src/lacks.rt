@@ -1,6 +1,6 @@
 //! Which pages go stale by an event that takes, and whose records a fetch brings.
 ghost use Rattle.std.specs.Prelude.{ℕ, ◌≤◌, IsTrue, length};
-ghost use Rattle.lists.specs.Prelude.{most_held};
+ghost use Rattle.base.specs.Prelude.{most_held};
 ghost use Rattle.journal.specs.declared.event.Event.{Event};
 ghost use Rattle.journal.specs.Events.{At};
 ghost use Rattle.judge.specs.Prelude.{AreSmall, IsWithin, sizes_of};
@@ -8,10 +8,10 @@ ghost use Rattle.judge.specs.Prelude.{AreSmall, IsWithin, sizes_of};
 use crate::fault::ExplainFault;
 use crate::shape::Shape;
 use crate::text::Text;
+use causes::{Due, dues};
 use journal::{Event, Kind, MOST_HELD};
 use judge::Sizes;
 use std::alloc::{AllocError, Global};
-use why::{Due, dues};
 
 /// How many pages a memory has at most.
 const MOST_PAGES: usize = 64;

@@ -17,7 +17,7 @@ const APART: usize = 2;
 /// labels are short and a lane is at most 10 wide: then sixteen lanes and numbers of eight digits take 200 columns. A label
 /// that is longer than its lane runs on, and what stands to its right moves.
 #[derive(Drop)]
-pub struct Layout {
+pub struct Columns {
     /// The width of the column of numbers.
     number: usize,
     /// The width of each processor's lane.
@@ -85,19 +85,19 @@ pub fn layout_of(
     processors: usize,
     events: &[Event],
     last: u64,
-) -> Result<Layout, AllocError> {
+) -> Result<Columns, AllocError> {
     let mut lanes = vec![in alloc; 0; processors]?;
     let mut label = Text::new(alloc);
     fit_titles(&mut lanes);
     fit_labels(&mut lanes, &mut label, events);
     label.finish()?;
-    Ok(Layout {
+    Ok(Columns {
         number: digits(last),
         lanes,
     })
 }
 
-impl Layout {
+impl Columns {
     /// Puts the line of the lanes' titles.
     pub fn put_titles(&self, text: &mut Text) {
         text.leave(self.number);

@@ -5,9 +5,9 @@
 //!
 //! **What is proved.** `render` answers Ok only where it wrote a text that ends with `end_text`: the shown words, the
 //! verdict and the traffic, byte for byte as `lrc_report` prints them. After NoMemory and OutOfRange nothing was written.
-//! The loads' sources, the ways to them, the race and the records that are told are those of crate `why`.
+//! The loads' sources, the ways to them, the race and the records that are told are those of crate `causes`.
 //!
-//! **What is only tested** (in `explain_tests`): the rest of the text, and that the text is one write.
+//! **What is only tested** (in `test_lrc`): the rest of the text, and that the text is one write.
 #![tactic(auto)]
 
 mod earlier;

@@ -1,15 +1,15 @@
 //! What is said to the right of an event: why it went as it did, and for whom its processor waits.
 
 use crate::earlier::Earlier;
-use crate::found::Found;
+use crate::found::Findings;
 use crate::held::{Deed, Held, LockState};
 use crate::history::Numbers;
 use crate::journey::Crossings;
 use crate::lacks::{GoneStale, Stale, Writers};
 use crate::marked::Marked;
 use crate::text::Text;
+use causes::{Due, Source};
 use journal::{Event, Kind};
-use why::{Due, Source};
 
 /// What is known of a history.
 #[derive(Clone, Copy)]
@@ -17,7 +17,7 @@ pub struct Known<'a> {
     pub numbers: Numbers,
     pub processors: usize,
     pub events: &'a [Event],
-    pub found: &'a Found,
+    pub found: &'a Findings,
 }
 
 impl Known<'_> {

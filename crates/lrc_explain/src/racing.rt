@@ -3,8 +3,8 @@
 use crate::history::Numbers;
 use crate::label::put_label;
 use crate::text::Text;
+use causes::FirstRace;
 use journal::{Event, Kind};
-use why::FirstRace;
 
 /// The race of a history with these events.
 #[derive(Clone, Copy)]

@@ -2,7 +2,7 @@
 ghost use Rattle.std.specs.Prelude.{◌≡◌, ◌++◌, IfErr, IfOk, OnOk, false};
 ghost use Rattle.std.specs.Io.KnownBytes.{Appends};
 ghost use Rattle.lrc_explain.specs.declared.fault.ExplainFault.TheVariants.{Output};
-ghost use Rattle.lrc_explain.specs.Prelude.{IsToldText, IsWritten, IsUnwritten, end_text};
+ghost use Rattle.lrc_explain.specs.Prelude.{IsExplainText, ExplainWritten, ExplainUnwritten, end_text};
 
 use crate::fault::ExplainFault;
 use crate::halting::put_waits;
@@ -10,9 +10,9 @@ use crate::held::Held;
 use crate::shape::Shape;
 use crate::story::put_story;
 use crate::text::Text;
+use conformance::Ended;
 use journal::{Journal, MOST_PROCESSORS};
 use lrc_report::render::put_report;
-use runs::Ended;
 use std::alloc::Global;
 use std::io::Write;
 
@@ -69,7 +69,7 @@ fn text_of(
     words: Option<usize>,
     ended: &Ended,
 ) -> Result<Vec<u8>, ExplainFault>
-    ensures { IfOk result (λ v. IsToldText ended.now v.items) }
+    ensures { IfOk result (λ v. IsExplainText ended.now v.items) }
 {
     let mut text = Text::new(alloc);
     put_run(&mut text, alloc, processors, words, ended)?;
@@ -107,7 +107,7 @@ fn write_text<W: Write>(text: &[u8], out: &mut W) -> Result<(), ExplainFault>
 /// and a lane is at most 10 wide, so that sixteen lanes and numbers of eight digits take 200 columns. A longer label runs
 /// on. What stands to the right of the lanes doesn't count.
 ///
-/// It takes time and memory as `why::loads`, `why::race` and `why::Ways` do, with `words` time as `why::dues` does besides,
+/// It takes time and memory as `causes::loads`, `causes::race` and `causes::Ways` do, with `words` time as `causes::dues` does besides,
 /// and memory for the whole text.
 ///
 /// # Errors
@@ -122,8 +122,8 @@ pub fn render<W: Write>(
     ended: &Ended,
     out: &mut W,
 ) -> Result<(), ExplainFault>
-    ensures written { OnOk result (IsWritten (W.contents out.old) (W.contents out.new) ended.now) }
-    ensures unwritten { IfErr result (IsUnwritten (W.contents out.old) (W.contents out.new)) }
+    ensures written { OnOk result (ExplainWritten (W.contents out.old) (W.contents out.new) ended.now) }
+    ensures unwritten { IfErr result (ExplainUnwritten (W.contents out.old) (W.contents out.new)) }
 {
     let text = text_of(alloc, processors, words, ended)?;
     write_text(&text, out)

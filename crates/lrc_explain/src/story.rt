@@ -1,6 +1,6 @@
 //! The events of a run, told.
 ghost use Rattle.std.specs.Prelude.{◌≤◌, length};
-ghost use Rattle.lists.specs.Prelude.{most_held, most_processors};
+ghost use Rattle.base.specs.Prelude.{most_held, most_processors};
 ghost use Rattle.journal.specs.Prelude.{AddressesInRange, ProcessorsInRange};
 
 use crate::fault::ExplainFault;
@@ -8,7 +8,7 @@ use crate::found::found_of;
 use crate::held::Held;
 use crate::history::{Numbers, are_in_range, history_of, numbers_of};
 use crate::lacks::Stale;
-use crate::layout::{Layout, layout_of};
+use crate::layout::{Columns, layout_of};
 use crate::notes::Known;
 use crate::racing::Race;
 use crate::shape::Shape;
@@ -22,7 +22,7 @@ fn put_events(
     text: &mut Text,
     held: &mut Held,
     known: &Known<'_>,
-    layout: &Layout,
+    layout: &Columns,
 ) -> Result<(), AllocError> {
     let mut stale = Stale::new();
     layout.put_titles(text);

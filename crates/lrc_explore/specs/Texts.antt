@@ -52,14 +52,14 @@ IsTextOf states (verdict.Racy racy) text =
     text ≡ codes "verdict racy\n" ++ racy_lines racy.events.items racy.first ++ states_line states
 IsTextOf states verdict.Undecided text = text ≡ undecided_line states
 
-abbrev pub IsToldText : Explored → List ℕ → Type 0
-IsToldText explored text = IsTextOf explored.states explored.verdict text
+abbrev pub IsExploreText : Explored → List ℕ → Type 0
+IsExploreText explored text = IsTextOf explored.states explored.verdict text
 
 -- such a text was appended
-abbrev pub IsWritten : Option (List ℕ) → Option (List ℕ) → Explored → Type 0
-IsWritten old new explored = (text : List ℕ) × IsToldText explored text × Appends old new text
+abbrev pub ExploreWritten : Option (List ℕ) → Option (List ℕ) → Explored → Type 0
+ExploreWritten old new explored = (text : List ℕ) × IsExploreText explored text × Appends old new text
 
 -- but for a failed output nothing was
-abbrev pub IsUnwritten : Option (List ℕ) → Option (List ℕ) → ExploreFault → Type 0
-IsUnwritten old new Output = ⊤
-IsUnwritten old new _ = new ≡ old
+abbrev pub ExploreUnwritten : Option (List ℕ) → Option (List ℕ) → ExploreFault → Type 0
+ExploreUnwritten old new Output = ⊤
+ExploreUnwritten old new _ = new ≡ old

@@ -9,7 +9,7 @@
 //! whether a schedule hangs, with its events. After NoMemory nothing was written.
 //!
 //! **What is only tested**: the lines of outcomes and of who waits (cases of `tests/program`, and `tests/exploring`), and
-//! that the text is one write (`outcomes_tests`).
+//! that the text is one write (`test_lrc`).
 #![tactic(auto)]
 
 mod fault;
@@ -18,6 +18,7 @@ mod history;
 mod numbers;
 mod outcomes;
 mod rendering;
+pub mod schedules;
 
 pub use fault::ExploreFault;
 pub use rendering::render;

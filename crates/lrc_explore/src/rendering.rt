@@ -4,7 +4,7 @@ ghost use Rattle.std.specs.Io.KnownBytes.{Appends};
 ghost use Rattle.lrc_explore.specs.declared.fault.ExploreFault.TheVariants.{Output};
 ghost use Rattle.lrc_report.specs.Prelude.{event_lines};
 ghost use Rattle.lrc_explore.specs.Prelude.{states_line, undecided_line};
-ghost use Rattle.lrc_explore.specs.Prelude.{IsHangText, IsToldText, IsUnwritten, IsWritten, racy_lines};
+ghost use Rattle.lrc_explore.specs.Prelude.{IsHangText, IsExploreText, ExploreUnwritten, ExploreWritten, racy_lines};
 
 use crate::fault::ExploreFault;
 use crate::hanging::waits_text;
@@ -109,7 +109,7 @@ fn put_explored(
     explored: &Explored,
 ) -> Result<(), AllocError>
     requires { text.old.items ≡ [] }
-    ensures { OnOk result (IsToldText explored.now text.new.items) }
+    ensures { OnOk result (IsExploreText explored.now text.new.items) }
 {
     let states = explored.states;
     match &explored.verdict {
@@ -126,7 +126,7 @@ fn put_explored(
 
 /// The text of what was found of a script that shows these addresses. The only error is running out of memory.
 fn text_of(alloc: Global, shown: &[usize], explored: &Explored) -> Result<Vec<u8>, AllocError>
-    ensures { IfOk result (λ t. IsToldText explored.now t.items) }
+    ensures { IfOk result (λ t. IsExploreText explored.now t.items) }
 {
     let mut text = Vec::new(alloc);
     put_explored(&mut text, alloc, shown, explored)?;
@@ -176,8 +176,8 @@ pub fn render<W: Write>(
     explored: &Explored,
     out: &mut W,
 ) -> Result<(), ExploreFault>
-    ensures written { OnOk result (IsWritten (W.contents out.old) (W.contents out.new) explored.now) }
-    ensures unwritten { IfErr result (IsUnwritten (W.contents out.old) (W.contents out.new)) }
+    ensures written { OnOk result (ExploreWritten (W.contents out.old) (W.contents out.new) explored.now) }
+    ensures unwritten { IfErr result (ExploreUnwritten (W.contents out.old) (W.contents out.new)) }
 {
     let text = text_of(alloc, &script.shown, explored)?;
     write_text(&text, out)

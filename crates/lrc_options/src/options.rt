@@ -5,7 +5,7 @@
 pub enum Commands {
     /// All of them, as `lrc` has.
     All,
-    /// `run` and `step` alone, as `lrc_core` has.
+    /// `run` and `step` alone, as `lrc_quick` has.
     RunAndStep,
 }
 

@@ -9,12 +9,12 @@ use Rattle.lrc_picture.specs.Grid.{x_of, y_of, width_of, height_of}
 use Rattle.lrc_picture.specs.Layout.{IsLayoutOf}
 
 -- a lane is a step or more left of each later one, a row 24 pixels or more above each later one
-pub record IsApart (g : Grid) (p q : ℕ) : Type 0 where
+pub record LanesApart (g : Grid) (p q : ℕ) : Type 0 where
   pub lanes : x_of g p + g.step ≤ x_of g q
   pub rows : y_of g p + 24 ≤ y_of g q
 
 abbrev pub ApartLaw : Type 0
-ApartLaw = (g : Grid) (p q : ℕ) → p < q → IsApart g p q
+ApartLaw = (g : Grid) (p q : ℕ) → p < q → LanesApart g p q
 
 -- the mark lies within the picture, with a step to the right edge
 pub record IsInside (g : Grid) (m : Mark) : Type 0 where

@@ -1,7 +1,7 @@
 -- The layout of a picture.
 use Rattle.std.specs.Prelude.{ℕ, ◌≡◌, ◌+◌, ◌*◌, ◌<◌, ◌≤◌, IfSome, List, Option, length}
 use Rattle.std.specs.Global.{Vec}
-use Rattle.lists.specs.Limits.{most_held, most_processors}
+use Rattle.base.specs.Limits.{most_held, most_processors}
 use Rattle.journal.specs.declared.event.Event.{Event}
 use Rattle.journal.specs.Events.{At}
 use Rattle.journal.specs.InRange.{ProcessorsInRange}
@@ -31,5 +31,5 @@ pub record IsLayoutOf (n : ℕ) (j : List Event) (l : Layout) : Type 0 where
   pub marks : AreMarks l.grid j l.marks.items
 
 -- both places lie below n
-abbrev pub IsWithin : ℕ → Option (ℕ × ℕ) → Type 0
-IsWithin n o = IfSome o (λ r. (r.0 < n) × (r.1 < n))
+abbrev pub ArrowInside : ℕ → Option (ℕ × ℕ) → Type 0
+ArrowInside n o = IfSome o (λ r. (r.0 < n) × (r.1 < n))

@@ -6,13 +6,13 @@ use Rattle.journal.specs.declared.event.Kind.TheVariants.{Load, Store, Fetch, As
 use Rattle.journal.specs.Events.{At}
 use Rattle.lrc_picture.specs.declared.grid.Grid.{Grid}
 use Rattle.lrc_picture.specs.declared.marks.Mark.{Mark}
-use Rattle.lrc_picture.specs.declared.marks.Shape.{Shape}
-use Rattle.lrc_picture.specs.declared.marks.Shape.TheVariants.{Disc, Ring, Dash, Frame, Block, Wedge}
+use Rattle.lrc_picture.specs.declared.marks.MarkShape.{MarkShape}
+use Rattle.lrc_picture.specs.declared.marks.MarkShape.TheVariants.{Disc, Ring, Dash, Frame, Block, Wedge}
 use Rattle.lrc_picture.specs.Grid.{crossing}
 
 -- stores are filled circles, loads open ones, fetches short bars; what others wait for is a filled square, what begins to
 -- wait an open one, and what ends a wait a triangle
-abbrev pub shape_for : Kind → Shape
+abbrev pub shape_for : Kind → MarkShape
 shape_for (Load a v) = Ring
 shape_for (Store a v) = Disc
 shape_for (Fetch writers page records words) = Dash

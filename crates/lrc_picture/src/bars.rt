@@ -8,17 +8,17 @@ use std::alloc::{AllocError, Global};
 
 /// A line from one point to another.
 #[derive(Clone, Copy, Debug, PartialEq, Eq)]
-pub struct Line {
+pub struct Bar {
     pub from: Point,
     pub to: Point,
 }
 
 /// The bar across all lanes in this row.
-fn bar(grid: Grid, row: usize) -> Line
+fn bar(grid: Grid, row: usize) -> Bar
     requires { row ≤ grid.rows }
     ensures { result ≡ bar_for grid row }
 {
-    Line {
+    Bar {
         from: grid.point(0, row),
         to: grid.point(grid.lanes, row),
     }
@@ -34,7 +34,7 @@ fn arrives(kind: Kind) -> bool {
 
 /// A bar in the row of each arrival that completes an episode: it is drawn below that row. The only error is running out of
 /// memory.
-pub fn bars(alloc: Global, grid: Grid, events: &[Event]) -> Result<Vec<Line>, AllocError>
+pub fn bars(alloc: Global, grid: Grid, events: &[Event]) -> Result<Vec<Bar>, AllocError>
     requires { length events.now ≤ grid.rows }
 {
     let mut bars = Vec::new(alloc);

@@ -1,6 +1,6 @@
 //! Where the lanes and rows of a picture lie, in pixels.
 ghost use Rattle.std.specs.Prelude.{◌≡◌, ◌≤◌, ◌^◌};
-ghost use Rattle.lists.specs.Prelude.{most_processors};
+ghost use Rattle.base.specs.Prelude.{most_processors};
 
 /// A point of the picture, in pixels from its left upper corner.
 #[derive(Clone, Copy, Debug, PartialEq, Eq)]

@@ -1,10 +1,10 @@
 //! The layout of a picture: what stands where.
 ghost use Rattle.std.specs.Prelude.{◌≤◌, IfOk, length};
-ghost use Rattle.lists.specs.Prelude.{most_held, most_processors};
+ghost use Rattle.base.specs.Prelude.{most_held, most_processors};
 ghost use Rattle.lrc_picture.specs.Prelude.{CanBeDrawn, IsGridOf, IsLayoutOf};
 
 use crate::arrows::{Arrow, arrows};
-use crate::bars::{Line, bars};
+use crate::bars::{Bar, bars};
 use crate::grid::Grid;
 use crate::label::widest;
 use crate::marks::{Mark, marks};
@@ -20,7 +20,7 @@ pub struct Layout {
     /// The arrows to events that were let through by another processor's.
     pub arrows: Vec<Arrow>,
     /// The bars of the barrier.
-    pub bars: Vec<Line>,
+    pub bars: Vec<Bar>,
 }
 
 /// How many characters a lane's head has at most.

@@ -13,7 +13,7 @@
 //! (module `laws`). An arrow leads from the first event's mark to the second one's. Where memory runs out nothing was
 //! written.
 //!
-//! **What is only tested** (crate `explain_tests`): that each arrow and bar is there; the file's text.
+//! **What is only tested** (crate `test_lrc`): that each arrow and bar is there; the file's text.
 #![tactic(auto)]
 
 pub mod arrows;

@@ -9,7 +9,7 @@ use std::alloc::{AllocError, Global};
 
 /// How a mark looks.
 #[derive(Clone, Copy, Debug, PartialEq, Eq)]
-pub enum Shape {
+pub enum MarkShape {
     /// A circle, filled: a store.
     Disc,
     /// A circle: a load.
@@ -28,20 +28,20 @@ pub enum Shape {
 #[derive(Clone, Copy, Debug, PartialEq, Eq)]
 pub struct Mark {
     pub at: Point,
-    pub shape: Shape,
+    pub shape: MarkShape,
 }
 
 /// How the mark of such an event looks.
-fn shape_of(kind: Kind) -> Shape
+fn shape_of(kind: Kind) -> MarkShape
     ensures { result ≡ shape_for kind }
 {
     match kind {
-        Kind::Store(_, _) => Shape::Disc,
-        Kind::Load(_, _) => Shape::Ring,
-        Kind::Fetch { .. } => Shape::Dash,
-        Kind::Ask(_) | Kind::Watch(_) => Shape::Frame,
-        Kind::Release(_) | Kind::Set(_) | Kind::Arrive => Shape::Block,
-        Kind::Acquire(_) | Kind::Await(_) | Kind::Depart => Shape::Wedge,
+        Kind::Store(_, _) => MarkShape::Disc,
+        Kind::Load(_, _) => MarkShape::Ring,
+        Kind::Fetch { .. } => MarkShape::Dash,
+        Kind::Ask(_) | Kind::Watch(_) => MarkShape::Frame,
+        Kind::Release(_) | Kind::Set(_) | Kind::Arrive => MarkShape::Block,
+        Kind::Acquire(_) | Kind::Await(_) | Kind::Depart => MarkShape::Wedge,
     }
 }
 

@@ -1,7 +1,7 @@
 //! Writes a run's picture.
 ghost use Rattle.std.specs.Prelude.{◌≡◌, ◌≢◌, ◌≤◌, Err, length};
-ghost use Rattle.lists.specs.Prelude.{most_cut};
-ghost use Rattle.lrc_picture.specs.Prelude.{CanBeDrawn, IsWithin};
+ghost use Rattle.base.specs.Prelude.{most_cut};
+ghost use Rattle.lrc_picture.specs.Prelude.{CanBeDrawn, ArrowInside};
 
 use crate::layout::lay_out;
 use crate::story::Story;
@@ -25,7 +25,7 @@ pub enum PictureFault {
 fn drawn(alloc: Global, story: &Story<'_>) -> Result<String, AllocError>
     requires drawn { CanBeDrawn story.now.processors story.now.events.now story.now.incoming.now }
     requires first { story.now.first ≤ most_cut }
-    requires race { IsWithin (length story.now.events.now) story.now.race }
+    requires race { ArrowInside (length story.now.events.now) story.now.race }
 {
     let layout = lay_out(alloc, story.processors, story.events, story.incoming)?;
     text_of(alloc, &layout, story)
@@ -52,7 +52,7 @@ fn write<W: Write>(text: &str, out: &mut W) -> Result<(), PictureFault>
 pub fn render<W: Write>(alloc: Global, story: &Story<'_>, out: &mut W) -> Result<(), PictureFault>
     requires drawn { CanBeDrawn story.now.processors story.now.events.now story.now.incoming.now }
     requires first { story.now.first ≤ most_cut }
-    requires race { IsWithin (length story.now.events.now) story.now.race }
+    requires race { ArrowInside (length story.now.events.now) story.now.race }
     ensures no_memory { result ≡ Err PictureFault.NoMemory → W.contents out.new ≡ W.contents out.old }
 {
     let Ok(text) = drawn(alloc, story) else {

@@ -1,16 +1,16 @@
 //! The text of a picture's file.
 ghost use Rattle.std.specs.Prelude.{◌≡◌, ◌≤◌, length};
-ghost use Rattle.lists.specs.Prelude.{most_cut, most_held, most_processors};
+ghost use Rattle.base.specs.Prelude.{most_cut, most_held, most_processors};
 ghost use Rattle.journal.specs.Prelude.{ProcessorsInRange};
-ghost use Rattle.lrc_picture.specs.Prelude.{CanBeDrawn, IsLayoutOf, IsWithin};
+ghost use Rattle.lrc_picture.specs.Prelude.{CanBeDrawn, IsLayoutOf, ArrowInside};
 
 use crate::arrows::{Arrow, Way};
-use crate::bars::Line;
+use crate::bars::Bar;
 use crate::grid::{Grid, Point};
 use crate::label::put_label;
 use crate::layout::Layout;
 use crate::looks::{LEGEND, LOOKS};
-use crate::marks::{Mark, Shape};
+use crate::marks::{Mark, MarkShape};
 use crate::story::Story;
 use crate::svg::Svg;
 use journal::{Event, Kind};
@@ -40,14 +40,14 @@ fn opening(style: Style) -> &'static str {
 }
 
 /// The name of a mark that looks so.
-fn name(shape: Shape) -> &'static str {
+fn name(shape: MarkShape) -> &'static str {
     match shape {
-        Shape::Disc => "disc",
-        Shape::Ring => "ring",
-        Shape::Dash => "dash",
-        Shape::Frame => "frame",
-        Shape::Block => "block",
-        Shape::Wedge => "wedge",
+        MarkShape::Disc => "disc",
+        MarkShape::Ring => "ring",
+        MarkShape::Dash => "dash",
+        MarkShape::Frame => "frame",
+        MarkShape::Block => "block",
+        MarkShape::Wedge => "wedge",
     }
 }
 
@@ -156,7 +156,7 @@ fn put_lanes(text: &mut Svg, grid: Grid, row: usize)
 }
 
 /// Puts the bars, half a row below their rows.
-fn put_bars(text: &mut Svg, bars: &[Line]) {
+fn put_bars(text: &mut Svg, bars: &[Bar]) {
     text.put("<g transform=\"translate(0 12)\">\n");
     for bar in bars {
         put_line(text, "barrier", bar.from, bar.to);
@@ -189,7 +189,7 @@ fn put_race(text: &mut Svg, first: Point, second: Point) {
 
 /// Puts the first race, if there is one.
 fn put_first_race(text: &mut Svg, marks: &[Mark], race: Option<(usize, usize)>)
-    requires { IsWithin (length marks.now) race }
+    requires { ArrowInside (length marks.now) race }
 {
     if let Some((first, second)) = race {
         put_race(text, marks[first].at, marks[second].at);
@@ -275,7 +275,7 @@ fn put_legend(text: &mut Svg, x: usize) {
 /// Puts what lies below the marks: the ground, the processors' lines, bars and arrows, and the first race.
 fn put_ground(text: &mut Svg, layout: &Layout, story: &Story<'_>)
     requires layout { IsLayoutOf story.now.processors story.now.events.now layout.now }
-    requires race { IsWithin (length story.now.events.now) story.now.race }
+    requires race { ArrowInside (length story.now.events.now) story.now.race }
 {
     put_opening(text, layout.grid, story);
     put_lanes(text, layout.grid, story.events.len());
@@ -303,7 +303,7 @@ pub fn text_of(alloc: Global, layout: &Layout, story: &Story<'_>) -> Result<Stri
     requires drawn { CanBeDrawn story.now.processors story.now.events.now story.now.incoming.now }
     requires layout { IsLayoutOf story.now.processors story.now.events.now layout.now }
     requires first { story.now.first ≤ most_cut }
-    requires race { IsWithin (length story.now.events.now) story.now.race }
+    requires race { ArrowInside (length story.now.events.now) story.now.race }
 {
     let mut text = Svg::new(alloc);
     put_ground(&mut text, layout, story);

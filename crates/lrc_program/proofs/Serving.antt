@@ -3,7 +3,7 @@ use Rattle.std.proofs.Common.{ℕ, Bool, List, Option, Result, Ok, Err, OnOk}
 use Rattle.std.specs.Prelude.{IfErr}
 use Rattle.lrc_report.specs.declared.report.Report.{Report}
 use Rattle.lrc_script.specs.Plan.{Plan}
-use Rattle.runs.specs.declared.cause.RunFault.{RunFault}
+use Rattle.conformance.specs.declared.cause.RunFault.{RunFault}
 use Rattle.lrc_program.specs.declared.fault.ProgramFault.{ProgramFault}
 use Rattle.lrc_program.specs.Served.{IsNoScript, IsPrinted, IsRead, IsServed}
 use Rattle.lrc_program.specs.Statuses.{IsScripts}

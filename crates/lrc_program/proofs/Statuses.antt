@@ -1,7 +1,7 @@
 -- What a status tells of the fault.
 use Rattle.std.proofs.Common.{◌≡◌, ◌≢◌, ◌∙◌, ℕ, inl, inr, sym, refl, arith}
-use Rattle.runs.specs.declared.cause.Cause.{Cause}
-use Rattle.runs.specs.declared.cause.Cause.TheVariants.{Stuck, Gate, Thread, Refused}
+use Rattle.conformance.specs.declared.cause.Cause.{Cause}
+use Rattle.conformance.specs.declared.cause.Cause.TheVariants.{Stuck, Gate, Thread, Refused}
 use Rattle.lrc_program.specs.declared.fault.ProgramFault.{ProgramFault}
 use Rattle.lrc_program.specs.declared.fault.ProgramFault.TheVariants.{Words, Unreadable, Script, Run, Output, NoMemory}
 use Rattle.lrc_program.specs.Statuses.{status_of_cause, status_of, IsStatusOf, IsScripts, IsBeforeOutput}

@@ -7,22 +7,22 @@ use Rattle.lrc_script.specs.Text.{text}
 use Rattle.lrc_report.specs.declared.report.Report.{Report}
 use Rattle.lrc_report.specs.ReportText.{report_text}
 use Rattle.lrc_options.specs.declared.options.Options.{Options}
-use Rattle.runs.specs.declared.cause.RunFault.{RunFault}
-use Rattle.runs.specs.declared.runs.Lock.{Lock}
-use Rattle.runs.specs.declared.runs.Lock.TheVariants.{Array, Ticket}
-use Rattle.runs.specs.Reports.{IsReportOf}
+use Rattle.conformance.specs.declared.cause.RunFault.{RunFault}
+use Rattle.conformance.specs.declared.runs.LockChoice.{LockChoice}
+use Rattle.conformance.specs.declared.runs.LockChoice.TheVariants.{Array, Ticket}
+use Rattle.conformance.specs.Reports.{IsReportOf}
 
 -- the lock that the options ask for
-abbrev pub lock_of : Options → Lock
-lock_of o = cond o.ticket Ticket Array
+abbrev pub lock_chosen : Options → LockChoice
+lock_chosen o = cond o.ticket Ticket Array
 
 -- what came of a script by the command that the options ask for, with their lock, and their tries or their seed; `ran` and
 -- `stepped` are what comes by each command
-pub record IsAsAsked (ran : Plan → Lock → ℕ → Result Report RunFault → Type 0)
-    (stepped : Plan → Lock → Option ℕ → Result Report RunFault → Type 0) (o : Options) (s : Plan)
+pub record IsAsAsked (ran : Plan → LockChoice → ℕ → Result Report RunFault → Type 0)
+    (stepped : Plan → LockChoice → Option ℕ → Result Report RunFault → Type 0) (o : Options) (s : Plan)
     (came : Result Report RunFault) : Type 0 where
-  pub by_threads : o.step ≡ false → ran s (lock_of o) o.tries came
-  pub by_turns : o.step ≡ true → stepped s (lock_of o) o.seed came
+  pub by_threads : o.step ≡ false → ran s (lock_chosen o) o.tries came
+  pub by_turns : o.step ≡ true → stepped s (lock_chosen o) o.seed came
 
 -- the script that was read is lawful, and its text is all that the source had
 pub record IsRead (source : Option (List ℕ)) (s : Plan) : Type 0 where

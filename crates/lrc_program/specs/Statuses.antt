@@ -1,7 +1,7 @@
 -- The exit statuses.
 use Rattle.std.specs.Prelude.{ℕ, ◌≡◌, ◌⊎◌, ⊤}
-use Rattle.runs.specs.declared.cause.Cause.{Cause}
-use Rattle.runs.specs.declared.cause.Cause.TheVariants.{Stuck}
+use Rattle.conformance.specs.declared.cause.Cause.{Cause}
+use Rattle.conformance.specs.declared.cause.Cause.TheVariants.{Stuck}
 use Rattle.lrc_program.specs.declared.fault.ProgramFault.{ProgramFault}
 use Rattle.lrc_program.specs.declared.fault.ProgramFault.TheVariants.{Words, Unreadable, Script, Run, Output, NoMemory}
 

@@ -5,9 +5,9 @@ ghost use Rattle.lrc_program.specs.Prelude.{IsScripts, status_of};
 ghost use Rattle.lrc_program.specs.declared.fault.ProgramFault.TheVariants as program;
 
 use book::Refused;
+use conformance::{Cause, RunFault};
 use lrc_report::render::OutFault;
 use lrc_script::fault::ScriptFault;
-use runs::{Cause, RunFault};
 use std::alloc::{AllocError, Global};
 use std::io;
 use std::io::ErrorKind;

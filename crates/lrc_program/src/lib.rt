@@ -16,4 +16,9 @@
 #![tactic(auto)]
 
 pub mod fault;
+mod files;
 pub mod program;
+mod words;
+
+pub use files::run_file;
+pub use words::{answer_words, refuse, words_of};

@@ -2,16 +2,16 @@
 ghost use Rattle.std.specs.Prelude.{◌≡◌, ◌≢◌, ◌<◌, ◌⊎◌, IfErr, IfOk, OnOk};
 ghost use Rattle.std.specs.Io.KnownBytes.{Keeps};
 ghost use Rattle.lrc_script.specs.Prelude.{IsLawful, plan_of};
-ghost use Rattle.runs.specs.Prelude.{IsReportOf};
+ghost use Rattle.conformance.specs.Prelude.{IsReportOf};
 ghost use Rattle.lrc_program.specs.Prelude.{IsAsAsked, IsNoScript, IsPrinted, IsRead, IsServed, IsBeforeOutput};
-ghost use Rattle.lrc_program.specs.Prelude.{IsScripts, IsStatusOf, lock_of};
+ghost use Rattle.lrc_program.specs.Prelude.{IsScripts, IsStatusOf, lock_chosen};
 
 use crate::fault::ProgramFault;
+use conformance::{LockChoice, RunFault, Runs};
 use lrc_options::options::Options;
 use lrc_report::Report;
 use lrc_report::render::render;
 use lrc_script::script::{MOST_BYTES, Script, parse};
-use runs::{Lock, RunFault, Runs};
 use std::alloc::{AllocError, Global};
 use std::io::{Read, Write};
 use std::sync::Wait;
@@ -21,13 +21,13 @@ use std::thread::Threads;
 const MOST_READ: u64 = MOST_BYTES as u64 + 1;
 
 /// The lock that the options ask for.
-fn lock_of(options: &Options) -> Lock
-    ensures { result ≡ lock_of options.now }
+fn lock_of(options: &Options) -> LockChoice
+    ensures { result ≡ lock_chosen options.now }
 {
     if options.ticket {
-        Lock::Ticket
+        LockChoice::Ticket
     } else {
-        Lock::Array
+        LockChoice::Array
     }
 }
 

@@ -1,7 +1,7 @@
 -- The lines of a journal's events, one after another.
 use Rattle.std.proofs.Common.{◌≡◌, ◌∙◌, ◌+◌, ℕ, zero, suc, List, [], ◌∷◌, ◌++◌, add-one, length, take, drop, refl, sym, ap, append_assoc, append-nil, take-append-drop, arith}
 use Rattle.std.specs.Prelude.{Option, Some, slice_get}
-use Rattle.lists.proofs.Places.{take-suc_at}
+use Rattle.base.proofs.Places.{take-suc_at}
 use Rattle.journal.specs.declared.event.Event.{Event}
 use Rattle.lrc_report.specs.ReportText.{event_line, event_lines}
 use Rattle.lrc_report.specs.Writing.{AppendsFront, Passes}

@@ -33,7 +33,7 @@ pub record Passes (old new : Option (List ℕ)) (before after text : List ℕ) :
   pub appends : Appends old new done
 
 -- the text went this way, or after an error a beginning of what was pending and the text was appended
-abbrev pub Takes : {E : Type 0} → Option (List ℕ) → Option (List ℕ) → List ℕ → List ℕ → List ℕ
+abbrev pub WritesThrough : {E : Type 0} → Option (List ℕ) → Option (List ℕ) → List ℕ → List ℕ → List ℕ
     → Result (Unit {0}) E → Type 0
-Takes old new before after text result =
+WritesThrough old new before after text result =
     MatchResult result (λ _. Passes old new before after text) (λ _. AppendsFront old new (before ++ text))

@@ -1,6 +1,6 @@
 //! Bytes that wait to be written, so that many pieces of text are one write.
 ghost use Rattle.std.specs.Prelude.{ℕ, ◌≡◌, ◌≤◌, ◌++◌, ◌-◌, [], List, length, take, OnOk};
-ghost use Rattle.lrc_report.specs.Prelude.{Writes, Takes, most_pending};
+ghost use Rattle.lrc_report.specs.Prelude.{Writes, WritesThrough, most_pending};
 
 use crate::render::OutFault;
 use std::io::Write;
@@ -82,7 +82,7 @@ impl Pending {
     /// Adds the bytes at the end, and writes all that waits where they don't fit. After OutFault a beginning
     /// of what waited and of the bytes was written.
     pub fn take<W: Write>(&mut self, out: &mut W, bytes: &[u8]) -> Result<(), OutFault>
-        ensures { Takes (W.contents out.old) (W.contents out.new) self.old self.new bytes.now result }
+        ensures { WritesThrough (W.contents out.old) (W.contents out.new) self.old self.new bytes.now result }
     {
         if bytes.len() <= self.room() {
             self.push(bytes);

@@ -4,7 +4,7 @@ ghost use Rattle.std.specs.Fmt.{decimal};
 ghost use Rattle.std.specs.List.{flat_map};
 ghost use Rattle.lrc_report.specs.Prelude.{word_line, verdict_line, traffic_line, cut_line, kind_text, event_line};
 ghost use Rattle.lrc_report.specs.Prelude.{event_lines, summary_text, left_text, journal_text, report_text, Writes};
-ghost use Rattle.lrc_report.specs.Prelude.{Takes, most_kind};
+ghost use Rattle.lrc_report.specs.Prelude.{WritesThrough, most_kind};
 
 use crate::line::Line;
 use crate::pending::Pending;
@@ -25,7 +25,7 @@ fn write_word<W: Write>(
     address: usize,
     word: u32,
 ) -> Result<(), OutFault>
-    ensures { Takes (W.contents out.old) (W.contents out.new) pending.old pending.new
+    ensures { WritesThrough (W.contents out.old) (W.contents out.new) pending.old pending.new
         (word_line (address, word)) result }
 {
     let mut line = Line::new();
@@ -40,7 +40,7 @@ fn write_words<W: Write>(
     pending: &mut Pending,
     shown: &[(usize, u32)],
 ) -> Result<(), OutFault>
-    ensures { Takes (W.contents out.old) (W.contents out.new) pending.old pending.new
+    ensures { WritesThrough (W.contents out.old) (W.contents out.new) pending.old pending.new
         (flat_map word_line shown.now) result }
 {
     for (address, word) in shown {
@@ -51,7 +51,7 @@ fn write_words<W: Write>(
 
 /// Writes the line of the verdict.
 fn write_verdict<W: Write>(out: &mut W, pending: &mut Pending, racy: bool) -> Result<(), OutFault>
-    ensures { Takes (W.contents out.old) (W.contents out.new) pending.old pending.new
+    ensures { WritesThrough (W.contents out.old) (W.contents out.new) pending.old pending.new
         (verdict_line racy) result }
 {
     if racy {
@@ -67,7 +67,7 @@ fn write_traffic<W: Write>(
     pending: &mut Pending,
     traffic: Traffic,
 ) -> Result<(), OutFault>
-    ensures { Takes (W.contents out.old) (W.contents out.new) pending.old pending.new
+    ensures { WritesThrough (W.contents out.old) (W.contents out.new) pending.old pending.new
         (traffic_line traffic) result }
 {
     let mut line = Line::new();
@@ -171,7 +171,7 @@ pub fn write_events<W: Write>(
     events: &[Event],
 ) -> Result<(), OutFault>
     requires { first + length events.now < 2 ^ 64 }
-    ensures { Takes (W.contents out.old) (W.contents out.new) pending.old pending.new
+    ensures { WritesThrough (W.contents out.old) (W.contents out.new) pending.old pending.new
         (event_lines first events.now) result }
 {
     let mut line = Line::new();
@@ -184,7 +184,7 @@ pub fn write_events<W: Write>(
 
 /// Writes how many events were cut off, where any was.
 fn write_cut<W: Write>(out: &mut W, pending: &mut Pending, cut: u64) -> Result<(), OutFault>
-    ensures { Takes (W.contents out.old) (W.contents out.new) pending.old pending.new (cut_line cut)
+    ensures { WritesThrough (W.contents out.old) (W.contents out.new) pending.old pending.new (cut_line cut)
         result }
 {
     if cut == 0 {
@@ -201,7 +201,7 @@ fn write_summary<W: Write>(
     pending: &mut Pending,
     report: &Report,
 ) -> Result<(), OutFault>
-    ensures { Takes (W.contents out.old) (W.contents out.new) pending.old pending.new
+    ensures { WritesThrough (W.contents out.old) (W.contents out.new) pending.old pending.new
         (summary_text report.now) result }
 {
     write_words(out, pending, &report.shown)?;
@@ -215,7 +215,7 @@ fn write_left<W: Write>(
     pending: &mut Pending,
     journal: &Journal,
 ) -> Result<(), OutFault>
-    ensures { Takes (W.contents out.old) (W.contents out.new) pending.old pending.new
+    ensures { WritesThrough (W.contents out.old) (W.contents out.new) pending.old pending.new
         (left_text journal.now) result }
 {
     let cut = journal.cut_events();
@@ -231,7 +231,7 @@ fn write_journal<W: Write>(
     report: &Report,
     journal: bool,
 ) -> Result<(), OutFault>
-    ensures { Takes (W.contents out.old) (W.contents out.new) pending.old pending.new
+    ensures { WritesThrough (W.contents out.old) (W.contents out.new) pending.old pending.new
         (journal_text report.now journal) result }
 {
     if journal {

@@ -7,16 +7,16 @@ use Rattle.journal.specs.declared.event.Kind.{Kind}
 use Rattle.journal.specs.declared.event.Kind.TheVariants.{Load, Store, Fetch}
 use Rattle.journal.specs.Did.{event}
 use Rattle.journal.specs.Events.{part}
-use Rattle.follows.specs.Follows.{is_fetch, kinds_of}
-use Rattle.follows.proofs.Calls.{kinds_of-append, kinds_of-one}
+use Rattle.conformance.specs.Follows.{is_fetch, kinds_of}
+use Rattle.conformance.proofs.Calls.{kinds_of-append, kinds_of-one}
 use Rattle.book.specs.declared.refused.Refused.{Refused}
 use Rattle.book.specs.declared.refused.Refused.TheVariants.{OutOfRange, Invalid, Waiting, BlockFull}
-use Rattle.replicas.specs.Local.{Local, calls, noted}
-use Rattle.cluster.specs.Accesses.{IsStored, IsFetched}
+use Rattle.cluster.specs.Copies.Local.{Local, calls, noted}
+use Rattle.cluster.specs.Accesses.{StoreDone, FetchDone}
 use Rattle.cluster.specs.Calls.{IsSameProcessor, IsHandingCall}
-use Rattle.cluster.specs.Refusals.{access_refusal, first_due, has_valid, is_full, is_waiting}
-use Rattle.runs.specs.Fetches.{IsAccessTo}
-use Rattle.runs.proofs.Fetches.{wanted_access}
+use Rattle.cluster.specs.Refusals.{access_refusal, first_due, has_valid, block_full, is_waiting}
+use Rattle.conformance.specs.Fetches.{IsAccessTo}
+use Rattle.conformance.proofs.Fetches.{wanted_access}
 use Rattle.lrc_run.specs.Walks.{Adds, AddsBy, FetchesBy, made, MakesNone, Tries}
 use Rattle.lrc_run.proofs.Making.{makes_one, same_then, sees_call, sees_handed, sees_same, sees_then, wanted_more}
 
@@ -95,7 +95,7 @@ adds_load m n a (Err e) err ok more = adds_none m n err
 
 -- a store
 pub adds_store : {A : Type 0} (m n : Local) (a v : ℕ) (r : Result A Refused) → OnErr r (n ≡ m)
-    → OnOk r (IsStored m a v n) → OnOk r (calls n ≡ calls m ++ event m.number (Store a v) ∷ [])
+    → OnOk r (StoreDone m a v n) → OnOk r (calls n ≡ calls m ++ event m.number (Store a v) ∷ [])
     → AddsBy m n r (λ _. Store a v ∷ [])
 adds_store m n a v (Ok x) err ok more = record {
   same = same_but m n _ ok.after (record { lock = refl; number = refl; sizes = refl });
@@ -107,7 +107,7 @@ adds_store m n a v (Err e) err ok more = adds_none m n err
 
 -- a fetch
 pub fetches_by : {A : Type 0} (m n : Local) (page : ℕ) (r : Result A Refused) → OnErr r (n ≡ m)
-    → OnOk r (IsFetched m page n) → FetchesBy m n r page
+    → OnOk r (FetchDone m page n) → FetchesBy m n r page
 fetches_by m n page (Ok x) err ok = (
   ok.counts.writers,
   ok.counts.records,
@@ -123,7 +123,7 @@ fetches_by m n page (Err e) err ok = adds_none m n err
 
 -- why an access is refused as Invalid is a copy of its page
 pub access_page : (m : Local) (a page : ℕ) → access_refusal m a ≡ Some (Invalid page) → page ≡ a / m.sizes.words
-access_page m a page is = by _ (has_valid m (a / m.sizes.words)) (is_waiting m) (is_full m) is
+access_page m a page is = by _ (has_valid m (a / m.sizes.words)) (is_waiting m) (block_full m) is
   where
     by : (past valid waits full : Bool) → first_due ((past, OutOfRange) ∷ (not valid, Invalid (a / m.sizes.words))
         ∷ (waits, Waiting) ∷ (full, BlockFull) ∷ []) ≡ Some (Invalid page) → page ≡ a / m.sizes.words

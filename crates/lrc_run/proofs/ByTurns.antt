@@ -7,33 +7,33 @@ use Rattle.journal.specs.Events.{part}
 use Rattle.lrc_script.specs.Lawful.{IsLawful}
 use Rattle.lrc_script.specs.Plan.{Plan}
 use Rattle.lrc_report.specs.declared.report.Report.{Report}
-use Rattle.follows.specs.Follows.{calls_of, kinds_of, load_of, sizes_of}
-use Rattle.replicas.specs.Local.{Local}
+use Rattle.conformance.specs.Follows.{calls_of, kinds_of, load_of, plan_sizes}
+use Rattle.cluster.specs.Copies.Local.{Local}
 use Rattle.cluster.specs.Clusters.{AreNew, Shared}
 use Rattle.cluster.specs.Finishing.{IsFinished}
-use Rattle.runs.specs.declared.ended.Ended.{Ended}
-use Rattle.runs.specs.declared.ended.Ended.TheVariants.{Halted, Whole}
-use Rattle.runs.specs.declared.ended.Halt.{Halt}
-use Rattle.runs.specs.declared.progress.Progress.{Progress}
-use Rattle.runs.specs.declared.progress.Progress.TheVariants.{Passed}
-use Rattle.runs.specs.ByTurns.{IsEndBy, IsHaltBy, IsReportBy, orders_of}
-use Rattle.runs.specs.Ends.{IsEndOf}
-use Rattle.runs.specs.Turns.{AreReached, Stage}
+use Rattle.conformance.specs.declared.ended.Ended.{Ended}
+use Rattle.conformance.specs.declared.ended.Ended.TheVariants.{Halted, Whole}
+use Rattle.conformance.specs.declared.ended.Halt.{Halt}
+use Rattle.conformance.specs.declared.progress.TurnProgress.{TurnProgress}
+use Rattle.conformance.specs.declared.progress.TurnProgress.TheVariants.{Passed}
+use Rattle.conformance.specs.ByTurns.{IsEndBy, IsHaltBy, IsReportBy, orders_of}
+use Rattle.conformance.specs.Ends.{IsEndOf}
+use Rattle.conformance.specs.Turns.{AreReached, Stage}
 use Rattle.lrc_run.specs.Endings.{IsReportAfter}
 use Rattle.lrc_run.specs.Turns.{AreTurnedBy, SeesDeadlock}
 use Rattle.lrc_run.proofs.Halting.{IsJournalWith, halted_all, halted_is}
 use Rattle.lrc_run.proofs.Turning.{AllBegin, rounds_told, stage_from, stages_of}
 
 -- by turns from the start on all have come to where they are
-reached : (s : Plan) (c : Shared) (seed : Option ℕ) (h : List Event) (ms ns : List Local) (all : List Progress)
-    → c.sizes ≡ sizes_of s → AreNew c ms → AreTurnedBy c s seed ms ns all → AllBegin ns h
+reached : (s : Plan) (c : Shared) (seed : Option ℕ) (h : List Event) (ms ns : List Local) (all : List TurnProgress)
+    → c.sizes ≡ plan_sizes s → AreNew c ms → AreTurnedBy c s seed ms ns all → AllBegin ns h
     → AreReached s (orders_of s seed) h (stages_of ns all)
 reached s c seed h ms ns all sizes new by begin =
     record { rounds = by.count; turns = rounds_told s c h (orders_of s seed) by.count ms ns all sizes new by.rounds begin }
 
 -- the report of a run by turns: all have passed the closing barrier
-pub report_by : (s : Plan) (c : Shared) (seed : Option ℕ) (ms ns : List Local) (all : List Progress) (r : Report)
-    → c.sizes ≡ sizes_of s → AreNew c ms → AreTurnedBy c s seed ms ns all → All (λ x. x ≡ Passed) all
+pub report_by : (s : Plan) (c : Shared) (seed : Option ℕ) (ms ns : List Local) (all : List TurnProgress) (r : Report)
+    → c.sizes ≡ plan_sizes s → AreNew c ms → AreTurnedBy c s seed ms ns all → All (λ x. x ≡ Passed) all
     → IsReportAfter s r ns → IsReportBy s (orders_of s seed) r
 report_by s c seed ms ns all r sizes new by passed after = record {
   report = after.is;
@@ -50,8 +50,8 @@ report_by s c seed ms ns all r sizes new by passed after = record {
 }
 
 -- the journal of one that is stuck
-pub halt_by : (s : Plan) (c : Shared) (seed : Option ℕ) (ms ns : List Local) (all : List Progress) (halt : Halt)
-    → IsLawful s → c.sizes ≡ sizes_of s → AreNew c ms → AreTurnedBy c s seed ms ns all → SeesDeadlock ns
+pub halt_by : (s : Plan) (c : Shared) (seed : Option ℕ) (ms ns : List Local) (all : List TurnProgress) (halt : Halt)
+    → IsLawful s → c.sizes ≡ plan_sizes s → AreNew c ms → AreTurnedBy c s seed ms ns all → SeesDeadlock ns
     → halt.processor ≡ 0 → IsFinished c.sizes ns halt.journal → IsHaltBy s (orders_of s seed) halt
 halt_by s c seed ms ns all halt lawful sizes new by stuck first finished =
     with_journal (halted_is s c ns all halt.journal lawful sizes by.way stuck finished)

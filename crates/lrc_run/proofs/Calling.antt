@@ -7,15 +7,15 @@ use Rattle.journal.specs.Did.{event}
 use Rattle.journal.specs.Waits.{awaited}
 use Rattle.lrc_script.specs.declared.script.Instruction.{Instruction}
 use Rattle.lrc_script.specs.declared.script.Instruction.TheVariants.{Add, Cut}
-use Rattle.follows.specs.Instructions.{AreEventsOf}
-use Rattle.follows.specs.Follows.{is_fetch, kinds_of}
+use Rattle.conformance.specs.Instructions.{AreEventsOf}
+use Rattle.conformance.specs.Follows.{is_fetch, kinds_of}
 use Rattle.book.specs.declared.refused.Refused.{Refused}
-use Rattle.replicas.specs.Local.{Local}
+use Rattle.cluster.specs.Copies.Local.{Local}
 use Rattle.cluster.specs.Calls.{IsCall}
 use Rattle.cluster.specs.Closing.{IsClosedBy}
 use Rattle.cluster.specs.Cutting.{IsCuttingCall}
 use Rattle.cluster.specs.Refusals.{flush_refusal}
-use Rattle.lrc_run.specs.Walks.{made, Makes, SeesMore, Tries, Does, Begins}
+use Rattle.lrc_run.specs.Walks.{made, MadeCalls, SeesMore, Tries, DidInstruction, Begins}
 use Rattle.lrc_run.proofs.Making.{begins_by, closes, does_by, makes_but, sees_after, sees_refused, sees_same, wanted_same}
 
 -- a call that begins an instruction
@@ -30,13 +30,13 @@ begun_call k last i m n (Err e) plain are next call = tt
 -- and one that does it
 pub done_call : {A : Type 0} {first : Option Refused} {many : ℕ} {absent : Local → Type 0} (k : Kind)
     (i : Instruction) (m n : Local) (r : Result A Refused) → is_fetch k ≡ false → AreEventsOf i (k ∷ [])
-    → IsCall first many absent (IsClosedBy k) (event m.number k ∷ []) m n (result_err r) → OnOk r (Does m n i)
+    → IsCall first many absent (IsClosedBy k) (event m.number k ∷ []) m n (result_err r) → OnOk r (DidInstruction m n i)
 done_call k i m n (Ok x) plain are call = does_by k i m n are (closes k m n (Ok x) plain refl call)
 done_call k i m n (Err e) plain are call = tt
 
 -- a call that makes just the instruction's events does it
 pub done_tries : {A : Type 0} (kinds : List Kind) (i : Instruction) (m n : Local) (r : Result A Refused)
-    → AreEventsOf i kinds → Tries m n r (λ _. kinds) → OnOk r (Does m n i)
+    → AreEventsOf i kinds → Tries m n r (λ _. kinds) → OnOk r (DidInstruction m n i)
 done_tries kinds i m n (Ok x) are tries = record { kinds = kinds; are = are; makes = makes_but tries }
 done_tries kinds i m n (Err e) are tries = tt
 
@@ -51,7 +51,7 @@ sees_cut refused m n call = by refused (flush_refusal m) refl refl
     by (Some e) None is before = sees_refused m n (call.err e before is).0
 
 -- a cut is done, whatever it answers
-pub cut_does : {refused : Option Refused} (m n : Local) → IsCuttingCall m n refused → Does m n Cut
+pub cut_does : {refused : Option Refused} (m n : Local) → IsCuttingCall m n refused → DidInstruction m n Cut
 cut_does {refused} m n call = record {
   kinds = [];
   are = refl;
@@ -65,13 +65,13 @@ cut_does {refused} m n call = record {
 }
 
 pub done_cut : {A : Type 0} (m n : Local) (r : Result A Refused) → IsCuttingCall m n (result_err r)
-    → OnOk r (Does m n Cut)
+    → OnOk r (DidInstruction m n Cut)
 done_cut m n (Ok x) call = cut_does m n call
 done_cut m n (Err e) call = tt
 
 -- a load and the store of a sum do an addition
 pub done_add : {A : Type 0} (a v : ℕ) (m n : Local) (r : Result A Refused)
-    → OnOk r ((reply : ℕ) × Makes m n (Load a reply ∷ Store a ((reply + v) % 2 ^ 32) ∷ [])) → OnOk r (Does m n (Add a v))
+    → OnOk r ((reply : ℕ) × MadeCalls m n (Load a reply ∷ Store a ((reply + v) % 2 ^ 32) ∷ [])) → OnOk r (DidInstruction m n (Add a v))
 done_add a v m n (Ok x) made =
     record {
       kinds = Load a made.0 ∷ Store a ((made.0 + v) % 2 ^ 32) ∷ [];

@@ -6,7 +6,7 @@ use Rattle.std.proofs.lemmas.Bool.{cases_eq, cond-false}
 use Rattle.std.proofs.lemmas.List.{length-set}
 use Rattle.std.proofs.lemmas.List.Sums.{sum_by-append, sum_by-cons}
 use Rattle.std.proofs.lemmas.Option.{same_Some, slice_get_within, slice_get-get_or, slice_get_read}
-use Rattle.lists.proofs.Sets.{slice_get-set_found, slice_get-set_other, slice_get-set_same}
+use Rattle.base.proofs.Sets.{slice_get-set_found, slice_get-set_other, slice_get-set_same}
 use Rattle.journal.specs.declared.event.Event.{Event}
 use Rattle.journal.specs.declared.event.Kind.TheVariants.{Arrive, Depart}
 use Rattle.journal.specs.declared.event.Kind.{Kind}
@@ -17,23 +17,23 @@ use Rattle.journal.specs.Counted.{AreCounted}
 use Rattle.journal.specs.Events.{part}
 use Rattle.journal.specs.RacesFrom.{IsFirstRaceFrom, RaceFreeFrom}
 use Rattle.journal.specs.Sizes.{Sizes, addresses}
-use Rattle.journal.specs.Traffic.{messages, messages_of, records, records_of, words, words_of}
+use Rattle.journal.specs.Traffic.{messages, messages_of, records, records_of, words, words_fetched}
 use Rattle.journal.specs.WellFormed.{WellFormed}
 use Rattle.journal.proofs.Bases.Whole.{same_law}
 use Rattle.lrc_script.specs.declared.script.Instruction.{Instruction}
 use Rattle.lrc_script.specs.Lawful.{IsLawful}
 use Rattle.lrc_script.specs.Plan.{Plan}
-use Rattle.follows.specs.Follows.{Follows, calls_of, kinds_of, load_of, sizes_of}
-use Rattle.follows.proofs.Recomputing.Recomputed.{recomputed_law, race_free_law}
-use Rattle.replicas.specs.Local.{Local}
+use Rattle.conformance.specs.Follows.{Follows, calls_of, kinds_of, load_of, plan_sizes}
+use Rattle.conformance.proofs.Recomputing.Recomputed.{recomputed_law, race_free_law}
+use Rattle.cluster.specs.Copies.Local.{Local}
 use Rattle.cluster.specs.Clusters.{Shared}
 use Rattle.cluster.specs.Finishing.{AreAllOf, HasCallsOf, IsFinished, IsProcessorOf}
 use Rattle.lrc_report.specs.declared.report.Report.{Report}
-use Rattle.runs.specs.Cuts.{HasNoCut}
+use Rattle.conformance.specs.Cuts.{HasNoCut}
 use Rattle.lrc_run.specs.Endings.{HasFollowed, HaveFollowed, IsBeginning, IsReportAfter, IsReportWith}
 use Rattle.lrc_run.specs.Laws.{RaceFreeReportLaw}
-use Rattle.runs.specs.Fetches.{FetchesAreWanted}
-use Rattle.runs.specs.Reports.{FetchesAreNeeded, HasRace}
+use Rattle.conformance.specs.Fetches.{FetchesAreWanted}
+use Rattle.conformance.specs.Reports.{FetchesAreNeeded, HasRace}
 use Rattle.lrc_run.specs.Walks.{AreWalked, AreWanted, Loads, SeesMore, Walks, made, new_at}
 
 -- one that walked is its cluster's
@@ -70,7 +70,7 @@ loads_made section m n shown walked loads = record {
 }
 
 -- a script's processor has a section
-pub walks_at : (s : Plan) (c : Shared) (ms : List Local) → IsLawful s → c.sizes ≡ sizes_of s → AreWalked c s.sections ms
+pub walks_at : (s : Plan) (c : Shared) (ms : List Local) → IsLawful s → c.sizes ≡ plan_sizes s → AreWalked c s.sections ms
     → (p : ℕ) (m : Local) → slice_get ms p ≡ Some m → (section : List Instruction) × Walks (new_at c p) m section
 walks_at s c ms lawful sizes walked p m here =
     let within = slice_get_within ms p m here in
@@ -82,7 +82,7 @@ walks_at s c ms lawful sizes walked p m here =
     (section, walked.each p section m (slice_get-get_or s.sections p [] below) here)
 
 -- a script has a processor 0
-pub first_at : (s : Plan) (c : Shared) (ms : List Local) (m : Local) → IsLawful s → c.sizes ≡ sizes_of s
+pub first_at : (s : Plan) (c : Shared) (ms : List Local) (m : Local) → IsLawful s → c.sizes ≡ plan_sizes s
     → AreWalked c s.sections ms → m ≡ get_or ms 0 m → slice_get ms 0 ≡ Some m
 first_at s c ms m lawful sizes walked is =
     let some = lawful.but_uneven.sizes.some_processors in
@@ -92,7 +92,7 @@ first_at s c ms m lawful sizes walked is =
 
 -- all have walked, and processor 0 has loaded what is shown
 pub have_followed : (s : Plan) (c : Shared) (ms : List Local) (m n : Local) (shown : List (ℕ × ℕ)) → IsLawful s
-    → c.sizes ≡ sizes_of s → AreWalked c s.sections ms → slice_get ms 0 ≡ Some m → Loads m n shown
+    → c.sizes ≡ plan_sizes s → AreWalked c s.sections ms → slice_get ms 0 ≡ Some m → Loads m n shown
     → map (λ (x : ℕ × ℕ). x.0) shown ≡ s.shown → HaveFollowed s c (slice_set ms 0 n) shown
 have_followed s c ms m n shown lawful sizes walked at loads shows = record {
   lawful = lawful;
@@ -167,7 +167,7 @@ follows_all s c ms shown h all has p section at = record {
     shows false = refl
 
 -- a history with the calls of processors whose fetches are wanted fetches only what accesses want
-pub needed_all : (s : Plan) (c : Shared) (ms : List Local) (h : List Event) → c.sizes ≡ sizes_of s → AreAllOf c ms
+pub needed_all : (s : Plan) (c : Shared) (ms : List Local) (h : List Event) → c.sizes ≡ plan_sizes s → AreAllOf c ms
     → ((p : ℕ) (m : Local) → slice_get ms p ≡ Some m → HasCallsOf h m)
     → ((p : ℕ) (m : Local) → slice_get ms p ≡ Some m → AreWanted m) → FetchesAreNeeded s h
 needed_all s c ms h sizes all has wanted p less =
@@ -295,7 +295,7 @@ report_is s c ms r o all finished race racy messages_are records_are words_are =
           base.after.messages_are ∙ ap messages (sym whole);
       records_are = counts (λ e. records_of e.kind) taken left r.traffic.records r.journal.base.spent.records records_are
           base.after.records_are ∙ ap records (sym whole);
-      words_are = counts (λ e. words_of e.kind) taken left r.traffic.words r.journal.base.spent.words words_are
+      words_are = counts (λ e. words_fetched e.kind) taken left r.traffic.words r.journal.base.spent.words words_are
           base.after.words_are ∙ ap words (sym whole);
     };
   };
@@ -317,7 +317,7 @@ report_is s c ms r o all finished race racy messages_are records_are words_are =
     base : IsBaseOf r.journal.processors r.journal.addresses taken r.journal.base
     base = finished.journal.holds.base
 
-    well_formed : WellFormed (sizes_of s) h
+    well_formed : WellFormed (plan_sizes s) h
     well_formed = subst (λ (x : Sizes). WellFormed x h) all.sizes finished.faithful.well_formed
 
     same : SaysTheSame c.sizes r.journal.base taken left
@@ -340,7 +340,7 @@ begins_less m x h sees begins = (
 
 -- of the processors as they were before processor 0 loaded what is shown
 pub report_after : (s : Plan) (c : Shared) (ms : List Local) (m n : Local) (r : Report) → IsLawful s
-    → c.sizes ≡ sizes_of s → AreWalked c s.sections ms → slice_get ms 0 ≡ Some m → Loads m n r.shown.items
+    → c.sizes ≡ plan_sizes s → AreWalked c s.sections ms → slice_get ms 0 ≡ Some m → Loads m n r.shown.items
     → IsReportWith s r (slice_set ms 0 n) → IsReportAfter s r ms
 report_after s c ms m n r lawful sizes walked at loads told =
     record { is = told.is; begin = begin; calls_are = calls_are }

@@ -4,8 +4,8 @@ use Rattle.std.specs.List.{range_with_len, swap}
 use Rattle.std.proofs.lemmas.List.FromFn.{get_or-range_with_len, length-range_with_len}
 use Rattle.rand_pcg.specs.Lcg.{Lcg}
 use Rattle.rand_pcg.specs.Pcg.{pcg32}
-use Rattle.runs.specs.Orders.{exchanged}
-use Rattle.lrc_run.specs.Orders.{AreBelow}
+use Rattle.conformance.specs.Orders.{exchanged}
+use Rattle.lrc_run.specs.Orders.{AreProcessors}
 
 -- one exchange
 pub exchanged-step : (i : ℕ) (g : Lcg) (xs : List ℕ) → 0 < i
@@ -22,11 +22,11 @@ unfolding exchanged
 exchanged-none i g xs e = ap (λ k. exchanged k g xs) e
 
 -- rising numbers are below their count
-pub rising_below : (n : ℕ) (xs : List ℕ) → xs ≡ range_with_len 0 n → AreBelow n xs × (length xs ≡ n)
+pub rising_below : (n : ℕ) (xs : List ℕ) → xs ≡ range_with_len 0 n → AreProcessors n xs × (length xs ≡ n)
 rising_below n xs is =
-    (subst (AreBelow n) (sym is) (each n), ap length is ∙ length-range_with_len 0 n)
+    (subst (AreProcessors n) (sym is) (each n), ap length is ∙ length-range_with_len 0 n)
   where
-    each : (n : ℕ) → AreBelow n (range_with_len 0 n)
+    each : (n : ℕ) → AreProcessors n (range_with_len 0 n)
     each n k d less =
         let within : k < n = omega (arith, less, length-range_with_len 0 n) in
         omega (arith, within, get_or-range_with_len 0 n k d within)

@@ -3,7 +3,7 @@ use Rattle.std.proofs.Common.{ℕ, ◌≡◌, ◌≢◌, ◌+◌, ◌<◌, inl, 
 use Rattle.std.specs.Result.{IfErr, IfOk, MatchResult, is_ok}
 use Rattle.std.proofs.lemmas.Bool.{cases_lt}
 use Rattle.std.proofs.lemmas.List.{map-append}
-use Rattle.runs.specs.declared.cause.Cause.{Cause}
+use Rattle.conformance.specs.declared.cause.Cause.{Cause}
 use Rattle.lrc_run.specs.Faults.{is_stuck, Failed, IsFirstSo}
 
 -- none below a place failed so

@@ -5,7 +5,7 @@ use Rattle.std.proofs.Math.Seq.{take-append_seam, take-length}
 use Rattle.std.proofs.lemmas.Bool.{ltb-true, ltb-false}
 use Rattle.std.proofs.lemmas.List.{get_or_past}
 use Rattle.std.proofs.lemmas.Option.{slice_get-get_or, slice_get_within}
-use Rattle.lists.proofs.Places.{slice_get-append_right, slice_get-from_take}
+use Rattle.base.proofs.Places.{slice_get-append_right, slice_get-from_take}
 use Rattle.journal.specs.declared.event.Event.{Event}
 use Rattle.journal.specs.declared.event.Kind.TheVariants.{Arrive, Depart}
 use Rattle.journal.specs.declared.event.Kind.{Kind}
@@ -20,18 +20,18 @@ use Rattle.lrc_script.specs.declared.script.Instruction.{Instruction}
 use Rattle.lrc_script.specs.declared.script.Instruction.TheVariants.{Barrier, Cut}
 use Rattle.lrc_script.specs.Lawful.{IsLawful}
 use Rattle.lrc_script.specs.Plan.{Plan}
-use Rattle.follows.specs.Begins.{BeginsScript, BeginsSection}
-use Rattle.follows.specs.Follows.{calls_of, kinds_of, sizes_of}
-use Rattle.follows.specs.Instructions.{AreEventsOf, AreEventsOfAll}
-use Rattle.follows.proofs.Beginnings.{begins_after, begins_front, begins_whole, begins_within}
-use Rattle.replicas.specs.Local.{Local}
+use Rattle.conformance.specs.Begins.{BeginsScript, BeginsSection}
+use Rattle.conformance.specs.Follows.{calls_of, kinds_of, plan_sizes}
+use Rattle.conformance.specs.Instructions.{AreEventsOf, AreEventsOfAll}
+use Rattle.conformance.proofs.Beginnings.{begins_after, begins_front, begins_whole, begins_within}
+use Rattle.cluster.specs.Copies.Local.{Local}
 use Rattle.cluster.specs.Clusters.{Shared}
 use Rattle.cluster.specs.Finishing.{AreAllOf, HasCallsOf, IsFinished, IsProcessorOf}
-use Rattle.runs.specs.Cuts.{HasCut, HasNoCut}
-use Rattle.runs.specs.Ends.{IsJournalSoFar}
-use Rattle.runs.specs.declared.progress.Progress.{Progress}
-use Rattle.runs.specs.declared.progress.Progress.TheVariants.{Next, Passed, Waits}
-use Rattle.runs.specs.Turns.{instruction_at}
+use Rattle.conformance.specs.Cuts.{HasCut, HasNoCut}
+use Rattle.conformance.specs.Ends.{IsJournalSoFar}
+use Rattle.conformance.specs.declared.progress.TurnProgress.{TurnProgress}
+use Rattle.conformance.specs.declared.progress.TurnProgress.TheVariants.{Next, Passed, Waits}
+use Rattle.conformance.specs.Turns.{instruction_at}
 use Rattle.lrc_run.specs.Steps.{AreOnTheirWay, IsAt}
 use Rattle.lrc_run.specs.Turns.{SeesDeadlock}
 use Rattle.lrc_run.specs.Walks.{AreWanted, made, new_at}
@@ -43,7 +43,7 @@ cut_of_front : (n : ℕ) (section : List Instruction) → HasCut (take n section
 cut_of_front n section cut = (cut.0, slice_get-from_take section n cut.0 Cut cut.1)
 
 -- whoever is on its way cut nothing off but by a cut of its section
-at_uncut : (c : Shared) (p : ℕ) (m : Local) (section : List Instruction) (at : Progress) → IsAt (new_at c p) m section at
+at_uncut : (c : Shared) (p : ℕ) (m : Local) (section : List Instruction) (at : TurnProgress) → IsAt (new_at c p) m section at
     → ¬ HasCut section → m.own_cut ≡ 0
 at_uncut c p m section (Next n) is none = is.0.makes.uncut (λ cut. none (cut_of_front n section cut))
 at_uncut c p m section (Waits n) is none =
@@ -51,7 +51,7 @@ at_uncut c p m section (Waits n) is none =
 at_uncut c p m section Passed is none = is.makes.uncut none
 
 -- and its fetches are wanted
-at_wanted : (c : Shared) (p : ℕ) (m : Local) (section : List Instruction) (at : Progress)
+at_wanted : (c : Shared) (p : ℕ) (m : Local) (section : List Instruction) (at : TurnProgress)
     → IsAt (new_at c p) m section at → AreWanted m
 at_wanted c p m section (Next n) is = is.0.makes.wanted tt
 at_wanted c p m section (Waits n) is = is.0.begins.makes.wanted (is.0.done.makes.wanted tt)
@@ -79,7 +79,7 @@ waits_begins section shown n kinds first last within are two = cases (nat_lt n (
         (begins_whole section shown kinds whole))
 
 -- and what it made begins its section
-at_begins : (c : Shared) (p : ℕ) (m : Local) (section : List Instruction) (shown : List ℕ) (at : Progress)
+at_begins : (c : Shared) (p : ℕ) (m : Local) (section : List Instruction) (shown : List ℕ) (at : TurnProgress)
     → IsAt (new_at c p) m section at → BeginsSection section shown (made m)
 at_begins c p m section shown (Next n) is =
     let P : List Kind → Type 0 = BeginsSection section shown in
@@ -95,9 +95,9 @@ at_begins c p m section shown (Waits n) is =
     begun.begins.are)
 
 -- each of the script's processors has a section, and is somewhere on its way through it
-at_of : (s : Plan) (c : Shared) (ms : List Local) (all : List Progress) → IsLawful s → c.sizes ≡ sizes_of s
+at_of : (s : Plan) (c : Shared) (ms : List Local) (all : List TurnProgress) → IsLawful s → c.sizes ≡ plan_sizes s
     → AreOnTheirWay c s.sections ms all → (p : ℕ) (m : Local) → slice_get ms p ≡ Some m
-    → (section : List Instruction) × (at : Progress) × (slice_get s.sections p ≡ Some section)
+    → (section : List Instruction) × (at : TurnProgress) × (slice_get s.sections p ≡ Some section)
     × IsAt (new_at c p) m section at
 at_of s c ms all lawful sizes way p m here =
     let within = slice_get_within ms p m here in
@@ -114,7 +114,7 @@ at_of s c ms all lawful sizes way p m here =
     (section, at, its, way.each p section m at its here there)
 
 -- they are all of the cluster
-pub halted_all : (s : Plan) (c : Shared) (ms : List Local) (all : List Progress) → IsLawful s → c.sizes ≡ sizes_of s
+pub halted_all : (s : Plan) (c : Shared) (ms : List Local) (all : List TurnProgress) → IsLawful s → c.sizes ≡ plan_sizes s
     → AreOnTheirWay c s.sections ms all → AreAllOf c ms
 halted_all s c ms all lawful sizes way = record { all = way.many; each = each }
   where
@@ -141,7 +141,7 @@ pub record IsJournalWith (s : Plan) (j : Log) (ms : List Local) : Type 0 where
   pub each : (p : ℕ) (m : Local) → slice_get ms p ≡ Some m → HasCallsOf is.history m
 
 -- the journal of a finished cluster whose processors are on their way
-pub halted_is : (s : Plan) (c : Shared) (ms : List Local) (all : List Progress) (j : Log) → IsLawful s → c.sizes ≡ sizes_of s
+pub halted_is : (s : Plan) (c : Shared) (ms : List Local) (all : List TurnProgress) (j : Log) → IsLawful s → c.sizes ≡ plan_sizes s
     → AreOnTheirWay c s.sections ms all → SeesDeadlock ms → IsFinished c.sizes ms j → IsJournalWith s j ms
 halted_is s c ms all j lawful sizes way stuck finished = record {
   is = record {
@@ -164,15 +164,15 @@ halted_is s c ms all j lawful sizes way stuck finished = record {
     h : List Event
     h = finished.history
 
-    well_formed : WellFormed (sizes_of s) h
+    well_formed : WellFormed (plan_sizes s) h
     well_formed = subst (λ (x : Sizes). WellFormed x h) sizes finished.faithful.well_formed
 
-    deadlock : IsDeadlock (sizes_of s) h
+    deadlock : IsDeadlock (plan_sizes s) h
     deadlock =
         let m = stuck.0 in
         let own = (halted_all s c ms all lawful sizes way).each 0 m stuck.1 in
         let P : Sizes → Type 0 = λ x. IsDeadlock x m.seen in
-        deadlock_last (sizes_of s) h m.seen well_formed (finished.each 0 m stuck.1).begins
+        deadlock_last (plan_sizes s) h m.seen well_formed (finished.each 0 m stuck.1).begins
         (subst P (own.sizes ∙ sizes) stuck.2)
 
     own : HasNoCut s → (p : ℕ) (m : Local) → slice_get ms p ≡ Some m → m.own_cut ≡ 0

@@ -2,12 +2,12 @@
 use Rattle.std.proofs.Common.{ℕ, IfSome, zero, suc, map, ◌≡◌, inl, inr, Option, Some, None, List, [], ◌∷◌, ◌++◌, Result, Ok, length, slice_get, refl, sym, ap, subst, subst₂, ◌∙◌, arith}
 use Rattle.std.proofs.lemmas.List.{length_push}
 use Rattle.std.proofs.lemmas.Option.{none-some, slice_get_cases, slice_get_within, same_Some}
-use Rattle.lists.proofs.Places.{push_cases, slice_get-append_left, slice_get-last}
+use Rattle.base.proofs.Places.{push_cases, slice_get-append_left, slice_get-last}
 use Rattle.lrc_script.specs.declared.script.Instruction.{Instruction}
-use Rattle.replicas.specs.Local.{Local}
+use Rattle.cluster.specs.Copies.Local.{Local}
 use Rattle.cluster.specs.Clusters.{Shared, AreNew}
-use Rattle.runs.specs.declared.cause.Cause.{Cause}
-use Rattle.lrc_run.specs.Threads.{Errand, AreOutcomes, AreOutcomesOf, AreStarted, IsOutcomeOf}
+use Rattle.conformance.specs.declared.cause.Cause.{Cause}
+use Rattle.lrc_run.specs.Threads.{Errand, AreThreadResults, AreThreadResultsOf, AreStarted, IsThreadResultOf}
 use Rattle.lrc_run.specs.Walks.{AreWalked, Walks, new_at}
 
 -- the item behind a front
@@ -21,8 +21,8 @@ behind {A} front rest all x is = subst (λ (ys : List A). slice_get ys (length f
 
 -- one thread more, and what it gave back
 pub outcomes_more : (threads : List (Option Errand)) (outcomes : List (Result Local Cause)) (thread : Option Errand)
-    (outcome : Result Local Cause) → AreOutcomesOf threads outcomes → IsOutcomeOf thread outcome
-    → AreOutcomesOf (threads ++ thread ∷ []) (outcomes ++ outcome ∷ [])
+    (outcome : Result Local Cause) → AreThreadResultsOf threads outcomes → IsThreadResultOf thread outcome
+    → AreThreadResultsOf (threads ++ thread ∷ []) (outcomes ++ outcome ∷ [])
 outcomes_more threads outcomes thread outcome were is = record {
   all = let a = length_push outcomes outcome in let b = length_push threads thread in let c = were.all in omega arith;
   each = λ p t o at there. elim (push_cases threads thread p t at) [
@@ -32,7 +32,7 @@ outcomes_more threads outcomes thread outcome were is = record {
     ]
     | inr last ↦ elim (push_cases outcomes outcome p o there) [
       | inl was ↦ absurd (let a = were.all in omega (arith, last.0, was.0))
-      | inr new ↦ subst₂ IsOutcomeOf last.1 new.1 is
+      | inr new ↦ subst₂ IsThreadResultOf last.1 new.1 is
     ]
   ];
 }
@@ -64,7 +64,7 @@ started_more ms sections threads m section thread were at is = record {
 -- what came of the threads is what came of the processors of the cluster
 pub outcomes_of : (c : Shared) (ms : List Local) (sections : List (List Instruction)) (threads : List (Option Errand))
     (outcomes : List (Result Local Cause)) → AreNew c ms → AreStarted ms sections threads
-    → AreOutcomesOf threads outcomes → AreOutcomes c sections outcomes
+    → AreThreadResultsOf threads outcomes → AreThreadResults c sections outcomes
 outcomes_of c ms sections threads outcomes new started are = record {
   all = are.all ∙ started.all ∙ new.all;
   each = λ p section m at there. elim (slice_get_cases threads p).1 [
@@ -88,7 +88,7 @@ oks ms = map Ok ms
 -- where none failed, all have walked
 pub all_walked : (c : Shared) (sections : List (List Instruction)) (outcomes : List (Result Local Cause))
     (ms : List Local)
-    → AreOutcomes c sections outcomes → map Ok ms ≡ outcomes → AreWalked c sections ms
+    → AreThreadResults c sections outcomes → map Ok ms ≡ outcomes → AreWalked c sections ms
 all_walked c sections outcomes ms are is = record {
   all = sym (oks_length ms) ∙ ap (λ (os : List (Result Local Cause)). length os) is ∙ are.all;
   each = λ p section m at there. are.each p section m at

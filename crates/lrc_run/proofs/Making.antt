@@ -3,7 +3,7 @@ use Rattle.std.proofs.Common.{ℕ, Bool, inl, inr, ◌≡◌, Option, Some, None
 use Rattle.std.specs.Prelude.{not}
 use Rattle.std.specs.Result.{result_err}
 use Rattle.std.proofs.lemmas.Option.{slice_get_within}
-use Rattle.lists.proofs.Places.{slice_get-append_left, slice_get-last}
+use Rattle.base.proofs.Places.{slice_get-append_left, slice_get-last}
 use Rattle.journal.specs.declared.event.Event.{Event}
 use Rattle.journal.specs.declared.event.Kind.{Kind}
 use Rattle.journal.specs.Did.{event}
@@ -11,22 +11,22 @@ use Rattle.journal.specs.Sizes.{Sizes}
 use Rattle.journal.specs.Waits.{awaited}
 use Rattle.lrc_script.specs.declared.script.Instruction.{Instruction}
 use Rattle.lrc_script.specs.declared.script.Instruction.TheVariants.{Barrier, Cut}
-use Rattle.follows.specs.Instructions.{AreEventsOf}
-use Rattle.follows.specs.Follows.{is_fetch, kinds_of}
-use Rattle.follows.proofs.Calls.{kinds_of-append, kinds_of-one}
-use Rattle.follows.proofs.Instructions.{NoFetch, all-push, no_fetch_one}
+use Rattle.conformance.specs.Instructions.{AreEventsOf}
+use Rattle.conformance.specs.Follows.{is_fetch, kinds_of}
+use Rattle.conformance.proofs.Calls.{kinds_of-append, kinds_of-one}
+use Rattle.conformance.proofs.Instructions.{NoFetch, all-push, no_fetch_one}
 use Rattle.book.specs.declared.refused.Refused.{Refused}
 use Rattle.book.specs.declared.refused.Refused.TheVariants.{NoMemory, NotYet, NothingAwaited, SeatSpent}
-use Rattle.replicas.specs.Local.{Local, calls}
+use Rattle.cluster.specs.Copies.Local.{Local, calls}
 use Rattle.cluster.specs.Calls.{IsSame, IsSameProcessor, IsCall, IsHanded, IsRefusedInside}
 use Rattle.cluster.specs.Closing.{IsClosedBy}
-use Rattle.cluster.specs.Entering.{IsAfter, entered}
+use Rattle.cluster.specs.Entering.{EnteredAndDid, entered}
 use Rattle.cluster.specs.Refusals.{is_spent, is_waiting, or_spent, take_test}
 use Rattle.cluster.specs.Taking.{IsLate, IsTaken, IsTakingCall, awaited_event}
-use Rattle.runs.specs.Cuts.{HasCut}
-use Rattle.runs.specs.Fetches.{FetchesAreWanted}
-use Rattle.runs.proofs.Fetches.{wanted-append, wanted_one}
-use Rattle.lrc_run.specs.Walks.{AreWanted, made, Makes, MakesBut, SeesMore, Tries, Does, Begins, IsOnItsWay, Takes, DoesAll, Walks}
+use Rattle.conformance.specs.Cuts.{HasCut}
+use Rattle.conformance.specs.Fetches.{FetchesAreWanted}
+use Rattle.conformance.proofs.Fetches.{wanted-append, wanted_one}
+use Rattle.lrc_run.specs.Walks.{AreWanted, made, MadeCalls, MakesBut, SeesMore, Tries, DidInstruction, Begins, IsOnItsWay, TriedTake, DoesAll, Walks}
 
 pub same_then : (l m n : Local) → IsSameProcessor l m → IsSameProcessor m n → IsSameProcessor l n
 same_then l m n a b = record { lock = b.lock ∙ a.lock; number = b.number ∙ a.number; sizes = b.sizes ∙ a.sizes }
@@ -58,7 +58,7 @@ wanted_more m n es same e more was =
     (wanted-append m.sizes.words (calls m) es was more)
 
 -- a processor that is as it was has made no call
-pub makes_none : (m n : Local) → n ≡ m → Makes m n []
+pub makes_none : (m n : Local) → n ≡ m → MadeCalls m n []
 makes_none m n e = record {
   same = same_none m n e;
   sees = sees_same m n (ap (λ (x : Local). x.seen) e);
@@ -69,7 +69,7 @@ makes_none m n e = record {
 
 -- nor one whose calls are as they were
 pub makes_same : (m n : Local) → IsSameProcessor m n → SeesMore m n → calls n ≡ calls m → n.own_cut ≡ m.own_cut
-    → Makes m n []
+    → MadeCalls m n []
 makes_same m n same sees e uncut = record {
   same = same;
   sees = sees;
@@ -80,7 +80,7 @@ makes_same m n same sees e uncut = record {
 
 -- one more event is one more call
 pub makes_one : (m n : Local) (k : Kind) → is_fetch k ≡ false → IsSameProcessor m n → SeesMore m n
-    → calls n ≡ calls m ++ event m.number k ∷ [] → n.own_cut ≡ m.own_cut → Makes m n (k ∷ [])
+    → calls n ≡ calls m ++ event m.number k ∷ [] → n.own_cut ≡ m.own_cut → MadeCalls m n (k ∷ [])
 makes_one m n k is same sees e uncut = record {
   same = same;
   sees = sees;
@@ -91,7 +91,7 @@ makes_one m n k is same sees e uncut = record {
 }
 
 -- what was made first, and then
-pub makes_then : (l m n : Local) (xs ys : List Kind) → Makes l m xs → Makes m n ys → Makes l n (xs ++ ys)
+pub makes_then : (l m n : Local) (xs ys : List Kind) → MadeCalls l m xs → MadeCalls m n ys → MadeCalls l n (xs ++ ys)
 makes_then l m n xs ys first next = record {
   same = same_then l m n first.same next.same;
   sees = sees_then l m n first.sees next.sees;
@@ -101,7 +101,7 @@ makes_then l m n xs ys first next = record {
 }
 
 -- what cuts nothing off doesn't where it may
-pub makes_but : {cuts : Type 0} {m n : Local} {kinds : List Kind} → Makes m n kinds → MakesBut cuts m n kinds
+pub makes_but : {cuts : Type 0} {m n : Local} {kinds : List Kind} → MadeCalls m n kinds → MakesBut cuts m n kinds
 makes_but makes = record {
   same = makes.same;
   sees = makes.sees;
@@ -138,12 +138,12 @@ sees_taken m n taken = (event m.number taken.kind ∷ [], ap (λ (x : Local). x.
 
 -- a call that entered has seen what it found there, and what it did
 pub sees_after : {done : Local → Local → Type 0} (m n : Local) → ((a b : Local) → done a b → SeesMore a b)
-    → IsAfter done m n → SeesMore m n
+    → EnteredAndDid done m n → SeesMore m n
 sees_after m n sees after =
     sees_then m (entered m after.rest after.cut) n (after.rest, refl) (sees (entered m after.rest after.cut) n after.after)
 
 -- and one that did nothing there what it found
-pub sees_refused : (m n : Local) → IsAfter IsSame m n → SeesMore m n
+pub sees_refused : (m n : Local) → EnteredAndDid IsSame m n → SeesMore m n
 sees_refused m n after = (after.rest, ap (λ (x : Local). x.seen) after.after.same)
 
 -- so has each call, whatever it answers
@@ -170,7 +170,7 @@ tries_same m n (Err e) kinds h = h.same
 pub closes : {A : Type 0} {first : Option Refused} {many : ℕ} {absent : Local → Type 0} (k : Kind)
     (m n : Local) (r : Result A Refused) {x : A} → is_fetch k ≡ false → r ≡ Ok x
     → IsCall first many absent (IsClosedBy k) (event m.number k ∷ []) m n (result_err r)
-    → Makes m n (k ∷ []) × (n.block ≡ []) × (n.awaits ≡ awaited k)
+    → MadeCalls m n (k ∷ []) × (n.block ≡ []) × (n.awaits ≡ awaited k)
 closes {A} {first} {many} {absent} k m n r {x} plain is call =
     let none : result_err r ≡ None = rw is refl in
     let done = call.ok none in
@@ -182,13 +182,13 @@ closes {A} {first} {many} {absent} k m n r {x} plain is call =
 
 -- by it an instruction is begun
 pub begins_by : (k last : Kind) (i : Instruction) (m n : Local) → AreEventsOf i (k ∷ last ∷ []) → awaited k ≡ Some last
-    → Makes m n (k ∷ []) × (n.block ≡ []) × (n.awaits ≡ awaited k) → Begins m n i
+    → MadeCalls m n (k ∷ []) × (n.block ≡ []) × (n.awaits ≡ awaited k) → Begins m n i
 begins_by k last i m n are next made =
     record { first = k; last = last; are = are; makes = made.0; handed = made.1; awaits = made.2 ∙ next }
 
 -- or done
 pub does_by : (k : Kind) (i : Instruction) (m n : Local) → AreEventsOf i (k ∷ [])
-    → Makes m n (k ∷ []) × (n.block ≡ []) × (n.awaits ≡ awaited k) → Does m n i
+    → MadeCalls m n (k ∷ []) × (n.block ≡ []) × (n.awaits ≡ awaited k) → DidInstruction m n i
 does_by k i m n are made = record { kinds = k ∷ []; are = are; makes = makes_but made.0 }
 
 -- of two kinds that are no fetches the last one isn't
@@ -230,7 +230,7 @@ take_inside m n None is call = elim (call.err NotYet is refl) [
 
 -- a take of what hasn't come
 pub takes_nothing : {A : Type 0} (m n : Local) (r : Result A Refused) → r ≡ Err NotYet
-    → IsTakingCall m n (result_err r) → Takes m n false
+    → IsTakingCall m n (result_err r) → TriedTake m n false
 takes_nothing {A} m n r is call =
     let refused = subst (λ (x : Result A Refused). IsTakingCall m n (result_err x)) is call in
     let inside = take_inside m n (or_spent (take_test m) m) refl refused in
@@ -249,7 +249,7 @@ takes_nothing {A} m n r is call =
 
 -- and of what has
 pub takes_all : {A : Type 0} (m n : Local) (r : Result A Refused) {x : A} → r ≡ Ok x
-    → IsTakingCall m n (result_err r) → Takes m n true
+    → IsTakingCall m n (result_err r) → TriedTake m n true
 takes_all {A} m n r {x} is call =
     let done = call.ok (rw is refl) in
     record {
@@ -261,7 +261,7 @@ takes_all {A} m n r {x} is call =
     }
 
 -- what was begun is done by the take that finds what it awaits, and begun still by one that doesn't
-pub on_its_way : (l m n : Local) (i : Instruction) (taken : Bool) → Begins l m i → Takes m n taken
+pub on_its_way : (l m n : Local) (i : Instruction) (taken : Bool) → Begins l m i → TriedTake m n taken
     → IsOnItsWay l n i taken
 on_its_way l m n i true begun took = record {
   kinds = begun.first ∷ begun.last ∷ [];
@@ -298,7 +298,7 @@ last_is_cut : (is : List Instruction) (i : Instruction) → i ≡ Cut → HasCut
 last_is_cut is i cut = (length is, slice_get-last is i ∙ ap Some cut)
 
 -- and one more
-pub does_more : (l m n : Local) (is : List Instruction) (i : Instruction) → DoesAll l m is → Does m n i
+pub does_more : (l m n : Local) (is : List Instruction) (i : Instruction) → DoesAll l m is → DidInstruction m n i
     → DoesAll l n (is ++ i ∷ [])
 does_more l m n is i all one = record {
   kinds = all.kinds ++ one.kinds;
@@ -307,7 +307,7 @@ does_more l m n is i all one = record {
 }
 
 -- a section and then a barrier
-pub walks_by : (l m n : Local) (section : List Instruction) → DoesAll l m section → Does m n Barrier → Walks l n section
+pub walks_by : (l m n : Local) (section : List Instruction) → DoesAll l m section → DidInstruction m n Barrier → Walks l n section
 walks_by l m n section all last = record {
   kinds = all.kinds;
   are = all.are;
@@ -317,6 +317,6 @@ walks_by l m n section all last = record {
 }
 
 pub walks_where : {A E : Type 0} (l m n : Local) (section : List Instruction) (r : Result A E) → DoesAll l m section
-    → OnOk r (Does m n Barrier) → OnOk r (Walks l n section)
+    → OnOk r (DidInstruction m n Barrier) → OnOk r (Walks l n section)
 walks_where l m n section (Ok x) all last = walks_by l m n section all last
 walks_where l m n section (Err e) all last = tt

@@ -2,7 +2,7 @@
 use Rattle.std.proofs.Common.{ℕ, zero, suc, ◌≡◌, ◌<◌, Bool, true, false, Option, Some, List, [], ◌∷◌, ◌++◌, length, replicate, get_or, slice_get, slice_set, refl, sym, ap, subst, subst₂, ◌∙◌, inl, inr, append-nil, arith}
 use Rattle.std.proofs.lemmas.Bool.{cases_eq}
 use Rattle.std.proofs.lemmas.Option.{none-some, same_Some, slice_get-get_or, slice_get_within}
-use Rattle.lists.proofs.Sets.{slice_get-set_other, slice_get-set_same}
+use Rattle.base.proofs.Sets.{slice_get-set_other, slice_get-set_same}
 use Rattle.journal.specs.declared.event.Event.{Event}
 use Rattle.journal.specs.declared.event.Kind.{Kind}
 use Rattle.journal.specs.Did.{event}
@@ -12,32 +12,32 @@ use Rattle.journal.specs.WellFormed.{Ready}
 use Rattle.lrc_script.specs.declared.script.Instruction.{Instruction}
 use Rattle.lrc_script.specs.Lawful.{IsLawful}
 use Rattle.lrc_script.specs.Plan.{Plan}
-use Rattle.follows.specs.Follows.{kinds_of, sizes_of}
-use Rattle.follows.proofs.Calls.{kinds_of-append, kinds_of-one}
-use Rattle.replicas.specs.Local.{Local, calls}
+use Rattle.conformance.specs.Follows.{kinds_of, plan_sizes}
+use Rattle.conformance.proofs.Calls.{kinds_of-append, kinds_of-one}
+use Rattle.cluster.specs.Copies.Local.{Local, calls}
 use Rattle.cluster.specs.Calls.{IsSameProcessor}
 use Rattle.cluster.specs.Clusters.{AreNew, Shared}
 use Rattle.cluster.specs.Taking.{IsLate, awaited_event}
-use Rattle.runs.specs.declared.progress.Progress.{Progress}
-use Rattle.runs.specs.declared.progress.Progress.TheVariants.{Next, Passed, Waits}
+use Rattle.conformance.specs.declared.progress.TurnProgress.{TurnProgress}
+use Rattle.conformance.specs.declared.progress.TurnProgress.TheVariants.{Next, Passed, Waits}
 use Rattle.rand_pcg.specs.Lcg.{Lcg}
-use Rattle.runs.specs.ByTurns.{orders_of}
-use Rattle.runs.specs.Orders.{drawn, generator_after, generator_of}
-use Rattle.runs.specs.Turns.{AreTurns, IsTurn, LooksInVain, Stage, instruction_at, progress_after, stage, turns_of}
+use Rattle.conformance.specs.ByTurns.{orders_of}
+use Rattle.conformance.specs.Orders.{drawn, generator_after, generator_of}
+use Rattle.conformance.specs.Turns.{AreTurns, IsTurn, LooksInVain, Stage, instruction_at, progress_after, stage, turns_of}
 use Rattle.lrc_run.specs.Endings.{IsBeginning}
 use Rattle.lrc_run.specs.Steps.{AreOnTheirWay, IsAt}
 use Rattle.lrc_run.specs.Turns.{AreRounds, AreSeenOn, AreTurned, AreTurnedBy, IsTurnOf, SeesOn, TakesTurn}
-use Rattle.lrc_run.specs.Walks.{IsOnItsWay, MakesBut, SeesMore, Takes, made, new_at}
+use Rattle.lrc_run.specs.Walks.{IsOnItsWay, MakesBut, SeesMore, TriedTake, made, new_at}
 use Rattle.lrc_run.proofs.Concluding.{begins_less}
 use Rattle.lrc_run.proofs.Making.{last_is_no_fetch, same_then, sees_same, sees_then, wanted_same}
 use Rattle.lrc_run.proofs.Stepping.{after_instruction, after_look, all_begin, all_turned, same_on_its_way}
 
 -- one turn more
 pub turned_more : (sections : List (List Instruction)) (ps : List ℕ) (p : ℕ) (ms ns os : List Local)
-    (all to end : List Progress) → AreTurned sections ps ms ns all to → IsTurnOf sections p ns os to end
+    (all to end : List TurnProgress) → AreTurned sections ps ms ns all to → IsTurnOf sections p ns os to end
     → AreTurned sections (ps ++ p ∷ []) ms os all end
 turned_more sections [] p ms ns os all to end first next =
-    let P : List Local → List Progress → Type 0 = λ xs ys. IsTurnOf sections p xs os ys end in
+    let P : List Local → List TurnProgress → Type 0 = λ xs ys. IsTurnOf sections p xs os ys end in
     (os, end, subst₂ P first.0 first.1 next, (refl, refl))
 turned_more sections (q ∷ ps) p ms ns os all to end first next =
     (first.0, first.1, first.2, turned_more sections ps p first.0 ns os first.1 to end first.3 next)
@@ -51,7 +51,7 @@ way_sees : (m x : Local) (i : Instruction) (done : Bool) → IsOnItsWay m x i do
 way_sees m x i true way = way.makes.sees
 way_sees m x i false way = way.makes.sees
 
-turn_same : (section : List Instruction) (m x : Local) (at to : Progress) → TakesTurn section m at x to
+turn_same : (section : List Instruction) (m x : Local) (at to : TurnProgress) → TakesTurn section m at x to
     → IsSameProcessor m x
 turn_same section m x (Next n) to turn = way_same m x (instruction_at section n) turn.done turn.way
 turn_same section m x (Waits n) to turn = turn.takes.same
@@ -62,26 +62,26 @@ turn_same section m x Passed to turn = record {
 }
 
 -- and has seen no less
-turn_sees : (section : List Instruction) (m x : Local) (at to : Progress) → TakesTurn section m at x to → SeesMore m x
+turn_sees : (section : List Instruction) (m x : Local) (at to : TurnProgress) → TakesTurn section m at x to → SeesMore m x
 turn_sees section m x (Next n) to turn = way_sees m x (instruction_at section n) turn.done turn.way
 turn_sees section m x (Waits n) to turn = turn.takes.sees
 turn_sees section m x Passed to turn = ([], ap (λ (l : Local). l.seen) turn.0 ∙ sym (append-nil m.seen))
 
 -- where it is after its turn
-pub at_turned : (l m x : Local) (section : List Instruction) (at to : Progress) → IsAt l m section at
+pub at_turned : (l m x : Local) (section : List Instruction) (at to : TurnProgress) → IsAt l m section at
     → TakesTurn section m at x to → IsAt l x section to
-at_turned l m x section (Next n) to at turn = subst (λ (y : Progress). IsAt l x section y) (sym turn.to_is)
+at_turned l m x section (Next n) to at turn = subst (λ (y : TurnProgress). IsAt l x section y) (sym turn.to_is)
     (after_instruction l m x section n turn.done at.0 at.1 turn.way)
-at_turned l m x section (Waits n) to at turn = subst (λ (y : Progress). IsAt l x section y) (sym turn.to_is)
+at_turned l m x section (Waits n) to at turn = subst (λ (y : TurnProgress). IsAt l x section y) (sym turn.to_is)
     (after_look l m x section n turn.taken at turn.takes)
 at_turned l m x section Passed to at turn =
-    let P : Local → Progress → Type 0 = λ y z. IsAt l y section z in subst₂ P (sym turn.0) (sym turn.1) at
+    let P : Local → TurnProgress → Type 0 = λ y z. IsAt l y section z in subst₂ P (sym turn.0) (sym turn.1) at
 
 -- where all are after a turn
-pub way_turned : (c : Shared) (sections : List (List Instruction)) (p : ℕ) (ms ns : List Local) (all to : List Progress)
+pub way_turned : (c : Shared) (sections : List (List Instruction)) (p : ℕ) (ms ns : List Local) (all to : List TurnProgress)
     → AreOnTheirWay c sections ms all → IsTurnOf sections p ms ns all to → AreOnTheirWay c sections ns to
 way_turned c sections p ms ns all to way turn =
-    let P : List Local → List Progress → Type 0 = λ xs ys. AreOnTheirWay c sections xs ys in
+    let P : List Local → List TurnProgress → Type 0 = λ xs ys. AreOnTheirWay c sections xs ys in
     subst₂ P (sym turn.new_is) (sym turn.to_is)
     (all_turned c sections ms all p turn.section turn.before turn.after turn.at turn.next way turn.section_is
     turn.before_is turn.at_is
@@ -89,39 +89,39 @@ way_turned c sections p ms ns all to way turn =
 
 -- and after more of them
 pub ways_turned : (c : Shared) (sections : List (List Instruction)) (ps : List ℕ) (ms ns : List Local)
-    (all to : List Progress) → AreOnTheirWay c sections ms all → AreTurned sections ps ms ns all to
+    (all to : List TurnProgress) → AreOnTheirWay c sections ms all → AreTurned sections ps ms ns all to
     → AreOnTheirWay c sections ns to
 ways_turned c sections [] ms ns all to way turned =
-    let P : List Local → List Progress → Type 0 = λ xs ys. AreOnTheirWay c sections xs ys in
+    let P : List Local → List TurnProgress → Type 0 = λ xs ys. AreOnTheirWay c sections xs ys in
     subst₂ P (sym turned.0) (sym turned.1) way
 ways_turned c sections (p ∷ ps) ms ns all to way turned =
     ways_turned c sections ps turned.0 ns turned.1 to (way_turned c sections p ms turned.0 all turned.1 way turned.2)
     turned.3
 
 -- the processors' stages: where each is, and what it has made
-abbrev pub stages_of : List Local → List Progress → List Stage
+abbrev pub stages_of : List Local → List TurnProgress → List Stage
 stages_of [] all = []
 stages_of (m ∷ ms) [] = []
 stages_of (m ∷ ms) (at ∷ all) = stage at (made m) ∷ stages_of ms all
 
-pub stages_at : (ms : List Local) (all : List Progress) (p : ℕ) (m : Local) (at : Progress) → slice_get ms p ≡ Some m
+pub stages_at : (ms : List Local) (all : List TurnProgress) (p : ℕ) (m : Local) (at : TurnProgress) → slice_get ms p ≡ Some m
     → slice_get all p ≡ Some at → slice_get (stages_of ms all) p ≡ Some (stage at (made m))
 stages_at [] all p m at here there = absurd (none-some m here)
 stages_at (x ∷ ms) [] p m at here there = absurd (none-some at there)
 stages_at (x ∷ ms) (y ∷ all) zero m at here there =
-    let P : Progress → Local → Type 0 = λ a b. Some (stage y (made x)) ≡ Some (stage a (made b)) in
+    let P : TurnProgress → Local → Type 0 = λ a b. Some (stage y (made x)) ≡ Some (stage a (made b)) in
     subst₂ P (same_Some y at there) (same_Some x m here) refl
 stages_at (x ∷ ms) (y ∷ all) (suc p) m at here there = stages_at ms all p m at here there
 
 -- each stage is a processor's
-pub record IsStageOf (ms : List Local) (all : List Progress) (p : ℕ) (x : Stage) : Type 0 where
+pub record IsStageOf (ms : List Local) (all : List TurnProgress) (p : ℕ) (x : Stage) : Type 0 where
   pub processor : Local
-  pub at : Progress
+  pub at : TurnProgress
   pub processor_is : slice_get ms p ≡ Some processor
   pub at_is : slice_get all p ≡ Some at
   pub is : x ≡ stage at (made processor)
 
-pub stage_from : (ms : List Local) (all : List Progress) (p : ℕ) (x : Stage)
+pub stage_from : (ms : List Local) (all : List TurnProgress) (p : ℕ) (x : Stage)
     → slice_get (stages_of ms all) p ≡ Some x → IsStageOf ms all p x
 stage_from [] all p x here = absurd (none-some x here)
 stage_from (m ∷ ms) [] p x here = absurd (none-some x here)
@@ -136,7 +136,7 @@ stage_from (m ∷ ms) (at ∷ all) (suc p) x here =
     let is = stage_from ms all p x here in
     record { processor = is.processor; at = is.at; processor_is = is.processor_is; at_is = is.at_is; is = is.is }
 
-stages_set : (ms : List Local) (all : List Progress) (p : ℕ) (m : Local) (to : Progress)
+stages_set : (ms : List Local) (all : List TurnProgress) (p : ℕ) (m : Local) (to : TurnProgress)
     → stages_of (slice_set ms p m) (slice_set all p to) ≡ slice_set (stages_of ms all) p (stage to (made m))
 stages_set [] all p m to = refl
 stages_set (x ∷ ms) [] zero m to = refl
@@ -162,7 +162,7 @@ pub nothing_made : (c : Shared) (ms : List Local) → AreNew c ms → (p : ℕ) 
 nothing_made c ms new p m here = ap made (new.each p m here)
 
 -- one with an empty block that isn't ready by what it has seen looked in vain
-in_vain : (s : Plan) (h : List Event) (p : ℕ) (x : Local) → x.number ≡ p → x.sizes ≡ sizes_of s → x.block ≡ []
+in_vain : (s : Plan) (h : List Event) (p : ℕ) (x : Local) → x.number ≡ p → x.sizes ≡ plan_sizes s → x.block ≡ []
     → IsLate x → IsBeginning x.seen h → LooksInVain s h p (made x)
 in_vain s h p x number sizes none late begins = record {
   found = x.seen;
@@ -174,8 +174,8 @@ in_vain s h p x number sizes none late begins = record {
 }
 
 -- what a turn does is told of a history that goes on from what the processor has seen then
-turn_told : (s : Plan) (h : List Event) (p : ℕ) (l m x : Local) (section : List Instruction) (at to : Progress)
-    → x.number ≡ p → x.sizes ≡ sizes_of s → IsAt l m section at → TakesTurn section m at x to → IsBeginning x.seen h
+turn_told : (s : Plan) (h : List Event) (p : ℕ) (l m x : Local) (section : List Instruction) (at to : TurnProgress)
+    → x.number ≡ p → x.sizes ≡ plan_sizes s → IsAt l m section at → TakesTurn section m at x to → IsBeginning x.seen h
     → IsTurn s h p section at (made m) (stage to (made x))
 turn_told s h p l m x section (Next n) to number sizes is turn begins = by turn.done turn.way turn.late turn.to_is
   where
@@ -184,26 +184,26 @@ turn_told s h p l m x section (Next n) to number sizes is turn begins = by turn.
     by true way late to_is = inl (record {
       kinds = way.kinds;
       are = way.are;
-      new_is = let P : Progress → List Kind → Type 0 = λ a b. stage to (made x) ≡ stage a b in
+      new_is = let P : TurnProgress → List Kind → Type 0 = λ a b. stage to (made x) ≡ stage a b in
           subst₂ P to_is way.makes.more refl;
     })
     by false way late to_is = inr (record {
       first = way.first;
       last = way.last;
       are = way.are;
-      new_is = let P : Progress → List Kind → Type 0 = λ a b. stage to (made x) ≡ stage a b in
+      new_is = let P : TurnProgress → List Kind → Type 0 = λ a b. stage to (made x) ≡ stage a b in
           subst₂ P to_is way.makes.more refl;
       vain = in_vain s h p x number sizes way.handed (late refl) begins;
     })
 turn_told s h p l m x section (Waits n) to number sizes is turn begins = by turn.taken turn.takes turn.to_is
   where
-    by : (taken : Bool) → Takes m x taken → to ≡ progress_after section n taken
+    by : (taken : Bool) → TriedTake m x taken → to ≡ progress_after section n taken
         → IsTurn s h p section (Waits n) (made m) (stage to (made x))
     by true takes to_is = inl (record {
       first = is.0.begins.first;
       last = is.0.begins.last;
       are = is.0.begins.are;
-      new_is = let P : Progress → List Kind → Type 0 = λ a b. stage to (made x) ≡ stage a b in
+      new_is = let P : TurnProgress → List Kind → Type 0 = λ a b. stage to (made x) ≡ stage a b in
           let last = event m.number is.0.begins.last in
           let more = ap kinds_of (takes.yes refl ∙ ap (λ k. calls m ++ awaited_event m.number k) is.0.begins.awaits)
           ∙ kinds_of-append (calls m) (last ∷ []) ∙ ap (λ ks. made m ++ ks) (kinds_of-one last
@@ -215,12 +215,12 @@ turn_told s h p l m x section (Waits n) to number sizes is turn begins = by turn
         let same = ap kinds_of none.calls_are in
         let P : List Kind → Type 0 = LooksInVain s h p in
         inr (record {
-          new_is = let P : Progress → List Kind → Type 0 = λ a b. stage to (made x) ≡ stage a b in
+          new_is = let P : TurnProgress → List Kind → Type 0 = λ a b. stage to (made x) ≡ stage a b in
               subst₂ P to_is same refl;
           vain = subst P same (in_vain s h p x number sizes (none.block_is ∙ is.0.begins.handed) none.late begins);
         })
 turn_told s h p l m x section Passed to number sizes is turn begins =
-    let P : Progress → List Kind → Type 0 = λ a b. stage to (made x) ≡ stage a b in
+    let P : TurnProgress → List Kind → Type 0 = λ a b. stage to (made x) ≡ stage a b in
     subst₂ P turn.1 (ap made turn.0) refl
 
 -- the history goes on from what each has seen
@@ -228,12 +228,12 @@ abbrev pub AllBegin : List Local → List Event → Type 0
 AllBegin ms h = (p : ℕ) (m : Local) → slice_get ms p ≡ Some m → IsBeginning m.seen h
 
 -- turns are told of a history that goes on from what all have seen at their end
-pub turns_told : (s : Plan) (c : Shared) (h : List Event) (ps : List ℕ) (ms ns : List Local) (all to : List Progress)
-    → c.sizes ≡ sizes_of s → AreOnTheirWay c s.sections ms all → AreTurned s.sections ps ms ns all to → AllBegin ns h
+pub turns_told : (s : Plan) (c : Shared) (h : List Event) (ps : List ℕ) (ms ns : List Local) (all to : List TurnProgress)
+    → c.sizes ≡ plan_sizes s → AreOnTheirWay c s.sections ms all → AreTurned s.sections ps ms ns all to → AllBegin ns h
     → AllBegin ms h × AreTurns s h ps (stages_of ms all) (stages_of ns to)
 turns_told s c h [] ms ns all to sizes way turned begin =
     let P : List Local → Type 0 = λ xs. AllBegin xs h in
-    let Q : List Local → List Progress → Type 0 = λ xs ys. stages_of xs ys ≡ stages_of ms all in
+    let Q : List Local → List TurnProgress → Type 0 = λ xs ys. stages_of xs ys ≡ stages_of ms all in
     (subst P turned.0 begin, subst₂ Q (sym turned.0) (sym turned.1) refl)
 turns_told s c h (p ∷ ps) ms ns all to sizes way turned begin =
     let turn = turned.2 in
@@ -249,7 +249,7 @@ turns_told s c h (p ∷ ps) ms ns all to sizes way turned begin =
     let begins = later.0 p x here in
     let one : _ = turn_told s h p (new_at c p) m x turn.section turn.at turn.next same.number (same.sizes ∙ sizes) is
     turn.takes begins in
-    let P : List Local → List Progress → Type 0 =
+    let P : List Local → List TurnProgress → Type 0 =
     λ xs ys. stages_of xs ys ≡ slice_set (stages_of ms all) p (stage turn.next (made x)) in
     let others = subst₂ P (sym turn.new_is) (sym turn.to_is) (stages_set ms all p x turn.next) in (
       first turn later.0 begins,
@@ -296,7 +296,7 @@ before_at ms ns p n on here =
     (get_or ms p n, slice_get-get_or ms p n (omega arith))
 
 -- the stages of those who saw on stay
-stages_seen : (ms ns : List Local) (all : List Progress) → AreSeenOn ms ns → stages_of ns all ≡ stages_of ms all
+stages_seen : (ms ns : List Local) (all : List TurnProgress) → AreSeenOn ms ns → stages_of ns all ≡ stages_of ms all
 stages_seen [] [] all on = refl
 stages_seen [] (n ∷ ns) all on = absurd (let long = on.all in omega (arith, long))
 stages_seen (m ∷ ms) [] all on = absurd (let long = on.all in omega (arith, long))
@@ -328,7 +328,7 @@ makes_seen l m n kinds makes on = record {
   uncut = λ none. on.uncut ∙ makes.uncut none;
 }
 
-at_seen : (l m n : Local) (section : List Instruction) (at : Progress) → IsAt l m section at → SeesOn m n
+at_seen : (l m n : Local) (section : List Instruction) (at : TurnProgress) → IsAt l m section at → SeesOn m n
     → IsAt l n section at
 at_seen l m n section (Next k) is on = (
   record {
@@ -364,7 +364,7 @@ at_seen l m n section (Waits k) is on =
 at_seen l m n section Passed is on =
     record { kinds = is.kinds; are = is.are; makes = makes_seen l m n _ is.makes on }
 
-way_seen : (c : Shared) (sections : List (List Instruction)) (ms ns : List Local) (all : List Progress)
+way_seen : (c : Shared) (sections : List (List Instruction)) (ms ns : List Local) (all : List TurnProgress)
     → AreOnTheirWay c sections ms all → AreSeenOn ms ns → AreOnTheirWay c sections ns all
 way_seen c sections ms ns all way on = record {
   many = on.all ∙ way.many;
@@ -376,8 +376,8 @@ way_seen c sections ms ns all way on = record {
 }
 
 -- where all are after rounds
-way_rounds : (c : Shared) (s : Plan) (orders : ℕ → List ℕ) (k : ℕ) (ms ns : List Local) (all : List Progress)
-    → c.sizes ≡ sizes_of s → AreNew c ms → AreRounds s orders k ms ns all → AreOnTheirWay c s.sections ns all
+way_rounds : (c : Shared) (s : Plan) (orders : ℕ → List ℕ) (k : ℕ) (ms ns : List Local) (all : List TurnProgress)
+    → c.sizes ≡ plan_sizes s → AreNew c ms → AreRounds s orders k ms ns all → AreOnTheirWay c s.sections ns all
 way_rounds c s orders zero ms ns all sizes new rounds =
     let n = s.processors in
     let many : n ≡ length ms = sym (new.all ∙ ap (λ (x : Sizes). x.processors) sizes) in
@@ -390,12 +390,12 @@ way_rounds c s orders (suc k) ms ns all sizes new rounds =
 
 -- rounds are told of a history that goes on from what all have seen at their end
 pub rounds_told : (s : Plan) (c : Shared) (h : List Event) (orders : ℕ → List ℕ) (k : ℕ) (ms ns : List Local)
-    (all : List Progress) → c.sizes ≡ sizes_of s → AreNew c ms → AreRounds s orders k ms ns all → AllBegin ns h
+    (all : List TurnProgress) → c.sizes ≡ plan_sizes s → AreNew c ms → AreRounds s orders k ms ns all → AllBegin ns h
     → AreTurns s h (turns_of orders k) (replicate s.processors (stage (Next 0) [])) (stages_of ns all)
 rounds_told s c h orders zero ms ns all sizes new rounds begin =
     let n = s.processors in
     let many : length ms ≡ n = new.all ∙ ap (λ (x : Sizes). x.processors) sizes in
-    let P : List Local → List Progress → Type 0 = λ xs ys. stages_of xs ys ≡ replicate n (stage (Next 0) []) in
+    let P : List Local → List TurnProgress → Type 0 = λ xs ys. stages_of xs ys ≡ replicate n (stage (Next 0) []) in
     subst₂ P (sym rounds.0) (sym rounds.1) (stages_start ms n many (nothing_made c ms new))
 rounds_told s c h orders (suc k) ms ns all sizes new rounds begin =
     let round = rounds.3 in
@@ -410,14 +410,14 @@ rounds_told s c h orders (suc k) ms ns all sizes new rounds begin =
     (stages_of rounds.0 rounds.1) (stages_of round.turned all) before told.1)
 
 -- where all are after a round, and the generator then
-pub record IsBetweenRounds (c : Shared) (s : Plan) (seed : Option ℕ) (old new : List Local) (all : List Progress)
+pub record IsBetweenRounds (c : Shared) (s : Plan) (seed : Option ℕ) (old new : List Local) (all : List TurnProgress)
     (generator : Option Lcg) : Type 0 where
   pub by : AreTurnedBy c s seed old new all
   pub drawn_is : generator ≡ generator_after seed s.processors by.count
 
 -- before the first one
-pub before_rounds : (c : Shared) (s : Plan) (seed : Option ℕ) (ms : List Local) (all : List Progress)
-    (generator : Option Lcg) (n : ℕ) → c.sizes ≡ sizes_of s → AreNew c ms → n ≡ length ms → all ≡ replicate n (Next 0)
+pub before_rounds : (c : Shared) (s : Plan) (seed : Option ℕ) (ms : List Local) (all : List TurnProgress)
+    (generator : Option Lcg) (n : ℕ) → c.sizes ≡ plan_sizes s → AreNew c ms → n ≡ length ms → all ≡ replicate n (Next 0)
     → generator ≡ generator_of seed → IsBetweenRounds c s seed ms ms all generator
 before_rounds c s seed ms all generator n sizes new many are is = record {
   by = record {
@@ -433,8 +433,8 @@ before_rounds c s seed ms all generator n sizes new many are is = record {
 }
 
 -- and after one more
-pub next_round : (c : Shared) (s : Plan) (seed : Option ℕ) (ms ns turned os : List Local) (all to : List Progress)
-    (old new : Option Lcg) (n : ℕ) (list : List ℕ) → c.sizes ≡ sizes_of s → n ≡ c.sizes.processors
+pub next_round : (c : Shared) (s : Plan) (seed : Option ℕ) (ms ns turned os : List Local) (all to : List TurnProgress)
+    (old new : Option Lcg) (n : ℕ) (list : List ℕ) → c.sizes ≡ plan_sizes s → n ≡ c.sizes.processors
     → IsBetweenRounds c s seed ms ns all old → list ≡ (drawn old n).0 → new ≡ (drawn old n).1
     → AreTurned s.sections list ns turned all to → AreSeenOn turned os → IsBetweenRounds c s seed ms os to new
 next_round c s seed ms ns turned os all to old new n list sizes many was order state turns seen =
@@ -475,7 +475,7 @@ seen_same ms = record {
     }
 
 -- a script has some processor
-pub some_of : (s : Plan) (c : Shared) (ms : List Local) (all : List Progress) → IsLawful s → c.sizes ≡ sizes_of s
+pub some_of : (s : Plan) (c : Shared) (ms : List Local) (all : List TurnProgress) → IsLawful s → c.sizes ≡ plan_sizes s
     → AreOnTheirWay c s.sections ms all → 0 < length ms
 some_of s c ms all lawful sizes way =
     let some = lawful.but_uneven.sizes.some_processors in

@@ -3,17 +3,17 @@ use Rattle.std.proofs.Common.{ℕ, ◌≡◌, ◌++◌, Bool, Option, Some, None
 use Rattle.std.proofs.lemmas.Bool.{cases_eq}
 use Rattle.std.proofs.lemmas.List.{length-set}
 use Rattle.std.proofs.lemmas.Option.{same_Some, slice_get_within}
-use Rattle.lists.proofs.Sets.{slice_get-set_found, slice_get-set_other, slice_get-set_same}
+use Rattle.base.proofs.Sets.{slice_get-set_found, slice_get-set_other, slice_get-set_same}
 use Rattle.journal.specs.declared.event.Kind.{Kind}
 use Rattle.book.specs.declared.refused.Refused.{Refused}
-use Rattle.replicas.specs.Local.{Local, calls}
+use Rattle.cluster.specs.Copies.Local.{Local, calls}
 use Rattle.cluster.specs.declared.waited.Waited.{Waited}
 use Rattle.cluster.specs.declared.waited.Waited.TheVariants.{Stuck}
 use Rattle.cluster.specs.Refusals.{flush_refusal}
 use Rattle.cluster.specs.Waiting.{IsWaitingCall}
 use Rattle.cluster.specs.Taking.{awaited_event}
 use Rattle.lrc_run.specs.Turns.{AreSeenOn, SeesDeadlock, SeesOn}
-use Rattle.lrc_run.specs.Walks.{SeesMore, Takes}
+use Rattle.lrc_run.specs.Walks.{SeesMore, TriedTake}
 use Rattle.lrc_run.proofs.Making.{same_then, sees_same, sees_then}
 use Rattle.lrc_run.proofs.Turning.{seen_same}
 
@@ -45,7 +45,7 @@ waits_on m n r call = record {
 }
 
 -- a take after a wait is one after what came before
-pub takes_on : (l m n : Local) (taken : Bool) → SeesOn l m → Takes m n taken → Takes l n taken
+pub takes_on : (l m n : Local) (taken : Bool) → SeesOn l m → TriedTake m n taken → TriedTake l n taken
 takes_on l m n taken on took = record {
   same = same_then l m n on.same took.same;
   sees = sees_then l m n on.sees took.sees;

@@ -7,13 +7,13 @@ use Rattle.lrc_script.specs.declared.script.Instruction.{Instruction}
 use Rattle.lrc_script.specs.Lawful.{IsLawful}
 use Rattle.lrc_script.specs.Plan.{Plan}
 use Rattle.lrc_report.specs.declared.report.Report.{Report}
-use Rattle.follows.specs.Follows.{calls_of, load_of, sizes_of}
-use Rattle.follows.specs.Instructions.{AreEventsOfAll}
-use Rattle.replicas.specs.Local.{Local}
+use Rattle.conformance.specs.Follows.{calls_of, load_of, plan_sizes}
+use Rattle.conformance.specs.Instructions.{AreEventsOfAll}
+use Rattle.cluster.specs.Copies.Local.{Local}
 use Rattle.cluster.specs.Clusters.{Shared}
 use Rattle.cluster.specs.Finishing.{AreAllOf, HasCallsOf}
-use Rattle.runs.specs.Cuts.{HasCut}
-use Rattle.runs.specs.Reports.{IsReportOf}
+use Rattle.conformance.specs.Cuts.{HasCut}
+use Rattle.conformance.specs.Reports.{IsReportOf}
 use Rattle.lrc_run.specs.Walks.{AreWanted, made}
 
 -- all that a processor made is its section, the closing barrier and these loads, and fetches that they want, and it cut
@@ -28,7 +28,7 @@ pub record HasFollowed (section : List Instruction) (loads : List (ℕ × ℕ)) 
 -- all processors of the script's cluster, and processor 0 has loaded what is shown
 pub record HaveFollowed (s : Plan) (c : Shared) (ms : List Local) (shown : List (ℕ × ℕ)) : Type 0 where
   pub lawful : IsLawful s
-  pub sizes : c.sizes ≡ sizes_of s
+  pub sizes : c.sizes ≡ plan_sizes s
   pub all : AreAllOf c ms
   pub each : (p : ℕ) (section : List Instruction) (m : Local) → slice_get s.sections p ≡ Some section
       → slice_get ms p ≡ Some m → HasFollowed section (cond (p == 0) shown []) m

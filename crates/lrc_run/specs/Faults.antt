@@ -1,8 +1,8 @@
 -- Which of several processors' faults a run tells.
 use Rattle.std.specs.Prelude.{ℕ, ◌≡◌, ◌≢◌, ◌⊎◌, ◌≤◌, Bool, true, false, Some, List, Result, Err, slice_get}
-use Rattle.runs.specs.declared.cause.Cause.{Cause}
-use Rattle.runs.specs.declared.cause.Cause.TheVariants.{Stuck}
-use Rattle.runs.specs.declared.cause.RunFault.{RunFault}
+use Rattle.conformance.specs.declared.cause.Cause.{Cause}
+use Rattle.conformance.specs.declared.cause.Cause.TheVariants.{Stuck}
+use Rattle.conformance.specs.declared.cause.RunFault.{RunFault}
 
 -- whether it only waited too long
 abbrev pub is_stuck : Cause → Bool

@@ -3,9 +3,9 @@ use Rattle.std.specs.Prelude.{◌≡◌, false, replicate}
 use Rattle.journal.specs.Flat.{Replays}
 use Rattle.lrc_script.specs.Lawful.{addresses}
 use Rattle.lrc_script.specs.Plan.{Plan}
-use Rattle.follows.specs.Recomputed.{NeverRaces}
+use Rattle.conformance.specs.Recomputed.{NeverRaces}
 use Rattle.lrc_report.specs.declared.report.Report.{Report}
-use Rattle.runs.specs.Reports.{IsReportOf}
+use Rattle.conformance.specs.Reports.{IsReportOf}
 
 -- the report of a script that never races on one flat memory tells of no race, and its history replays on one
 abbrev pub RaceFreeReportLaw : Type 0

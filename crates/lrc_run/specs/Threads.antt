@@ -1,14 +1,14 @@
 -- All processors of a new cluster, each on its way through its section.
 use Rattle.std.specs.Prelude.{ℕ, ◌≡◌, Option, Some, None, List, Result, Ok, Err, length, slice_get}
 use Rattle.lrc_script.specs.declared.script.Instruction.{Instruction}
-use Rattle.replicas.specs.Local.{Local}
+use Rattle.cluster.specs.Copies.Local.{Local}
 use Rattle.cluster.specs.Clusters.{Shared}
-use Rattle.runs.specs.declared.cause.Cause.{Cause}
-use Rattle.runs.specs.declared.cause.Cause.TheVariants.{Thread}
+use Rattle.conformance.specs.declared.cause.Cause.{Cause}
+use Rattle.conformance.specs.declared.cause.Cause.TheVariants.{Thread}
 use Rattle.lrc_run.specs.Walks.{Walks, new_at}
 
 -- each has, or went no further
-pub record AreOutcomes (c : Shared) (sections : List (List Instruction)) (outcomes : List (Result Local Cause))
+pub record AreThreadResults (c : Shared) (sections : List (List Instruction)) (outcomes : List (Result Local Cause))
     : Type 0 where
   pub all : length outcomes ≡ c.sizes.processors
   pub each : (p : ℕ) (section : List Instruction) (m : Local) → slice_get sections p ≡ Some section
@@ -28,14 +28,14 @@ pub record AreStarted (ms : List Local) (sections : List (List Instruction)) (th
       → slice_get sections p ≡ Some e.section
 
 -- what a thread gives back
-abbrev pub IsOutcomeOf : Option Errand → Result Local Cause → Type 0
-IsOutcomeOf (Some e) (Ok m) = Walks e.processor m e.section
-IsOutcomeOf (Some e) (Err cause) = Unit {0}
-IsOutcomeOf None (Ok m) = ⊥
-IsOutcomeOf None (Err cause) = cause ≡ Thread
+abbrev pub IsThreadResultOf : Option Errand → Result Local Cause → Type 0
+IsThreadResultOf (Some e) (Ok m) = Walks e.processor m e.section
+IsThreadResultOf (Some e) (Err cause) = Unit {0}
+IsThreadResultOf None (Ok m) = ⊥
+IsThreadResultOf None (Err cause) = cause ≡ Thread
 
 -- each of them
-pub record AreOutcomesOf (threads : List (Option Errand)) (outcomes : List (Result Local Cause)) : Type 0 where
+pub record AreThreadResultsOf (threads : List (Option Errand)) (outcomes : List (Result Local Cause)) : Type 0 where
   pub all : length outcomes ≡ length threads
   pub each : (p : ℕ) (thread : Option Errand) (outcome : Result Local Cause) → slice_get threads p ≡ Some thread
-      → slice_get outcomes p ≡ Some outcome → IsOutcomeOf thread outcome
+      → slice_get outcomes p ≡ Some outcome → IsThreadResultOf thread outcome

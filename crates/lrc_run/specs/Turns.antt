@@ -3,44 +3,44 @@ use Rattle.std.specs.Prelude.{ℕ, zero, suc, ◌≡◌, Bool, false, Option, So
 use Rattle.lrc_script.specs.declared.script.Instruction.{Instruction}
 use Rattle.journal.specs.Deadlocks.{IsDeadlock}
 use Rattle.lrc_script.specs.Plan.{Plan}
-use Rattle.replicas.specs.Local.{Local, calls}
+use Rattle.cluster.specs.Copies.Local.{Local, calls}
 use Rattle.cluster.specs.Calls.{IsSameProcessor}
 use Rattle.cluster.specs.Clusters.{Shared}
 use Rattle.cluster.specs.Taking.{IsLate}
-use Rattle.runs.specs.declared.progress.Progress.{Progress}
-use Rattle.runs.specs.declared.progress.Progress.TheVariants.{Next, Waits, Passed}
-use Rattle.runs.specs.ByTurns.{orders_of}
-use Rattle.runs.specs.Turns.{instruction_at, progress_after}
+use Rattle.conformance.specs.declared.progress.TurnProgress.{TurnProgress}
+use Rattle.conformance.specs.declared.progress.TurnProgress.TheVariants.{Next, Waits, Passed}
+use Rattle.conformance.specs.ByTurns.{orders_of}
+use Rattle.conformance.specs.Turns.{instruction_at, progress_after}
 use Rattle.lrc_run.specs.Steps.{AreOnTheirWay}
-use Rattle.lrc_run.specs.Walks.{IsOnItsWay, SeesMore, Takes}
+use Rattle.lrc_run.specs.Walks.{IsOnItsWay, SeesMore, TriedTake}
 
 -- it has done instruction n, or begun it and looked in vain for what that waits for, and then is there
-pub record GoesOn (section : List Instruction) (old : Local) (n : ℕ) (new : Local) (to : Progress) : Type 0 where
+pub record GoesOn (section : List Instruction) (old : Local) (n : ℕ) (new : Local) (to : TurnProgress) : Type 0 where
   pub done : Bool
   pub way : IsOnItsWay old new (instruction_at section n) done
   pub late : done ≡ false → IsLate new
   pub to_is : to ≡ progress_after section n done
 
 -- it has looked once for what instruction n waits for, and then is there
-pub record Looks (section : List Instruction) (old : Local) (n : ℕ) (new : Local) (to : Progress) : Type 0 where
+pub record Looks (section : List Instruction) (old : Local) (n : ℕ) (new : Local) (to : TurnProgress) : Type 0 where
   pub taken : Bool
-  pub takes : Takes old new taken
+  pub takes : TriedTake old new taken
   pub to_is : to ≡ progress_after section n taken
 
 -- what a turn makes of a processor that is at this place, and where it is then
-abbrev pub TakesTurn : List Instruction → Local → Progress → Local → Progress → Type 0
+abbrev pub TakesTurn : List Instruction → Local → TurnProgress → Local → TurnProgress → Type 0
 TakesTurn section old (Next n) new to = GoesOn section old n new to
 TakesTurn section old (Waits n) new to = Looks section old n new to
 TakesTurn section old Passed new to = (new ≡ old) × (to ≡ Passed)
 
 -- the turn of processor p, and the others stay as they are and where they are
-pub record IsTurnOf (sections : List (List Instruction)) (p : ℕ) (old new : List Local) (all to : List Progress)
+pub record IsTurnOf (sections : List (List Instruction)) (p : ℕ) (old new : List Local) (all to : List TurnProgress)
     : Type 0 where
   pub section : List Instruction
   pub before : Local
   pub after : Local
-  pub at : Progress
-  pub next : Progress
+  pub at : TurnProgress
+  pub next : TurnProgress
   pub section_is : slice_get sections p ≡ Some section
   pub before_is : slice_get old p ≡ Some before
   pub at_is : slice_get all p ≡ Some at
@@ -49,11 +49,11 @@ pub record IsTurnOf (sections : List (List Instruction)) (p : ℕ) (old new : Li
   pub to_is : to ≡ slice_set all p next
 
 -- the turns of these processors, one after another
-abbrev pub AreTurned : List (List Instruction) → List ℕ → List Local → List Local → List Progress → List Progress
+abbrev pub AreTurned : List (List Instruction) → List ℕ → List Local → List Local → List TurnProgress → List TurnProgress
     → Type 0
 AreTurned sections [] old new all to = (new ≡ old) × (to ≡ all)
 AreTurned sections (p ∷ ps) old new all to =
-    (between : List Local) × (half : List Progress) × IsTurnOf sections p old between all half
+    (between : List Local) × (half : List TurnProgress) × IsTurnOf sections p old between all half
     × AreTurned sections ps between new half to
 
 -- it is as it was, but that it may have seen more of the history
@@ -71,17 +71,17 @@ pub record AreSeenOn (old new : List Local) : Type 0 where
   pub each : (p : ℕ) (m n : Local) → slice_get old p ≡ Some m → slice_get new p ≡ Some n → SeesOn m n
 
 -- a round: all have their turns in this order, and then may see more
-pub record IsRound (sections : List (List Instruction)) (order : List ℕ) (old new : List Local) (all to : List Progress)
+pub record IsRound (sections : List (List Instruction)) (order : List ℕ) (old new : List Local) (all to : List TurnProgress)
     : Type 0 where
   pub turned : List Local
   pub turns : AreTurned sections order old turned all to
   pub seen : AreSeenOn turned new
 
 -- rounds in these orders, from the first instructions on
-abbrev pub AreRounds : Plan → (ℕ → List ℕ) → ℕ → List Local → List Local → List Progress → Type 0
+abbrev pub AreRounds : Plan → (ℕ → List ℕ) → ℕ → List Local → List Local → List TurnProgress → Type 0
 AreRounds s orders zero old new all = (new ≡ old) × (all ≡ replicate s.processors (Next 0))
 AreRounds s orders (suc k) old new all =
-    (between : List Local) × (half : List Progress) × AreRounds s orders k old between half
+    (between : List Local) × (half : List TurnProgress) × AreRounds s orders k old between half
     × IsRound s.sections (orders k) between new half all
 
 -- in what processor 0 has seen each processor waits, and none is ready
@@ -89,7 +89,7 @@ abbrev pub SeesDeadlock : List Local → Type 0
 SeesDeadlock ms = (m : Local) × (slice_get ms 0 ≡ Some m) × IsDeadlock m.sizes m.seen
 
 -- new processors of the script's cluster have come so far by turns, in rounds of this seed's orders
-pub record AreTurnedBy (c : Shared) (s : Plan) (seed : Option ℕ) (old new : List Local) (all : List Progress)
+pub record AreTurnedBy (c : Shared) (s : Plan) (seed : Option ℕ) (old new : List Local) (all : List TurnProgress)
     : Type 0 where
   pub way : AreOnTheirWay c s.sections new all
   pub count : ℕ

@@ -7,14 +7,14 @@ use Rattle.journal.specs.Did.{event}
 use Rattle.journal.specs.declared.event.Event.{Event}
 use Rattle.lrc_script.specs.declared.script.Instruction.{Instruction}
 use Rattle.lrc_script.specs.declared.script.Instruction.TheVariants.{Cut}
-use Rattle.follows.specs.Instructions.{AreEventsOf, AreEventsOfAll}
-use Rattle.follows.specs.Follows.{kinds_of, load_of}
-use Rattle.replicas.specs.Local.{Local, calls, new_local}
+use Rattle.conformance.specs.Instructions.{AreEventsOf, AreEventsOfAll}
+use Rattle.conformance.specs.Follows.{kinds_of, load_of}
+use Rattle.cluster.specs.Copies.Local.{Local, calls, new_local}
 use Rattle.cluster.specs.Calls.{IsSameProcessor}
 use Rattle.cluster.specs.Clusters.{Shared}
 use Rattle.cluster.specs.Taking.{IsLate, awaited_event}
-use Rattle.runs.specs.Cuts.{HasCut}
-use Rattle.runs.specs.Fetches.{FetchesAreWanted}
+use Rattle.conformance.specs.Cuts.{HasCut}
+use Rattle.conformance.specs.Fetches.{FetchesAreWanted}
 
 -- a processor's accepted calls, its fetches aside
 abbrev pub made : Local → List Kind
@@ -46,7 +46,7 @@ FetchesBy old new (Ok x) page = (writers records words : ℕ) × Adds old new (F
 FetchesBy old new (Err e) page = Adds old new []
 
 -- it is the same processor, has made these calls besides, and fetches that they want, and has cut nothing off
-pub record Makes (old new : Local) (kinds : List Kind) : Type 0 where
+pub record MadeCalls (old new : Local) (kinds : List Kind) : Type 0 where
   pub same : IsSameProcessor old new
   pub sees : SeesMore old new
   pub more : made new ≡ made old ++ kinds
@@ -69,11 +69,11 @@ pub record MakesNone (old new : Local) : Type 0 where
 
 -- it has made these calls, by the answer, or none where it was refused
 abbrev pub Tries : {A : Type 0} → Local → Local → Result A Refused → (A → List Kind) → Type 0
-Tries old new (Ok x) kinds = Makes old new (kinds x)
+Tries old new (Ok x) kinds = MadeCalls old new (kinds x)
 Tries old new (Err e) kinds = MakesNone old new
 
 -- it has done this instruction, and cut nothing off but by a cut
-pub record Does (old new : Local) (i : Instruction) : Type 0 where
+pub record DidInstruction (old new : Local) (i : Instruction) : Type 0 where
   pub kinds : List Kind
   pub are : AreEventsOf i kinds
   pub makes : MakesBut (i ≡ Cut) old new kinds
@@ -83,13 +83,13 @@ pub record Begins (old new : Local) (i : Instruction) : Type 0 where
   pub first : Kind
   pub last : Kind
   pub are : AreEventsOf i (first ∷ last ∷ [])
-  pub makes : Makes old new (first ∷ [])
+  pub makes : MadeCalls old new (first ∷ [])
   pub handed : new.block ≡ []
   pub awaits : new.awaits ≡ Some last
 
 -- it has done this instruction, or begun it
 abbrev pub IsOnItsWay : Local → Local → Instruction → Bool → Type 0
-IsOnItsWay old new i true = Does old new i
+IsOnItsWay old new i true = DidInstruction old new i
 IsOnItsWay old new i false = Begins old new i
 
 -- it is as it was, and what it awaits hasn't come by what it has seen
@@ -100,7 +100,7 @@ pub record FindsNothing (old new : Local) : Type 0 where
   pub late : IsLate new
 
 -- it has taken what it awaited, or that hadn't come
-pub record Takes (old new : Local) (taken : Bool) : Type 0 where
+pub record TriedTake (old new : Local) (taken : Bool) : Type 0 where
   pub same : IsSameProcessor old new
   pub sees : SeesMore old new
   pub yes : taken ≡ true → calls new ≡ calls old ++ awaited_event old.number old.awaits
@@ -121,7 +121,7 @@ pub record Walks (old new : Local) (section : List Instruction) : Type 0 where
 
 -- it has loaded these words
 abbrev pub Loads : Local → Local → List (ℕ × ℕ) → Type 0
-Loads old new words = Makes old new (map load_of words)
+Loads old new words = MadeCalls old new (map load_of words)
 
 -- processor p of the cluster, before its first call
 abbrev pub new_at : Shared → ℕ → Local

@@ -1,7 +1,7 @@
 //! The end of a run: the shown loads, the journal and what the report says of it.
 ghost use Rattle.std.specs.Prelude.{◌≡◌, IfOk, ℕ, List, slice_set, slice_get, Some};
 ghost use Rattle.lrc_script.specs.Prelude.{IsLawful, Plan, plan_of};
-ghost use Rattle.follows.specs.Prelude.{sizes_of};
+ghost use Rattle.conformance.specs.Prelude.{plan_sizes};
 ghost use Rattle.cluster.specs.Prelude.{AreAllOf};
 ghost use Rattle.lrc_run.specs.Prelude.{AreWalked, HaveFollowed, IsReportAfter, IsReportWith};
 
@@ -23,7 +23,7 @@ pub(crate) fn conclude<T: BookTurn + Drop, R: Wait>(
     script: &Script,
 ) -> Result<Report, Refused>
     requires lawful { IsLawful (plan_of script.now) }
-    requires sizes { cluster.sizes ≡ sizes_of (plan_of script.now) }
+    requires sizes { cluster.sizes ≡ plan_sizes (plan_of script.now) }
     requires walked { AreWalked cluster (plan_of script.now).sections processors.items }
     ensures { IfOk result (λ r. IsReportAfter (plan_of script.now) r processors.items) }
 {

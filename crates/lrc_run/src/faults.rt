@@ -2,7 +2,7 @@
 ghost use Rattle.std.specs.Prelude.{◌≡◌, ◌⊎◌, IfErr, IfNone, IfOk, IfSome, Ok, map};
 ghost use Rattle.lrc_run.specs.Prelude.{is_stuck, IsFaultOf, IsFirstSo, NoneFailed, NoneFailedSo};
 
-use runs::{Cause, RunFault};
+use conformance::{Cause, RunFault};
 use std::alloc::{AllocError, Global};
 
 /// Whether the processor only waited too long.

@@ -1,7 +1,7 @@
 //! A gate that each instruction of a script passes before it is done.
 ghost use Rattle.std.specs.Prelude.{◌≡◌};
 
-use runs::Cause;
+use conformance::Cause;
 
 /// The gate's answer that a processor is to go no further.
 #[derive(Clone, Copy)]
@@ -24,7 +24,7 @@ impl Gate for Open {
 }
 
 impl From<Stopped> for Cause {
-    ghost use Rattle.runs.specs.declared.cause.Cause.TheVariants as cause;
+    ghost use Rattle.conformance.specs.declared.cause.Cause.TheVariants as cause;
 
     ghost from_gives = { λ _ r. r ≡ cause.Gate };
 

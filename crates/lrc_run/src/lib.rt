@@ -12,7 +12,7 @@
 //! make of the processors is what they come to; a take that came too early found its processor not ready. Where a run by
 //! turns says that it can't go on, its history is a deadlock: each processor waits, and none is ready.
 //!
-//! **What is only tested** (in `lrc_run_tests`): that no run is refused needlessly, and that its threads get on side by
+//! **What is only tested** (in `test_lrc`): that no run is refused needlessly, and that its threads get on side by
 //! side; that the gate is asked before each instruction; that nobody sleeps for ever; and that the calls of one turn of
 //! `step` stand in the history before those of the next.
 #![tactic(auto)]
@@ -29,9 +29,9 @@ mod shown;
 mod steps;
 mod walk;
 
+pub use conformance::{Cause, Ended, Halt, RunFault};
 pub use gate::{Gate, Open, Stopped};
 pub use on_cluster::OnCluster;
 pub use orders::order;
 pub use running::{run, run_with};
-pub use runs::{Cause, Ended, Halt, RunFault};
 pub use steps::{step, step_as_far, step_as_far_with, step_with};

@@ -1,15 +1,15 @@
 //! What runs scripts: on a cluster, with the lock that is asked for.
 ghost use Rattle.std.specs.Prelude.{◌<◌, IfOk};
 ghost use Rattle.lrc_script.specs.Prelude.{IsLawful, plan_of};
-ghost use Rattle.runs.specs.Prelude.{IsEndOf, IsReportOf};
+ghost use Rattle.conformance.specs.Prelude.{IsEndOf, IsReportOf};
 
 use crate::gate::Open;
 use crate::running::{run, run_with};
 use crate::steps::{step, step_as_far, step_as_far_with, step_with};
 use cluster::TicketBookLock;
+use conformance::{Ended, LockChoice, RunFault, Runs};
 use lrc_report::Report;
 use lrc_script::script::Script;
-use runs::{Ended, Lock, RunFault, Runs};
 use std::alloc::Global;
 use std::sync::Wait;
 use std::thread::Threads;
@@ -24,12 +24,14 @@ impl Runs for OnCluster {
         rt: &R,
         alloc: Global,
         script: &Script,
-        lock: Lock,
+        lock: LockChoice,
         tries: u64,
     ) -> Result<Report, RunFault> {
         match lock {
-            Lock::Array => run(rt, alloc, script, &Open, tries),
-            Lock::Ticket => run_with::<TicketBookLock, R, Open>(rt, alloc, script, &Open, tries),
+            LockChoice::Array => run(rt, alloc, script, &Open, tries),
+            LockChoice::Ticket => run_with::<TicketBookLock, R, Open>(
+                rt, alloc, script, &Open, tries,
+            ),
         }
     }
 
@@ -38,12 +40,12 @@ impl Runs for OnCluster {
         rt: &R,
         alloc: Global,
         script: &Script,
-        lock: Lock,
+        lock: LockChoice,
         seed: Option<u64>,
     ) -> Result<Report, RunFault> {
         match lock {
-            Lock::Array => step(rt, alloc, script, seed),
-            Lock::Ticket => step_with::<TicketBookLock, R>(rt, alloc, script, seed),
+            LockChoice::Array => step(rt, alloc, script, seed),
+            LockChoice::Ticket => step_with::<TicketBookLock, R>(rt, alloc, script, seed),
         }
     }
 
@@ -52,12 +54,12 @@ impl Runs for OnCluster {
         rt: &R,
         alloc: Global,
         script: &Script,
-        lock: Lock,
+        lock: LockChoice,
         seed: Option<u64>,
     ) -> Result<Ended, RunFault> {
         match lock {
-            Lock::Array => step_as_far(rt, alloc, script, seed),
-            Lock::Ticket => step_as_far_with::<TicketBookLock, R>(rt, alloc, script, seed),
+            LockChoice::Array => step_as_far(rt, alloc, script, seed),
+            LockChoice::Ticket => step_as_far_with::<TicketBookLock, R>(rt, alloc, script, seed),
         }
     }
 }

@@ -1,8 +1,8 @@
 //! Runs of scripts with each processor on a thread of its own.
 ghost use Rattle.std.specs.Prelude.{◌≡◌, ◌^◌, ◌<◌, ◌≤◌, IfOk};
 ghost use Rattle.lrc_script.specs.Prelude.{IsLawful, plan_of};
-ghost use Rattle.follows.specs.Prelude.{sizes_of};
-ghost use Rattle.lrc_run.specs.Prelude.{IsReportOf, AreOutcomes};
+ghost use Rattle.conformance.specs.Prelude.{plan_sizes};
+ghost use Rattle.lrc_run.specs.Prelude.{IsReportOf, AreThreadResults};
 
 mod threads;
 
@@ -12,9 +12,9 @@ use crate::ending::conclude;
 use crate::faults::gathered;
 use crate::gate::Gate;
 use cluster::{BookLock, BookTurn, Cluster, Processor};
+use conformance::{Cause, RunFault};
 use lrc_report::Report;
 use lrc_script::script::Script;
-use runs::{Cause, RunFault};
 use std::alloc::Global;
 use std::sync::Wait;
 use std::thread::Threads;
@@ -82,8 +82,8 @@ fn walk_script<T: BookTurn + Send + Drop, R: Threads + Wait + Sync, G: Gate + Sy
 ) -> Result<(Cluster<T>, Vec<Result<Processor<T>, Cause>>), Cause>
     requires lawful { IsLawful (plan_of script.now) }
     requires entries { T.ENTRIES ≤ 2 ^ 40 }
-    ensures sizes { IfOk result (λ r. r.0.sizes ≡ sizes_of (plan_of script.now)) }
-    ensures outcomes { IfOk result (λ r. AreOutcomes r.0 (plan_of script.now).sections r.1.items) }
+    ensures sizes { IfOk result (λ r. r.0.sizes ≡ plan_sizes (plan_of script.now)) }
+    ensures outcomes { IfOk result (λ r. AreThreadResults r.0 (plan_of script.now).sections r.1.items) }
 {
     let (cluster, processors) = Cluster::<T>::new(
         alloc,

@@ -1,15 +1,15 @@
 //! All processors by turns on one thread.
 ghost use Rattle.std.specs.Prelude.{◌≡◌, ◌≢◌, ◌≤◌, ◌<◌, ◌^◌, ◌↔◌, All, IfErr, IfOk, IsTrue, List, Some, false, true, length, replicate, slice_get, vec_len};
-ghost use Rattle.replicas.specs.Prelude.{Local};
+ghost use Rattle.cluster.specs.Copies.Prelude.{Local};
 ghost use Rattle.std.specs.List.{range_with_len};
 ghost use Rattle.lrc_script.specs.Prelude.{IsLawful, plan_of};
-ghost use Rattle.follows.specs.Prelude.{sizes_of};
+ghost use Rattle.conformance.specs.Prelude.{plan_sizes};
 ghost use Rattle.cluster.specs.Prelude.{AreNew};
-ghost use Rattle.runs.specs.declared.cause.Cause.TheVariants as cause;
-ghost use Rattle.runs.specs.declared.progress.Progress.TheVariants as progress;
-ghost use Rattle.runs.specs.declared.progress.Progress.{Progress as AProgress};
-ghost use Rattle.runs.specs.Prelude.{IsEndBy, IsReportBy, IsStuckBy, drawn, generator_of, orders_of};
-ghost use Rattle.lrc_run.specs.Prelude.{AreBelow, AreOnTheirWay, AreSeenOn, AreTurned, AreTurnedBy, IsTurnOf, SeesDeadlock};
+ghost use Rattle.conformance.specs.declared.cause.Cause.TheVariants as cause;
+ghost use Rattle.conformance.specs.declared.progress.TurnProgress.TheVariants as progress;
+ghost use Rattle.conformance.specs.declared.progress.TurnProgress.{TurnProgress as AProgress};
+ghost use Rattle.conformance.specs.Prelude.{IsEndBy, IsReportBy, IsStuckBy, drawn, generator_of, orders_of};
+ghost use Rattle.lrc_run.specs.Prelude.{AreProcessors, AreOnTheirWay, AreSeenOn, AreTurned, AreTurnedBy, IsTurnOf, SeesDeadlock};
 
 mod turns;
 
@@ -18,11 +18,11 @@ use crate::ending::conclude;
 use crate::orders::order;
 use book::Refused;
 use cluster::{BookLock, BookTurn, Cluster, Processor, Waited};
+use conformance::{Cause, Ended, Halt, RunFault, TurnProgress};
 use lrc_report::Report;
 use lrc_script::script::Script;
 use rand_core::SeedableRng;
 use rand_pcg::Pcg32;
-use runs::{Cause, Ended, Halt, Progress, RunFault};
 use std::alloc::{AllocError, Global};
 use std::sync::Wait;
 
@@ -124,7 +124,7 @@ fn new_cluster<T: BookTurn>(
     script: &Script,
 ) -> Result<(Cluster<T>, Vec<Processor<T>>), RunFault>
     requires { T.ENTRIES ≤ 2 ^ 40 }
-    ensures sizes { IfOk result (λ r. r.0.sizes ≡ sizes_of (plan_of script.now)) }
+    ensures sizes { IfOk result (λ r. r.0.sizes ≡ plan_sizes (plan_of script.now)) }
     ensures new { IfOk result (λ r. AreNew r.0 r.1.items) }
     ensures err { IfErr result (λ fault. fault.cause ≢ cause.Stuck) }
 {
@@ -151,7 +151,7 @@ fn go_round<T: BookTurn, R: Wait>(
     seed: Option<u64>,
 ) -> Result<bool, RunFault>
     requires lawful { IsLawful (plan_of script.now) }
-    requires sizes { cluster.now.sizes ≡ sizes_of (plan_of script.now) }
+    requires sizes { cluster.now.sizes ≡ plan_sizes (plan_of script.now) }
     requires new { AreNew cluster.now processors.old.items }
     ensures ok { IfOk result (λ passed. (all : List AProgress)
         × AreTurnedBy cluster.now (plan_of script.now) seed processors.old.items
@@ -179,12 +179,12 @@ fn go_round<T: BookTurn, R: Wait>(
 }
 
 /// Where each processor is at the start, and memory for the order of a round.
-fn beginnings(alloc: Global, count: usize) -> Result<(Vec<Progress>, Vec<usize>), AllocError>
+fn beginnings(alloc: Global, count: usize) -> Result<(Vec<TurnProgress>, Vec<usize>), AllocError>
     ensures all { IfOk result (λ r. r.0.items ≡ replicate count (progress.Next 0)) }
     ensures list { IfOk result (λ r. vec_len r.1 ≡ count) }
 {
     Ok((
-        vec![in alloc; Progress::Next(0); count]?,
+        vec![in alloc; TurnProgress::Next(0); count]?,
         vec![in alloc; 0; count]?,
     ))
 }
@@ -200,10 +200,10 @@ fn generator_of(seed: Option<u64>) -> Option<Pcg32>
 }
 
 /// Whether all have passed the closing barrier.
-fn have_passed(all: &[Progress]) -> bool
+fn have_passed(all: &[TurnProgress]) -> bool
     ensures { IsTrue result ↔ All (λ x. x ≡ progress.Passed) all.now }
 {
-    all.iter().all(|progress| *progress == Progress::Passed)
+    all.iter().all(|progress| *progress == TurnProgress::Passed)
 }
 
 /// Whether nothing can come any more, after a round in which nobody moved. Processor 0 looks, since each waits then.
@@ -233,7 +233,7 @@ fn is_stuck<T: BookTurn, R: Wait>(
 fn draw(generator: &mut Option<Pcg32>, list: &mut [usize])
     ensures list { list.new ≡ (drawn generator.old (length list.old)).0 }
     ensures state { generator.new ≡ (drawn generator.old (length list.old)).1 }
-    ensures below { AreBelow (length list.old) list.new × (length list.new ≡ length list.old) }
+    ensures below { AreProcessors (length list.old) list.new × (length list.new ≡ length list.old) }
 {
     rise(list);
     if let Some(generator) = generator {
@@ -255,13 +255,13 @@ fn round<T: BookTurn, R: Wait>(
     rt: &R,
     cluster: &Cluster<T>,
     processors: &mut Vec<Processor<T>>,
-    all: &mut Vec<Progress>,
+    all: &mut Vec<TurnProgress>,
     script: &Script,
     list: &[usize],
 ) -> Result<bool, RunFault>
     requires lawful { IsLawful (plan_of script.now) }
-    requires sizes { cluster.now.sizes ≡ sizes_of (plan_of script.now) }
-    requires list { AreBelow (vec_len processors.old) list.now }
+    requires sizes { cluster.now.sizes ≡ plan_sizes (plan_of script.now) }
+    requires list { AreProcessors (vec_len processors.old) list.now }
     requires way { AreOnTheirWay cluster.now (plan_of script.now).sections processors.old.items
         all.old.items }
     ensures turns { IfOk result (λ _. AreTurned (plan_of script.now).sections list.now
@@ -282,12 +282,12 @@ fn turn_at<T: BookTurn, R: Wait>(
     rt: &R,
     cluster: &Cluster<T>,
     processors: &mut Vec<Processor<T>>,
-    all: &mut Vec<Progress>,
+    all: &mut Vec<TurnProgress>,
     script: &Script,
     p: usize,
 ) -> Result<bool, RunFault>
     requires lawful { IsLawful (plan_of script.now) }
-    requires sizes { cluster.now.sizes ≡ sizes_of (plan_of script.now) }
+    requires sizes { cluster.now.sizes ≡ plan_sizes (plan_of script.now) }
     requires within { p < vec_len processors.old }
     requires way { AreOnTheirWay cluster.now (plan_of script.now).sections processors.old.items
         all.old.items }

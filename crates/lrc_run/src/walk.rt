@@ -1,7 +1,7 @@
 //! A processor's way through its section.
 ghost use Rattle.std.specs.Prelude.{◌≡◌, IfOk, OnOk};
 ghost use Rattle.cluster.specs.Prelude.{IsSameProcessor};
-ghost use Rattle.lrc_run.specs.Prelude.{Does, Takes, Walks};
+ghost use Rattle.lrc_run.specs.Prelude.{DidInstruction, TriedTake, Walks};
 
 mod accesses;
 mod instructions;
@@ -11,8 +11,8 @@ pub(crate) use self::instructions::{begin, end};
 use crate::course::Course;
 use crate::gate::Gate;
 use cluster::{BookTurn, Cluster, Processor, Waited};
+use conformance::Cause;
 use lrc_script::script::Instruction;
-use runs::Cause;
 use std::sync::Wait;
 
 /// Does the section's instructions in order, each after its gate, and then passes the closing barrier, which
@@ -50,7 +50,7 @@ fn perform<T: BookTurn, R: Wait>(
 ) -> Result<(), Cause>
     requires own { processor.old.lock ≡ cluster.now.lock }
     ensures same { IsSameProcessor processor.old processor.new }
-    ensures ok { OnOk result (Does processor.old processor.new instruction) }
+    ensures ok { OnOk result (DidInstruction processor.old processor.new instruction) }
 {
     if begin(rt, cluster, processor, instruction)? {
         return Ok(());
@@ -75,7 +75,7 @@ fn look_again<T: BookTurn, R: Wait>(
 ) -> Result<bool, Cause>
     requires own { processor.old.lock ≡ cluster.now.lock }
     ensures same { IsSameProcessor processor.old processor.new }
-    ensures ok { IfOk result (λ taken. Takes processor.old processor.new taken) }
+    ensures ok { IfOk result (λ taken. TriedTake processor.old processor.new taken) }
 {
     match cluster.wait(rt, processor)? {
         Waited::MayHaveCome => Ok(end(rt, cluster, processor)?),

@@ -7,7 +7,7 @@ use Rattle.lrc_script.specs.declared.fault.ScriptFault.TheVariants.{Truncated, B
 use Rattle.lrc_script.specs.declared.script.Instruction.{Instruction}
 use Rattle.lrc_script.specs.declared.script.Instruction.TheVariants.{Acquire, Release}
 use Rattle.lrc_script.specs.Plan.{Plan, head_plan}
-use Rattle.lrc_script.specs.Lawful.{addresses, address_of, lock_of, flag_of, holds, barriers, AreSizes, IsLawfulButUneven}
+use Rattle.lrc_script.specs.Lawful.{addresses, instruction_address, lock_of, flag_of, holds, barriers, AreSizes, IsLawfulButUneven}
 use Rattle.lrc_script.specs.Text.{cluster_line, section_lines, line_bytes, section_line, instruction_line, show_line, text}
 use Rattle.lrc_script.specs.Front.{Front, Nothing, Headed, Within, Whole, IsBegun, lines_before, text_before}
 
@@ -23,14 +23,14 @@ pub record IsSplit (line word : List ℕ) (words : List (List ℕ)) : Type 0 whe
   pub whole : line ≡ word ++ flat_map (λ w. 32 ∷ w) words
 
 -- which first words are allowed behind these lines, and with how many words after it
-abbrev pub Allows : Front → List ℕ → ℕ → Type 0
-Allows Nothing word n = (word ≡ codes "cluster") × ((n ≡ 4) ⊎ (n ≡ 5))
-Allows (Headed s) word n = (word ≡ codes "p") × (n ≡ 1)
-Allows (Within s is) word n =
+abbrev pub AllowsLine : Front → List ℕ → ℕ → Type 0
+AllowsLine Nothing word n = (word ≡ codes "cluster") × ((n ≡ 4) ⊎ (n ≡ 5))
+AllowsLine (Headed s) word n = (word ≡ codes "p") × (n ≡ 1)
+AllowsLine (Within s is) word n =
     ((word ≡ codes "p") × (n ≡ 1))
     ⊎ ((word ≡ codes "show") × (1 ≤ n) × (suc (length s.sections) ≡ s.processors))
     ⊎ ((i : Instruction) × (word ≡ (instruction_line i).word) × (n ≡ length (instruction_line i).numbers))
-Allows (Whole s) word n = ⊥
+AllowsLine (Whole s) word n = ⊥
 
 -- the section isn't the next one, or is past the last
 abbrev pub IsOutOfTurn : Front → ℕ → Type 0
@@ -55,7 +55,7 @@ IsShow line P = (shown : List ℕ) × (line ≡ line_bytes (show_line shown)) ×
 -- what a fault says of a line behind these sizes, sections and instructions
 abbrev pub SaysWithin : ScriptFault → Plan → List Instruction → List ℕ → Type 0
 SaysWithin OutOfRange s is line =
-    IsInstruction line (λ i. IsSomeAnd (address_of i) (λ a. addresses s ≤ a))
+    IsInstruction line (λ i. IsSomeAnd (instruction_address i) (λ a. addresses s ≤ a))
     ⊎ IsShow line (Any (λ a. addresses s ≤ a))
 SaysWithin BadLock s is line = IsInstruction line (λ i. IsSomeAnd (lock_of i) (λ l. s.locks ≤ l))
 SaysWithin BadFlag s is line = IsInstruction line (λ i. IsSomeAnd (flag_of i) (λ f. s.flags ≤ f))
@@ -67,10 +67,10 @@ SaysWithin _ s is line = ⊥
 -- what a fault says of a line behind these lines
 abbrev pub Says : ScriptFault → Front → List ℕ → Type 0
 Says BadLine f line =
-    ((word : List ℕ) (words : List (List ℕ)) → IsSplit line word words → Allows f word (length words) → ⊥)
+    ((word : List ℕ) (words : List (List ℕ)) → IsSplit line word words → AllowsLine f word (length words) → ⊥)
     ⊎ ((k : ℕ) × (line ≡ line_bytes (section_line k)) × IsOutOfTurn f k)
 Says BadNumber f line =
-    (word : List ℕ) × (words : List (List ℕ)) × IsSplit line word words × Allows f word (length words)
+    (word : List ℕ) × (words : List (List ℕ)) × IsSplit line word words × AllowsLine f word (length words)
     × (w : List ℕ) × Contains words w × ((n : ℕ) → n < 2 ^ 32 → w ≢ decimal n)
 Says BadSize Nothing line =
     (ns : List ℕ) × (line ≡ line_bytes (record { word = codes "cluster"; numbers = ns })) × AreNoSizes ns

@@ -30,7 +30,7 @@ pub record IsHeaded (s : Plan) : Type 0 where
   pub none_shown : s.shown ≡ []
 
 -- the sections are lawful as far as they are read
-pub record IsWithin (s : Plan) (is : List Instruction) : Type 0 where
+pub record LawfulSoFar (s : Plan) (is : List Instruction) : Type 0 where
   pub sizes : AreSizes s
   pub sections : All (IsSection s) s.sections
   pub last : IsSection s is
@@ -41,5 +41,5 @@ pub record IsWithin (s : Plan) (is : List Instruction) : Type 0 where
 abbrev pub IsBegun : Front → Type 0
 IsBegun Nothing = Unit {0}
 IsBegun (Headed s) = IsHeaded s
-IsBegun (Within s is) = IsWithin s is
+IsBegun (Within s is) = LawfulSoFar s is
 IsBegun (Whole s) = IsLawfulButUneven s

@@ -19,11 +19,11 @@ pub record AreSizes (s : Plan) : Type 0 where
   pub flags : s.flags ≤ 32
 
 -- the address that an instruction names
-abbrev pub address_of : Instruction → Option ℕ
-address_of (Load a) = Some a
-address_of (Store a v) = Some a
-address_of (Add a v) = Some a
-address_of _ = None
+abbrev pub instruction_address : Instruction → Option ℕ
+instruction_address (Load a) = Some a
+instruction_address (Store a v) = Some a
+instruction_address (Add a v) = Some a
+instruction_address _ = None
 
 -- the lock that it names
 abbrev pub lock_of : Instruction → Option ℕ

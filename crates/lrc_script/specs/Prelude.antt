@@ -1,6 +1,6 @@
 -- The words that contracts name, passed on from one place. Declares nothing.
 pub use Rattle.lrc_script.specs.Plan.{Plan, items_of, plan_of}
-pub use Rattle.lrc_script.specs.Lawful.{AreSizes, IsEven, IsLawful, address_of, addresses, barriers, flag_of}
+pub use Rattle.lrc_script.specs.Lawful.{AreSizes, IsEven, IsLawful, instruction_address, addresses, barriers, flag_of}
 pub use Rattle.lrc_script.specs.Lawful.{is_barrier, lock_of}
 pub use Rattle.lrc_script.specs.Text.{cluster_line, instruction_line, line_bytes, line_text, section_line}
 pub use Rattle.lrc_script.specs.Text.{section_lines, show_line, spaced, text}

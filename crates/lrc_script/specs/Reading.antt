@@ -13,10 +13,10 @@ use Rattle.lrc_script.specs.declared.line.Keyword.{Keyword}
 use Rattle.lrc_script.specs.declared.line.Keyword.TheVariants as keyword
 use Rattle.lrc_script.specs.declared.script.Instruction.{Instruction}
 use Rattle.lrc_script.specs.declared.script.Instruction.TheVariants as instruction
-use Rattle.lrc_script.specs.declared.progress.Progress.{Progress}
-use Rattle.lrc_script.specs.declared.progress.Progress.TheVariants as progress
+use Rattle.lrc_script.specs.declared.progress.ReadSoFar.{ReadSoFar}
+use Rattle.lrc_script.specs.declared.progress.ReadSoFar.TheVariants as progress
 use Rattle.lrc_script.specs.Plan.{Plan, head_plan, plan_of}
-use Rattle.lrc_script.specs.Lawful.{addresses, address_of, lock_of, flag_of, holds}
+use Rattle.lrc_script.specs.Lawful.{addresses, instruction_address, lock_of, flag_of, holds}
 use Rattle.lrc_script.specs.Faults.{HasNoLineFeed}
 use Rattle.lrc_script.specs.Front.{Front, Nothing, Headed, Within, Whole}
 
@@ -136,8 +136,8 @@ headed (p ∷ n ∷ w ∷ l ∷ g ∷ []) = sized (nat_lt 0 g && are_sizes (head
 headed _ = Err BadLine
 
 -- the section is whole
-abbrev pub closed : Plan → List Instruction → Plan
-closed s is = record s { sections = s.sections ++ is ∷ [] }
+abbrev pub section_closed : Plan → List Instruction → Plan
+section_closed s is = record s { sections = s.sections ++ is ∷ [] }
 
 -- the numbers of the first section line
 abbrev pub first_section : Plan → List ℕ → Result Front ScriptFault
@@ -147,14 +147,14 @@ first_section s _ = Err BadLine
 -- the numbers of another section line
 abbrev pub next_section : Plan → List Instruction → List ℕ → Result Front ScriptFault
 next_section s is (k ∷ []) =
-    if (k == length s.sections + 1) && nat_lt k s.processors then Ok (Within (closed s is) []) else Err BadLine
+    if (k == length s.sections + 1) && nat_lt k s.processors then Ok (Within (section_closed s is) []) else Err BadLine
 next_section s is _ = Err BadLine
 
 -- the numbers of the show line
 abbrev pub ended : Plan → List Instruction → List ℕ → Result Front ScriptFault
 ended s is ns =
     if list_any (λ a. nat_le (addresses s) a) ns then Err OutOfRange else
-    if nat_lt 64 (length ns) then Err TooLong else Ok (Whole (record (closed s is) { shown = ns }))
+    if nat_lt 64 (length ns) then Err TooLong else Ok (Whole (record (section_closed s is) { shown = ns }))
 
 -- the instruction of a keyword with these numbers
 abbrev pub instruction_of : Keyword → List ℕ → Option Instruction
@@ -184,20 +184,20 @@ is_past (Some place) count = nat_le count place
 -- why an instruction can't stand after these, by the order of the tests
 abbrev pub refusal : Plan → List Instruction → Instruction → Option ScriptFault
 refusal s is i =
-    if is_past (address_of i) (addresses s) then Some OutOfRange else
+    if is_past (instruction_address i) (addresses s) then Some OutOfRange else
     if is_past (lock_of i) s.locks then Some BadLock else
     if is_past (flag_of i) s.flags then Some BadFlag else
     if takes_held is i then Some AlreadyHeld else
     if gives_unheld is i then Some NotHeld else
     if nat_le 10000 (length is) then Some TooLong else None
 
-abbrev pub entered : Plan → List Instruction → Instruction → Option ScriptFault → Result Front ScriptFault
-entered s is i None = Ok (Within s (is ++ i ∷ []))
-entered s is i (Some f) = Err f
+abbrev pub instruction_read : Plan → List Instruction → Instruction → Option ScriptFault → Result Front ScriptFault
+instruction_read s is i None = Ok (Within s (is ++ i ∷ []))
+instruction_read s is i (Some f) = Err f
 
 abbrev pub with_instruction : Plan → List Instruction → Option Instruction → Result Front ScriptFault
 with_instruction s is None = Err BadLine
-with_instruction s is (Some i) = entered s is i (refusal s is i)
+with_instruction s is (Some i) = instruction_read s is i (refusal s is i)
 
 -- what a line of this keyword and these numbers makes of what stands before it
 unfoldable pub step : Front → Keyword → List ℕ → Result Front ScriptFault
@@ -231,7 +231,7 @@ abbrev pub after : Front → List ℕ → Result Front ScriptFault
 after f line = after_words f (parts_of 32 line)
 
 -- what stands before the next line
-abbrev pub front_of : Progress → Front
+abbrev pub front_of : ReadSoFar → Front
 front_of progress.Start = Nothing
 front_of (progress.Headed s) = Headed (plan_of s)
 front_of (progress.Within s section) = Within (plan_of s) section.instructions.items

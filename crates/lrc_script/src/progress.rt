@@ -22,7 +22,7 @@ const MOST_SHOWN: usize = 64;
 
 /// The lines of a script that were read.
 #[derive(Drop)]
-pub enum Progress {
+pub enum ReadSoFar {
     /// No line.
     Start,
     /// The `cluster` line.
@@ -129,11 +129,11 @@ fn head(alloc: Global, numbers: &[u32]) -> Result<Script, ScriptFault>
     Ok(script)
 }
 
-fn first_section(alloc: Global, script: Script, numbers: &[u32]) -> Result<Progress, ScriptFault>
+fn first_section(alloc: Global, script: Script, numbers: &[u32]) -> Result<ReadSoFar, ScriptFault>
     ensures { Gives front_of result (first_section (plan_of script) numbers.now) }
 {
     match numbers {
-        [0] => Ok(Progress::Within(script, Section::new(alloc))),
+        [0] => Ok(ReadSoFar::Within(script, Section::new(alloc))),
         _ => Err(ScriptFault::BadLine),
     }
 }
@@ -143,14 +143,14 @@ fn next_section(
     mut script: Script,
     section: Section,
     numbers: &[u32],
-) -> Result<Progress, ScriptFault>
+) -> Result<ReadSoFar, ScriptFault>
     ensures { Gives front_of result (next_section (plan_of script) section.instructions.items
         numbers.now) }
 {
     match numbers {
         [k] if *k as usize == script.sections.len() + 1 && (*k as usize) < script.processors => {
             script.sections.push(section.instructions)?;
-            Ok(Progress::Within(script, Section::new(alloc)))
+            Ok(ReadSoFar::Within(script, Section::new(alloc)))
         }
         _ => Err(ScriptFault::BadLine),
     }
@@ -173,7 +173,7 @@ fn show(
     mut script: Script,
     section: Section,
     numbers: &[u32],
-) -> Result<Progress, ScriptFault>
+) -> Result<ReadSoFar, ScriptFault>
     requires { addresses (plan_of script) ≤ 4096 }
     ensures { Gives front_of result (ended (plan_of script) section.instructions.items numbers.now) }
 {
@@ -185,7 +185,7 @@ fn show(
     }
     script.sections.push(section.instructions)?;
     script.shown = places(alloc, numbers)?;
-    Ok(Progress::Whole(script))
+    Ok(ReadSoFar::Whole(script))
 }
 
 fn add(script: &Script, section: &mut Section, instruction: Instruction) -> Result<(), ScriptFault>
@@ -202,38 +202,43 @@ fn add(script: &Script, section: &mut Section, instruction: Instruction) -> Resu
     }
 }
 
-impl Progress {
+impl ReadSoFar {
     /// Whether a line with this keyword and that many numbers is allowed at this point.
     fn is_due(&self, keyword: Keyword, numbers: usize) -> bool
         ensures { result ≡ is_due (front_of self.now) keyword numbers }
     {
         match (self, keyword) {
-            (Progress::Start, Keyword::Cluster) => numbers == 4 || numbers == 5,
-            (Progress::Headed(_) | Progress::Within(..), Keyword::Section) => numbers == 1,
-            (Progress::Within(script, _), Keyword::Show) => {
+            (ReadSoFar::Start, Keyword::Cluster) => numbers == 4 || numbers == 5,
+            (ReadSoFar::Headed(_) | ReadSoFar::Within(..), Keyword::Section) => numbers == 1,
+            (ReadSoFar::Within(script, _), Keyword::Show) => {
                 numbers >= 1 && script.sections.len() + 1 == script.processors
             }
-            (Progress::Within(..), _) => takes(keyword, numbers),
+            (ReadSoFar::Within(..), _) => takes(keyword, numbers),
             _ => false,
         }
     }
 
     /// What a line of this keyword and these numbers, no instruction of a section, makes of it.
     #[tactic(auto, unfolding(crate::specs::Reading::step))]
-    fn next(self, alloc: Global, keyword: Keyword, numbers: &[u32]) -> Result<Progress, ScriptFault>
+    fn next(
+        self,
+        alloc: Global,
+        keyword: Keyword,
+        numbers: &[u32],
+    ) -> Result<ReadSoFar, ScriptFault>
         requires begun { IsBegun (front_of self) }
         requires other { IsOther (front_of self) keyword numbers.now }
         ensures { Gives front_of result (step (front_of self) keyword numbers.now) }
     {
         match self {
-            Progress::Start => Ok(Progress::Headed(head(alloc, numbers)?)),
-            Progress::Headed(script) => first_section(alloc, script, numbers),
-            Progress::Within(script, section) => match keyword {
+            ReadSoFar::Start => Ok(ReadSoFar::Headed(head(alloc, numbers)?)),
+            ReadSoFar::Headed(script) => first_section(alloc, script, numbers),
+            ReadSoFar::Within(script, section) => match keyword {
                 Keyword::Section => next_section(alloc, script, section, numbers),
                 Keyword::Show => show(alloc, script, section, numbers),
                 _ => Err(ScriptFault::BadLine),
             },
-            Progress::Whole(_) => Err(ScriptFault::BadLine),
+            ReadSoFar::Whole(_) => Err(ScriptFault::BadLine),
         }
     }
 
@@ -245,7 +250,7 @@ impl Progress {
             (step (front_of self.old) keyword numbers.now)) }
         ensures err { IfErr result (λ e. Fails e (step (front_of self.old) keyword numbers.now)) }
     {
-        *self = mem::replace(self, Progress::Start).next(alloc, keyword, numbers)?;
+        *self = mem::replace(self, ReadSoFar::Start).next(alloc, keyword, numbers)?;
         Ok(())
     }
 
@@ -257,7 +262,7 @@ impl Progress {
         ensures err { IfErr result (λ e. Fails e (step (front_of self.old) keyword numbers.now)) }
     {
         match self {
-            Progress::Within(script, section) => match instruction(keyword, numbers) {
+            ReadSoFar::Within(script, section) => match instruction(keyword, numbers) {
                 Some(instruction) => add(script, section, instruction),
                 None => self.go_on(alloc, keyword, numbers),
             },
@@ -328,7 +333,7 @@ impl Progress {
         ensures none { IfNone result ((s : Plan) → front_of self ≢ Headed s) }
     {
         match self {
-            Progress::Headed(script) => Some(script),
+            ReadSoFar::Headed(script) => Some(script),
             _ => None,
         }
     }
@@ -339,7 +344,7 @@ impl Progress {
         ensures none { IfNone result ((s : Plan) → front_of self ≡ Whole s → 0 < length rest.now) }
     {
         match self {
-            Progress::Whole(script) if rest.is_empty() => Some(script),
+            ReadSoFar::Whole(script) if rest.is_empty() => Some(script),
             _ => None,
         }
     }

@@ -1,13 +1,13 @@
 //! A script: the sizes of a cluster, what each processor does, and the addresses to show.
 ghost use Rattle.std.specs.Prelude.{◌≡◌, ◌≢◌, IfOk, IfErr};
-ghost use Rattle.lrc_script.specs.Prelude.{Plan, plan_of, IsLawful, text, IsFault, address_of, lock_of, flag_of};
+ghost use Rattle.lrc_script.specs.Prelude.{Plan, plan_of, IsLawful, text, IsFault, instruction_address, lock_of, flag_of};
 ghost use Rattle.lrc_script.specs.Prelude.{AreSizes, IsHeaded, Nothing, Says, cluster_line, line_bytes};
 ghost use Rattle.lrc_script.specs.declared.fault.ScriptFault.TheVariants.{NoMemory};
 
 use crate::evenness::uneven_line;
 use crate::fault::ScriptFault;
 use crate::line::split_line;
-use crate::progress::Progress;
+use crate::progress::ReadSoFar;
 use std::alloc::Global;
 
 /// The bytes of the longest text of a script.
@@ -39,7 +39,7 @@ pub enum Instruction {
 impl Instruction {
     /// The address that the instruction reads or writes.
     pub fn address(self) -> Option<usize>
-        ensures { result ≡ address_of self }
+        ensures { result ≡ instruction_address self }
     {
         match self {
             Instruction::Load(address)
@@ -100,7 +100,7 @@ pub fn read_sizes(alloc: Global, line: &[u8]) -> Result<Script, ScriptFault>
     // The fault says why.
     ensures fault { IfErr result (λ e. e ≢ NoMemory → Says e Nothing line.now) }
 {
-    let mut progress = Progress::Start;
+    let mut progress = ReadSoFar::Start;
     match progress.after(alloc, line) {
         Ok(()) => {}
         Err(fault) => return Err(fault),
@@ -129,7 +129,7 @@ pub fn parse(alloc: Global, bytes: &[u8]) -> Result<Script, (usize, ScriptFault)
     // names the first section that differs from section 0.
     ensures fault { IfErr result (λ e. IsFault bytes.now e.0 e.1) }
 {
-    let mut progress = Progress::Start;
+    let mut progress = ReadSoFar::Start;
     let mut rest = bytes;
     let mut number = 1;
     while let Some((line, after)) = split_line(rest) {

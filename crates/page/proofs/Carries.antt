@@ -1,11 +1,11 @@
 -- A record carries what stores did: the dirty words of one page, put into another.
 use Rattle.std.proofs.Common.{ℕ, zero, suc, ◌≡◌, Bool, true, false, Some, None, List, [], ◌∷◌, ◌++◌, length, set, replicate, refl, sym, ap, ◌∙◌, append_assoc, arith}
 use Rattle.std.proofs.lemmas.List.{set_at, length-set, length_push, length-replicate}
-use Rattle.lists.specs.Records.{record_applied, marked, harvest}
-use Rattle.lists.proofs.LastWrites.{length-written}
+use Rattle.base.specs.Records.{record_applied, marked, harvest}
+use Rattle.base.proofs.LastWrites.{length-written}
 use Rattle.page.specs.Changes.{Changes}
 use Rattle.page.specs.Contents.{Contents, IsClean}
-use Rattle.page.specs.Carries.{IsAfter, CarriesStores}
+use Rattle.page.specs.Carries.{StoredSinceClean, CarriesStores}
 
 -- the page with the marked words in place of its own
 abbrev merged : List ℕ → List ℕ → List Bool → List ℕ
@@ -67,7 +67,7 @@ merged-clean (p ∷ page) [] same = refl
 merged-clean (p ∷ page) (w ∷ words) same = ap (λ (ps : List ℕ). p ∷ ps) (merged-clean page words (omega arith))
 
 -- the marked words of a copy, put into another page, are what the stores that led there make of it
-merged-after : (stores : List (ℕ × ℕ)) (words other : List ℕ) (p : Contents) → IsAfter stores words p
+merged-after : (stores : List (ℕ × ℕ)) (words other : List ℕ) (p : Contents) → StoredSinceClean stores words p
     → length other ≡ length words → merged other p.words p.dirty ≡ record_applied other stores
 merged-after stores words other p after same =
     ap (λ (ws : List ℕ). merged other ws p.dirty) after.words_are

@@ -6,8 +6,8 @@ use Rattle.std.proofs.lemmas.Nat.Bits.{bit_at_lowest, bit_at-suc, bit_at-trailin
 use Rattle.std.proofs.lemmas.List.{length-drop, drop-drop, get_or-drop}
 use Rattle.std.proofs.lemmas.Bool.{cases_lt, eq-eqb}
 use Rattle.std.proofs.lemmas.Option.{slice_get_within}
-use Rattle.lists.specs.Records.{harvest}
-use Rattle.lists.proofs.Harvests.{harvest_found}
+use Rattle.base.specs.Records.{harvest}
+use Rattle.base.proofs.Harvests.{harvest_found}
 use Rattle.page.specs.Carries.{FitsIn}
 use Rattle.page.specs.Marks.{marks_of, IsBelow}
 

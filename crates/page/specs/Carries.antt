@@ -1,7 +1,7 @@
 -- What a record carries from one copy of a page to another.
 use Rattle.std.specs.Prelude.{ℕ, ◌≡◌, ◌<◌, false, Option, Some, None, List, length, replicate}
-use Rattle.lists.specs.Places.{Has}
-use Rattle.lists.specs.Records.{record_applied, marked, harvest}
+use Rattle.base.specs.Places.{Has}
+use Rattle.base.specs.Records.{record_applied, marked, harvest}
 use Rattle.page.specs.Changes.{Changes}
 use Rattle.page.specs.Contents.{Contents}
 
@@ -17,7 +17,7 @@ pub record IsHarvest (n : ℕ) (p : Contents) (r : Changes) : Type 0 where
 
 -- the copy is what these stores, in turn, make of a clean copy with these words: they write as a
 -- record's words do
-pub record IsAfter (stores : List (ℕ × ℕ)) (words : List ℕ) (p : Contents) : Type 0 where
+pub record StoredSinceClean (stores : List (ℕ × ℕ)) (words : List ℕ) (p : Contents) : Type 0 where
   pub words_are : p.words ≡ record_applied words stores
   pub dirty_are : p.dirty ≡ marked (λ (x : ℕ × ℕ). Some x) (replicate (length words) false) stores
 
@@ -31,6 +31,6 @@ carried words (Some r) = record_applied words r.words
 abbrev pub CarriesStores : Contents → Option Changes → Type 0
 CarriesStores p r =
     (stores : List (ℕ × ℕ)) (words other : List ℕ) →
-    IsAfter stores words p →
+    StoredSinceClean stores words p →
     length other ≡ length words →
     carried other r ≡ record_applied other stores

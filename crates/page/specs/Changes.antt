@@ -1,6 +1,6 @@
 -- What an interval's stores come to in one page.
 use Rattle.std.specs.Prelude.{ℕ, ◌<◌, List}
-use Rattle.lists.specs.Places.{InOrder}
+use Rattle.base.specs.Places.{InOrder}
 
 -- a page, and the offsets and values of the words that were stored in it
 pub record Changes : Type 0 where

@@ -1,7 +1,7 @@
 //! A processor's copy of a page: its words, and a dirty bit for each.
 ghost use Rattle.std.specs.Prelude.{◌≡◌, ◌≤◌, ◌<◌, ◌^◌, ◌↔◌, IsTrue, IfOk, IfSome, IfNone, Some, None, Ok, true};
 ghost use Rattle.std.specs.Prelude.{length, replicate, slice_get, slice_set};
-ghost use Rattle.lists.specs.Prelude.{record_applied, harvest};
+ghost use Rattle.base.specs.Prelude.{record_applied, harvest};
 ghost use Rattle.page.specs.Prelude.{marks_of, IsBelow, IsClean, FitsIn, IsHarvest, CarriesStores};
 
 use crate::record::Record;

@@ -4,11 +4,11 @@
 //! contract.
 ghost use Rattle.turn.specs.Prelude.{TurnsLaw};
 
-use crate::board::Board;
 use crate::contract::Keeper;
-use crate::lock::Lock;
+use crate::lock::TurnLock;
+use crate::lock_words::Board;
 
-impl<B, K: Keeper<B>, W: Board, const ENTRIES: u64> Lock<B, K, W, ENTRIES> {
+impl<B, K: Keeper<B>, W: Board, const ENTRIES: u64> TurnLock<B, K, W, ENTRIES> {
     /// In each state that meets the lock's rule, which holds between any two steps: the numbers drawn and not left are
     /// those from the number of leaves up to the next one, each of one chair; one chair at most is inside, and it has the
     /// least of them; the slot is empty only while a chair is inside, and of the book in it the keeper's fact holds; and

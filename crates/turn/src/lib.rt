@@ -29,11 +29,11 @@
 //! and that `enter` returns are neither proved nor promised.
 #![tactic(auto)]
 
-mod board;
 mod chair;
 mod contract;
 mod laws;
 mod lock;
+mod lock_words;
 mod sleepers;
 
 pub use chair::{Chair, ChairToken, Held, Spent};

@@ -4,9 +4,9 @@ ghost use Rattle.std.specs.Prelude.{refl};
 ghost use Rattle.std.specs.Bool.{OnTrue, OnFalse};
 ghost use Rattle.turn.specs.declared.chair.Stage.TheVariants.{Outside, Waiting, Inside};
 
-use crate::board::{Board, Change, Counter, Layout, Row};
 use crate::chair::{Chair, ChairRun, ChairState, ChairToken, Held, Spent};
 use crate::contract::{Keeper, Outcome, Turn};
+use crate::lock_words::{Board, Change, Counter, Layout, Row};
 use crate::sleepers::{Sleepers, low_half};
 use atomic_table::{Join, Play, Seat, Split, Table, TableRule};
 use crossbeam_utils::Backoff;
@@ -106,7 +106,7 @@ const NEXT: usize = 0;
 const LOOKS_AWAKE: u32 = 128;
 
 /// A lock whose chairs draw numbers, and enter in the order of their numbers, on the board `W`.
-pub struct Lock<B, K: Keeper<B>, W: Board, const ENTRIES: u64> {
+pub struct TurnLock<B, K: Keeper<B>, W: Board, const ENTRIES: u64> {
     table: Table<Option<B>, ChairRun<ChairState<B, K::View>>, Terms<B>, Tickets<K, W>, Global>,
     pub(crate) layout: Layout<W>,
     sleepers: Sleepers,
@@ -115,12 +115,12 @@ pub struct Lock<B, K: Keeper<B>, W: Board, const ENTRIES: u64> {
 }
 
 /// The ticket lock: waiting chairs all look at the number that is served.
-pub type TicketLock<B, K, const ENTRIES: u64> = Lock<B, K, Counter, ENTRIES>;
+pub type TicketLock<B, K, const ENTRIES: u64> = TurnLock<B, K, Counter, ENTRIES>;
 
 /// The array lock: each waiting chair looks at a word of its own.
-pub type ArrayLock<B, K, const ENTRIES: u64> = Lock<B, K, Row, ENTRIES>;
+pub type ArrayLock<B, K, const ENTRIES: u64> = TurnLock<B, K, Row, ENTRIES>;
 
-impl<B, K: Keeper<B>, W: Board, const ENTRIES: u64> Lock<B, K, W, ENTRIES> {
+impl<B, K: Keeper<B>, W: Board, const ENTRIES: u64> TurnLock<B, K, W, ENTRIES> {
     ghost use Rattle.turn.specs.Moves.{fresh_run, seat_with, with_stage, IsAtStage, StepsIn};
     ghost use Rattle.turn.specs.Runs.{chairs_of};
     ghost use Rattle.turn.specs.Chairs.{lock_id, state_of, AreFresh, AreAll, Stands, MayHandIn};
@@ -317,7 +317,7 @@ impl<B, K: Keeper<B>, W: Board, const ENTRIES: u64> Lock<B, K, W, ENTRIES> {
 }
 
 impl<B: Send, K: Keeper<B>, W: Board + Sync, const ENTRIES: u64> Turn<B, K>
-    for Lock<B, K, W, ENTRIES> {
+    for TurnLock<B, K, W, ENTRIES> {
     ghost use Rattle.turn.specs.Chairs.{lock_id, view, AreAll};
 
     const ENTRIES: u64 = ENTRIES;
@@ -345,7 +345,7 @@ impl<B: Send, K: Keeper<B>, W: Board + Sync, const ENTRIES: u64> Turn<B, K>
         let Ok((table, rest)) = Table::new(alloc, words.as_slice(), slots, &terms) else {
             return Err(AllocError);
         };
-        let lock = Lock {
+        let lock = TurnLock {
             table,
             layout,
             sleepers: Sleepers::none(),
@@ -376,7 +376,7 @@ impl<B: Send, K: Keeper<B>, W: Board + Sync, const ENTRIES: u64> Turn<B, K>
         ensures { K.fact result (map view chairs.items) }
     {
         let whole = self.gather(chairs);
-        let Lock {
+        let TurnLock {
             table,
             layout: _,
             sleepers: _,
@@ -391,9 +391,9 @@ impl<B: Send, K: Keeper<B>, W: Board + Sync, const ENTRIES: u64> Turn<B, K>
     ghost limits = { λ _. refl };
 }
 
-impl<B: Drop, K: Keeper<B>, W: Board, const ENTRIES: u64> Drop for Lock<B, K, W, ENTRIES> {
+impl<B: Drop, K: Keeper<B>, W: Board, const ENTRIES: u64> Drop for TurnLock<B, K, W, ENTRIES> {
     fn drop(self) {
-        let Lock {
+        let TurnLock {
             table,
             layout,
             sleepers,

@@ -3,7 +3,7 @@ ghost use Rattle.std.specs.Prelude.{◌≡◌, ℕ, ◌-◌, ◌^◌, ◌<◌, �
 ghost use Rattle.std.specs.Prelude.{slice_index, nat_eq};
 ghost use Rattle.std.specs.Cmp.{partial_equiv_from_equiv};
 ghost use Rattle.std.specs.Cmp.Lexicographic.{pointwise, nat_list_eq_equiv};
-ghost use Rattle.lists.specs.Prelude.{most_processors};
+ghost use Rattle.base.specs.Prelude.{most_processors};
 ghost use Rattle.vtime.specs.Times.{tick, join, Covers};
 
 use smallvec::SmallVec;
@@ -26,7 +26,7 @@ pub struct VTime {
 
 impl Model for VTime {
     ghost use Rattle.std.specs.Prelude.{◌≡◌, ℕ, ◌≤◌, List, length};
-    ghost use Rattle.lists.specs.Limits.{most_processors};
+    ghost use Rattle.base.specs.Limits.{most_processors};
 
     ghost Value = { List ℕ };
 

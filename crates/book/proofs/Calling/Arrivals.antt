@@ -3,9 +3,9 @@ use Rattle.std.proofs.Common.{suc, ◌++◌, take, ◌≡◌, ◌≢◌, ℕ, �
 use Rattle.std.proofs.lemmas.Bool.{cases_eq}
 use Rattle.std.proofs.lemmas.Option.{slice_get-get_or, same_Some, none-some}
 use Rattle.std.proofs.lemmas.List.{length-set, length-map, map-append, get_or-set_same, get_or-set_other}
-use Rattle.lists.proofs.Places.{take-suc_at}
+use Rattle.base.proofs.Places.{take-suc_at}
 use Rattle.book.proofs.Calling.Calls.{same_default}
-use Rattle.lists.proofs.Sets.{slice_get-set_found, slice_get-set_other}
+use Rattle.base.proofs.Sets.{slice_get-set_found, slice_get-set_other}
 use Rattle.journal.specs.declared.event.Event.{Event}
 use Rattle.journal.specs.declared.event.Kind.{Kind}
 use Rattle.journal.specs.declared.event.Kind.TheVariants.{Ask, Acquire, Arrive, Depart}
@@ -18,17 +18,17 @@ use Rattle.page.specs.Changes.{Changes}
 use Rattle.vtime.specs.Times.{tick, join}
 use Rattle.interval.specs.Intervals.{ClosedInterval}
 use Rattle.interval.specs.Closings.{Closings, pushed}
-use Rattle.barrier.specs.Episodes.{Episodes, is_full, joined, arrived}
+use Rattle.barrier.specs.Episodes.{Episodes, episode_full, arrived_at, arrived}
 use Rattle.barrier.specs.declared.barrier.Stage.TheVariants.{Away, Here}
 use Rattle.transit.specs.Letters.{Letter}
 use Rattle.journal.specs.Did.{did}
-use Rattle.book.specs.Stamps.{AreAll}
+use Rattle.book.specs.Stamps.{EachAt}
 use Rattle.book.specs.Mail.{IsPosted}
 use Rattle.book.specs.Meetings.{IsAtStage}
 use Rattle.book.specs.State.{State, time_of}
 use Rattle.book.specs.Transitions.{handed_in, open_interval, closed_by, departure_to, departures_to, mail_met, book_arrived}
-use Rattle.book.specs.Calls.{MayCall, MayBeSent}
-use Rattle.book.specs.Told.{IsTold}
+use Rattle.book.specs.Calls.{MayCloseIdle, MayBeSent}
+use Rattle.book.specs.Told.{Represents}
 use Rattle.book.proofs.Parts.Each.{item_at, is_at}
 use Rattle.book.proofs.Parts.Doings.{count_others}
 use Rattle.book.proofs.Parts.Mail.{idle_allowed, no_mail}
@@ -37,8 +37,8 @@ use Rattle.book.proofs.Parts.Meetings.{stage_away, idle_counts, waits_there, arr
 use Rattle.book.proofs.Parts.Told.{is_idle, is_processor, own_stamp, within_closing}
 
 -- when the last one arrives the others wait, and nobody may go on
-nobody_goes : (s : Sizes) (h : List Event) (b : State) (p q : ℕ) (t : List ℕ) → IsTold s h b
-    → slice_get b.awaits p ≡ Some None → is_full (joined b.barrier p t) ≡ true → q < s.processors → (a : Kind)
+nobody_goes : (s : Sizes) (h : List Event) (b : State) (p q : ℕ) (t : List ℕ) → Represents s h b
+    → slice_get b.awaits p ≡ Some None → episode_full (arrived_at b.barrier p t) ≡ true → q < s.processors → (a : Kind)
     → IsPosted a → ¬ Allowed s h q a
 nobody_goes s h b p q t told idle full less a posted allowed = elim (cases_eq q p) [
   | inl is ↦ (let P : ℕ → Type 0 = λ x. Allowed s h x a in idle_allowed s h p a free posted (subst P is allowed))
@@ -52,7 +52,7 @@ nobody_goes s h b p q t told idle full less a posted allowed = elim (cases_eq q 
     lt = is_processor s h b p None told idle
 
     all : (count_of is_arrive h p ≡ told.barrier.complete)
-        × AreAll s.processors (IsAtStage (did h p Arrive) told.barrier.complete) (slice_set b.barrier.stages p Here)
+        × EachAt s.processors (IsAtStage (did h p Arrive) told.barrier.complete) (slice_set b.barrier.stages p Here)
     all = arrived_stages s h p b.barrier told.well_formed free lt told.barrier
 
     here : IsAtStage (did h p Arrive) told.barrier.complete q Here
@@ -83,9 +83,9 @@ pub record IsArriving (b : State) (p : ℕ) : Type 0 where
   pub stages : length b.barrier.stages ≡ length b.closed.first
   pub own_long : length (time_of b p) ≡ length b.closed.first
   pub sent : (r : ℕ) → r < length b.times → MayBeSent b.closed (slice_set b.times p (tick (time_of b p) p)) r
-  pub none : is_full (joined b.barrier p (tick (time_of b p) p)) ≡ true → b.transit ≡ replicate (length b.times) None
+  pub none : episode_full (arrived_at b.barrier p (tick (time_of b p) p)) ≡ true → b.transit ≡ replicate (length b.times) None
 
-arriving_by : (s : Sizes) (h : List Event) (b : State) (p : ℕ) → IsTold s h b → slice_get b.awaits p ≡ Some None
+arriving_by : (s : Sizes) (h : List Event) (b : State) (p : ℕ) → Represents s h b → slice_get b.awaits p ≡ Some None
     → IsArriving b p
 arriving_by s h b p told idle =
     let own = (own_stamp s h b p told lt).long in
@@ -137,14 +137,14 @@ arriving_by s h b p told idle =
           kept = λ q. within_closing s h b p told lt r q (slice_index_or after r []) read;
         }
 
-    none : is_full (joined b.barrier p (tick (time_of b p) p)) ≡ true → b.transit ≡ replicate (length b.times) None
+    none : episode_full (arrived_at b.barrier p (tick (time_of b p) p)) ≡ true → b.transit ≡ replicate (length b.times) None
     none full =
         let times = told.times.long in
         let transit = told.transit.long in
         all_same b.transit None (λ q less. nothing full q (omega arith))
         ∙ ap (λ n. replicate n None) (transit ∙ sym times)
       where
-        nothing : is_full (joined b.barrier p (tick (time_of b p) p)) ≡ true → (q : ℕ) → q < s.processors
+        nothing : episode_full (arrived_at b.barrier p (tick (time_of b p) p)) ≡ true → (q : ℕ) → q < s.processors
             → slice_get b.transit q ≡ Some None
         nothing all_here q less =
             let transit = told.transit.long in
@@ -154,10 +154,10 @@ arriving_by s h b p told idle =
             (nobody_goes s h b p q (tick (time_of b p) p) told idle all_here less)
             (told.transit.each q (slice_index_or b.transit q None) read)))
 
-pub arriving : (b : State) (p : ℕ) (block : List Event) → MayCall b p block → IsArriving b p
+pub arriving : (b : State) (p : ℕ) (block : List Event) → MayCloseIdle b p block → IsArriving b p
 arriving b p block may = arriving_by may.by.sizes may.by.history b p may.by.told may.hands_in.idle
 
-pub arrives : (b now : State) (p : ℕ) (block : List Event) → b ≡ now → MayCall now p block → IsArriving b p
+pub arrives : (b now : State) (p : ℕ) (block : List Event) → b ≡ now → MayCloseIdle now p block → IsArriving b p
 arrives b now p block same may = subst (λ x. IsArriving x p) (sym same) (arriving now p block may)
 
 -- two functions over a list, one after the other
@@ -184,7 +184,7 @@ met_none false c u made = refl
 module _ (old b : State) (p : ℕ) (block : List Event) (records : List Changes) (t : List ℕ)
     (is : b ≡ closed_by (handed_in old block) p Arrive records) (time : t ≡ tick (time_of old p) p) where
   arrived_is : (barrier : Episodes) (transit : List (Option Letter)) → barrier ≡ arrived b.barrier p t
-      → transit ≡ mail_met (is_full (joined b.barrier p t)) b (join b.barrier.gathered t)
+      → transit ≡ mail_met (episode_full (arrived_at b.barrier p t)) b (join b.barrier.gathered t)
       → record b { barrier = barrier; transit = transit } ≡ book_arrived (handed_in old block) p records
   arrived_is barrier transit here mail = rw is (let now = rw is at here in let post = rw is at mail in cc)
 
@@ -202,7 +202,7 @@ module _ (old b : State) (p : ℕ) (block : List Event) (records : List Changes)
       → record b { barrier = barrier; transit = transit } ≡ book_arrived (handed_in old block) p records
   arrived_met barrier transit ms here post made =
       arrived_is barrier transit here
-      (post ∙ met_some (is_full (joined b.barrier p t)) b (join b.barrier.gathered t) ms
+      (post ∙ met_some (episode_full (arrived_at b.barrier p t)) b (join b.barrier.gathered t) ms
       (departures_read (Some ms) made))
 
   -- an arrival that leaves it open
@@ -212,15 +212,15 @@ module _ (old b : State) (p : ℕ) (block : List Event) (records : List Changes)
       → record b { barrier = barrier } ≡ book_arrived (handed_in old block) p records
   arrived_alone barrier here made =
       arrived_is barrier b.transit here
-      (met_none (is_full (joined b.barrier p t)) b (join b.barrier.gathered t) (departures_read None made))
+      (met_none (episode_full (arrived_at b.barrier p t)) b (join b.barrier.gathered t) (departures_read None made))
 
 -- all have no message when all departures are made
 pub none_waits : (old : State) (p : ℕ) (c : Closings) (t : List ℕ) (ms : List Letter) → IsArriving old p
     → t ≡ tick (time_of old p) p → Some ms ≡ departures_to c old.barrier (slice_set old.times p t) p t
     → old.transit ≡ replicate (length ms) None
-none_waits old p c t ms is time made = go (is_full (joined old.barrier p t)) refl made
+none_waits old p c t ms is time made = go (episode_full (arrived_at old.barrier p t)) refl made
   where
-    go : (full : Bool) → is_full (joined old.barrier p t) ≡ full
+    go : (full : Bool) → episode_full (arrived_at old.barrier p t) ≡ full
         → Some ms ≡ cond full (Some (map (departure_to c (join old.barrier.gathered t)) (slice_set old.times p t)))
         None → old.transit ≡ replicate (length ms) None
     go false all one = absurd (none-some ms (sym one))
@@ -229,7 +229,7 @@ none_waits old p c t ms is time made = go (is_full (joined old.barrier p t)) ref
         (same_Some ms (map (departure_to c (join old.barrier.gathered t)) (slice_set old.times p t)) one)
         ∙ length-map (slice_set old.times p t) (departure_to c (join old.barrier.gathered t))
         ∙ length-set old.times p t in
-        is.none (ap (λ (u : List ℕ). is_full (joined old.barrier p u)) (sym time) ∙ all)
+        is.none (ap (λ (u : List ℕ). episode_full (arrived_at old.barrier p u)) (sym time) ∙ all)
         ∙ ap (λ (n : ℕ). replicate n None) (sym same)
 
 -- the departures as they were made, read off the book before the call
@@ -288,7 +288,7 @@ pub record AreDepartures (c : Closings) (b : Episodes) (times : List (List ℕ))
     (ms : List Letter) : Type 0 where
   pub u : List ℕ
   pub full : Bool
-  pub is : full ≡ is_full (joined b p own)
+  pub is : full ≡ episode_full (arrived_at b p own)
   pub all : full ≡ true
   pub time : u ≡ join b.gathered own
   pub made : ms ≡ map (departure_to c u) times
@@ -304,5 +304,5 @@ departures_are {c} {b} {times} {p} {own} {ms} are =
     cc
 
 pub none_depart : (c : Closings) (b : Episodes) (times : List (List ℕ)) (p : ℕ) (own : List ℕ) (full : Bool)
-    → full ≡ is_full (joined b p own) → full ≡ false → None ≡ departures_to c b times p own
+    → full ≡ episode_full (arrived_at b p own) → full ≡ false → None ≡ departures_to c b times p own
 none_depart c b times p own full is some = cc

@@ -5,7 +5,7 @@ use Rattle.std.proofs.lemmas.List.{length-set, get_or-set_same, get_or-set_other
 use Rattle.journal.specs.declared.event.Event.{Event}
 use Rattle.journal.specs.declared.event.Kind.{Kind}
 use Rattle.journal.specs.declared.event.Kind.TheVariants.{Ask, Set}
-use Rattle.lists.specs.Places.{Has}
+use Rattle.base.specs.Places.{Has}
 use Rattle.page.specs.Changes.{Changes}
 use Rattle.vtime.specs.Times.{tick}
 use Rattle.interval.specs.Intervals.{SentRecord}
@@ -17,7 +17,7 @@ use Rattle.book.specs.Lines.{IsLock}
 use Rattle.book.specs.Flags.{IsFlag}
 use Rattle.book.specs.State.{State, time_of}
 use Rattle.book.specs.Transitions.{handed_in, open_interval, closed_by, grant_from, if_free, flag_joined, book_set, book_asked}
-use Rattle.book.specs.Calls.{MayCall, MayAsk}
+use Rattle.book.specs.Calls.{MayCloseIdle, MayAsk}
 use Rattle.book.proofs.Parts.Each.{is_at, set_back}
 use Rattle.book.proofs.Parts.Mail.{idle_mail}
 use Rattle.book.proofs.Parts.Lines.{idle_no_ask, not_in_line}
@@ -33,7 +33,7 @@ own_ticked b p lt = get_or-set_same b.times p (tick (time_of b p) p) [] lt
 
 -- p has a timestamp after its closing event
 pub still_timed : (old b : State) (p : ℕ) (k : Kind) (block : List Event) (records : List Changes)
-    → MayCall old p block → b ≡ closed_by (handed_in old block) p k records → p < length b.times
+    → MayCloseIdle old p block → b ≡ closed_by (handed_in old block) p k records → p < length b.times
 still_timed old b p k block records may is =
     let same = ap (λ (x : State). length x.times) is ∙ length-set old.times p (tick (time_of old p) p) in
     let lt = (standing old p block may).times in
@@ -53,7 +53,7 @@ flag_long n h f (Some u) t is long = is.1.long ∙ sym long
 -- p's set of f: b is the book when the interval is closed, o and t the flag and p's timestamp in it
 pub record IsSetting (old b : State) (p f : ℕ) (block : List Event) (records : List Changes) (o : Option (List ℕ))
     (t : List ℕ) : Type 0 where
-  pub may : MayCall old p block
+  pub may : MayCloseIdle old p block
   pub range : f < length old.flags
   pub closed : b ≡ closed_by (handed_in old block) p (Set f) records
   pub flag : o ≡ slice_index_or b.flags f o

@@ -20,7 +20,7 @@ use Rattle.book.specs.Transitions.{handed_in, open_interval, closed_by}
 use Rattle.book.specs.declared.protocol.Protocol.TheInside.{Inside}
 use Rattle.book.specs.Holding.{state_of}
 use Rattle.book.specs.State.{State, time_of}
-use Rattle.book.specs.Calls.{IsInner, MayFlush, MayCall, IsOpen}
+use Rattle.book.specs.Calls.{IsInner, MayFlush, MayCloseIdle, IsOpen}
 use Rattle.book.proofs.Parts.History.{happened, history_long}
 use Rattle.book.proofs.Parts.Told.{is_processor, own_stamp, own_number}
 
@@ -35,7 +35,7 @@ pub record IsStanding (b : State) (p : ℕ) : Type 0 where
   pub few : slice_index (time_of b p) p ≤ happened b.journal
   pub pushed : b.closed.pushed ≤ happened b.journal
 
-pub standing : (b : State) (p : ℕ) (block : List Event) → MayCall b p block → IsStanding b p
+pub standing : (b : State) (p : ℕ) (block : List Event) → MayCloseIdle b p block → IsStanding b p
 standing b p block may =
     let s = may.by.sizes in
     let h = may.by.history in
@@ -72,7 +72,7 @@ address_within s (Store a v) range = range
 address_within s _ range = tt
 
 -- who may call may flush
-pub flushes : (b : State) (p : ℕ) (block : List Event) → MayCall b p block → MayFlush b p block
+pub flushes : (b : State) (p : ℕ) (block : List Event) → MayCloseIdle b p block → MayFlush b p block
 flushes b p block may = let hands_in = may.hands_in in record {
   by = may.by;
   gives = record { waits = (None, hands_in.idle, λ some. absurd (some refl)); inner = hands_in.inner };
@@ -139,7 +139,7 @@ closing_is b p k block records new is =
     let awaits = is.awaits in
     is.others ∙ cc
 
-pub stands : (b now : State) (p : ℕ) (block : List Event) → b ≡ now → MayCall now p block → IsStanding b p
+pub stands : (b now : State) (p : ℕ) (block : List Event) → b ≡ now → MayCloseIdle now p block → IsStanding b p
 stands b now p block same may = subst (λ x. IsStanding x p) (sym same) (standing now p block may)
 
 -- what was read at p's place
@@ -148,7 +148,7 @@ pub own_read : (times : List (List ℕ)) (p : ℕ) (t : List ℕ) → p < length
 own_read times p t lt is = is ∙ same_default times p t [] lt
 
 -- p's interval is open
-pub opens : (b now : State) (p : ℕ) (block : List Event) → b ≡ now → MayCall now p block → IsOpen b p
+pub opens : (b now : State) (p : ℕ) (block : List Event) → b ≡ now → MayCloseIdle now p block → IsOpen b p
 opens b now p block same may = let st = stands b now p block same may in record { within = st.times; own = st.own }
 
 -- and closes with its records
@@ -198,7 +198,7 @@ closed_roomy {b} {now} {c} {block} {p} {k} {records} is =
 
 -- so p's interval is open then
 pub opens_roomy : (b : Inside) (now : State) (log : Log) (block : List Event) (p : ℕ)
-    → log ≡ record b.journal { room = log.room } → state_of b ≡ now → MayCall now p block
+    → log ≡ record b.journal { room = log.room } → state_of b ≡ now → MayCloseIdle now p block
     → IsOpen (record (state_of b) { journal = record log { room = b.owing } }) p
 opens_roomy b now log block p made same may =
     opens (record (state_of b) { journal = record log { room = b.owing } }) now p block (roomy b now log made same) may

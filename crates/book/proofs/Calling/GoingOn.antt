@@ -3,8 +3,8 @@ use Rattle.std.proofs.Common.{◌≡◌, ℕ, ◌<◌, IfSome, IsSome, inl, inr,
 use Rattle.std.proofs.lemmas.Option.{none-some, slice_get-map, same_Some}
 use Rattle.std.proofs.lemmas.List.{length-map}
 use Rattle.std.specs.Option.{option_map}
-use Rattle.lists.specs.Limits.{most_processors}
-use Rattle.lists.specs.Places.{Has}
+use Rattle.base.specs.Limits.{most_processors}
+use Rattle.base.specs.Places.{Has}
 use Rattle.transit.specs.Mail.{mail}
 use Rattle.journal.specs.declared.event.Event.{Event}
 use Rattle.journal.specs.declared.event.Kind.{Kind}
@@ -21,7 +21,7 @@ use Rattle.book.specs.Awaiting.{kind_of}
 use Rattle.book.specs.Lines.{IsLock}
 use Rattle.book.specs.State.{State}
 use Rattle.book.specs.Brought.{has_come}
-use Rattle.book.specs.Told.{IsTold, IsToldBySome}
+use Rattle.book.specs.Told.{Represents, IsToldBySome}
 use Rattle.book.specs.Waiting.{HasComeFor, HasClosed, IsNamed, WaitsInVain}
 use Rattle.book.proofs.Parts.Each.{is_at}
 use Rattle.book.proofs.Keeps.Flags.{last_watch}
@@ -53,7 +53,7 @@ stands_after b p k closed =
     s : Sizes
     s = closed.sizes
 
-    told : IsTold s (did closed.history p k) b
+    told : Represents s (did closed.history p k) b
     told = closed.told
 
     may : MayFollow s closed.history (event p k)
@@ -169,7 +169,7 @@ stands_waiting b by =
 -- whether all wait in vain tells whether there is a deadlock
 pub deadlocked : {b now : State} {awaits : List (Option Awaited)} {flags : List (Option (List ℕ))}
     → IsWaitingRead b now awaits flags → (r : Bool)
-    → IsTrue r ↔ EachIndex awaits (VainAt awaits flags b.transit) → (s : Sizes) (h : List Event) → IsTold s h now
+    → IsTrue r ↔ EachIndex awaits (VainAt awaits flags b.transit) → (s : Sizes) (h : List Event) → Represents s h now
     → IsTrue r ↔ IsDeadlock s h
 deadlocked {b} {now} {awaits} {flags} read r is s h told = (
   (λ e. vain_dead s h now told (λ p lt. (vain_for read p).0 (is.0 e p (subst (λ (n : ℕ). p < n) long lt)))),

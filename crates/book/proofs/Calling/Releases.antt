@@ -20,7 +20,7 @@ use Rattle.book.specs.Mail.{IsPosted, IsMail}
 use Rattle.book.specs.State.{State, time_of}
 use Rattle.book.specs.Transitions.{addressed_grant, grant_to, handed_in, open_interval, closed_by, mail_passed_on, book_released}
 use Rattle.book.specs.Calls.{MayRelease, MayBeSent}
-use Rattle.book.specs.Told.{IsTold}
+use Rattle.book.specs.Told.{Represents}
 use Rattle.book.proofs.Parts.Each.{is_at}
 use Rattle.book.proofs.Parts.Mail.{no_mail}
 use Rattle.book.proofs.Parts.Lines.{idle_no_ask}
@@ -28,7 +28,7 @@ use Rattle.book.proofs.Keeps.Locks.{holder_first}
 use Rattle.book.proofs.Parts.Told.{is_idle, is_processor, own_stamp}
 
 -- everyone with a timestamp may be sent what it lacks
-pub may_be_sent : (s : Sizes) (h : List Event) (b : State) (r : ℕ) → IsTold s h b → r < s.processors
+pub may_be_sent : (s : Sizes) (h : List Event) (b : State) (r : ℕ) → Represents s h b → r < s.processors
     → MayBeSent b.closed b.times r
 may_be_sent s h b r told lt =
     let times_long = told.times.long in
@@ -56,7 +56,7 @@ held_mail s h p r i l o held asks mail = no_mail s h r o never mail
     never _ posted allowed = absurd posted
 
 -- who gets the lock next
-pub record IsNext (b : State) (p r : ℕ) : Type 0 where
+pub record IsNextHolder (b : State) (p r : ℕ) : Type 0 where
   pub apart : r ≢ p
   pub sent : MayBeSent b.closed b.times r
   pub none : slice_get b.transit r ≡ Some None
@@ -67,9 +67,9 @@ pub record IsReleasing (b : State) (p l : ℕ) : Type 0 where
   pub holder : (lock_at b.locks l).holder ≡ Some p
   pub own_long : length (time_of b p) ≡ length b.closed.first
   pub lock_long : length (time_of b p) ≡ b.locks.processors
-  pub next : (r : ℕ) → slice_get (lock_at b.locks l).queue 0 ≡ Some r → IsNext b p r
+  pub next : (r : ℕ) → slice_get (lock_at b.locks l).queue 0 ≡ Some r → IsNextHolder b p r
 
-releasing_by : (s : Sizes) (h : List Event) (b : State) (p l : ℕ) → IsTold s h b → slice_get b.awaits p ≡ Some None
+releasing_by : (s : Sizes) (h : List Event) (b : State) (p l : ℕ) → Represents s h b → slice_get b.awaits p ≡ Some None
     → l < s.locks → Holds h p l → IsReleasing b p l
 releasing_by s h b p l told idle range held =
     let lt = is_processor s h b p None told idle in
@@ -101,7 +101,7 @@ releasing_by s h b p l told idle range held =
           | inr zeroth ↦ absurd (cc (zeroth.0))
         ]
 
-    next : (r : ℕ) → slice_get (lock_at b.locks l).queue 0 ≡ Some r → IsNext b p r
+    next : (r : ℕ) → slice_get (lock_at b.locks l).queue 0 ≡ Some r → IsNextHolder b p r
     next r at =
         let ask = asks r at in
         let lt = (told.well_formed ask.0 (record { processor = r; kind = Ask l }) ask.1.does).processor in

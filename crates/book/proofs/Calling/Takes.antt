@@ -4,7 +4,7 @@ use Rattle.std.proofs.lemmas.Bool.{cases_eq}
 use Rattle.std.proofs.lemmas.Option.{get_or_from_slice_get, slice_get-get_or, same_Some}
 use Rattle.std.proofs.Math.ListN.{get_or-map}
 use Rattle.std.proofs.lemmas.List.{length-set, set-set, set-get_or}
-use Rattle.lists.proofs.Sets.{slice_get-set_found, slice_get-set_other}
+use Rattle.base.proofs.Sets.{slice_get-set_found, slice_get-set_other}
 use Rattle.std.specs.Option.{option_map, option_and_then}
 use Rattle.journal.specs.declared.event.Event.{Event}
 use Rattle.journal.specs.declared.event.Kind.{Kind}
@@ -30,7 +30,7 @@ use Rattle.book.specs.Meetings.{IsAtStage}
 use Rattle.book.specs.State.{State, time_of}
 use Rattle.book.specs.Brought.{signal_to, message_among, message_for, has_come, sent_with, brought}
 use Rattle.book.specs.Transitions.{trimmed_by, barrier_left, book_taken}
-use Rattle.book.specs.Told.{IsTold}
+use Rattle.book.specs.Told.{Represents}
 use Rattle.book.specs.Calls.{IsSignalled, MaySignal, MayTake, MayTakeSome, MayTrim}
 use Rattle.book.proofs.Parts.Each.{is_at, item_at}
 use Rattle.book.proofs.Parts.Meetings.{stage_free}
@@ -51,14 +51,14 @@ pub record IsReceiving (b : State) (p : ℕ) (k : Kind) : Type 0 where
   pub none : (f : ℕ) → k ≡ Await f → b.transit ≡ slice_set b.transit p None
   pub long : (m : Letter) → message_for b p k ≡ Some m → length m.time ≡ length b.times
   pub free : (m : Letter) → message_for b p k ≡ Some m → k ≡ Depart → slice_get b.barrier.stages p ≡ Some Free
-  pub come : (s : Sizes) (h : List Event) → IsTold s h b → (has_come b.flags b.transit p k ≡ true) ↔ Ready s h p
+  pub come : (s : Sizes) (h : List Event) → Represents s h b → (has_come b.flags b.transit p k ≡ true) ↔ Ready s h p
   pub takes : IsTrue (is_taking k)
   pub all_long : (i : ℕ) (t : List ℕ) → slice_get b.times i ≡ Some t → length t ≡ length b.times
   pub owners : length b.closed.first ≡ length b.times
   pub from : AreFromFirst b.closed
   pub tight : 1 < length b.times → IsTight b.closed.first b.times
 
-receiving_by : (s : Sizes) (h : List Event) (b : State) (p : ℕ) (k : Kind) → IsTold s h b
+receiving_by : (s : Sizes) (h : List Event) (b : State) (p : ℕ) (k : Kind) → Represents s h b
     → slice_get b.awaits p ≡ Some (Some k) → IsReceiving b p k
 receiving_by s h b p k told waits =
     let lt = is_processor s h b p (Some k) told waits in
@@ -242,9 +242,9 @@ pub record IsComeRead (b now : State) (p : ℕ) (k : Kind) (r : Bool) : Type 0 w
 
 -- what was read of what has come tells whether p is ready
 pub comes : {b now : State} {p : ℕ} {k : Kind} {r : Bool} → IsComeRead b now p k r → (s : Sizes) (h : List Event)
-    → IsTold s h now → (r ≡ true) ↔ Ready s h p
+    → Represents s h now → (r ≡ true) ↔ Ready s h p
 comes {b} {now} {p} {k} {r} read s h told =
-    let come = read.waits.come s h (subst (λ x. IsTold s h x) (sym read.same) told) in
+    let come = read.waits.come s h (subst (λ x. Represents s h x) (sym read.same) told) in
     let all : r ≡ has_come b.flags b.transit p k =
     read.is ∙ ap (λ (fs : List (Option (List ℕ))). has_come fs b.transit p k) read.flags_are in
     ((λ e. come.0 (sym all ∙ e)), (λ ready. all ∙ come.1 ready))

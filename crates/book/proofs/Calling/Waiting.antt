@@ -4,10 +4,10 @@ use Rattle.std.proofs.lemmas.Bool.{cases_eq, true≢false}
 use Rattle.std.proofs.lemmas.Option.{none-some, same_Some, slice_get-get_or, slice_get-map}
 use Rattle.std.specs.Option.{option_map}
 use Rattle.std.specs.List.{position_from}
-use Rattle.lists.specs.Limits.{most_processors}
-use Rattle.lists.specs.Places.{Has}
-use Rattle.lists.proofs.Joined.{has-nil, has-cons}
-use Rattle.lists.proofs.Sets.{slice_get-set_same, slice_get-set_other}
+use Rattle.base.specs.Limits.{most_processors}
+use Rattle.base.specs.Places.{Has}
+use Rattle.base.proofs.Joined.{has-nil, has-cons}
+use Rattle.base.proofs.Sets.{slice_get-set_same, slice_get-set_other}
 use Rattle.transit.specs.Letters.{Letter}
 use Rattle.book.specs.declared.awaited.Awaited.{Awaited}
 use Rattle.book.specs.declared.awaited.Awaited.TheVariants.{Grant, Departure, Signal}

@@ -15,16 +15,16 @@ use Rattle.journal.specs.Pasts.{InPast}
 use Rattle.page.specs.Changes.{Changes}
 use Rattle.vtime.specs.Times.{tick, join}
 use Rattle.interval.specs.Closings.{between}
-use Rattle.barrier.specs.Episodes.{is_full, joined, completed}
+use Rattle.barrier.specs.Episodes.{episode_full, arrived_at, completed}
 use Rattle.transit.specs.Letters.{Letter}
 use Rattle.journal.specs.Did.{event, did}
-use Rattle.book.specs.Stamps.{AreAll, IsStamp}
+use Rattle.book.specs.Stamps.{EachAt, IsStamp}
 use Rattle.book.specs.Mail.{IsPosted, IsMail}
 use Rattle.book.specs.Meetings.{IsBarrier}
 use Rattle.book.specs.ClosedIntervals.{AreContents}
 use Rattle.book.specs.State.{State, time_of}
 use Rattle.book.specs.Transitions.{closed_by, departure_to, mail_met, book_arrived}
-use Rattle.book.specs.Told.{IsTold}
+use Rattle.book.specs.Told.{Represents}
 use Rattle.book.proofs.Parts.Each.{each_own}
 use Rattle.book.proofs.Parts.Doings.{last_none, count_others, count_kept}
 use Rattle.book.proofs.Parts.Stamps.{stamp_closing}
@@ -89,7 +89,7 @@ met_notices true c u r m t at time old =
     subst (λ x. x.notices ≡ between c.closed t x.time) (same_Some (departure_to c.closed u t) m is) refl
 
 -- p, which waits for nothing, arrives at the barrier
-module _ (s : Sizes) (h : List Event) (b : State) (p : ℕ) (told : IsTold s h b)
+module _ (s : Sizes) (h : List Event) (b : State) (p : ℕ) (told : Represents s h b)
     (idle : slice_get b.awaits p ≡ Some None) where
   lt : p < s.processors
   lt = is_processor s h b p None told idle
@@ -112,16 +112,16 @@ module _ (s : Sizes) (h : List Event) (b : State) (p : ℕ) (told : IsTold s h b
 
   -- everyone's mail after the arrival
   arrived_mail : (c : State) (full : Bool) → c.transit ≡ b.transit → length c.times ≡ s.processors
-      → is_full (joined b.barrier p now) ≡ full
-      → AreAll s.processors (IsMail s (did h p Arrive)) (mail_met full c (join b.barrier.gathered now))
+      → episode_full (arrived_at b.barrier p now) ≡ full
+      → EachAt s.processors (IsMail s (did h p Arrive)) (mail_met full c (join b.barrier.gathered now))
   arrived_mail c false same long full =
-      subst (λ ms. AreAll s.processors (IsMail s (did h p Arrive)) ms) (sym same)
+      subst (λ ms. EachAt s.processors (IsMail s (did h p Arrive)) ms) (sym same)
       (each_own s.processors (IsMail s h) (IsMail s (did h p Arrive)) b.transit p told.transit
       (λ r o isnt at is. waits_mail s h p r waits.0.complete o may isnt waits.1 waits.0.lacks is)
       (λ o at is. subst (λ x. IsMail s (did h p Arrive) p x) (idle_mail s h p o free is)
       (arrived_none s h p waits.0.complete counts waits.0.lacks)))
     where
-      waits : (x : IsBarrier s (did h p Arrive) (joined b.barrier p now))
+      waits : (x : IsBarrier s (did h p Arrive) (arrived_at b.barrier p now))
           × ((q : ℕ) → q < s.processors → x.complete ≤ count_of is_arrive h q) × (count_of is_arrive h p ≡ x.complete)
       waits = barrier_waits s h p b.barrier told.well_formed free lt told.barrier now time full
 
@@ -148,15 +148,15 @@ module _ (s : Sizes) (h : List Event) (b : State) (p : ℕ) (told : IsTold s h b
           subst (λ x. IsMail s (did h p Arrive) q x) is (carries q (omega arith) (slice_index_or c.times q []))
 
   -- and the barrier
-  arrived_barrier : (full : Bool) → is_full (joined b.barrier p now) ≡ full
-      → IsBarrier s (did h p Arrive) (completed full (joined b.barrier p now))
+  arrived_barrier : (full : Bool) → episode_full (arrived_at b.barrier p now) ≡ full
+      → IsBarrier s (did h p Arrive) (completed full (arrived_at b.barrier p now))
   arrived_barrier false full =
       (barrier_waits s h p b.barrier told.well_formed free lt told.barrier now time full).0
   arrived_barrier true full =
       barrier_completes s h p b.barrier told.well_formed free lt told.barrier now time well full
 
   pub told_arrive : (records : List Changes) → AreContents s h p (count_of is_closing h p) records
-      → IsTold s (did h p Arrive) (book_arrived b p records)
+      → Represents s (did h p Arrive) (book_arrived b p records)
   told_arrive records stored =
       told_closing s h b p told lt Arrive may (book_arrived b p records)
       (record {
@@ -174,4 +174,4 @@ module _ (s : Sizes) (h : List Event) (b : State) (p : ℕ) (told : IsTold s h b
     where
       -- whether the episode is complete
       full : Bool
-      full = is_full (joined b.barrier p now)
+      full = episode_full (arrived_at b.barrier p now)

@@ -11,7 +11,7 @@ use Rattle.page.specs.Changes.{Changes}
 use Rattle.vtime.specs.Times.{tick, join}
 use Rattle.interval.specs.Closings.{Closings, pushed, between}
 use Rattle.transit.specs.Letters.{Letter}
-use Rattle.book.specs.Stamps.{AreAll, IsStamp}
+use Rattle.book.specs.Stamps.{EachAt, IsStamp}
 use Rattle.book.specs.Lines.{IsLock}
 use Rattle.book.specs.Mail.{IsMail}
 use Rattle.book.specs.Flags.{IsFlag}
@@ -19,7 +19,7 @@ use Rattle.book.specs.Meetings.{IsBarrier}
 use Rattle.book.specs.ClosedIntervals.{AreContents, IsTight}
 use Rattle.book.specs.State.{State, time_of}
 use Rattle.book.specs.Transitions.{logged, open_interval, closed_by, book_joined, trimmed_by, book_trimmed}
-use Rattle.book.specs.Told.{IsTold}
+use Rattle.book.specs.Told.{Represents}
 use Rattle.book.proofs.Parts.ClosedIntervals.{closed_quiet}
 use Rattle.book.proofs.Parts.Timed.{AreTimed, between-trimmed_by, timed_trimmed, tight_then}
 use Rattle.book.proofs.Parts.History.{history_on}
@@ -27,10 +27,10 @@ use Rattle.book.proofs.Parts.Told.{same_sizes, still_formed, awaits_set, times_c
 
 -- the history tells the parts of a book that each transition changes in its own way
 pub record AreAfter (s : Sizes) (h : List Event) (b : State) : Type 0 where
-  pub locks : AreAll s.locks (IsLock s.processors h) b.locks.locks
+  pub locks : EachAt s.locks (IsLock s.processors h) b.locks.locks
   pub barrier : IsBarrier s h b.barrier
-  pub flags : AreAll s.flags (IsFlag s.processors h) b.flags
-  pub transit : AreAll s.processors (IsMail s h) b.transit
+  pub flags : EachAt s.flags (IsFlag s.processors h) b.flags
+  pub transit : EachAt s.processors (IsMail s h) b.transit
   pub notices : (p : ℕ) (m : Letter) (t : List ℕ) → slice_get b.transit p ≡ Some (Some m)
       → slice_get b.times p ≡ Some t → m.notices ≡ between b.closed t m.time
 
@@ -46,7 +46,7 @@ after_trimmed s h b after = record {
 }
 
 -- p does this, which may follow
-module _ (s : Sizes) (h : List Event) (b : State) (p : ℕ) (told : IsTold s h b) (lt : p < s.processors) (k : Kind)
+module _ (s : Sizes) (h : List Event) (b : State) (p : ℕ) (told : Represents s h b) (lt : p < s.processors) (k : Kind)
     (may : MayFollow s h (event p k)) (c : State) (after : AreAfter s (did h p k) c) where
   -- whatever it changes besides, it goes into the journal, and p waits for what comes of it
   pub told_event : (closed : Closings) (times : List (List ℕ)) → AreTimed s (did h p k) closed times
@@ -59,8 +59,8 @@ module _ (s : Sizes) (h : List Event) (b : State) (p : ℕ) (told : IsTold s h b
         flags = c.flags;
         transit = c.transit;
       }
-      → IsTold s (did h p k) c
-  told_event closed times timed tight is = subst (λ x. IsTold s (did h p k) x) (sym is) (record {
+      → Represents s (did h p k) c
+  told_event closed times timed tight is = subst (λ x. Represents s (did h p k) x) (sym is) (record {
     well_formed = still_formed s h b p told k may;
     sizes = same_sizes s b _ told.sizes (refl, refl, refl, refl);
     holds = history_on b.journal h (event p k ∷ []) told.holds;
@@ -87,7 +87,7 @@ module _ (s : Sizes) (h : List Event) (b : State) (p : ℕ) (told : IsTold s h b
         flags = c.flags;
         transit = c.transit;
       }
-      → IsTold s (did h p k) c
+      → Represents s (did h p k) c
   told_closing quiet closes records stored is =
       told_event (pushed b.closed (open_interval b p records)) (slice_set b.times p (tick (time_of b p) p))
       (record {
@@ -98,7 +98,7 @@ module _ (s : Sizes) (h : List Event) (b : State) (p : ℕ) (told : IsTold s h b
       (tight_closing s h b p told lt) is
 
 -- p takes over this timestamp, and what everyone covers then is trimmed
-pub told_taking : (s : Sizes) (h : List Event) (b : State) (p : ℕ) → IsTold s h b → p < s.processors → (k : Kind)
+pub told_taking : (s : Sizes) (h : List Event) (b : State) (p : ℕ) → Represents s h b → p < s.processors → (k : Kind)
     → MayFollow s h (event p k) → (c : State) → AreAfter s (did h p k) c → is_closing k ≡ false → (u : List ℕ)
     → IsStamp s.processors h (Brings h p k) u
     → c ≡ record (book_joined b p k u) {
@@ -107,7 +107,7 @@ pub told_taking : (s : Sizes) (h : List Event) (b : State) (p : ℕ) → IsTold 
       flags = c.flags;
       transit = c.transit;
     }
-    → IsTold s (did h p k) (book_trimmed c)
+    → Represents s (did h p k) (book_trimmed c)
 told_taking s h b p told lt k may c after quiet u brings is =
     told_event s h b p told lt k may (book_trimmed c) (after_trimmed s (did h p k) c after)
     (trimmed_by b.closed times (length times)) times (timed_trimmed s (did h p k) b.closed times timed)

@@ -12,17 +12,17 @@ use Rattle.journal.specs.Waits.{awaited, IsIdle}
 use Rattle.journal.proofs.Journals.WellFormed.{last_unique}
 use Rattle.journal.proofs.Journals.Ready.{waits_for, taking_follows}
 use Rattle.page.specs.Changes.{Changes}
-use Rattle.lists.proofs.Sets.{slice_get-set_other}
+use Rattle.base.proofs.Sets.{slice_get-set_other}
 use Rattle.vtime.specs.Times.{tick, join}
 use Rattle.transit.specs.Letters.{Letter}
 use Rattle.journal.specs.Did.{event, did}
-use Rattle.book.specs.Stamps.{AreAll, IsAwaited}
+use Rattle.book.specs.Stamps.{EachAt, IsAwaited}
 use Rattle.book.specs.Mail.{IsPosted, IsMail}
 use Rattle.book.specs.Flags.{IsFlag}
 use Rattle.book.specs.ClosedIntervals.{AreContents}
 use Rattle.book.specs.State.{State, time_of}
 use Rattle.book.specs.Transitions.{closed_by, flag_joined, book_set, book_watched, book_joined, book_trimmed}
-use Rattle.book.specs.Told.{IsTold}
+use Rattle.book.specs.Told.{Represents}
 use Rattle.book.proofs.Parts.Each.{each_set, each_own, is_at}
 use Rattle.book.proofs.Parts.Stamps.{stamp_closing}
 use Rattle.book.proofs.Parts.Lines.{idle_no_ask}
@@ -43,12 +43,12 @@ record IsPlainClosing (k : Kind) : Type 0 where
   ask : (l : ℕ) → k ≢ Ask l
   release : (l : ℕ) → k ≢ Release l
 
-module _ (s : Sizes) (h : List Event) (b : State) (p f : ℕ) (records : List Changes) (told : IsTold s h b)
+module _ (s : Sizes) (h : List Event) (b : State) (p f : ℕ) (records : List Changes) (told : Represents s h b)
     (range : f < s.flags) (idle : slice_get b.awaits p ≡ Some None)
     (stored : AreContents s h p (count_of is_closing h p) records) where
   told_plain : (k : Kind) → IsPlainClosing k → MayFollow s h (event p k) → (flags : List (Option (List ℕ)))
-      → AreAll s.flags (IsFlag s.processors (did h p k)) flags
-      → IsTold s (did h p k) (record (closed_by b p k records) { flags = flags })
+      → EachAt s.flags (IsFlag s.processors (did h p k)) flags
+      → Represents s (did h p k) (record (closed_by b p k records) { flags = flags })
   told_plain k plain may flags all =
       told_closing s h b p told lt k may (record (closed_by b p k records) { flags = flags })
       (record {
@@ -73,7 +73,7 @@ module _ (s : Sizes) (h : List Event) (b : State) (p f : ℕ) (records : List Ch
       arrive = unlike is_arrive k Arrive plain.arrives refl
 
   -- p sets a flag
-  pub told_set : IsTold s (did h p (Set f)) (book_set b p f records)
+  pub told_set : Represents s (did h p (Set f)) (book_set b p f records)
   told_set =
       told_plain (Set f)
       (record {
@@ -95,7 +95,7 @@ module _ (s : Sizes) (h : List Event) (b : State) (p f : ℕ) (records : List Ch
       stamp_closing s.processors h p (Set f) (time_of b p) lt refl refl (own_stamp s h b p told lt))))
 
   -- p watches a flag
-  pub told_watch : IsTold s (did h p (Watch f)) (book_watched b p f records)
+  pub told_watch : Represents s (did h p (Watch f)) (book_watched b p f records)
   told_watch =
       told_plain (Watch f)
       (record {
@@ -132,9 +132,9 @@ watching_mail s h p i f (Some m) last mail = absurd (go mail.kind (lets_posted m
     go _ posted allowed = absurd posted
 
 -- p awaits a flag that is set, and what everyone covers then is trimmed
-pub told_signal : (s : Sizes) (h : List Event) (b : State) (p f : ℕ) (t : List ℕ) → IsTold s h b
+pub told_signal : (s : Sizes) (h : List Event) (b : State) (p f : ℕ) (t : List ℕ) → Represents s h b
     → slice_get b.awaits p ≡ Some (Some (Await f)) → slice_get b.flags f ≡ Some (Some t)
-    → IsTold s (did h p (Await f)) (book_trimmed (book_joined b p (Await f) t))
+    → Represents s (did h p (Await f)) (book_trimmed (book_joined b p (Await f) t))
 told_signal s h b p f t told waits set =
     told_taking s h b p told (is_processor s h b p (Some (Await f)) told waits) (Await f) may
     (book_joined b p (Await f) t)
@@ -167,7 +167,7 @@ told_signal s h b p f t told waits set =
         none-some m (watching_mail s h p last.0 f (Some m) last.1 (told.transit.each p (Some m) (subst P is at)))
 
 -- who waits for a flag may go on exactly where it is set
-pub signal_ready : (s : Sizes) (h : List Event) (b : State) (p f : ℕ) (o : Option (List ℕ)) → IsTold s h b
+pub signal_ready : (s : Sizes) (h : List Event) (b : State) (p f : ℕ) (o : Option (List ℕ)) → Represents s h b
     → slice_get b.awaits p ≡ Some (Some (Await f)) → slice_get b.flags f ≡ Some o → (o ≢ None) ↔ Ready s h p
 signal_ready s h b p f o told waits at =
     (there o (told.flags.each f o at), λ ready. back o (told.flags.each f o at) ready)

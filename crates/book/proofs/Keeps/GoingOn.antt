@@ -2,7 +2,7 @@
 use Rattle.std.proofs.Common.{◌≡◌, ◌≢◌, ℕ, ◌+◌, ◌<◌, ◌≤◌, ◌⊎◌, inl, inr, List, [], ◌∷◌, ◌++◌, length, true, false, Bool, cond, Option, Some, None, IsTrue, slice_get, subst, sym, refl, ap, ◌∙◌, append_assoc, append-nil, arith}
 use Rattle.std.proofs.lemmas.Bool.{cases_eq, cases_lt, true≢false}
 use Rattle.std.proofs.lemmas.Option.{none-some, same_Some, slice_get_within}
-use Rattle.lists.proofs.Places.{push_cases, push_induction}
+use Rattle.base.proofs.Places.{push_cases, push_induction}
 use Rattle.journal.specs.declared.event.Event.{Event}
 use Rattle.journal.specs.declared.event.Kind.{Kind}
 use Rattle.journal.specs.declared.event.Kind.TheVariants.{Acquire, Release, Arrive, Depart, Set, Watch, Await}
@@ -21,7 +21,7 @@ use Rattle.book.specs.Lines.{IsLock}
 use Rattle.book.specs.Stamps.{IsAwaited}
 use Rattle.book.specs.State.{State}
 use Rattle.book.specs.Brought.{has_come}
-use Rattle.book.specs.Told.{IsTold}
+use Rattle.book.specs.Told.{Represents}
 use Rattle.book.specs.Calls.{IsBlockOf}
 use Rattle.book.specs.Waiting.{HasComeFor, WaitsInVain, IsNamed, LetsOn}
 use Rattle.book.proofs.Parts.Each.{is_at, item_at}
@@ -85,7 +85,7 @@ block_back s h block p q a isnt takes =
         ]
 
 -- of a book that is told
-module _ (s : Sizes) (h : List Event) (b : State) (told : IsTold s h b) where
+module _ (s : Sizes) (h : List Event) (b : State) (told : Represents s h b) where
   -- who may take something waits for it
   pub waits_taking : (q : ℕ) (k : Kind) → IsTrue (is_taking k) → Allowed s h q k
       → (q < s.processors) × (slice_get b.awaits q ≡ Some (Some k))
@@ -179,7 +179,7 @@ named_within b p _ q named = absurd named
 
 -- p's block and event let q go on
 module _ (s : Sizes) (h block : List Event) (b : State) (p : ℕ) (k : Kind) (q : ℕ)
-    (told : IsTold s (did (h ++ block) p k) b) (inner : IsBlockOf s p block) (lets : LetsOn s h block p k q) where
+    (told : Represents s (did (h ++ block) p k) b) (inner : IsBlockOf s p block) (lets : LetsOn s h block p k q) where
   followed : WellFormed s (h ++ block) × MayFollow s (h ++ block) (event p k)
   followed = (each_push s (h ++ block) (event p k)).0 told.well_formed
 

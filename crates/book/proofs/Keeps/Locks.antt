@@ -11,7 +11,7 @@ use Rattle.journal.specs.WellFormed.{LastIs, Holds, MayBeGranted, Allowed, MayFo
 use Rattle.journal.specs.Waits.{IsIdle}
 use Rattle.journal.specs.Pasts.{UpToSome}
 use Rattle.journal.specs.Brings.{SomeDoes}
-use Rattle.lists.proofs.Sets.{slice_get-set_found, slice_get-set_other}
+use Rattle.base.proofs.Sets.{slice_get-set_found, slice_get-set_other}
 use Rattle.journal.proofs.Journals.WellFormed.{last_cases, holds_cases}
 use Rattle.journal.proofs.Journals.Holding.{holder_alone}
 use Rattle.page.specs.Changes.{Changes}
@@ -22,13 +22,13 @@ use Rattle.lockq.specs.Lock.{Lock, unheld, lock_at, line, asked, released}
 use Rattle.transit.specs.Letters.{Letter}
 use Rattle.transit.specs.Letters.Kind.{grant}
 use Rattle.journal.specs.Did.{event, did}
-use Rattle.book.specs.Stamps.{AreAll, IsStamp}
+use Rattle.book.specs.Stamps.{EachAt, IsStamp}
 use Rattle.book.specs.Lines.{IsLine, IsLock}
 use Rattle.book.specs.Mail.{IsPosted, IsMail}
 use Rattle.book.specs.ClosedIntervals.{AreContents}
 use Rattle.book.specs.State.{State, time_of}
 use Rattle.book.specs.Transitions.{closed_by, grant_from, if_free, mail_passed_on, book_asked, book_released}
-use Rattle.book.specs.Told.{IsTold}
+use Rattle.book.specs.Told.{Represents}
 use Rattle.book.proofs.Parts.Each.{each_set, each_kept, each_own, is_at}
 use Rattle.book.proofs.Parts.Doings.{last_none, holds_back}
 use Rattle.book.proofs.Parts.Stamps.{stamp_closing, stamp_released}
@@ -51,7 +51,7 @@ lock_kept n h p k l x ask acquire release none is = record {
 -- each stays that is neither asked for nor taken nor released
 pub locks_kept : (s : Sizes) (h : List Event) (p : ℕ) (k : Kind) (xs : List Lock) → ((l : ℕ) → k ≢ Ask l)
     → ((l : ℕ) → k ≢ Acquire l) → ((l : ℕ) → k ≢ Release l) → ((l : ℕ) → NoAsk h p l)
-    → AreAll s.locks (IsLock s.processors h) xs → AreAll s.locks (IsLock s.processors (did h p k)) xs
+    → EachAt s.locks (IsLock s.processors h) xs → EachAt s.locks (IsLock s.processors (did h p k)) xs
 locks_kept s h p k xs ask acquire release none all =
     each_kept s.locks (IsLock s.processors h) (IsLock s.processors (did h p k)) xs all
     (λ l x at is. lock_kept s.processors h p k l x (ask l) (acquire l) (release l) (none l) is)
@@ -149,9 +149,9 @@ granted_notices c r u t m at is =
     (ap (λ own. between c.closed own u) (get_or_from_slice_get c.times r t [] at))
 
 -- p asks for a lock
-pub told_ask : (s : Sizes) (h : List Event) (b : State) (p l : ℕ) (records : List Changes) → IsTold s h b
+pub told_ask : (s : Sizes) (h : List Event) (b : State) (p l : ℕ) (records : List Changes) → Represents s h b
     → l < s.locks → slice_get b.awaits p ≡ Some None → ¬ Holds h p l
-    → AreContents s h p (count_of is_closing h p) records → IsTold s (did h p (Ask l)) (book_asked b p l records)
+    → AreContents s h p (count_of is_closing h p) records → Represents s (did h p (Ask l)) (book_asked b p l records)
 told_ask s h b p l records told range idle free stored =
     told_closing s h b p told lt (Ask l) may (book_asked b p l records)
     (record {
@@ -231,8 +231,8 @@ mail_released : (s : Sizes) (h : List Event) (c : State) (p l : ℕ) (xs u : Lis
     → MayFollow s h (event p (Release l)) → IsIdle h p → Holds h p l → IsLine (did h p (Release l)) l xs
     → IsStamp s.processors (did h p (Release l))
     (UpToSome (did h p (Release l)) (SomeDoes (did h p (Release l)) (Release l))) u
-    → AreAll s.processors (IsMail s h) c.transit
-    → AreAll s.processors (IsMail s (did h p (Release l))) (mail_passed_on c xs u)
+    → EachAt s.processors (IsMail s h) c.transit
+    → EachAt s.processors (IsMail s (did h p (Release l))) (mail_passed_on c xs u)
 mail_released s h c p l [] u well may idle held line time all =
     each_own s.processors (IsMail s h) (IsMail s (did h p (Release l))) c.transit p all
     (λ r o isnt at is. released_mail s h p l r [] o may isnt line (none-some r) is)
@@ -271,10 +271,10 @@ passed_notices c (q ∷ xs) u r m t at time old = elim (cases_eq r q) [
 ]
 
 -- p releases a lock that it holds
-pub told_release : (s : Sizes) (h : List Event) (b : State) (p l : ℕ) (records : List Changes) → IsTold s h b
+pub told_release : (s : Sizes) (h : List Event) (b : State) (p l : ℕ) (records : List Changes) → Represents s h b
     → l < s.locks → slice_get b.awaits p ≡ Some None → Holds h p l
     → AreContents s h p (count_of is_closing h p) records
-    → IsTold s (did h p (Release l)) (book_released b p l records)
+    → Represents s (did h p (Release l)) (book_released b p l records)
 told_release s h b p l records told range idle held stored =
     told_closing s h b p told lt (Release l) may (book_released b p l records)
     (record {

@@ -2,9 +2,9 @@
 use Rattle.std.proofs.Common.{◌≡◌, ◌≢◌, ℕ, ◌<◌, ◌≤◌, List, [], ◌∷◌, ◌++◌, length, replicate, false, Some, None, slice_get, slice_set, slice_index, subst, subst₂, sym, refl, ap, ◌∙◌, append_assoc, append-nil, arith}
 use Rattle.std.proofs.lemmas.Option.{none-some}
 use Rattle.std.proofs.lemmas.List.{length-replicate}
-use Rattle.lists.proofs.Places.{push_induction}
-use Rattle.lists.proofs.Joined.{has-nil, in_order-nil}
-use Rattle.lists.proofs.Sets.{index-zeros, slice_get-replicate, slice_get-replicate_found}
+use Rattle.base.proofs.Places.{push_induction}
+use Rattle.base.proofs.Joined.{has-nil, in_order-nil}
+use Rattle.base.proofs.Sets.{index-zeros, slice_get-replicate, slice_get-replicate_found}
 use Rattle.journal.specs.declared.event.Event.{Event}
 use Rattle.journal.specs.declared.event.Kind.{Kind}
 use Rattle.journal.specs.declared.event.Kind.TheVariants.{Load, Store, Fetch, Ask, Acquire, Release, Arrive, Depart, Set}
@@ -17,7 +17,7 @@ use Rattle.journal.specs.Pasts.{InPast, UpToSome}
 use Rattle.journal.specs.Brings.{SomeDoes, SomeArrives}
 use Rattle.journal.proofs.Order.Places.{at_longer, at_last}
 use Rattle.journal.proofs.Journals.WellFormed.{well_formed_empty}
-use Rattle.interval.specs.declared.kept.Kept.{Kept}
+use Rattle.interval.specs.declared.kept_interval.KeptInterval.{KeptInterval}
 use Rattle.lockq.specs.Lock.{unheld}
 use Rattle.barrier.specs.declared.barrier.Stage.TheVariants.{Away}
 use Rattle.book.specs.Meetings.{IsAtStage}
@@ -28,7 +28,7 @@ use Rattle.book.specs.Mail.{IsPosted, IsMail}
 use Rattle.book.specs.Flags.{IsFlag}
 use Rattle.book.specs.State.{State}
 use Rattle.book.specs.Transitions.{new_book, appended, handed_in}
-use Rattle.book.specs.Told.{HoldsSome, IsTold}
+use Rattle.book.specs.Told.{HoldsSome, Represents}
 use Rattle.book.specs.Calls.{IsInner, IsBlockOf}
 use Rattle.book.proofs.Parts.Each.{each_own, each_replicate, set_back}
 use Rattle.book.proofs.Parts.Doings.{unlike}
@@ -48,7 +48,7 @@ nothing : (i : ℕ) (e : Event) → ¬ At [] i e
 nothing i e at = none-some e at
 
 -- the empty book is told by the empty history
-pub told_new : (s : Sizes) → 0 < s.processors → IsTold s [] (new_book s)
+pub told_new : (s : Sizes) → 0 < s.processors → Represents s [] (new_book s)
 told_new s some = record {
   well_formed = well_formed_empty s;
   sizes = record { processors = refl; words = refl; addresses = refl; lockers = refl };
@@ -62,7 +62,7 @@ told_new s some = record {
     each = λ k has. absurd (has-nil k has);
     all = λ q i closes from. absurd (nothing i (event q closes.kind) closes.does);
     contents = λ k has. absurd (has-nil k has);
-    rising = in_order-nil (λ (j k : Kept). j.place < k.place);
+    rising = in_order-nil (λ (j k : KeptInterval). j.place < k.place);
   };
   times = each_replicate s.processors (λ p t. IsStamp s.processors [] (InPast [] p) t) (replicate s.processors 0)
       (λ p. stamp_none s.processors [] (InPast [] p) (λ i x. nothing x.own x.event x.at));
@@ -117,7 +117,7 @@ plain_kind _ t c = absurd cc
 -- a book with another journal that holds the history
 pub told_journal : (s : Sizes) (h : List Event) (b : State) (log : Log)
     → (log.processors ≡ b.journal.processors) × (log.addresses ≡ b.journal.addresses) → HoldsSome log h
-    → IsTold s h b → IsTold s h (record b { journal = log })
+    → Represents s h b → Represents s h (record b { journal = log })
 told_journal s h b log same holds told = record {
   well_formed = told.well_formed;
   sizes = same_sizes s b _ told.sizes (same.0, refl, same.1, refl);
@@ -135,9 +135,9 @@ told_journal s h b log same holds told = record {
 }
 
 -- one load, store or fetch
-told_quiet : (s : Sizes) (h : List Event) (b : State) (p : ℕ) (k : Kind) → IsTold s h b
+told_quiet : (s : Sizes) (h : List Event) (b : State) (p : ℕ) (k : Kind) → Represents s h b
     → slice_get b.awaits p ≡ Some None → is_taking k ≡ false → is_closing k ≡ false → KindInRange s k
-    → IsTold s (did h p k) (handed_in b (event p k ∷ []))
+    → Represents s (did h p k) (handed_in b (event p k ∷ []))
 told_quiet s h b p k told idle takes closes range =
     told_event s h b p told lt k may (handed_in b (event p k ∷ []))
     (record {
@@ -186,26 +186,26 @@ told_quiet s h b p k told idle takes closes range =
     arrive = unlike is_closing k Arrive closes refl
 
 -- p hands in a block of loads, stores and fetches
-pub told_block : (s : Sizes) (h block : List Event) (b : State) (p : ℕ) → IsTold s h b
-    → slice_get b.awaits p ≡ Some None → IsBlockOf s p block → IsTold s (h ++ block) (handed_in b block)
+pub told_block : (s : Sizes) (h block : List Event) (b : State) (p : ℕ) → Represents s h b
+    → slice_get b.awaits p ≡ Some None → IsBlockOf s p block → Represents s (h ++ block) (handed_in b block)
 told_block s h block b p told idle all =
-    push_induction (λ es. IsBlockOf s p es → IsTold s (h ++ es) (handed_in b es)) start step block all
+    push_induction (λ es. IsBlockOf s p es → Represents s (h ++ es) (handed_in b es)) start step block all
   where
-    start : IsBlockOf s p [] → IsTold s (h ++ []) (handed_in b [])
+    start : IsBlockOf s p [] → Represents s (h ++ []) (handed_in b [])
     start plain = told_journal s (h ++ []) b (appended b.journal []) (refl, refl)
         (history_on b.journal h [] told.holds) (rw append-nil told)
 
-    pushed : (es : List Event) (e : Event) → IsInner s p e → IsTold s (h ++ es) (handed_in b es)
-        → IsTold s (h ++ (es ++ e ∷ [])) (handed_in b (es ++ e ∷ []))
+    pushed : (es : List Event) (e : Event) → IsInner s p e → Represents s (h ++ es) (handed_in b es)
+        → Represents s (h ++ (es ++ e ∷ [])) (handed_in b (es ++ e ∷ []))
     pushed es e x now =
         let same : event p e.kind ≡ e = ap (λ q. event q e.kind) (sym x.mine) in
         let one = told_quiet s (h ++ es) (handed_in b es) p e.kind now idle x.takes x.closes x.in_range in
-        let read = subst (λ f. IsTold s ((h ++ es) ++ f ∷ [])
+        let read = subst (λ f. Represents s ((h ++ es) ++ f ∷ [])
         (record b { journal = record b.journal { events = (b.journal.events ++ es) ++ f ∷ [] } })) same one in
-        subst₂ (λ xs ys. IsTold s xs (record b { journal = record b.journal { events = ys } }))
+        subst₂ (λ xs ys. Represents s xs (record b { journal = record b.journal { events = ys } }))
         (append_assoc h es (e ∷ [])) (append_assoc b.journal.events es (e ∷ [])) read
 
-    step : (es : List Event) (e : Event) → (IsBlockOf s p es → IsTold s (h ++ es) (handed_in b es))
-        → IsBlockOf s p (es ++ e ∷ []) → IsTold s (h ++ (es ++ e ∷ [])) (handed_in b (es ++ e ∷ []))
+    step : (es : List Event) (e : Event) → (IsBlockOf s p es → Represents s (h ++ es) (handed_in b es))
+        → IsBlockOf s p (es ++ e ∷ []) → Represents s (h ++ (es ++ e ∷ [])) (handed_in b (es ++ e ∷ []))
     step es e ih plain =
         pushed es e (plain (length es) e (at_last es e)) (ih (λ k f at. plain k f (at_longer es (e ∷ []) k f at)))

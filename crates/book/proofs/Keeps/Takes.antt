@@ -5,7 +5,7 @@ use Rattle.std.proofs.lemmas.Bool.{cases_eq, true≢false}
 use Rattle.std.proofs.lemmas.Option.{same_Some, none-some}
 use Rattle.std.proofs.lemmas.List.{set-get_or}
 use Rattle.std.specs.Option.{option_map, is_some}
-use Rattle.lists.proofs.Sets.{slice_get-set_found, slice_get-set_other}
+use Rattle.base.proofs.Sets.{slice_get-set_found, slice_get-set_other}
 use Rattle.journal.specs.declared.event.Event.{Event}
 use Rattle.journal.specs.declared.event.Kind.{Kind}
 use Rattle.journal.specs.declared.event.Kind.TheVariants.{Ask, Acquire, Release, Arrive, Depart, Set, Watch, Await}
@@ -30,7 +30,7 @@ use Rattle.lockq.specs.Lock.{Lock}
 use Rattle.book.specs.State.{State, time_of}
 use Rattle.book.specs.Transitions.{barrier_left, book_joined, book_received, book_trimmed, book_taken}
 use Rattle.book.specs.Brought.{signal_to, message_for, has_come}
-use Rattle.book.specs.Told.{IsTold}
+use Rattle.book.specs.Told.{Represents}
 use Rattle.book.specs.Laws.{IsMessage}
 use Rattle.book.proofs.Parts.Each.{each_set, each_kept, item_at, is_at}
 use Rattle.book.proofs.Parts.Mail.{lets_posted, mail_kept, own_none}
@@ -112,7 +112,7 @@ there None is = ((λ e. absurd (true≢false (sym e))), (λ r. absurd (is.1 r re
 there (Some a) is = ((λ e. is.0 (λ none. none-some a (sym none))), (λ r. refl))
 
 -- of a book that is told, and a processor that takes
-module _ (s : Sizes) (h : List Event) (b : State) (p : ℕ) (told : IsTold s h b) where
+module _ (s : Sizes) (h : List Event) (b : State) (p : ℕ) (told : Represents s h b) where
   took_barrier : (k : Kind) → p < s.processors → IsPosted k → Allowed s h p k
       → IsBarrier s (did h p k) (barrier_left k b.barrier p)
   took_barrier (Acquire l) lt posted allowed = barrier_kept s h p (Acquire l) b.barrier refl refl told.barrier
@@ -121,7 +121,7 @@ module _ (s : Sizes) (h : List Event) (b : State) (p : ℕ) (told : IsTold s h b
 
   -- p takes its mail, and what everyone covers then is trimmed
   told_take : (k : Kind) (m : Letter) → slice_get b.awaits p ≡ Some (Some k)
-      → slice_get b.transit p ≡ Some (Some m) → IsTold s (did h p k) (book_taken b p k m)
+      → slice_get b.transit p ≡ Some (Some m) → Represents s (did h p k) (book_taken b p k m)
   told_take k m waits mail =
       told_taking s h b p told lt k may (book_received b p k m)
       (record {
@@ -226,12 +226,12 @@ module _ (s : Sizes) (h : List Event) (b : State) (p : ℕ) (told : IsTold s h b
 
     signal_took : (m : Letter) (o : Option (List ℕ)) → slice_get b.flags f ≡ Some o
         → option_map (λ (t : List ℕ). signal_to b.closed t (time_of b p)) o ≡ Some m
-        → IsTold s (did h p (Await f)) (book_taken b p (Await f) m)
+        → Represents s (did h p (Await f)) (book_taken b p (Await f) m)
     signal_took m None at is = absurd (none-some m is)
     signal_took m (Some t) at is =
-        subst (λ x. IsTold s (did h p (Await f)) (book_taken b p (Await f) x))
+        subst (λ x. Represents s (did h p (Await f)) (book_taken b p (Await f) x))
         (same_Some (signal_to b.closed t (time_of b p)) m is)
-        (subst (λ ts. IsTold s (did h p (Await f)) (book_trimmed
+        (subst (λ ts. Represents s (did h p (Await f)) (book_trimmed
         (record (book_joined b p (Await f) t) { transit = ts })))
         no_mail_waits (told_signal s h b p f t told waits at))
 
@@ -243,7 +243,7 @@ module _ (s : Sizes) (h : List Event) (b : State) (p : ℕ) (told : IsTold s h b
 
   -- p takes its message, and what everyone covers then is trimmed
   pub told_took : (k : Kind) (m : Letter) → slice_get b.awaits p ≡ Some (Some k) → message_for b p k ≡ Some m
-      → IsTold s (did h p k) (book_taken b p k m)
+      → Represents s (did h p k) (book_taken b p k m)
   told_took (Await f) m waits is = signal_took f waits m (slice_index_or b.flags f None) (flag_at f waits) is
   told_took _ m waits is = told_take _ m waits (mail_at m (is_processor s h b p (Some _) told waits) is)
 

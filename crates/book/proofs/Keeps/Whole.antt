@@ -3,7 +3,7 @@ use Rattle.std.proofs.Common.{◌≡◌, ◌≢◌, ℕ, ◌↔◌, Option, Some
 use Rattle.std.proofs.lemmas.Bool.{true≢false}
 use Rattle.std.proofs.lemmas.Option.{none-some}
 use Rattle.journal.specs.declared.event.Kind.{Kind}
-use Rattle.lists.proofs.Places.{push_induction}
+use Rattle.base.proofs.Places.{push_induction}
 use Rattle.journal.specs.declared.event.Event.{Event}
 use Rattle.journal.specs.declared.event.Kind.TheVariants.{Acquire, Release}
 use Rattle.journal.specs.Sizes.{Sizes}
@@ -14,9 +14,9 @@ use Rattle.journal.specs.WellFormed.{Holds}
 use Rattle.journal.proofs.Order.Places.{at_longer, at_last}
 use Rattle.book.specs.State.{State}
 use Rattle.book.specs.Transitions.{handed_in, handed_last}
-use Rattle.book.specs.Told.{IsTold}
+use Rattle.book.specs.Told.{Represents}
 use Rattle.book.specs.Calls.{IsBlockOf, MayHandIn}
-use Rattle.book.specs.Laws.{NewLaw, HandInLaw, LastLaw, AskLaw, ReleaseLaw, ArriveLaw, SetLaw, WatchLaw, TakeLaw, CutLaw, MessageLaw, NewsLaw, NewsOrderLaw}
+use Rattle.book.specs.Laws.{NewLaw, HandInLaw, LastLaw, AskLaw, ReleaseLaw, ArriveLaw, SetLaw, WatchLaw, TakeLaw, BookCutLaw, MessageLaw, NewsLaw, NewsOrderLaw}
 use Rattle.book.proofs.Parts.History.{history_room, history_cut}
 use Rattle.book.proofs.Parts.News.{news_are, sent_in_order}
 use Rattle.book.proofs.Parts.Doings.{holds_on, holds_back}
@@ -46,25 +46,25 @@ holds_block s h block p l =
         ) in
         rw append_assoc at pushed
 
-block_told : (s : Sizes) (h block : List Event) (b : State) (p : ℕ) → IsTold s h b → MayHandIn s b p block
-    → IsTold s (h ++ block) (handed_in b block)
+block_told : (s : Sizes) (h block : List Event) (b : State) (p : ℕ) → Represents s h b → MayHandIn s b p block
+    → Represents s (h ++ block) (handed_in b block)
 block_told s h block b p told may = told_block s h block b p told may.idle may.inner
 
 pub new_law : NewLaw
 new_law s some = told_new s some
 
-nothing_told : (s : Sizes) (h : List Event) (b : State) → IsTold s h b → IsTold s (h ++ []) (handed_in b [])
+nothing_told : (s : Sizes) (h : List Event) (b : State) → Represents s h b → Represents s (h ++ []) (handed_in b [])
 nothing_told s h b told =
-    subst (λ es. IsTold s es (handed_in b [])) (sym (append-nil h))
-    (subst (λ (es : List Event). IsTold s h (record b { journal = record b.journal { events = es } }))
+    subst (λ es. Represents s es (handed_in b [])) (sym (append-nil h))
+    (subst (λ (es : List Event). Represents s h (record b { journal = record b.journal { events = es } }))
     (sym (append-nil b.journal.events)) told)
 
-given_told : (s : Sizes) (h block : List Event) (b : State) (p : ℕ) (w : Option Kind) → IsTold s h b
+given_told : (s : Sizes) (h block : List Event) (b : State) (p : ℕ) (w : Option Kind) → Represents s h b
     → slice_get b.awaits p ≡ Some w → (w ≢ None → block ≡ []) → IsBlockOf s p block
-    → IsTold s (h ++ block) (handed_in b block)
+    → Represents s (h ++ block) (handed_in b block)
 given_told s h block b p None told at none inner = block_told s h block b p told (record { idle = at; inner = inner })
 given_told s h block b p (Some k) told at none inner =
-    subst (λ es. IsTold s (h ++ es) (handed_in b es)) (sym (none (λ e. none-some k (sym e))))
+    subst (λ es. Represents s (h ++ es) (handed_in b es)) (sym (none (λ e. none-some k (sym e))))
     (nothing_told s h b told)
 
 pub hand_in_law : HandInLaw
@@ -101,7 +101,7 @@ watch_law s h block b p f records told may are range =
 pub take_law : TakeLaw
 take_law s h b p k m told waits is = told_took s h b p told k m waits is
 
-pub cut_law : CutLaw
+pub cut_law : BookCutLaw
 cut_law s h old new told was =
     let left = was.journal.left in
     let processors = ap (λ (l : Log). l.processors) left in
@@ -109,7 +109,7 @@ cut_law s h old new told was =
     let sizes : IsOf s old.journal =
     record { processors = told.sizes.processors; addresses_are = told.sizes.addresses } in
     let holds = history_cut s h old.journal new.journal sizes told.well_formed told.holds was.journal in
-    subst (λ (b : State). IsTold s h b) (sym was.others)
+    subst (λ (b : State). Represents s h b) (sym was.others)
     (told_journal s h old new.journal (processors, addresses_are) holds told)
 
 pub message_law : MessageLaw

@@ -7,12 +7,12 @@ use Rattle.std.proofs.lemmas.List.{length-set, get_or-set_same, get_or-set_other
 use Rattle.std.proofs.Math.Seq.{take-append_seam}
 use Rattle.journal.specs.declared.event.Event.{Event}
 use Rattle.journal.specs.declared.event.Kind.{Kind}
-use Rattle.lists.specs.Places.{Has, InOrder}
+use Rattle.base.specs.Places.{Has, InOrder}
 use Rattle.journal.specs.Sizes.{Sizes}
 use Rattle.journal.specs.Events.{count_of, interval_at, is_closing}
 use Rattle.journal.specs.Times.{ClosesAt}
-use Rattle.lists.proofs.Places.{push_cases, slice_get-append_left, slice_get-last, count_by-append, count_by-within}
-use Rattle.lists.proofs.Picked.{has-filter, in_order-filter}
+use Rattle.base.proofs.Places.{push_cases, slice_get-append_left, slice_get-last, count_by-append, count_by-within}
+use Rattle.base.proofs.Picked.{has-filter, in_order-filter}
 use Rattle.journal.proofs.Order.Places.{count_of-front, count_of-within}
 use Rattle.journal.specs.declared.event.Kind.TheVariants.{Store}
 use Rattle.journal.specs.Groups.{StoresIn}
@@ -21,11 +21,11 @@ use Rattle.journal.specs.Missing.{closed_count, IsPlaced}
 use Rattle.journal.proofs.Missing.Placed.{placed_longer, placed_now}
 use Rattle.journal.proofs.Times.Times.{closes_shorter, interval_behind}
 use Rattle.page.specs.Changes.{Changes}
-use Rattle.interval.specs.declared.kept.Kept.{Kept}
+use Rattle.interval.specs.declared.kept_interval.KeptInterval.{KeptInterval}
 use Rattle.interval.specs.Closings.{Closings, pushed, trimmed, is_trimmed, is_news, between, sent_interval}
-use Rattle.lists.proofs.Filters.{filter_same}
+use Rattle.base.proofs.Filters.{filter_same}
 use Rattle.journal.specs.Did.{event, did}
-use Rattle.book.specs.ClosedIntervals.{AreContents, AreFromFirst, AreClosed, IsWithin}
+use Rattle.book.specs.ClosedIntervals.{AreContents, AreFromFirst, AreClosed, DropsOnlyCovered}
 use Rattle.book.specs.Transitions.{lesser, least, trimmed_by}
 use Rattle.book.proofs.Parts.Doings.{count_did, count_others, count_kept}
 
@@ -68,7 +68,7 @@ contents_closing s h p a q k records closes x = record {
     ]
 
 -- a kept interval's number is one of a closed interval
-kept_number : (h : List Event) (k : Kept) → IsPlaced h k.interval.owner k.interval.number k.place
+kept_number : (h : List Event) (k : KeptInterval) → IsPlaced h k.interval.owner k.interval.number k.place
     → k.interval.number < count_of is_closing h k.interval.owner
 kept_number h k x = let within =
     count_of-within is_closing h x.at k.interval.owner x.closes.kind x.closes.does x.closes.closes in let number =
@@ -104,7 +104,7 @@ closed_quiet s h p k c quiet x = record {
 }
   where
     all : (q i : ℕ) → ClosesAt (did h p k) q i → slice_index c.first q ≤ interval_at (did h p k) q i
-        → (j : Kept) × Has c.kept j × (j.interval.owner ≡ q) × (j.interval.number ≡ interval_at (did h p k) q i)
+        → (j : KeptInterval) × Has c.kept j × (j.interval.owner ≡ q) × (j.interval.number ≡ interval_at (did h p k) q i)
     all q i closes from = elim (closes_cases h p k q i closes) [
       | inl old ↦ (
           let lt = old.0 in
@@ -132,7 +132,7 @@ closed_closing s h p k c n records closes lt number covered stored x = record {
   rising = rising;
 }
   where
-    new : Kept
+    new : KeptInterval
     new = record { place = c.pushed; interval = record { owner = p; number = n; records = records } }
 
     next : (q : ℕ) → q < s.processors → slice_index (slice_set c.next p (n + 1)) q ≡ count_of is_closing (did h p k) q
@@ -154,20 +154,20 @@ closed_closing s h p k c n records closes lt number covered stored x = record {
     is_new : IsPlaced (did h p k) p n c.pushed
     is_new = subst₂ (IsPlaced (did h p k) p) (sym number) (sym x.count) (placed_now h (event p k) closes)
 
-    from : (j : Kept) → Has (c.kept ++ new ∷ []) j → slice_index c.first j.interval.owner ≤ j.interval.number
+    from : (j : KeptInterval) → Has (c.kept ++ new ∷ []) j → slice_index c.first j.interval.owner ≤ j.interval.number
     from j has = elim (push_cases c.kept new has.0 j has.1) [
       | inl old ↦ x.from j (has.0, old.1)
-      | inr last ↦ subst (λ (y : Kept). slice_index c.first y.interval.owner ≤ y.interval.number) last.1 covered
+      | inr last ↦ subst (λ (y : KeptInterval). slice_index c.first y.interval.owner ≤ y.interval.number) last.1 covered
     ]
 
-    each : (j : Kept) → Has (c.kept ++ new ∷ []) j → IsPlaced (did h p k) j.interval.owner j.interval.number j.place
+    each : (j : KeptInterval) → Has (c.kept ++ new ∷ []) j → IsPlaced (did h p k) j.interval.owner j.interval.number j.place
     each j has = elim (push_cases c.kept new has.0 j has.1) [
       | inl old ↦ placed_longer h (event p k ∷ []) j.interval.owner j.interval.number j.place (x.each j (has.0, old.1))
-      | inr last ↦ subst (λ (y : Kept). IsPlaced (did h p k) y.interval.owner y.interval.number y.place) last.1 is_new
+      | inr last ↦ subst (λ (y : KeptInterval). IsPlaced (did h p k) y.interval.owner y.interval.number y.place) last.1 is_new
     ]
 
     all : (q i : ℕ) → ClosesAt (did h p k) q i → slice_index c.first q ≤ interval_at (did h p k) q i
-        → (j : Kept) × Has (c.kept ++ new ∷ []) j × (j.interval.owner ≡ q)
+        → (j : KeptInterval) × Has (c.kept ++ new ∷ []) j × (j.interval.owner ≡ q)
         × (j.interval.number ≡ interval_at (did h p k) q i)
     all q i at from = elim (closes_cases h p k q i at) [
       | inl old ↦ (
@@ -192,17 +192,17 @@ closed_closing s h p k c n records closes lt number covered stored x = record {
           ))
     ]
 
-    contents : (j : Kept) → Has (c.kept ++ new ∷ []) j
+    contents : (j : KeptInterval) → Has (c.kept ++ new ∷ []) j
         → AreContents s (did h p k) j.interval.owner j.interval.number j.interval.records
     contents j has = elim (push_cases c.kept new has.0 j has.1) [
       | inl old ↦ contents_on s h (event p k ∷ []) j.interval.owner j.interval.number j.interval.records
           (kept_number h j (x.each j (has.0, old.1))) (x.contents j (has.0, old.1))
-      | inr last ↦ subst (λ (y : Kept). AreContents s (did h p k)
+      | inr last ↦ subst (λ (y : KeptInterval). AreContents s (did h p k)
           y.interval.owner y.interval.number y.interval.records) last.1
           (contents_closing s h p k p n records closes stored)
     ]
 
-    below : (j : Kept) → Has c.kept j → j.place < c.pushed
+    below : (j : KeptInterval) → Has c.kept j → j.place < c.pushed
     below j has =
         let old = x.each j has in
         let within = count_by-within (λ (e : Event). is_closing e.kind) h old.at
@@ -211,20 +211,20 @@ closed_closing s h p k c n records closes lt number covered stored x = record {
         let count = x.count in
         omega arith
 
-    rising : InOrder (λ (a b : Kept). a.place < b.place) (c.kept ++ new ∷ [])
+    rising : InOrder (λ (a b : KeptInterval). a.place < b.place) (c.kept ++ new ∷ [])
     rising y z a b less at to = elim (push_cases c.kept new z b to) [
       | inl two ↦ elim (push_cases c.kept new y a at) [
         | inl one ↦ x.rising y z a b less one.1 two.1
         | inr one ↦ absurd (omega (arith, one.0, two.0))
       ]
       | inr two ↦ elim (push_cases c.kept new y a at) [
-        | inl one ↦ subst (λ (w : Kept). a.place < w.place) two.1 (below a (y, one.1))
+        | inl one ↦ subst (λ (w : KeptInterval). a.place < w.place) two.1 (below a (y, one.1))
         | inr one ↦ absurd (omega (arith, one.0, two.0))
       ]
     ]
 
 -- where nothing is news, nothing is news
-news_false : (old new : List ℕ) (k : Kept) → slice_index new k.interval.owner ≤ slice_index old k.interval.owner
+news_false : (old new : List ℕ) (k : KeptInterval) → slice_index new k.interval.owner ≤ slice_index old k.interval.owner
     → is_news old new k ≡ false
 news_false old new k le = false_from_ne_true (is_news old new k) (λ e. (
     let parts = and_parts _ _ e in
@@ -237,10 +237,10 @@ pub between_same : (c : Closings) (one other new : List ℕ) (p : ℕ)
     → ((q : ℕ) → q ≢ p → slice_index one q ≡ slice_index other q) → slice_index new p ≤ slice_index one p
     → slice_index new p ≤ slice_index other p → between c one new ≡ between c other new
 between_same c one other new p same here there =
-    ap (λ (ks : List Kept). flat_map sent_interval ks)
+    ap (λ (ks : List KeptInterval). flat_map sent_interval ks)
     (filter_same (is_news one new) (is_news other new) c.kept (λ k has. each k))
   where
-    each : (k : Kept) → is_news one new k ≡ is_news other new k
+    each : (k : KeptInterval) → is_news one new k ≡ is_news other new k
     each k = elim (cases_eq k.interval.owner p) [
       | inl is ↦ (
           let P : List ℕ → ℕ → Type 0 = λ t q. slice_index new q ≤ slice_index t q in
@@ -251,7 +251,7 @@ between_same c one other new p same here there =
     ]
 
 -- what is from its owner's first on isn't trimmed below that
-pub stays_from : (c : Closings) (owner to : ℕ) (k : Kept) → to ≤ slice_index c.first owner
+pub stays_from : (c : Closings) (owner to : ℕ) (k : KeptInterval) → to ≤ slice_index c.first owner
     → slice_index c.first k.interval.owner ≤ k.interval.number → not (is_trimmed owner to k) ≡ true
 stays_from c owner to k le from = elim (cases_eq k.interval.owner owner) [
   | inl is ↦ (
@@ -308,18 +308,18 @@ closed_trimmed s h c owner to lt x = record {
   each = λ k has. x.each k (old k has);
   all = all;
   contents = λ k has. x.contents k (old k has);
-  rising = in_order-filter (λ (j k : Kept). j.place < k.place) (λ k. not (is_trimmed owner to k)) c.kept x.rising;
+  rising = in_order-filter (λ (j k : KeptInterval). j.place < k.place) (λ k. not (is_trimmed owner to k)) c.kept x.rising;
 }
   where
-    old : (k : Kept) → Has (filter (λ k. not (is_trimmed owner to k)) c.kept) k → Has c.kept k
+    old : (k : KeptInterval) → Has (filter (λ k. not (is_trimmed owner to k)) c.kept) k → Has c.kept k
     old k has = ((has-filter (λ k. not (is_trimmed owner to k)) c.kept k).0 has).0
 
-    stays : (k : Kept) → Has c.kept k → not (is_trimmed owner to k) ≡ true
+    stays : (k : KeptInterval) → Has c.kept k → not (is_trimmed owner to k) ≡ true
         → Has (filter (λ k. not (is_trimmed owner to k)) c.kept) k
     stays k has not_trimmed = (has-filter (λ k. not (is_trimmed owner to k)) c.kept k).1 (has, not_trimmed)
 
     all : (q i : ℕ) → ClosesAt h q i → slice_index (trimmed c owner to).first q ≤ interval_at h q i
-        → (k : Kept) × Has (filter (λ k. not (is_trimmed owner to k)) c.kept) k × (k.interval.owner ≡ q)
+        → (k : KeptInterval) × Has (filter (λ k. not (is_trimmed owner to k)) c.kept) k × (k.interval.owner ≡ q)
         × (k.interval.number ≡ interval_at h q i)
     all q i closes from = elim (cases_eq q owner) [
       | inl is ↦ (
@@ -355,7 +355,7 @@ closed_trimmed s h c owner to lt x = record {
 
 pub within_trimmed : (c : Closings) (owner to : ℕ) (times : List (List ℕ))
     → ((p : ℕ) (t : List ℕ) → slice_get times p ≡ Some t → to ≤ slice_index t owner) → owner < length c.first
-    → IsWithin c.first times → IsWithin (trimmed c owner to).first times
+    → DropsOnlyCovered c.first times → DropsOnlyCovered (trimmed c owner to).first times
 within_trimmed c owner to times covered lt within p q t at = elim (cases_eq q owner) [
   | inl is ↦ (
       let P : ℕ → Type 0 = λ r. slice_index (trimmed c owner to).first r ≤ slice_index t r in

@@ -8,7 +8,7 @@ use Rattle.journal.specs.declared.event.Kind.TheVariants.{Acquire, Release}
 use Rattle.journal.specs.Events.{At, count_of}
 use Rattle.journal.specs.WellFormed.{LastIs, Holds}
 use Rattle.journal.specs.Waits.{awaited, IsIdle}
-use Rattle.lists.proofs.Places.{push_cases}
+use Rattle.base.proofs.Places.{push_cases}
 use Rattle.journal.proofs.Order.Places.{count_of-append}
 use Rattle.journal.proofs.Times.Times.{count_of-one}
 use Rattle.journal.proofs.Journals.WellFormed.{last_cases, last_now, last_longer, holds_cases, holds_longer}

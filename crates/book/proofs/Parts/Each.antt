@@ -3,12 +3,12 @@ use Rattle.std.proofs.Common.{◌≡◌, ◌≢◌, ℕ, zero, suc, ◌<◌, inl
 use Rattle.std.proofs.lemmas.Bool.{cases_eq}
 use Rattle.std.proofs.lemmas.List.{length-set, length-replicate}
 use Rattle.std.proofs.lemmas.Option.{same_Some, slice_get-get_or}
-use Rattle.lists.proofs.Sets.{slice_get-set_found, slice_get-set_other, slice_get-replicate_found}
-use Rattle.book.specs.Stamps.{AreAll}
+use Rattle.base.proofs.Sets.{slice_get-set_found, slice_get-set_other, slice_get-replicate_found}
+use Rattle.book.specs.Stamps.{EachAt}
 
 -- one item is written, and each other keeps what it has to be
-pub each_set : {A : Type 0} (n : ℕ) (R Q : ℕ → A → Type 0) (xs : List A) (i : ℕ) (v : A) → AreAll n R xs
-    → ((k : ℕ) (x : A) → k ≢ i → slice_get xs k ≡ Some x → R k x → Q k x) → Q i v → AreAll n Q (slice_set xs i v)
+pub each_set : {A : Type 0} (n : ℕ) (R Q : ℕ → A → Type 0) (xs : List A) (i : ℕ) (v : A) → EachAt n R xs
+    → ((k : ℕ) (x : A) → k ≢ i → slice_get xs k ≡ Some x → R k x → Q k x) → Q i v → EachAt n Q (slice_set xs i v)
 each_set {A} n R Q xs i v all others own = record { long = length-set xs i v ∙ all.long; each = each }
   where
     each : (k : ℕ) (x : A) → slice_get (slice_set xs i v) k ≡ Some x → Q k x
@@ -20,14 +20,14 @@ each_set {A} n R Q xs i v all others own = record { long = length-set xs i v ∙
     ]
 
 -- nothing is written
-pub each_kept : {A : Type 0} (n : ℕ) (R Q : ℕ → A → Type 0) (xs : List A) → AreAll n R xs
-    → ((k : ℕ) (x : A) → slice_get xs k ≡ Some x → R k x → Q k x) → AreAll n Q xs
+pub each_kept : {A : Type 0} (n : ℕ) (R Q : ℕ → A → Type 0) (xs : List A) → EachAt n R xs
+    → ((k : ℕ) (x : A) → slice_get xs k ≡ Some x → R k x → Q k x) → EachAt n Q xs
 each_kept n R Q xs all on = record { long = all.long; each = λ k x at. on k x at (all.each k x at) }
 
 -- nothing is written, and one item has its own reason
-pub each_own : {A : Type 0} (n : ℕ) (R Q : ℕ → A → Type 0) (xs : List A) (i : ℕ) → AreAll n R xs
+pub each_own : {A : Type 0} (n : ℕ) (R Q : ℕ → A → Type 0) (xs : List A) (i : ℕ) → EachAt n R xs
     → ((k : ℕ) (x : A) → k ≢ i → slice_get xs k ≡ Some x → R k x → Q k x)
-    → ((x : A) → slice_get xs i ≡ Some x → R i x → Q i x) → AreAll n Q xs
+    → ((x : A) → slice_get xs i ≡ Some x → R i x → Q i x) → EachAt n Q xs
 each_own {A} n R Q xs i all others own = record { long = all.long; each = each }
   where
     each : (k : ℕ) (x : A) → slice_get xs k ≡ Some x → Q k x
@@ -38,7 +38,7 @@ each_own {A} n R Q xs i all others own = record { long = all.long; each = each }
     ]
 
 -- a list of one item over and over
-pub each_replicate : {A : Type 0} (n : ℕ) (Q : ℕ → A → Type 0) (v : A) → ((k : ℕ) → Q k v) → AreAll n Q (replicate n v)
+pub each_replicate : {A : Type 0} (n : ℕ) (Q : ℕ → A → Type 0) (v : A) → ((k : ℕ) → Q k v) → EachAt n Q (replicate n v)
 each_replicate {A} n Q v all =
     record {
       long = length-replicate {A = A} n v;
@@ -46,11 +46,11 @@ each_replicate {A} n Q v all =
     }
 
 -- the item at a place within the list
-pub item_at : {A : Type 0} (n : ℕ) (R : ℕ → A → Type 0) (xs : List A) (i : ℕ) (d : A) → AreAll n R xs → i < n
+pub item_at : {A : Type 0} (n : ℕ) (R : ℕ → A → Type 0) (xs : List A) (i : ℕ) (d : A) → EachAt n R xs → i < n
     → slice_get xs i ≡ Some (slice_index_or xs i d)
 item_at n R xs i d all lt = slice_get-get_or xs i d (subst (λ m. i < m) (sym all.long) lt)
 
-pub is_at : {A : Type 0} (n : ℕ) (R : ℕ → A → Type 0) (xs : List A) (i : ℕ) (d : A) → AreAll n R xs → i < n
+pub is_at : {A : Type 0} (n : ℕ) (R : ℕ → A → Type 0) (xs : List A) (i : ℕ) (d : A) → EachAt n R xs → i < n
     → R i (slice_index_or xs i d)
 is_at n R xs i d all lt = all.each i (slice_index_or xs i d) (item_at n R xs i d all lt)
 

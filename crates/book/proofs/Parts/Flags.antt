@@ -11,7 +11,7 @@ use Rattle.journal.proofs.Order.Places.{at_last}
 use Rattle.journal.proofs.Times.Kept.{does_kept, kind_joins}
 use Rattle.journal.specs.Did.{event, did}
 use Rattle.journal.specs.Sizes.{Sizes}
-use Rattle.book.specs.Stamps.{AreAll, IsStamp}
+use Rattle.book.specs.Stamps.{EachAt, IsStamp}
 use Rattle.book.specs.Flags.{IsFlag}
 use Rattle.book.specs.Transitions.{flag_joined}
 use Rattle.book.proofs.Parts.Each.{each_kept}
@@ -29,8 +29,8 @@ flag_kept n h p k f (Some t) isnt x = (
 )
 
 pub flags_kept : (s : Sizes) (h : List Event) (p : ℕ) (k : Kind) (flags : List (Option (List ℕ)))
-    → ((f : ℕ) → k ≢ Set f) → AreAll s.flags (IsFlag s.processors h) flags
-    → AreAll s.flags (IsFlag s.processors (did h p k)) flags
+    → ((f : ℕ) → k ≢ Set f) → EachAt s.flags (IsFlag s.processors h) flags
+    → EachAt s.flags (IsFlag s.processors (did h p k)) flags
 flags_kept s h p k flags isnt all =
     each_kept s.flags (IsFlag s.processors h) (IsFlag s.processors (did h p k)) flags all
     (λ f o at is. flag_kept s.processors h p k f o (isnt f) is)

@@ -1,6 +1,6 @@
 -- What the journal has to do with the history of which it holds what is left. Nothing else opens `HoldsSome`.
 use Rattle.std.proofs.Common.{ℕ, ◌+◌, ◌^◌, ◌<◌, ◌≤◌, ◌++◌, List, [], length, take, refl, ap, ◌∙◌, append_assoc, length-append, arith}
-use Rattle.lists.specs.Limits.{most_events, most_cut}
+use Rattle.base.specs.Limits.{most_events, most_cut}
 use Rattle.journal.specs.declared.event.Event.{Event}
 use Rattle.journal.specs.Log.{Log}
 use Rattle.journal.specs.Sizes.{Sizes}

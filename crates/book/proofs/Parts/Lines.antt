@@ -6,10 +6,10 @@ use Rattle.std.proofs.lemmas.Option.{same_Some, none-some, slice_get_within}
 use Rattle.journal.specs.declared.event.Event.{Event}
 use Rattle.journal.specs.declared.event.Kind.{Kind}
 use Rattle.journal.specs.declared.event.Kind.TheVariants.{Ask, Acquire, Release}
-use Rattle.lists.specs.Places.{Has}
+use Rattle.base.specs.Places.{Has}
 use Rattle.journal.specs.WellFormed.{LastIs, Holds, MayBeGranted}
 use Rattle.journal.specs.Waits.{IsIdle}
-use Rattle.lists.proofs.Places.{push_cases, slice_get-append_left, slice_get-last}
+use Rattle.base.proofs.Places.{push_cases, slice_get-append_left, slice_get-last}
 use Rattle.journal.proofs.Order.Places.{at_within}
 use Rattle.journal.proofs.Journals.WellFormed.{last_cases, last_unique, holds_cases, holds_now}
 use Rattle.journal.specs.Did.{event, did}

@@ -12,7 +12,7 @@ use Rattle.journal.specs.Waits.{IsIdle}
 use Rattle.journal.specs.Pasts.{UpToSome}
 use Rattle.journal.specs.Times.{IsTimeIn}
 use Rattle.journal.specs.Brings.{Brings, SomeDoes, SomeArrives}
-use Rattle.lists.proofs.Places.{push_cases}
+use Rattle.base.proofs.Places.{push_cases}
 use Rattle.journal.proofs.Order.Places.{at_within, does_same}
 use Rattle.journal.proofs.Times.Kept.{kind_kept, arrivals_others}
 use Rattle.journal.proofs.Journals.WellFormed.{last_cases, holds_cases, holds_now}

@@ -13,17 +13,17 @@ use Rattle.journal.specs.WellFormed.{LastIs, Allowed, WellFormed}
 use Rattle.journal.specs.Waits.{IsIdle}
 use Rattle.journal.specs.Pasts.{InPast, UpToSome}
 use Rattle.journal.specs.Brings.{Brings, SomeArrives}
-use Rattle.lists.proofs.Sets.{slice_get-replicate_found}
+use Rattle.base.proofs.Sets.{slice_get-replicate_found}
 use Rattle.journal.proofs.Order.Places.{count_of-within}
 use Rattle.journal.proofs.Times.Kept.{arrivals_kept, arrival_joins}
 use Rattle.journal.proofs.Journals.WellFormed.{last_or_none, last_unique}
 use Rattle.journal.proofs.Journals.Balance.{balanced}
 use Rattle.vtime.specs.Times.{join}
-use Rattle.barrier.specs.Episodes.{Episodes, is_here, is_full, joined, completed, departed}
+use Rattle.barrier.specs.Episodes.{Episodes, is_here, episode_full, arrived_at, completed, departed}
 use Rattle.barrier.specs.declared.barrier.Stage.{Stage}
 use Rattle.barrier.specs.declared.barrier.Stage.TheVariants.{Away, Here, Free}
 use Rattle.journal.specs.Did.{event, did}
-use Rattle.book.specs.Stamps.{AreAll, IsStamp}
+use Rattle.book.specs.Stamps.{EachAt, IsStamp}
 use Rattle.book.specs.Meetings.{IsAtStage, IsBarrier}
 use Rattle.book.proofs.Parts.Each.{each_set, each_kept, item_at, is_at}
 use Rattle.book.proofs.Parts.Doings.{count_did, count_others, count_kept}
@@ -178,7 +178,7 @@ module _ (s : Sizes) (h : List Event) (p : ℕ) (b : Episodes) (well : WellForme
     (lt : p < s.processors) (x : IsBarrier s h b) where
   -- all stages then, before the episode is looked at
   pub arrived_stages : (count_of is_arrive h p ≡ x.complete)
-      × AreAll s.processors (IsAtStage (did h p Arrive) x.complete) (slice_set b.stages p Here)
+      × EachAt s.processors (IsAtStage (did h p Arrive) x.complete) (slice_set b.stages p Here)
   arrived_stages = (
     here.0,
     each_set s.processors (IsAtStage h x.complete) (IsAtStage (did h p Arrive) x.complete)
@@ -215,7 +215,7 @@ module _ (s : Sizes) (h : List Event) (p : ℕ) (b : Episodes) (well : WellForme
 
   module _ (u : List ℕ) (time : IsStamp s.processors (did h p Arrive) (InPast (did h p Arrive) p) u) where
     -- when not all are here, the episode stays open
-    pub barrier_waits : is_full (joined b p u) ≡ false → (y : IsBarrier s (did h p Arrive) (joined b p u))
+    pub barrier_waits : episode_full (arrived_at b p u) ≡ false → (y : IsBarrier s (did h p Arrive) (arrived_at b p u))
         × ((q : ℕ) → q < s.processors → y.complete ≤ count_of is_arrive h q) × (count_of is_arrive h p ≡ y.complete)
     barrier_waits open_still = (
       record {
@@ -234,18 +234,18 @@ module _ (s : Sizes) (h : List Event) (p : ℕ) (b : Episodes) (well : WellForme
     )
       where
         all : (count_of is_arrive h p ≡ x.complete)
-            × AreAll s.processors (IsAtStage (did h p Arrive) x.complete) (slice_set b.stages p Here)
+            × EachAt s.processors (IsAtStage (did h p Arrive) x.complete) (slice_set b.stages p Here)
         all = arrived_stages
 
         r : (k : ℕ) × (st : Stage) × (slice_get (slice_set b.stages p Here) k ≡ Some st) × (Here ≢ st)
         r = not_all (slice_set b.stages p Here) open_still
 
-    module _ (next : WellFormed s (did h p Arrive)) (full : is_full (joined b p u) ≡ true) where
+    module _ (next : WellFormed s (did h p Arrive)) (full : episode_full (arrived_at b p u) ≡ true) where
       -- when all are here, all are free, and nobody has arrived at the next episode
-      pub barrier_completes : IsBarrier s (did h p Arrive) (completed true (joined b p u))
+      pub barrier_completes : IsBarrier s (did h p Arrive) (completed true (arrived_at b p u))
       barrier_completes = record {
         complete = x.complete + 1;
-        stages = subst (λ n. AreAll n (IsAtStage (did h p Arrive) (x.complete + 1))
+        stages = subst (λ n. EachAt n (IsAtStage (did h p Arrive) (x.complete + 1))
             (replicate (length (slice_set b.stages p Here)) Free)) long
             (record { long = length-replicate {A = Stage} (length (slice_set b.stages p Here)) Free; each = each });
         lacks = (p, lt, (arrived_here full p lt).0);

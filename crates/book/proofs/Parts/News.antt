@@ -1,35 +1,35 @@
 -- What lies between two timestamps is news, in closing order.
 use Rattle.std.proofs.Common.{ℕ, ◌≡◌, ◌≢◌, ◌<◌, ◌≤◌, ◌⊎◌, max, inl, inr, List, [], ◌∷◌, true, filter, slice_index, refl, sym, ap, subst, subst₂, ◌∙◌, eqb-true, eq-eqb, arith}
 use Rattle.std.proofs.lemmas.Bool.{and_from, and_parts, le-leb, leb-true, lt-ltb, ltb-true}
-use Rattle.lists.specs.Places.{Has, InOrder}
-use Rattle.lists.proofs.Joined.{has-map, has-flat_map, in_order-map, in_order-flat_map, in_order_weaker}
-use Rattle.lists.proofs.Picked.{has-filter, in_order-filter}
+use Rattle.base.specs.Places.{Has, InOrder}
+use Rattle.base.proofs.Joined.{has-map, has-flat_map, in_order-map, in_order-flat_map, in_order_weaker}
+use Rattle.base.proofs.Picked.{has-filter, in_order-filter}
 use Rattle.journal.specs.declared.event.Event.{Event}
 use Rattle.journal.specs.declared.event.Kind.{Kind}
 use Rattle.journal.specs.Sizes.{Sizes}
 use Rattle.journal.specs.Events.{interval_at, is_closing}
 use Rattle.journal.specs.Brings.{Brings}
 use Rattle.journal.specs.Groups.{StoresIn, IsContent}
-use Rattle.journal.specs.Missing.{IsPlaced, Missing, InClosingOrder, AreNews}
+use Rattle.journal.specs.Missing.{IsPlaced, Missing, InClosingOrder, AreMissingNotices}
 use Rattle.journal.proofs.Order.Places.{numbered}
 use Rattle.journal.proofs.Intervals.Contents.{content_some}
 use Rattle.page.specs.Changes.{Changes}
 use Rattle.vtime.specs.Times.{join}
 use Rattle.vtime.proofs.Joins.{get_or-join}
-use Rattle.interval.specs.declared.kept.Kept.{Kept}
+use Rattle.interval.specs.declared.kept_interval.KeptInterval.{KeptInterval}
 use Rattle.interval.specs.Intervals.{SentRecord}
 use Rattle.interval.specs.Closings.{Closings, is_news, is_of_page, sent_record, sent_interval, between}
 use Rattle.book.specs.Stamps.{IsStamp}
 use Rattle.book.specs.ClosedIntervals.{AreClosed}
 use Rattle.book.specs.State.{State, time_of}
-use Rattle.book.specs.Told.{IsTold}
+use Rattle.book.specs.Told.{Represents}
 use Rattle.book.specs.News.{missing_of, missing_in}
 use Rattle.book.proofs.Parts.Each.{item_at}
 use Rattle.book.proofs.Parts.Told.{own_number}
 
 -- the kept interval and its record of page n that are sent
 record IsSent (c : Closings) (old new : List ℕ) (n : ℕ) (x : Missing) : Type 0 where
-  kept : Kept
+  kept : KeptInterval
   has : Has c.kept kept
   news : is_news old new kept ≡ true
   changes : Changes
@@ -55,7 +55,7 @@ sent_of c old new n x h =
       is = ap missing_of r.2 ∙ y.2;
     }
 
-has_sent : (c : Closings) (old new : List ℕ) (k : Kept) (r : Changes) → Has c.kept k → is_news old new k ≡ true
+has_sent : (c : Closings) (old new : List ℕ) (k : KeptInterval) (r : Changes) → Has c.kept k → is_news old new k ≡ true
     → Has k.interval.records r → Has (missing_in r.page (between c old new)) (missing_of (sent_record k r))
 has_sent c old new k r has news among =
     let own = (has-map (sent_record k) k.interval.records (sent_record k r)).1 (r, among, refl) in
@@ -79,25 +79,25 @@ sent_in_order s h c n old new x =
     Before : SentRecord → SentRecord → Type 0
     Before y z = (y.place < z.place) ⊎ (y.notice.page < z.notice.page)
 
-    kept_of : (k : Kept) → Has (filter (is_news old new) c.kept) k → Has c.kept k
+    kept_of : (k : KeptInterval) → Has (filter (is_news old new) c.kept) k → Has c.kept k
     kept_of k h = ((has-filter (is_news old new) c.kept k).0 h).0
 
-    within : (k : Kept) → Has (filter (is_news old new) c.kept) k → InOrder Before (sent_interval k)
+    within : (k : KeptInterval) → Has (filter (is_news old new) c.kept) k → InOrder Before (sent_interval k)
     within k h = in_order-map Before (sent_record k) k.interval.records
         (in_order_weaker (λ (a b : Changes). a.page < b.page) (λ a b. Before (sent_record k a) (sent_record k b))
         k.interval.records (λ a b _ _ less. inr less) (x.contents k (kept_of k h)).rising)
 
-    place_of : (k : Kept) (y : SentRecord) → Has (sent_interval k) y → k.place ≡ y.place
+    place_of : (k : KeptInterval) (y : SentRecord) → Has (sent_interval k) y → k.place ≡ y.place
     place_of k y h = let r = (has-map (sent_record k) k.interval.records y).0 h in ap (λ (z : SentRecord). z.place) r.2
 
-    across : InOrder (λ (j k : Kept). (a b : SentRecord) → Has (sent_interval j) a → Has (sent_interval k) b
+    across : InOrder (λ (j k : KeptInterval). (a b : SentRecord) → Has (sent_interval j) a → Has (sent_interval k) b
         → Before a b) (filter (is_news old new) c.kept)
-    across = in_order_weaker (λ (j k : Kept). j.place < k.place)
-        (λ (j k : Kept). (a b : SentRecord) → Has (sent_interval j) a → Has (sent_interval k) b → Before a b)
+    across = in_order_weaker (λ (j k : KeptInterval). j.place < k.place)
+        (λ (j k : KeptInterval). (a b : SentRecord) → Has (sent_interval j) a → Has (sent_interval k) b → Before a b)
         (filter (is_news old new) c.kept)
         (λ j k _ _ less a b in_j in_k. let here = place_of j a in_j in let there = place_of k b in_k in
         inl (omega arith))
-        (in_order-filter (λ (j k : Kept). j.place < k.place) (is_news old new) c.kept x.rising)
+        (in_order-filter (λ (j k : KeptInterval). j.place < k.place) (is_news old new) c.kept x.rising)
 
     page_of : (y : SentRecord) → Has (filter (is_of_page n) (between c old new)) y → y.notice.page ≡ n
     page_of y h = eqb-true y.notice.page n ((has-filter (is_of_page n) (between c old new) y).0 h).1
@@ -114,9 +114,9 @@ stores_of s h q k n [] some content = absurd (some refl)
 stores_of s h q k n (w ∷ words) some content = content_some s h q k n w words content
 
 -- what a taking brings of a page is news of it
-pub news_are : (s : Sizes) (h : List Event) (b : State) (p n : ℕ) (k : Kind) (u : List ℕ) → IsTold s h b
+pub news_are : (s : Sizes) (h : List Event) (b : State) (p n : ℕ) (k : Kind) (u : List ℕ) → Represents s h b
     → p < s.processors → IsStamp s.processors h (Brings h p k) u
-    → AreNews s h p n (slice_index (time_of b p)) (slice_index (join (time_of b p) u))
+    → AreMissingNotices s h p n (slice_index (time_of b p)) (slice_index (join (time_of b p) u))
     (missing_in n (between b.closed (time_of b p) u))
 news_are s h b p n k u told lt brings = record {
   each = λ q m. (there q m, back q m);
@@ -136,7 +136,7 @@ news_are s h b p n k u told lt brings = record {
     read : (x : Missing) → Has (missing_in n (between b.closed own u)) x → IsSent b.closed own u n x
     read x has = sent_of b.closed own u n x has
 
-    content : (j : Kept) (r : Changes) → Has b.closed.kept j → Has j.interval.records r → r.page ≡ n
+    content : (j : KeptInterval) (r : Changes) → Has b.closed.kept j → Has j.interval.records r → r.page ≡ n
         → IsContent s h j.interval.owner j.interval.number n r.words
     content j r has among page =
         subst (λ m. IsContent s h j.interval.owner j.interval.number m r.words) page
@@ -157,7 +157,7 @@ news_are s h b p n k u told lt brings = record {
     Is : ℕ → ℕ → Type 0
     Is q m = (i : ℕ) × StoresIn s h q m n i × (q ≢ p) × (slice_index own q ≤ m) × (m < slice_index (join own u) q)
 
-    sent : (j : Kept) (r : Changes) → Has b.closed.kept j → is_news own u j ≡ true → Has j.interval.records r
+    sent : (j : KeptInterval) (r : Changes) → Has b.closed.kept j → is_news own u j ≡ true → Has j.interval.records r
         → r.page ≡ n → Is j.interval.owner j.interval.number
     sent j r has news among page =
         let parts = and_parts _ _ news in
@@ -168,7 +168,7 @@ news_are s h b p n k u told lt brings = record {
         ((told.closed.contents j has).some r among) (content j r has among page) in
         (stores.0, stores.1, mine j.interval.owner (omega arith), from, omega arith)
 
-    fresh : (k : Kept) → slice_index own k.interval.owner ≤ k.interval.number
+    fresh : (k : KeptInterval) → slice_index own k.interval.owner ≤ k.interval.number
         → k.interval.number < slice_index u k.interval.owner → is_news own u k ≡ true
     fresh k from below = and_from _ _
         (le-leb (slice_index own k.interval.owner) k.interval.number from)
@@ -194,14 +194,14 @@ news_are s h b p n k u told lt brings = record {
         (told.closed.all q at.place (record { kind = at.kind; does = at.does; closes = at.counts })
         (omega (arith, number, first, x.3))) number x.0 x.1 x.3 covered
       where
-        sends : (k : Kept) → Has b.closed.kept k → k.interval.owner ≡ q → k.interval.number ≡ m
+        sends : (k : KeptInterval) → Has b.closed.kept k → k.interval.owner ≡ q → k.interval.number ≡ m
             → is_news own u k ≡ true → (r : Changes) → Has k.interval.records r → r.page ≡ n
             → (x : Missing) × Has (missing_in n (between b.closed own u)) x × (x.owner ≡ q) × (x.number ≡ m)
         sends k kept owner number news r among page =
             let R : ℕ → Type 0 = λ a. Has (missing_in a (between b.closed own u)) (missing_of (sent_record k r)) in
             (missing_of (sent_record k r), subst R page (has_sent b.closed own u k r kept news among), owner, number)
 
-        found : (k : Kept) → Has b.closed.kept k → k.interval.owner ≡ q → k.interval.number ≡ m → (i : ℕ)
+        found : (k : KeptInterval) → Has b.closed.kept k → k.interval.owner ≡ q → k.interval.number ≡ m → (i : ℕ)
             → StoresIn s h q m n i → slice_index own q ≤ m → m < slice_index u q
             → (x : Missing) × Has (missing_in n (between b.closed own u)) x × (x.owner ≡ q) × (x.number ≡ m)
         found k kept owner number i stores from below =
@@ -213,7 +213,7 @@ news_are s h b p n k u told lt brings = record {
             sends k kept owner number news r.0 r.1 r.2
 
         reached : (c : ℕ)
-            → (k : Kept) × Has b.closed.kept k × (k.interval.owner ≡ q) × (k.interval.number ≡ c) → c ≡ m → (i : ℕ)
+            → (k : KeptInterval) × Has b.closed.kept k × (k.interval.owner ≡ q) × (k.interval.number ≡ c) → c ≡ m → (i : ℕ)
             → StoresIn s h q m n i → slice_index own q ≤ m → m < slice_index u q
             → (x : Missing) × Has (missing_in n (between b.closed own u)) x × (x.owner ≡ q) × (x.number ≡ m)
         reached c k number = found k.0 k.1 k.2 (k.3 ∙ number)

@@ -3,9 +3,9 @@ use Rattle.std.proofs.Common.{◌≡◌, ◌⊎◌, ℕ, zero, suc, ◌<◌, ◌
 use Rattle.std.proofs.lemmas.Bool.{cases_eq, cases_lt, cond-true}
 use Rattle.std.proofs.lemmas.Option.{slice_get-get_or}
 use Rattle.std.proofs.lemmas.List.{set-get_or}
-use Rattle.lists.specs.Places.{Has}
-use Rattle.lists.proofs.Sets.{slice_get-set_found, slice_get-set_other}
-use Rattle.interval.specs.declared.kept.Kept.{Kept}
+use Rattle.base.specs.Places.{Has}
+use Rattle.base.proofs.Sets.{slice_get-set_found, slice_get-set_other}
+use Rattle.interval.specs.declared.kept_interval.KeptInterval.{KeptInterval}
 use Rattle.interval.specs.Closings.{Closings, trimmed, is_trimmed}
 use Rattle.book.specs.ClosedIntervals.{AreFromFirst, IsTight}
 use Rattle.book.specs.Transitions.{lesser, least, trimmed_by}
@@ -26,7 +26,7 @@ trimmed_same c owner to le from =
     let most : max (slice_index c.first owner) (min to (slice_index c.next owner)) ≡ slice_index c.first owner =
     omega arith in
     let first = ap (λ n. slice_set c.first owner n) most ∙ set-get_or c.first owner 0 in
-    ap (λ (ks : List Kept). record (trimmed c owner to) { kept = ks }) kept
+    ap (λ (ks : List KeptInterval). record (trimmed c owner to) { kept = ks }) kept
     ∙ ap (λ (fs : List ℕ). record c { first = fs }) first
 
 pub from_trimmed_by : (c : Closings) (times : List (List ℕ)) (n : ℕ) → n ≤ length c.first → AreFromFirst c

@@ -5,8 +5,8 @@ use Rattle.journal.specs.Sizes.{Sizes}
 use Rattle.journal.specs.Pasts.{InPast}
 use Rattle.interval.specs.Closings.{Closings, between}
 use Rattle.interval.proofs.News.Unchanged.{between-trimmed}
-use Rattle.book.specs.Stamps.{AreAll, IsStamp}
-use Rattle.book.specs.ClosedIntervals.{AreClosed, IsWithin, IsTight}
+use Rattle.book.specs.Stamps.{EachAt, IsStamp}
+use Rattle.book.specs.ClosedIntervals.{AreClosed, DropsOnlyCovered, IsTight}
 use Rattle.book.specs.Transitions.{least, trimmed_by}
 use Rattle.book.proofs.Parts.Each.{item_at}
 use Rattle.book.proofs.Parts.ClosedIntervals.{closed_trimmed, within_trimmed, least_le}
@@ -15,8 +15,8 @@ use Rattle.book.proofs.Parts.Tight.{tight_trimmed}
 -- the history tells these closed intervals and these timestamps, and none is dropped that someone doesn't cover
 pub record AreTimed (s : Sizes) (h : List Event) (c : Closings) (ts : List (List ℕ)) : Type 0 where
   pub closed : AreClosed s h c
-  pub times : AreAll s.processors (λ p t. IsStamp s.processors h (InPast h p) t) ts
-  pub within : IsWithin c.first ts
+  pub times : EachAt s.processors (λ p t. IsStamp s.processors h (InPast h p) t) ts
+  pub within : DropsOnlyCovered c.first ts
 
 -- what is between two timestamps, one of which is among these, is trimmed by none of them
 pub between-trimmed_by : (c : Closings) (ts : List (List ℕ)) (n p : ℕ) (own new : List ℕ) → slice_get ts p ≡ Some own

@@ -11,7 +11,7 @@ use Rattle.journal.specs.WellFormed.{KindInRange, Allowed, MayFollow, WellFormed
 use Rattle.journal.specs.Waits.{awaited, IsIdle}
 use Rattle.journal.specs.Pasts.{InPast}
 use Rattle.journal.specs.Brings.{Brings}
-use Rattle.lists.proofs.Sets.{slice_get-set_found, slice_get-set_other, slice_get-set_same}
+use Rattle.base.proofs.Sets.{slice_get-set_found, slice_get-set_other, slice_get-set_same}
 use Rattle.journal.proofs.Journals.WellFormed.{each_push}
 use Rattle.journal.proofs.Times.Pushes.{own_entry}
 use Rattle.journal.proofs.Journals.Ready.{idle_follows}
@@ -21,12 +21,12 @@ use Rattle.vtime.proofs.Joins.{get_or-join}
 use Rattle.interval.specs.Closings.{pushed, between}
 use Rattle.transit.specs.Letters.{Letter}
 use Rattle.journal.specs.Did.{event, did}
-use Rattle.book.specs.Stamps.{AreAll, IsStamp, IsAwaited}
+use Rattle.book.specs.Stamps.{EachAt, IsStamp, IsAwaited}
 use Rattle.book.specs.Mail.{Carries}
-use Rattle.book.specs.ClosedIntervals.{AreContents, AreClosed, IsWithin, IsTight}
+use Rattle.book.specs.ClosedIntervals.{AreContents, AreClosed, DropsOnlyCovered, IsTight}
 use Rattle.book.specs.State.{State, time_of}
 use Rattle.book.specs.Transitions.{open_interval}
-use Rattle.book.specs.Told.{IsTold}
+use Rattle.book.specs.Told.{Represents}
 use Rattle.book.specs.Told.{HasSizes}
 use Rattle.book.proofs.Parts.Each.{each_set, is_at}
 use Rattle.book.proofs.Parts.Mail.{idle_mail}
@@ -36,7 +36,7 @@ use Rattle.book.proofs.Parts.ClosedIntervals.{closed_closing}
 use Rattle.interval.proofs.News.Unchanged.{between-pushed}
 
 -- whose number is found is a processor
-pub is_processor : (s : Sizes) (h : List Event) (b : State) (p : ℕ) (w : Option Kind) → IsTold s h b
+pub is_processor : (s : Sizes) (h : List Event) (b : State) (p : ℕ) (w : Option Kind) → Represents s h b
     → slice_get b.awaits p ≡ Some w → p < s.processors
 is_processor s h b p w told at =
     let within = slice_get_within b.awaits p w at in
@@ -56,8 +56,8 @@ same_sizes s b c is same = record {
 
 -- a timestamp that grows covers what it covered
 within_set : (first : List ℕ) (times : List (List ℕ)) (p : ℕ) (u : List ℕ) → p < length times
-    → ((q : ℕ) → slice_index (slice_index_or times p []) q ≤ slice_index u q) → IsWithin first times
-    → IsWithin first (slice_set times p u)
+    → ((q : ℕ) → slice_index (slice_index_or times p []) q ≤ slice_index u q) → DropsOnlyCovered first times
+    → DropsOnlyCovered first (slice_set times p u)
 within_set first times p u lt grows within r q t at = elim (cases_eq r p) [
   | inl is ↦ (
       let P : ℕ → Type 0 = λ x. slice_get (slice_set times p u) x ≡ Some t in
@@ -85,7 +85,7 @@ join_grows : (t u : List ℕ) (q : ℕ) → slice_index t q ≤ slice_index (joi
 join_grows t u q = let e = get_or-join t u q in omega arith
 
 -- of a processor of a book that is told
-module _ (s : Sizes) (h : List Event) (b : State) (p : ℕ) (told : IsTold s h b) where
+module _ (s : Sizes) (h : List Event) (b : State) (p : ℕ) (told : Represents s h b) where
   -- who awaits nothing is idle
   pub is_idle : slice_get b.awaits p ≡ Some None → IsIdle h p
   is_idle none = awaits_idle h p (told.awaits.each p None none)
@@ -106,7 +106,7 @@ module _ (s : Sizes) (h : List Event) (b : State) (p : ℕ) (told : IsTold s h b
     still_formed may = (each_push s h (event p k)).1 (told.well_formed, may)
 
     -- what is waited for
-    pub awaits_set : AreAll s.processors (IsAwaited (did h p k)) (slice_set b.awaits p (awaited k))
+    pub awaits_set : EachAt s.processors (IsAwaited (did h p k)) (slice_set b.awaits p (awaited k))
     awaits_set =
         each_set s.processors (IsAwaited h) (IsAwaited (did h p k)) b.awaits p (awaited k) told.awaits
         (λ q w isnt at is. awaited_on h p k q w isnt is) (awaited_now h p k)
@@ -118,7 +118,7 @@ module _ (s : Sizes) (h : List Event) (b : State) (p : ℕ) (told : IsTold s h b
 
     -- all timestamps, once p has another one
     times_set : (k : Kind) (t : List ℕ) → IsStamp s.processors (did h p k) (InPast (did h p k) p) t
-        → AreAll s.processors (λ q u. IsStamp s.processors (did h p k) (InPast (did h p k) q) u) (slice_set b.times p t)
+        → EachAt s.processors (λ q u. IsStamp s.processors (did h p k) (InPast (did h p k) q) u) (slice_set b.times p t)
     times_set k t stamp =
         each_set s.processors (λ q u. IsStamp s.processors h (InPast h q) u)
         (λ q u. IsStamp s.processors (did h p k) (InPast (did h p k) q) u) b.times p t told.times
@@ -126,14 +126,14 @@ module _ (s : Sizes) (h : List Event) (b : State) (p : ℕ) (told : IsTold s h b
 
     -- the timestamps after a closing event
     pub times_closing : (k : Kind) → is_taking k ≡ false → is_closing k ≡ true
-        → AreAll s.processors (λ q t. IsStamp s.processors (did h p k) (InPast (did h p k) q) t)
+        → EachAt s.processors (λ q t. IsStamp s.processors (did h p k) (InPast (did h p k) q) t)
         (slice_set b.times p (tick (time_of b p) p))
     times_closing k quiet closes =
         times_set k (tick (time_of b p) p) (stamp_closing s.processors h p k (time_of b p) lt quiet closes own_stamp)
 
     -- and after an event that takes
     pub times_taking : (k : Kind) (u : List ℕ) → is_closing k ≡ false → IsStamp s.processors h (Brings h p k) u
-        → AreAll s.processors (λ q t. IsStamp s.processors (did h p k) (InPast (did h p k) q) t)
+        → EachAt s.processors (λ q t. IsStamp s.processors (did h p k) (InPast (did h p k) q) t)
         (slice_set b.times p (join (time_of b p) u))
     times_taking k u quiet brings =
         times_set k (join (time_of b p) u) (stamp_taking s.processors h p k (time_of b p) u quiet own_stamp brings)
@@ -155,11 +155,11 @@ module _ (s : Sizes) (h : List Event) (b : State) (p : ℕ) (told : IsTold s h b
         (told.within p p (time_of b p) (slice_get-get_or b.times p [] timed))
         (subst (λ n. AreContents s h p n records) (sym own_number) stored) told.closed
 
-    pub within_closing : IsWithin b.closed.first (slice_set b.times p (tick (time_of b p) p))
+    pub within_closing : DropsOnlyCovered b.closed.first (slice_set b.times p (tick (time_of b p) p))
     within_closing =
         within_set b.closed.first b.times p (tick (time_of b p) p) timed (tick_grows (time_of b p) p) told.within
 
-    pub within_taking : (u : List ℕ) → IsWithin b.closed.first (slice_set b.times p (join (time_of b p) u))
+    pub within_taking : (u : List ℕ) → DropsOnlyCovered b.closed.first (slice_set b.times p (join (time_of b p) u))
     within_taking u =
         within_set b.closed.first b.times p (join (time_of b p) u) timed (join_grows (time_of b p) u) told.within
 

@@ -1,6 +1,6 @@
 //! Whom an event lets go on.
 ghost use Rattle.std.specs.Prelude.{ℕ, ◌↔◌};
-ghost use Rattle.lists.specs.Prelude.{Has};
+ghost use Rattle.base.specs.Prelude.{Has};
 ghost use Rattle.book.specs.Prelude.{HasClosed, IsNamed};
 
 use super::Protocol;

@@ -2,7 +2,7 @@
 ghost use Rattle.std.specs.Prelude.{◌≡◌, ◌<◌, EachIndex, IfSome, None, count_by, length, slice_index, slice_index_or};
 ghost use Rattle.journal.specs.declared.event.Kind.TheVariants.{Await};
 ghost use Rattle.interval.specs.Prelude.{is_of_page};
-ghost use Rattle.book.specs.Prelude.{brought, message_for, sent_with, IsSignalled, MayLook, MayTake};
+ghost use Rattle.book.specs.Prelude.{brought, message_for, sent_with, IsSignalled, IsProcessor, MayTake};
 
 use super::Protocol;
 use crate::awaited::Awaited;

@@ -2,11 +2,11 @@
 ghost use Rattle.std.specs.Prelude.{◌≡◌, ◌≤◌, None, true, length, map};
 ghost use Rattle.std.specs.Arc.{arc_value};
 ghost use Rattle.std.specs.Result.{result_err};
-ghost use Rattle.lists.specs.Prelude.{most_in_block};
+ghost use Rattle.base.specs.Prelude.{most_in_block};
 ghost use Rattle.journal.specs.Prelude.{is_closing, awaited};
 ghost use Rattle.interval.specs.Prelude.{HasRisingPages};
 ghost use Rattle.book.specs.Prelude.{Closes, HasClosed, handed_in};
-ghost use Rattle.replicas.specs.Prelude.{AreHarvests, held_after};
+ghost use Rattle.cluster.specs.Copies.Prelude.{AreHarvests, held_after};
 ghost use Rattle.cluster.specs.Prelude.{closing_test, MayClose, MayMake, MayHold, IsClosingCall, book_closed};
 
 use super::Cluster;

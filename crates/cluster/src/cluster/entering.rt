@@ -3,7 +3,7 @@ ghost use Rattle.std.specs.Prelude.{◌≡◌, ◌+◌, ◌<◌, IfOk, IfErr, Li
 ghost use Rattle.turn.specs.Prelude.{lock, entries, IsOutside, IsInside};
 ghost use Rattle.journal.specs.declared.event.Event.{Event};
 ghost use Rattle.book.specs.Prelude.{State};
-ghost use Rattle.replicas.specs.Prelude.{Local};
+ghost use Rattle.cluster.specs.Copies.Prelude.{Local};
 ghost use Rattle.cluster.specs.Prelude.{IsChairOf, IsCallOf, FindsBook, HasEntered, HasLeft};
 
 use super::Cluster;

@@ -3,9 +3,9 @@ ghost use Rattle.std.specs.Prelude.{◌≡◌, ◌≤◌, ℕ, List, [], length,
 ghost use Rattle.std.specs.Vec.{vec_items};
 ghost use Rattle.journal.specs.declared.event.Event.{Event as AnEvent};
 ghost use Rattle.journal.specs.Sizes.{Sizes};
-ghost use Rattle.lists.specs.Limits.{most_processors};
-ghost use Rattle.replicas.specs.Local.{Local};
-ghost use Rattle.cluster.specs.Finishing.{AreAllOf, AreApart, AreBlocksOf, IsFinished, IsFinishing};
+ghost use Rattle.base.specs.Limits.{most_processors};
+ghost use Rattle.cluster.specs.Copies.Local.{Local};
+ghost use Rattle.cluster.specs.Finishing.{AreAllOf, AreTakenApart, AreBlocksOf, IsFinished, IsFinishing};
 
 use super::Cluster;
 use crate::keeper::{BookTurn, Rule};
@@ -63,7 +63,7 @@ fn take_apart<T: BookTurn>(
     spare: Spare,
 ) -> (Vec<Chair<Book, Rule>>, Vec<Vec<Event>>)
     requires { vec_len processors ≤ most_processors }
-    ensures { AreApart processors.items result.0.items (map vec_items result.1.items) }
+    ensures { AreTakenApart processors.items result.0.items (map vec_items result.1.items) }
 {
     let Spare {
         mut chairs,

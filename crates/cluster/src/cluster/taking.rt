@@ -2,22 +2,22 @@
 ghost use Rattle.std.specs.Prelude.{◌≡◌, ◌≢◌, ◌↔◌, ◌⊎◌, ◌<◌, ◌≤◌, ◌+◌, Err, IfErr, IfOk, OnOk};
 ghost use Rattle.std.specs.Prelude.{OnErr, List, length, vec_len, true};
 ghost use Rattle.std.specs.Result.{result_err};
-ghost use Rattle.lists.specs.Prelude.{most_events};
+ghost use Rattle.base.specs.Prelude.{most_events};
 ghost use Rattle.journal.specs.Prelude.{is_taking, Sizes, Ready};
 ghost use Rattle.journal.specs.declared.event.Event.{Event};
 ghost use Rattle.vtime.specs.Times.{join};
 ghost use Rattle.transit.specs.Prelude.{letter};
-ghost use Rattle.book.specs.Prelude.{brought, MayLook, MayTakeSome, Takes, IsFullAt, IsWantOfRoom, IsTold};
-ghost use Rattle.replicas.specs.Prelude.{AreAfterNews, AreSameCopies, HaveRoom, MayLearn, held_after};
+ghost use Rattle.book.specs.Prelude.{brought, IsProcessor, MayTakeSome, Takes, IsFullAt, IsWantOfRoom, Represents};
+ghost use Rattle.cluster.specs.Copies.Prelude.{AreAfterNews, AreSameCopies, HaveRoom, MayLearn, held_after};
 ghost use Rattle.cluster.specs.Prelude.{IsTakingCall, MayHoldOne, HasRoomFor};
 
 use super::Cluster;
+use crate::copies::Replica;
 use crate::keeper::BookTurn;
 use crate::processor::Processor;
 use book::{Book, Refused};
 use interval::Sent;
 use journal::Kind;
-use replicas::Replica;
 use std::alloc::AllocError;
 use std::sync::Wait;
 use transit::Message;
@@ -60,7 +60,7 @@ fn receive(book: &mut Book, p: usize, replicas: &mut Vec<Replica>) -> Result<Mes
     ensures room { IfOk result (λ m. HasRoomFor (letter m).notices replicas.new.items) }
     ensures ok { IfOk result (λ m. Takes book.old p (letter m) book.new) }
     ensures err { OnErr result (book.new ≡ book.old) }
-    ensures absent { (s : Sizes) (h : List Event) → IsTold s h book.old
+    ensures absent { (s : Sizes) (h : List Event) → Represents s h book.old
         → result ≡ Err Refused.NotYet ↔ (¬ Ready s h p) }
     ensures early { result ≡ Err Refused.NotYet → replicas.new.items ≡ replicas.old.items }
     ensures full { result ≢ Err Refused.NotYet
@@ -79,7 +79,7 @@ fn receive(book: &mut Book, p: usize, replicas: &mut Vec<Replica>) -> Result<Mes
 #[inline(never)]
 fn receive_ready(book: &mut Book, p: usize, replicas: &mut Vec<Replica>) -> Result<Message, Refused>
     requires call { MayTakeSome book.old p }
-    requires ready { (s : Sizes) (h : List Event) → IsTold s h book.old → Ready s h p }
+    requires ready { (s : Sizes) (h : List Event) → Represents s h book.old → Ready s h p }
     requires few { vec_len replicas.old ≤ 64 }
     ensures same { AreSameCopies replicas.old.items replicas.new.items }
     ensures room { IfOk result (λ m. HasRoomFor (letter m).notices replicas.new.items) }
@@ -97,7 +97,7 @@ fn receive_ready(book: &mut Book, p: usize, replicas: &mut Vec<Replica>) -> Resu
 
 /// Makes room in the copies' lists for what a take by `p` would bring now.
 fn prepare(book: &Book, p: usize, replicas: &mut Vec<Replica>) -> Result<(), AllocError>
-    requires call { MayLook book.now p }
+    requires call { IsProcessor book.now p }
     requires few { vec_len replicas.old ≤ 64 }
     ensures same { AreSameCopies replicas.old.items replicas.new.items }
     ensures room { OnOk result (HasRoomFor (brought book.now p) replicas.new.items) }
@@ -115,7 +115,7 @@ fn make_room(replicas: &mut Vec<Replica>, counts: &[usize]) -> Result<(), AllocE
     ensures long { length counts.now ≡ length replicas.new.items }
     ensures ok { OnOk result (HaveRoom counts.now replicas.new.items) }
 {
-    replicas::make_room(replicas.as_mut_slice(), counts)
+    crate::copies::make_room(replicas.as_mut_slice(), counts)
 }
 
 /// Takes over what came: the records that the copies lack from then on, and the sender's timestamp.
@@ -135,7 +135,7 @@ fn learn(replicas: &mut Vec<Replica>, notices: Vec<Sent>)
     requires { MayLearn replicas.old.items notices.items }
     ensures { AreAfterNews replicas.old.items notices.items replicas.new.items }
 {
-    replicas::learn(replicas.as_mut_slice(), notices);
+    crate::copies::learn(replicas.as_mut_slice(), notices);
 }
 
 /// The locks held after what was taken: a grant gives one.

@@ -2,7 +2,7 @@
 ghost use Rattle.std.specs.Prelude.{◌≡◌, ◌↔◌, List};
 ghost use Rattle.journal.specs.Prelude.{Sizes, Ready, IsDeadlock};
 ghost use Rattle.journal.specs.declared.event.Event.{Event};
-ghost use Rattle.book.specs.Prelude.{IsTold, MayTakeSome};
+ghost use Rattle.book.specs.Prelude.{Represents, MayTakeSome};
 ghost use Rattle.cluster.specs.Prelude.{IsWaitingCall, answer_of};
 
 use super::Cluster;
@@ -48,9 +48,9 @@ impl<T: BookTurn> Cluster<T> {
 /// What processor `p` finds: an answer, or None where it has to sleep. Where nothing has come it forgets what it was told.
 fn look(bells: &Bells, book: &Book, p: usize) -> Option<Waited>
     requires call { MayTakeSome book.now p }
-    ensures stuck { (s : Sizes) (h : List Event) → IsTold s h book.now
+    ensures stuck { (s : Sizes) (h : List Event) → Represents s h book.now
         → answer_of result ≡ Waited.Stuck ↔ IsDeadlock s h }
-    ensures deserted { (s : Sizes) (h : List Event) → IsTold s h book.now
+    ensures deserted { (s : Sizes) (h : List Event) → Represents s h book.now
         → answer_of result ≡ Waited.Deserted → ¬ Ready s h p }
 {
     if book.is_ready(p) {

@@ -5,18 +5,18 @@ use Rattle.std.proofs.lemmas.Bool.{cases_eq, eq-eqb, ne_eqb}
 use Rattle.std.proofs.lemmas.List.{take_more, append-nil, take-append-drop, length-set, get_or-set_same, get_or-set_other, length-map, get_or-map}
 use Rattle.std.proofs.lemmas.List.Sums.{sum_by-cons}
 use Rattle.std.proofs.lemmas.Grind.{flat_map-append}
-use Rattle.lists.proofs.Places.{count_by-append}
-use Rattle.interval.specs.Counts.{AreCounted, HasRoom}
+use Rattle.base.proofs.Places.{count_by-append}
+use Rattle.interval.specs.Counts.{CountsGrew, HasRoom}
 
 -- the test for page base + i
 abbrev is_page : ℕ → ℕ → ℕ → ℕ
 is_page base i p = cond (p == base + i) 1 0
 
-pub counted-nil : (base : ℕ) (counts : List ℕ) → AreCounted base [] counts counts
+pub counted-nil : (base : ℕ) (counts : List ℕ) → CountsGrew base [] counts counts
 counted-nil base counts = record { long = refl; each = λ i inside. omega arith }
 
-pub counted-append : (base : ℕ) (ps qs before between after : List ℕ) → AreCounted base ps before between
-    → AreCounted base qs between after → AreCounted base (ps ++ qs) before after
+pub counted-append : (base : ℕ) (ps qs before between after : List ℕ) → CountsGrew base ps before between
+    → CountsGrew base qs between after → CountsGrew base (ps ++ qs) before after
 counted-append base ps qs before between after first second = record {
   long = second.long ∙ first.long;
   each = λ i inside.
@@ -29,7 +29,7 @@ counted-append base ps qs before between after first second = record {
 
 -- one page that has a count
 pub counted-one : (base page : ℕ) (counts : List ℕ) → base ≤ page → page - base < length counts
-    → AreCounted base (page ∷ []) counts (set counts (page - base) (slice_index counts (page - base) + 1))
+    → CountsGrew base (page ∷ []) counts (set counts (page - base) (slice_index counts (page - base) + 1))
 counted-one base page counts from inside = record {
   long = length-set counts (page - base) (slice_index counts (page - base) + 1);
   each = λ i within.
@@ -54,7 +54,7 @@ counted-one base page counts from inside = record {
 
 -- one page that has none
 pub counted-out : (base page : ℕ) (counts : List ℕ) → (base ≤ page → length counts ≤ page - base)
-    → AreCounted base (page ∷ []) counts counts
+    → CountsGrew base (page ∷ []) counts counts
 counted-out base page counts out = record {
   long = refl;
   each = λ i within.
@@ -95,17 +95,17 @@ flat_map_more f xs k x inside is =
 pub counted_more : {X : Type 0} (base : ℕ) (f : X → List ℕ) (xs : List X) (k : ℕ) (x : X)
     (before between after : List ℕ)
     → k < length xs → x ≡ get_or xs k x
-    → AreCounted base (flat_map f (take k xs)) before between → AreCounted base (f x) between after
-    → AreCounted base (flat_map f (take (k + 1) xs)) before after
+    → CountsGrew base (flat_map f (take k xs)) before between → CountsGrew base (f x) between after
+    → CountsGrew base (flat_map f (take (k + 1) xs)) before after
 counted_more base f xs k x before between after inside is so_far one =
-    let P : List ℕ → Type 0 = λ ps. AreCounted base ps before after in
+    let P : List ℕ → Type 0 = λ ps. CountsGrew base ps before after in
     subst P (sym (flat_map_more f xs k x inside is))
     (counted-append base (flat_map f (take k xs)) (f x) before between after so_far one)
 
 -- where there is room for all, there is room for the next
 pub room_more : {X : Type 0} (base : ℕ) (f : X → List ℕ) (xs : List X) (k : ℕ) (x : X) (before between : List ℕ)
     → k < length xs → x ≡ get_or xs k x
-    → HasRoom base (flat_map f xs) before → AreCounted base (flat_map f (take k xs)) before between
+    → HasRoom base (flat_map f xs) before → CountsGrew base (flat_map f (take k xs)) before between
     → HasRoom base (f x) between
 room_more base f xs k x before between inside is room so_far i within =
     let test : ℕ → Bool = λ p. p == base + i in

@@ -3,19 +3,19 @@ use Rattle.std.proofs.Common.{◌≡◌, ℕ, ◌+◌, ◌<◌, ◌≤◌, suc, 
 use Rattle.std.specs.List.{flat_map}
 use Rattle.std.proofs.lemmas.Bool.{cases_Bool, eqb-true, ne_eqb}
 use Rattle.std.proofs.lemmas.List.Sums.{sum_by-cons, length-filter, count_by-le-length}
-use Rattle.lists.specs.Places.{Has}
-use Rattle.lists.proofs.Places.{count_by-append}
-use Rattle.lists.proofs.Joined.{in_order_tail}
-use Rattle.lists.proofs.Picked.{has-filter}
+use Rattle.base.specs.Places.{Has}
+use Rattle.base.proofs.Places.{count_by-append}
+use Rattle.base.proofs.Joined.{in_order_tail}
+use Rattle.base.proofs.Picked.{has-filter}
 use Rattle.page.specs.Changes.{Changes}
-use Rattle.interval.specs.declared.kept.Kept.{Kept}
+use Rattle.interval.specs.declared.kept_interval.KeptInterval.{KeptInterval}
 use Rattle.interval.specs.Intervals.{SentRecord, HasRisingPages}
 use Rattle.interval.specs.Closings.{Closings, is_news, sent_record, sent_interval, between, is_of_page}
 use Rattle.interval.specs.Queues.{Queue, merged, closings, AreQueues}
 use Rattle.interval.proofs.Order.ByPlace.{Rises, rises_first, rises_rest}
 use Rattle.interval.proofs.Queues.Merged.{merged_lies, queued, rises-merged}
 
-counted_more : (page : ℕ) (k : Kept) (r : Changes) (rs : List Changes) (same : Bool) → (r.page == page) ≡ same
+counted_more : (page : ℕ) (k : KeptInterval) (r : Changes) (rs : List Changes) (same : Bool) → (r.page == page) ≡ same
     → count_by (is_of_page page) (map (sent_record k) (r ∷ rs))
     ≡ cond same 1 0 + count_by (is_of_page page) (map (sent_record k) rs)
 counted_more page k r rs same is =
@@ -25,7 +25,7 @@ counted_more page k r rs same is =
     omega arith
 
 -- later pages are other pages
-none_above : (page : ℕ) (k : Kept) (rs : List Changes) → ((r : Changes) → Has rs r → page < r.page)
+none_above : (page : ℕ) (k : KeptInterval) (rs : List Changes) → ((r : Changes) → Has rs r → page < r.page)
     → count_by (is_of_page page) (map (sent_record k) rs) ≡ 0
 none_above page k [] above = refl
 none_above page k (r ∷ rs) above =
@@ -35,7 +35,7 @@ none_above page k (r ∷ rs) above =
     omega arith
 
 -- an interval has one record of the page at most
-one_record : (page : ℕ) (k : Kept) (rs : List Changes) → HasRisingPages rs
+one_record : (page : ℕ) (k : KeptInterval) (rs : List Changes) → HasRisingPages rs
     → count_by (is_of_page page) (map (sent_record k) rs) ≤ 1
 one_record page k [] rises = omega arith
 one_record page k (r ∷ rs) rises =
@@ -53,7 +53,7 @@ one_record page k (r ∷ rs) rises =
     ]
 
 -- no more than there are intervals
-of_intervals : (page : ℕ) (ks : List Kept) → ((k : Kept) → Has ks k → HasRisingPages k.interval.records)
+of_intervals : (page : ℕ) (ks : List KeptInterval) → ((k : KeptInterval) → Has ks k → HasRisingPages k.interval.records)
     → count_by (is_of_page page) (flat_map sent_interval ks) ≤ length ks
 of_intervals page [] pages = omega arith
 of_intervals page (k ∷ ks) pages =
@@ -63,8 +63,8 @@ of_intervals page (k ∷ ks) pages =
     omega arith
 
 -- no more intervals than closing numbers
-few_places : (m n : ℕ) (ks : List Kept) → Rises ks → ((k : Kept) → Has ks k → m ≤ k.place)
-    → ((k : Kept) → Has ks k → k.place < n) → m ≤ n → length ks + m ≤ n
+few_places : (m n : ℕ) (ks : List KeptInterval) → Rises ks → ((k : KeptInterval) → Has ks k → m ≤ k.place)
+    → ((k : KeptInterval) → Has ks k → k.place < n) → m ≤ n → length ks + m ≤ n
 few_places m n [] rises from below le = omega arith
 few_places m n (k ∷ ks) rises from below le =
     let first = from k (0, refl) in
@@ -80,7 +80,7 @@ pub count_fits : (queues : List Queue) (count : ℕ) (value : Closings) (page : 
     → closings queues count ≡ value → AreQueues queues count
     → count_by (is_of_page page) (between value old new) ≤ count
 count_fits queues count value page old new is are =
-    let news : List Kept = filter (is_news old new) (merged queues) in
+    let news : List KeptInterval = filter (is_news old new) (merged queues) in
     let places =
     few_places 0 count (merged queues) (rises-merged queues) (λ k h. omega arith)
     (λ k h. (queued queues count are k (merged_lies queues k h)).closed) (omega arith) in

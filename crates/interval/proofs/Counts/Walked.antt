@@ -5,11 +5,11 @@ use Rattle.std.proofs.lemmas.Bool.{cases_Bool, cases_lt, cond_both, cond-true, c
 use Rattle.std.proofs.lemmas.List.{get_or-drop, get_or-take}
 use Rattle.std.proofs.lemmas.Option.{get_or_from_slice_get, slice_get_read}
 use Rattle.std.proofs.lemmas.List.Sums.{sum_by-cons, sum_by-append}
-use Rattle.lists.specs.Places.{Has, InOrder}
-use Rattle.lists.proofs.Places.{count_by-append}
-use Rattle.lists.proofs.Joined.{in_order_tail, in_order_weaker, in_order-flat_map}
+use Rattle.base.specs.Places.{Has, InOrder}
+use Rattle.base.proofs.Places.{count_by-append}
+use Rattle.base.proofs.Joined.{in_order_tail, in_order_weaker, in_order-flat_map}
 use Rattle.page.specs.Changes.{Changes}
-use Rattle.interval.specs.declared.kept.Kept.{Kept}
+use Rattle.interval.specs.declared.kept_interval.KeptInterval.{KeptInterval}
 use Rattle.interval.specs.Intervals.{SentRecord}
 use Rattle.interval.specs.Closings.{Closings, is_news, sent_record, sent_interval, is_of_page, between}
 use Rattle.interval.specs.Counts.{pages_of_records, pages_of, HasRoom}
@@ -18,13 +18,13 @@ use Rattle.interval.proofs.Order.ByPlace.{has-by_place}
 use Rattle.interval.proofs.Counts.Most.{count_fits}
 
 -- of intervals that are numbered from `first` on, the news are those from one number up to another
-numbered_news : (ks : List Kept) (first owner : ℕ) (old new : List ℕ)
-    → ((i : ℕ) (k : Kept) → slice_get ks i ≡ Some k → (k.interval.owner ≡ owner) × (k.interval.number ≡ first + i))
+numbered_news : (ks : List KeptInterval) (first owner : ℕ) (old new : List ℕ)
+    → ((i : ℕ) (k : KeptInterval) → slice_get ks i ≡ Some k → (k.interval.owner ≡ owner) × (k.interval.number ≡ first + i))
     → filter (is_news old new) ks ≡ drop (slice_index old owner - first) (take (slice_index new owner - first) ks)
 numbered_news [] first owner old new numbered =
     sym (nothing (slice_index old owner - first) (slice_index new owner - first))
   where
-    nothing : (n m : ℕ) → drop n (take {A = Kept} m []) ≡ []
+    nothing : (n m : ℕ) → drop n (take {A = KeptInterval} m []) ≡ []
     nothing zero zero = refl
     nothing zero (suc m) = refl
     nothing (suc n) zero = refl
@@ -66,12 +66,12 @@ numbered_news (k ∷ ks) first owner old new numbered =
                 let start : from - first ≡ 0 = omega arith in
                 let later : from - suc first ≡ 0 = omega arith in
                 cond-true (is_news old new k) (k ∷ filter (is_news old new) ks) (filter (is_news old new) ks) is
-                ∙ ap (λ (js : List Kept). k ∷ js) (rest ∙ ap (λ (a : ℕ). drop a (take (to - suc first) ks)) later)
+                ∙ ap (λ (js : List KeptInterval). k ∷ js) (rest ∙ ap (λ (a : ℕ). drop a (take (to - suc first) ks)) later)
                 ∙ sym (ap₂ (λ (a b : ℕ). drop a (take b (k ∷ ks))) start more)
           ]
     ]
   where
-    nothing : (n : ℕ) (js : List Kept) → drop n (take 0 js) ≡ []
+    nothing : (n : ℕ) (js : List KeptInterval) → drop n (take 0 js) ≡ []
     nothing zero js = refl
     nothing (suc n) js = refl
 
@@ -82,7 +82,7 @@ queue_news owner count queue old new is =
     numbered_news queue.kept queue.first owner old new (λ i k at. let q = is.each i k at in (q.owner_is, q.number_is))
 
 -- an interval of a queue that is numbered within from..to, counted from the first such one
-pub within_at : (held queue : Queue) (from to i : ℕ) (k : Kept) → held ≡ queue → from - held.first ≤ i
+pub within_at : (held queue : Queue) (from to i : ℕ) (k : KeptInterval) → held ≡ queue → from - held.first ≤ i
     → i < min (to - held.first) (length held.kept) → k ≡ get_or held.kept i k
     → (i - (from - held.first) < length (within queue from to))
     × (k ≡ get_or (within queue from to) (i - (from - held.first)) k)
@@ -106,11 +106,11 @@ abbrev pub news_pages : List ℕ → List ℕ → Queue → List ℕ
 news_pages old new queue = pages_of (filter (is_news old new) queue.kept)
 
 -- `placed` adds an interval whose closing number is new
-sum_by-placed : (w : Kept → ℕ) (k : Kept) (xs : List Kept) → ((j : Kept) → Has xs j → k.place ≢ j.place)
+sum_by-placed : (w : KeptInterval → ℕ) (k : KeptInterval) (xs : List KeptInterval) → ((j : KeptInterval) → Has xs j → k.place ≢ j.place)
     → sum_by w (placed k xs) ≡ w k + sum_by w xs
 sum_by-placed w k [] apart = sum_by-cons w k []
 sum_by-placed w k (x ∷ xs) apart =
-    let P : List Kept → Type 0 = λ ys. sum_by w ys ≡ w k + sum_by w (x ∷ xs) in
+    let P : List KeptInterval → Type 0 = λ ys. sum_by w ys ≡ w k + sum_by w (x ∷ xs) in
     let rest = sum_by-placed w k xs (λ j h. apart j (suc h.0, h.1)) in
     let last = sum_by-cons w x xs in
     let later = sum_by-cons w x (placed k xs) in
@@ -120,13 +120,13 @@ sum_by-placed w k (x ∷ xs) apart =
     (λ f. let le = ltb-false _ _ e in let ge = ltb-false _ _ f in absurd (apart x (0, refl) (omega arith))))
 
 -- each closing number stands for one interval
-abbrev AreApart : List Kept → Type 0
-AreApart xs = InOrder (λ (j k : Kept). j.place ≢ k.place) xs
+abbrev AreApart : List KeptInterval → Type 0
+AreApart xs = InOrder (λ (j k : KeptInterval). j.place ≢ k.place) xs
 
-sum_by-by_place : (w : Kept → ℕ) (xs : List Kept) → AreApart xs → sum_by w (by_place xs) ≡ sum_by w xs
+sum_by-by_place : (w : KeptInterval → ℕ) (xs : List KeptInterval) → AreApart xs → sum_by w (by_place xs) ≡ sum_by w xs
 sum_by-by_place w [] apart = refl
 sum_by-by_place w (x ∷ xs) apart =
-    let rest = sum_by-by_place w xs (in_order_tail (λ (j k : Kept). j.place ≢ k.place) x xs apart) in
+    let rest = sum_by-by_place w xs (in_order_tail (λ (j k : KeptInterval). j.place ≢ k.place) x xs apart) in
     let first =
     sum_by-placed w x (by_place xs)
     (λ j h. let at = has-by_place xs j h in apart 0 (suc at.0) x j (omega arith) refl at.1) in
@@ -136,17 +136,17 @@ sum_by-by_place w (x ∷ xs) apart =
 queues_apart : (queues : List Queue) (count : ℕ) → AreQueues queues count
     → AreApart (flat_map (λ (q : Queue). q.kept) queues)
 queues_apart queues count are =
-    in_order-flat_map (λ (j k : Kept). j.place ≢ k.place) (λ (q : Queue). q.kept) queues
-    (λ q has. in_order_weaker (λ (j k : Kept). j.place < k.place) (λ (j k : Kept). j.place ≢ k.place) q.kept
+    in_order-flat_map (λ (j k : KeptInterval). j.place ≢ k.place) (λ (q : Queue). q.kept) queues
+    (λ q has. in_order_weaker (λ (j k : KeptInterval). j.place < k.place) (λ (j k : KeptInterval). j.place ≢ k.place) q.kept
     (λ j k h g lt e. absurd (omega arith)) (are.each has.0 q has.1).rising)
     (λ x y a b less at_x at_y j k h g same. let one = are.apart x y a b j k at_x at_y h g same in absurd (omega arith))
 
 -- how often an interval that is news has the page
-weight : List ℕ → List ℕ → ℕ → Kept → ℕ
+weight : List ℕ → List ℕ → ℕ → KeptInterval → ℕ
 weight old new n k = cond (is_news old new k) (count_by (λ (p : ℕ). p == n) (pages_of_records k.interval.records)) 0
 
 -- pages of the news, counted interval by interval
-count_news : (old new : List ℕ) (n : ℕ) (ks : List Kept)
+count_news : (old new : List ℕ) (n : ℕ) (ks : List KeptInterval)
     → count_by (λ (p : ℕ). p == n) (pages_of (filter (is_news old new) ks)) ≡ sum_by (weight old new n) ks
 unfolding weight
 count_news old new n [] = refl
@@ -183,7 +183,7 @@ count_queues old new n (q ∷ qs) =
     ∙ sym (sum_by-append (weight old new n) q.kept (flat_map (λ (q : Queue). q.kept) qs))
 
 -- notices of a page are records for it
-count_sent : (n : ℕ) (k : Kept) (rs : List Changes)
+count_sent : (n : ℕ) (k : KeptInterval) (rs : List Changes)
     → count_by (is_of_page n) (map (sent_record k) rs) ≡ count_by (λ (p : ℕ). p == n) (pages_of_records rs)
 count_sent n k [] = refl
 count_sent n k (r ∷ rs) =
@@ -193,7 +193,7 @@ count_sent n k (r ∷ rs) =
     let pages = sum_by-cons (λ (p : ℕ). cond (p == n) 1 0) r.page (pages_of_records rs) in
     omega arith
 
-count_notices : (n : ℕ) (ks : List Kept)
+count_notices : (n : ℕ) (ks : List KeptInterval)
     → count_by (is_of_page n) (flat_map sent_interval ks) ≡ count_by (λ (p : ℕ). p == n) (pages_of ks)
 count_notices n [] = refl
 count_notices n (k ∷ ks) =

@@ -4,13 +4,13 @@ use Rattle.std.specs.List.{flat_map}
 use Rattle.std.proofs.lemmas.List.{append-nil, append_assoc, length-map, map-append, take_all, take_more}
 use Rattle.std.proofs.lemmas.Grind.{flat_map-append}
 use Rattle.std.proofs.lemmas.Option.{slice_get_read, get_or_from_slice_get}
-use Rattle.lists.specs.Places.{Has, InOrder}
-use Rattle.lists.proofs.Joined.{has-flat_map, in_order-flat_map, in_order_weaker}
-use Rattle.lists.proofs.Picked.{has-filter, in_order-filter}
-use Rattle.interval.specs.declared.kept.Kept.{Kept}
+use Rattle.base.specs.Places.{Has, InOrder}
+use Rattle.base.proofs.Joined.{has-flat_map, in_order-flat_map, in_order_weaker}
+use Rattle.base.proofs.Picked.{has-filter, in_order-filter}
+use Rattle.interval.specs.declared.kept_interval.KeptInterval.{KeptInterval}
 use Rattle.interval.specs.Intervals.{SentRecord}
 use Rattle.interval.specs.Closings.{Closings, is_news, sent_interval}
-use Rattle.interval.specs.Queues.{Queue, merged, closings, within, AreAll, AreQueues}
+use Rattle.interval.specs.Queues.{Queue, merged, closings, within, SameIntervals, AreQueues}
 use Rattle.interval.proofs.Counts.Walked.{queue_news}
 use Rattle.interval.proofs.Order.ByPlace.{IsBefore, Rises}
 use Rattle.interval.proofs.Queues.Merged.{Lies, merged_lies, lies_merged, rises-merged}
@@ -35,11 +35,11 @@ within_few held queue from to same =
     subst P same (omega arith)
 
 -- the news of a queue
-abbrev pub own_news : List ℕ → List ℕ → Queue → List Kept
+abbrev pub own_news : List ℕ → List ℕ → Queue → List KeptInterval
 own_news old new q = filter (is_news old new) q.kept
 
 -- what stands among the news of all queues
-gathered_same : (queues : List Queue) (count : ℕ) (old new : List ℕ) → AreQueues queues count → (k : Kept)
+gathered_same : (queues : List Queue) (count : ℕ) (old new : List ℕ) → AreQueues queues count → (k : KeptInterval)
     → Has (flat_map (own_news old new) queues) k ↔ Has (filter (is_news old new) (merged queues)) k
 gathered_same queues count old new are k = (
   λ h.
@@ -59,7 +59,7 @@ gathered_same queues count old new are k = (
 )
 
 -- no closing number stands twice among them
-abbrev Differ : Kept → Kept → Type 0
+abbrev Differ : KeptInterval → KeptInterval → Type 0
 Differ j k = j.place ≢ k.place
 
 gathered_apart : (queues : List Queue) (count : ℕ) (old new : List ℕ) → AreQueues queues count
@@ -67,7 +67,7 @@ gathered_apart : (queues : List Queue) (count : ℕ) (old new : List ℕ) → Ar
 gathered_apart queues count old new are =
     in_order-flat_map Differ (own_news old new) queues
     (λ q has. in_order-filter Differ (is_news old new) q.kept
-    (in_order_weaker (λ (j k : Kept). j.place < k.place) Differ q.kept (λ j k h g lt e. absurd (omega arith))
+    (in_order_weaker (λ (j k : KeptInterval). j.place < k.place) Differ q.kept (λ j k h g lt e. absurd (omega arith))
     (are.each has.0 q has.1).rising))
     (λ x y a b less at_x at_y j k h g same.
     let at_j = ((has-filter (is_news old new) a.kept j).0 h).0 in
@@ -86,7 +86,7 @@ owned_queue queues count value owner queue is in_range read =
 
 -- the news of the queues so far, and those of one more
 pub gathered_more : (queues items : List Queue) (count : ℕ) (old new : List ℕ) (owner from to : ℕ) (queue : Queue)
-    (before now : List Kept)
+    (before now : List KeptInterval)
     → items ≡ queues → AreQueues queues count
     → owner < length items → queue ≡ get_or items owner queue → slice_get old owner ≡ Some from
     → slice_get new owner ≡ Some to → before ≡ flat_map (own_news old new) (take owner items)
@@ -101,31 +101,31 @@ gathered_more queues items count old new owner from to queue before now same are
     (get_or_from_slice_get new owner to 0 new_at) in
     let step = take_more items owner queue inside in
     let one : take (owner + 1) items ≡ take owner items ++ queue ∷ [] = rw (← read) at step in
-    is ∙ ap₂ (λ (xs ys : List Kept). xs ++ ys) so_far (sym own)
-    ∙ ap (λ (ys : List Kept). flat_map (own_news old new) (take owner items) ++ ys)
+    is ∙ ap₂ (λ (xs ys : List KeptInterval). xs ++ ys) so_far (sym own)
+    ∙ ap (λ (ys : List KeptInterval). flat_map (own_news old new) (take owner items) ++ ys)
     (sym (append-nil (own_news old new queue)))
     ∙ sym (flat_map-append (own_news old new) (take owner items) (queue ∷ []))
     ∙ sym (ap (flat_map (own_news old new)) one)
 
 -- once all queues were gone through
 pub gathered_all : (queues items : List Queue) (count : ℕ) (value : Closings) (old new : List ℕ) (n : ℕ)
-    (news : List Kept)
+    (news : List KeptInterval)
     → items ≡ queues → closings queues count ≡ value → AreQueues queues count
     → length items ≤ n → news ≡ flat_map (own_news old new) (take n items)
-    → AreAll (filter (is_news old new) value.kept) news
+    → SameIntervals (filter (is_news old new) value.kept) news
 gathered_all queues items count value old new n news same is are end so_far =
     let all : news ≡ flat_map (own_news old new) queues =
     so_far ∙ ap (flat_map (own_news old new)) (take_all n items end ∙ same) in
-    let found : AreAll (filter (is_news old new) (merged queues)) (flat_map (own_news old new) queues) = record {
+    let found : SameIntervals (filter (is_news old new) (merged queues)) (flat_map (own_news old new) queues) = record {
       same = gathered_same queues count old new are;
       apart = gathered_apart queues count old new are;
     } in
-    let P : List Kept → Type 0 = λ ks. AreAll (filter (is_news old new) (merged queues)) ks in
-    let Q : Closings → Type 0 = λ c. AreAll (filter (is_news old new) c.kept) news in
+    let P : List KeptInterval → Type 0 = λ ks. SameIntervals (filter (is_news old new) (merged queues)) ks in
+    let Q : Closings → Type 0 = λ c. SameIntervals (filter (is_news old new) c.kept) news in
     subst Q is (subst P (sym all) found)
 
 -- the records of the intervals so far, and those of one more
-pub sent_more : {X : Type 0} (kept : X → Kept) (items : List X) (n : ℕ) (x : X) (before now : List SentRecord)
+pub sent_more : {X : Type 0} (kept : X → KeptInterval) (items : List X) (n : ℕ) (x : X) (before now : List SentRecord)
     → n < length items → x ≡ get_or items n x → before ≡ flat_map sent_interval (map kept (take n items))
     → now ≡ before ++ sent_interval (kept x) → now ≡ flat_map sent_interval (map kept (take (n + 1) items))
 sent_more {X} kept items n x before now inside read so_far is =

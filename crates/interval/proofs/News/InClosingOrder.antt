@@ -1,11 +1,11 @@
 -- What is sent comes in closing order.
 use Rattle.std.proofs.Common.{ℕ, ◌≡◌, ◌<◌, inl, inr, List, ◌++◌, filter, refl, sym, ap, subst, arith, ◌∙◌}
 use Rattle.std.specs.List.{flat_map}
-use Rattle.lists.specs.Places.{Has}
-use Rattle.lists.proofs.Joined.{has-map, has-flat_map, in_order-map, in_order_weaker, in_order-append, in_order-flat_map}
-use Rattle.lists.proofs.Picked.{has-filter, in_order-filter}
+use Rattle.base.specs.Places.{Has}
+use Rattle.base.proofs.Joined.{has-map, has-flat_map, in_order-map, in_order_weaker, in_order-append, in_order-flat_map}
+use Rattle.base.proofs.Picked.{has-filter, in_order-filter}
 use Rattle.page.specs.Changes.{Changes}
-use Rattle.interval.specs.declared.kept.Kept.{Kept}
+use Rattle.interval.specs.declared.kept_interval.KeptInterval.{KeptInterval}
 use Rattle.interval.specs.Intervals.{ClosedInterval, SentRecord, HasRisingPages, ComesBefore, IsInClosingOrder}
 use Rattle.interval.specs.Closings.{Closings, is_news, sent_record, sent_interval, between}
 use Rattle.interval.specs.Queues.{Queue, merged, closings, AreQueues}
@@ -13,7 +13,7 @@ use Rattle.interval.proofs.Order.ByPlace.{IsBefore, Rises}
 use Rattle.interval.proofs.Queues.Merged.{merged_lies, rises-merged, queued}
 
 -- the records of one interval, by rising page
-sent_rises : (k : Kept) → HasRisingPages k.interval.records → IsInClosingOrder (sent_interval k)
+sent_rises : (k : KeptInterval) → HasRisingPages k.interval.records → IsInClosingOrder (sent_interval k)
 sent_rises k pages =
     in_order-map ComesBefore (sent_record k) k.interval.records
     (in_order_weaker (λ (r s : Changes). r.page < s.page)
@@ -21,23 +21,23 @@ sent_rises k pages =
     (λ r s here there lt. inr (refl, lt)) pages)
 
 -- all of an interval's records have its closing number
-one_place : (k : Kept) (s : SentRecord) → Has (sent_interval k) s → s.place ≡ k.place
+one_place : (k : KeptInterval) (s : SentRecord) → Has (sent_interval k) s → s.place ≡ k.place
 one_place k s h =
     let w = (has-map (sent_record k) k.interval.records s).0 h in ap (λ (s : SentRecord). s.place) (sym w.2)
 
-sent_in_order : (ks : List Kept) → Rises ks → ((k : Kept) → Has ks k → HasRisingPages k.interval.records)
+sent_in_order : (ks : List KeptInterval) → Rises ks → ((k : KeptInterval) → Has ks k → HasRisingPages k.interval.records)
     → IsInClosingOrder (flat_map sent_interval ks)
 sent_in_order ks rises pages =
     in_order-flat_map ComesBefore sent_interval ks (λ k has. sent_rises k (pages k has))
     (in_order_weaker IsBefore
-    (λ (j k : Kept). (a b : SentRecord) → Has (sent_interval j) a → Has (sent_interval k) b → ComesBefore a b)
+    (λ (j k : KeptInterval). (a b : SentRecord) → Has (sent_interval j) a → Has (sent_interval k) b → ComesBefore a b)
     ks
     (λ j k here there lt a b at_a at_b. let first = one_place j a at_a in let second = one_place k b at_b in
     inl (omega arith))
     rises)
 
 -- the news of the queues
-news_pages_rise : (queues : List Queue) (count : ℕ) (old new : List ℕ) → AreQueues queues count → (k : Kept)
+news_pages_rise : (queues : List Queue) (count : ℕ) (old new : List ℕ) → AreQueues queues count → (k : KeptInterval)
     → Has (filter (is_news old new) (merged queues)) k → HasRisingPages k.interval.records
 news_pages_rise queues count old new are k has =
     (queued queues count are k (merged_lies queues k ((has-filter (is_news old new) (merged queues) k).0 has).0)).pages
@@ -60,7 +60,7 @@ pub after_in_order : (queues : List Queue) (count : ℕ) (value : Closings) (i :
     → HasRisingPages i.records → before ≡ between value old new
     → now ≡ before ++ sent_interval (record { place = count; interval = i }) → IsInClosingOrder now
 after_in_order queues count value i old new before now is are pages before_is now_is =
-    let k : Kept = record { place = count; interval = i } in
+    let k : KeptInterval = record { place = count; interval = i } in
     let news : before ≡ flat_map sent_interval (filter (is_news old new) (merged queues)) =
     before_is ∙ ap (λ (c : Closings). between c old new) (sym is) in
     let front = between_in_order queues count value old new before is are before_is in

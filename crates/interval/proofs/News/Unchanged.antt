@@ -4,8 +4,8 @@ use Rattle.std.specs.List.{flat_map}
 use Rattle.std.proofs.lemmas.Bool.{cases_Bool, cond-false, and_parts, and_right, leb-true, ltb-true, eqb-true, le-ltb}
 use Rattle.std.proofs.lemmas.List.{append-nil}
 use Rattle.std.proofs.lemmas.List.Elements.{filter-append}
-use Rattle.lists.proofs.Filters.{filter_passed}
-use Rattle.interval.specs.declared.kept.Kept.{Kept}
+use Rattle.base.proofs.Filters.{filter_passed}
+use Rattle.interval.specs.declared.kept_interval.KeptInterval.{KeptInterval}
 use Rattle.interval.specs.Intervals.{ClosedInterval}
 use Rattle.interval.specs.Closings.{Closings, pushed, trimmed, is_trimmed, is_news, sent_interval, between}
 
@@ -13,7 +13,7 @@ use Rattle.interval.specs.Closings.{Closings, pushed, trimmed, is_trimmed, is_ne
 pub between-trimmed : (c : Closings) (owner to : ℕ) (old new : List ℕ) → to ≤ slice_index old owner
     → between (trimmed c owner to) old new ≡ between c old new
 between-trimmed c owner to old new performed =
-    let stays : (k : Kept) → is_news old new k ≡ true → not (is_trimmed owner to k) ≡ true = λ k news.
+    let stays : (k : KeptInterval) → is_news old new k ≡ true → not (is_trimmed owner to k) ≡ true = λ k news.
     elim (cases_Bool (is_trimmed owner to k)) [
       | inl t ↦
           let parts = and_parts _ _ t in
@@ -30,9 +30,9 @@ between-trimmed c owner to old new performed =
 pub between-pushed : (c : Closings) (i : ClosedInterval) (old new : List ℕ) → slice_index new i.owner ≤ i.number
     → between (pushed c i) old new ≡ between c old new
 between-pushed c i old new uncovered =
-    let k : Kept = record { place = c.pushed; interval = i } in
+    let k : KeptInterval = record { place = c.pushed; interval = i } in
     let no_news : is_news old new k ≡ false = and_right _ _ (le-ltb _ _ uncovered) in
     let last : filter (is_news old new) (k ∷ []) ≡ [] = cond-false (is_news old new k) (k ∷ []) [] no_news in
     ap (flat_map sent_interval) (filter-append (is_news old new) c.kept (k ∷ [])
-    ∙ ap (λ (ys : List Kept). filter (is_news old new) c.kept ++ ys) last
+    ∙ ap (λ (ys : List KeptInterval). filter (is_news old new) c.kept ++ ys) last
     ∙ append-nil (filter (is_news old new) c.kept))

@@ -1,17 +1,17 @@
 -- The earliest of the intervals of a rising list that pass a test.
 use Rattle.std.proofs.Common.{◌≡◌, ◌≤◌, suc, Bool, true, false, inl, inr, Some, List, ◌∷◌, [], find, refl, ap, arith, ◌∙◌}
 use Rattle.std.proofs.lemmas.Bool.{cond-true, cond-false, cases_Bool}
-use Rattle.lists.specs.Places.{Has}
-use Rattle.lists.proofs.Joined.{has-nil, has-cons}
-use Rattle.interval.specs.declared.kept.Kept.{Kept}
+use Rattle.base.specs.Places.{Has}
+use Rattle.base.proofs.Joined.{has-nil, has-cons}
+use Rattle.interval.specs.declared.kept_interval.KeptInterval.{KeptInterval}
 use Rattle.interval.proofs.Order.ByPlace.{Rises, rises_first, rises_rest}
 
 -- none that passes was closed before k
-abbrev pub IsLeast : (Kept → Bool) → List Kept → Kept → Type 0
-IsLeast p xs k = (j : Kept) → Has xs j → p j ≡ true → k.place ≤ j.place
+abbrev pub IsLeast : (KeptInterval → Bool) → List KeptInterval → KeptInterval → Type 0
+IsLeast p xs k = (j : KeptInterval) → Has xs j → p j ≡ true → k.place ≤ j.place
 
 -- what is closed before the earliest doesn't pass
-skipped : (p : Kept → Bool) (x : Kept) (xs : List Kept) (k : Kept) → Rises (x ∷ xs) → Has xs k → IsLeast p (x ∷ xs) k
+skipped : (p : KeptInterval → Bool) (x : KeptInterval) (xs : List KeptInterval) (k : KeptInterval) → Rises (x ∷ xs) → Has xs k → IsLeast p (x ∷ xs) k
     → p x ≡ false
 skipped p x xs k rises later least = elim (cases_Bool (p x)) [
   | inl t ↦ (let early = least x (0, refl) t in let after = rises_first x xs rises k later in absurd (omega arith))
@@ -19,7 +19,7 @@ skipped p x xs k rises later least = elim (cases_Bool (p x)) [
 ]
 
 -- the earliest is found first
-pub find_least : (p : Kept → Bool) (xs : List Kept) (k : Kept) → Rises xs → Has xs k → p k ≡ true → IsLeast p xs k
+pub find_least : (p : KeptInterval → Bool) (xs : List KeptInterval) (k : KeptInterval) → Rises xs → Has xs k → p k ≡ true → IsLeast p xs k
     → find p xs ≡ Some k
 find_least p [] k rises here passes least = absurd (has-nil k here)
 find_least p (x ∷ xs) k rises here passes least = elim ((has-cons x xs k).0 here) [

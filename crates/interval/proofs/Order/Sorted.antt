@@ -7,18 +7,18 @@ use Rattle.std.proofs.lemmas.List.Sorted.{IsPermutation-sym, IsPermutation-map, 
 use Rattle.std.specs.List.{sum_by}
 use Rattle.std.proofs.lemmas.List.Sums.{sum_by-cons}
 use Rattle.std.proofs.lemmas.Option.{slice_get_within, slice_get-get_or, get_or_from_slice_get}
-use Rattle.lists.specs.Places.{Has, InOrder}
-use Rattle.lists.proofs.Joined.{in_order-map}
-use Rattle.lists.proofs.Places.{count_by-past, count_by-within, counted}
-use Rattle.interval.specs.declared.kept.Kept.{Kept}
-use Rattle.interval.specs.Queues.{AreAll}
+use Rattle.base.specs.Places.{Has, InOrder}
+use Rattle.base.proofs.Joined.{in_order-map}
+use Rattle.base.proofs.Places.{count_by-past, count_by-within, counted}
+use Rattle.interval.specs.declared.kept_interval.KeptInterval.{KeptInterval}
+use Rattle.interval.specs.Queues.{SameIntervals}
 use Rattle.interval.proofs.Order.ByPlace.{IsBefore, Rises, same_rising}
 
-abbrev at_place : ℕ → Kept → Bool
+abbrev at_place : ℕ → KeptInterval → Bool
 at_place n k = k.place == n
 
 -- where no closing number stands twice, each is counted once at most
-once : (n : ℕ) (xs : List Kept) → InOrder (λ (j k : Kept). j.place ≢ k.place) xs → count_by (at_place n) xs ≤ 1
+once : (n : ℕ) (xs : List KeptInterval) → InOrder (λ (j k : KeptInterval). j.place ≢ k.place) xs → count_by (at_place n) xs ≤ 1
 once n xs apart = elim (cases_lt 1 (count_by (at_place n) xs)) [
   | inr most ↦ most
   | inl more ↦
@@ -39,7 +39,7 @@ once n xs apart = elim (cases_lt 1 (count_by (at_place n) xs)) [
       ]
 ]
 
-sum_by-map : {X : Type 0} (w : Kept → ℕ) (f : X → Kept) (xs : List X)
+sum_by-map : {X : Type 0} (w : KeptInterval → ℕ) (f : X → KeptInterval) (xs : List X)
     → sum_by w (map f xs) ≡ sum_by (λ (x : X). w (f x)) xs
 sum_by-map w f [] = refl
 sum_by-map {X} w f (x ∷ xs) =
@@ -66,7 +66,7 @@ rises_once {X} n xs up counts x y a b less at_a at_b =
           absurd (omega arith)
     ]
 
-has_permuted : (xs ys : List Kept) (k : Kept) → IsPermutation xs ys → Has xs k → Has ys k
+has_permuted : (xs ys : List KeptInterval) (k : KeptInterval) → IsPermutation xs ys → Has xs k → Has ys k
 has_permuted xs ys k other h =
     let within = slice_get_within xs h.0 k h.1 in
     let there : Contains xs k = (h.0, within, get_or_from_slice_get xs h.0 k k h.1) in
@@ -74,15 +74,15 @@ has_permuted xs ys k other h =
     (c.0, slice_get-get_or ys c.0 k c.1 ∙ ap Some c.2)
 
 -- a rising list is what comes of sorting all of its intervals; `kept` reads them where they are only lent
-pub sorted_all : {X : Type 0} (kept : X → Kept) (ks : List Kept) (xs ys : List X) → Rises ks
-    → AreAll ks (map kept xs) → IsPermutation xs ys → IsNonDecreasingBy (λ (x : X). (kept x).place) ys
+pub sorted_all : {X : Type 0} (kept : X → KeptInterval) (ks : List KeptInterval) (xs ys : List X) → Rises ks
+    → SameIntervals ks (map kept xs) → IsPermutation xs ys → IsNonDecreasingBy (λ (x : X). (kept x).place) ys
     → map kept ys ≡ ks
 sorted_all {X} kept ks xs ys rises all other up =
     let moved = IsPermutation-map kept xs ys other in
     let counts : (m : ℕ) → count_by (λ (x : X). (kept x).place == m) ys ≤ 1 = λ m.
     let most = once m (map kept xs) all.apart in
-    let same = sum_by-IsPermutation (λ (k : Kept). cond (at_place m k) 1 0) (map kept xs) (map kept ys) moved in
-    let read = sum_by-map (λ (k : Kept). cond (at_place m k) 1 0) kept ys in
+    let same = sum_by-IsPermutation (λ (k : KeptInterval). cond (at_place m k) 1 0) (map kept xs) (map kept ys) moved in
+    let read = sum_by-map (λ (k : KeptInterval). cond (at_place m k) 1 0) kept ys in
     omega arith in
     let rising : Rises (map kept ys) =
     in_order-map IsBefore kept ys (rises_once (λ (x : X). (kept x).place) ys up counts) in

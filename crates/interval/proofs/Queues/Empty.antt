@@ -2,9 +2,9 @@
 use Rattle.std.proofs.Common.{◌≡◌, ℕ, ◌+◌, List, [], ◌∷◌, ◌++◌, map, replicate, length, refl, ap, subst, arith, ◌∙◌}
 use Rattle.std.specs.List.{flat_map}
 use Rattle.std.proofs.lemmas.List.{map-append, replicate_more}
-use Rattle.lists.specs.Places.{Has}
-use Rattle.lists.proofs.Joined.{has-nil}
-use Rattle.interval.specs.declared.kept.Kept.{Kept}
+use Rattle.base.specs.Places.{Has}
+use Rattle.base.proofs.Joined.{has-nil}
+use Rattle.interval.specs.declared.kept_interval.KeptInterval.{KeptInterval}
 use Rattle.interval.specs.Queues.{Queue, AreQueues}
 use Rattle.interval.proofs.Queues.Merged.{Lies, lies_in}
 
@@ -14,7 +14,7 @@ pub record AreEmpty (n : ℕ) (queues : List Queue) : Type 0 where
   pub first : map (λ (q : Queue). q.first) queues ≡ replicate n 0
   pub next : map (λ (q : Queue). q.first + length q.kept) queues ≡ replicate n 0
 
-flat_map-push : (f : Queue → List Kept) (xs : List Queue) (x : Queue) → f x ≡ []
+flat_map-push : (f : Queue → List KeptInterval) (xs : List Queue) (x : Queue) → f x ≡ []
     → flat_map f (xs ++ x ∷ []) ≡ flat_map f xs
 flat_map-push f [] x none = ap (λ ys. ys ++ []) none
 flat_map-push f (y ∷ ys) x none = ap (λ zs. f y ++ zs) (flat_map-push f ys x none)
@@ -22,17 +22,17 @@ flat_map-push f (y ∷ ys) x none = ap (λ zs. f y ++ zs) (flat_map-push f ys x 
 pub one_more_empty : (n : ℕ) (queues : List Queue) (queue : Queue) → queue.first ≡ 0 → queue.kept ≡ []
     → AreEmpty n queues → AreEmpty (n + 1) (queues ++ queue ∷ [])
 one_more_empty n queues queue first kept are =
-    let long : queue.first + length queue.kept ≡ 0 = let l = ap (λ (ks : List Kept). length ks) kept in omega arith in
+    let long : queue.first + length queue.kept ≡ 0 = let l = ap (λ (ks : List KeptInterval). length ks) kept in omega arith in
     record {
       none = flat_map-push (λ (q : Queue). q.kept) queues queue kept ∙ are.none;
       first = rw (map-append, are.first, first, replicate_more) refl;
       next = rw (map-append, are.next, long, replicate_more) refl;
     }
 
-pub nothing_lies : (queues : List Queue) → flat_map (λ (q : Queue). q.kept) queues ≡ [] → (k : Kept) → Lies queues k
+pub nothing_lies : (queues : List Queue) → flat_map (λ (q : Queue). q.kept) queues ≡ [] → (k : KeptInterval) → Lies queues k
     → ⊥
 nothing_lies queues none k l =
-    let P : List Kept → Type 0 = λ ks. Has ks k in has-nil k (subst P none (lies_in queues k l))
+    let P : List KeptInterval → Type 0 = λ ks. Has ks k in has-nil k (subst P none (lies_in queues k l))
 
 pub are_none : (queues : List Queue) → flat_map (λ (q : Queue). q.kept) queues ≡ [] → AreQueues queues 0
 are_none queues none = record {

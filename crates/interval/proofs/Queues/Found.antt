@@ -5,16 +5,16 @@ use Rattle.std.proofs.lemmas.Bool.{cases_order, cases_Bool, and_parts, and_from,
 use Rattle.std.proofs.lemmas.Option.{slice_get_within, slice_get-get_or, slice_get_read}
 use Rattle.page.specs.Changes.{Changes}
 use Rattle.interval.specs.declared.notice.Notice.{Notice}
-use Rattle.interval.specs.declared.kept.Kept.{Kept}
+use Rattle.interval.specs.declared.kept_interval.KeptInterval.{KeptInterval}
 use Rattle.interval.specs.Closings.{Closings, is_noticed, record_of}
 use Rattle.interval.specs.Queues.{Queue, merged, closings, AreQueues}
-use Rattle.lists.specs.Places.{Has}
-use Rattle.lists.proofs.Filters.{find_none}
+use Rattle.base.specs.Places.{Has}
+use Rattle.base.proofs.Filters.{find_none}
 use Rattle.interval.proofs.Order.Least.{find_least}
 use Rattle.interval.proofs.Queues.Merged.{Lies, merged_lies, lies_merged, rises-merged, queued}
 
 -- an owner's interval lies in the owner's queue
-pub in_own_queue : (queues : List Queue) (count : ℕ) → AreQueues queues count → (k : Kept) → Lies queues k
+pub in_own_queue : (queues : List Queue) (count : ℕ) → AreQueues queues count → (k : KeptInterval) → Lies queues k
     → (owner : ℕ) → k.interval.owner ≡ owner → (queue : Queue) → slice_get queues owner ≡ Some queue
     → (i : ℕ) × (slice_get queue.kept i ≡ Some k)
 in_own_queue queues count are k l owner is queue owned =
@@ -28,12 +28,12 @@ in_own_queue queues count are k l owner is queue owned =
 -- the first of the owner's intervals in closing order is the first of its queue
 pub first_of : (queues : List Queue) (count owner : ℕ) (queue : Queue) → AreQueues queues count
     → slice_get queues owner ≡ Some queue
-    → find (λ (k : Kept). k.interval.owner == owner) (merged queues) ≡ slice_get queue.kept 0
+    → find (λ (k : KeptInterval). k.interval.owner == owner) (merged queues) ≡ slice_get queue.kept 0
 first_of queues count owner queue are owned =
-    let test : Kept → Bool = λ k. k.interval.owner == owner in
-    let go : (o : Option Kept) → slice_get queue.kept 0 ≡ o
+    let test : KeptInterval → Bool = λ k. k.interval.owner == owner in
+    let go : (o : Option KeptInterval) → slice_get queue.kept 0 ≡ o
     → find test (merged queues)
-    ≡ o = λ o. elim o as (λ (o : Option Kept). slice_get queue.kept 0 ≡ o → find test (merged queues) ≡ o) [
+    ≡ o = λ o. elim o as (λ (o : Option KeptInterval). slice_get queue.kept 0 ≡ o → find test (merged queues) ≡ o) [
       | None ↦ λ e. find_none test (merged queues) (λ j h. elim (cases_Bool (test j)) [
         | inl t ↦
             let at = in_own_queue queues count are j (merged_lies queues j h) owner (eqb-true _ _ t) queue owned in
@@ -50,7 +50,7 @@ first_of queues count owner queue are owned =
           let at = in_own_queue queues count are j (merged_lies queues j h) owner (eqb-true _ _ t) queue owned in
           elim (cases_order 0 at.0) [
             | inl same ↦ let there : slice_get queue.kept 0 ≡ Some j = ap (slice_get queue.kept) same ∙ at.1 in
-                let one : k ≡ j = cc (e, there) in let place = ap (λ (z : Kept). z.place) one in omega arith
+                let one : k ≡ j = cc (e, there) in let place = ap (λ (z : KeptInterval). z.place) one in omega arith
             | inr other ↦ elim other [
               | inl before ↦ let rises = (are.each owner queue owned).rising 0 at.0 k j before e at.1 in omega arith
               | inr after ↦ absurd (omega arith)
@@ -62,14 +62,14 @@ first_of queues count owner queue are owned =
 -- what `first` answers is the number of that interval, or the owner's next number
 pub first_number : (queues : List Queue) (count : ℕ) (value : Closings) (owner : ℕ) (queue : Queue) (n : ℕ)
     → closings queues count ≡ value → AreQueues queues count → slice_get queues owner ≡ Some queue → n ≡ queue.first
-    → MatchOption (find (λ (k : Kept). k.interval.owner == owner) value.kept) (slice_get value.next owner ≡ Some n)
+    → MatchOption (find (λ (k : KeptInterval). k.interval.owner == owner) value.kept) (slice_get value.next owner ≡ Some n)
     (λ k. k.interval.number ≡ n)
 first_number queues count value owner queue n is are owned n_is =
     let kepts : merged queues ≡ value.kept = ap (λ (c : Closings). c.kept) is in
     let nexts : map (λ (q : Queue). q.first + length q.kept) queues ≡ value.next = ap (λ (c : Closings). c.next) is in
-    let go : (o : Option Kept) → slice_get queue.kept 0 ≡ o
+    let go : (o : Option KeptInterval) → slice_get queue.kept 0 ≡ o
     → MatchOption o (slice_get value.next owner ≡ Some n) (λ k. k.interval.number ≡ n) = λ o. elim o as (λ
-    (o : Option Kept). slice_get queue.kept 0
+    (o : Option KeptInterval). slice_get queue.kept 0
     ≡ o
     → MatchOption o (slice_get value.next owner ≡ Some n) (λ k. k.interval.number ≡ n)) [
       | None ↦ λ e.
@@ -81,13 +81,13 @@ first_number queues count value owner queue n is are owned n_is =
           ap (λ (ns : List ℕ). slice_get ns owner) (sym nexts) ∙ entry ∙ ap Some number
       | Some k ↦ λ e. let number = ((are.each owner queue owned).each 0 k e).number_is in omega arith
     ] in
-    let P : Option Kept → Type 0 =
+    let P : Option KeptInterval → Type 0 =
     λ o. MatchOption o (slice_get value.next owner ≡ Some n) (λ k. k.interval.number ≡ n) in
     subst P (sym (first_of queues count owner queue are owned)
-    ∙ ap (find (λ (k : Kept). k.interval.owner == owner)) kepts)
+    ∙ ap (find (λ (k : KeptInterval). k.interval.owner == owner)) kepts)
     (go (slice_get queue.kept 0) refl)
   where
-    empty : (ks : List Kept) → slice_get ks 0 ≡ None → length ks ≡ 0
+    empty : (ks : List KeptInterval) → slice_get ks 0 ≡ None → length ks ≡ 0
     empty [] e = refl
     empty (k ∷ ks) e = absurd (cc e)
 
@@ -117,7 +117,7 @@ pub noticed_at : (queues : List Queue) (count : ℕ) (n : Notice) (queue : Queue
     → find (is_noticed n) (merged queues) ≡ slice_get queue.kept (n.number - queue.first)
 noticed_at queues count n queue are owned from =
     let i : ℕ = n.number - queue.first in
-    let found_at : (j : Kept) → Has (merged queues) j → is_noticed n j ≡ true
+    let found_at : (j : KeptInterval) → Has (merged queues) j → is_noticed n j ≡ true
     → slice_get queue.kept i ≡ Some j = λ j h t.
     let parts = and_parts _ _ t in
     let at = in_own_queue queues count are j (merged_lies queues j h) n.owner (eqb-true _ _ parts.0) queue owned in
@@ -125,10 +125,10 @@ noticed_at queues count n queue are owned from =
     let is : j.interval.number ≡ n.number = eqb-true _ _ parts.1 in
     let index : at.0 ≡ i = omega arith in
     ap (slice_get queue.kept) (sym index) ∙ at.1 in
-    let go : (o : Option Kept) → slice_get queue.kept i ≡ o
+    let go : (o : Option KeptInterval) → slice_get queue.kept i ≡ o
     → find (is_noticed n) (merged queues)
     ≡ o = λ o. elim o as
-    (λ (o : Option Kept). slice_get queue.kept i ≡ o → find (is_noticed n) (merged queues) ≡ o) [
+    (λ (o : Option KeptInterval). slice_get queue.kept i ≡ o → find (is_noticed n) (merged queues) ≡ o) [
       | None ↦ λ e. find_none (is_noticed n) (merged queues)
           (λ j h. elim (cases_Bool (is_noticed n j)) [ inl t ↦ let there = found_at j h t in cc | inr f ↦ f ])
       | Some k ↦ λ e.
@@ -139,7 +139,7 @@ noticed_at queues count n queue are owned from =
           find_least (is_noticed n) (merged queues) k (rises-merged queues) (lies_merged queues count are k l)
           (and_from _ _ (eq-eqb _ _ q.owner_is) (eq-eqb _ _ is))
           (λ j h t. let there = found_at j h t in let one : k ≡ j = cc (e, there) in
-          let place = ap (λ (z : Kept). z.place) one in omega arith)
+          let place = ap (λ (z : KeptInterval). z.place) one in omega arith)
     ] in
     go (slice_get queue.kept i) refl
 
@@ -160,16 +160,16 @@ none_below queues count n queue are owned below =
     ])
 
 -- of the interval that is found, the record for the page
-pub record_found : (queues : List Queue) (count : ℕ) (value : Closings) (n : Notice) (o : Option Kept)
+pub record_found : (queues : List Queue) (count : ℕ) (value : Closings) (n : Notice) (o : Option KeptInterval)
     → closings queues count ≡ value → find (is_noticed n) (merged queues) ≡ o
     → record_of value n
-    ≡ option_and_then (λ (k : Kept). find (λ (r : Changes). r.page == n.page) k.interval.records) o
+    ≡ option_and_then (λ (k : KeptInterval). find (λ (r : Changes). r.page == n.page) k.interval.records) o
 record_found queues count value n o is found =
     let kepts : value.kept ≡ merged queues = ap (λ (c : Closings). c.kept) (sym is) in
-    ap (λ (ks : List Kept). option_and_then
-    (λ (k : Kept). find (λ (r : Changes). r.page == n.page) k.interval.records) (find (is_noticed n) ks))
+    ap (λ (ks : List KeptInterval). option_and_then
+    (λ (k : KeptInterval). find (λ (r : Changes). r.page == n.page) k.interval.records) (find (is_noticed n) ks))
     kepts
-    ∙ ap (option_and_then (λ (k : Kept). find (λ (r : Changes). r.page == n.page) k.interval.records)) found
+    ∙ ap (option_and_then (λ (k : KeptInterval). find (λ (r : Changes). r.page == n.page) k.interval.records)) found
 
 -- the owner's queue, as it is read from a slice of the queues
 pub queue_read : (queues items : List Queue) (o : ℕ) (queue : Queue) → items ≡ queues → o < length items

@@ -2,33 +2,33 @@
 use Rattle.std.proofs.Common.{◌≡◌, ℕ, inl, inr, Some, List, slice_get, sym, ap, arith, ◌∙◌}
 use Rattle.std.specs.List.{flat_map}
 use Rattle.std.proofs.lemmas.Bool.{cases_order}
-use Rattle.lists.specs.Places.{Has}
-use Rattle.lists.proofs.Joined.{has-flat_map}
-use Rattle.interval.specs.declared.kept.Kept.{Kept}
+use Rattle.base.specs.Places.{Has}
+use Rattle.base.proofs.Joined.{has-flat_map}
+use Rattle.interval.specs.declared.kept_interval.KeptInterval.{KeptInterval}
 use Rattle.interval.specs.Queues.{Queue, merged, IsQueue, IsQueued, AreQueues}
 use Rattle.interval.proofs.Order.ByPlace.{Rises, IsApart, has-by_place, has-by_place_from, rises-by_place}
 
 -- where an interval lies
-pub record Lies (queues : List Queue) (k : Kept) : Type 0 where
+pub record Lies (queues : List Queue) (k : KeptInterval) : Type 0 where
   pub owner : ℕ
   pub queue : Queue
   pub index : ℕ
   pub owned : slice_get queues owner ≡ Some queue
   pub at : slice_get queue.kept index ≡ Some k
 
-abbrev items_of : Queue → List Kept
-items_of q = q.kept
+abbrev queue_items : Queue → List KeptInterval
+queue_items q = q.kept
 
-lies : (queues : List Queue) (k : Kept) → Has (flat_map items_of queues) k → Lies queues k
+lies : (queues : List Queue) (k : KeptInterval) → Has (flat_map queue_items queues) k → Lies queues k
 lies queues k h =
-    let w = (has-flat_map items_of queues k).0 h in
+    let w = (has-flat_map queue_items queues k).0 h in
     record { owner = w.1.0; queue = w.0; index = w.2.0; owned = w.1.1; at = w.2.1 }
 
-pub lies_in : (queues : List Queue) (k : Kept) → Lies queues k → Has (flat_map items_of queues) k
-lies_in queues k l = (has-flat_map items_of queues k).1 (l.queue, (l.owner, l.owned), (l.index, l.at))
+pub lies_in : (queues : List Queue) (k : KeptInterval) → Lies queues k → Has (flat_map queue_items queues) k
+lies_in queues k l = (has-flat_map queue_items queues k).1 (l.queue, (l.owner, l.owned), (l.index, l.at))
 
 -- in a queue a closing number stands for one interval
-one_place : (owner count : ℕ) (queue : Queue) → IsQueue owner count queue → (i m : ℕ) (j k : Kept)
+one_place : (owner count : ℕ) (queue : Queue) → IsQueue owner count queue → (i m : ℕ) (j k : KeptInterval)
     → slice_get queue.kept i ≡ Some j → slice_get queue.kept m ≡ Some k → j.place ≡ k.place → j ≡ k
 one_place owner count queue is i m j k at_i at_m same = elim (cases_order i m) [
   | inl e ↦ let swap : slice_get queue.kept i ≡ Some k = ap (slice_get queue.kept) e ∙ at_m in cc
@@ -39,7 +39,7 @@ one_place owner count queue is i m j k at_i at_m same = elim (cases_order i m) [
 ]
 
 -- in all queues
-pub one_interval : (queues : List Queue) (count : ℕ) → AreQueues queues count → (j k : Kept) → Lies queues j
+pub one_interval : (queues : List Queue) (count : ℕ) → AreQueues queues count → (j k : KeptInterval) → Lies queues j
     → Lies queues k → j.place ≡ k.place → j ≡ k
 one_interval queues count are j k a b same =
     let owner = are.apart a.owner b.owner a.queue b.queue j k a.owned b.owned (a.index, a.at) (b.index, b.at) same in
@@ -49,28 +49,28 @@ one_interval queues count are j k a b same =
     ap (λ (q : Queue). slice_get q.kept b.index) (sym queue) ∙ b.at in
     one_place a.owner count a.queue (are.each a.owner a.queue a.owned) a.index b.index j k a.at at same
 
-apart : (queues : List Queue) (count : ℕ) → AreQueues queues count → IsApart (flat_map items_of queues)
+apart : (queues : List Queue) (count : ℕ) → AreQueues queues count → IsApart (flat_map queue_items queues)
 apart queues count are j k h g same = one_interval queues count are j k (lies queues j h) (lies queues k g) same
 
 -- what stands in the merged list
-pub merged_lies : (queues : List Queue) (k : Kept) → Has (merged queues) k → Lies queues k
-merged_lies queues k h = lies queues k (has-by_place (flat_map items_of queues) k h)
+pub merged_lies : (queues : List Queue) (k : KeptInterval) → Has (merged queues) k → Lies queues k
+merged_lies queues k h = lies queues k (has-by_place (flat_map queue_items queues) k h)
 
-pub lies_merged : (queues : List Queue) (count : ℕ) → AreQueues queues count → (k : Kept) → Lies queues k
+pub lies_merged : (queues : List Queue) (count : ℕ) → AreQueues queues count → (k : KeptInterval) → Lies queues k
     → Has (merged queues) k
 lies_merged queues count are k l =
-    has-by_place_from (flat_map items_of queues) (apart queues count are) k (lies_in queues k l)
+    has-by_place_from (flat_map queue_items queues) (apart queues count are) k (lies_in queues k l)
 
 pub rises-merged : (queues : List Queue) → Rises (merged queues)
-rises-merged queues = rises-by_place (flat_map items_of queues)
+rises-merged queues = rises-by_place (flat_map queue_items queues)
 
 -- what is known of an interval where it lies
-pub queued : (queues : List Queue) (count : ℕ) → AreQueues queues count → (k : Kept) (l : Lies queues k)
+pub queued : (queues : List Queue) (count : ℕ) → AreQueues queues count → (k : KeptInterval) (l : Lies queues k)
     → IsQueued l.owner count l.queue l.index k
 queued queues count are k l = (are.each l.owner l.queue l.owned).each l.index k l.at
 
 -- an owner's intervals are known by their numbers
-pub one_number : (queues : List Queue) (count : ℕ) → AreQueues queues count → (j k : Kept) → Lies queues j
+pub one_number : (queues : List Queue) (count : ℕ) → AreQueues queues count → (j k : KeptInterval) → Lies queues j
     → Lies queues k
     → j.interval.owner ≡ k.interval.owner → j.interval.number ≡ k.interval.number → j ≡ k
 one_number queues count are j k a b owners numbers =

@@ -3,11 +3,11 @@ use Rattle.std.proofs.Common.{◌≡◌, ◌≢◌, ℕ, zero, suc, ◌<◌, ◌
 use Rattle.std.proofs.lemmas.Bool.{cases_eq}
 use Rattle.std.proofs.lemmas.List.{length_push, length-map, map-set, set-get_or}
 use Rattle.std.proofs.lemmas.Option.{slice_get_within, get_or_from_slice_get, slice_get_read}
-use Rattle.lists.specs.Places.{Has, InOrder}
-use Rattle.lists.proofs.Joined.{has-nil, has-cons, has-append}
-use Rattle.lists.proofs.Places.{slice_get-append_left, slice_get-last, push_cases}
-use Rattle.lists.proofs.Sets.{slice_get-set_same, slice_get-set_other}
-use Rattle.interval.specs.declared.kept.Kept.{Kept}
+use Rattle.base.specs.Places.{Has, InOrder}
+use Rattle.base.proofs.Joined.{has-nil, has-cons, has-append}
+use Rattle.base.proofs.Places.{slice_get-append_left, slice_get-last, push_cases}
+use Rattle.base.proofs.Sets.{slice_get-set_same, slice_get-set_other}
+use Rattle.interval.specs.declared.kept_interval.KeptInterval.{KeptInterval}
 use Rattle.interval.specs.Intervals.{HasRisingPages, ClosedInterval}
 use Rattle.interval.specs.Closings.{Closings, pushed}
 use Rattle.interval.specs.Queues.{Queue, merged, closings, IsQueue, IsQueued, AreQueues}
@@ -15,7 +15,7 @@ use Rattle.interval.proofs.Order.ByPlace.{rises-push, same_rising}
 use Rattle.interval.proofs.Queues.Merged.{Lies, merged_lies, lies_merged, rises-merged, queued}
 
 -- the interval k comes last in the queue of its owner, and is closed last
-pub record Comes (queues : List Queue) (count owner : ℕ) (queue : Queue) (k : Kept) : Type 0 where
+pub record Comes (queues : List Queue) (count owner : ℕ) (queue : Queue) (k : KeptInterval) : Type 0 where
   pub owned : slice_get queues owner ≡ Some queue
   pub owner_is : k.interval.owner ≡ owner
   pub number_is : k.interval.number ≡ queue.first + length queue.kept
@@ -23,13 +23,13 @@ pub record Comes (queues : List Queue) (count owner : ℕ) (queue : Queue) (k : 
   pub fits : count + 1 < 2 ^ 64
   pub pages : HasRisingPages k.interval.records
 
-abbrev pub with_last : Queue → Kept → Queue
+abbrev pub with_last : Queue → KeptInterval → Queue
 with_last queue k = record { first = queue.first; kept = queue.kept ++ k ∷ [] }
 
-abbrev pub with_queue : List Queue → ℕ → Queue → Kept → List Queue
+abbrev pub with_queue : List Queue → ℕ → Queue → KeptInterval → List Queue
 with_queue queues owner queue k = set queues owner (with_last queue k)
 
-module _ (queues : List Queue) (count owner : ℕ) (queue : Queue) (k : Kept) (are : AreQueues queues count)
+module _ (queues : List Queue) (count owner : ℕ) (queue : Queue) (k : KeptInterval) (are : AreQueues queues count)
     (comes : Comes queues count owner queue k) where
   inside : owner < length queues
   inside = slice_get_within queues owner queue comes.owned
@@ -49,7 +49,7 @@ module _ (queues : List Queue) (count owner : ℕ) (queue : Queue) (k : Kept) (a
   was_before : IsQueue owner count queue
   was_before = are.each owner queue comes.owned
 
-  queued_last : (i : ℕ) (j : Kept) → slice_get (queue.kept ++ k ∷ []) i ≡ Some j
+  queued_last : (i : ℕ) (j : KeptInterval) → slice_get (queue.kept ++ k ∷ []) i ≡ Some j
       → IsQueued owner (count + 1) (with_last queue k) i j
   queued_last i j at = elim (push_cases queue.kept k i j at) [
     | inl old ↦
@@ -57,7 +57,7 @@ module _ (queues : List Queue) (count owner : ℕ) (queue : Queue) (k : Kept) (a
         let before = was.closed in
         record { owner_is = was.owner_is; number_is = was.number_is; closed = omega arith; pages = was.pages }
     | inr new ↦
-        let P : Kept → Type 0 = λ j. IsQueued owner (count + 1) (with_last queue k) i j in
+        let P : KeptInterval → Type 0 = λ j. IsQueued owner (count + 1) (with_last queue k) i j in
         let place = comes.place_is in
         let number = comes.number_is in
         let index = new.0 in
@@ -67,7 +67,7 @@ module _ (queues : List Queue) (count owner : ℕ) (queue : Queue) (k : Kept) (a
         rw (← new.1) is
   ]
 
-  rising_last : InOrder (λ (j k : Kept). j.place < k.place) (queue.kept ++ k ∷ [])
+  rising_last : InOrder (λ (j k : KeptInterval). j.place < k.place) (queue.kept ++ k ∷ [])
   rising_last x y a b lt at_x at_y = elim (push_cases queue.kept k y b at_y) [
     | inl old_y ↦
         let within = old_y.0 in
@@ -81,14 +81,14 @@ module _ (queues : List Queue) (count owner : ℕ) (queue : Queue) (k : Kept) (a
           | inl old_x ↦
               let before = (was_before.each x a old_x.1).closed in
               let place = comes.place_is in
-              let same : k.place ≡ b.place = ap (λ (z : Kept). z.place) new_y.1 in
+              let same : k.place ≡ b.place = ap (λ (z : KeptInterval). z.place) new_y.1 in
               omega arith
           | inr new_x ↦ let same = new_x.0 in absurd (omega arith)
         ]
   ]
 
   -- where an interval of the new queues lay before
-  pub came_from : (j : Kept) → Lies (with_queue queues owner queue k) j → (j ≡ k) ⊎ Lies queues j
+  pub came_from : (j : KeptInterval) → Lies (with_queue queues owner queue k) j → (j ≡ k) ⊎ Lies queues j
   came_from j l = elim (queue_cases l.owner l.queue l.owned) [
     | inl here ↦
         let at : slice_get (queue.kept ++ k ∷ []) l.index ≡ Some j =
@@ -100,7 +100,7 @@ module _ (queues : List Queue) (count owner : ℕ) (queue : Queue) (k : Kept) (a
     | inr there ↦ inr (record { owner = l.owner; queue = l.queue; index = l.index; owned = there.1; at = l.at })
   ]
 
-  pub comes_to : (j : Kept) → Lies queues j → Lies (with_queue queues owner queue k) j
+  pub comes_to : (j : KeptInterval) → Lies queues j → Lies (with_queue queues owner queue k) j
   comes_to j l = elim (cases_eq l.owner owner) [
     | inl e ↦
         let same : l.queue ≡ queue =
@@ -137,10 +137,10 @@ module _ (queues : List Queue) (count owner : ℕ) (queue : Queue) (k : Kept) (a
       }
 
   -- k is the only one with its place
-  place_below : (j : Kept) → Lies queues j → j.place < count
+  place_below : (j : KeptInterval) → Lies queues j → j.place < count
   place_below j l = (queued queues count are j l).closed
 
-  has_last : (q : ℕ) (a : Queue) (j : Kept) → slice_get (with_queue queues owner queue k) q ≡ Some a → Has a.kept j
+  has_last : (q : ℕ) (a : Queue) (j : KeptInterval) → slice_get (with_queue queues owner queue k) q ≡ Some a → Has a.kept j
       → ((q ≡ owner) × (j ≡ k)) ⊎ ((b : Queue) × (slice_get queues q ≡ Some b) × Has b.kept j)
   has_last q a j at (i, has) = elim (queue_cases q a at) [
     | inl here ↦
@@ -182,7 +182,7 @@ module _ (queues : List Queue) (count owner : ℕ) (queue : Queue) (k : Kept) (a
             let below =
             place_below j
             (record { owner = r; queue = old_j.0; index = old_j.2.0; owned = old_j.1; at = old_j.2.1 }) in
-            let is : i.place ≡ k.place = ap (λ (z : Kept). z.place) new_i.1 in
+            let is : i.place ≡ k.place = ap (λ (z : KeptInterval). z.place) new_i.1 in
             let place = comes.place_is in
             absurd (omega arith)
       ]
@@ -191,7 +191,7 @@ module _ (queues : List Queue) (count owner : ℕ) (queue : Queue) (k : Kept) (a
             let below =
             place_below i
             (record { owner = q; queue = old_i.0; index = old_i.2.0; owned = old_i.1; at = old_i.2.1 }) in
-            let is : j.place ≡ k.place = ap (λ (z : Kept). z.place) new_j.1 in
+            let is : j.place ≡ k.place = ap (λ (z : KeptInterval). z.place) new_j.1 in
             let place = comes.place_is in
             absurd (omega arith)
         | inr old_j ↦ are.apart q r old_i.0 old_j.0 i j old_i.1 old_j.1 old_i.2 old_j.2 same
@@ -202,16 +202,16 @@ module _ (queues : List Queue) (count owner : ℕ) (queue : Queue) (k : Kept) (a
   pub merged_pushed : merged (with_queue queues owner queue k) ≡ merged queues ++ k ∷ []
   merged_pushed =
       let place = comes.place_is in
-      let below : (j : Kept) → Has (merged queues) j → j.place < k.place =
+      let below : (j : KeptInterval) → Has (merged queues) j → j.place < k.place =
       λ j h. let lt = place_below j (merged_lies queues j h) in omega arith in
-      let to : (j : Kept) → Has (merged (with_queue queues owner queue k)) j
+      let to : (j : KeptInterval) → Has (merged (with_queue queues owner queue k)) j
       → Has (merged queues ++ k ∷ []) j = λ j h.
       (has-append (merged queues) (k ∷ []) j).1
       (elim (came_from j (merged_lies (with_queue queues owner queue k) j h)) [
         | inl new ↦ inr (0, ap Some (sym new))
         | inr old ↦ inl (lies_merged queues count are j old)
       ]) in
-      let from : (j : Kept) → Has (merged queues ++ k ∷ []) j
+      let from : (j : KeptInterval) → Has (merged queues ++ k ∷ []) j
       → Has (merged (with_queue queues owner queue k)) j = λ j h. elim
       ((has-append (merged queues) (k ∷ []) j).0 h) [
         | inl old ↦ lies_merged (with_queue queues owner queue k) (count + 1) are_pushed j
@@ -282,7 +282,7 @@ pub closings_pushed : (queues : List Queue) (count : ℕ) (value : Closings) (i 
     → Comes queues count owner queue (record { place = count; interval = i })
     → closings (with_queue queues owner queue (record { place = count; interval = i })) (count + 1) ≡ pushed value i
 closings_pushed queues count value i owner queue is same are comes =
-    let k : Kept = record { place = count; interval = i } in
+    let k : KeptInterval = record { place = count; interval = i } in
     let kepts = merged_pushed queues count owner queue k are comes in
     let firsts = first_pushed queues count owner queue k are comes in
     let nexts = next_pushed queues count owner queue k are comes in

@@ -3,19 +3,19 @@ use Rattle.std.proofs.Common.{◌≡◌, ◌≢◌, ℕ, ◌<◌, ◌≤◌, ◌
 use Rattle.std.proofs.lemmas.Bool.{cases_eq, cases_lt, and_left, and_right, and_from, eq-eqb, ne_eqb, lt-ltb, le-ltb, not_from_false, not-true, both_ways}
 use Rattle.std.proofs.lemmas.List.{map-set, set-get_or, length-drop}
 use Rattle.std.proofs.lemmas.Option.{slice_get_within, get_or_from_slice_get}
-use Rattle.lists.specs.Places.{Has}
-use Rattle.interval.specs.declared.kept.Kept.{Kept}
+use Rattle.base.specs.Places.{Has}
+use Rattle.interval.specs.declared.kept_interval.KeptInterval.{KeptInterval}
 use Rattle.interval.specs.Closings.{Closings, is_trimmed, trimmed}
-use Rattle.interval.specs.Queues.{Queue, merged, closings, without, IsQueue, AreQueues}
-use Rattle.lists.proofs.Picked.{has-filter, in_order-filter}
+use Rattle.interval.specs.Queues.{Queue, merged, closings, dropped_below, IsQueue, AreQueues}
+use Rattle.base.proofs.Picked.{has-filter, in_order-filter}
 use Rattle.interval.proofs.Order.ByPlace.{IsBefore, same_rising}
 use Rattle.interval.proofs.Queues.Merged.{Lies, merged_lies, lies_merged, rises-merged}
-use Rattle.lists.proofs.Places.{slice_get-drop}
-use Rattle.lists.proofs.Sets.{slice_get-set_same, slice_get-set_other}
+use Rattle.base.proofs.Places.{slice_get-drop}
+use Rattle.base.proofs.Sets.{slice_get-set_same, slice_get-set_other}
 use Rattle.interval.proofs.Queues.Pushed.{entry_of}
 
 abbrev with_trim : List Queue → ℕ → Queue → ℕ → List Queue
-with_trim queues owner queue to = set queues owner (without queue to)
+with_trim queues owner queue to = set queues owner (dropped_below queue to)
 
 module _ (queues : List Queue) (count owner : ℕ) (queue : Queue) (to : ℕ) (are : AreQueues queues count)
     (owned : slice_get queues owner ≡ Some queue) where
@@ -29,10 +29,10 @@ module _ (queues : List Queue) (count owner : ℕ) (queue : Queue) (to : ℕ) (a
   was = are.each owner queue owned
 
   -- an interval that stays, where it was
-  stayed : (i : ℕ) (k : Kept) → slice_get (drop gone queue.kept) i ≡ Some k → slice_get queue.kept (gone + i) ≡ Some k
+  stayed : (i : ℕ) (k : KeptInterval) → slice_get (drop gone queue.kept) i ≡ Some k → slice_get queue.kept (gone + i) ≡ Some k
   stayed i k at = sym (slice_get-drop queue.kept gone i) ∙ at
 
-  is_queue : IsQueue owner count (without queue to)
+  is_queue : IsQueue owner count (dropped_below queue to)
   is_queue = record {
     each = λ i k at.
         let before = stayed i k at in
@@ -46,18 +46,18 @@ module _ (queues : List Queue) (count owner : ℕ) (queue : Queue) (to : ℕ) (a
   }
 
   queue_cases : (q : ℕ) (a : Queue) → slice_get (with_trim queues owner queue to) q ≡ Some a
-      → ((q ≡ owner) × (without queue to ≡ a)) ⊎ ((q ≢ owner) × (slice_get queues q ≡ Some a))
+      → ((q ≡ owner) × (dropped_below queue to ≡ a)) ⊎ ((q ≢ owner) × (slice_get queues q ≡ Some a))
   queue_cases q a at = elim (cases_eq q owner) [
     | inl e ↦
-        let here = slice_get-set_same queues owner (without queue to) inside in
+        let here = slice_get-set_same queues owner (dropped_below queue to) inside in
         let there : slice_get (with_trim queues owner queue to) owner ≡ Some a =
         ap (slice_get (with_trim queues owner queue to)) (sym e) ∙ at in
         inl (e, cc (here, there))
-    | inr other ↦ inr (other, sym (slice_get-set_other queues owner q (without queue to) other) ∙ at)
+    | inr other ↦ inr (other, sym (slice_get-set_other queues owner q (dropped_below queue to) other) ∙ at)
   ]
 
   -- an interval of the new queues, in the old ones
-  was_has : (q : ℕ) (a : Queue) (j : Kept) → slice_get (with_trim queues owner queue to) q ≡ Some a → Has a.kept j
+  was_has : (q : ℕ) (a : Queue) (j : KeptInterval) → slice_get (with_trim queues owner queue to) q ≡ Some a → Has a.kept j
       → (b : Queue) × (slice_get queues q ≡ Some b) × Has b.kept j
   was_has q a j at (i, has) = elim (queue_cases q a at) [
     | inl here ↦
@@ -80,13 +80,13 @@ module _ (queues : List Queue) (count owner : ℕ) (queue : Queue) (to : ℕ) (a
         are.apart q r old_i.0 old_j.0 i j old_i.1 old_j.1 old_i.2 old_j.2 same;
   }
 
-  other_stays : (k : Kept) → k.interval.owner ≢ owner → not (is_trimmed owner to k) ≡ true
+  other_stays : (k : KeptInterval) → k.interval.owner ≢ owner → not (is_trimmed owner to k) ≡ true
   other_stays k other = not_from_false _ (and_left _ _ (ne_eqb _ _ other))
 
-  later_stays : (k : Kept) → to ≤ k.interval.number → not (is_trimmed owner to k) ≡ true
+  later_stays : (k : KeptInterval) → to ≤ k.interval.number → not (is_trimmed owner to k) ≡ true
   later_stays k later = not_from_false _ (and_right _ _ (le-ltb _ _ later))
 
-  remains : (k : Kept) → Lies (with_trim queues owner queue to) k
+  remains : (k : KeptInterval) → Lies (with_trim queues owner queue to) k
       → Lies queues k × (not (is_trimmed owner to k) ≡ true)
   remains k l = elim (queue_cases l.owner l.queue l.owned) [
     | inl here ↦
@@ -107,13 +107,13 @@ module _ (queues : List Queue) (count owner : ℕ) (queue : Queue) (to : ℕ) (a
   ]
 
   -- of the owner's intervals, those from `to` on remain
-  not_before : (k : Kept) → not (is_trimmed owner to k) ≡ true → k.interval.owner ≡ owner → to ≤ k.interval.number
+  not_before : (k : KeptInterval) → not (is_trimmed owner to k) ≡ true → k.interval.owner ≡ owner → to ≤ k.interval.number
   not_before k stays is = elim (cases_lt k.interval.number to) [
     | inl lt ↦ absurd (both_ways _ (not-true _ stays) (and_from _ _ (eq-eqb _ _ is) (lt-ltb _ _ lt)))
     | inr ge ↦ ge
   ]
 
-  remains_from : (k : Kept) → Lies queues k → not (is_trimmed owner to k) ≡ true
+  remains_from : (k : KeptInterval) → Lies queues k → not (is_trimmed owner to k) ≡ true
       → Lies (with_trim queues owner queue to) k
   remains_from k l stays = elim (cases_eq l.owner owner) [
     | inl e ↦
@@ -128,16 +128,16 @@ module _ (queues : List Queue) (count owner : ℕ) (queue : Queue) (to : ℕ) (a
         let index : gone + (l.index - gone) ≡ l.index = omega arith in
         record {
           owner = owner;
-          queue = without queue to;
+          queue = dropped_below queue to;
           index = l.index - gone;
-          owned = slice_get-set_same queues owner (without queue to) inside;
+          owned = slice_get-set_same queues owner (dropped_below queue to) inside;
           at = slice_get-drop queue.kept gone (l.index - gone) ∙ ap (slice_get queue.kept) index ∙ at;
         }
     | inr other ↦ record {
       owner = l.owner;
       queue = l.queue;
       index = l.index;
-      owned = slice_get-set_other queues owner l.owner (without queue to) other ∙ l.owned;
+      owned = slice_get-set_other queues owner l.owner (dropped_below queue to) other ∙ l.owned;
       at = l.at;
     }
   ]
@@ -145,7 +145,7 @@ module _ (queues : List Queue) (count owner : ℕ) (queue : Queue) (to : ℕ) (a
   pub merged_trimmed : merged (with_trim queues owner queue to)
       ≡ filter (λ k. not (is_trimmed owner to k)) (merged queues)
   merged_trimmed =
-      let stays : Kept → Bool = λ k. not (is_trimmed owner to k) in
+      let stays : KeptInterval → Bool = λ k. not (is_trimmed owner to k) in
       same_rising (merged (with_trim queues owner queue to)) (filter stays (merged queues))
       (rises-merged (with_trim queues owner queue to))
       (in_order-filter IsBefore stays (merged queues) (rises-merged queues))
@@ -161,7 +161,7 @@ module _ (queues : List Queue) (count owner : ℕ) (queue : Queue) (to : ℕ) (a
   first_trimmed =
       let first = entry_of (λ (q : Queue). q.first) queues owner queue owned in
       let next = entry_of (λ (q : Queue). q.first + length q.kept) queues owner queue owned in
-      rw (first, next) (map-set (λ (q : Queue). q.first) queues owner (without queue to))
+      rw (first, next) (map-set (λ (q : Queue). q.first) queues owner (dropped_below queue to))
 
   pub next_trimmed : map (λ (q : Queue). q.first + length q.kept) (with_trim queues owner queue to)
       ≡ map (λ (q : Queue). q.first + length q.kept) queues
@@ -171,18 +171,18 @@ module _ (queues : List Queue) (count owner : ℕ) (queue : Queue) (to : ℕ) (a
       let same = set-get_or queues owner queue in
       let old : set queues owner queue ≡ queues = rw at at same in
       let long = length-drop gone queue.kept in
-      let here : f (without queue to) ≡ f queue = omega arith in
-      map-set f queues owner (without queue to) ∙ ap (set (map f queues) owner) here
+      let here : f (dropped_below queue to) ≡ f queue = omega arith in
+      map-set f queues owner (dropped_below queue to) ∙ ap (set (map f queues) owner) here
       ∙ sym (map-set f queues owner queue) ∙ ap (map f) old
 
 -- `trim` does what it says
 pub closings_trimmed : (queues : List Queue) (count : ℕ) (value : Closings) (owner : ℕ) (queue : Queue) (to : ℕ)
     → closings queues count ≡ value → AreQueues queues count → slice_get queues owner ≡ Some queue
-    → closings (set queues owner (without queue to)) count ≡ trimmed value owner to
+    → closings (set queues owner (dropped_below queue to)) count ≡ trimmed value owner to
 closings_trimmed queues count value owner queue to is are owned =
     let kepts = merged_trimmed queues count owner queue to are owned in
     let firsts = first_trimmed queues count owner queue to are owned in
     let nexts = next_trimmed queues count owner queue to are owned in
-    let now : closings (set queues owner (without queue to)) count ≡ trimmed (closings queues count) owner to =
+    let now : closings (set queues owner (dropped_below queue to)) count ≡ trimmed (closings queues count) owner to =
     rw (kepts, firsts, nexts) refl in
     now ∙ ap (λ (c : Closings). trimmed c owner to) is

@@ -13,10 +13,10 @@ use Rattle.journal.specs.Order.{HappensBefore, MeetAt}
 use Rattle.journal.specs.Order.Link.{same, meets}
 use Rattle.journal.specs.Order.HappensBefore.{edge, on}
 use Rattle.journal.specs.WellFormed.{LastIs, WellFormed}
-use Rattle.journal.specs.Base.{Base, arrived}
+use Rattle.journal.specs.Base.{Base, arrivals_cut}
 use Rattle.journal.specs.WellFormedFrom.{IsAway}
 use Rattle.journal.specs.Cuts.{IsBaseOf}
-use Rattle.lists.proofs.Places.{slice_get-take_within, slice_get-from_take}
+use Rattle.base.proofs.Places.{slice_get-take_within, slice_get-from_take}
 use Rattle.journal.proofs.Order.Places.{at_within, at_longer, at_behind, count_of-past, count_of-within, count_of-front, NumberedAt, numbered}
 use Rattle.journal.proofs.Order.HappensBefore.{transitive}
 use Rattle.journal.proofs.Journals.WellFormed.{well_formed_front, last_longer}
@@ -25,8 +25,8 @@ use Rattle.journal.proofs.Bases.Ends.{AreEnded, ended}
 
 -- nothing was cut off, or an episode's end
 pub data Sort (processors : ℕ) (b : Base) (c : List Event) : Type 0 where
-  none : c ≡ [] → arrived b ≡ 0 → b.cut ≡ 0 → Sort processors b c
-  some : (n : ℕ) → arrived b ≡ 1 → b.cut ≢ 0 → AreEnded processors c n → Sort processors b c
+  none : c ≡ [] → arrivals_cut b ≡ 0 → b.cut ≡ 0 → Sort processors b c
+  some : (n : ℕ) → arrivals_cut b ≡ 1 → b.cut ≢ 0 → AreEnded processors c n → Sort processors b c
 
 pub sort : (s : Sizes) (c : List Event) (b : Base) → WellFormed s c → IsBaseOf s.processors (addresses s) c b
     → Sort s.processors b c
@@ -42,7 +42,7 @@ sort s c b well base = elim base.ends [
 
 -- how often each processor has arrived and departed in what was cut off
 pub counts : (processors : ℕ) (b : Base) (c : List Event) → Sort processors b c
-    → (n : ℕ) × ((q : ℕ) → q < processors → (count_of is_arrive c q ≡ n) × (count_of is_depart c q + arrived b ≡ n))
+    → (n : ℕ) × ((q : ℕ) → q < processors → (count_of is_arrive c q ≡ n) × (count_of is_depart c q + arrivals_cut b ≡ n))
 counts processors b c (none is arrived_is cut) = (
   0,
   λ q h. (

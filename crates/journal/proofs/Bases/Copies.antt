@@ -7,8 +7,8 @@ use Rattle.std.proofs.lemmas.List.{length-replicate, length-take}
 use Rattle.std.proofs.lemmas.Option.{slice_get_within, slice_get-get_or, slice_get_past, slice_get-map, same_Some}
 use Rattle.journal.specs.declared.event.Event.{Event}
 use Rattle.journal.specs.declared.event.Kind.TheVariants.{Store}
-use Rattle.lists.specs.Places.{Has, InOrder}
-use Rattle.lists.specs.Writes.{LastWrite, Unwritten}
+use Rattle.base.specs.Places.{Has, InOrder}
+use Rattle.base.specs.Writes.{LastWrite, Unwritten}
 use Rattle.journal.specs.Did.{event}
 use Rattle.journal.specs.Sizes.{Sizes, addresses}
 use Rattle.journal.specs.Events.{At}
@@ -21,11 +21,11 @@ use Rattle.journal.specs.Copies.{StoresTo, page_write, page_after, Lawful}
 use Rattle.journal.specs.Base.{Base}
 use Rattle.journal.specs.OrderFrom.{InPastFrom}
 use Rattle.journal.specs.CopiesFrom.{LawfulFrom}
-use Rattle.lists.proofs.Places.{slice_get-append_left, slice_get-append_right, slice_get-take, slice_get-drop, append_cases}
-use Rattle.lists.proofs.Sets.{slice_get-replicate_found, same_places}
-use Rattle.lists.proofs.LastWrites.{word_written, last_word, last_alone, last_exists, length-written, written-append, written_map, written_same}
-use Rattle.lists.proofs.Joined.{has-map}
-use Rattle.lists.proofs.Halves.{Halves, halves}
+use Rattle.base.proofs.Places.{slice_get-append_left, slice_get-append_right, slice_get-take, slice_get-drop, append_cases}
+use Rattle.base.proofs.Sets.{slice_get-replicate_found, same_places}
+use Rattle.base.proofs.LastWrites.{word_written, last_word, last_alone, last_exists, length-written, written-append, written_map, written_same}
+use Rattle.base.proofs.Joined.{has-map}
+use Rattle.base.proofs.Halves.{Halves, halves}
 use Rattle.journal.proofs.Order.Places.{at_behind}
 use Rattle.journal.proofs.Order.HappensBefore.{longer}
 use Rattle.journal.proofs.Copies.Stores.{does_kind, store_writes, stores_to, store_at, stores_longer, stores_shorter, stores_within, page_after_longer}

@@ -13,7 +13,7 @@ use Rattle.journal.specs.Flat.{memory_after, Replays}
 use Rattle.journal.specs.Base.{Base, no_base}
 use Rattle.journal.specs.RacesFrom.{RaceFreeFrom}
 use Rattle.journal.specs.Cuts.{EndsEpisode, IsBaseAfter, IsBaseOf}
-use Rattle.lists.proofs.Places.{append_cases}
+use Rattle.base.proofs.Places.{append_cases}
 use Rattle.journal.proofs.Order.Places.{at_within, at_longer, at_behind, count_of-append}
 use Rattle.journal.proofs.Journals.WellFormed.{well_formed_front, each_push}
 use Rattle.journal.proofs.Bases.Before.{Sort, sort, counts, even, present_left, cut_before}

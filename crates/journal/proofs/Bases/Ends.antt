@@ -9,7 +9,7 @@ use Rattle.journal.specs.Sizes.{Sizes}
 use Rattle.journal.specs.Events.{At, count_of, is_arrive, is_depart}
 use Rattle.journal.specs.WellFormed.{LastIs, Allowed, WellFormed}
 use Rattle.journal.specs.Cuts.{EndsEpisode}
-use Rattle.lists.proofs.Places.{push_induction}
+use Rattle.base.proofs.Places.{push_induction}
 use Rattle.journal.proofs.Order.Places.{count_of-append}
 use Rattle.journal.proofs.Times.Times.{count_of-one}
 use Rattle.journal.proofs.Journals.WellFormed.{each_push, last_unique, last_or_none}

@@ -4,7 +4,7 @@ use Rattle.std.proofs.lemmas.Bool.{cases_lt}
 use Rattle.std.proofs.lemmas.List.{take-append-le}
 use Rattle.journal.specs.declared.event.Event.{Event}
 use Rattle.journal.specs.Events.{is_arrive, is_depart}
-use Rattle.journal.specs.Base.{Base, arrived}
+use Rattle.journal.specs.Base.{Base, arrivals_cut}
 use Rattle.journal.specs.OrderFrom.{LinkFrom, EdgeFrom, HappensBeforeFrom}
 use Rattle.journal.specs.OrderFrom.LinkFrom.{same, lets, meets}
 use Rattle.journal.specs.OrderFrom.HappensBeforeFrom.{edge, on}
@@ -22,7 +22,7 @@ module _ (b : Base) (j es : List Event) where
       meets (record {
         arrives = m.arrives;
         departs = m.departs;
-        episode = ap (λ n. n + arrived b) (count_of-front is_arrive j es i e.processor hi) ∙ m.episode
+        episode = ap (λ n. n + arrivals_cut b) (count_of-front is_arrive j es i e.processor hi) ∙ m.episode
             ∙ sym (count_of-front is_depart j es k f.processor hk);
       })
 
@@ -34,7 +34,7 @@ module _ (b : Base) (j es : List Event) where
       meets (record {
         arrives = m.arrives;
         departs = m.departs;
-        episode = sym (ap (λ n. n + arrived b) (count_of-front is_arrive j es i e.processor hi)) ∙ m.episode
+        episode = sym (ap (λ n. n + arrivals_cut b) (count_of-front is_arrive j es i e.processor hi)) ∙ m.episode
             ∙ count_of-front is_depart j es k f.processor hk;
       })
 

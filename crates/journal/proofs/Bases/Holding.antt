@@ -5,16 +5,16 @@ use Rattle.std.proofs.lemmas.List.Sums.{sum_by-append}
 use Rattle.std.proofs.lemmas.Option.{none-some}
 use Rattle.journal.specs.declared.event.Event.{Event}
 use Rattle.journal.specs.declared.event.Kind.TheVariants.{Acquire, Release, Set}
-use Rattle.lists.specs.Places.{Has}
+use Rattle.base.specs.Places.{Has}
 use Rattle.journal.specs.Did.{event}
 use Rattle.journal.specs.WellFormed.{Does, Holds}
 use Rattle.journal.specs.Flat.{flat_write, memory_after}
-use Rattle.journal.specs.Traffic.{messages_of, records_of, words_of}
+use Rattle.journal.specs.Traffic.{messages_of, records_of, words_fetched}
 use Rattle.journal.specs.Base.{Base, no_base}
 use Rattle.journal.specs.WellFormedFrom.{HoldsFrom, IsSetFrom}
 use Rattle.journal.specs.Cuts.{IsBaseAfter}
-use Rattle.lists.proofs.Places.{append_cases}
-use Rattle.lists.proofs.LastWrites.{written-append}
+use Rattle.base.proofs.Places.{append_cases}
+use Rattle.base.proofs.LastWrites.{written-append}
 use Rattle.journal.proofs.Order.Places.{at_longer, at_behind}
 
 -- without a base, who holds a lock and which flags are set is what the events say
@@ -147,5 +147,5 @@ base_append b after last c j x y = record {
       omega (arith, sum_by-append (λ (e : Event). records_of e.kind) c j));
   words_are =
       (let old = x.words_are in let more = y.words_are in
-      omega (arith, sum_by-append (λ (e : Event). words_of e.kind) c j));
+      omega (arith, sum_by-append (λ (e : Event). words_fetched e.kind) c j));
 }

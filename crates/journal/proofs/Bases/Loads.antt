@@ -14,10 +14,10 @@ use Rattle.journal.specs.Flat.{flat_write, memory_after}
 use Rattle.journal.specs.Base.{Base}
 use Rattle.journal.specs.LoadsFrom.{IsAnswerFrom, ExplainedFrom}
 use Rattle.journal.specs.Cuts.{IsBaseOf}
-use Rattle.lists.specs.Writes.{written, LastWrite, Unwritten}
-use Rattle.lists.proofs.Places.{append_cases}
-use Rattle.lists.proofs.Sets.{slice_get-replicate_found}
-use Rattle.lists.proofs.LastWrites.{word_written, last_word, last_exists, length-written}
+use Rattle.base.specs.Writes.{written, LastWrite, Unwritten}
+use Rattle.base.proofs.Places.{append_cases}
+use Rattle.base.proofs.Sets.{slice_get-replicate_found}
+use Rattle.base.proofs.LastWrites.{word_written, last_word, last_exists, length-written}
 use Rattle.journal.proofs.Order.Places.{at_within, at_longer, at_shorter, at_behind}
 use Rattle.journal.proofs.Order.HappensBefore.{goes_forward, begins_within, longer, shorter}
 use Rattle.journal.proofs.Copies.Stores.{does_kind, store_same}

@@ -6,17 +6,17 @@ use Rattle.std.proofs.lemmas.Option.{none-some, slice_get_within}
 use Rattle.journal.specs.declared.event.Event.{Event}
 use Rattle.journal.specs.declared.event.Kind.{Kind}
 use Rattle.journal.specs.declared.event.Kind.TheVariants.{Acquire, Release, Set}
-use Rattle.journal.specs.declared.kept.Kept.{Kept}
-use Rattle.lists.specs.Places.{Has}
+use Rattle.journal.specs.declared.base_state.Kept.{Kept}
+use Rattle.base.specs.Places.{Has}
 use Rattle.journal.specs.Did.{event}
 use Rattle.journal.specs.Events.{At}
 use Rattle.journal.specs.Base.{Base}
 use Rattle.journal.specs.WellFormedFrom.{HoldsFrom, IsSetFrom}
 use Rattle.journal.specs.Cuts.{IsBaseAfter}
-use Rattle.journal.specs.Kept.{base_of, AreCosts, without, held_after, set_after, IsKeptAfter}
-use Rattle.lists.proofs.Places.{push_cases, slice_get-append_left, slice_get-last}
-use Rattle.lists.proofs.Picked.{has-filter}
-use Rattle.lists.proofs.LastWrites.{length-written}
+use Rattle.journal.specs.Kept.{base_of, AreCosts, hold_released, holders_after, flags_after, IsKeptAfter}
+use Rattle.base.proofs.Places.{push_cases, slice_get-append_left, slice_get-last}
+use Rattle.base.proofs.Picked.{has-filter}
+use Rattle.base.proofs.LastWrites.{length-written}
 use Rattle.journal.specs.Flat.{flat_write}
 use Rattle.journal.proofs.Bases.Holding.{base_append}
 use Rattle.journal.proofs.Passes.ClockSteps.{front_next}
@@ -73,19 +73,19 @@ held_acquired b q m p l = (there, back)
     back (inr still) = has_left b.holders (q, m) (p, l) still.held
 
 held_released : (b : Base) (q m p l : ℕ)
-    → Has (without b.holders q m) (p, l) ↔ HoldsFrom b (event q (Release m) ∷ []) p l
+    → Has (hold_released b.holders q m) (p, l) ↔ HoldsFrom b (event q (Release m) ∷ []) p l
 held_released b q m p l = (there, back)
   where
     test : ℕ × ℕ → Bool
     test h = not ((h.0 == q) && (h.1 == m))
 
-    filtered : Has (without b.holders q m) (p, l) ↔ (Has b.holders (p, l) × (test (p, l) ≡ true))
+    filtered : Has (hold_released b.holders q m) (p, l) ↔ (Has b.holders (p, l) × (test (p, l) ≡ true))
     filtered = has-filter (λ (h : ℕ × ℕ). not ((h.0 == q) && (h.1 == m))) b.holders (p, l)
 
     not_both : (p == q) && (l == m) ≡ true → test (p, l) ≡ true → ⊥
     not_both both is = let x = ap (λ y. not y) both in cc
 
-    there : Has (without b.holders q m) (p, l) → HoldsFrom b (event q (Release m) ∷ []) p l
+    there : Has (hold_released b.holders q m) (p, l) → HoldsFrom b (event q (Release m) ∷ []) p l
     there has =
         let x = filtered.0 has in
         inr (record {
@@ -96,7 +96,7 @@ held_released b q m p l = (there, back)
               x.1);
         })
 
-    back : HoldsFrom b (event q (Release m) ∷ []) p l → Has (without b.holders q m) (p, l)
+    back : HoldsFrom b (event q (Release m) ∷ []) p l → Has (hold_released b.holders q m) (p, l)
     back (inl holds) =
         absurd (let kinds = (alone_kind q p holds.place (Release m) (Acquire l) holds.acquires).1 in cc)
     back (inr still) = elim (cases_Bool ((p == q) && (l == m))) [
@@ -107,7 +107,7 @@ held_released b q m p l = (there, back)
     ]
 
 held_step : (b : Base) (q p l : ℕ) (k : Kind)
-    → Has (held_after b.holders q k) (p, l) ↔ HoldsFrom b (event q k ∷ []) p l
+    → Has (holders_after b.holders q k) (p, l) ↔ HoldsFrom b (event q k ∷ []) p l
 held_step b q p l (Acquire m) = held_acquired b q m p l
 held_step b q p l (Release m) = held_released b q m p l
 held_step b q p l k = held_same b q p l k (λ m h. cc) (λ m h. cc)
@@ -141,7 +141,7 @@ set_flag b q f g false is = (
   ]),
 )
 
-set_step : (b : Base) (q g : ℕ) (k : Kind) → Has (set_after b.flags k) g ↔ IsSetFrom b (event q k ∷ []) g
+set_step : (b : Base) (q g : ℕ) (k : Kind) → Has (flags_after b.flags k) g ↔ IsSetFrom b (event q k ∷ []) g
 set_step b q g (Set f) = set_flag b q f g (list_any (λ x. x == f) b.flags) refl
 set_step b q g k = (
   (λ has. inl has),

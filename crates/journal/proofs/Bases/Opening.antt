@@ -11,10 +11,10 @@ use Rattle.journal.specs.Events.{At, address_of, count_of, is_arrive, is_depart}
 use Rattle.journal.specs.WellFormed.{Does}
 use Rattle.journal.specs.InRange.{ProcessorsInRange}
 use Rattle.journal.specs.Races.{Race, IsFirstRace, RaceFree}
-use Rattle.journal.specs.Base.{Base, arrived}
+use Rattle.journal.specs.Base.{Base, arrivals_cut}
 use Rattle.journal.specs.RacesFrom.{IsFirstRaceFrom, RaceFreeFrom}
 use Rattle.journal.specs.Opening.{IsOpening}
-use Rattle.lists.proofs.Places.{append_cases, slice_get-drop, slice_get-from_take}
+use Rattle.base.proofs.Places.{append_cases, slice_get-drop, slice_get-from_take}
 use Rattle.journal.proofs.Order.Places.{at_within, does_same, count_of-within, numbered}
 use Rattle.journal.proofs.Bases.Order.{IsEven}
 use Rattle.journal.proofs.Bases.Races.{race_split, race_free, first_race}
@@ -53,7 +53,7 @@ module _ (processors : ℕ) (xs : List Event) (x : IsOpening processors xs) wher
         absurd (cc (counts, ap (λ k. is_depart k) (here n.place q n.kind n.does).1)))
   ]
 
-  pub opening_even : (b : Base) (j : List Event) → arrived b ≡ 1 → ProcessorsInRange processors j → IsEven b xs j 1
+  pub opening_even : (b : Base) (j : List Event) → arrivals_cut b ≡ 1 → ProcessorsInRange processors j → IsEven b xs j 1
   opening_even b j one present = record {
     arrivals = λ m e at. arrives_once e.processor (present m e at);
     departures = λ m e at. (let none = departs_never e.processor in omega arith);

@@ -8,11 +8,11 @@ use Rattle.journal.specs.Order.{Link, Edge, HappensBefore}
 use Rattle.journal.specs.Order.Link.{same, lets, meets}
 use Rattle.journal.specs.Order.HappensBefore.{edge, on}
 use Rattle.journal.specs.Pasts.{UpTo, InPast}
-use Rattle.journal.specs.Base.{Base, arrived}
+use Rattle.journal.specs.Base.{Base, arrivals_cut}
 use Rattle.journal.specs.OrderFrom.{LinkFrom, EdgeFrom, HappensBeforeFrom, UpToFrom, InPastFrom}
 use Rattle.journal.specs.OrderFrom.LinkFrom.{same as same_from, lets as lets_from, meets as meets_from}
 use Rattle.journal.specs.OrderFrom.HappensBeforeFrom.{edge as edge_base, on as on_base}
-use Rattle.lists.proofs.Places.{slice_get-append_right, append_cases}
+use Rattle.base.proofs.Places.{slice_get-append_right, append_cases}
 use Rattle.journal.proofs.Order.Places.{at_behind, count_of-append}
 use Rattle.journal.proofs.Order.HappensBefore.{goes_forward}
 
@@ -29,7 +29,7 @@ count_left is c j i q =
 -- whoever did what is left has arrived so often in what was cut off, and departed as often but for the base's arrival
 pub record IsEven (b : Base) (c j : List Event) (n : ℕ) : Type 0 where
   pub arrivals : (m : ℕ) (e : Event) → At j m e → count_of is_arrive c e.processor ≡ n
-  pub departures : (m : ℕ) (e : Event) → At j m e → count_of is_depart c e.processor + arrived b ≡ n
+  pub departures : (m : ℕ) (e : Event) → At j m e → count_of is_depart c e.processor + arrivals_cut b ≡ n
 
 -- happens-before from a base goes forward
 pub goes_forward_from : (b : Base) (j : List Event) {i k : ℕ} → HappensBeforeFrom b j i k → i < k

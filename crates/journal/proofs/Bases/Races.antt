@@ -5,7 +5,7 @@ use Rattle.journal.specs.Order.{HappensBefore}
 use Rattle.journal.specs.Races.{Race, IsFirstRace, RaceFree}
 use Rattle.journal.specs.Base.{Base}
 use Rattle.journal.specs.RacesFrom.{RaceFrom, IsFirstRaceFrom, RaceFreeFrom}
-use Rattle.lists.proofs.Places.{append_cases}
+use Rattle.base.proofs.Places.{append_cases}
 use Rattle.journal.proofs.Order.Places.{at_within, at_behind}
 use Rattle.journal.proofs.Order.HappensBefore.{longer}
 use Rattle.journal.proofs.Bases.Order.{IsEven, at_left, before_from, before_back}

@@ -18,7 +18,7 @@ use Rattle.journal.specs.RacesFrom.{RaceFrom}
 use Rattle.journal.specs.Copies.{page_after, Lawful}
 use Rattle.journal.specs.CopiesFrom.{base_page, LawfulFrom}
 use Rattle.journal.specs.Cuts.{IsBaseOf}
-use Rattle.lists.proofs.Sets.{index-zeros}
+use Rattle.base.proofs.Sets.{index-zeros}
 use Rattle.journal.proofs.Journals.WellFormed.{well_formed_empty}
 use Rattle.journal.proofs.Bases.Order.{IsEven, before_from, before_back, past_from, past_back}
 use Rattle.journal.proofs.Bases.Before.{Sort}

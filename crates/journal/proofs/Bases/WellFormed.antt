@@ -12,7 +12,7 @@ use Rattle.journal.specs.WellFormed.{Does, LastIs, Holds, MayBeGranted, AllArriv
 use Rattle.journal.specs.Base.{Base, no_base}
 use Rattle.journal.specs.WellFormedFrom.{IsAway, HoldsFrom, IsSetFrom, LastFrom, MayBeGrantedFrom, AllArrivedFrom, AllowedFrom, MayFollowFrom, WellFormedFrom}
 use Rattle.journal.specs.Cuts.{IsBaseOf}
-use Rattle.lists.proofs.Places.{append_cases}
+use Rattle.base.proofs.Places.{append_cases}
 use Rattle.journal.proofs.Order.Places.{at_within, at_longer, at_behind, count_of-append}
 use Rattle.journal.proofs.Journals.WellFormed.{last_unique, last_longer}
 use Rattle.journal.proofs.Bases.Holding.{holds_uncut, set_uncut, holds_from_both, both_from_holds, set_from_both, both_from_set}

@@ -17,8 +17,8 @@ use Rattle.journal.specs.WellFormedFrom.{IsAway}
 use Rattle.journal.specs.LoadsFrom.{ExplainedFrom}
 use Rattle.journal.specs.CopiesFrom.{LawfulFrom}
 use Rattle.journal.specs.Cuts.{IsBaseOf}
-use Rattle.journal.specs.BaseLaws.{SaysTheSame, SameLaw, WellFormedLaw, ReplaysFrom, FlatLaw, CopyLaw, CutLaw, UncutLaw}
-use Rattle.lists.proofs.LastWrites.{length-written}
+use Rattle.journal.specs.BaseLaws.{SaysTheSame, SameLaw, WellFormedLaw, ReplaysFrom, FlatLaw, CopyLaw, CutTwiceLaw, UncutLaw}
+use Rattle.base.proofs.LastWrites.{length-written}
 use Rattle.journal.proofs.Order.Places.{at_within, at_behind}
 use Rattle.journal.proofs.Journals.WellFormed.{well_formed_front, last_or_none}
 use Rattle.journal.proofs.Flat.FlatMemory.{flat_memory, flat_memory_from, flat_before_race_from}
@@ -120,7 +120,7 @@ flat_law s b c j well explained base = replays_from s b c j well base explained
 pub copy_law : CopyLaw
 copy_law s b c j p n page well base present lt lawful = copy_from s b c j well base p n page present lt lawful
 
-pub cut_law : CutLaw
+pub cut_law : CutTwiceLaw
 cut_law s b after c d well base ends free kept = base_after s c d b after well base ends free kept
 
 pub uncut_law : UncutLaw

@@ -10,8 +10,8 @@ use Rattle.journal.specs.Order.{HappensBefore}
 use Rattle.journal.specs.Pasts.{InPast}
 use Rattle.journal.specs.Copies.{StoresTo, InGap}
 use Rattle.journal.specs.Brought.{Brought, IsCopy, NoGap}
-use Rattle.lists.proofs.Places.{push_cases}
-use Rattle.lists.proofs.Joined.{has-nil, in_order-nil, has_or_not}
+use Rattle.base.proofs.Places.{push_cases}
+use Rattle.base.proofs.Joined.{has-nil, in_order-nil, has_or_not}
 use Rattle.journal.proofs.Order.Places.{at_longer, at_last}
 use Rattle.journal.proofs.Order.HappensBefore.{begins_within, longer, shorter}
 use Rattle.journal.proofs.Order.Pasts.{past_back, past_within, own_in_past}

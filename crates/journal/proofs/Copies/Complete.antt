@@ -12,10 +12,10 @@ use Rattle.journal.specs.WellFormed.{Does}
 use Rattle.journal.specs.Copies.{StoresTo, page_write, Mine, InGap, Lawful}
 use Rattle.journal.specs.Brought.{Brought, IsCopy, NoGap, Complete}
 use Rattle.journal.specs.Blocks.{IsBlock}
-use Rattle.lists.specs.Places.{Has, InOrder, IsOnce}
-use Rattle.lists.specs.Records.{records_applied, AreRecordsOf}
-use Rattle.lists.proofs.Places.{append_cases}
-use Rattle.lists.proofs.Records.{records_same}
+use Rattle.base.specs.Places.{Has, InOrder, IsOnce}
+use Rattle.base.specs.Records.{records_applied, AreRecordsOf}
+use Rattle.base.proofs.Places.{append_cases}
+use Rattle.base.proofs.Records.{records_same}
 use Rattle.journal.proofs.Order.Places.{at_within, at_shorter, at_behind}
 use Rattle.journal.proofs.Order.HappensBefore.{shorter}
 use Rattle.journal.proofs.Order.Pasts.{past_back, past_within, others}

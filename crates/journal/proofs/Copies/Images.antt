@@ -10,11 +10,11 @@ use Rattle.journal.specs.Order.{HappensBefore}
 use Rattle.journal.specs.Pasts.{InPast}
 use Rattle.journal.specs.Copies.{StoresTo, page_write, page_after, IsImage, Lawful}
 use Rattle.journal.specs.Blocks.{write_in}
-use Rattle.lists.specs.Writes.{wrote}
-use Rattle.lists.specs.Places.{Has, InOrder, IsOnce}
-use Rattle.lists.proofs.Joined.{has-nil, has-cons, has-append, in_order-append, in_order_single, has_or_not}
-use Rattle.lists.proofs.Once.{once-append}
-use Rattle.lists.proofs.LastWrites.{written-append}
+use Rattle.base.specs.Writes.{wrote}
+use Rattle.base.specs.Places.{Has, InOrder, IsOnce}
+use Rattle.base.proofs.Joined.{has-nil, has-cons, has-append, in_order-append, in_order_single, has_or_not}
+use Rattle.base.proofs.Once.{once-append}
+use Rattle.base.proofs.LastWrites.{written-append}
 use Rattle.journal.proofs.Order.Places.{at_last}
 use Rattle.journal.proofs.Order.HappensBefore.{shorter}
 use Rattle.journal.proofs.Order.Pasts.{past_back, past_within, past_longer, own_past, others}

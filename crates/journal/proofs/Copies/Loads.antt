@@ -11,11 +11,11 @@ use Rattle.journal.specs.Pasts.{InPast}
 use Rattle.journal.specs.WellFormed.{Does}
 use Rattle.journal.specs.Loads.{IsAnswer, Explained}
 use Rattle.journal.specs.Copies.{page_write, IsImage, Lawful}
-use Rattle.lists.specs.Places.{Has}
-use Rattle.lists.specs.Writes.{LastWrite, Unwritten}
-use Rattle.lists.proofs.Places.{push_cases}
-use Rattle.lists.proofs.Sets.{slice_get-replicate_found}
-use Rattle.lists.proofs.LastWrites.{word_written}
+use Rattle.base.specs.Places.{Has}
+use Rattle.base.specs.Writes.{LastWrite, Unwritten}
+use Rattle.base.proofs.Places.{push_cases}
+use Rattle.base.proofs.Sets.{slice_get-replicate_found}
+use Rattle.base.proofs.LastWrites.{word_written}
 use Rattle.journal.proofs.Order.Places.{at_longer, at_shorter}
 use Rattle.journal.proofs.Order.HappensBefore.{goes_forward, begins_within, longer, shorter}
 use Rattle.journal.proofs.Order.Pasts.{past_within, reaches_new}

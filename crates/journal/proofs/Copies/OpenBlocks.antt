@@ -11,9 +11,9 @@ use Rattle.journal.specs.WellFormed.{Does}
 use Rattle.journal.specs.Loads.{IsAnswer, Explained}
 use Rattle.journal.specs.Copies.{Lawful}
 use Rattle.journal.specs.Blocks.{write_in, block_done, IsBlock, BlockAnswers, with_page}
-use Rattle.lists.specs.Writes.{wrote}
-use Rattle.lists.proofs.Places.{push_cases, push_induction}
-use Rattle.lists.proofs.LastWrites.{written-append}
+use Rattle.base.specs.Writes.{wrote}
+use Rattle.base.proofs.Places.{push_cases, push_induction}
+use Rattle.base.proofs.LastWrites.{written-append}
 use Rattle.journal.proofs.Order.Places.{at_within, at_longer, at_last}
 use Rattle.journal.proofs.Order.BlockPasts.{block_front, block_last}
 use Rattle.journal.proofs.Copies.Images.{lawful_others, lawful_event}

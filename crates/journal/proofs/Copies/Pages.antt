@@ -14,14 +14,14 @@ use Rattle.journal.specs.Copies.{InGap, StoresTo, Lawful, HasCount, GapCounts}
 use Rattle.journal.specs.Brought.{IsCopy, NoGap, Complete}
 use Rattle.journal.specs.Blocks.{write_in, block_done, IsBlock, BlockAnswers, with_page}
 use Rattle.journal.specs.Counted.{BlockCounts}
-use Rattle.journal.specs.Missing.{Missing, InClosingOrder, AreNews}
+use Rattle.journal.specs.Missing.{Missing, InClosingOrder, AreMissingNotices}
 use Rattle.journal.specs.Pages.{Touches, IsValidCopy, IsStaleCopy}
-use Rattle.lists.specs.Places.{Has}
-use Rattle.lists.specs.Writes.{wrote}
-use Rattle.lists.specs.Records.{records_applied}
-use Rattle.lists.proofs.Joined.{has-nil}
-use Rattle.lists.proofs.Places.{push_cases, push_induction}
-use Rattle.lists.proofs.LastWrites.{written_nothing}
+use Rattle.base.specs.Places.{Has}
+use Rattle.base.specs.Writes.{wrote}
+use Rattle.base.specs.Records.{records_applied}
+use Rattle.base.proofs.Joined.{has-nil}
+use Rattle.base.proofs.Places.{push_cases, push_induction}
+use Rattle.base.proofs.LastWrites.{written_nothing}
 use Rattle.journal.proofs.Order.Places.{at_longer, at_last}
 use Rattle.journal.proofs.Copies.Images.{lawful_others, lawful_on}
 use Rattle.journal.proofs.Copies.OpenBlocks.{block_done-push, lawful_block, answers_push, answers_with_page}
@@ -274,7 +274,7 @@ valid_full s j p n base page valid =
 -- an event by which p gets to know of others' adds to what a stale copy lacks
 pub stale_taken : (s : Sizes) (j : List Event) (p n : ℕ) (page : List ℕ) (k : Kind) (t t' : ℕ → ℕ)
     (missing new : List Missing)
-    → is_taking k ≡ true → IsTimeOf j p t → IsTimeOf (j ++ event p k ∷ []) p t' → AreNews s j p n t t' new
+    → is_taking k ≡ true → IsTimeOf j p t → IsTimeOf (j ++ event p k ∷ []) p t' → AreMissingNotices s j p n t t' new
     → IsStaleCopy s j [] p n page missing → IsStaleCopy s (j ++ event p k ∷ []) [] p n page (missing ++ new)
 stale_taken s j p n page k t t' missing new takes time after news stale = record {
   copy = copy_untouched s j (e ∷ []) p n page taking stale.copy;
@@ -300,7 +300,7 @@ stale_taken s j p n page k t t' missing new takes time after news stale = record
 
 -- an event by which p gets to know of no store to the page leaves its valid copy so
 pub valid_taken : (s : Sizes) (j : List Event) (p n : ℕ) (base page : List ℕ) (k : Kind) (t t' : ℕ → ℕ)
-    → is_taking k ≡ true → IsTimeOf j p t → IsTimeOf (j ++ event p k ∷ []) p t' → AreNews s j p n t t' []
+    → is_taking k ≡ true → IsTimeOf j p t → IsTimeOf (j ++ event p k ∷ []) p t' → AreMissingNotices s j p n t t' []
     → IsValidCopy s j [] p n base page → IsValidCopy s (j ++ event p k ∷ []) [] p n page page
 valid_taken s j p n base page k t t' takes time after no_news valid = record {
   lawful = lawful_on s j (e ∷ []) p n page nothing (subst (Lawful s j p n) (sym valid.gives) valid.lawful);
@@ -320,7 +320,7 @@ valid_taken s j p n base page k t t' takes time after no_news valid = record {
 -- and else it is stale by the new intervals
 pub valid_staled : (s : Sizes) (j : List Event) (p n : ℕ) (base page : List ℕ) (k : Kind) (t t' : ℕ → ℕ)
     (new : List Missing)
-    → is_taking k ≡ true → IsTimeOf j p t → IsTimeOf (j ++ event p k ∷ []) p t' → AreNews s j p n t t' new
+    → is_taking k ≡ true → IsTimeOf j p t → IsTimeOf (j ++ event p k ∷ []) p t' → AreMissingNotices s j p n t t' new
     → IsValidCopy s j [] p n base page → IsStaleCopy s (j ++ event p k ∷ []) [] p n page new
 valid_staled s j p n base page k t t' new takes time after news valid =
     let complete = valid_full s j p n base page valid in

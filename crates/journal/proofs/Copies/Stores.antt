@@ -9,9 +9,9 @@ use Rattle.journal.specs.Events.{At}
 use Rattle.journal.specs.WellFormed.{Does}
 use Rattle.journal.specs.Sizes.{Sizes}
 use Rattle.journal.specs.Copies.{StoresTo, page_write, page_after}
-use Rattle.lists.specs.Places.{Has}
-use Rattle.lists.proofs.Places.{slice_get-append_left}
-use Rattle.lists.proofs.LastWrites.{written_same}
+use Rattle.base.specs.Places.{Has}
+use Rattle.base.proofs.Places.{slice_get-append_left}
+use Rattle.base.proofs.LastWrites.{written_same}
 use Rattle.journal.proofs.Order.Places.{at_within, at_longer, at_shorter, does_same}
 
 -- an event with this kind, as what its processor does

@@ -16,9 +16,9 @@ use Rattle.journal.specs.Base.{Base, no_base}
 use Rattle.journal.specs.OrderFrom.{HappensBeforeFrom}
 use Rattle.journal.specs.LoadsFrom.{LatestStoreFrom, IsAnswerFrom, ExplainedFrom}
 use Rattle.journal.specs.RacesFrom.{RaceFrom, IsFirstRaceFrom, RaceFreeFrom}
-use Rattle.lists.specs.Writes.{LastWrite, Unwritten}
-use Rattle.lists.proofs.Places.{slice_get-take, slice_get-from_take, slice_get-take_within}
-use Rattle.lists.proofs.LastWrites.{word_written, length-written}
+use Rattle.base.specs.Writes.{LastWrite, Unwritten}
+use Rattle.base.proofs.Places.{slice_get-take, slice_get-from_take, slice_get-take_within}
+use Rattle.base.proofs.LastWrites.{word_written, length-written}
 use Rattle.journal.proofs.Copies.Stores.{does_kind, store_same}
 use Rattle.journal.proofs.Flat.Stores.{flat_store, store_conflicts, not_unordered_from}
 use Rattle.journal.proofs.Bases.Order.{goes_forward_from}

@@ -13,14 +13,14 @@ use Rattle.journal.specs.WellFormed.{Does}
 use Rattle.journal.specs.Copies.{word_write, page_write}
 use Rattle.journal.specs.Blocks.{write_in}
 use Rattle.journal.specs.Groups.{since, StoresIn, IsContent}
-use Rattle.lists.specs.Places.{Has}
-use Rattle.lists.specs.Writes.{written}
-use Rattle.lists.specs.Records.{IsRecordOf}
-use Rattle.lists.proofs.Places.{push_cases}
-use Rattle.lists.proofs.Joined.{has-nil}
-use Rattle.lists.proofs.Picked.{has-filter, in_order-filter}
-use Rattle.lists.proofs.LastWrites.{written_map, written_filter, written_same, last_exists}
-use Rattle.lists.proofs.Records.{record_moved}
+use Rattle.base.specs.Places.{Has}
+use Rattle.base.specs.Writes.{written}
+use Rattle.base.specs.Records.{IsRecordOf}
+use Rattle.base.proofs.Places.{push_cases}
+use Rattle.base.proofs.Joined.{has-nil}
+use Rattle.base.proofs.Picked.{has-filter, in_order-filter}
+use Rattle.base.proofs.LastWrites.{written_map, written_filter, written_same, last_exists}
+use Rattle.base.proofs.Records.{record_moved}
 use Rattle.journal.proofs.Order.Places.{at_within, at_longer, at_shorter, count_of-front, count_of-mono}
 use Rattle.journal.proofs.Copies.Stores.{does_kind, store_writes, page_after_longer}
 use Rattle.journal.proofs.Intervals.Since.{AreOpen, open_places}

@@ -10,11 +10,11 @@ use Rattle.journal.specs.Events.{At, is_closing, count_of}
 use Rattle.journal.specs.Blocks.{write_in}
 use Rattle.journal.specs.Groups.{since, IsContent}
 use Rattle.journal.specs.Dirty.{IsDirty}
-use Rattle.lists.specs.Writes.{wrote, written}
-use Rattle.lists.specs.Records.{mark, marked, harvest, IsRecordOf}
-use Rattle.lists.proofs.LastWrites.{written-append, written_nothing, length-written}
-use Rattle.lists.proofs.Harvests.{marked-append, marked_nothing, marked_written, harvest_is_record}
-use Rattle.lists.proofs.Sets.{slice_get-replicate_found}
+use Rattle.base.specs.Writes.{wrote, written}
+use Rattle.base.specs.Records.{mark, marked, harvest, IsRecordOf}
+use Rattle.base.proofs.LastWrites.{written-append, written_nothing, length-written}
+use Rattle.base.proofs.Harvests.{marked-append, marked_nothing, marked_written, harvest_is_record}
+use Rattle.base.proofs.Sets.{slice_get-replicate_found}
 use Rattle.journal.proofs.Intervals.Since.{since_under, since_closing, since_inner}
 use Rattle.journal.proofs.Intervals.Contents.{since_content}
 

@@ -7,10 +7,10 @@ use Rattle.std.proofs.Math.Seq.{take-append_seam}
 use Rattle.journal.specs.declared.event.Event.{Event}
 use Rattle.journal.specs.Events.{At, is_closing, count_of, interval_at}
 use Rattle.journal.specs.Groups.{with_next, since}
-use Rattle.lists.specs.Places.{Has, InOrder}
-use Rattle.lists.proofs.Places.{push_cases, push_induction, slice_get-append_left}
-use Rattle.lists.proofs.Joined.{has-nil, has-append, has-cons, in_order-nil, in_order-append, in_order_single}
-use Rattle.lists.proofs.Picked.{map_same}
+use Rattle.base.specs.Places.{Has, InOrder}
+use Rattle.base.proofs.Places.{push_cases, push_induction, slice_get-append_left}
+use Rattle.base.proofs.Joined.{has-nil, has-append, has-cons, in_order-nil, in_order-append, in_order_single}
+use Rattle.base.proofs.Picked.{map_same}
 use Rattle.journal.proofs.Order.Places.{at_within, at_last, at_longer, count_of-append, count_of-front, count_of-take-le}
 use Rattle.journal.proofs.Times.Times.{count_of-one}
 

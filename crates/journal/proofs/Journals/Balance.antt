@@ -9,7 +9,7 @@ use Rattle.journal.specs.Did.{event}
 use Rattle.journal.specs.Sizes.{Sizes}
 use Rattle.journal.specs.Events.{At, count_of, is_arrive, is_depart}
 use Rattle.journal.specs.WellFormed.{LastIs, Allowed, MayFollow, WellFormed}
-use Rattle.lists.proofs.Places.{push_induction, push_cases}
+use Rattle.base.proofs.Places.{push_induction, push_cases}
 use Rattle.journal.proofs.Order.Places.{count_of-append}
 use Rattle.journal.proofs.Times.Times.{count_of-one}
 use Rattle.journal.proofs.Journals.WellFormed.{each_push, last_unique, last_now, last_longer, last_shorter}

@@ -11,10 +11,10 @@ use Rattle.journal.specs.Opening.{IsOpening}
 use Rattle.journal.specs.declared.journal.Journal.TheInside.{Inside}
 use Rattle.journal.specs.Log.{Log}
 use Rattle.journal.specs.Kept.{base_of}
-use Rattle.journal.specs.Holding.{log_of, IsHeld}
+use Rattle.journal.specs.Holding.{log_of, JournalInvariant}
 use Rattle.journal.proofs.Bases.Opening.{IsOpened, opened}
 use Rattle.journal.proofs.Order.Places.{at_same, at_within}
-use Rattle.lists.proofs.Places.{push_cases, append_cases, slice_get-drop, slice_get-from_take}
+use Rattle.base.proofs.Places.{push_cases, append_cases, slice_get-drop, slice_get-from_take}
 
 -- one more event keeps all in range, and the opening
 pub processors_push : (n : ℕ) (xs : List Event) (e : Event) → ProcessorsInRange n xs → e.processor < n
@@ -114,7 +114,7 @@ module _ (n count : ℕ) (xs : List Event) where
       ∙ sym (drop-drop count n xs)
 
 -- of what a journal holds
-module _ (j : Inside) (held : IsHeld j) where
+module _ (j : Inside) (held : JournalInvariant j) where
   -- each address lies in the base
   pub in_base : (log : Log) → log_of j ≡ log → AddressesInRange (length log.base.memory) log.events
   in_base log is =

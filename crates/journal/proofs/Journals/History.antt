@@ -7,13 +7,13 @@ use Rattle.journal.specs.WellFormed.{WellFormed}
 use Rattle.journal.specs.Base.{Base}
 use Rattle.journal.specs.Cuts.{EndsEpisode, IsBaseOf}
 use Rattle.journal.specs.Log.{Log, HoldsRest}
-use Rattle.journal.specs.HistoryLaws.{WholeLaw, HistoryLaw}
+use Rattle.journal.specs.HistoryLaws.{UncutHistoryLaw, HistoryLaw}
 use Rattle.journal.proofs.Journals.WellFormed.{well_formed_front}
 use Rattle.journal.proofs.Bases.Uncut.{uncut_base}
 use Rattle.journal.proofs.Bases.Cutting.{base_after}
 
 -- of a new journal nothing was cut off
-pub whole_law : WholeLaw
+pub whole_law : UncutHistoryLaw
 whole_law log h x = record {
   history = sym x.history;
   base = subst (IsBaseOf log.processors log.addresses []) (sym x.whole) (uncut_base log.processors log.addresses);

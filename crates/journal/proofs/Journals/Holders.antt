@@ -5,7 +5,7 @@ use Rattle.journal.specs.declared.event.Kind.TheVariants.{Acquire, Release}
 use Rattle.journal.specs.Did.{event}
 use Rattle.journal.specs.Events.{At}
 use Rattle.journal.specs.WellFormed.{Does, Holds}
-use Rattle.lists.proofs.Places.{append_cases}
+use Rattle.base.proofs.Places.{append_cases}
 use Rattle.journal.proofs.Order.Places.{at_longer}
 
 module _ (j es : List Event) (p l : ℕ) where

@@ -12,7 +12,7 @@ use Rattle.journal.specs.WellFormed.{Does, Holds, WellFormed}
 use Rattle.journal.specs.Pasts.{UpTo, UpToSome}
 use Rattle.journal.specs.Times.{IsTimeIn, IsTimeOf}
 use Rattle.journal.specs.Brings.{SomeDoes}
-use Rattle.lists.proofs.Places.{slice_get-take, slice_get-take_within, slice_get-from_take, push_cases}
+use Rattle.base.proofs.Places.{slice_get-take, slice_get-take_within, slice_get-from_take, push_cases}
 use Rattle.journal.proofs.Order.Places.{at_last, does_same}
 use Rattle.journal.proofs.Order.Pasts.{up_to_back}
 use Rattle.journal.proofs.Times.Times.{time_same}

@@ -9,7 +9,7 @@ use Rattle.journal.specs.Sizes.{Sizes}
 use Rattle.journal.specs.Events.{At, is_taking, is_closing}
 use Rattle.journal.specs.WellFormed.{KindInRange, LastIs, Answers, Allowed, MayFollow, WellFormed, Ready}
 use Rattle.journal.specs.Waits.{awaited, IsIdle}
-use Rattle.lists.proofs.Places.{push_induction}
+use Rattle.base.proofs.Places.{push_induction}
 use Rattle.journal.proofs.Order.Places.{at_longer, at_last}
 use Rattle.journal.proofs.Journals.WellFormed.{each_push, last_unique, last_now}
 

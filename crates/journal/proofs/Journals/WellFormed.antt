@@ -11,7 +11,7 @@ use Rattle.journal.specs.Did.{event}
 use Rattle.journal.specs.Sizes.{Sizes}
 use Rattle.journal.specs.Events.{At}
 use Rattle.journal.specs.WellFormed.{Does, LastIs, Holds, MayFollow, WellFormed}
-use Rattle.lists.proofs.Places.{slice_get-take_within, slice_get-from_take, push_cases, append_cases, push_induction}
+use Rattle.base.proofs.Places.{slice_get-take_within, slice_get-from_take, push_cases, append_cases, push_induction}
 use Rattle.journal.proofs.Order.Places.{at_within, at_longer, at_last, does_same}
 
 -- the empty journal is well formed

@@ -5,7 +5,7 @@ use Rattle.journal.specs.Sizes.{Sizes}
 use Rattle.journal.specs.Order.{HappensBefore}
 use Rattle.journal.specs.Pasts.{InPast}
 use Rattle.journal.specs.Copies.{StoresTo, page_after, IsImage, Lawful}
-use Rattle.lists.specs.Places.{Has, InOrder, IsOnce}
+use Rattle.base.specs.Places.{Has, InOrder, IsOnce}
 use Rattle.journal.proofs.Copies.Images.{image_more}
 
 -- an image of a part of p's past, with the stores that it lacks, is lawful

@@ -12,7 +12,7 @@ use Rattle.journal.specs.WellFormed.{Does}
 use Rattle.journal.specs.Copies.{InGap, HasCount, StoredInGap, GapCounts}
 use Rattle.journal.specs.Blocks.{IsBlock}
 use Rattle.journal.specs.Counted.{AreCounted, BlockCounts}
-use Rattle.lists.proofs.Places.{push_cases, push_induction}
+use Rattle.base.proofs.Places.{push_cases, push_induction}
 use Rattle.journal.proofs.Order.Places.{at_within, at_longer, at_shorter, at_last}
 use Rattle.journal.proofs.Order.BlockPasts.{block_front, block_last}
 use Rattle.journal.proofs.Copies.Complete.{gap_block}

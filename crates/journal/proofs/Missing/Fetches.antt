@@ -8,9 +8,9 @@ use Rattle.journal.specs.Copies.{Lawful, HasCount, StoredInGap, GapCounts}
 use Rattle.journal.specs.Brought.{IsCopy}
 use Rattle.journal.specs.Groups.{IsContent}
 use Rattle.journal.specs.Missing.{IsPlaced, Missing, InClosingOrder, AreMissing}
-use Rattle.lists.specs.Places.{Has, InOrder, IsOnce}
-use Rattle.lists.specs.Records.{records_applied}
-use Rattle.lists.proofs.Joined.{has-flat_map, in_order-flat_map, has-map, in_order-map, in_order_weaker}
+use Rattle.base.specs.Places.{Has, InOrder, IsOnce}
+use Rattle.base.specs.Records.{records_applied}
+use Rattle.base.proofs.Joined.{has-flat_map, in_order-flat_map, has-map, in_order-map, in_order_weaker}
 use Rattle.journal.proofs.Copies.Complete.{fetched_gap}
 use Rattle.journal.proofs.Missing.Placed.{placed_once}
 use Rattle.journal.proofs.Intervals.Contents.{content_word, content_has}

@@ -14,7 +14,7 @@ use Rattle.journal.specs.Times.{ClosesAt, IsTimeOf}
 use Rattle.journal.specs.Intervals.{ClosedAt}
 use Rattle.journal.specs.Copies.{StoresTo, Fetches, Mine, InGap, StoredInGap}
 use Rattle.journal.specs.Brought.{Brought}
-use Rattle.lists.proofs.Places.{append_cases, push_cases}
+use Rattle.base.proofs.Places.{append_cases, push_cases}
 use Rattle.journal.proofs.Order.Places.{at_within, at_longer, at_shorter, at_same, does_same, count_of-front}
 use Rattle.journal.proofs.Order.HappensBefore.{shorter}
 use Rattle.journal.proofs.Order.Pasts.{up_to_back, past_within, past_longer, own_in_past, others}
@@ -23,7 +23,7 @@ use Rattle.journal.proofs.Times.Pushes.{covered}
 use Rattle.journal.proofs.Copies.Stores.{stores_to, stores_within, stores_longer, stores_shorter}
 use Rattle.journal.proofs.Copies.Brought.{brought_longer, brought_past, brought_push, gap_is}
 use Rattle.journal.proofs.Times.Closing.{closes_first, closed_past}
-use Rattle.journal.proofs.Times.IntervalNumbers.{closed_by, number_closed}
+use Rattle.journal.proofs.Times.IntervalNumbers.{closes_interval, number_closed}
 
 -- another processor's event is not one's own
 pub not_mine : (j : List Event) (p q i : ℕ) (a : Kind) → Does j i q a → q ≢ p → ¬ Mine j p i
@@ -174,10 +174,10 @@ gap_whole s j p n q i m a b v w g does other page same = record {
     c = number_closed j p q i (Store a v) does apart g.past
 
     first : ClosedAt j i c.0
-    first = closed_by j q i c.0 (Store a v) does (λ h. true≢false (sym h)) c.1 (sym c.2)
+    first = closes_interval j q i c.0 (Store a v) does (λ h. true≢false (sym h)) c.1 (sym c.2)
 
     second : ClosedAt j m c.0
-    second = closed_by j q m c.0 (Store b w) other (λ h. true≢false (sym h)) c.1 (same ∙ sym c.2)
+    second = closes_interval j q m c.0 (Store b w) other (λ h. true≢false (sym h)) c.1 (same ∙ sym c.2)
 
     before : (f : ℕ) → Fetches j f p n → LeavesAt j q m (UpTo j f) → HappensBefore j i f
     before f fetch l =

@@ -12,12 +12,12 @@ use Rattle.journal.specs.Intervals.{ClosedAt}
 use Rattle.journal.specs.Copies.{page_write, InGap}
 use Rattle.journal.specs.Groups.{StoresIn, IsContent}
 use Rattle.journal.specs.Missing.{IsPlaced, Missing, InClosingOrder, AreMissing}
-use Rattle.lists.specs.Places.{Has, InOrder, IsOnce}
-use Rattle.lists.specs.Records.{AreRecordsOf, none, more}
-use Rattle.lists.proofs.Joined.{has_concat, in_order_concat}
+use Rattle.base.specs.Places.{Has, InOrder, IsOnce}
+use Rattle.base.specs.Records.{AreRecordsOf, none, more}
+use Rattle.base.proofs.Joined.{has_concat, in_order_concat}
 use Rattle.journal.proofs.Order.HappensBefore.{goes_forward}
 use Rattle.journal.proofs.Times.Closing.{closing_extends, closed_once}
-use Rattle.journal.proofs.Times.IntervalNumbers.{closed_by}
+use Rattle.journal.proofs.Times.IntervalNumbers.{closes_interval}
 use Rattle.journal.proofs.Missing.Placed.{placed_before}
 use Rattle.journal.proofs.Missing.Gaps.{gap_whole}
 
@@ -96,7 +96,7 @@ groups_gap s j p n missing groups are of i = (λ h. there ((has_concat groups i)
 pub store_closed : (s : Sizes) (j : List Event) (q k n i c : ℕ) → StoresIn s j q k n i → ClosesAt j q c
     → interval_at j q c ≡ k → ClosedAt j i c
 store_closed s j q k n i c x closes number =
-    closed_by j q i c (Store x.0 x.1) x.2 (λ h. true≢false (sym h)) closes (x.4 ∙ sym number)
+    closes_interval j q i c (Store x.0 x.1) x.2 (λ h. true≢false (sym h)) closes (x.4 ∙ sym number)
 
 -- of two intervals in closing order, the stores of the second don't happen before those of the first
 pub groups_extend : (s : Sizes) (j : List Event) (n : ℕ) (missing : List Missing) (groups : List (List ℕ))

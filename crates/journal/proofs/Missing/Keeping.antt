@@ -1,6 +1,6 @@
 -- What each kind of event does to the missing intervals.
 use Rattle.std.proofs.Common.{ℕ, ◌≡◌, ◌≢◌, ◌<◌, ◌≤◌, ◌⊎◌, ◌↔◌, ◌/◌, inl, inr, List, [], ◌∷◌, ◌++◌, true, arith, refl, sym, ap, ◌∙◌, le_of_lt, true≢false}
-use Rattle.lists.proofs.Places.{push_cases}
+use Rattle.base.proofs.Places.{push_cases}
 use Rattle.journal.specs.declared.event.Event.{Event}
 use Rattle.journal.specs.declared.event.Kind.{Kind}
 use Rattle.journal.specs.declared.event.Kind.TheVariants.{Store, Fetch}
@@ -13,9 +13,9 @@ use Rattle.journal.specs.Copies.{InGap, StoredInGap}
 use Rattle.journal.specs.Brought.{NoGap}
 use Rattle.journal.specs.Blocks.{IsBlock}
 use Rattle.journal.specs.Groups.{StoresIn, IsContent}
-use Rattle.journal.specs.Missing.{Missing, AreMissing, AreNews}
-use Rattle.lists.specs.Places.{Has}
-use Rattle.lists.proofs.Joined.{has-nil, has-append}
+use Rattle.journal.specs.Missing.{Missing, AreMissing, AreMissingNotices}
+use Rattle.base.specs.Places.{Has}
+use Rattle.base.proofs.Joined.{has-nil, has-append}
 use Rattle.journal.proofs.Order.Places.{at_within, at_longer, count_of-front, count_of-within}
 use Rattle.journal.proofs.Copies.Stores.{store_same}
 use Rattle.journal.proofs.Copies.Complete.{gap_block}
@@ -92,7 +92,7 @@ missing_block s j block p n missing is none =
 
 -- an event by which p gets to know of others' adds the intervals between its timestamps that store in the page
 pub missing_taken : (s : Sizes) (j : List Event) (p n : ℕ) (k : Kind) (t t' : ℕ → ℕ) (missing new : List Missing)
-    → is_taking k ≡ true → IsTimeOf j p t → IsTimeOf (j ++ event p k ∷ []) p t' → AreNews s j p n t t' new
+    → is_taking k ≡ true → IsTimeOf j p t → IsTimeOf (j ++ event p k ∷ []) p t' → AreMissingNotices s j p n t t' new
     → AreMissing s j p n missing → AreMissing s (j ++ event p k ∷ []) p n (missing ++ new)
 missing_taken s j p n k t t' missing new takes time after news are =
     record {

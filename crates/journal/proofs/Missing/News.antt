@@ -3,9 +3,9 @@ use Rattle.std.proofs.Common.{ℕ, ◌≡◌, ◌≢◌, ◌<◌, ◌≤◌, ◌
 use Rattle.journal.specs.declared.event.Event.{Event}
 use Rattle.journal.specs.Sizes.{Sizes}
 use Rattle.journal.specs.Groups.{StoresIn, IsContent}
-use Rattle.journal.specs.Missing.{IsPlaced, Missing, AreNews, some_words, has_words}
-use Rattle.lists.specs.Places.{Has}
-use Rattle.lists.proofs.Picked.{has-filter}
+use Rattle.journal.specs.Missing.{IsPlaced, Missing, AreMissingNotices, some_words, has_words}
+use Rattle.base.specs.Places.{Has}
+use Rattle.base.proofs.Picked.{has-filter}
 use Rattle.journal.proofs.Intervals.Contents.{content_none, content_some}
 
 -- with the contents of all intervals between p's timestamps, those with words are the news
@@ -13,7 +13,7 @@ pub news_of : (s : Sizes) (j : List Event) (p n : ℕ) (t t' : ℕ → ℕ) (all
     → ((q m : ℕ) → ((x : Missing) × Has all x × (x.owner ≡ q) × (x.number ≡ m)) ↔ ((t q ≤ m) × (m < t' q)))
     → ((x : Missing) → Has all x → IsPlaced j x.owner x.number x.place)
     → ((x : Missing) → Has all x → IsContent s j x.owner x.number n x.words)
-    → AreNews s j p n t t' (filter has_words all)
+    → AreMissingNotices s j p n t t' (filter has_words all)
 news_of s j p n t t' all own each placed contents =
     record {
       each = λ q m. (there q m, back q m);

@@ -7,7 +7,7 @@ use Rattle.journal.specs.declared.event.Event.{Event}
 use Rattle.journal.specs.Did.{event}
 use Rattle.journal.specs.Events.{is_closing, count_of}
 use Rattle.journal.specs.Missing.{closed_count, IsPlaced}
-use Rattle.lists.proofs.Places.{count_by-mono}
+use Rattle.base.proofs.Places.{count_by-mono}
 use Rattle.journal.proofs.Order.Places.{at_within, at_longer, at_last, count_of-front}
 use Rattle.journal.proofs.Times.IntervalNumbers.{same_closer}
 

@@ -6,7 +6,7 @@ use Rattle.journal.specs.Events.{is_taking}
 use Rattle.journal.specs.Order.{HappensBefore}
 use Rattle.journal.specs.Pasts.{InPast}
 use Rattle.journal.specs.Blocks.{IsBlock}
-use Rattle.lists.proofs.Places.{push_induction}
+use Rattle.base.proofs.Places.{push_induction}
 use Rattle.journal.proofs.Order.Places.{at_longer, at_last}
 use Rattle.journal.proofs.Order.HappensBefore.{extension}
 use Rattle.journal.proofs.Order.Pasts.{own_past, reaches_new}

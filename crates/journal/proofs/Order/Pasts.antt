@@ -12,7 +12,7 @@ use Rattle.journal.specs.Order.HappensBefore.{edge, on}
 use Rattle.journal.specs.WellFormed.{Does}
 use Rattle.journal.specs.Pasts.{UpTo, InPast}
 use Rattle.journal.specs.Brings.{ArrivesAt, Sources, Brings}
-use Rattle.lists.proofs.Places.{push_cases, append_cases}
+use Rattle.base.proofs.Places.{push_cases, append_cases}
 use Rattle.journal.proofs.Order.Places.{at_within, at_same, at_longer, at_shorter, at_last, count_of-front}
 use Rattle.journal.proofs.Order.HappensBefore.{begins_within, transitive, longer, shorter}
 

@@ -8,7 +8,7 @@ use Rattle.journal.specs.declared.event.Kind.{Kind}
 use Rattle.journal.specs.Did.{event}
 use Rattle.journal.specs.Events.{At, count_of}
 use Rattle.journal.specs.WellFormed.{Does}
-use Rattle.lists.proofs.Places.{slice_get-append_left, slice_get-append_right, slice_get-last, count_by-append, count_by-mono, count_by-take-le, count_by-past, count_by-within, counted}
+use Rattle.base.proofs.Places.{slice_get-append_left, slice_get-append_right, slice_get-last, count_by-append, count_by-mono, count_by-take-le, count_by-past, count_by-within, counted}
 
 -- an event stands within its journal
 pub at_within : (j : List Event) (k : ℕ) (e : Event) → At j k e → k < length j

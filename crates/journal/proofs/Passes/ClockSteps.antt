@@ -16,7 +16,7 @@ use Rattle.journal.specs.Entries.{entry, IsClosedAt, IsJoinedAt}
 use Rattle.journal.specs.declared.numbered.Numbered.{Numbered}
 use Rattle.journal.specs.Numbered.{kept_entry}
 use Rattle.journal.specs.Clocks.{AreClocks, IsArrived}
-use Rattle.lists.proofs.Places.{push_cases, take-suc_at}
+use Rattle.base.proofs.Places.{push_cases, take-suc_at}
 use Rattle.journal.proofs.Order.Places.{count_of-append}
 use Rattle.journal.proofs.Times.Times.{time_equal, time_none, count_of-one}
 use Rattle.journal.proofs.Times.Pushes.{time_push, others_keep, own_quiet}

@@ -1,7 +1,7 @@
 -- The race checker's timestamps before the first event.
 use Rattle.std.proofs.Common.{◌≡◌, ℕ, ◌≤◌, ◌-◌, [], slice_index, vec_len, arith}
 use Rattle.std.proofs.lemmas.Option.{slice_get_within}
-use Rattle.lists.specs.Limits.{most_processors}
+use Rattle.base.specs.Limits.{most_processors}
 use Rattle.journal.specs.declared.clocks.Clocks.{Clocks}
 use Rattle.journal.specs.Did.{event}
 use Rattle.journal.specs.Numbered.{kept_entry}

@@ -18,8 +18,8 @@ use Rattle.journal.specs.Pasts.{UpTo}
 use Rattle.journal.specs.WellFormed.{Does}
 use Rattle.journal.specs.Times.{IsTimeOf}
 use Rattle.journal.specs.Races.{Conflict, Race}
-use Rattle.journal.specs.Accesses.{store_entry, load_entry, IsReached, AreAccesses, AreWithin, ConflictsAreCounted, AreLoadsAfter, IsStoreNoted, IsLoadNoted, IsNoted}
-use Rattle.lists.proofs.Places.{slice_get-take, slice_get-take_within, push_cases, take-suc_at}
+use Rattle.journal.specs.Accesses.{store_entry, load_entry, IsReached, AreAccesses, AreWithin, ConflictsAreCounted, AreLoadsAfter, IsStoreNoted, IsLoadNoted, AccessNoted}
+use Rattle.base.proofs.Places.{slice_get-take, slice_get-take_within, push_cases, take-suc_at}
 use Rattle.journal.proofs.Order.Places.{at_within, at_same, at_longer, at_last, count_of-append, count_of-front}
 use Rattle.journal.proofs.Order.HappensBefore.{transitive, longer}
 use Rattle.journal.proofs.Order.Pasts.{up_to_longer}
@@ -439,7 +439,7 @@ pub accesses_next : (j : List Event) (e : Event) (t : ℕ → ℕ) (addresses : 
     → IsTimeOf j e.processor t → AreAccesses j addresses x
     → ((i q : ℕ) (k : Kind) → Does j i q k → Conflict (event q k) e → q ≢ e.processor → interval_at j q i < t q)
     → vec_len y.last ≡ vec_len x.last → vec_len y.loads ≡ vec_len x.loads → (k : Kind) → e.kind ≡ k
-    → IsNoted x y e.processor t k → AreAccesses (j ++ e ∷ []) addresses y
+    → AccessNoted x y e.processor t k → AreAccesses (j ++ e ∷ []) addresses y
 accesses_next j e t addresses x y time kept ordered last_long loads_long (Load a v) is noted =
     next_load j e t addresses a v x y is time kept last_long loads_long noted
 accesses_next j e t addresses x y time kept ordered last_long loads_long (Store a v) is noted =

@@ -3,9 +3,9 @@ use Rattle.std.proofs.Common.{◌≡◌, ◌<◌, ◌+◌, ◌∙◌, ℕ, List,
 use Rattle.std.specs.Prelude.{Some, slice_get}
 use Rattle.std.proofs.lemmas.Option.{same_Some}
 use Rattle.journal.specs.declared.event.Kind.{Kind}
-use Rattle.lists.specs.Writes.{wrote}
-use Rattle.lists.proofs.LastWrites.{written-append}
-use Rattle.lists.proofs.Places.{take-suc_at}
+use Rattle.base.specs.Writes.{wrote}
+use Rattle.base.proofs.LastWrites.{written-append}
+use Rattle.base.proofs.Places.{take-suc_at}
 use Rattle.journal.specs.declared.event.Event.{Event}
 use Rattle.journal.specs.declared.event.Kind.TheVariants.{Load}
 use Rattle.journal.specs.Did.{event}

@@ -4,7 +4,7 @@ use Rattle.journal.specs.declared.event.Event.{Event}
 use Rattle.journal.specs.Events.{At, is_closing}
 use Rattle.journal.specs.Times.{IsTimeOf}
 use Rattle.journal.specs.Blocks.{IsBlock}
-use Rattle.lists.proofs.Places.{push_induction}
+use Rattle.base.proofs.Places.{push_induction}
 use Rattle.journal.proofs.Order.Places.{at_longer, at_last}
 use Rattle.journal.proofs.Order.BlockPasts.{block_front, block_last}
 use Rattle.journal.proofs.Times.Pushes.{own_quiet}

@@ -24,9 +24,9 @@ same_closer j q c d x y same = elim (cases_order c d) [
 ]
 
 -- a closing event with an event's number closes that event's interval
-pub closed_by : (j : List Event) (q i c : ℕ) (a : Kind) → Does j i q a → is_closing a ≢ true → ClosesAt j q c
+pub closes_interval : (j : List Event) (q i c : ℕ) (a : Kind) → Does j i q a → is_closing a ≢ true → ClosesAt j q c
     → interval_at j q i ≡ interval_at j q c → ClosedAt j i c
-closed_by j q i c a does open_at closes same =
+closes_interval j q i c a does open_at closes same =
     record {
       event = event q a;
       closer = event q closes.kind;

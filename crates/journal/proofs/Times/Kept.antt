@@ -9,7 +9,7 @@ use Rattle.journal.specs.Events.{At, count_of, is_arrive}
 use Rattle.journal.specs.Pasts.{UpTo, UpToSome}
 use Rattle.journal.specs.Times.{IsTimeIn, IsTimeOf}
 use Rattle.journal.specs.Brings.{SomeDoes, ArrivesAt, SomeArrives}
-use Rattle.lists.proofs.Places.{push_cases, append_cases}
+use Rattle.base.proofs.Places.{push_cases, append_cases}
 use Rattle.journal.proofs.Order.Places.{at_within, at_longer, at_last, count_of-front}
 use Rattle.journal.proofs.Order.Pasts.{up_to_longer, up_to_shorter, up_to_within}
 use Rattle.journal.proofs.Times.Times.{time_same, time_joined, time_longer}

@@ -11,7 +11,7 @@ use Rattle.journal.specs.WellFormed.{Does}
 use Rattle.journal.specs.Pasts.{UpTo, InPast}
 use Rattle.journal.specs.Times.{ClosesAt, IsTimeIn, IsTimeOf, IsTimeAt}
 use Rattle.journal.specs.Brings.{Brings}
-use Rattle.lists.proofs.Places.{push_cases}
+use Rattle.base.proofs.Places.{push_cases}
 use Rattle.journal.proofs.Order.Places.{at_last, does_at, count_of-append, count_of-front, count_of-mono, count_of-past, count_of-within, numbered}
 use Rattle.journal.proofs.Order.Pasts.{past_back, past_push, reaches_push, own_in_past, past_within, others, brings_none}
 use Rattle.journal.proofs.Times.Leaving.{LeavesAt, leaving, back_own}

@@ -9,7 +9,7 @@ use Rattle.journal.specs.Order.{HappensBefore}
 use Rattle.journal.specs.WellFormed.{Does}
 use Rattle.journal.specs.Pasts.{InPast}
 use Rattle.journal.specs.Times.{IsTimeOf}
-use Rattle.lists.proofs.Places.{slice_get-take, take-suc_at}
+use Rattle.base.proofs.Places.{slice_get-take, take-suc_at}
 use Rattle.journal.proofs.Order.Places.{at_within, at_last}
 use Rattle.journal.proofs.Order.HappensBefore.{extension}
 use Rattle.journal.proofs.Order.Pasts.{reaches_new}

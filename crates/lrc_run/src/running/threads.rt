@@ -3,14 +3,14 @@ ghost use Rattle.std.specs.Prelude.{◌≡◌, ◌≤◌, [], IfOk, IfSome, leng
 ghost use Rattle.std.specs.Thread.{IsSend, IsSync};
 ghost use Rattle.lrc_script.specs.Prelude.{items_of};
 ghost use Rattle.cluster.specs.Prelude.{AreNew};
-ghost use Rattle.lrc_run.specs.Prelude.{AreOutcomes, AreOutcomesOf, AreStarted, IsOutcomeOf, Walks};
+ghost use Rattle.lrc_run.specs.Prelude.{AreThreadResults, AreThreadResultsOf, AreStarted, IsThreadResultOf, Walks};
 
 use crate::course::Course;
 use crate::gate::Gate;
 use crate::walk::walk;
 use cluster::{BookTurn, Cluster, Processor};
+use conformance::Cause;
 use lrc_script::script::Instruction;
-use runs::Cause;
 use std::alloc::{AllocError, Global};
 use std::marker::Model;
 use std::snapshot::Snapshot;
@@ -18,7 +18,7 @@ use std::sync::Wait;
 use std::thread::{Promise, PromisedHandle, Scope, Threads, scope, scope_env};
 
 /// What came of a processor: itself, past the closing barrier, or why it went no further.
-type Outcome<T> = Result<Processor<T>, Cause>;
+type ThreadResult<T> = Result<Processor<T>, Cause>;
 
 /// What a thread promises: the processor that it gives back was this one, and has walked this section.
 #[derive(Drop)]
@@ -55,8 +55,8 @@ impl<T: BookTurn> Model for Thread<T> {
 
 impl<T: BookTurn + Drop> Thread<T> {
     /// Waits for the thread's end, and answers what came of its processor.
-    fn join<R: Threads>(self, rt: &R) -> Outcome<T>
-        ensures { IsOutcomeOf self result }
+    fn join<R: Threads>(self, rt: &R) -> ThreadResult<T>
+        ensures { IsThreadResultOf self result }
     {
         match self.handle {
             Some(handle) => handle.join(rt),
@@ -73,7 +73,7 @@ fn walked<T: BookTurn, R: Wait, G: Gate>(
     mut processor: Processor<T>,
     course: &Course<'_, G>,
     section: &[Instruction],
-) -> Outcome<T>
+) -> ThreadResult<T>
     requires own { processor.lock ≡ cluster.now.lock }
     ensures { IfOk result (λ m. Walks processor m section.now) }
 {
@@ -91,10 +91,10 @@ fn walked<T: BookTurn, R: Wait, G: Gate>(
 fn join_all<T: BookTurn + Drop, R: Threads>(
     rt: &R,
     threads: Vec<Thread<T>>,
-    mut outcomes: Vec<Outcome<T>>,
-) -> Vec<Outcome<T>>
+    mut outcomes: Vec<ThreadResult<T>>,
+) -> Vec<ThreadResult<T>>
     requires room { (outcomes.items ≡ []) × (vec_len threads ≤ vec_capacity outcomes) }
-    ensures { AreOutcomesOf threads.items result.items }
+    ensures { AreThreadResultsOf threads.items result.items }
 {
     for thread in threads {
         outcomes.push_reserved(thread.join(rt));
@@ -123,7 +123,7 @@ fn start<'s, 'x: 's, T: BookTurn + Send + Drop, R: Threads + Wait + Sync, G: Gat
     let section = section.as_slice();
     let started = scope.spawn_with(
         promise,
-        move || -> Outcome<T>
+        move || -> ThreadResult<T>
             requires own { processor.lock ≡ cluster.now.lock }
             ensures { IfOk result (λ m. Walks processor m section.entry.now) }
         { walked(rt, cluster, processor, course, section) },
@@ -168,10 +168,10 @@ pub(super) fn walk_all<'x, T: BookTurn + Send + Drop, R: Threads + Wait + Sync, 
     processors: Vec<Processor<T>>,
     course: &'x Course<'x, G>,
     sections: &'x [Vec<Instruction>],
-) -> Result<Vec<Outcome<T>>, AllocError>
+) -> Result<Vec<ThreadResult<T>>, AllocError>
     requires new { AreNew cluster.now processors.items }
     requires sections { length sections.now ≡ vec_len processors }
-    ensures { IfOk result (λ outcomes. AreOutcomes cluster.now (items_of sections.now)
+    ensures { IfOk result (λ outcomes. AreThreadResults cluster.now (items_of sections.now)
         outcomes.items) }
 {
     let threads = Vec::with_capacity(alloc, processors.len())?;
@@ -179,14 +179,14 @@ pub(super) fn walk_all<'x, T: BookTurn + Send + Drop, R: Threads + Wait + Sync, 
     Ok(scope(
         scope_env(),
         rt,
-        move |scope| -> Vec<Outcome<T>>
+        move |scope| -> Vec<ThreadResult<T>>
             requires bounds { IsSend T.row × IsSync T.row × IsSync R.row × IsSync G.row }
             requires new { AreNew cluster.now processors.items }
             requires sections { length sections.now ≡ vec_len processors }
             requires threads { (threads.items ≡ []) × (vec_len processors ≤ vec_capacity threads) }
             requires outcomes { (outcomes.items ≡ [])
                 × (vec_len processors ≤ vec_capacity outcomes) }
-            ensures { AreOutcomes cluster.entry.now (items_of sections.entry.now) result.items }
+            ensures { AreThreadResults cluster.entry.now (items_of sections.entry.now) result.items }
         {
             let threads = start_all(scope, rt, cluster, processors, course, sections, threads);
             join_all(rt, threads, outcomes)

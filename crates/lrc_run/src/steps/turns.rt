@@ -6,8 +6,8 @@ ghost use Rattle.lrc_run.specs.Prelude.{IsOnItsWay, TakesTurn, instruction_at, p
 use crate::walk::{begin, end};
 use book::Refused;
 use cluster::{BookTurn, Cluster, Processor};
+use conformance::TurnProgress;
 use lrc_script::script::Instruction;
-use runs::Progress;
 use std::sync::Wait;
 
 /// The instruction at this place of the section, or the closing barrier after the last.
@@ -21,15 +21,15 @@ fn instruction_at(section: &[Instruction], n: usize) -> Instruction
 }
 
 /// Where the processor is after its instruction `n` was done, or begun.
-fn progress_after(section: &[Instruction], n: usize, done: bool) -> Progress
+fn progress_after(section: &[Instruction], n: usize, done: bool) -> TurnProgress
     ensures { result ≡ progress_after section.now n done }
 {
     if !done {
-        Progress::Waits(n)
+        TurnProgress::Waits(n)
     } else if n < section.len() {
-        Progress::Next(n + 1)
+        TurnProgress::Next(n + 1)
     } else {
-        Progress::Passed
+        TurnProgress::Passed
     }
 }
 
@@ -40,21 +40,21 @@ pub(crate) fn take_turn<T: BookTurn, R: Wait>(
     cluster: &Cluster<T>,
     processor: &mut Processor<T>,
     section: &[Instruction],
-    progress: Progress,
-) -> Result<(Progress, bool), Refused>
+    progress: TurnProgress,
+) -> Result<(TurnProgress, bool), Refused>
     requires own { processor.old.lock ≡ cluster.now.lock }
     ensures { IfOk result (λ r. TakesTurn section.now processor.old progress processor.new r.0) }
 {
     match progress {
-        Progress::Next(n) => {
+        TurnProgress::Next(n) => {
             let done = go_on(rt, cluster, processor, instruction_at(section, n))?;
             Ok((progress_after(section, n, done), true))
         }
-        Progress::Waits(n) => {
+        TurnProgress::Waits(n) => {
             let done = end(rt, cluster, processor)?;
             Ok((progress_after(section, n, done), done))
         }
-        Progress::Passed => Ok((Progress::Passed, false)),
+        TurnProgress::Passed => Ok((TurnProgress::Passed, false)),
     }
 }
 

@@ -5,7 +5,7 @@
 //! again what each call does.
 ghost use Rattle.std.specs.Prelude.{◌≡◌, ◌+◌, ◌%◌, ◌^◌, OnOk, ℕ, [], ◌∷◌};
 ghost use Rattle.cluster.specs.Prelude.{IsSameProcessor};
-ghost use Rattle.lrc_run.specs.Prelude.{AddsBy, FetchesBy, Makes, Tries};
+ghost use Rattle.lrc_run.specs.Prelude.{AddsBy, FetchesBy, MadeCalls, Tries};
 ghost use Rattle.journal.specs.declared.event.Kind.TheVariants as kind;
 
 use book::Refused;
@@ -64,7 +64,7 @@ pub(crate) fn add<T: BookTurn, R: Wait>(
 ) -> Result<(), Refused>
     requires own { processor.old.lock ≡ cluster.now.lock }
     ensures same { IsSameProcessor processor.old processor.new }
-    ensures ok { OnOk result ((reply : ℕ) × Makes processor.old processor.new
+    ensures ok { OnOk result ((reply : ℕ) × MadeCalls processor.old processor.new
         (kind.Load address reply ∷ kind.Store address ((reply + value) % 2 ^ 32) ∷ [])) }
 {
     let reply = load(rt, cluster, processor, address)?;

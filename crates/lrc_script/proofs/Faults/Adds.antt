@@ -12,10 +12,10 @@ use Rattle.lrc_script.specs.declared.script.Instruction.TheVariants as instructi
 use Rattle.lrc_script.specs.declared.line.Keyword.{Keyword}
 use Rattle.lrc_script.specs.declared.line.Keyword.TheVariants as keyword
 use Rattle.lrc_script.specs.Plan.{Plan, head_plan}
-use Rattle.lrc_script.specs.Lawful.{addresses, AreSizes, IsInRange, MayStandAfter, IsSection, address_of, lock_of, flag_of}
+use Rattle.lrc_script.specs.Lawful.{addresses, AreSizes, IsInRange, MayStandAfter, IsSection, instruction_address, lock_of, flag_of}
 use Rattle.lrc_script.specs.Text.{Line, cluster_line, section_line, instruction_line, show_line, section_lines}
-use Rattle.lrc_script.specs.Front.{Front, Nothing, Headed, Within, Whole, IsBegun, IsHeaded, IsWithin, lines_before}
-use Rattle.lrc_script.specs.Reading.{are_sizes, is_due, sized, headed, first_section, next_section, ended, is_past, takes_held, gives_unheld, refusal, entered, closed, step}
+use Rattle.lrc_script.specs.Front.{Front, Nothing, Headed, Within, Whole, IsBegun, IsHeaded, LawfulSoFar, lines_before}
+use Rattle.lrc_script.specs.Reading.{are_sizes, is_due, sized, headed, first_section, next_section, ended, is_past, takes_held, gives_unheld, refusal, instruction_read, section_closed, step}
 use Rattle.lrc_script.proofs.Reading.Numbers.{AreWords}
 use Rattle.lrc_script.proofs.Lawful.{sizes_from_test, sizes_small, section_with, sizes_with, section_over, sizes_over, nothing_stands}
 use Rattle.lrc_script.proofs.Text.{section_lines-append}
@@ -99,11 +99,11 @@ first_adds s (k ∷ []) g h e =
     })
 first_adds s (k ∷ m ∷ ns) g h e = absurd cc
 
-next_adds : (s : Plan) (is : List Instruction) (ns : List ℕ) (g : Front) → IsWithin s is → next_section s is ns ≡ Ok g
+next_adds : (s : Plan) (is : List Instruction) (ns : List ℕ) (g : Front) → LawfulSoFar s is → next_section s is ns ≡ Ok g
     → Adds (Within s is) (record { word = codes "p"; numbers = ns }) g
 next_adds s is [] g h e = absurd cc
 next_adds s is (k ∷ []) g h e =
-    let t = guard_ok (eqb k (length s.sections + 1) && ltb k s.processors) (Within (closed s is) []) g _ e in
+    let t = guard_ok (eqb k (length s.sections + 1) && ltb k s.processors) (Within (section_closed s is) []) g _ e in
     let both = and_parts (eqb k (length s.sections + 1)) (ltb k s.processors) t.0 in
     let test = both.0 in
     let room = both.1 in
@@ -118,9 +118,9 @@ next_adds s is (k ∷ []) g h e =
       begun = record {
         sizes = sizes_with s sections h.sizes;
         sections =
-            All-weaker (IsSection s) (IsSection (closed s is)) (section_with s sections) sections
+            All-weaker (IsSection s) (IsSection (section_closed s is)) (section_with s sections) sections
             (All-push (IsSection s) s.sections is h.sections h.last);
-        last = nothing_stands (closed s is);
+        last = nothing_stands (section_closed s is);
         one_each = grind (arith, nat_tests, test, room, length-append s.sections (is ∷ []));
         none_shown = h.none_shown;
       };
@@ -139,11 +139,11 @@ none_past n (x ∷ xs) e = past_cases n x xs (leb n x) refl e (none_past n xs)
     past_cases n x xs true t e rest = absurd cc
     past_cases n x xs false t e rest = (grind (arith, nat_tests, t), rest e)
 
-show_adds : (s : Plan) (is : List Instruction) (ns : List ℕ) (g : Front) → IsWithin s is
+show_adds : (s : Plan) (is : List Instruction) (ns : List ℕ) (g : Front) → LawfulSoFar s is
     → (leb 1 (length ns) && eqb (length s.sections + 1) s.processors) ≡ true → ended s is ns ≡ Ok g
     → Adds (Within s is) (show_line ns) g
 show_adds s is ns g h due e =
-    let whole = record (closed s is) { shown = ns } in
+    let whole = record (section_closed s is) { shown = ns } in
     let near = refuse_ok (list_any (λ a. leb (addresses s) a) ns) _ g _ e in
     let few = refuse_ok (ltb 64 (length ns)) (Ok (Whole whole)) g _ near.1 in
     let same : Whole whole ≡ g = let last = few.1 in cc in
@@ -187,7 +187,7 @@ snoc_cases (x ∷ xs) (b ∷ bs) i j after e =
 
 -- no test refuses the instruction
 pub record Passed (s : Plan) (is : List Instruction) (i : Instruction) : Type 0 where
-  pub address : is_past (address_of i) (addresses s) ≡ false
+  pub address : is_past (instruction_address i) (addresses s) ≡ false
   pub lock : is_past (lock_of i) s.locks ≡ false
   pub flag : is_past (flag_of i) s.flags ≡ false
   pub held : takes_held is i ≡ false
@@ -201,7 +201,7 @@ none_if false x rest e = (refl, e)
 
 passed : (s : Plan) (is : List Instruction) (i : Instruction) → refusal s is i ≡ None → Passed s is i
 passed s is i e =
-    let a = none_if (is_past (address_of i) (addresses s)) _ _ e in
+    let a = none_if (is_past (instruction_address i) (addresses s)) _ _ e in
     let b = none_if (is_past (lock_of i) s.locks) _ _ a.1 in
     let c = none_if (is_past (flag_of i) s.flags) _ _ b.1 in
     let d = none_if (takes_held is i) _ _ c.1 in
@@ -215,7 +215,7 @@ may_from s is (instruction.Release l) p = not-false _ p.unheld
 may_from s is _ p = tt
 
 entered_adds : (s : Plan) (is : List Instruction) (i : Instruction) (g : Front) (o : Option ScriptFault)
-    → refusal s is i ≡ o → IsWithin s is → (Passed s is i → IsInRange s i) → entered s is i o ≡ Ok g
+    → refusal s is i ≡ o → LawfulSoFar s is → (Passed s is i → IsInRange s i) → instruction_read s is i o ≡ Ok g
     → Adds (Within s is) (instruction_line i) g
 entered_adds s is i g (Some fault) refused h ranges e = absurd cc
 entered_adds s is i g None refused h ranges e =

@@ -11,11 +11,11 @@ use Rattle.lrc_script.specs.declared.script.Instruction.TheVariants as instructi
 use Rattle.lrc_script.specs.declared.line.Keyword.{Keyword}
 use Rattle.lrc_script.specs.declared.line.Keyword.TheVariants as keyword
 use Rattle.lrc_script.specs.Plan.{Plan, head_plan}
-use Rattle.lrc_script.specs.Lawful.{addresses, AreSizes, address_of, lock_of, flag_of, holds}
+use Rattle.lrc_script.specs.Lawful.{addresses, AreSizes, instruction_address, lock_of, flag_of, holds}
 use Rattle.lrc_script.specs.Text.{Line, line_bytes, section_line, instruction_line, show_line}
 use Rattle.lrc_script.specs.Front.{Front, Nothing, Headed, Within, Whole, IsBegun}
-use Rattle.lrc_script.specs.Faults.{Allows, IsOutOfTurn, AreNoSizes, SaysWithin, Says, IsLineFault, IsFaultBehind, IsFaultAt, IsFault}
-use Rattle.lrc_script.specs.Reading.{are_sizes, is_due, headed, first_section, next_section, ended, is_past, takes_held, gives_unheld, refusal, entered, closed, step, after}
+use Rattle.lrc_script.specs.Faults.{AllowsLine, IsOutOfTurn, AreNoSizes, SaysWithin, Says, IsLineFault, IsFaultBehind, IsFaultAt, IsFault}
+use Rattle.lrc_script.specs.Reading.{are_sizes, is_due, headed, first_section, next_section, ended, is_past, takes_held, gives_unheld, refusal, instruction_read, section_closed, step, after}
 use Rattle.lrc_script.proofs.Lawful.{sizes_test}
 use Rattle.lrc_script.proofs.Reading.Keywords.{spelled, keyword_spelled, due_allows, allows_due}
 use Rattle.lrc_script.proofs.Reading.Cases.{Reading, Shapeless, NoNumber, Reached, reading}
@@ -75,7 +75,7 @@ next_says : (s : Plan) (is : List Instruction) (ns : List ℕ) (g : ScriptFault)
     × IsOutOfTurn (Within s is) k
 next_says s is [] g due e = absurd cc
 next_says s is (k ∷ []) g due e =
-    let t = refused_unless (eqb k (length s.sections + 1) && ltb k s.processors) (Within (closed s is) []) _ g e in (
+    let t = refused_unless (eqb k (length s.sections + 1) && ltb k s.processors) (Within (section_closed s is) []) _ g e in (
       t.1,
       k,
       refl,
@@ -132,8 +132,8 @@ some_if false f g rest e = inr (refl, e)
 refusal_says : (s : Plan) (is : List Instruction) (i : Instruction) (g : ScriptFault) → refusal s is i ≡ Some g
     → SaysWithin g s is (line_bytes (instruction_line i))
 refusal_says s is i g e = let P : ScriptFault → Type 0 = λ x. SaysWithin x s is (line_bytes (instruction_line i)) in
-    elim (some_if (is_past (address_of i) (addresses s)) _ g _ e) [
-      | inl t ↦ subst P t.1 (inl (i, refl, past_says (address_of i) (addresses s) t.0))
+    elim (some_if (is_past (instruction_address i) (addresses s)) _ g _ e) [
+      | inl t ↦ subst P t.1 (inl (i, refl, past_says (instruction_address i) (addresses s) t.0))
       | inr t ↦ elim (some_if (is_past (lock_of i) s.locks) _ g _ t.1) [
         | inl u ↦ subst P u.1 (i, refl, past_says (lock_of i) s.locks u.0)
         | inr u ↦ elim (some_if (is_past (flag_of i) s.flags) _ g _ u.1) [
@@ -153,7 +153,7 @@ refusal_says s is i g e = let P : ScriptFault → Type 0 = λ x. SaysWithin x s 
     ]
 
 entered_says : (s : Plan) (is : List Instruction) (i : Instruction) (g : ScriptFault) (o : Option ScriptFault)
-    → refusal s is i ≡ o → entered s is i o ≡ Err g → SaysWithin g s is (line_bytes (instruction_line i))
+    → refusal s is i ≡ o → instruction_read s is i o ≡ Err g → SaysWithin g s is (line_bytes (instruction_line i))
 entered_says s is i g None refused e = absurd cc
 entered_says s is i g (Some f) refused e =
     let same : f ≡ g = cc in refusal_says s is i g (refused ∙ ap (λ (x : ScriptFault). Some x) same)
@@ -253,7 +253,7 @@ says_cases f line g (Shapeless h e) =
 says_cases f line g (NoNumber other m e) =
     let same : fault.BadNumber ≡ g = sym m.refused.fault_is ∙ (let err : other ≡ g = cc in err) in
     let allowed =
-    subst (λ (w : List ℕ). Allows f w (length m.words)) (sym (keyword_spelled m.word m.key m.key_is))
+    subst (λ (w : List ℕ). AllowsLine f w (length m.words)) (sym (keyword_spelled m.word m.key m.key_is))
     (due_allows f m.key (length m.words) m.due) in
     subst (λ (x : ScriptFault). Says x f line) same
     (m.word, m.words, m.split, allowed, m.refused.word, m.refused.within, m.refused.none)

@@ -12,8 +12,8 @@ use Rattle.lrc_script.specs.declared.line.Keyword.TheVariants as keyword
 use Rattle.lrc_script.specs.Plan.{Plan, head_plan}
 use Rattle.lrc_script.specs.Lawful.{addresses, AreSizes, IsInRange, MayStandAfter, IsSection, IsLawfulButUneven}
 use Rattle.lrc_script.specs.Text.{Line, cluster_line, section_line, instruction_line, show_line, section_lines, lines_of}
-use Rattle.lrc_script.specs.Front.{Front, Nothing, Headed, Within, Whole, IsBegun, IsHeaded, IsWithin, lines_before}
-use Rattle.lrc_script.specs.Reading.{are_sizes, refusal, closed, step}
+use Rattle.lrc_script.specs.Front.{Front, Nothing, Headed, Within, Whole, IsBegun, IsHeaded, LawfulSoFar, lines_before}
+use Rattle.lrc_script.specs.Reading.{are_sizes, refusal, section_closed, step}
 use Rattle.lrc_script.proofs.Reading.Numbers.{AreWords}
 use Rattle.lrc_script.proofs.Reading.Lines.{Goes, goes}
 use Rattle.lrc_script.proofs.Lawful.{sizes_test, sizes_small, sizes_over, section_over, with_sections, section_with, sizes_with}
@@ -145,14 +145,14 @@ instruction_goes s before instruction.Cut sizes range may room =
     (rw (refusal_none s before instruction.Cut range may room) refl)
 
 section_goes : (s : Plan) (is : List Instruction) → AreSizes s → suc (length s.sections) < s.processors
-    → Goes (Within s is) (section_line (suc (length s.sections))) (Within (closed s is) [])
+    → Goes (Within s is) (section_line (suc (length s.sections))) (Within (section_closed s is) [])
 unfolding step
 section_goes s is sizes lt =
     let small = sizes_small s sizes in
     let next : (eqb (suc (length s.sections)) (length s.sections + 1) && ltb (suc (length s.sections)) s.processors)
     ≡ true =
     grind (arith, nat_tests, lt) in
-    goes (Within s is) (Within (closed s is) []) keyword.Section (codes "p") (suc (length s.sections) ∷ []) refl refl
+    goes (Within s is) (Within (section_closed s is) []) keyword.Section (codes "p") (suc (length s.sections) ∷ []) refl refl
     (omega (arith, small.processors, lt), tt) refl (rw next refl)
 
 first_goes : (s : Plan) → AreSizes s → Goes (Headed s) (section_line 0) (Within s [])
@@ -173,7 +173,7 @@ all_words n (x ∷ xs) le h = (omega (arith, h.0), all_words n xs le h.1)
 
 show_goes : (s : Plan) (is : List Instruction) (shown : List ℕ) → AreSizes s → suc (length s.sections) ≡ s.processors
     → 1 ≤ length shown → length shown ≤ 64 → All (λ a. a < addresses s) shown
-    → Goes (Within s is) (show_line shown) (Whole (record (closed s is) { shown = shown }))
+    → Goes (Within s is) (show_line shown) (Whole (record (section_closed s is) { shown = shown }))
 unfolding step
 show_goes s is shown sizes one_each some most below =
     let small = sizes_small s sizes in
@@ -181,7 +181,7 @@ show_goes s is shown sizes one_each some most below =
     let due : (leb 1 (length shown) && eqb (length s.sections + 1) s.processors) ≡ true =
     grind (arith, nat_tests, some, one_each) in
     let few : ltb 64 (length shown) ≡ false = grind (arith, nat_tests, most) in
-    goes (Within s is) (Whole (record (closed s is) { shown = shown })) keyword.Show (codes "show") shown refl refl
+    goes (Within s is) (Whole (record (section_closed s is) { shown = shown })) keyword.Show (codes "show") shown refl refl
     (all_words (addresses s) shown small.addresses_fit each) due
     (rw (all_below (addresses s) shown each, few) refl)
 
@@ -289,7 +289,7 @@ all_sections_pass s (is ∷ rest) last sizes room each h =
 headed_with : (s : Plan) → AreSizes s → s.shown ≡ [] → IsHeaded (with_sections s [])
 headed_with s sizes none = record { sizes = sizes_with s [] sizes; no_sections = refl; none_shown = none }
 
-within_passes : (s : Plan) (is : List Instruction) → IsWithin s is
+within_passes : (s : Plan) (is : List Instruction) → LawfulSoFar s is
     → Passes Nothing (lines_before (Within s is)) (Within s is)
 within_passes s is h =
     let head = head_goes (with_sections s []) (headed_with s h.sizes h.none_shown) in (
@@ -333,7 +333,7 @@ whole_from s front last e h =
     let sizes : AreSizes before = sizes_over s front [] h.sizes in
     let as_before : (is : List Instruction) → IsSection s is → IsSection before is =
     λ is k. section_over s front [] is k in
-    let within : IsWithin before last = record {
+    let within : LawfulSoFar before last = record {
       sizes = sizes;
       sections =
           All-weaker (IsSection s) (IsSection before) as_before front (All-from_recursion (IsSection s) front each.0);

@@ -12,7 +12,7 @@ use Rattle.lrc_script.specs.declared.line.Keyword.TheVariants as keyword
 use Rattle.lrc_script.specs.Plan.{Plan}
 use Rattle.lrc_script.specs.Text.{instruction_line}
 use Rattle.lrc_script.specs.Front.{Front, Nothing, Headed, Within, Whole}
-use Rattle.lrc_script.specs.Faults.{Allows}
+use Rattle.lrc_script.specs.Faults.{AllowsLine}
 use Rattle.lrc_script.specs.Reading.{keyword_of, is_due}
 
 abbrev pub spelled : Keyword → List ℕ
@@ -50,7 +50,7 @@ keyword_spelled w k e =
     (spelled_if w keyword.Cut _ k (spelled_if w keyword.Show _ k (λ h. absurd cc)))))))))))) e
 
 -- what is due is allowed
-pub due_allows : (f : Front) (k : Keyword) (n : ℕ) → is_due f k n ≡ true → Allows f (spelled k) n
+pub due_allows : (f : Front) (k : Keyword) (n : ℕ) → is_due f k n ≡ true → AllowsLine f (spelled k) n
 due_allows Nothing keyword.Cluster n e = (
   refl,
   elim (or_cases (eqb n 4) (eqb n 5) e)
@@ -102,7 +102,7 @@ allowed_instruction s is w n (instruction.Await f) word count =
 allowed_instruction s is w n instruction.Cut word count = (keyword.Cut, ap keyword_of word, ap (λ m. eqb m 0) count)
 
 -- what is allowed is due
-pub allows_due : (f : Front) (w : List ℕ) (n : ℕ) → Allows f w n → Due f w n
+pub allows_due : (f : Front) (w : List ℕ) (n : ℕ) → AllowsLine f w n → Due f w n
 allows_due Nothing w n a = (
   keyword.Cluster,
   ap keyword_of a.0,

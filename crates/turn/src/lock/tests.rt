@@ -1,10 +1,10 @@
 ghost use Rattle.std.specs.Prelude.{◌≡◌, ◌*◌, ◌^◌, ◌<◌, ◌≤◌, IfOk};
 ghost use Rattle.turn.specs.Prelude.{entries, lock, lock_id, IsOutside, IsSameChair, AreAll};
 
-use super::{ArrayLock, Lock, TicketLock};
-use crate::board::{Board, Counter, Row};
+use super::{ArrayLock, TicketLock, TurnLock};
 use crate::chair::{Chair, Spent};
 use crate::contract::{Keeper, Outcome, Turn};
+use crate::lock_words::{Board, Counter, Row};
 use std::alloc::{AllocError, Global};
 use std::process::Abort;
 use std::sync::{Arc, Wait};
@@ -49,7 +49,9 @@ fn pass_through<B, T: Turn<B, Anything>, R: Wait>(
 }
 
 // The words after the next number.
-fn shown<B, K: Keeper<B>, W: Board, const ENTRIES: u64>(lock: &Lock<B, K, W, ENTRIES>) -> [u64; 2] {
+fn shown<B, K: Keeper<B>, W: Board, const ENTRIES: u64>(
+    lock: &TurnLock<B, K, W, ENTRIES>,
+) -> [u64; 2] {
     let words = lock.layout.words;
     let first = if 1 < words {
         lock.table.shared.peek(1)
@@ -84,7 +86,7 @@ type Step = (usize, bool, [u64; 2]);
 // Whether the step goes so: a spent chair doesn't enter, and leaves the words as they are.
 fn goes<W: Board + Sync, R: Wait>(
     rt: &R,
-    turn: &Lock<u64, Anything, W, 3>,
+    turn: &TurnLock<u64, Anything, W, 3>,
     chairs: &mut Vec<Chair<u64, Anything>>,
     step: &Step,
 ) -> bool
@@ -108,7 +110,7 @@ fn makes<W: Board + Sync, R: Wait + Abort>(
 ) -> Result<(), AllocError>
     requires { (1 ≤ seats) × (seats ≤ 2) }
 {
-    let (turn, mut chairs) = Lock::<u64, Anything, W, 3>::new(alloc, 7, seats)?;
+    let (turn, mut chairs) = TurnLock::<u64, Anything, W, 3>::new(alloc, 7, seats)?;
     assert!(rt; shown(&turn) == [0, 0]);
     for step in steps {
         assert!(rt; goes(rt, &turn, &mut chairs, step));
@@ -179,7 +181,7 @@ fn a_book_is_dropped_with_its_lock(rt: HostRuntime) {
 }
 
 // Waits until that many threads sleep. Wakes the first of them for no reason, so that it is the last to sleep.
-fn let_sleep<W: Board, R: Wait + Clock>(rt: &R, turn: &Lock<u64, Anything, W, 3>, many: u64) {
+fn let_sleep<W: Board, R: Wait + Clock>(rt: &R, turn: &TurnLock<u64, Anything, W, 3>, many: u64) {
     for _ in rt.forever() {
         if turn.sleepers.number() == many {
             break;
@@ -195,7 +197,7 @@ fn let_sleep<W: Board, R: Wait + Clock>(rt: &R, turn: &Lock<u64, Anything, W, 3>
 // Enters, hands in the next book, and answers the book that it found. The first chair stays inside until all others sleep.
 fn enters_once<W: Board + Sync, R: Wait + Clock>(
     rt: &R,
-    turn: &Lock<u64, Anything, W, 3>,
+    turn: &TurnLock<u64, Anything, W, 3>,
     mut chair: Chair<u64, Anything>,
     others: u64,
 ) -> Result<u64, Spent>
@@ -216,7 +218,7 @@ fn books_found<W: Board + Sync, R: Threads + Wait + Clock + Sync>(
     rt: &R,
     alloc: Global,
 ) -> Result<Vec<u64>, AllocError> {
-    let (turn, chairs) = Lock::<u64, Anything, W, 3>::new(alloc, 0, 16)?;
+    let (turn, chairs) = TurnLock::<u64, Anything, W, 3>::new(alloc, 0, 16)?;
     let shared = &turn;
     let mut books = map_vec(
         rt,
@@ -241,7 +243,7 @@ fn chairs_that_sleep_get_in(rt: HostRuntime) -> Result<(), Fail> {
 // Answers the book, and never leaves.
 fn enters_asleep<W: Board + Sync, R: Wait>(
     rt: &R,
-    turn: &Lock<u64, Anything, W, 3>,
+    turn: &TurnLock<u64, Anything, W, 3>,
     chair: Chair<u64, Anything>,
 ) -> u64
     requires own { lock chair ≡ lock_id turn.now.table.shared.table_id 3 }
@@ -257,7 +259,7 @@ fn enters_asleep<W: Board + Sync, R: Wait>(
 
 // The book of a free lock, found so.
 fn found_asleep<W: Board + Sync, R: Wait>(rt: &R, alloc: Global) -> Result<u64, AllocError> {
-    let (turn, mut chairs) = Lock::<u64, Anything, W, 3>::new(alloc, 7, 1)?;
+    let (turn, mut chairs) = TurnLock::<u64, Anything, W, 3>::new(alloc, 7, 1)?;
     let Some(chair) = chairs.pop() else {
         unreachable!()
     };

@@ -1,7 +1,7 @@
 use Rattle.std.proofs.Common.{◌∙◌, ℕ, List, Some, inl, inr, sym, subst, ap}
 use Rattle.std.proofs.lemmas.Option.{same_Some}
-use Rattle.lists.specs.Places.{Has}
-use Rattle.lists.proofs.Joined.{has-nil}
+use Rattle.base.specs.Places.{Has}
+use Rattle.base.proofs.Joined.{has-nil}
 use Rattle.book.proofs.Calling.Waiting.{ComeAt}
 use Rattle.book.proofs.waiting.one_who_may_go_on.Goals as goal
 

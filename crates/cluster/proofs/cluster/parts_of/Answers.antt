@@ -1,5 +1,5 @@
 use Rattle.std.proofs.Common.{◌≡◌, List, slice_get, Some, inl, inr, subst, arith}
-use Rattle.lists.proofs.Places.{push_cases}
+use Rattle.base.proofs.Places.{push_cases}
 use Rattle.cluster.specs.declared.processor.Parts.{Parts}
 use Rattle.cluster.specs.Clusters.{AreParts}
 use Rattle.cluster.proofs.cluster.parts_of.Goals as goal

@@ -1,7 +1,7 @@
 use Rattle.std.proofs.Common.{ap, ap₂, ◌∙◌, ◌++◌, ◌∷◌, [], List}
 use Rattle.std.proofs.lemmas.List.{replicate_more}
-use Rattle.replicas.specs.Copies.{Copied}
-use Rattle.replicas.specs.Local.{blank}
+use Rattle.cluster.specs.Copies.Copies.{Copied}
+use Rattle.cluster.specs.Copies.Local.{blank}
 use Rattle.cluster.proofs.processor.replicas_of.Goals as goal
 
 pub loop-preserved : goal.loop-preserved

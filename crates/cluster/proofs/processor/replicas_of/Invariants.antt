@@ -1,5 +1,5 @@
 use Rattle.std.proofs.Common.{◌≡◌, replicate}
-use Rattle.replicas.specs.Local.{blank}
+use Rattle.cluster.specs.Copies.Local.{blank}
 use Rattle.cluster.proofs.processor.replicas_of.Given as goal
 
 abbrev pub invariant-loop : goal.invariant-loop

@@ -4,7 +4,7 @@ use Rattle.journal.specs.declared.event.Event.{Event}
 use Rattle.journal.specs.declared.event.Kind.{Kind}
 use Rattle.journal.specs.Did.{did}
 use Rattle.lrc_script.specs.Plan.{Plan}
-use Rattle.beginnings.specs.Beginnings.{IsFlatBeginning}
+use Rattle.explore.specs.Prefixes.Beginnings.{IsFlatBeginning}
 use Rattle.explore.specs.Machines.{AreLawfulSteps, Knows}
 use Rattle.explore.proofs.neighbours.nexts_of.Given as goal
 

@@ -6,12 +6,12 @@ use Rattle.journal.specs.declared.event.Event.{Event}
 use Rattle.journal.specs.declared.event.Kind.{Kind}
 use Rattle.journal.specs.Did.{did, event}
 use Rattle.lrc_script.specs.Plan.{Plan}
-use Rattle.beginnings.specs.declared.step.Step.{Step}
-use Rattle.beginnings.specs.Beginnings.{IsFlatBeginning}
-use Rattle.beginnings.specs.Laws.{RacesAfter}
-use Rattle.beginnings.proofs.Neighbours.Racing.{racing}
-use Rattle.explore.specs.declared.found.Found.{Found}
-use Rattle.explore.specs.declared.machine.Machine.{Machine}
+use Rattle.explore.specs.declared.prefixes.script_call.ScriptCall.{ScriptCall}
+use Rattle.explore.specs.Prefixes.Beginnings.{IsFlatBeginning}
+use Rattle.explore.specs.Prefixes.Laws.{RacesAfter}
+use Rattle.explore.proofs.prefixes.Neighbours.Racing.{racing}
+use Rattle.explore.specs.declared.states.States.{States}
+use Rattle.explore.specs.declared.flat_state.FlatState.{FlatState}
 use Rattle.explore.specs.declared.neighbours.Neighbours.{Neighbours}
 use Rattle.explore.specs.Found.{states_of}
 use Rattle.explore.specs.Machines.{Knows}
@@ -20,7 +20,7 @@ use Rattle.explore.proofs.Likes.{knows_like}
 use Rattle.explore.proofs.Machines.{next_within, rows_many}
 use Rattle.explore.proofs.racing.racing_events.Goals as goal
 
-module _ (s : Plan) (x : Found) (steps : List (Vec Step)) (ns : Neighbours) (are : AreRacing s x steps ns) (f : Machine)
+module _ (s : Plan) (x : States) (steps : List (Vec ScriptCall)) (ns : Neighbours) (are : AreRacing s x steps ns) (f : FlatState)
     (at : slice_get (states_of x) ns.place ≡ Some f) (g : List Event) (knows : Knows s g f) where
   first_next : IsFlatBeginning s (did g ns.first.processor ns.first.kind)
   first_next = are.are.first f at g knows
@@ -46,7 +46,7 @@ module _ (s : Plan) (x : Found) (steps : List (Vec Step)) (ns : Neighbours) (are
       are.are.conflict
 
 -- some events come to the state
-some_events : (s : Plan) (x : Found) (steps : List (Vec Step)) (ns : Neighbours) → AreRacing s x steps ns → (f : Machine)
+some_events : (s : Plan) (x : States) (steps : List (Vec ScriptCall)) (ns : Neighbours) → AreRacing s x steps ns → (f : FlatState)
     → slice_get (states_of x) ns.place ≡ Some f → (g : List Event) × Knows s g f
 some_events s x steps ns are f at = are.found.known ns.place f at
 

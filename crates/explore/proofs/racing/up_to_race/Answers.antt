@@ -1,8 +1,8 @@
 use Rattle.std.proofs.Common.{◌+◌, List, length, sym, ap, subst, ◌∙◌, arith}
 use Rattle.journal.specs.declared.event.Event.{Event}
 use Rattle.journal.specs.Races.{IsFirstRace, RaceFree}
-use Rattle.beginnings.specs.Beginnings.{IsFlatBeginning}
-use Rattle.why.specs.Prelude.{IsFirstRaceTold}
+use Rattle.explore.specs.Prefixes.Beginnings.{IsFlatBeginning}
+use Rattle.causes.specs.Prelude.{IsFirstRaceTold}
 use Rattle.journal.proofs.Order.Places.{at_within}
 use Rattle.lrc_script.specs.Plan.{plan_of}
 use Rattle.explore.proofs.Lengths.{history_few}

@@ -5,7 +5,7 @@ use Rattle.std.proofs.lemmas.List.Sums.{count_by-le-length, sum_by_more}
 use Rattle.lrc_script.specs.Plan.{Plan, plan_of}
 use Rattle.lrc_script.specs.Lawful.{IsLawful, IsSection}
 use Rattle.explore.specs.Room.{is_loading, loads_in}
-use Rattle.beginnings.proofs.Steps.{section_at}
+use Rattle.explore.proofs.prefixes.Steps.{section_at}
 use Rattle.explore.proofs.Machines.{read_at}
 use Rattle.explore.proofs.room.words_of_state.Goals as goal
 

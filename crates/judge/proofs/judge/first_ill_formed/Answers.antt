@@ -10,7 +10,7 @@ use Rattle.journal.proofs.Passes.ClockSteps.{front_next}
 use Rattle.judge.specs.declared.why.Why.{Why}
 use Rattle.judge.specs.Lax.{MayFollowIn}
 use Rattle.judge.specs.Sizes.{sizes_of}
-use Rattle.judge.specs.Tells.{Tells}
+use Rattle.judge.specs.Tells.{IsFrontOf}
 use Rattle.judge.specs.Why.{IsFirstIllFormed, IsFirstWhy}
 use Rattle.judge.proofs.Fronts.{MayAll, may_lax_in, may_next, well_before, well_whole}
 use Rattle.judge.proofs.Refusing.{why_law}
@@ -70,7 +70,7 @@ loop-place-preserved c =
     let may = c.in_default.ensures (take k events) old.tells in
     let told = c.note.ensures.tells (take k events) old.tells (may_lax_in c.args.lax s (take k events) e may) in
     record {
-      tells = subst (λ xs. Tells xs c.note.new.self) (sym (front_next events k e at)) told;
+      tells = subst (λ xs. IsFrontOf xs c.note.new.self) (sym (front_next events k e at)) told;
       sizes = c.note.ensures.sizes ∙ old.sizes;
       well = may_next c.args.lax (sizes_of c.args.sizes) events k e at old.well
           (subst (λ x. MayFollowIn c.args.lax (sizes_of x) (take k events) e) old.sizes may);

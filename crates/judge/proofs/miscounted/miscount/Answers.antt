@@ -5,17 +5,17 @@ use Rattle.journal.specs.declared.event.Kind.{Kind}
 use Rattle.journal.specs.declared.event.Kind.TheVariants.{Fetch}
 use Rattle.journal.specs.Sizes.{Sizes}
 use Rattle.journal.specs.Copies.{GapCounts, StoredInGap}
-use Rattle.judge.specs.declared.gaps.Counts.{Counts}
+use Rattle.judge.specs.declared.gaps.CountedGap.{CountedGap}
 use Rattle.judge.specs.Sizes.{sizes_of}
 use Rattle.judge.proofs.Counts.{count_unique}
 use Rattle.judge.proofs.Parts.{Records, Writes}
 use Rattle.judge.proofs.miscounted.miscount.Goals as goal
 
-abbrev made : ℕ → ℕ → ℕ → Counts
+abbrev made : ℕ → ℕ → ℕ → CountedGap
 made w r d = record { writers = w; records = r; words = d }
 
 -- a gap has one of each count
-unique : (s : Sizes) (j : List Event) (p n w r d : ℕ) (due : Counts)
+unique : (s : Sizes) (j : List Event) (p n w r d : ℕ) (due : CountedGap)
     → GapCounts s j p n due.writers due.records due.words → GapCounts s j p n w r d
     → due ≡ record { writers = w; records = r; words = d }
 unique s j p n w r d due is other =
@@ -42,7 +42,7 @@ returns-then-is_count-clause-verdict c = λ j tells.
     let f = c.in-Fetch in
     let p = c.args.event.processor in
     let same = c.if-is_count.ensures.0 refl in
-    let P : Counts → Type 0 = λ x. GapCounts s j p f.page x.writers x.records x.words in
+    let P : CountedGap → Type 0 = λ x. GapCounts s j p f.page x.writers x.records x.words in
     counts s j p f.page f.writers f.records f.words c.args.event.kind f.is (subst P same (c.due-due.ensures j tells))
 
 pub returns-else-is_count-clause-verdict : goal.returns-else-is_count-clause-verdict

@@ -5,7 +5,7 @@ use Rattle.journal.specs.declared.event.Kind.TheVariants.{Load}
 use Rattle.journal.specs.Did.{event}
 use Rattle.journal.specs.WellFormed.{Does}
 use Rattle.journal.proofs.Order.Places.{at_same, does_at}
-use Rattle.sources.specs.Tells.{Tells}
+use Rattle.judge.specs.Sources.Tells.{AreStoresOf}
 use Rattle.lrc_check.proofs.Fronts.{latest_told}
 use Rattle.lrc_check.proofs.Places.{here, here_at}
 use Rattle.lrc_check.proofs.judging.latest_of.Goals as goal
@@ -51,7 +51,7 @@ returns-in-Load c =
     let does : Does events place e.processor e.kind =
     does_at events place e.processor e (here_at events place c.requires.place) refl in
     let over : c.loop-before.before ≡ place = omega (arith, c.loop-before-test.false, c.loop-before.auto.before-end) in
-    let tells = subst (λ n. Tells (take n events) c.loop-before.sources) over c.loop-before.invariant.tells in
+    let tells = subst (λ n. AreStoresOf (take n events) c.loop-before.sources) over c.loop-before.invariant.tells in
     latest_told events place e.processor c.in-Load.address c.in-Load.field-1 c.before-in-Load.result
     (subst (Does events place e.processor) c.in-Load.is does)
     (λ w q i. c.before-in-Load.ensures (take place events) tells w q i)

@@ -1,6 +1,6 @@
 use Rattle.std.proofs.Common.{◌≡◌, ◌-◌}
 use Rattle.std.specs.List.Sorted.{IsPermutation}
-use Rattle.runs.specs.Orders.{exchanged, ordered}
+use Rattle.conformance.specs.Orders.{exchanged, ordered}
 use Rattle.lrc_run.proofs.orders.order.Given as goal
 
 abbrev pub invariant-loop-i : goal.invariant-loop-i

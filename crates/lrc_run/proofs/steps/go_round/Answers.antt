@@ -2,8 +2,8 @@ use Rattle.std.proofs.Common.{rules, true, ◌≡◌, ◌∙◌, ◌++◌, List,
 use Rattle.std.proofs.Math.Seq.{take-append_seam}
 use Rattle.std.specs.Prelude.{All}
 use Rattle.lrc_script.specs.Plan.{plan_of}
-use Rattle.runs.specs.declared.progress.Progress.{Progress}
-use Rattle.runs.specs.declared.progress.Progress.TheVariants.{Passed}
+use Rattle.conformance.specs.declared.progress.TurnProgress.{TurnProgress}
+use Rattle.conformance.specs.declared.progress.TurnProgress.TheVariants.{Passed}
 use Rattle.lrc_run.proofs.Turning.{before_rounds, next_round, some_of, ways_turned}
 use Rattle.lrc_run.proofs.Stepping.{own_at}
 use Rattle.lrc_run.proofs.steps.go_round.Goals as goal
@@ -20,7 +20,7 @@ loop-init g c =
 
 pub returns-then-have_passed-clause-ok : goal.returns-then-have_passed-clause-ok
 returns-then-have_passed-clause-ok g c =
-    let P : List Progress → Type 0 = λ xs. All (λ x. x ≡ Passed) xs in (
+    let P : List TurnProgress → Type 0 = λ xs. All (λ x. x ≡ Passed) xs in (
       c.loop.all.items,
       c.loop.invariant.between.by,
       λ _. subst P c.deref.ensures.value (c.have_passed.ensures.0 c.if-have_passed.true),

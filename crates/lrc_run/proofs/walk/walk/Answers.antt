@@ -1,7 +1,7 @@
 use Rattle.std.proofs.Common.{◌≡◌, add-one, ap, subst, take, length, List, ◌∙◌, arith}
 use Rattle.std.proofs.Math.Seq.{take-length}
 use Rattle.std.proofs.lemmas.Option.{slice_get-get_or}
-use Rattle.lists.proofs.Places.{take-suc_at}
+use Rattle.base.proofs.Places.{take-suc_at}
 use Rattle.lrc_script.specs.declared.script.Instruction.{Instruction}
 use Rattle.lrc_run.specs.Walks.{DoesAll}
 use Rattle.lrc_run.proofs.Making.{does_more, walks_where}

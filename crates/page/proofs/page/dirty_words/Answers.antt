@@ -1,6 +1,6 @@
 use Rattle.std.proofs.Common.{ℕ, ◌≡◌, List, ◌++◌, length, drop, append-nil, ap, sym, ◌∙◌, arith}
 use Rattle.std.proofs.lemmas.List.{length-drop}
-use Rattle.lists.specs.Records.{harvest}
+use Rattle.base.specs.Records.{harvest}
 use Rattle.page.specs.Marks.{marks_of}
 use Rattle.page.proofs.Harvested.{first_within, found_more, below_more, harvest-none}
 use Rattle.page.proofs.page.dirty_words.Goals as goal

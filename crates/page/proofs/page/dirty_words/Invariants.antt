@@ -1,5 +1,5 @@
 use Rattle.std.proofs.Common.{◌≡◌, ◌≤◌, ◌++◌, length, drop}
-use Rattle.lists.specs.Records.{harvest}
+use Rattle.base.specs.Records.{harvest}
 use Rattle.page.specs.Marks.{marks_of, IsBelow}
 use Rattle.page.proofs.page.dirty_words.Given as goal
 

@@ -2,7 +2,7 @@ use Rattle.std.proofs.Common.{◌≡◌, map, Option, slice_get, ap, ◌∙◌, 
 use Rattle.std.specs.Arc.{arc_value}
 use Rattle.std.specs.Option.{option_map}
 use Rattle.journal.specs.declared.event.Kind.TheVariants.{Ask}
-use Rattle.lists.specs.Places.{Has}
+use Rattle.base.specs.Places.{Has}
 use Rattle.lockq.specs.Lock.{lock_at, line}
 use Rattle.transit.specs.Letters.{letter}
 use Rattle.transit.specs.declared.message.Message.{Message}

@@ -1,5 +1,5 @@
 use Rattle.std.proofs.Common.{◌∙◌, ℕ, ◌↔◌, subst}
-use Rattle.lists.specs.Places.{Has}
+use Rattle.base.specs.Places.{Has}
 use Rattle.book.specs.Waiting.{IsNamed}
 use Rattle.book.specs.State.{State}
 use Rattle.book.proofs.Keeps.GoingOn.{named_ready, named_within, lets_named}

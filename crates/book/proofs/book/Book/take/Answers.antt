@@ -16,7 +16,7 @@ use Rattle.book.specs.Calls.{MaySignal}
 use Rattle.book.specs.Holding.{state_of}
 use Rattle.book.specs.State.{State, time_of}
 use Rattle.book.specs.Transitions.{trimmed_by, book_taken}
-use Rattle.book.specs.Told.{IsTold}
+use Rattle.book.specs.Told.{Represents}
 use Rattle.book.proofs.Calling.Calls.{own_read}
 use Rattle.book.proofs.Calling.Takes.{IsReceiving, reading, may_trim, log_is, taking_address, took_is, IsComeRead, comes, IsFound, received_is, brings_is, receiving, not_idle}
 use Rattle.book.proofs.book.Book.take.Goals.{In-Some, After-has_come, After-index-2, In_ok-message, After-index_mut}
@@ -54,7 +54,7 @@ waits c =
 
 -- it has come exactly where p is ready
 come : (c : After-has_come) → IsReceiving (state_of c.parts.inside) c.args.p (kind_of c.in-Some.awaited)
-    → (s : Sizes) (h : List Event) → IsTold s h c.args.self.now → (c.has_come.result ≡ true) ↔ Ready s h c.args.p
+    → (s : Sizes) (h : List Event) → Represents s h c.args.self.now → (c.has_come.result ≡ true) ↔ Ready s h c.args.p
 come c w =
     let read : IsComeRead (state_of c.parts.inside) c.args.self.now c.args.p (kind_of c.in-Some.awaited)
     c.has_come.result = record {

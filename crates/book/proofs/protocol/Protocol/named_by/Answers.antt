@@ -1,6 +1,6 @@
 use Rattle.std.proofs.Common.{◌≡◌, ◌<◌, ◌↔◌, ℕ, List, Option, map, length, ap, sym, subst}
 use Rattle.std.specs.Option.{option_map}
-use Rattle.lists.specs.Places.{Has}
+use Rattle.base.specs.Places.{Has}
 use Rattle.journal.specs.declared.event.Kind.{Kind}
 use Rattle.book.specs.Awaiting.{kind_of}
 use Rattle.book.specs.Holding.{state_of}

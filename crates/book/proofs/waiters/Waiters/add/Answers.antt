@@ -1,6 +1,6 @@
 use Rattle.std.proofs.Common.{◌≡◌, ℕ, ◌<◌, ◌⊎◌, ◌↔◌, List, true, slice_set, subst, arith}
-use Rattle.lists.specs.Limits.{most_processors}
-use Rattle.lists.specs.Places.{Has}
+use Rattle.base.specs.Limits.{most_processors}
+use Rattle.base.specs.Places.{Has}
 use Rattle.book.specs.Waiters.{places_from}
 use Rattle.book.proofs.Calling.Waiting.{mark_added}
 use Rattle.book.proofs.waiters.Waiters.add.Goals as goal

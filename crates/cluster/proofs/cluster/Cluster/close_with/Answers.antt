@@ -1,8 +1,8 @@
 -- The goals are those of each call that enters, over records of this one's steps: proofs/Visiting has what they share.
 use Rattle.std.proofs.Common.{map, refl, sym, subst, arith}
 use Rattle.std.specs.Arc.{arc_value}
-use Rattle.replicas.specs.Records.{AreHarvests}
-use Rattle.replicas.specs.Local.{Local}
+use Rattle.cluster.specs.Copies.Records.{AreHarvests}
+use Rattle.cluster.specs.Copies.Local.{Local}
 use Rattle.cluster.specs.Seats.{local}
 use Rattle.cluster.specs.Closing.{MayHold, MayMake}
 use Rattle.cluster.proofs.ClosingCalls.{marked_well, may_close, has_closed, call_of_close, Closed, closed_visit, closed_good, closed_done}

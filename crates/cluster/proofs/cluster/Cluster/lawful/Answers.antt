@@ -4,9 +4,9 @@ use Rattle.journal.specs.Sizes.{Sizes}
 use Rattle.turn.specs.Chairs.{LockId}
 use Rattle.book.specs.State.{State}
 use Rattle.book.specs.Transitions.{new_book}
-use Rattle.replicas.specs.Local.{new_local}
-use Rattle.replicas.specs.Sound.{AreSizes}
-use Rattle.cluster.specs.Kept.{IsKept, nothing_seen, sizes_of}
+use Rattle.cluster.specs.Copies.Local.{new_local}
+use Rattle.cluster.specs.Copies.Sound.{AreSizes}
+use Rattle.cluster.specs.Kept.{LockInvariant, nothing_seen, book_sizes}
 use Rattle.cluster.proofs.Starting.{new_sizes, start_kept, new_covered}
 use Rattle.cluster.proofs.cluster.Cluster.lawful.Goals as goal
 
@@ -27,14 +27,14 @@ new-requires-4-clause-fact g c =
     let s = c.args.shape in
     let size = ap (λ (x : Sizes). x.processors) c.shape.view_is in
     let book = c.in_ok-book.ensures ∙ ap new_book c.shape.view_is in
-    let P : State → ℕ → Type 0 = λ b n. IsKept s [] b (replicate n (nothing_seen (sizes_of b))) in
+    let P : State → ℕ → Type 0 = λ b n. LockInvariant s [] b (replicate n (nothing_seen (book_sizes b))) in
     let kept = start_kept s c.requires.sizes.some_processors in
     (s, [], subst₂ P (sym book) (sym size) (rw (new_sizes s c.requires.sizes.some_words) kept))
 
 pub seat_all-all-requires-clause-chairs : goal.seat_all-all-requires-clause-chairs
 seat_all-all-requires-clause-chairs g c κs within =
-    let same : sizes_of c.in_ok-book.book ≡ c.args.shape =
-    ap sizes_of (c.in_ok-book.ensures ∙ ap new_book c.shape.view_is)
+    let same : book_sizes c.in_ok-book.book ≡ c.args.shape =
+    ap book_sizes (c.in_ok-book.ensures ∙ ap new_book c.shape.view_is)
     ∙ new_sizes c.args.shape c.requires.sizes.some_words in
     let made = c.in_ok-turn.ensures in (
       (let long = made.1 in let size = ap (λ (x : Sizes). x.processors) c.shape.view_is in omega arith),

@@ -1,7 +1,7 @@
 use Rattle.std.proofs.Common.{ℕ, ◌≡◌, ◌≤◌, ◌+◌, ◌++◌, vec_len, vec_capacity, length, slice_get, Some}
 use Rattle.std.specs.Vec.Iter.{into_iter_items}
 use Rattle.cluster.specs.declared.processor.Parts.{Parts}
-use Rattle.replicas.specs.Local.{Local}
+use Rattle.cluster.specs.Copies.Local.{Local}
 use Rattle.cluster.specs.Clusters.{AreParts, IsSeatedAt}
 use Rattle.cluster.proofs.cluster.Cluster.seat_all.Given as goal
 

@@ -1,8 +1,8 @@
 use Rattle.std.proofs.Common.{refl, ap, ◌∙◌}
 use Rattle.transit.specs.Letters.{letter}
-use Rattle.replicas.specs.Local.{Local}
-use Rattle.replicas.proofs.Calls.{waits_to_take}
-use Rattle.replicas.proofs.Taking.{after_same}
+use Rattle.cluster.specs.Copies.Local.{Local}
+use Rattle.cluster.proofs.copies.Calls.{waits_to_take}
+use Rattle.cluster.proofs.copies.Taking.{after_same}
 use Rattle.cluster.specs.Seats.{local}
 use Rattle.cluster.proofs.Visiting.{book_found, may_give_back, visited, left_as}
 use Rattle.cluster.proofs.Made.{refused_with, call_outside, call_spent, unchanged_sound}

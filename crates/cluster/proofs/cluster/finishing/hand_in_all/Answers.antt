@@ -2,7 +2,7 @@ use Rattle.std.proofs.Common.{◌≡◌, Some, map, slice_get, subst, arith}
 use Rattle.std.specs.Vec.{vec_items}
 use Rattle.std.proofs.lemmas.List.{length-map}
 use Rattle.cluster.specs.Finishing.{IsFinishing}
-use Rattle.replicas.proofs.Steps.{item_at}
+use Rattle.cluster.proofs.copies.Steps.{item_at}
 use Rattle.cluster.proofs.FinishingCalls.{mapped_at, may_last_block, fits_last_block, one_more_block}
 use Rattle.cluster.proofs.cluster.finishing.hand_in_all.Goals as goal
 use Rattle.cluster.proofs.cluster.finishing.hand_in_all.Goals.{After-index-blocks-p}

@@ -2,7 +2,7 @@ use Rattle.std.proofs.Common.{List, map}
 use Rattle.std.specs.Vec.{vec_items}
 use Rattle.journal.specs.declared.event.Event.{Event}
 use Rattle.journal.specs.Sizes.{Sizes}
-use Rattle.replicas.specs.Local.{Local}
+use Rattle.cluster.specs.Copies.Local.{Local}
 use Rattle.cluster.specs.Finishing.{AreBlocksOf, IsFinishing}
 use Rattle.cluster.proofs.cluster.finishing.hand_in_all.Given as goal
 

@@ -1,9 +1,9 @@
 use Rattle.std.proofs.Common.{◌≡◌, ◌/◌, Some, slice_get, sym, ap, ◌∙◌, subst, rules, refl}
 use Rattle.std.specs.Result.{result_err}
-use Rattle.replicas.specs.Local.{Local}
+use Rattle.cluster.specs.Copies.Local.{Local}
 use Rattle.cluster.specs.Seats.{local}
 use Rattle.cluster.specs.declared.processor.Processor.TheInside.{Inside}
-use Rattle.replicas.specs.Sound.{IsSound}
+use Rattle.cluster.specs.Copies.Sound.{IsSound}
 use Rattle.cluster.proofs.Accessing.{copy_found, access_past, access_at}
 use Rattle.cluster.proofs.processor.Processor.admit.Given as given
 use Rattle.cluster.proofs.processor.Processor.admit.Goals as goal

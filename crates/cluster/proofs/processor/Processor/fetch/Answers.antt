@@ -1,6 +1,6 @@
 use Rattle.std.proofs.Common.{◌≡◌, Some, slice_get, sym, subst, arith}
 use Rattle.page.specs.declared.page.Access.TheVariants.{Invalid}
-use Rattle.replicas.specs.Sound.{IsSound}
+use Rattle.cluster.specs.Copies.Sound.{IsSound}
 use Rattle.cluster.proofs.Covering.{covers}
 use Rattle.cluster.proofs.Fetching.{missing_fit, missing_countable, fetched_newest, fetched_sound, stale_read, fetch_done}
 use Rattle.cluster.proofs.processor.Processor.fetch.Given as given

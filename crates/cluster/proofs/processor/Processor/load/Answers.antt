@@ -2,9 +2,9 @@ use Rattle.std.proofs.Common.{◌≡◌, ◌/◌, ◌%◌, ◌∷◌, [], ◌∙
 use Rattle.journal.specs.declared.event.Kind.TheVariants.{Load}
 use Rattle.journal.specs.Did.{event}
 use Rattle.journal.specs.Events.{part}
-use Rattle.replicas.specs.Local.{Local, calls, noted}
+use Rattle.cluster.specs.Copies.Local.{Local, calls, noted}
 use Rattle.page.specs.declared.page.Access.TheVariants.{Valid}
-use Rattle.replicas.specs.Sound.{IsSound}
+use Rattle.cluster.specs.Copies.Sound.{IsSound}
 use Rattle.cluster.proofs.Covering.{covers}
 use Rattle.cluster.proofs.Refusing.{copy_read, place_within, room_within}
 use Rattle.cluster.proofs.Noting.{offset_within, loaded}

@@ -1,7 +1,7 @@
 use Rattle.std.proofs.Common.{sym, ap, subst}
 use Rattle.cluster.specs.declared.keeper.View.{View}
 use Rattle.turn.specs.Chairs.{lock}
-use Rattle.replicas.specs.Sound.{IsSound}
+use Rattle.cluster.specs.Copies.Sound.{IsSound}
 use Rattle.cluster.proofs.Starting.{start_sound, start_parts}
 use Rattle.cluster.proofs.processor.Processor.seated.Goals as goal
 

@@ -1,6 +1,6 @@
 use Rattle.std.proofs.Common.{◌≡◌, ◌/◌, Some, slice_get, sym, subst, arith}
 use Rattle.page.specs.declared.page.Access.TheVariants.{Valid}
-use Rattle.replicas.specs.Sound.{IsSound}
+use Rattle.cluster.specs.Copies.Sound.{IsSound}
 use Rattle.cluster.proofs.Covering.{covers}
 use Rattle.cluster.proofs.Refusing.{copy_read, place_within, room_within}
 use Rattle.cluster.proofs.Noting.{offset_within, stored, store_done}

@@ -1,13 +1,13 @@
 use Rattle.std.proofs.Common.{◌≡◌, ◌+◌, Some, length, slice_get, refl, sym, ap, subst, ◌∙◌, arith}
 use Rattle.std.proofs.lemmas.Bool.{false≢true}
 use Rattle.std.proofs.lemmas.Option.{same_Some}
-use Rattle.explore.specs.declared.machine.Machine.{Machine}
+use Rattle.explore.specs.declared.flat_state.FlatState.{FlatState}
 use Rattle.explore.specs.declared.search.Search.{Search}
 use Rattle.explore.specs.Found.{states_of}
 use Rattle.explore.specs.Followed.{AreFollowed, MayFollowAll}
 use Rattle.explore.specs.Machines.{Knows}
 use Rattle.explore.specs.Nexts.{AreNexts}
-use Rattle.explore.specs.Searched.{IsNoted}
+use Rattle.explore.specs.Searched.{OutcomesNoted}
 use Rattle.explore.proofs.Searched.{looked, noted_kept, noted_skips}
 use Rattle.explore.proofs.search.Search.look_at.Goals.{then-is_over+in_ok-note_end, else-is_over}
 use Rattle.explore.proofs.search.Search.look_at.Goals as goal
@@ -117,16 +117,16 @@ returns-clause-looked c = λ s may.
       | then-is_over+in_ok-note_end w ↦ ap (λ (z : Search). z.found) w.self-is ∙ w.in_ok-note_end.ensures.found
       | else-is_over w ↦ ap (λ (z : Search). z.found) w.self-is
     ] in
-    let each : (m : Machine) → slice_get (states_of x.found) place ≡ Some m → AreNexts s m nexts =
+    let each : (m : FlatState) → slice_get (states_of x.found) place ≡ Some m → AreNexts s m nexts =
     (λ m at. subst (λ y. AreNexts s y nexts) (same_Some f m (sym c.at.ensures ∙ at)) are) in
     let may_follow : MayFollowAll s x.found place nexts =
     record { lawful = may.lawful.lawful; found = may.searched.found; within = may.more; next = each } in
     let followed =
     subst (λ y. AreFollowed s y new place (length nexts)) same
     (c.in_ok-follow_all.ensures s (subst (λ y. MayFollowAll s y place nexts) (sym same) may_follow)) in
-    let noted : IsNoted s c.if-is_over.self (place + 1) = elim c.if-is_over.branch [
+    let noted : OutcomesNoted s c.if-is_over.self (place + 1) = elim c.if-is_over.branch [
       | then-is_over+in_ok-note_end w ↦
-          subst (λ z. IsNoted s z (place + 1)) (sym w.self-is) (w.in_ok-note_end.ensures.noted s (record {
+          subst (λ z. OutcomesNoted s z (place + 1)) (sym w.self-is) (w.in_ok-note_end.ensures.noted s (record {
             lawful = may.lawful;
             found = may.searched.found;
             within = may.more;
@@ -136,7 +136,7 @@ returns-clause-looked c = λ s may.
             noted = may.searched.noted;
           }))
       | else-is_over w ↦
-          subst (λ z. IsNoted s z (place + 1)) (sym w.self-is)
+          subst (λ z. OutcomesNoted s z (place + 1)) (sym w.self-is)
           (noted_skips s (states_of x.found) place f c.at.ensures may.lawful.lawful.but_uneven.one_each
           (λ g knows none.
           false≢true (sym w.if-is_over.false ∙ c.is_over.ensures.1 (λ p k is. none p k ((are g knows p k).0 is)))) x refl

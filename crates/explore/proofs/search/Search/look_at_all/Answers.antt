@@ -1,7 +1,7 @@
 use Rattle.std.proofs.Common.{ℕ, ◌≡◌, ◌+◌, ◌<◌, ◌≤◌, ◌↔◌, inl, inr, Bool, false, IsTrue, length, subst, sym, ◌∙◌, arith}
 use Rattle.std.proofs.lemmas.Bool.{cases_lt, false≢true}
 use Rattle.explore.specs.Found.{states_of}
-use Rattle.explore.specs.Searched.{IsLookedAt, IsSearched}
+use Rattle.explore.specs.Searched.{IsLookedAt, VisitedUpTo}
 use Rattle.explore.proofs.Machines.{none_of}
 use Rattle.explore.proofs.search.Search.look_at_all.Goals as goal
 
@@ -22,7 +22,7 @@ pub returns-then-place-states-clause-looked : goal.returns-then-place-states-cla
 returns-then-place-states-clause-looked g c = λ s lawful searched. record {
   found = (c.loop-place.invariant.searched s lawful searched).found;
   searched = λ few.
-      subst (IsSearched s c.loop-place.self) (c.if-place-states.true ∙ c.len-states.ensures.count)
+      subst (VisitedUpTo s c.loop-place.self) (c.if-place-states.true ∙ c.len-states.ensures.count)
       (c.loop-place.invariant.searched s lawful searched);
 }
 
@@ -90,7 +90,7 @@ returns-clause-looked g c = λ s lawful searched.
           let within = old.within in
           let over = c.loop-place-test.false in
           let end : c.loop-place.place ≡ length (states_of c.loop-place.self.found) = omega arith in
-          subst (IsSearched s c.loop-place.self) end old;
+          subst (VisitedUpTo s c.loop-place.self) end old;
     }
 
 pub returns-clause-few : goal.returns-clause-few

@@ -1,6 +1,6 @@
 use Rattle.std.proofs.Common.{map, subst, sym, ap, ◌∙◌}
 use Rattle.lrc_script.specs.Plan.{plan_of}
-use Rattle.beginnings.proofs.Neighbours.Law.{neighbours}
+use Rattle.explore.proofs.prefixes.Neighbours.Law.{neighbours}
 use Rattle.explore.specs.Explored.{AreOutcomes, replies_of}
 use Rattle.explore.proofs.Searched.{all_outcomes, no_neighbours}
 use Rattle.explore.proofs.search.Search.race_free.Goals as goal

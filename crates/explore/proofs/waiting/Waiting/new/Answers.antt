@@ -4,10 +4,10 @@ use Rattle.std.proofs.lemmas.Bool.{false≢true}
 use Rattle.std.proofs.lemmas.Option.{none-some}
 use Rattle.journal.specs.WellFormed.{Holds}
 use Rattle.judge.specs.Tells.{IsSet}
-use Rattle.lists.proofs.Joined.{has-nil, in_order-nil}
-use Rattle.lists.proofs.Sets.{index-zeros}
+use Rattle.base.proofs.Joined.{has-nil, in_order-nil}
+use Rattle.base.proofs.Sets.{index-zeros}
 use Rattle.explore.specs.Waiting.{AreAsked}
-use Rattle.explore.specs.Waits.{AreKept, arrivals_open, ending, seated}
+use Rattle.explore.specs.Waits.{AwaitedAreKept, arrivals_open, ending, seated}
 use Rattle.explore.proofs.waiting.Waiting.new.Goals as goal
 
 -- a list of one item over and over, with that past its end
@@ -16,7 +16,7 @@ always zero p d = refl
 always (suc n) zero d = refl
 always (suc n) (suc p) d = always n p d
 
-no_wait : AreKept [] (replicate 16 None)
+no_wait : AwaitedAreKept [] (replicate 16 None)
 no_wait p k = (
   λ is. absurd (none-some k (sym (ap ending (always 16 p None)) ∙ is)),
   λ waits. absurd (none-some _ waits.last.does),

@@ -8,7 +8,7 @@ use Rattle.journal.specs.WellFormed.{Holds}
 use Rattle.judge.specs.Tells.{IsSet}
 use Rattle.judge.proofs.Noting.{count_small, counts_next, holders_next, sets_next}
 use Rattle.judge.proofs.Refusing.{lax_allowed}
-use Rattle.explore.specs.Waiting.{IsDue}
+use Rattle.explore.specs.Waiting.{IsEnabled}
 use Rattle.explore.specs.Waits.{seated}
 use Rattle.explore.proofs.Asked.{waits_next}
 use Rattle.explore.proofs.Following.{taking_waits, waits_only}
@@ -23,11 +23,11 @@ use Rattle.judge.specs.Why.{WaitsFor}
 use Rattle.journal.specs.declared.event.Kind.{Kind}
 use Rattle.explore.proofs.waiting.Waiting.note.Goals as goal
 
-due_small : (x : Waiting) (p : ℕ) (k : Kind) → IsDue x p k → p < 16
+due_small : (x : Waiting) (p : ℕ) (k : Kind) → IsEnabled x p k → p < 16
 due_small x p k due = let few = due.small.processors in let lt = due.may_follow.processor in omega arith
 
 -- counts are below the number of events
-arrivals_small : (x : Waiting) (p q : ℕ) (k : Kind) → IsDue x p k → slice_index x.arrivals q < 2 ^ 22
+arrivals_small : (x : Waiting) (p q : ℕ) (k : Kind) → IsEnabled x p k → slice_index x.arrivals q < 2 ^ 22
 arrivals_small x p q k due =
     let is = due.tells.arrivals q in
     let le = count_small is_arrive due.events q in

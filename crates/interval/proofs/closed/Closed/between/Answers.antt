@@ -2,14 +2,14 @@ use Rattle.std.proofs.Common.{rules, List, map, Bor, ap, arith, ◌∙◌}
 use Rattle.std.specs.List.{flat_map}
 use Rattle.std.proofs.lemmas.List.{take_all}
 use Rattle.std.proofs.lemmas.List.Sorted.{IsNonDecreasingBy-from_sort_by_key}
-use Rattle.interval.specs.declared.kept.Kept.{Kept}
+use Rattle.interval.specs.declared.kept_interval.KeptInterval.{KeptInterval}
 use Rattle.interval.specs.Closings.{sent_interval}
 use Rattle.interval.proofs.News.Gathered.{sent_more, rises-news}
 use Rattle.interval.proofs.News.InClosingOrder.{between_in_order}
 use Rattle.interval.proofs.Order.Sorted.{sorted_all}
 use Rattle.interval.proofs.closed.Closed.between.Goals as goal
 
-abbrev kept : Bor Kept → Kept
+abbrev kept : Bor KeptInterval → KeptInterval
 kept k = k.now
 
 pub loop-kept-init : goal.loop-kept-init
@@ -22,7 +22,7 @@ loop-kept-preserved c =
 
 pub returns-clause-value : goal.returns-clause-value
 returns-clause-value c =
-    let sorted = IsNonDecreasingBy-from_sort_by_key (λ (k : Bor Kept). k.now.place) _
+    let sorted = IsNonDecreasingBy-from_sort_by_key (λ (k : Bor KeptInterval). k.now.place) _
     c.sort_unstable_by_key.ensures.sorted (λ a r q k. search rules) in
     let all =
     sorted_all kept _ c.in_ok-news.news.items c.sort_unstable_by_key.new.self.items
@@ -30,7 +30,7 @@ returns-clause-value c =
     c.self.view_is)
     c.in_ok-news.ensures c.sort_unstable_by_key.ensures.permutation sorted in
     c.loop-kept.invariant
-    ∙ ap (λ (ks : List (Bor Kept)). flat_map sent_interval (map kept ks))
+    ∙ ap (λ (ks : List (Bor KeptInterval)). flat_map sent_interval (map kept ks))
     (take_all c.loop-kept.kept-index c.deref-kept-items.result.now (omega arith) ∙ c.deref-kept-items.ensures.value)
     ∙ ap (flat_map sent_interval) all
 

@@ -1,7 +1,7 @@
 use Rattle.std.proofs.Common.{◌≡◌, ◌<◌, ◌+◌, ◌==◌, ℕ, List, length, slice_index, count_by, ap, sym, subst, arith, ◌∙◌}
 use Rattle.std.specs.List.{flat_map}
 use Rattle.std.proofs.lemmas.List.{take_all, get_or-replicate}
-use Rattle.interval.specs.Counts.{AreCounted, HasRoom}
+use Rattle.interval.specs.Counts.{CountsGrew, HasRoom}
 use Rattle.interval.specs.Queues.{Queue}
 use Rattle.interval.proofs.Counts.Counted.{counted_more, room_more}
 use Rattle.interval.proofs.Counts.Walked.{news_pages, news_read, news_total, news_room}
@@ -39,7 +39,7 @@ loop-owner-preserved c =
     c.entry.result c.entry-in-loop-owner.result c.queue-item.result
     c.deref-queue-items.ensures.value c.self.invariant c.loop-owner-test.true c.queue-item.is c.entry.ensures
     c.entry-in-loop-owner.ensures in
-    let Counted : List ℕ → Type 0 = λ ps. AreCounted c.args.base ps c.loop-owner.counts c.count_pages.new.counts in
+    let Counted : List ℕ → Type 0 = λ ps. CountsGrew c.args.base ps c.loop-owner.counts c.count_pages.new.counts in
     counted_more c.args.base (news_pages old new) items c.loop-owner.owner c.queue-item.result c.fill.new.self
     c.loop-owner.counts c.count_pages.new.counts
     c.loop-owner-test.true c.queue-item.is c.loop-owner.invariant (subst Counted (sym read) c.count_pages.ensures)

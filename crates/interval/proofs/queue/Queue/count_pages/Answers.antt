@@ -1,12 +1,12 @@
 use Rattle.std.proofs.Common.{◌≡◌, ◌-◌, ◌+◌, ℕ, List, take, subst, arith}
-use Rattle.interval.specs.declared.kept.Kept.{Kept}
-use Rattle.interval.specs.Counts.{pages_of, pages_of_records, AreCounted}
+use Rattle.interval.specs.declared.kept_interval.KeptInterval.{KeptInterval}
+use Rattle.interval.specs.Counts.{pages_of, pages_of_records, CountsGrew}
 use Rattle.interval.specs.Queues.{within}
 use Rattle.interval.proofs.Counts.Counted.{counted_more, room_more}
 use Rattle.interval.proofs.Counts.Walked.{within_at}
 use Rattle.interval.proofs.queue.Queue.count_pages.Goals as goal
 
-abbrev own : Kept → List ℕ
+abbrev own : KeptInterval → List ℕ
 own k = pages_of_records k.interval.records
 
 pub count_pages-requires : goal.count_pages-requires
@@ -33,6 +33,6 @@ loop-index-preserved c =
     at.0 at.1 c.loop-index.invariant c.count_pages.ensures in
     let next : c.loop-index.index - start + 1 ≡ c.loop-index.index + 1 - start = omega arith in
     let Next : ℕ → Type 0 =
-    λ n. AreCounted c.args.base (pages_of (take n (within c.args.self.now c.args.from c.args.to)))
+    λ n. CountsGrew c.args.base (pages_of (take n (within c.args.self.now c.args.from c.args.to)))
     c.args.counts.now c.count_pages.new.counts in
     subst Next next more

@@ -1,13 +1,13 @@
 use Rattle.std.proofs.Common.{◌≡◌, ◌-◌, ◌+◌, ◌++◌, ◌∷◌, [], ℕ, List, map, take, Bor, sym, ap, arith, ◌∙◌}
 use Rattle.std.proofs.lemmas.List.{append-nil, map-append, take_all}
-use Rattle.interval.specs.declared.kept.Kept.{Kept}
+use Rattle.interval.specs.declared.kept_interval.KeptInterval.{KeptInterval}
 use Rattle.interval.specs.Queues.{within}
 use Rattle.interval.proofs.Counts.Walked.{within_at}
 use Rattle.interval.proofs.News.Gathered.{grown_more, within_few}
 use Rattle.interval.proofs.queue.Queue.gather.Goals as goal
 
-abbrev now : List (Bor Kept) → List Kept
-now ks = map (λ (k : Bor Kept). k.now) ks
+abbrev now : List (Bor KeptInterval) → List KeptInterval
+now ks = map (λ (k : Bor KeptInterval). k.now) ks
 
 pub loop-index-init : goal.loop-index-init
 loop-index-init c =
@@ -27,7 +27,7 @@ loop-index-preserved c =
     (omega arith) c.index.ensures in
     let next : c.loop-index.index - start + 1 ≡ c.loop-index.index + 1 - start = omega arith in
     ap now c.in_ok-push.ensures.items
-    ∙ map-append (λ (k : Bor Kept). k.now) c.loop-index.news.items (c.index.result ∷ [])
+    ∙ map-append (λ (k : Bor KeptInterval). k.now) c.loop-index.news.items (c.index.result ∷ [])
     ∙ grown_more (now c.args.news.now.items) (now c.loop-index.news.items) news (c.loop-index.index - start)
     c.index.result.now at.0 at.1 c.loop-index.invariant
     ∙ ap (λ (n : ℕ). now c.args.news.now.items ++ take n news) next
@@ -38,5 +38,5 @@ returns c =
     let len = c.len.ensures in
     let few = within_few _ c.args.self.now c.args.from c.args.to c.self.view_is in
     c.loop-index.invariant
-    ∙ ap (λ (ks : List Kept). now c.args.news.now.items ++ ks)
+    ∙ ap (λ (ks : List KeptInterval). now c.args.news.now.items ++ ks)
     (take_all (c.loop-index.index - start) (within c.args.self.now c.args.from c.args.to) (omega arith))

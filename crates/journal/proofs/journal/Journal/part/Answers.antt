@@ -1,5 +1,5 @@
 use Rattle.std.proofs.Common.{ℕ, ◌≤◌, List, Option, Some, None, MatchOption, IfSome, length, drop, length-drop, arith}
-use Rattle.lists.specs.Limits.{most_held}
+use Rattle.base.specs.Limits.{most_held}
 use Rattle.journal.specs.declared.event.Event.{Event}
 use Rattle.journal.specs.Cuts.{IsCut, NoCut}
 use Rattle.journal.proofs.journal.Journal.part.Goals as goal

@@ -4,7 +4,7 @@ use Rattle.journal.specs.Log.{Log}
 use Rattle.journal.specs.InRange.{AddressesInRange, ProcessorsInRange}
 use Rattle.journal.specs.Opening.{IsOpening}
 use Rattle.journal.specs.Episodes.{AreEpisodes}
-use Rattle.journal.specs.Kept.{IsKept}
+use Rattle.journal.specs.Kept.{IsBaseState}
 use Rattle.journal.proofs.Journals.Held.{processors_part, processors_cut, addresses_cut, opening_cut, behind_whole}
 use Rattle.journal.proofs.journal.Journal.take_off.Goals as goal
 
@@ -38,7 +38,7 @@ invariant_of-self c =
       in_range =
           subst (AddressesInRange j.addresses) (sym items)
           (addresses_cut j.processors c.args.taken j.events.items j.addresses held.in_range);
-      kept = subst (λ (l : Log). IsKept l.addresses c.args.kept) (sym c.self.view_is) c.requires.kept;
+      kept = subst (λ (l : Log). IsBaseState l.addresses c.args.kept) (sym c.self.view_is) c.requires.kept;
       episodes =
           subst (λ (xs : List Event). AreEpisodes j.processors xs c.of-self-inside.result) behind
           c.of-self-inside.ensures;

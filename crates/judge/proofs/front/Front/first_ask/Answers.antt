@@ -3,14 +3,14 @@ use Rattle.std.specs.Prelude.{None}
 use Rattle.std.proofs.lemmas.Option.{none-some}
 use Rattle.journal.specs.declared.event.Event.{Event}
 use Rattle.judge.specs.declared.front.Front.{Front}
-use Rattle.judge.specs.declared.front.Last.{Last}
-use Rattle.judge.specs.Tells.{IsFirstAsk, NobodyAsks, Tells}
+use Rattle.judge.specs.declared.front.LastEvent.{LastEvent}
+use Rattle.judge.specs.Tells.{IsFirstAsk, NobodyAsks, IsFrontOf}
 use Rattle.judge.proofs.Asking.{AreFrom, AsksAt, IsFound, first_found, from_lower, from_same, none_found}
 use Rattle.judge.proofs.front.Front.first_ask.Goals as goal
 use Rattle.judge.proofs.front.Front.first_ask.Goals.{in-Some+then-place-limit, in-Some+else-place-limit, in_default}
 
 -- what is found by the end is the first ask
-answer : (j : List Event) (x : Front) (l limit : ℕ) (found : Option (ℕ × ℕ)) → Tells j x
+answer : (j : List Event) (x : Front) (l limit : ℕ) (found : Option (ℕ × ℕ)) → IsFrontOf j x
     → IsFound x.last x.place l found limit → AreFrom x.last l limit 16
     → MatchOption found (NobodyAsks j l) (λ (a : ℕ × ℕ). IsFirstAsk j l a.0 a.1)
 answer j x l limit None tells is from = none_found j x.last l limit tells.lasts from tells.long (is ∙ tells.place)
@@ -29,12 +29,12 @@ pub loop-processor-init : goal.loop-processor-init
 loop-processor-init c = record { found = refl; least = λ q i lt asks. absurd (omega arith) }
 
 -- what is kept, by another name
-found_is : (last : List (Option Last)) (end l a b : ℕ) (x y : Option (ℕ × ℕ)) → x ≡ y → a ≡ b
+found_is : (last : List (Option LastEvent)) (end l a b : ℕ) (x y : Option (ℕ × ℕ)) → x ≡ y → a ≡ b
     → IsFound last end l y b → IsFound last end l x a
 found_is last end l a b x y same equal is =
     subst (λ o. IsFound last end l o a) (sym same) (subst (IsFound last end l y) (sym equal) is)
 
-from_is : (last : List (Option Last)) (l a b n : ℕ) → a ≡ b → AreFrom last l b n → AreFrom last l a n
+from_is : (last : List (Option LastEvent)) (l a b n : ℕ) → a ≡ b → AreFrom last l b n → AreFrom last l a n
 from_is last l a b n equal from q i lt asks = let le = from q i lt asks in omega arith
 
 pub loop-processor-preserved : goal.loop-processor-preserved

@@ -1,6 +1,6 @@
 use Rattle.std.proofs.Common.{◌+◌, ◌<◌, subst, sym, arith}
 use Rattle.journal.specs.InRange.{ProcessorsInRange}
-use Rattle.judge.specs.declared.gaps.Counts.{Counts}
+use Rattle.judge.specs.declared.gaps.CountedGap.{CountedGap}
 use Rattle.judge.specs.Sizes.{sizes_of}
 use Rattle.judge.specs.Gaps.{AreFew, CountsAmong}
 use Rattle.judge.proofs.Parts.{counts_all, counts_among_next, counts_start}
@@ -10,11 +10,11 @@ pub loop-by-init : goal.loop-by-init
 loop-by-init c = record {
   present = c.requires.tells.1.long.sizes.processors;
   few = (let none = c.none-due.ensures in
-      let P : Counts → Type 0 = λ x. AreFew 0 x in
+      let P : CountedGap → Type 0 = λ x. AreFew 0 x in
       subst P (sym none) (record { writers = omega arith; records = omega arith; words = omega arith }));
   counts = λ j tells.
       (let s = sizes_of c.args.self.now.sizes in
-      let P : Counts → Type 0 =
+      let P : CountedGap → Type 0 =
       λ x. CountsAmong s j c.args.processor c.args.page (λ q. q < 0) x.writers x.records x.words in
       subst P (sym c.none-due.ensures) (counts_start s j c.args.processor c.args.page));
 }
@@ -27,7 +27,7 @@ loop-by-preserved c = record {
       (let s = sizes_of c.args.self.now.sizes in
       let old = c.loop-by.due in
       let now = c.part.result in
-      let P : Counts → Type 0 =
+      let P : CountedGap → Type 0 =
       λ x. CountsAmong s j c.args.processor c.args.page (λ q. q < c.loop-by.by + 1) x.writers x.records x.words in
       subst P (sym c.and-due.ensures.sum)
       (counts_among_next s j c.args.processor c.args.page c.loop-by.by old.writers old.records old.words now.writers

@@ -7,7 +7,7 @@ use Rattle.journal.specs.Did.{event}
 use Rattle.journal.specs.Entries.{entry}
 use Rattle.judge.specs.Sizes.{sizes_of}
 use Rattle.judge.specs.Gaps.{StoresAt, StoresInPage, StoresWord}
-use Rattle.judge.specs.Tallies.{row_of}
+use Rattle.judge.specs.Tallies.{row_index}
 use Rattle.judge.proofs.InGaps.{fetched_none}
 use Rattle.judge.proofs.Rows.{tally_none}
 use Rattle.judge.proofs.gaps.Gaps.new.Goals as goal
@@ -33,7 +33,7 @@ returns-clause-tells c =
         words_marks = c.in_ok-new-3.ensures.marks;
       };
       are = record {
-        fetched = λ n p lt. fetched_none s p n (entry c.in_ok-vec.field-0.items (row_of n p)) (λ q. zeros (row_of n p) q);
+        fetched = λ n p lt. fetched_none s p n (entry c.in_ok-vec.field-0.items (row_index n p)) (λ q. zeros (row_index n p) q);
         intervals =
             tally_none (StoresInPage s []) (λ z. z) (StoresInPage s []) 0 c.in_ok-new-2.field-0
             c.in_ok-new-2.ensures.empty c.in_ok-new-2.ensures.unmarked (λ m r z h. nothing h.0 r z h.1.0)

@@ -2,7 +2,7 @@ use Rattle.std.proofs.Common.{ℕ, ◌≤◌, ◌<◌, subst, sym, ap, ◌∙◌
 use Rattle.journal.specs.Copies.{HasCount}
 use Rattle.judge.specs.Gaps.{StoresInPage}
 use Rattle.judge.specs.Sizes.{sizes_of}
-use Rattle.judge.specs.Tallies.{is_between, numbers, row_of}
+use Rattle.judge.specs.Tallies.{is_between, numbers, row_index}
 use Rattle.judge.proofs.Rows.{row_counts}
 use Rattle.judge.proofs.gaps.Gaps.records.Goals as goal
 
@@ -17,5 +17,5 @@ returns c = λ j tells.
     c.count.ensures
     ∙ ap (λ r. count_by (is_between c.args.from c.args.to) (numbers g.intervals.rows.items r)) c.row_at.ensures in
     subst (HasCount In) (sym count)
-    (row_counts (StoresInPage s j n q) (λ k. k) (numbers g.intervals.rows.items (row_of n q)) c.args.from c.args.to
+    (row_counts (StoresInPage s j n q) (λ k. k) (numbers g.intervals.rows.items (row_index n q)) c.args.from c.args.to
     (tells.are.intervals.rows n q c.requires.by))

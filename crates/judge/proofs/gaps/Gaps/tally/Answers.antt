@@ -12,7 +12,7 @@ use Rattle.judge.specs.declared.gaps.Gaps.{Gaps}
 use Rattle.judge.specs.declared.tally.Tally.{Tally}
 use Rattle.judge.specs.Sizes.{sizes_of}
 use Rattle.judge.specs.Gaps.{AreGapsOf, TellsGaps, StoresAt, StoresInPage, StoresWord}
-use Rattle.judge.specs.Tallies.{Adds, IsTally, row_of}
+use Rattle.judge.specs.Tallies.{Adds, IsTallyOf, row_index}
 use Rattle.judge.proofs.Rows.{tally_next}
 use Rattle.judge.proofs.InGaps.{fetched_other, pages_next, stores_bound, stores_next, words_next}
 use Rattle.judge.proofs.gaps.Gaps.tally.Goals as goal
@@ -27,27 +27,27 @@ own_few j p = count_by-le-length (λ (e : Event). (e.processor == p) && is_closi
 -- what both tallies add is what is kept after the store
 stored : (g : Gaps) (j : List Event) (q a v k n : ℕ) (intervals words : Tally) → TellsGaps j g → q < 16
     → k ≡ count_of is_closing j q → n ≡ a / g.sizes.words
-    → Adds g.intervals intervals (row_of n q) (row_of n q) k → Adds g.words words (row_of n q) (row_of a q) k
+    → Adds g.intervals intervals (row_index n q) (row_index n q) k → Adds g.words words (row_index n q) (row_index a q) k
     → AreGapsOf (did j q (Store a v)) (record g { intervals = intervals; words = words })
 stored g j q a v k n intervals words tells lt is page first second = record {
-  fetched = λ m p within. fetched_other s j (event q (Store a v)) p m (entry g.fetched.items (row_of m p))
+  fetched = λ m p within. fetched_other s j (event q (Store a v)) p m (entry g.fetched.items (row_index m p))
       (λ w r d. not_fetch q a v p m w r d) (tells.are.fetched m p within);
   intervals =
-      subst (λ x. IsTally (StoresInPage s after) (λ z. z) (StoresInPage s after) x intervals) (sym long)
+      subst (λ x. IsTallyOf (StoresInPage s after) (λ z. z) (StoresInPage s after) x intervals) (sym long)
       (tally_next (StoresInPage s j) (StoresInPage s after) (λ z. z) (StoresInPage s j) (StoresInPage s after) (length j)
       g.intervals intervals (a / s.words) (a / s.words) q (count_of is_closing j q) lt (pages_next s j q a v)
       (pages_next s j q a v) (λ h. h, λ h. h) (λ z h. stores_bound j h.0 q z h.1.0)
       (λ z h. stores_bound j h.0 q z h.1.0)
-      (subst (λ x. Adds g.intervals intervals (row_of x q) (row_of x q) (count_of is_closing j q)) page
-      (subst (Adds g.intervals intervals (row_of n q) (row_of n q)) is first)) tells.are.intervals);
+      (subst (λ x. Adds g.intervals intervals (row_index x q) (row_index x q) (count_of is_closing j q)) page
+      (subst (Adds g.intervals intervals (row_index n q) (row_index n q)) is first)) tells.are.intervals);
   words =
-      subst (λ x. IsTally (StoresWord s after) (λ z. z.0) (StoresAt after) x words) (sym long)
+      subst (λ x. IsTallyOf (StoresWord s after) (λ z. z.0) (StoresAt after) x words) (sym long)
       (tally_next (StoresWord s j) (StoresWord s after) (λ z. z.0) (StoresAt j) (StoresAt after) (length j)
       g.words words (a / s.words) a q (count_of is_closing j q, a) lt (words_next s j q a v)
       (stores_next j q a v) (λ h. h.0, λ h. (h, refl)) (λ z h. stores_bound j z.1 q z.0 h.0)
       (λ z h. stores_bound j a q z h)
-      (subst (λ x. Adds g.words words (row_of x q) (row_of a q) (count_of is_closing j q)) page
-      (subst (Adds g.words words (row_of n q) (row_of a q)) is second)) tells.are.words);
+      (subst (λ x. Adds g.words words (row_index x q) (row_index a q) (count_of is_closing j q)) page
+      (subst (Adds g.words words (row_index n q) (row_index a q)) is second)) tells.are.words);
 }
   where
     s : Sizes
@@ -99,7 +99,7 @@ returns-clause-kept c =
     (λ second j tells v.
     let lt = sixteen j g q tells c.requires.processor in
     let first = subst (λ r. Adds g.intervals c.add.new.self r r interval) c.row_at-row.ensures c.in_ok-add.ensures.adds in
-    let both = subst (λ r. Adds g.words c.add-2.new.self r (row_of a q) interval) c.row_at-row.ensures
+    let both = subst (λ r. Adds g.words c.add-2.new.self r (row_index a q) interval) c.row_at-row.ensures
     (subst (λ r. Adds g.words c.add-2.new.self c.row_at-row.result r interval) c.row_at.ensures second) in
     stored g j q a v interval n c.add.new.self c.add-2.new.self tells lt (own j g q c.of.result.now tells lt c.of.ensures)
     refl first both)

@@ -1,6 +1,6 @@
 use Rattle.std.proofs.Common.{◌<◌, ◌≢◌, None, length, is_some, ap, sym, ◌∙◌, subst, arith}
 use Rattle.std.proofs.lemmas.Bool.{false≢true}
-use Rattle.lists.specs.Places.{Has}
+use Rattle.base.specs.Places.{Has}
 use Rattle.lockq.specs.Lock.{Lock, line}
 use Rattle.lockq.proofs.Orderly.{room, orderly-queued}
 use Rattle.lockq.proofs.locks.Lock.ask.Goals as goal

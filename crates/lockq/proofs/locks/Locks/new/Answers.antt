@@ -1,6 +1,6 @@
 use Rattle.std.proofs.Common.{List, length, slice_get, ap, sym, ◌∙◌}
 use Rattle.std.proofs.lemmas.List.{length-replicate}
-use Rattle.lists.proofs.Sets.{slice_get-replicate_found}
+use Rattle.base.proofs.Sets.{slice_get-replicate_found}
 use Rattle.lockq.specs.Lock.{Lock, unheld}
 use Rattle.lockq.proofs.locks.Locks.new.Goals as goal
 

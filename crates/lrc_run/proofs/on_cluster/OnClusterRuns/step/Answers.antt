@@ -1,6 +1,6 @@
 use Rattle.lrc_script.specs.Plan.{plan_of}
-use Rattle.runs.specs.ByTurns.{IsReportBy, orders_of}
-use Rattle.runs.specs.Reports.{IsReportOf}
+use Rattle.conformance.specs.ByTurns.{IsReportBy, orders_of}
+use Rattle.conformance.specs.Reports.{IsReportOf}
 use Rattle.lrc_run.proofs.Failing.{ok_as}
 use Rattle.lrc_run.proofs.on_cluster.OnClusterRuns.step.Goals as goal
 

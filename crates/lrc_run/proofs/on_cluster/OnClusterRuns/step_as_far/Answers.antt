@@ -1,6 +1,6 @@
 use Rattle.lrc_script.specs.Plan.{plan_of}
-use Rattle.runs.specs.ByTurns.{IsEndBy, orders_of}
-use Rattle.runs.specs.Ends.{IsEndOf}
+use Rattle.conformance.specs.ByTurns.{IsEndBy, orders_of}
+use Rattle.conformance.specs.Ends.{IsEndOf}
 use Rattle.lrc_run.proofs.ByTurns.{end_of}
 use Rattle.lrc_run.proofs.Failing.{ok_as}
 use Rattle.lrc_run.proofs.on_cluster.OnClusterRuns.step_as_far.Goals as goal

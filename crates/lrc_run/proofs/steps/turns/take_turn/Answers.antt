@@ -1,6 +1,6 @@
 use Rattle.std.proofs.Common.{subst, sym}
 use Rattle.lrc_script.specs.declared.script.Instruction.{Instruction}
-use Rattle.runs.specs.declared.progress.Progress.{Progress}
+use Rattle.conformance.specs.declared.progress.TurnProgress.{TurnProgress}
 use Rattle.lrc_run.specs.Turns.{TakesTurn}
 use Rattle.lrc_run.specs.Walks.{IsOnItsWay}
 use Rattle.lrc_run.proofs.steps.turns.take_turn.Goals as goal
@@ -11,7 +11,7 @@ returns-in_ok-done-in-Next g c =
     let n = c.go_on.new.processor in
     let section = c.args.section.now in
     let done = c.in_ok-done-in-Next.done in
-    let P : Progress → Type 0 = λ x. TakesTurn section m x n c.progress_after.result in
+    let P : TurnProgress → Type 0 = λ x. TakesTurn section m x n c.progress_after.result in
     subst P (sym c.in-Next.is) (record {
       done = done;
       way = subst (λ (i : Instruction). IsOnItsWay m n i done) c.instruction_at.ensures
@@ -25,7 +25,7 @@ returns-in_ok-done-in-Waits g c =
     let m = c.args.processor.now in
     let n = c.end.new.processor in
     let section = c.args.section.now in
-    let P : Progress → Type 0 = λ x. TakesTurn section m x n c.progress_after-in-Waits.result in
+    let P : TurnProgress → Type 0 = λ x. TakesTurn section m x n c.progress_after-in-Waits.result in
     subst P (sym c.in-Waits.is) (record {
       taken = c.in_ok-done-in-Waits.done;
       takes = c.in_ok-done-in-Waits.ensures.ok;

@@ -1,10 +1,10 @@
 use Rattle.std.proofs.Common.{ℕ, ◌≡◌, List, length, ap, sym, ◌∙◌, subst}
-use Rattle.lists.specs.Records.{harvest}
+use Rattle.base.specs.Records.{harvest}
 use Rattle.page.specs.Changes.{IsRising}
 use Rattle.page.specs.Contents.{Contents}
 use Rattle.page.specs.Carries.{FitsIn}
 use Rattle.page.specs.Marks.{marks_of}
-use Rattle.lists.proofs.Harvests.{harvest_rises}
+use Rattle.base.proofs.Harvests.{harvest_rises}
 use Rattle.page.proofs.Harvested.{harvest_fits}
 use Rattle.page.proofs.Carries.{carries_record, carries_none}
 use Rattle.page.proofs.page.Page.harvest.Goals as goal

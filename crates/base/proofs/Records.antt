@@ -1,0 +1,66 @@
+-- A record does to a page what all the writes that it comes from do.
+use Rattle.std.proofs.Common.{ℕ, ◌≡◌, ◌<◌, ◌↔◌, List, [], ◌∷◌, length, Option, Some, arith, refl, sym, ap, ◌∙◌}
+use Rattle.std.proofs.lemmas.Option.{same_Some}
+use Rattle.std.specs.List.{concat}
+use Rattle.base.specs.Places.{Has}
+use Rattle.base.specs.Writes.{written, LastWrite}
+use Rattle.base.specs.Records.{record_applied, records_applied, IsRecordOf, AreRecordsOf, none, more}
+use Rattle.base.proofs.LastWrites.{length-written, same_written, written-append, last_same}
+
+-- each word of a record is its own last write
+pub last_of_record : {A : Type 0} (f : A → Option (ℕ × ℕ)) (xs : List A) (words : List (ℕ × ℕ)) (o v : ℕ)
+    → IsRecordOf f xs words → LastWrite (λ (x : ℕ × ℕ). Some x) words o v ↔ LastWrite f xs o v
+last_of_record f xs words o v r = (there, back)
+  where
+    there : LastWrite (λ (x : ℕ × ℕ). Some x) words o v → LastWrite f xs o v
+    there l = (r.each o v).0 (l.place, l.at ∙ l.writes)
+
+    back : LastWrite f xs o v → LastWrite (λ (x : ℕ × ℕ). Some x) words o v
+    back l =
+        let h : Has words (o, v) = (r.each o v).1 l in
+        record {
+          place = h.0;
+          item = (o, v);
+          at = h.1;
+          writes = refl;
+          last = λ k y u less at e.
+              let rises : o < y.0 = r.rising h.0 k (o, v) y less h.1 at in
+              let same : y.0 ≡ o = ap (λ (z : ℕ × ℕ). z.0) (same_Some y (o, u) e) in
+              absurd (omega arith);
+        }
+
+-- last values do what all writes do
+pub record_same : {A : Type 0} (f : A → Option (ℕ × ℕ)) (page : List ℕ) (xs : List A) (words : List (ℕ × ℕ))
+    → IsRecordOf f xs words → record_applied page words ≡ written f page xs
+record_same f page xs words r =
+    same_written (λ (x : ℕ × ℕ). Some x) f page words xs (λ o v. last_of_record f xs words o v r)
+
+-- records in turn do what all writes of their groups do
+pub records_same : (f : ℕ → Option (ℕ × ℕ)) (page : List ℕ) {gs : List (List ℕ)} {rs : List (List (ℕ × ℕ))}
+    → AreRecordsOf f gs rs → records_applied page rs ≡ written f page (concat gs)
+records_same f page none = refl
+records_same f page (more {g = g} {r = r} {gs = gs} {rs = rs} here rest) =
+    records_same f (record_applied page r) rest
+    ∙ ap (λ (p : List ℕ). written f p (concat gs)) (record_same f page g r here)
+    ∙ sym (written-append f page g (concat gs))
+
+-- a record of one list is a record of each list that does the same to all words
+pub record_moved : {A B : Type 0} (f : A → Option (ℕ × ℕ)) (g : B → Option (ℕ × ℕ)) (xs : List A) (ys : List B)
+    (words : List (ℕ × ℕ))
+    → ((page : List ℕ) → written f page xs ≡ written g page ys) → IsRecordOf f xs words → IsRecordOf g ys words
+record_moved f g xs ys words same r = record {
+  each =
+      λ o v. (
+        λ h. last_same f g xs ys o v same ((r.each o v).0 h),
+        λ l. (r.each o v).1
+            (last_same g f ys xs o v (λ page. sym (same page)) l),
+      );
+  rising = r.rising;
+}
+
+-- records keep the number of words
+pub length-records_applied : (page : List ℕ) (rs : List (List (ℕ × ℕ)))
+    → length (records_applied page rs) ≡ length page
+length-records_applied page [] = refl
+length-records_applied page (r ∷ rs) =
+    length-records_applied (record_applied page r) rs ∙ length-written (λ (x : ℕ × ℕ). Some x) page r

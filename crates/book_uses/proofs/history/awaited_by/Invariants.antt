@@ -1,9 +1,0 @@
-use Rattle.std.proofs.Common.{◌≤◌, length}
-use Rattle.book_uses.proofs.Reading.{NoneFrom}
-use Rattle.book_uses.proofs.history.awaited_by.Given as goal
-
-abbrev pub invariant-loop-left : goal.invariant-loop-left
-invariant-loop-left l = record { none : NoneFrom l.history l.p l.left; within : l.left ≤ length l.history }
-
-abbrev pub decreases-loop-left : goal.decreases-loop-left
-decreases-loop-left l = l.left

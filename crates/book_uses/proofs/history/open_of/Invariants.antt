@@ -1,6 +1,0 @@
-use Rattle.std.proofs.Common.{◌≡◌, take}
-use Rattle.journal.specs.Groups.{since}
-use Rattle.book_uses.proofs.history.open_of.Given as goal
-
-abbrev pub invariant-loop-event : goal.invariant-loop-event
-invariant-loop-event l = l.events.items ≡ since (take l.event-index l.history) l.p

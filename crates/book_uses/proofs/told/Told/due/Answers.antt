@@ -1,8 +1,0 @@
-use Rattle.book_uses.proofs.Calls.{may_look}
-use Rattle.book_uses.proofs.told.Told.due.Goals as goal
-
-pub due-requires : goal.due-requires
-due-requires c = record {
-  call = may_look _ c.self.inside.history.items c.self.inside.book c.args.p c.self.invariant.telling.told
-      c.if-p-self.true;
-}

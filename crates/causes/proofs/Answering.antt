@@ -1,0 +1,124 @@
+-- Which of the latest stores a load answers.
+use Rattle.std.proofs.Common.{◌≡◌, ◌≢◌, ℕ, ◌+◌, ◌<◌, inl, inr, List, [], ◌∷◌, ◌++◌, Option, Some, length, slice_get, slice_index_or, subst, sym, refl, ap, ◌∙◌, arith}
+use Rattle.std.proofs.lemmas.Bool.{cases_eq}
+use Rattle.std.proofs.lemmas.Option.{same_Some, slice_get_within, slice_get-get_or}
+use Rattle.base.proofs.Places.{push_cases}
+use Rattle.journal.specs.declared.event.Event.{Event}
+use Rattle.journal.specs.declared.event.Kind.TheVariants.{Load, Store}
+use Rattle.journal.specs.Did.{event}
+use Rattle.journal.specs.Events.{At}
+use Rattle.journal.specs.Loads.{IsAnswer, LatestStore, Untouched}
+use Rattle.journal.specs.WellFormed.{Does}
+use Rattle.journal.proofs.Order.Places.{at_within, at_same, does_same}
+use Rattle.judge.specs.Sources.Latest.{AreLatest, IsLatest, IsReadableRow}
+use Rattle.judge.proofs.sources.Answering.{answers_law, untouched}
+use Rattle.causes.specs.declared.source.Source.{Source}
+use Rattle.causes.specs.declared.source.Source.TheVariants.{StoreAt}
+use Rattle.causes.specs.Source.{AreSources, HasSource, IsSource, IsSourceAt}
+
+-- none of the first n places has a store of v
+abbrev pub NoneStores : List Event → List ℕ → ℕ → ℕ → Type 0
+NoneStores j places n v =
+    (m i : ℕ) (e : Event) → m < n → slice_get places m ≡ Some i → At j i e → (a : ℕ) → e.kind ≢ Store a v
+
+stored_same : (a v b w : ℕ) → Store a v ≡ Store b w → v ≡ w
+stored_same a v b w is = cc
+
+-- a latest store's event stands at its place
+pub stands : (j : List Event) (k a q i : ℕ) (x : IsLatest j k a q i) → At j i (event x.store.by (Store a x.value))
+stands j k a q i x = subst (λ n. At j n (event x.store.by (Store a x.value))) x.place x.store.stores
+
+-- each of the places is one of the journal
+pub place_within : (j : List Event) (k a m i : ℕ) (places : List ℕ) → AreLatest j k a places
+    → slice_get places m ≡ Some i → i < length j
+place_within j k a m i places are at =
+    let x = (are.has i).0 (m, at) in
+    at_within j i (event x.1.store.by (Store a x.1.value)) (stands j k a x.0 i x.1)
+
+-- a place whose event stores v is the source
+pub found : (j : List Event) (k a b v m i : ℕ) (e : Event) (places : List ℕ) → AreLatest j k a places
+    → slice_get places m ≡ Some i → At j i e → e.kind ≡ Store b v → IsSource j k a v (StoreAt i)
+found j k a b v m i e places are at there is =
+    let x = ((are.has i).0 (m, at)).1 in
+    let same = at_same j i (event x.store.by (Store a x.value)) e (stands j k a ((are.has i).0 (m, at)).0 i x) there in
+    let value = stored_same a x.value b v (ap (λ (y : Event). y.kind) same ∙ is) in
+    subst (λ w. (s : LatestStore j k a w) × (s.place ≡ i)) value (x.store, x.place)
+
+-- where there is no place, nothing was stored before the load
+pub nothing : (j : List Event) (k a : ℕ) (places : List ℕ) → AreLatest j k a places → length places ≡ 0
+    → Untouched j k a
+nothing j k a places are none = untouched j k a (λ q i x.
+    let at = (are.has i).1 (q, x) in
+    let lt = slice_get_within places at.0 i at.1 in
+    omega arith)
+
+-- where no place has a store of v, and there are places or v isn't 0, no load may answer v
+pub unexplained : (j : List Event) (k a v : ℕ) (places : List ℕ) → AreLatest j k a places
+    → NoneStores j places (length places) v → (length places ≡ 0 → v ≢ 0) → ¬ IsAnswer j k a v
+unexplained j k a v places are none some answer = elim ((answers_law j k a v).0 answer) [
+  | inl x ↦ some (empty x.1) x.0
+  | inr x ↦
+      (let at = (are.has x.1).1 (x.0, x.2) in
+      none at.0 x.1 (event x.0 (Store a v)) (slice_get_within places at.0 x.1 at.1) at.1 x.3 a refl)
+]
+  where
+    empty : ((q i : ℕ) → ¬ IsLatest j k a q i) → length places ≡ 0
+    empty free = elim (cases_eq (length places) 0) [
+      | inl is ↦ is
+      | inr isnt ↦
+          (let at = slice_get-get_or places 0 0 (omega arith) in
+          let x = (are.has (slice_index_or places 0 0)).0 (0, at) in
+          absurd (free x.0 (slice_index_or places 0 0) x.1))
+    ]
+
+-- a place more
+pub none_next : (j : List Event) (places : List ℕ) (n v i : ℕ) (e : Event) → slice_get places n ≡ Some i → At j i e
+    → ((a : ℕ) → e.kind ≢ Store a v) → NoneStores j places n v → NoneStores j places (n + 1) v
+none_next j places n v i e at there away before m l f lt to stands a is = elim (cases_eq m n) [
+  | inl same ↦
+      (let one : i ≡ l = same_Some i l (sym at ∙ sym (ap (slice_get places) same) ∙ to) in
+      let event = at_same j l e f (subst (λ x. At j x e) one there) stands in
+      away a (ap (λ (y : Event). y.kind) event ∙ is))
+  | inr isnt ↦ before m l f (omega arith) to stands a is
+]
+
+address_same : (a v b w : ℕ) → Load a v ≡ Load b w → a ≡ b
+address_same a v b w is = cc
+
+value_same : (a v b w : ℕ) → Load a v ≡ Load b w → v ≡ w
+value_same a v b w is = cc
+
+-- the source of a load is that of its event
+pub source_in : (j : List Event) (k a v : ℕ) (e : Event) (s : Source) → At j k e → e.kind ≡ Load a v
+    → IsSource j k a v s → IsSourceAt j k (Some s)
+source_in j k a v e s at is tells = record { loads = loads; others = λ none. absurd (none e.processor a v here) }
+  where
+    here : Does j k e.processor (Load a v)
+    here = subst (λ kind. At j k (event e.processor kind)) is at
+
+    loads : (p b w : ℕ) → Does j k p (Load b w) → HasSource j k b w (Some s)
+    loads p b w does =
+        let same = (does_same j k e.processor p (Load a v) (Load b w) here does).1 in
+        record {
+          source = s;
+          is = refl;
+          tells =
+              subst (λ x. IsSource j k x w s) (address_same a v b w same)
+              (subst (λ x. IsSource j k a x s) (value_same a v b w same) tells);
+        }
+
+-- the row of a load has its latest stores
+pub row_latest : (j : List Event) (k a v : ℕ) (e : Event) (places : List ℕ) → At j k e → e.kind ≡ Load a v
+    → IsReadableRow j k places → AreLatest j k a places
+row_latest j k a v e places at is row =
+    row.loads e.processor a v (subst (λ kind. At j k (event e.processor kind)) is at)
+
+-- one event more
+pub sources_next : (j : List Event) (rows : List (Option Source)) (k : ℕ) (o : Option Source) → length rows ≡ k
+    → AreSources j rows → IsSourceAt j k o → AreSources j (rows ++ o ∷ [])
+sources_next j rows k o long are now n other at = elim (push_cases rows o n other at) [
+  | inl old ↦ are n other old.1
+  | inr new ↦
+      (let is : k ≡ n = omega (arith, new.0) in
+      subst (IsSourceAt j n) new.1 (subst (λ m. IsSourceAt j m o) is now))
+]

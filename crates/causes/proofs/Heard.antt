@@ -1,0 +1,119 @@
+-- What one processor has heard of another's events.
+use Rattle.std.proofs.Common.{◌≡◌, ◌≢◌, ℕ, ◌+◌, ◌<◌, ◌≤◌, inl, inr, List, length, Option, Some, MatchOption, false, subst, subst₂, refl, arith}
+use Rattle.std.specs.Prelude.{None}
+use Rattle.std.proofs.lemmas.Bool.{cases_eq}
+use Rattle.journal.specs.declared.event.Event.{Event}
+use Rattle.journal.specs.declared.event.Kind.{Kind}
+use Rattle.journal.specs.declared.event.Kind.TheVariants.{Load, Store}
+use Rattle.journal.specs.Events.{At, address_of, is_taking}
+use Rattle.journal.specs.Order.{HappensBefore}
+use Rattle.journal.specs.Races.{IsFirstRace, Race, RaceFree}
+use Rattle.journal.specs.RacesFrom.{IsFirstRaceFrom, RaceFreeFrom}
+use Rattle.journal.specs.Base.{Base, no_base}
+use Rattle.journal.specs.Log.{Log, HoldsHistory}
+use Rattle.journal.specs.WellFormed.{Does}
+use Rattle.journal.proofs.Order.Places.{at_same, at_within, does_at}
+use Rattle.journal.proofs.Order.HappensBefore.{goes_forward}
+use Rattle.journal.proofs.Bases.Uncut.{uncut_race}
+use Rattle.causes.specs.Heard.{IsHeard}
+
+-- q's event at place i happens before place k, and no later one of q below place n does
+pub record IsLastBelow (j : List Event) (q k n i : ℕ) : Type 0 where
+  pub kind : Kind
+  pub does : Does j i q kind
+  pub before : HappensBefore j i k
+  pub last : (m : ℕ) (a : Kind) → m < n → Does j m q a → HappensBefore j m k → m ≤ i
+
+-- the last event of q below place n that happens before place k, where there is one
+abbrev pub IsHeardBelow : List Event → ℕ → ℕ → ℕ → Option ℕ → Type 0
+IsHeardBelow j q k n o =
+    MatchOption o ((m : ℕ) (a : Kind) → m < n → Does j m q a → ¬ HappensBefore j m k) (IsLastBelow j q k n)
+
+-- one place more, whose event is q's and happens before place k
+pub heard_next : (j : List Event) (q k n : ℕ) (e : Event) → At j n e → e.processor ≡ q → HappensBefore j n k
+    → IsHeardBelow j q k (n + 1) (Some n)
+heard_next j q k n e at mine before = record {
+  kind = e.kind;
+  does = does_at j n q e at mine;
+  before = before;
+  last = λ m a lt does h. omega arith;
+}
+
+-- and one whose event isn't
+pub heard_other : (j : List Event) (q k n : ℕ) (o : Option ℕ) → ((a : Kind) → Does j n q a → ¬ HappensBefore j n k)
+    → IsHeardBelow j q k n o → IsHeardBelow j q k (n + 1) o
+heard_other j q k n None away none = λ m a lt does. elim (cases_eq m n) [
+  | inl is ↦ (λ h. away a (subst (λ x. Does j x q a) is does) (subst (λ x. HappensBefore j x k) is h))
+  | inr isnt ↦ none m a (omega arith) does
+]
+heard_other j q k n (Some i) away old =
+    record { kind = old.kind; does = old.does; before = old.before; last = last }
+  where
+    last : (m : ℕ) (a : Kind) → m < n + 1 → Does j m q a → HappensBefore j m k → m ≤ i
+    last m a lt does h = elim (cases_eq m n) [
+      | inl is ↦ absurd (away a (subst (λ x. Does j x q a) is does) (subst (λ x. HappensBefore j x k) is h))
+      | inr isnt ↦ old.last m a (omega arith) does h
+    ]
+
+-- what happens before place k stands below it
+pub heard_all : (j : List Event) (q k n : ℕ) (o : Option ℕ) → k ≤ n → IsHeardBelow j q k n o → IsHeard j q k o
+heard_all j q k n None le none = λ m a does h. (let lt = goes_forward j h in none m a (omega arith) does h)
+heard_all j q k n (Some i) le old = record {
+  kind = old.kind;
+  does = old.does;
+  before = old.before;
+  last = λ m a does h. (let lt = goes_forward j h in old.last m a (omega arith) does h);
+}
+
+-- where nothing was cut off, the first race from there is the first race
+pub first_race_whole : (size : ℕ) (j : List Event) (i k : ℕ) → IsFirstRaceFrom (no_base size) j i k → IsFirstRace j i k
+first_race_whole size j i k f = record {
+  race = (uncut_race size j i k).1 f.race;
+  least_second = λ m n r. f.least_second m n ((uncut_race size j m n).0 r);
+  least_first = λ m r. f.least_first m ((uncut_race size j m k).0 r);
+}
+
+pub race_free_whole : (size : ℕ) (j : List Event) → RaceFreeFrom (no_base size) j → RaceFree j
+race_free_whole size j free i k r = free i k ((uncut_race size j i k).0 r)
+
+race_base : (size : ℕ) (j : List Event) (o : Option (ℕ × ℕ))
+    → MatchOption o (RaceFreeFrom (no_base size) j) (λ r. IsFirstRaceFrom (no_base size) j r.0 r.1)
+    → MatchOption o (RaceFree j) (λ r. IsFirstRace j r.0 r.1)
+race_base size j None free = race_free_whole size j free
+race_base size j (Some r) first = first_race_whole size j r.0 r.1 first
+
+-- what a journal of the whole history says of its first race is the history's
+pub race_whole : (log : Log) (j : List Event) (o : Option (ℕ × ℕ)) → HoldsHistory log j
+    → MatchOption o (RaceFreeFrom log.base log.events) (λ r. IsFirstRaceFrom log.base log.events r.0 r.1)
+    → MatchOption o (RaceFree j) (λ r. IsFirstRace j r.0 r.1)
+race_whole log j o holds tells =
+    race_base log.addresses j o
+    (subst₂ (λ (b : Base) (xs : List Event). MatchOption o (RaceFreeFrom b xs) (λ r. IsFirstRaceFrom b xs r.0 r.1))
+    holds.whole holds.history tells)
+
+-- the events of a race: they are of two processors, and the second one takes nothing
+pub record AreApart (j : List Event) (i k : ℕ) (e : Event) : Type 0 where
+  pub within : i < length j
+  pub second : Event
+  pub at : At j k second
+  pub quiet : is_taking second.kind ≡ false
+  pub apart : e.processor ≢ second.processor
+
+access_quiet : (k : Kind) (a : ℕ) → address_of k ≡ Some a → is_taking k ≡ false
+access_quiet (Load a v) b is = refl
+access_quiet (Store a v) b is = refl
+access_quiet _ b is = absurd cc
+
+pub are_apart : (j : List Event) (i k : ℕ) (e : Event) → Race j i k → (i < length j → At j i e) → AreApart j i k e
+are_apart j i k e race at = record {
+  within = within;
+  second = race.second;
+  at = race.second_at;
+  quiet = access_quiet race.second.kind race.conflict.address race.conflict.second;
+  apart =
+      subst (λ (x : Event). x.processor ≢ race.second.processor) (at_same j i race.first e race.first_at (at within))
+      race.apart;
+}
+  where
+    within : i < length j
+    within = at_within j i race.first race.first_at

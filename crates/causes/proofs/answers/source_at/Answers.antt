@@ -1,0 +1,22 @@
+use Rattle.causes.proofs.Answering.{row_latest, source_in}
+use Rattle.causes.proofs.answers.source_at.Goals as goal
+
+pub source_of-requires : goal.source_of-requires
+source_of-requires c =
+    let row = c.requires.row in
+    record {
+      latest = (
+        row.0,
+        c.in-Load.field-0,
+        row_latest c.args.events.now row.0 c.in-Load.field-0 c.in-Load.value c.args.event c.args.places.now row.1
+            c.in-Load.is row.2,
+      );
+    }
+
+pub returns-in-Load : goal.returns-in-Load
+returns-in-Load c = λ k at row.
+    let events = c.args.events.now in
+    let a = c.in-Load.field-0 in
+    let v = c.in-Load.value in
+    source_in events k a v c.args.event c.source_of.result at c.in-Load.is
+    (c.source_of.ensures k a (row_latest events k a v c.args.event c.args.places.now at c.in-Load.is row))

@@ -1,0 +1,70 @@
+use Rattle.std.proofs.Common.{ℕ, ◌+◌, ◌*◌, List, slice_index_or, take, subst, refl, arith}
+use Rattle.std.specs.Global.{Vec}
+use Rattle.std.proofs.lemmas.List.{length-take-le}
+use Rattle.std.proofs.lemmas.Option.{slice_get-get_or}
+use Rattle.journal.specs.declared.event.Event.{Event}
+use Rattle.journal.specs.declared.event.Kind.TheVariants.{Load}
+use Rattle.journal.specs.Did.{event}
+use Rattle.journal.specs.Events.{At}
+use Rattle.journal.specs.InRange.{ProcessorsInRange}
+use Rattle.journal.proofs.Order.Places.{at_same}
+use Rattle.judge.specs.Gaps.{TellsGaps}
+use Rattle.judge.specs.Sizes.{sizes_of}
+use Rattle.causes.specs.declared.missing.Due.{Due}
+use Rattle.causes.specs.declared.missing.Span.{Span}
+use Rattle.causes.specs.Dues.{MissingBelow, AreDues}
+use Rattle.causes.proofs.Owing.{dues_all, if_ok, in_fetch}
+use Rattle.causes.proofs.missing.fetched.Goals as goal
+
+-- the event at this place
+abbrev here : List Event → ℕ → Event
+here events place = slice_index_or events place (event 0 (Load 0 0))
+
+pub last_fetch-requires-clause-processor : goal.last_fetch-requires-clause-processor
+last_fetch-requires-clause-processor c =
+    let events = c.args.events.now in
+    let k = c.args.place in
+    c.requires.processor (here events k) (slice_get-get_or events k (event 0 (Load 0 0)) c.requires.place)
+
+pub time-requires-clause-processor : goal.time-requires-clause-processor
+time-requires-clause-processor c =
+    let events = c.args.events.now in
+    let k = c.args.place in
+    c.requires.processor (here events k) (slice_get-get_or events k (event 0 (Load 0 0)) c.requires.place)
+
+pub dues_in-requires-clause-tells : goal.dues_in-requires-clause-tells
+dues_in-requires-clause-tells c =
+    let lt = c.requires.place in
+    let few = c.requires.few in
+    let long = length-take-le c.args.place c.args.events.now (omega arith) in
+    (take c.args.place c.args.events.now, c.requires.tells, omega arith)
+
+pub returns : goal.returns
+returns c =
+    let g = c.args.gaps.now in
+    let s = sizes_of g.sizes in
+    let events = c.args.events.now in
+    let k = c.args.place in
+    let h = take k events in
+    let own : Event = here events k in
+    let there = slice_get-get_or events k (event 0 (Load 0 0)) c.requires.place in
+    let span : Span = record {
+      reader = own.processor;
+      first = c.args.page;
+      end = c.args.page + 1;
+      from = c.last_fetch.result.now;
+      to = c.time.result.now;
+    } in
+    let low : ProcessorsInRange 16 h =
+    λ i f at. (let lt = c.requires.tells.processors i f at in
+    let small = c.requires.tells.long.sizes.processors in
+    omega arith) in
+    let kind = c.requires.fetch own there in
+    let same =
+    in_fetch s events k own kind.0 c.args.page kind.1 kind.2 span kind.3 refl refl refl low
+    (c.last_fetch.ensures h c.requires.tells) (c.time.ensures h c.requires.tells) in
+    if_ok c.dues_in.result
+    (λ (v : Vec Due). (j : List Event) → TellsGaps j g → MissingBelow s j span (span.end * 16) v.items)
+    (λ (v : Vec Due). (e : Event) → At events k e → AreDues s events k e v.items)
+    (λ v are e at. subst (λ (f : Event). AreDues s events k f v.items) (at_same events k own e there at)
+    (dues_all s events h k own span v.items same (are h c.requires.tells))) c.dues_in.ensures

@@ -1,0 +1,46 @@
+use Rattle.std.proofs.Common.{◌+◌, ◌*◌, List, slice_index_or, take, subst, refl, arith}
+use Rattle.std.specs.Global.{Vec}
+use Rattle.std.proofs.lemmas.Option.{slice_get-get_or}
+use Rattle.journal.specs.declared.event.Event.{Event}
+use Rattle.journal.specs.declared.event.Kind.TheVariants.{Load}
+use Rattle.journal.specs.Did.{event}
+use Rattle.journal.specs.Events.{At}
+use Rattle.journal.specs.InRange.{ProcessorsInRange}
+use Rattle.journal.proofs.Order.Places.{at_same}
+use Rattle.judge.specs.Gaps.{TellsGaps}
+use Rattle.judge.specs.Sizes.{sizes_of}
+use Rattle.causes.specs.declared.missing.Due.{Due}
+use Rattle.causes.specs.declared.missing.Span.{Span}
+use Rattle.causes.specs.Dues.{MissingBelow, AreDues}
+use Rattle.causes.proofs.Owing.{dues_all, if_ok, in_taken, pages_within}
+use Rattle.causes.proofs.missing.taken.Goals as goal
+
+pub returns : goal.returns
+returns c =
+    let g = c.args.gaps.now in
+    let s = sizes_of g.sizes in
+    let events = c.args.events.now in
+    let k = c.args.place in
+    let h = take (k + 1) events in
+    let here : Event = slice_index_or events k (event 0 (Load 0 0)) in
+    let there = slice_get-get_or events k (event 0 (Load 0 0)) c.requires.place in
+    let span : Span = record {
+      reader = here.processor;
+      first = 0;
+      end = c.pages.result;
+      from = c.args.before.now;
+      to = c.time.result.now;
+    } in
+    let low : ProcessorsInRange 16 h =
+    λ i f at. (let lt = c.requires.tells.processors i f at in
+    let small = c.requires.tells.long.sizes.processors in
+    omega arith) in
+    let same =
+    in_taken s events k here span there (c.requires.takes here there) refl refl c.pages.ensures low
+    (pages_within s events (k + 1) c.requires.within) (c.requires.before here there)
+    (c.time.ensures h c.requires.tells) in
+    if_ok c.dues_in.result
+    (λ (v : Vec Due). (j : List Event) → TellsGaps j g → MissingBelow s j span (span.end * 16) v.items)
+    (λ (v : Vec Due). (e : Event) → At events k e → AreDues s events k e v.items)
+    (λ v are e at. subst (λ (f : Event). AreDues s events k f v.items) (at_same events k here e there at)
+    (dues_all s events h k here span v.items same (are h c.requires.tells))) c.dues_in.ensures

@@ -1,0 +1,83 @@
+use Rattle.std.proofs.Common.{ℕ, ◌+◌, length, subst, sym, refl, arith}
+use Rattle.std.specs.Global.{Vec}
+use Rattle.std.proofs.lemmas.Bool.{false≢true}
+use Rattle.std.proofs.lemmas.Option.{slice_get_read, slice_get_within}
+use Rattle.journal.specs.Did.{event}
+use Rattle.journal.proofs.Order.Places.{at_within}
+use Rattle.causes.proofs.Fresh.{HasBelow, IsOnceIf, below_all, below_next, below_other, closing_read, number_within, once_push}
+use Rattle.causes.proofs.news.add_news.Goals as goal
+use Rattle.causes.proofs.news.add_news.Goals.{then-leads+in_ok-push, else-leads}
+
+pub index-place-requires : goal.index-place-requires
+index-place-requires c =
+    let events = c.args.events.now in
+    let x = c.args.step.now in
+    let rows = c.args.index.now.closings.items in
+    let are = c.requires.index.closings in
+    let low = c.requires.by in
+    let long = are.long in
+    let row = c.index.result.now in
+    let at = slice_get_read rows (length rows) c.args.by row refl (omega arith) c.index.ensures in
+    let mine = are.each c.args.by row at in
+    let lt = c.loop-number-test.true in
+    let top = c.loop-number.auto.number-end in
+    let within = number_within events x c.args.by c.loop-number.number row.items c.requires.step mine (omega arith) in
+    omega (arith, row.ok.0)
+
+pub leads-requires-clause-to : goal.leads-requires-clause-to
+leads-requires-clause-to c =
+    slice_get_within c.args.events.now c.args.step.now.place c.requires.step.event c.requires.step.at
+
+pub leads-requires-clause-from : goal.leads-requires-clause-from
+leads-requires-clause-from c =
+    let events = c.args.events.now in
+    let lt = c.loop-number-test.true in
+    let top = c.loop-number.auto.number-end in
+    let here =
+    closing_read events c.args.step.now c.args.by c.loop-number.number c.index-place.result.now
+    c.args.index.now.closings.items c.index.result.now c.requires.by c.requires.step c.requires.index.closings
+    c.index.ensures (omega arith) c.index-place.ensures in
+    at_within events c.index-place.result.now (event c.args.by here.closes.kind) here.closes.does
+
+pub loop-number-preserved : goal.loop-number-preserved
+loop-number-preserved c =
+    let events = c.args.events.now in
+    let x = c.args.step.now in
+    let q = c.args.by in
+    let n = c.loop-number.number in
+    let p = c.index-place.result.now in
+    let first = c.args.places.now.items in
+    let places = c.loop-number.places.items in
+    let was = c.loop-number.invariant in
+    let lt = c.loop-number-test.true in
+    let top = c.loop-number.auto.number-end in
+    let here =
+    closing_read events x q n p c.args.index.now.closings.items c.index.result.now c.requires.by c.requires.step
+    c.requires.index.closings c.index.ensures (omega arith) c.index-place.ensures in
+    let late = was.late in
+    record {
+      late = omega arith;
+      has = elim c.if-leads.branch [
+        | then-leads+in_ok-push w ↦
+            subst (λ (v : Vec ℕ). HasBelow events x q (n + 1) first v.items) (sym w.places-is)
+            (subst (HasBelow events x q (n + 1) first) (sym w.in_ok-push.ensures.items)
+            (below_next events x q n p first places here late (omega arith) (w.if-leads.ensures.0 refl) was.has))
+        | else-leads w ↦
+            subst (λ (v : Vec ℕ). HasBelow events x q (n + 1) first v.items) (sym w.places-is)
+            (below_other events x q n p first places here (λ leads. false≢true (w.if-leads.ensures.1 leads)) was.has)
+      ];
+      once = elim c.if-leads.branch [
+        | then-leads+in_ok-push w ↦
+            subst (λ (v : Vec ℕ). IsOnceIf events q first v.items) (sym w.places-is)
+            (subst (IsOnceIf events q first) (sym w.in_ok-push.ensures.items)
+            (once_push events x q n p first places here was.has was.once))
+        | else-leads w ↦ subst (λ (v : Vec ℕ). IsOnceIf events q first v.items) (sym w.places-is) was.once
+      ];
+    }
+
+pub returns-clause-has : goal.returns-clause-has
+returns-clause-has c =
+    let end = c.loop-number-test.false in
+    let top = c.loop-number.auto.number-end in
+    below_all c.args.events.now c.args.step.now c.args.by c.loop-number.number c.args.places.now.items
+    c.loop-number.places.items (omega arith) c.loop-number.invariant.has

@@ -1,0 +1,66 @@
+use Rattle.std.proofs.Common.{◌≡◌, ℕ, List, Some, length, slice_get, subst, sym, refl, ◌∙◌, arith}
+use Rattle.std.specs.Global.{Vec}
+use Rattle.std.proofs.lemmas.Option.{none-some}
+use Rattle.journal.specs.InRange.{ProcessorsInRange}
+use Rattle.causes.specs.News.{AreIncoming, AreNewlyOrdered}
+use Rattle.causes.proofs.Fresh.{incoming_next}
+use Rattle.causes.proofs.news.all_news.Goals as goal
+
+pub loop-place-init : goal.loop-place-init
+loop-place-init c = record {
+  clocks = c.requires.start;
+  present = refl;
+  long = c.in_ok-rows.ensures.len;
+  rows = λ k row at.
+      absurd (none-some row
+      (subst (λ (rows : List (Vec ℕ)). slice_get rows k ≡ Some row) c.in_ok-rows.ensures.items at));
+}
+
+pub take_step-requires : goal.take_step-requires
+take_step-requires c =
+    let old = c.loop-place.invariant in
+    record {
+      place = c.loop-place-test.true;
+      few = c.requires.few;
+      processors = subst (λ n. ProcessorsInRange n c.args.events.now) (sym old.present) c.requires.processors;
+      so_far = old.clocks;
+    }
+
+pub news-requires : goal.news-requires
+news-requires c = record {
+  processors = λ k e at.
+      (let low = c.requires.processors k e at in
+      let few = c.requires.start.few in
+      omega arith);
+  index = c.requires.index;
+  step = c.in_ok-step.ensures.step;
+}
+
+pub loop-place-preserved : goal.loop-place-preserved
+loop-place-preserved c =
+    let events = c.args.events.now in
+    let place = c.loop-place.place in
+    let old = c.loop-place.invariant in
+    let rows = c.loop-place.rows in
+    let row = c.in_ok-news.field-0 in
+    let long : length rows.items ≡ place = omega (arith, rows.ok.0, old.long) in
+    record {
+      clocks = c.in_ok-step.ensures.clocks;
+      present = c.in_ok-step.ensures.present ∙ old.present;
+      long = (let len = c.in_ok-push.ensures.len in let was = old.long in omega arith);
+      rows =
+          subst (AreIncoming events)
+          (sym c.in_ok-push.ensures.items)
+          (incoming_next events rows.items place row long old.rows
+          (subst (λ n. AreNewlyOrdered events n row.items) c.in_ok-step.ensures.place c.in_ok-news.ensures));
+    }
+
+pub returns-clause-long : goal.returns-clause-long
+returns-clause-long c =
+    let over = c.loop-place-test.false in
+    let top = c.loop-place.auto.place-end in
+    let long = c.loop-place.invariant.long in
+    omega arith
+
+pub returns-clause-news : goal.returns-clause-news
+returns-clause-news c = c.loop-place.invariant.rows

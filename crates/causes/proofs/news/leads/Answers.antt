@@ -1,0 +1,32 @@
+use Rattle.std.proofs.Common.{ℕ, List, slice_index_or, arith}
+use Rattle.std.proofs.lemmas.Option.{slice_get-get_or}
+use Rattle.journal.specs.declared.event.Event.{Event}
+use Rattle.journal.specs.declared.event.Kind.TheVariants.{Load}
+use Rattle.journal.specs.Did.{event}
+use Rattle.causes.specs.declared.index.Turn.{Turn}
+use Rattle.causes.proofs.Fresh.{leads_by_turns}
+use Rattle.causes.proofs.news.leads.Goals as goal
+
+abbrev zero : Turn
+zero = record { arrived = 0; departed = 0 }
+
+abbrev here : List Event → ℕ → Event
+here events place = slice_index_or events place (event 0 (Load 0 0))
+
+pub returns-then-from-to : goal.returns-then-from-to
+returns-then-from-to c =
+    let events = c.args.events.now in
+    let turns = c.args.turns.now in
+    let i = c.args.from in
+    let k = c.args.to in
+    let first = c.requires.from in
+    let last = c.requires.to in
+    let long = c.requires.turns.long in
+    let at = slice_get-get_or events i (event 0 (Load 0 0)) first in
+    let to = slice_get-get_or events k (event 0 (Load 0 0)) last in
+    let s = slice_index_or turns i zero in
+    let t = slice_index_or turns k zero in
+    let one = c.requires.turns.each i (here events i) s at (slice_get-get_or turns i zero (omega arith)) in
+    let two = c.requires.turns.each k (here events k) t to (slice_get-get_or turns k zero (omega arith)) in
+    leads_by_turns events i k (here events i) (here events k) s t c.lets_on.result at to one two c.if-from-to.true
+    c.if-start-end.false c.lets_on.ensures

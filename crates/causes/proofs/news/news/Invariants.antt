@@ -1,0 +1,5 @@
+use Rattle.causes.proofs.Fresh.{AreNewsBelow}
+use Rattle.causes.proofs.news.news.Given as goal
+
+abbrev pub invariant-loop-by : goal.invariant-loop-by
+invariant-loop-by l = AreNewsBelow l.events l.step l.by l.places.items

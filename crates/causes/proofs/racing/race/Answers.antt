@@ -1,0 +1,69 @@
+use Rattle.std.proofs.Common.{ℕ, ◌<◌, List, length, slice_index_or, subst, arith}
+use Rattle.std.proofs.lemmas.Option.{slice_get-get_or}
+use Rattle.journal.specs.declared.event.Event.{Event}
+use Rattle.journal.specs.declared.event.Kind.TheVariants.{Load}
+use Rattle.journal.specs.Did.{event}
+use Rattle.journal.specs.Events.{At}
+use Rattle.journal.specs.Races.{IsFirstRace}
+use Rattle.journal.proofs.Order.Places.{at_same}
+use Rattle.causes.specs.Heard.{IsHeard}
+use Rattle.causes.proofs.Heard.{are_apart}
+use Rattle.causes.proofs.racing.race.Goals as goal
+
+-- the event at this place
+abbrev here : List Event → ℕ → Event
+here events place = slice_index_or events place (event 0 (Load 0 0))
+
+there : (events : List Event) (place : ℕ) → place < length events → At events place (here events place)
+there events place lt = slice_get-get_or events place (event 0 (Load 0 0)) lt
+
+pub returns-in_default : goal.returns-in_default
+returns-in_default c = rw c.in_default.is at c.in_ok-first.ensures
+
+pub offset_bounds-events-first : goal.offset_bounds-events-first
+offset_bounds-events-first c =
+    let events = c.args.events.now in
+    let first = c.in-Some.first in
+    let race : IsFirstRace events first c.in-Some.second = rw c.in-Some.is at c.in_ok-first.ensures in
+    let parts = are_apart events first c.in-Some.second (here events first) race.race (there events first) in
+    let within = parts.within in
+    omega arith
+
+pub bounds-events-first : goal.bounds-events-first
+bounds-events-first c =
+    let events = c.args.events.now in
+    let first = c.in-Some.first in
+    let race : IsFirstRace events first c.in-Some.second = rw c.in-Some.is at c.in_ok-first.ensures in
+    (are_apart events first c.in-Some.second (here events first) race.race (there events first)).within
+
+pub heard-requires-clause-by : goal.heard-requires-clause-by
+heard-requires-clause-by c =
+    let events = c.args.events.now in
+    let first = c.in-Some.first in
+    let race : IsFirstRace events first c.in-Some.second = rw c.in-Some.is at c.in_ok-first.ensures in
+    let parts = are_apart events first c.in-Some.second (here events first) race.race (there events first) in
+    let lt = c.requires.processors first (here events first) (there events first parts.within) in
+    let few = c.requires.few_processors in
+    omega arith
+
+pub heard-requires-clause-second : goal.heard-requires-clause-second
+heard-requires-clause-second c =
+    let events = c.args.events.now in
+    let first = c.in-Some.first in
+    let race : IsFirstRace events first c.in-Some.second = rw c.in-Some.is at c.in_ok-first.ensures in
+    let parts = are_apart events first c.in-Some.second (here events first) race.race (there events first) in
+    (parts.second, parts.at, parts.quiet, parts.apart)
+
+pub returns : goal.returns
+returns c =
+    let events = c.args.events.now in
+    let first = c.in-Some.first in
+    let second = c.in-Some.second in
+    let race : IsFirstRace events first second = rw c.in-Some.is at c.in_ok-first.ensures in
+    let parts = are_apart events first second (here events first) race.race (there events first) in
+    record {
+      race = race;
+      heard = λ e at.
+          let same = at_same events first (here events first) e (there events first parts.within) at in
+          subst (λ (x : Event). IsHeard events x.processor second c.in_ok-heard.heard) same c.in_ok-heard.ensures;
+    }

@@ -1,0 +1,55 @@
+use Rattle.std.proofs.Common.{◌+◌, List, length, slice_index, slice_index_or, take, subst, sym, refl, ◌∙◌, arith}
+use Rattle.std.proofs.lemmas.Option.{slice_get-get_or, slice_get_read, slice_get_within}
+use Rattle.journal.specs.declared.event.Event.{Event}
+use Rattle.journal.specs.declared.event.Kind.TheVariants.{Load}
+use Rattle.journal.specs.Did.{event}
+use Rattle.journal.specs.Events.{At}
+use Rattle.journal.specs.Times.{IsTimeOf}
+use Rattle.journal.proofs.Order.Places.{at_same}
+use Rattle.causes.specs.declared.news.Step.{Step}
+use Rattle.causes.specs.declared.takings.Taking.{Taking}
+use Rattle.causes.specs.News.{TimesAround}
+use Rattle.causes.proofs.Takes.{rows_quiet, rows_taken}
+use Rattle.causes.proofs.takings.add_taking.Goals as goal
+
+-- the step's event
+abbrev here : List Event → Step → Event
+here events x = slice_index_or events x.place (event 0 (Load 0 0))
+
+there : (events : List Event) (x : Step) → TimesAround events x → At events x.place (here events x)
+there events x step =
+    slice_get-get_or events x.place (event 0 (Load 0 0)) (slice_get_within events x.place step.event step.at)
+
+pub returns-then-not-takes : goal.returns-then-not-takes
+returns-then-not-takes c =
+    let events = c.args.events.now in
+    let x = c.args.step.now in
+    rows_quiet events x.place (here events x) c.args.takings.now.items (there events x c.requires.step)
+    (sym c.takes.ensures ∙ c.if-not-takes.true) c.requires.so_far
+
+pub index_mut-requires : goal.index_mut-requires
+index_mut-requires c =
+    let events = c.args.events.now in
+    let x = c.args.step.now in
+    let low = c.requires.processors x.place (here events x) (there events x c.requires.step) in
+    let long = c.requires.so_far.long in
+    omega (arith, c.args.takings.now.ok.0)
+
+pub returns : goal.returns
+returns c =
+    let events = c.args.events.now in
+    let x = c.args.step.now in
+    let e = here events x in
+    let rows = c.args.takings.now.items in
+    let step = c.requires.step in
+    let at = there events x step in
+    let low = c.requires.processors x.place e at in
+    let long = c.requires.so_far.long in
+    let same = at_same events x.place step.event e step.at at in
+    let time : IsTimeOf (take (x.place + 1) events) e.processor (slice_index x.after) =
+    subst (λ (f : Event). IsTimeOf (take (x.place + 1) events) f.processor (slice_index x.after)) same step.after in
+    let taking : Taking = record { place = x.place; after = x.after } in
+    let row = slice_get_read rows (length rows) e.processor c.index_mut.result.now refl (omega arith)
+    c.index_mut.ensures.value in
+    rows_taken events x.place e taking rows c.index_mut.result.now c.push.new.self at refl time row
+    c.in_ok-push.ensures.items c.requires.so_far

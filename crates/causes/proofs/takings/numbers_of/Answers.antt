@@ -1,0 +1,92 @@
+use Rattle.std.proofs.Common.{◌≡◌, ◌<◌, ℕ, List, length, slice_index_or, refl, ◌∙◌, arith}
+use Rattle.std.proofs.lemmas.List.{length-set}
+use Rattle.std.proofs.lemmas.Option.{slice_get-get_or, slice_get_within}
+use Rattle.journal.specs.declared.event.Event.{Event}
+use Rattle.journal.specs.declared.event.Kind.TheVariants.{Load}
+use Rattle.journal.specs.Did.{event}
+use Rattle.journal.specs.Events.{is_closing}
+use Rattle.journal.specs.InRange.{ProcessorsInRange}
+use Rattle.journal.proofs.Passes.Entries.{zeros_at}
+use Rattle.causes.proofs.LetsOn.{count_within, counts_next, one_or_none}
+use Rattle.causes.proofs.Takes.{numbers_next}
+use Rattle.causes.proofs.takings.numbers_of.Goals as goal
+
+-- the event at this place
+abbrev here : List Event → ℕ → Event
+here events place = slice_index_or events place (event 0 (Load 0 0))
+
+-- its processor is one of sixteen
+low : (events : List Event) (place : ℕ) → place < length events → ProcessorsInRange 16 events
+    → (here events place).processor < 16
+low events place lt range = range place (here events place) (slice_get-get_or events place (event 0 (Load 0 0)) lt)
+
+pub loop-place-init : goal.loop-place-init
+loop-place-init c = record {
+  closed_long = refl;
+  closed = λ q lt. zeros_at 16 q;
+  long = c.in_ok-numbers.ensures.len;
+  numbers = λ k e lt at. absurd (omega arith);
+}
+
+pub offset_bounds-closed-event : goal.offset_bounds-closed-event
+offset_bounds-closed-event c =
+    let is = low c.args.events.now c.loop-place.place c.loop-place-test.true c.requires.processors in
+    omega arith
+
+pub bounds-closed-event : goal.bounds-closed-event
+bounds-closed-event c = low c.args.events.now c.loop-place.place c.loop-place-test.true c.requires.processors
+
+pub overflow_add-closed : goal.overflow_add-closed
+overflow_add-closed c =
+    let events = c.args.events.now in
+    let place = c.loop-place.place in
+    let p = (here events place).processor in
+    let lt = c.loop-place-test.true in
+    let few = c.requires.few in
+    let is = low events place lt c.requires.processors in
+    let count = c.loop-place.invariant.closed p is in
+    let most = count_within is_closing events place p (omega arith) in
+    let one = c.closing_of.ensures in
+    let bit = one_or_none (is_closing (here events place).kind) in
+    omega arith
+
+pub offset_bounds-closed-event-in-loop-place : goal.offset_bounds-closed-event-in-loop-place
+offset_bounds-closed-event-in-loop-place c =
+    let is = low c.args.events.now c.loop-place.place c.loop-place-test.true c.requires.processors in
+    omega arith
+
+pub bounds-closed-event-in-loop-place : goal.bounds-closed-event-in-loop-place
+bounds-closed-event-in-loop-place c = low c.args.events.now c.loop-place.place c.loop-place-test.true c.requires.processors
+
+pub loop-place-preserved : goal.loop-place-preserved
+loop-place-preserved c =
+    let events = c.args.events.now in
+    let place = c.loop-place.place in
+    let e : Event = slice_index_or events place (event 0 (Load 0 0)) in
+    let lt = c.loop-place-test.true in
+    let old = c.loop-place.invariant in
+    let at = slice_get-get_or events place (event 0 (Load 0 0)) lt in
+    let low = c.requires.processors place e at in
+    let one = c.closing_of.ensures in
+    let numbers = c.loop-place.numbers in
+    let long : length numbers.items ≡ place = omega (arith, numbers.ok.0, old.long) in
+    record {
+      closed_long = length-set c.loop-place.closed e.processor _ ∙ old.closed_long;
+      closed = counts_next is_closing events place e c.loop-place.closed _ at old.closed_long old.closed (omega arith);
+      long = (let len = c.in_ok-push.ensures.len in let was = old.long in omega arith);
+      numbers =
+          numbers_next events place _ e numbers.items c.push.new.self.items long at (old.closed e.processor low)
+          c.in_ok-push.ensures.items old.numbers;
+    }
+
+pub returns : goal.returns
+returns c =
+    let over = c.loop-place-test.false in
+    let top = c.loop-place.auto.place-end in
+    let old = c.loop-place.invariant in
+    record {
+      long = omega (arith, c.loop-place.numbers.ok.0, old.long);
+      each = λ k e at.
+          (let lt = slice_get_within c.args.events.now k e at in
+          old.numbers k e (omega arith) at);
+    }

@@ -1,0 +1,22 @@
+use Rattle.std.proofs.Common.{◌≡◌, length, subst, sym, arith}
+use Rattle.causes.specs.Waits.{AreWaits}
+use Rattle.causes.proofs.Standing.{waits_next}
+use Rattle.causes.proofs.waiting.waits.Goals as goal
+
+pub loop-by-preserved : goal.loop-by-preserved
+loop-by-preserved c =
+    let events = c.args.events.now in
+    let by = c.loop-by.by in
+    let old = c.loop-by.invariant in
+    let waits = c.loop-by.waits in
+    let long : length waits.items ≡ by = omega (arith, waits.ok.0, old.long) in
+    record {
+      long = (let len = c.in_ok-push.ensures.len in let was = old.long in omega arith);
+      waits =
+          subst (AreWaits c.args.processors events) (sym c.in_ok-push.ensures.items)
+          (waits_next c.args.processors events waits.items by c.in_ok-wait_of.field-0 long old.waits
+          c.in_ok-wait_of.ensures);
+    }
+
+pub returns-clause-waits : goal.returns-clause-waits
+returns-clause-waits c = c.loop-by.invariant.waits

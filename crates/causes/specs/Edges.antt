@@ -1,0 +1,25 @@
+-- The events of other processors with an edge to an event.
+use Rattle.std.specs.Prelude.{ℕ, ◌≡◌, ◌≢◌, ◌<◌, ◌↔◌, List}
+use Rattle.base.specs.Places.{Has, InOrder}
+use Rattle.journal.specs.declared.event.Event.{Event}
+use Rattle.journal.specs.declared.event.Kind.{Kind}
+use Rattle.journal.specs.declared.event.Kind.TheVariants.{Acquire, Release, Arrive, Depart, Set, Await}
+use Rattle.journal.specs.Order.{Edge}
+
+-- an edge leads from place i to place k, and their events are of two processors
+pub record EdgeFromOther (j : List Event) (i k : ℕ) : Type 0 where
+  pub edge : Edge j i k
+  pub apart : edge.from.processor ≢ edge.to.processor
+
+-- these are the places with such an edge to place k, rising
+pub record AreEdges (j : List Event) (k : ℕ) (places : List ℕ) : Type 0 where
+  pub has : (i : ℕ) → Has places i ↔ EdgeFromOther j i k
+  pub order : InOrder (λ i m. i < m) places
+
+-- an event of the first kind, before which its processor arrived so often, lets on one of the second, before which its
+-- processor departed so often
+abbrev pub LetsOn : Kind → ℕ → Kind → ℕ → Type 0
+LetsOn from arrived (Acquire l) departed = from ≡ Release l
+LetsOn from arrived (Await f) departed = from ≡ Set f
+LetsOn from arrived Depart departed = (from ≡ Arrive) × (arrived ≡ departed)
+LetsOn from arrived _ departed = ⊥

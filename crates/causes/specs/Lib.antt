@@ -1,0 +1,12 @@
+pub mod Source
+pub mod Heard
+pub mod Edges
+pub mod Index
+pub mod News
+pub mod Entrances
+pub mod Takings
+pub mod Paths
+pub mod Dues
+pub mod Waits
+pub mod Explanation
+pub mod Prelude

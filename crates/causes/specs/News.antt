@@ -1,0 +1,39 @@
+-- What each event brings its processor news of.
+use Rattle.std.specs.Prelude.{ℕ, ◌≡◌, ◌+◌, ◌<◌, ◌≤◌, ◌↔◌, List, Some, slice_get, slice_index, take}
+use Rattle.std.specs.Global.{Vec}
+use Rattle.base.specs.Places.{Has, InOrder}
+use Rattle.journal.specs.declared.event.Event.{Event}
+use Rattle.journal.specs.Events.{At, interval_at}
+use Rattle.journal.specs.Order.{HappensBefore}
+use Rattle.journal.specs.Times.{ClosesAt, IsTimeOf}
+use Rattle.causes.specs.declared.news.Step.{Step}
+use Rattle.causes.specs.Edges.{EdgeFromOther}
+
+-- an edge leads from place i to another processor's event at place k, none of whose earlier events place i happens before
+pub record IsNews (j : List Event) (i k : ℕ) : Type 0 where
+  pub leads : EdgeFromOther j i k
+  pub first : (m : ℕ) (f : Event) → m < k → At j m f → f.processor ≡ leads.edge.to.processor → ¬ HappensBefore j i m
+
+-- these are the places that are news to place k, rising
+pub record AreNewlyOrdered (j : List Event) (k : ℕ) (places : List ℕ) : Type 0 where
+  pub has : (i : ℕ) → Has places i ↔ IsNews j i k
+  pub order : InOrder (λ i m. i < m) places
+
+-- these are the news of the first places
+abbrev pub AreIncoming : List Event → List (Vec ℕ) → Type 0
+AreIncoming j rows = (k : ℕ) (row : Vec ℕ) → slice_get rows k ≡ Some row → AreNewlyOrdered j k row.items
+
+-- the timestamps are those before and after the event at this place
+pub record TimesAround (j : List Event) (x : Step) : Type 0 where
+  pub event : Event
+  pub at : At j x.place event
+  pub before : IsTimeOf (take x.place j) event.processor (slice_index x.before)
+  pub after : IsTimeOf (take (x.place + 1) j) event.processor (slice_index x.after)
+
+-- q closes an interval at place i, which has an edge to the step's event; the timestamps count it after that, and not
+-- before
+pub record IsNewOf (j : List Event) (x : Step) (q i : ℕ) : Type 0 where
+  pub closes : ClosesAt j q i
+  pub leads : EdgeFromOther j i x.place
+  pub late : slice_index x.before q ≤ interval_at j q i
+  pub counted : interval_at j q i < slice_index x.after q

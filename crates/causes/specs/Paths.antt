@@ -1,0 +1,35 @@
+-- Ways along edges from one place to another.
+use Rattle.std.specs.Prelude.{ℕ, ◌≡◌, ◌+◌, ◌-◌, ◌<◌, List, Option, Some, MatchOption, length, slice_get}
+use Rattle.journal.specs.declared.event.Event.{Event}
+use Rattle.journal.specs.declared.event.Kind.{Kind}
+use Rattle.journal.specs.InRange.{ProcessorsInRange}
+use Rattle.journal.specs.Order.{Edge}
+use Rattle.journal.specs.Pasts.{UpTo}
+use Rattle.journal.specs.WellFormed.{Does}
+use Rattle.causes.specs.declared.paths.Ways.{Ways}
+use Rattle.causes.specs.Entrances.{AreAllEntrances}
+use Rattle.causes.specs.Takings.{AreAllTakings, AreNumbers}
+
+-- these places lead from place i to place k: each has an edge to the next
+pub record IsWay (j : List Event) (i k : ℕ) (places : List ℕ) : Type 0 where
+  pub first : slice_get places 0 ≡ Some i
+  pub last : slice_get places (length places - 1) ≡ Some k
+  pub steps : (n a b : ℕ) → slice_get places n ≡ Some a → slice_get places (n + 1) ≡ Some b → Edge j a b
+
+-- place i is q's event at place m, or happens before it, and is and does so of no earlier one of q
+pub record IsFirstReached (j : List Event) (i q m : ℕ) : Type 0 where
+  pub kind : Kind
+  pub does : Does j m q kind
+  pub reached : UpTo j m i
+  pub first : (k : ℕ) (a : Kind) → k < m → Does j k q a → ¬ UpTo j k i
+
+-- that event of q, where it has one
+abbrev pub FirstReached : List Event → ℕ → ℕ → Option ℕ → Type 0
+FirstReached j i q o = MatchOption o ((k : ℕ) (a : Kind) → Does j k q a → ¬ UpTo j k i) (IsFirstReached j i q)
+
+-- what is looked up is the history's
+pub record AreWays (j : List Event) (x : Ways) : Type 0 where
+  pub processors : ProcessorsInRange 16 j
+  pub numbers : AreNumbers j x.numbers.items
+  pub takings : AreAllTakings j (length j) x.takings.items
+  pub entrances : AreAllEntrances j x.entrances.items

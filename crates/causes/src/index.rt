@@ -1,0 +1,112 @@
+//! What is looked up of a history again and again: how often each event's processor had arrived and departed, and where
+//! each processor closed its intervals.
+ghost use Rattle.std.specs.Prelude.{◌≡◌, ◌==◌, ◌&&◌, ◌+◌, ◌<◌, ◌≤◌, ◌^◌, IfOk, cond, length};
+ghost use Rattle.base.specs.Prelude.{most_held};
+ghost use Rattle.journal.specs.Prelude.{ProcessorsInRange, is_arrive, is_closing, is_depart};
+ghost use Rattle.causes.specs.Prelude.{AreClosings, AreClosingsOf, AreTurns, IsIndex};
+
+use journal::{Event, Kind};
+use std::alloc::{AllocError, Global};
+
+/// How often an event's processor had arrived and departed before it.
+#[derive(Clone, Copy)]
+pub(crate) struct Turn {
+    pub(crate) arrived: usize,
+    pub(crate) departed: usize,
+}
+
+/// What is looked up of a history.
+#[derive(Drop)]
+pub(crate) struct Index {
+    /// The turn of each event.
+    pub(crate) turns: Vec<Turn>,
+    /// Of each of sixteen processors, the places of the events that close its intervals.
+    pub(crate) closings: Vec<Vec<usize>>,
+}
+
+/// Whether the event closes an interval of this processor.
+pub(crate) fn closes(event: Event, by: usize) -> bool
+    ensures { result ≡ ((event.processor == by) && is_closing event.kind) }
+{
+    let closes = match event.kind {
+        Kind::Ask(_) | Kind::Release(_) | Kind::Arrive | Kind::Set(_) | Kind::Watch(_) => true,
+        _ => false,
+    };
+    event.processor == by && closes
+}
+
+/// The turn of a processor's next event, after one of this kind.
+fn turn_after(turn: Turn, kind: Kind) -> Turn
+    requires arrived { turn.arrived < 2 ^ 22 }
+    requires departed { turn.departed < 2 ^ 22 }
+    ensures arrived { result.arrived ≡ turn.arrived + cond (is_arrive kind) 1 0 }
+    ensures departed { result.departed ≡ turn.departed + cond (is_depart kind) 1 0 }
+{
+    let Turn { arrived, departed } = turn;
+    match kind {
+        Kind::Arrive => Turn {
+            arrived: arrived + 1,
+            departed,
+        },
+        Kind::Depart => Turn {
+            arrived,
+            departed: departed + 1,
+        },
+        _ => turn,
+    }
+}
+
+/// The turn of each event.
+fn turns(alloc: Global, events: &[Event]) -> Result<Vec<Turn>, AllocError>
+    requires few { length events.now ≤ most_held }
+    requires processors { ProcessorsInRange 16 events.now }
+    ensures { IfOk result (λ v. AreTurns events.now v.items) }
+{
+    let mut next = [Turn {
+        arrived: 0,
+        departed: 0,
+    }; 16];
+    let mut turns = Vec::with_capacity(alloc, events.len())?;
+    for place in 0..events.len() {
+        let event = events[place];
+        let turn = next[event.processor];
+        turns.push(turn)?;
+        next[event.processor] = turn_after(turn, event.kind);
+    }
+    Ok(turns)
+}
+
+/// The places of the events that close the processor's intervals.
+fn closings_of(alloc: Global, events: &[Event], by: usize) -> Result<Vec<usize>, AllocError>
+    ensures { IfOk result (λ v. AreClosingsOf events.now by v.items) }
+{
+    let mut places = Vec::new(alloc);
+    for place in 0..events.len() {
+        if closes(events[place], by) {
+            places.push(place)?;
+        }
+    }
+    Ok(places)
+}
+
+/// Those of each of sixteen processors.
+fn closings(alloc: Global, events: &[Event]) -> Result<Vec<Vec<usize>>, AllocError>
+    ensures { IfOk result (λ v. AreClosings events.now v.items) }
+{
+    let mut closings = Vec::with_capacity(alloc, 16)?;
+    for by in 0..16 {
+        closings.push(closings_of(alloc, events, by)?)?;
+    }
+    Ok(closings)
+}
+
+/// What is looked up of this history. The only error is running out of memory.
+pub(crate) fn index_of(alloc: Global, events: &[Event]) -> Result<Index, AllocError>
+    requires few { length events.now ≤ most_held }
+    requires processors { ProcessorsInRange 16 events.now }
+    ensures { IfOk result (IsIndex events.now) }
+{
+    let turns = turns(alloc, events)?;
+    let closings = closings(alloc, events)?;
+    Ok(Index { turns, closings })
+}

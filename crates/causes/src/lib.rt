@@ -1,0 +1,47 @@
+//! Why the events of a history went as they did: which store each load answers, what keeps the accesses of its first
+//! race apart, which events let one through that waited, by which way one reaches another, which records came with it, and
+//! what each processor waits for at the end.
+//!
+//! **What contracts see.** `IsSource` of specs/Source says what each source of a load means, `IsHeard` of specs/Heard
+//! which event of another processor is the last one heard of, `EdgeFromOther` of specs/Edges which events have an edge to
+//! one, `IsNews` of specs/News which of these its processor had not heard of, `IsWay` of specs/Ways what a way along edges
+//! is, `IsDue` of specs/Dues which records an event tells of, `IsWait` of specs/Waits what each thing that a processor
+//! waits for means; all in journal's words of happens-before, latest stores, races, gaps of copies and who holds a lock.
+//! The histories need not be ones that a cluster can make.
+//!
+//! **What is proved.** `loads` names for each load a latest store of its past whose value it answers; or that its past
+//! has no store and it answers 0; or that it may not answer what it does. `race` is the first race, with the last event
+//! of the first access's processor that happens before the second access. `edges` has, of one event, exactly the events of
+//! other processors with an edge to it; `incoming` has, of each event, exactly those of them that its processor had not
+//! heard of. `way` has, of two events, a way along edges from the one to the other, exactly where the one is the other or
+//! happens before it; `Ways` finds many. `dues` has, of each event that takes, exactly the records that its processor's
+//! copies lack after it and did not lack before, and of each fetch those that its copy of the page lacked, by page and
+//! writer. `waits` has, of each processor, what it waits for at the end: a lock, who holds it and whose asks of it are
+//! earlier; a flag, and whether it is set; or exactly the processors that have not arrived. `explain` has what `loads`,
+//! `race`, `incoming` and `waits` tell.
+//!
+//! **What is only tested** (crate `test_lrc`): that memory isn't refused needlessly, and that each refusal is answered.
+#![tactic(auto)]
+
+mod answers;
+mod entrances;
+mod explaining;
+mod index;
+mod leading;
+mod missing;
+mod news;
+mod paths;
+mod racing;
+mod source;
+mod takings;
+mod waiting;
+
+pub use answers::loads;
+pub use explaining::{Explanation, explain};
+pub use leading::edges;
+pub use missing::{Due, dues};
+pub use news::incoming;
+pub use paths::{Ways, way};
+pub use racing::{FirstRace, race};
+pub use source::Source;
+pub use waiting::{Wait, waits};

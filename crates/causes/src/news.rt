@@ -1,0 +1,156 @@
+//! What each event brings its processor news of: the events that let it through and that its processor had not heard of.
+ghost use Rattle.std.specs.Prelude.{◌≡◌, ◌↔◌, ◌⊎◌, ℕ, ◌+◌, ◌<◌, ◌≤◌, [], IsTrue, IfOk, OnOk, length, take, vec_len};
+ghost use Rattle.base.specs.Prelude.{Has, most_held, most_processors};
+ghost use Rattle.base.specs.Places.{IsOnce};
+ghost use Rattle.journal.specs.Times.{ClosesAt};
+ghost use Rattle.journal.specs.Prelude.{AreClocks, ProcessorsInRange};
+ghost use Rattle.causes.specs.Prelude.{AreIncoming, AreNewlyOrdered, AreTurns, EdgeFromOther, IsIndex, IsNewOf, TimesAround};
+
+use crate::index::{Index, Turn, index_of};
+use crate::leading::lets_on;
+use journal::{Clock, Clocks, Event};
+use std::alloc::{AllocError, Global};
+
+/// An event's place, and its processor's timestamps before and after it.
+#[derive(Clone, Copy)]
+pub(crate) struct Step {
+    pub(crate) place: usize,
+    pub(crate) before: Clock,
+    pub(crate) after: Clock,
+}
+
+/// Whether an edge leads from the event at the first place to another processor's at the second one.
+pub(crate) fn leads(events: &[Event], turns: &[Turn], from: usize, to: usize) -> bool
+    requires from { from < length events.now }
+    requires to { to < length events.now }
+    requires turns { AreTurns events.now turns.now }
+    ensures { IsTrue result ↔ EdgeFromOther events.now from to }
+{
+    let start = events[from];
+    let end = events[to];
+    if start.processor == end.processor {
+        return false;
+    }
+    from < to
+        && lets_on(
+            start.kind,
+            turns[from].arrived,
+            end.kind,
+            turns[to].departed,
+        )
+}
+
+/// Adds the places of the events of the processor `by` that the step brings news of.
+fn add_news(
+    places: &mut Vec<usize>,
+    events: &[Event],
+    index: &Index,
+    step: &Step,
+    by: usize,
+) -> Result<(), AllocError>
+    requires by { by < 16 }
+    requires index { IsIndex events.now index.now }
+    requires step { TimesAround events.now step.now }
+    ensures has { OnOk result ((i : ℕ)
+        → Has places.new.items i ↔ (Has places.old.items i ⊎ IsNewOf events.now step.now by i)) }
+    ensures once { OnOk result (IsOnce places.old.items
+        → ((i : ℕ) → Has places.old.items i → ¬ ClosesAt events.now by i) → IsOnce places.new.items) }
+{
+    for number in step.before[by] as usize..step.after[by] as usize {
+        let place = index.closings[by][number];
+        if leads(events, &index.turns, place, step.place) {
+            places.push(place)?;
+        }
+    }
+    Ok(())
+}
+
+/// The places of the events that the step brings news of and that have an edge to it, rising.
+fn news(
+    alloc: Global,
+    events: &[Event],
+    index: &Index,
+    step: &Step,
+) -> Result<Vec<usize>, AllocError>
+    requires processors { ProcessorsInRange 16 events.now }
+    requires index { IsIndex events.now index.now }
+    requires step { TimesAround events.now step.now }
+    ensures { IfOk result (λ v. AreNewlyOrdered events.now step.now.place v.items) }
+{
+    let mut places = Vec::new(alloc);
+    for by in 0..16 {
+        add_news(&mut places, events, index, step, by)?;
+    }
+    places.sort_unstable();
+    Ok(places)
+}
+
+/// Takes note of the event at this place, the next one.
+pub(crate) fn take_step(
+    clocks: &mut Clocks,
+    events: &[Event],
+    place: usize,
+) -> Result<Step, AllocError>
+    requires place { place < length events.now }
+    requires few { length events.now ≤ most_held }
+    requires processors { ProcessorsInRange clocks.old.present events.now }
+    requires so_far { AreClocks (take place events.now) clocks.old }
+    ensures clocks { OnOk result (AreClocks (take (place + 1) events.now) clocks.new) }
+    ensures present { OnOk result (clocks.new.present ≡ clocks.old.present) }
+    ensures step { IfOk result (TimesAround events.now) }
+    ensures place { IfOk result (λ s. s.place ≡ place) }
+{
+    let by = events[place].processor;
+    let before = *clocks.of(by);
+    clocks.note(events, place)?;
+    let after = *clocks.of(by);
+    Ok(Step {
+        place,
+        before,
+        after,
+    })
+}
+
+/// Of each event its news, where the clocks tell nothing so far.
+fn all_news(
+    alloc: Global,
+    clocks: &mut Clocks,
+    events: &[Event],
+    index: &Index,
+) -> Result<Vec<Vec<usize>>, AllocError>
+    requires few { length events.now ≤ most_held }
+    requires processors { ProcessorsInRange clocks.old.present events.now }
+    requires start { AreClocks [] clocks.old }
+    requires index { IsIndex events.now index.now }
+    ensures long { IfOk result (λ v. vec_len v ≡ length events.now) }
+    ensures news { IfOk result (λ v. AreIncoming events.now v.items) }
+{
+    let mut rows = Vec::with_capacity(alloc, events.len())?;
+    for place in 0..events.len() {
+        let step = take_step(clocks, events, place)?;
+        rows.push(news(alloc, events, index, &step)?)?;
+    }
+    Ok(rows)
+}
+
+/// Of each event of a history of `processors` processors, at most `MOST_PROCESSORS`: the places, rising, of the events
+/// of other processors that have an edge to it and that its processor had not heard of: that happen before none of its
+/// earlier events. None where it takes nothing, or nothing new. The only error is running out of memory.
+///
+/// Each event stands at most once among the news of each other processor. So time and memory are in the order of the
+/// number of events times that of processors; each event's news are sorted besides.
+pub fn incoming(
+    alloc: Global,
+    processors: usize,
+    events: &[Event],
+) -> Result<Vec<Vec<usize>>, AllocError>
+    requires few { length events.now ≤ most_held }
+    requires few_processors { processors ≤ most_processors }
+    requires processors { ProcessorsInRange processors events.now }
+    ensures long { IfOk result (λ v. vec_len v ≡ length events.now) }
+    ensures news { IfOk result (λ v. AreIncoming events.now v.items) }
+{
+    let index = index_of(alloc, events)?;
+    let mut clocks = Clocks::new(alloc, processors)?;
+    all_news(alloc, &mut clocks, events, &index)
+}

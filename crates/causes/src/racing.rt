@@ -1,0 +1,146 @@
+//! The first race of a history, and what keeps its two accesses apart.
+ghost use Rattle.std.specs.Prelude.{◌≡◌, ◌≢◌, ◌↔◌, ◌==◌, ◌&&◌, ℕ, ◌<◌, ◌≤◌, IfOk, MatchOption, cond, length, false};
+ghost use Rattle.base.specs.Prelude.{most_held, most_processors};
+ghost use Rattle.journal.specs.declared.event.Event.{Event};
+ghost use Rattle.journal.specs.declared.event.Kind.{Kind};
+ghost use Rattle.journal.specs.Events.{At, interval_at};
+ghost use Rattle.journal.specs.WellFormed.{Does};
+ghost use Rattle.journal.specs.Log.{HoldsHistory};
+ghost use Rattle.journal.specs.Prelude.{AddressesInRange, HappensBefore, IsFirstRace, ProcessorsInRange};
+ghost use Rattle.journal.specs.Prelude.{RaceFree, is_closing, is_taking};
+ghost use Rattle.causes.specs.Prelude.{IsFirstRaceTold, IsHeard};
+
+use crate::index::closes;
+use journal::{Clocks, Event, Journal};
+use std::alloc::{AllocError, Global};
+
+/// The first race of a history.
+#[derive(Clone, Copy, PartialEq, Eq)]
+pub struct FirstRace {
+    /// The place of the access that comes first.
+    pub first: usize,
+    /// The place of the other access, which has nothing to order it after the first one.
+    pub second: usize,
+    /// The place of the last event of the first one's processor that the second one's processor had heard of: the
+    /// greatest place that happens before the second access. None where there is none.
+    pub heard: Option<usize>,
+}
+
+/// How many intervals of this processor the event closes: one or none.
+fn closings(event: Event, by: usize) -> usize
+    ensures { result ≡ cond ((event.processor == by) && is_closing event.kind) 1 0 }
+{
+    usize::from(closes(event, by))
+}
+
+/// The last event of the processor `by` that happens before the second place, where those of its first `limit`
+/// intervals do and no others.
+fn last_heard(events: &[Event], by: usize, second: usize, limit: usize) -> Option<usize>
+    requires place { second < length events.now }
+    requires tells { (i : ℕ) (a : Kind) → Does events.now i by a → i < second
+        → HappensBefore events.now i second ↔ (interval_at events.now by i < limit) }
+    ensures { IsHeard events.now by second result }
+{
+    let mut heard = None;
+    let mut closed = 0;
+    for place in 0..second {
+        let event = events[place];
+        if event.processor == by && closed < limit {
+            heard = Some(place);
+        }
+        closed += closings(event, by);
+    }
+    heard
+}
+
+/// The last event of the processor `by` that happens before the second place, where another processor's event stands
+/// that takes nothing.
+fn heard(
+    alloc: Global,
+    processors: usize,
+    events: &[Event],
+    by: usize,
+    second: usize,
+) -> Result<Option<usize>, AllocError>
+    requires few { length events.now ≤ most_held }
+    requires few_processors { processors ≤ most_processors }
+    requires processors { ProcessorsInRange processors events.now }
+    requires by { by < 16 }
+    requires second { (e : Event) × At events.now second e × (is_taking e.kind ≡ false) × (by ≢ e.processor) }
+    ensures { IfOk result (IsHeard events.now by second) }
+{
+    let mut clocks = Clocks::new(alloc, processors)?;
+    for place in 0..second {
+        clocks.note(events, place)?;
+    }
+    let time = clocks.of(events[second].processor);
+    Ok(last_heard(events, by, second, time[by] as usize))
+}
+
+/// The events in a journal of which nothing was cut off.
+fn journal_of(
+    alloc: Global,
+    processors: usize,
+    addresses: usize,
+    events: &[Event],
+) -> Result<Journal, AllocError>
+    requires few { length events.now ≤ most_held }
+    requires few_processors { processors ≤ most_processors }
+    requires addresses { AddressesInRange addresses events.now }
+    requires processors { ProcessorsInRange processors events.now }
+    ensures { IfOk result (λ j. HoldsHistory j events.now) }
+{
+    let mut journal = Journal::new(alloc, processors, addresses)?;
+    journal.reserve(events.len())?;
+    for event in events {
+        journal.append(*event);
+    }
+    Ok(journal)
+}
+
+/// The places of the first race, by a journal of the events.
+fn first_race_of(
+    alloc: Global,
+    processors: usize,
+    addresses: usize,
+    events: &[Event],
+) -> Result<Option<(usize, usize)>, AllocError>
+    requires few { length events.now ≤ most_held }
+    requires few_processors { processors ≤ most_processors }
+    requires addresses { AddressesInRange addresses events.now }
+    requires processors { ProcessorsInRange processors events.now }
+    ensures { IfOk result (λ o. MatchOption o (RaceFree events.now) (λ r. IsFirstRace events.now r.0 r.1)) }
+{
+    let journal = journal_of(alloc, processors, addresses, events)?;
+    journal.first_race()
+}
+
+/// The first race of a history of `processors` processors, at most `MOST_PROCESSORS`, and `addresses` addresses: the
+/// pair with the least second place and, among these, the least first one, as `Journal::first_race` answers it, and the
+/// last event of the first one's processor that the second one's processor had heard of. None where there is no race.
+/// The only error is running out of memory.
+///
+/// It takes time as `Journal::first_race` does, and memory for a copy of the events besides.
+pub fn race(
+    alloc: Global,
+    processors: usize,
+    addresses: usize,
+    events: &[Event],
+) -> Result<Option<FirstRace>, AllocError>
+    requires few { length events.now ≤ most_held }
+    requires few_processors { processors ≤ most_processors }
+    requires addresses { AddressesInRange addresses events.now }
+    requires processors { ProcessorsInRange processors events.now }
+    ensures { IfOk result (λ o. MatchOption o (RaceFree events.now) (IsFirstRaceTold events.now)) }
+{
+    let Some((first, second)) = first_race_of(alloc, processors, addresses, events)? else {
+        return Ok(None);
+    };
+    let by = events[first].processor;
+    let heard = heard(alloc, processors, events, by, second)?;
+    Ok(Some(FirstRace {
+        first,
+        second,
+        heard,
+    }))
+}

@@ -1,0 +1,123 @@
+//! Of each processor, the events that take, with its timestamps after them; of each event, the number of its interval.
+ghost use Rattle.std.specs.Prelude.{◌≡◌, ◌+◌, ◌<◌, ◌≤◌, IfOk, List, MatchOption, OnOk, cond, length, slice_index};
+ghost use Rattle.base.specs.Places.{InOrder};
+ghost use Rattle.base.specs.Prelude.{most_held, most_processors};
+ghost use Rattle.journal.specs.declared.event.Event.{Event};
+ghost use Rattle.journal.specs.Prelude.{ProcessorsInRange, is_closing, is_taking};
+ghost use Rattle.causes.specs.Prelude.{AreAllTakings, AreNumbers, IsFirstAbove, TimesAround, NoneAbove};
+
+use crate::index::closes;
+use crate::news::{Step, take_step};
+use journal::{Clock, Clocks, Event, Kind};
+use std::alloc::{AllocError, Global};
+
+/// An event that takes: where it stands, and its processor's timestamp after it.
+#[derive(Drop)]
+pub(crate) struct Taking {
+    pub(crate) place: usize,
+    pub(crate) after: Clock,
+}
+
+/// Whether an event of this kind takes.
+pub(crate) fn takes(kind: Kind) -> bool
+    ensures { result ≡ is_taking kind }
+{
+    match kind {
+        Kind::Acquire(_) | Kind::Depart | Kind::Await(_) => true,
+        _ => false,
+    }
+}
+
+/// How many intervals the event closes: one or none.
+fn closing_of(event: Event) -> u32
+    ensures { result ≡ cond (is_closing event.kind) 1 0 }
+{
+    u32::from(closes(event, event.processor))
+}
+
+/// Of each event, how many intervals its processor had closed before it. The only error is running out of memory.
+pub(crate) fn numbers_of(alloc: Global, events: &[Event]) -> Result<Vec<u32>, AllocError>
+    requires few { length events.now ≤ most_held }
+    requires processors { ProcessorsInRange 16 events.now }
+    ensures { IfOk result (λ v. AreNumbers events.now v.items) }
+{
+    let mut closed = [0; 16];
+    let mut numbers = Vec::with_capacity(alloc, events.len())?;
+    for place in 0..events.len() {
+        let event = events[place];
+        let number = closed[event.processor];
+        numbers.push(number)?;
+        closed[event.processor] = number + closing_of(event);
+    }
+    Ok(numbers)
+}
+
+/// A row for each of sixteen processors, with nothing in it.
+fn no_takings(alloc: Global) -> Result<Vec<Vec<Taking>>, AllocError>
+    ensures { IfOk result (λ v. (j : List Event) → AreAllTakings j 0 v.items) }
+{
+    let mut takings = Vec::with_capacity(alloc, 16)?;
+    for _ in 0..16_usize {
+        takings.push(Vec::new(alloc))?;
+    }
+    Ok(takings)
+}
+
+/// Adds the step's event, where it takes.
+fn add_taking(
+    takings: &mut Vec<Vec<Taking>>,
+    events: &[Event],
+    step: &Step,
+) -> Result<(), AllocError>
+    requires step { TimesAround events.now step.now }
+    requires processors { ProcessorsInRange 16 events.now }
+    requires so_far { AreAllTakings events.now step.now.place takings.old.items }
+    ensures { OnOk result (AreAllTakings events.now (step.now.place + 1) takings.new.items) }
+{
+    let event = events[step.place];
+    if !takes(event.kind) {
+        return Ok(());
+    }
+    let taking = Taking {
+        place: step.place,
+        after: step.after,
+    };
+    takings[event.processor].push(taking)?;
+    Ok(())
+}
+
+/// Of each of sixteen processors, its events that take. The only error is running out of memory.
+pub(crate) fn takings_of(
+    alloc: Global,
+    processors: usize,
+    events: &[Event],
+) -> Result<Vec<Vec<Taking>>, AllocError>
+    requires few { length events.now ≤ most_held }
+    requires few_processors { processors ≤ most_processors }
+    requires processors { ProcessorsInRange processors events.now }
+    ensures { IfOk result (λ v. AreAllTakings events.now (length events.now) v.items) }
+{
+    let mut clocks = Clocks::new(alloc, processors)?;
+    let mut takings = no_takings(alloc)?;
+    for place in 0..events.len() {
+        let step = take_step(&mut clocks, events, place)?;
+        add_taking(&mut takings, events, &step)?;
+    }
+    Ok(takings)
+}
+
+/// The place of the first of these events after which the timestamp counts more than this many intervals of the
+/// processor. It is found by halving.
+pub(crate) fn first_above(takings: &[Taking], processor: usize, number: u32) -> Option<usize>
+    requires processor { processor < 16 }
+    requires parted { InOrder
+        (λ x y. slice_index y.after processor ≤ number → slice_index x.after processor ≤ number) takings.now }
+    ensures { MatchOption result (NoneAbove takings.now processor number) (IsFirstAbove takings.now processor number) }
+{
+    let index = takings.partition_point(|taking| taking.after[processor] <= number);
+    if index < takings.len() {
+        Some(takings[index].place)
+    } else {
+        None
+    }
+}

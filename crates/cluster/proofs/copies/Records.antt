@@ -1,0 +1,176 @@
+-- What a closing call hands to the book: the harvests of the copies are what the open interval stores.
+use Rattle.std.proofs.Common.{ℕ, ◌≡◌, ◌≢◌, ◌<◌, inl, inr, Bool, true, false, Some, List, [], ◌∷◌, ◌++◌, length, replicate, get_or, slice_get, sym, ap, subst, subst₂, ◌∙◌, arith}
+use Rattle.std.proofs.Math.Nat.{div-lt_iff_lt-mul}
+use Rattle.std.proofs.lemmas.List.{length-replicate}
+use Rattle.std.proofs.lemmas.Option.{none-some, slice_get_within, slice_get-get_or}
+use Rattle.journal.specs.declared.event.Event.{Event}
+use Rattle.journal.specs.declared.event.Kind.TheVariants.{Store}
+use Rattle.journal.specs.Did.{event}
+use Rattle.journal.specs.Events.{At, is_closing, count_of}
+use Rattle.journal.specs.WellFormed.{KindInRange}
+use Rattle.journal.specs.Blocks.{write_in}
+use Rattle.journal.specs.Groups.{since, StoresIn, IsContent}
+use Rattle.journal.proofs.Intervals.Contents.{content_none}
+use Rattle.journal.proofs.Intervals.Dirty.{dirty_content}
+use Rattle.base.specs.Places.{Has}
+use Rattle.base.specs.Records.{harvest}
+use Rattle.base.proofs.Harvests.{length-marked}
+use Rattle.base.proofs.Joined.{in_order-append, in_order_single, has-append}
+use Rattle.base.proofs.Places.{append_cases, push_cases, slice_get-append_left, slice_get-last}
+use Rattle.base.proofs.Unmarked.{harvest_unmarked, unmarked_harvest}
+use Rattle.page.specs.Carries.{IsHarvest}
+use Rattle.page.specs.Changes.{Changes}
+use Rattle.page.specs.Contents.{IsClean}
+use Rattle.interval.specs.Intervals.{HasRisingPages}
+use Rattle.book.specs.ClosedIntervals.{AreContents}
+use Rattle.cluster.specs.Copies.Copies.{Copied}
+use Rattle.cluster.specs.Copies.Local.{Local, blank}
+use Rattle.cluster.specs.Copies.Records.{IsOfCopy, AreHarvests}
+use Rattle.cluster.specs.Copies.Sound.{IsSound}
+use Rattle.cluster.proofs.copies.Replicas.{replica_long}
+
+module _ (xs : List Copied) (c : Copied) (rs : List Changes) (hs : AreHarvests xs rs) where
+  longer : (r : Changes) → IsOfCopy xs r → IsOfCopy (xs ++ c ∷ []) r
+  longer r x = record {
+    page = x.page;
+    copy = x.copy;
+    at = slice_get-append_left xs (c ∷ []) x.page (slice_get_within xs x.page x.copy x.at) ∙ x.at;
+    harvest = x.harvest;
+    dirty = x.dirty;
+  }
+
+  -- a further copy with dirty words adds its harvest
+  pub harvests_more : (r : Changes) → ¬ IsClean c.page → IsHarvest (length xs) c.page r
+      → AreHarvests (xs ++ c ∷ []) (rs ++ r ∷ [])
+  harvests_more r dirty harvest = record { each = each; all = all; rising = rising }
+    where
+      last : Has (rs ++ r ∷ []) r
+      last = (length rs, slice_get-last rs r)
+
+      here : IsOfCopy (xs ++ c ∷ []) r
+      here = record { page = length xs; copy = c; at = slice_get-last xs c; harvest = harvest; dirty = dirty }
+
+      each : (x : Changes) → Has (rs ++ r ∷ []) x → IsOfCopy (xs ++ c ∷ []) x
+      each x has = elim (push_cases rs r has.0 x has.1) [
+        | inl old ↦ longer x (hs.each x (has.0, old.1))
+        | inr new ↦ subst (IsOfCopy (xs ++ c ∷ [])) new.1 here
+      ]
+
+      all : (n : ℕ) (d : Copied) → slice_get (xs ++ c ∷ []) n ≡ Some d → ¬ IsClean d.page
+          → (x : Changes) × Has (rs ++ r ∷ []) x × (x.page ≡ n)
+      all n d at some = elim (push_cases xs c n d at) [
+        | inl old ↦
+            (let x = hs.all n d old.1 some in
+            (x.0, (has-append rs (r ∷ []) x.0).1 (inl x.1), x.2))
+        | inr new ↦ (r, last, harvest.page_is ∙ sym new.0)
+      ]
+
+      rising : HasRisingPages (rs ++ r ∷ [])
+      rising = in_order-append (λ (a b : Changes). a.page < b.page) rs (r ∷ []) hs.rising
+          (in_order_single (λ (a b : Changes). a.page < b.page) r)
+          (λ a b has has_last.
+          let x = hs.each a has in
+          let below = slice_get_within xs x.page x.copy x.at in
+          let is = x.harvest.page_is in
+          let own = harvest.page_is in
+          let same : b ≡ r = elim (push_cases [] r has_last.0 b has_last.1) [
+            | inl old ↦ absurd (none-some b old.1)
+            | inr new ↦ sym new.1
+          ] in
+          let P : Changes → Type 0 = λ y. a.page < y.page in
+          subst P (sym same) (omega arith))
+
+module _ (m : Local) (sound : IsSound m) where
+  -- only a page with a mark needs a look
+  pub stored_last : (n : ℕ) (c : Copied) → slice_get m.copies n ≡ Some c → ¬ IsClean c.page
+      → slice_get m.stored n ≡ Some true
+  stored_last n c at dirty = go (get_or m.stored n false) found
+    where
+      found : slice_get m.stored n ≡ Some (get_or m.stored n false)
+      found =
+          let inside = slice_get_within m.copies n c at in
+          let long = sound.copies.long in
+          let pages = sound.sizes.pages in
+          let marks = sound.marks in
+          slice_get-get_or m.stored n false (omega arith)
+
+      go : (b : Bool) → slice_get m.stored n ≡ Some b → slice_get m.stored n ≡ Some true
+      go true is = is
+      go false is = absurd (dirty (sound.clean n c at is))
+
+  -- the history with the open block
+  abbrev now : List Event
+  now = m.seen ++ m.block
+
+  -- the number of the open interval
+  abbrev number : ℕ
+  number = count_of is_closing (m.seen ++ m.block) m.number
+
+  -- what the open interval comes to in a page
+  content : (n : ℕ) (c : Copied) → slice_get m.copies n ≡ Some c
+      → IsContent m.sizes now m.number number n (harvest 0 c.page.words c.page.dirty)
+  content n c at =
+      let dirty = (sound.copies.each n c at).dirty in
+      dirty_content m.sizes now m.number n c.page.words c.page.dirty sound.sizes.some_words dirty
+
+  -- a copy has as many marks as words
+  marks_long : (n : ℕ) (c : Copied) → slice_get m.copies n ≡ Some c → length c.page.dirty ≡ length c.page.words
+  marks_long n c at =
+      let r = sound.copies.each n c at in
+      let f = λ (e : Event). write_in m.sizes n e.kind in
+      let none = replicate m.sizes.words false in
+      let marked = length-marked f none (since now m.number) ∙ length-replicate m.sizes.words false in
+      let words = replica_long m.sizes m.seen m.block m.number n (sound.bases n) c r in
+      ap length r.dirty.marks_are ∙ marked ∙ sym words
+
+  -- each event so far is within the sizes
+  in_range : (i : ℕ) (e : Event) → At now i e → KindInRange m.sizes e.kind
+  in_range i e at = elim (append_cases m.seen m.block i e at) [
+    | inl old ↦ (sound.well_formed i e old.1).in_range
+    | inr new ↦ (sound.inner new.0 e new.2).in_range
+  ]
+
+  -- a page that the open interval stores in is not clean
+  stored_dirty : (n i : ℕ) (c : Copied) → slice_get m.copies n ≡ Some c
+      → StoresIn m.sizes now m.number number n i
+      → ¬ IsClean c.page
+  stored_dirty n i c at stores clean =
+      let is = content n c at in
+      let nothing = ap (harvest 0 c.page.words) clean ∙ harvest_unmarked 0 c.page.words in
+      let P : List (ℕ × ℕ) → Type 0 = λ ws. IsContent m.sizes now m.number number n ws in
+      content_none m.sizes now m.number number n i (subst P nothing is) stores
+
+  -- the harvests of the copies with dirty words are the records of the open interval
+  pub harvest_contents : (rs : List Changes) → AreHarvests m.copies rs
+      → AreContents m.sizes (m.seen ++ m.block) m.number (count_of is_closing (m.seen ++ m.block) m.number) rs
+  harvest_contents rs hs = record { each = each; some = some; all = all; rising = hs.rising }
+    where
+      each : (r : Changes) → Has rs r → IsContent m.sizes now m.number number r.page r.words
+      each r has =
+          let x = hs.each r has in
+          let P : ℕ → List (ℕ × ℕ) → Type 0 = λ n ws. IsContent m.sizes now m.number number n ws in
+          subst₂ P (sym x.harvest.page_is) (sym x.harvest.words_are) (content x.page x.copy x.at)
+
+      some : (r : Changes) → Has rs r → r.words ≢ []
+      some r has none =
+          let x = hs.each r has in
+          let long = marks_long x.page x.copy x.at in
+          x.dirty (unmarked_harvest 0 x.copy.page.words x.copy.page.dirty long (sym x.harvest.words_are ∙ none))
+
+      all : (n i : ℕ) → StoresIn m.sizes now m.number number n i → (r : Changes) × Has rs r × (r.page ≡ n)
+      all n i stores = hs.all n copy found (stored_dirty n i copy found stores)
+        where
+          copy : Copied
+          copy = get_or m.copies n (blank m.sizes)
+
+          within : n < m.sizes.pages
+          within =
+              let a = in_range i (event m.number (Store stores.0 stores.1)) stores.2 in
+              let P : ℕ → Type 0 = λ k. k < m.sizes.pages in
+              subst P stores.3 ((div-lt_iff_lt-mul sound.sizes.some_words).1 a)
+
+          found : slice_get m.copies n ≡ Some copy
+          found =
+              let long = sound.copies.long in
+              let inside = within in
+              slice_get-get_or m.copies n (blank m.sizes) (omega arith)

@@ -1,0 +1,186 @@
+-- What each call does to a copy of a page.
+use Rattle.std.proofs.Common.{ℕ, ◌≡◌, ◌≢◌, true, false, true≢false, inl, inr, List, [], ◌∷◌, ◌++◌, None, map, length, replicate, refl, sym, ap, subst, ◌∙◌, append_assoc, append-nil}
+use Rattle.std.proofs.lemmas.Option.{none-some}
+use Rattle.journal.specs.declared.event.Event.{Event}
+use Rattle.journal.specs.declared.event.Kind.{Kind}
+use Rattle.journal.specs.declared.event.Kind.TheVariants.{Load, Store, Fetch, Ask, Release, Arrive, Set, Watch}
+use Rattle.journal.specs.Did.{event, did}
+use Rattle.journal.specs.Sizes.{Sizes}
+use Rattle.journal.specs.Events.{At, is_closing, is_taking}
+use Rattle.journal.specs.Blocks.{write_in, IsBlock}
+use Rattle.journal.specs.Pages.{Touches, IsValidCopy, IsStaleCopy}
+use Rattle.journal.specs.Groups.{since}
+use Rattle.journal.specs.Dirty.{IsDirty}
+use Rattle.journal.proofs.Copies.Pages.{valid_push, stale_push, valid_others, stale_others, valid_handed, stale_handed}
+use Rattle.journal.proofs.Intervals.Dirty.{dirty_push, dirty_others, dirty_closing}
+use Rattle.base.specs.Writes.{wrote}
+use Rattle.base.specs.Records.{mark}
+use Rattle.base.proofs.LastWrites.{length-written}
+use Rattle.base.proofs.Places.{push_cases}
+use Rattle.page.specs.declared.page.Access.TheVariants.{Invalid}
+use Rattle.page.specs.Contents.{IsClean}
+use Rattle.book.specs.News.{missing_of}
+use Rattle.cluster.specs.Copies.Copies.{Copied, IsReplica}
+use Rattle.cluster.specs.Copies.Steps.{IsSameCopy, cleaned}
+
+-- a copy has as many words as its page
+pub replica_long : (s : Sizes) (seen block : List Event) (p n : ℕ) (base : List ℕ) (c : Copied)
+    → IsReplica s seen block p n base c
+    → length c.page.words ≡ s.words
+replica_long s seen block p n base c r =
+    let f = λ (e : Event). write_in s n e.kind in
+    ap length r.dirty.page_is ∙ length-written f r.dirty.clean (since (seen ++ block) p) ∙ r.dirty.long
+
+-- a copy's room is no matter
+pub replica_same : (s : Sizes) (seen block : List Event) (p n : ℕ) (base : List ℕ) (c d : Copied)
+    → IsSameCopy c d
+    → IsReplica s seen block p n base c
+    → IsReplica s seen block p n base d
+replica_same s seen block p n base c d same r = record {
+  valid = rw (same.page, same.missing) r.valid;
+  stale = rw (same.page, same.missing) r.stale;
+  order = rw (same.missing) r.order;
+  dirty = rw (same.page) r.dirty;
+}
+
+-- the copy d is c after an event of the block
+pub record IsAfterEvent (s : Sizes) (n : ℕ) (e : Event) (c d : Copied) : Type 0 where
+  pub words : d.page.words ≡ wrote c.page.words (write_in s n e.kind)
+  pub dirty : d.page.dirty ≡ mark c.page.dirty (write_in s n e.kind)
+  pub access : d.page.access ≡ c.page.access
+  pub missing : d.missing ≡ c.missing
+  pub away : c.page.access ≡ Invalid → (¬ Touches s n e.kind) × (write_in s n e.kind ≡ None)
+
+-- an event of the block that doesn't use a stale copy
+pub replica_pushed : (s : Sizes) (seen block : List Event) (e : Event) (p n : ℕ) (base : List ℕ) (c d : Copied)
+    → e.processor ≡ p
+    → is_closing e.kind ≡ false
+    → IsAfterEvent s n e c d
+    → IsReplica s seen block p n base c
+    → IsReplica s seen (block ++ e ∷ []) p n base d
+replica_pushed s seen block e p n base c d mine inner after r = record {
+  valid = λ h. let old = r.valid (sym after.access ∙ h) in (valid old.0, after.missing ∙ old.1);
+  stale = stale;
+  order = rw (after.missing) r.order;
+  dirty =
+      let now = dirty_push s (seen ++ block) e p n c.page.words c.page.dirty mine inner r.dirty in
+      rw (after.words, after.dirty, ← append_assoc seen block (e ∷ [])) now;
+}
+  where
+    valid : IsValidCopy s seen block p n base c.page.words → IsValidCopy s seen (block ++ e ∷ []) p n base d.page.words
+    valid old =
+        let now = valid_push s seen block e p n base c.page.words old in
+        subst (IsValidCopy s seen (block ++ e ∷ []) p n base) (sym after.words) now
+
+    stale : d.page.access ≡ Invalid
+        → IsStaleCopy s seen (block ++ e ∷ []) p n d.page.words (map missing_of d.missing)
+        × (d.missing ≢ [])
+        × IsClean d.page
+    stale h =
+        let was = sym after.access ∙ h in
+        let old = r.stale was in
+        let away = after.away was in
+        let words : d.page.words ≡ c.page.words = after.words ∙ ap (wrote c.page.words) away.1 in
+        let dirty : d.page.dirty ≡ c.page.dirty = after.dirty ∙ ap (mark c.page.dirty) away.1 in
+        let now = stale_push s seen block e p n c.page.words (map missing_of c.missing) away.0 old.0 in (
+          rw (words, after.missing) now,
+          (λ none. old.1 (sym after.missing ∙ none)),
+          rw (words) (dirty ∙ old.2),
+        )
+
+-- others' events
+pub replica_others : (s : Sizes) (seen rest block : List Event) (p n : ℕ) (base : List ℕ) (c : Copied)
+    → ((k : ℕ) (e : Event) → At rest k e → e.processor ≢ p)
+    → IsReplica s seen block p n base c
+    → IsReplica s (seen ++ rest) block p n base c
+replica_others s seen rest block p n base c away r = record {
+  valid = λ h. let old = r.valid h in (valid_others s seen rest block p n base c.page.words away old.0, old.1);
+  stale = λ h. let old = r.stale h in (
+    stale_others s seen rest block p n c.page.words (map missing_of c.missing) away old.0,
+    old.1,
+    old.2,
+  );
+  order = r.order;
+  dirty = dirty_others s seen rest block p n c.page.words c.page.dirty away r.dirty;
+}
+
+-- the block is handed in
+pub replica_handed : (s : Sizes) (seen block : List Event) (p n : ℕ) (base : List ℕ) (c : Copied)
+    → IsBlock p block
+    → IsReplica s seen block p n base c
+    → IsReplica s (seen ++ block) [] p n c.page.words c
+replica_handed s seen block p n base c is r = record {
+  valid = λ h. let old = r.valid h in (valid_handed s seen block p n base c.page.words is old.0, old.1);
+  stale = λ h. let old = r.stale h in (
+    stale_handed s seen block p n c.page.words (map missing_of c.missing) is old.0,
+    old.1,
+    old.2,
+  );
+  order = r.order;
+  dirty = rw append-nil r.dirty;
+}
+
+-- what closes an interval takes nothing
+pub closing_takes : (k : Kind) → is_closing k ≡ true → is_taking k ≡ false
+closing_takes (Ask l) closes = refl
+closing_takes (Release l) closes = refl
+closing_takes Arrive closes = refl
+closing_takes (Set f) closes = refl
+closing_takes (Watch f) closes = refl
+closing_takes _ closes = absurd (true≢false (sym closes))
+
+-- it touches no page
+pub closing_touches : (s : Sizes) (n : ℕ) (k : Kind) → is_closing k ≡ true → ¬ Touches s n k
+closing_touches s n (Load a v) closes = absurd (true≢false (sym closes))
+closing_touches s n (Store a v) closes = absurd (true≢false (sym closes))
+closing_touches s n (Fetch w m r d) closes = absurd (true≢false (sym closes))
+closing_touches s n _ closes = λ h. h
+
+-- and stores in none
+pub closing_writes : (s : Sizes) (n : ℕ) (k : Kind) → is_closing k ≡ true → write_in s n k ≡ None
+closing_writes s n (Store a v) closes = absurd (true≢false (sym closes))
+closing_writes s n _ closes = refl
+
+-- an event that closes the interval cleans the copy
+pub replica_closed : (s : Sizes) (seen : List Event) (p n : ℕ) (k : Kind) (base : List ℕ) (c : Copied)
+    → is_closing k ≡ true
+    → IsReplica s seen [] p n base c
+    → IsReplica s (did seen p k) [] p n c.page.words (cleaned c)
+replica_closed s seen p n k base c closes r = record {
+  valid = λ h. let old = r.valid h in (valid old.0, old.1);
+  stale = λ h. let old = r.stale h in (stale old.0, old.1, refl);
+  order = r.order;
+  dirty = dirty;
+}
+  where
+    e : Event
+    e = event p k
+
+    is : IsBlock p (e ∷ [])
+    is m f at = elim (push_cases [] e m f at) [
+      | inl old ↦ absurd (none-some f old.1)
+      | inr new ↦
+          (let P : Event → Type 0 = λ g. (g.processor ≡ p) × (is_taking g.kind ≡ false) in
+          subst P new.1 (refl, closing_takes k closes))
+    ]
+
+    valid : IsValidCopy s seen [] p n base c.page.words
+        → IsValidCopy s (did seen p k) [] p n c.page.words c.page.words
+    valid old =
+        let pushed = valid_push s seen [] e p n base c.page.words old in
+        let same = ap (wrote c.page.words) (closing_writes s n k closes) in
+        let P : List ℕ → Type 0 = λ page. IsValidCopy s seen (e ∷ []) p n base page in
+        valid_handed s seen (e ∷ []) p n base c.page.words is (subst P same pushed)
+
+    stale : IsStaleCopy s seen [] p n c.page.words (map missing_of c.missing)
+        → IsStaleCopy s (did seen p k) [] p n c.page.words (map missing_of c.missing)
+    stale old =
+        let away = closing_touches s n k closes in
+        let pushed = stale_push s seen [] e p n c.page.words (map missing_of c.missing) away old in
+        stale_handed s seen (e ∷ []) p n c.page.words (map missing_of c.missing) is pushed
+
+    dirty : IsDirty s (did seen p k ++ []) p n c.page.words (replicate (length c.page.words) false)
+    dirty =
+        let old : IsDirty s seen p n c.page.words c.page.dirty = rw append-nil at r.dirty in
+        let now = dirty_closing s seen e p n c.page.words c.page.dirty refl closes old in
+        rw (append-nil, replica_long s seen [] p n base c r) now

@@ -1,0 +1,13 @@
+use Rattle.std.proofs.Common.{◌≤◌, ◌-◌, map, take}
+use Rattle.std.specs.Arc.{arc_value}
+use Rattle.cluster.specs.Copies.Records.{AreHarvests}
+use Rattle.cluster.proofs.copies.harvesting.harvest.Given as goal
+
+abbrev pub invariant-loop-page : goal.invariant-loop-page
+invariant-loop-page l = record {
+  within : l.next ≤ 64;
+  harvests : AreHarvests (take l.next l.replicas) (map arc_value l.records.items);
+}
+
+abbrev pub decreases-loop-page : goal.decreases-loop-page
+decreases-loop-page l = 64 - l.next

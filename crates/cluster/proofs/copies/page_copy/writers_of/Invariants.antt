@@ -1,0 +1,12 @@
+use Rattle.std.proofs.Common.{◌≤◌, take}
+use Rattle.journal.specs.Copies.{HasCount}
+use Rattle.cluster.specs.Copies.Copies.{IsOwner}
+use Rattle.cluster.proofs.copies.Owners.{AreMarked}
+use Rattle.cluster.proofs.copies.page_copy.writers_of.Given as goal
+
+abbrev pub invariant-loop-index : goal.invariant-loop-index
+invariant-loop-index l = record {
+  counted : HasCount (IsOwner (take l.index l.missing.records)) l.count;
+  marked : AreMarked (take l.index l.missing.records) l.owners;
+  few : l.count ≤ l.index;
+}

@@ -1,0 +1,62 @@
+//! Sets of small numbers.
+ghost use Rattle.std.specs.Prelude.{◌≡◌, ◌<◌, ◌↔◌, IsTrue, IfSome, IfNone, Some, true, false, replicate, slice_get};
+ghost use Rattle.std.specs.Prelude.{slice_set};
+ghost use Rattle.page.specs.Prelude.{marks_of};
+ghost use Rattle.cluster.specs.Copies.Prelude.{IsFirstMark, HasNoMark};
+
+use std::marker::Model;
+
+/// A set of numbers below 64, one bit each. Contracts see the list of 64 marks.
+#[derive(Debug, Drop)]
+pub struct Marks {
+    bits: u64,
+}
+
+impl Model for Marks {
+    ghost use Rattle.std.specs.Prelude.{List, Bool};
+    ghost use Rattle.page.specs.Marks.{marks_of};
+
+    ghost Value = { List Bool };
+
+    ghost view = { λ m. marks_of 64 m.bits };
+}
+
+impl Marks {
+    /// No number.
+    pub fn none() -> Marks
+        ensures { result ≡ replicate 64 false }
+    {
+        Marks { bits: 0 }
+    }
+
+    /// Whether the number is there.
+    pub fn has(&self, number: usize) -> bool
+        requires { number < 64 }
+        ensures { slice_get self.now number ≡ Some result }
+    {
+        self.bits >> number & 1 == 1
+    }
+
+    /// The least number from `start` on that is there.
+    pub fn first_from(&self, start: usize) -> Option<usize>
+        ensures some { IfSome result (λ n. IsFirstMark self.now start n) }
+        ensures none { IfNone result (HasNoMark self.now start) }
+    {
+        if start >= 64 {
+            return None;
+        }
+        let rest = self.bits >> start;
+        if rest == 0 {
+            return None;
+        }
+        Some(start + rest.trailing_zeros() as usize)
+    }
+
+    /// Adds the number.
+    pub fn add(&mut self, number: usize)
+        requires { number < 64 }
+        ensures { self.new ≡ slice_set self.old number true }
+    {
+        self.bits |= 1 << number;
+    }
+}

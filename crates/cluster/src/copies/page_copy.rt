@@ -1,0 +1,209 @@
+//! A processor's copy of a page, with the records that it lacks.
+ghost use Rattle.std.specs.Prelude.{◌≡◌, ◌<◌, ◌≤◌, ◌^◌, Some, None, Ok, IfOk, IfSome, IfNone, OnOk, [], ◌∷◌, ◌+◌};
+ghost use Rattle.std.specs.Prelude.{length, map, slice_get, sum_by};
+ghost use Rattle.std.specs.Option.{option_map};
+ghost use Rattle.base.specs.Prelude.{records_applied, Has};
+ghost use Rattle.journal.specs.Prelude.{HasCount, InClosingOrder};
+ghost use Rattle.page.specs.Prelude.{IsHarvest, IsClean};
+ghost use Rattle.page.specs.declared.page.Access.TheVariants.{Valid, Invalid};
+ghost use Rattle.interval.specs.Prelude.{SentRecord};
+ghost use Rattle.book.specs.Prelude.{missing_of};
+ghost use Rattle.cluster.specs.Copies.Prelude.{AllFit, IsOwner, may_use, words_if, record_words, AreCountable};
+ghost use Rattle.cluster.specs.Copies.Prelude.{fetched, written_at, zeros, IsAfterNews, IsSameCopy, MayLack, cleaned};
+ghost use Rattle.cluster.specs.Copies.Prelude.{AreCounts};
+
+use crate::copies::marks::Marks;
+use crate::copies::missing::Backlog;
+use interval::Sent;
+use page::{Access, Page, Record};
+use std::alloc::{AllocError, Global};
+use std::marker::Model;
+
+/// What a fetch applies: of how many owners, how many records, and how many words.
+#[derive(Clone, Copy, Debug, PartialEq, Eq)]
+pub struct MissingCounts {
+    /// Owners of records.
+    pub writers: u32,
+    /// Records.
+    pub records: u32,
+    /// Words of all records, each as often as it is sent.
+    pub words: u32,
+}
+
+/// A processor's copy of a page, and the records that came for it since it was last valid, in the
+/// order in which their intervals were closed.
+#[derive(Debug, Drop)]
+pub struct Replica {
+    page: Page,
+    missing: Backlog,
+}
+
+impl Model for Replica {
+    ghost use Rattle.cluster.specs.Copies.Copies.{Copied};
+
+    ghost Value = { Copied };
+
+    ghost view = { λ r. record {
+      page = r.page;
+      missing = r.missing.records;
+      room = r.missing.room;
+    } };
+}
+
+impl Replica {
+    /// A valid copy of `words` zeros (1 to 64). Answers `AllocError` where memory for them is refused.
+    pub fn zero(alloc: Global, words: usize) -> Result<Replica, AllocError>
+        requires some { 0 < words }
+        requires few { words ≤ 64 }
+        ensures { IfOk result (λ r. r ≡ zeros words) }
+    {
+        Ok(Replica {
+            page: Page::zero(alloc, words)?,
+            missing: Backlog::new(alloc),
+        })
+    }
+
+    /// Whether the copy lacks nothing.
+    pub fn is_valid(&self) -> bool
+        ensures { result ≡ may_use self.now.page.access }
+    {
+        self.page.access() == Access::Valid
+    }
+
+    /// Its words, where it lacks nothing.
+    pub fn words(&self) -> Option<&[u32]>
+        ensures { option_map (λ words. words.now) result
+            ≡ words_if (may_use self.now.page.access) self.now }
+    {
+        if !self.is_valid() {
+            return None;
+        }
+        Some(self.page.words())
+    }
+
+    /// The word at `offset`.
+    pub fn load(&self, offset: usize) -> u32
+        requires valid { self.now.page.access ≡ Valid }
+        requires in_range { offset < length self.now.page.words }
+        ensures { slice_get self.now.page.words offset ≡ Some result }
+    {
+        self.page.load(offset)
+    }
+
+    /// Writes the word at `offset`, and marks it dirty.
+    pub fn store(&mut self, offset: usize, value: u32)
+        requires valid { self.old.page.access ≡ Valid }
+        requires in_range { offset < length self.old.page.words }
+        ensures { self.new ≡ written_at self.old offset value }
+    {
+        self.page.store(offset, value);
+    }
+
+    /// What a fetch applies now: of how many owners, how many records, and how many words.
+    pub fn counts(&self) -> MissingCounts
+        requires few { AreCountable self.now.missing }
+        requires fit { AllFit (length self.now.page.words) self.now.missing }
+        ensures { AreCounts self.now.missing result }
+    {
+        let missing = &self.missing;
+        MissingCounts {
+            writers: writers_of(missing),
+            records: missing.len() as u32,
+            words: words_in(missing),
+        }
+    }
+
+    /// The record of its dirty words, as words of page `page`, where there are some. Takes memory only then.
+    pub(crate) fn harvest(&self, page: usize) -> Result<Option<Record>, AllocError>
+        ensures clean { IsClean self.now.page → result ≡ Ok None }
+        ensures none { IfOk result (λ r. IfNone r (IsClean self.now.page)) }
+        ensures some { IfOk result (λ r. IfSome r (IsHarvest page self.now.page)) }
+    {
+        self.page.harvest(page)
+    }
+
+    /// Cleans its words.
+    pub(crate) fn clean(&mut self)
+        ensures { self.new ≡ cleaned self.old }
+    {
+        self.page.clean();
+    }
+
+    /// Makes room for `count` more records. Answers `AllocError` where memory for them is refused.
+    pub(crate) fn reserve(&mut self, count: usize) -> Result<(), AllocError>
+        ensures same { IsSameCopy self.old self.new }
+        ensures ok { OnOk result (count ≤ self.new.room) }
+    {
+        self.missing.reserve(count)
+    }
+
+    /// Puts a record among those that are missing, at its place in closing order, and closes the copy to loads
+    /// and stores. Takes no memory.
+    pub(crate) fn learn(&mut self, sent: Sent)
+        requires { MayLack self.old (sent ∷ []) }
+        ensures news { IsAfterNews self.old (sent ∷ []) self.new }
+        ensures room { self.new.room + 1 ≡ self.old.room }
+    {
+        self.missing.put(sent);
+        self.page.set_invalid();
+    }
+
+    /// Applies the missing records, in the order in which their intervals were closed, and makes the copy
+    /// valid. What was missing is room again.
+    pub fn fetch(&mut self)
+        requires invalid { self.old.page.access ≡ Invalid }
+        requires fit { AllFit (length self.old.page.words) self.old.missing }
+        ensures { self.new ≡ fetched self.old }
+    {
+        apply_all(&mut self.page, &self.missing);
+        self.page.set_valid();
+        self.missing.clear();
+    }
+}
+
+/// Applies the records in their order.
+fn apply_all(page: &mut Page, missing: &Backlog)
+    requires invalid { page.old.access ≡ Invalid }
+    requires fit { AllFit (length page.old.words) missing.now.records }
+    ensures { page.new ≡ record page.old
+        { words = records_applied page.old.words (map record_words missing.now.records) } }
+{
+    for index in 0..missing.len() {
+        let sent = missing.at(index);
+        let content: &Record = &sent.content;
+        page.apply(content);
+    }
+}
+
+/// How many owners the records have.
+fn writers_of(missing: &Backlog) -> u32
+    requires few { length missing.now.records < 2 ^ 32 }
+    requires fit { (x : SentRecord) → Has missing.now.records x → x.notice.owner < 64 }
+    ensures { HasCount (IsOwner missing.now.records) result }
+{
+    let mut owners = Marks::none();
+    let mut count = 0;
+    for index in 0..missing.len() {
+        let sent = missing.at(index);
+        let owner = sent.notice.owner;
+        if !owners.has(owner) {
+            owners.add(owner);
+            count += 1;
+        }
+    }
+    count
+}
+
+/// How many words the records have.
+fn words_in(missing: &Backlog) -> u32
+    requires { sum_by (λ x. length (record_words x)) missing.now.records < 2 ^ 32 }
+    ensures { result ≡ sum_by (λ x. length (record_words x)) missing.now.records }
+{
+    let mut count = 0;
+    for index in 0..missing.len() {
+        let sent = missing.at(index);
+        let content: &Record = &sent.content;
+        count += content.words().len() as u32;
+    }
+    count
+}

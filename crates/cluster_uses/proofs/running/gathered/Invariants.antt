@@ -1,5 +1,0 @@
-use Rattle.std.proofs.Common.{◌≡◌, map}
-use Rattle.cluster_uses.proofs.running.gathered.Given as goal
-
-abbrev pub invariant-loop-processor : goal.invariant-loop-processor
-invariant-loop-processor g l = l.processors.items ≡ map (λ p. p.0) l.yielded

@@ -1,0 +1,104 @@
+-- Histories that are alike have the same order and the same races.
+use Rattle.std.proofs.Common.{ℕ, ◌≡◌, ◌↔◌, inl, inr, List, IsTrue, take, refl, sym, ap, subst, ◌∙◌}
+use Rattle.journal.specs.declared.event.Event.{Event}
+use Rattle.journal.specs.declared.event.Kind.{Kind}
+use Rattle.journal.specs.declared.event.Kind.TheVariants.{Load, Store, Acquire, Release, Arrive, Depart, Set, Await}
+use Rattle.journal.specs.Events.{address_of, is_store, is_arrive, is_depart}
+use Rattle.journal.specs.Order.{LetsThrough, Link, Edge, HappensBefore}
+use Rattle.journal.specs.Order.Link.{same, lets, meets}
+use Rattle.journal.specs.Order.HappensBefore.{edge, on}
+use Rattle.journal.specs.Races.{Conflict, Race}
+use Rattle.conformance.specs.Like.{valueless, SameButValues}
+use Rattle.conformance.proofs.Like.Places.{exact, AreAlike, like_at, like_take, count_like, arrive_valueless, depart_valueless}
+
+lets_valueless : (a b : Kind) → LetsThrough a b → LetsThrough (valueless a) (valueless b)
+lets_valueless (Release l) (Acquire m) h = h
+lets_valueless (Set f) (Await g) h = h
+lets_valueless _ _ h = absurd h
+
+lets_back : (a b : Kind) → LetsThrough (valueless a) (valueless b) → LetsThrough a b
+lets_back (Release l) (Acquire m) h = h
+lets_back (Set f) (Await g) h = h
+lets_back _ _ h = absurd h
+
+lets_like : (a b c d : Kind) → valueless a ≡ valueless c → valueless b ≡ valueless d → LetsThrough a b → LetsThrough c d
+lets_like a b c d first second h = lets_back c d (rw (← first, ← second) (lets_valueless a b h))
+
+link_like : (h g : List Event) (i k : ℕ) (e f x y : Event) → SameButValues h g → AreAlike e x → AreAlike f y → Link h i k e f
+    → Link g i k x y
+link_like h g i k e f x y like first second (same s) = same (sym first.processors ∙ s ∙ second.processors)
+link_like h g i k e f x y like first second (lets l) =
+    lets (lets_like e.kind f.kind x.kind y.kind first.kinds second.kinds l)
+link_like h g i k e f x y like first second (meets m) =
+    let arrivals = count_like is_arrive (take i h) (take i g) e.processor arrive_valueless (like_take h g i like) in
+    let departures = count_like is_depart (take k h) (take k g) f.processor depart_valueless (like_take h g k like) in
+    meets (record {
+      arrives = exact x.kind Arrive (sym first.kinds ∙ ap valueless m.arrives) refl;
+      departs = exact y.kind Depart (sym second.kinds ∙ ap valueless m.departs) refl;
+      episode = rw (← first.processors, ← second.processors) (sym arrivals ∙ m.episode ∙ departures);
+    })
+
+edge_like : (h g : List Event) (i k : ℕ) → SameButValues h g → Edge h i k → Edge g i k
+edge_like h g i k like e =
+    let from = like_at h g i e.from like e.from_at in
+    let to = like_at h g k e.to like e.to_at in
+    record {
+      before = e.before;
+      from = from.event;
+      to = to.event;
+      from_at = from.at;
+      to_at = to.at;
+      link = link_like h g i k e.from e.to from.event to.event like from.like to.like e.link;
+    }
+
+-- what happens before what, happens so in what is alike
+pub before_like : (h g : List Event) {i k : ℕ} → SameButValues h g → HappensBefore h i k → HappensBefore g i k
+before_like h g like (edge {i} {k} e) = edge (edge_like h g i k like e)
+before_like h g like (on {i} {m} {k} b e) = on (before_like h g like b) (edge_like h g m k like e)
+
+address_valueless : (k : Kind) → address_of (valueless k) ≡ address_of k
+address_valueless (Load a v) = refl
+address_valueless (Store a v) = refl
+address_valueless _ = refl
+
+store_valueless : (k : Kind) → is_store (valueless k) ≡ is_store k
+store_valueless (Load a v) = refl
+store_valueless (Store a v) = refl
+store_valueless _ = refl
+
+address_like : (a b : Kind) → valueless a ≡ valueless b → address_of a ≡ address_of b
+address_like a b e = sym (address_valueless a) ∙ ap address_of e ∙ address_valueless b
+
+store_like : (a b : Kind) → valueless a ≡ valueless b → IsTrue (is_store a) → IsTrue (is_store b)
+store_like a b e stores = subst IsTrue (sym (store_valueless a) ∙ ap is_store e ∙ store_valueless b) stores
+
+conflict_like : (e f x y : Event) → AreAlike e x → AreAlike f y → Conflict e f → Conflict x y
+conflict_like e f x y first second c =
+    record {
+      address = c.address;
+      first = sym (address_like e.kind x.kind first.kinds) ∙ c.first;
+      second = sym (address_like f.kind y.kind second.kinds) ∙ c.second;
+      stores = elim c.stores [
+        | inl s ↦ inl (store_like e.kind x.kind first.kinds s)
+        | inr s ↦ inr (store_like f.kind y.kind second.kinds s)
+      ];
+    }
+
+race_there : (h g : List Event) (i k : ℕ) → SameButValues h g → Race h i k → Race g i k
+race_there h g i k like r =
+    let first = like_at h g i r.first like r.first_at in
+    let second = like_at h g k r.second like r.second_at in
+    record {
+      before = r.before;
+      first = first.event;
+      second = second.event;
+      first_at = first.at;
+      second_at = second.at;
+      apart = λ e. r.apart (first.like.processors ∙ e ∙ sym second.like.processors);
+      conflict = conflict_like r.first r.second first.event second.event first.like second.like r.conflict;
+      unordered = λ b. r.unordered (before_like g h (sym like) b);
+    }
+
+-- the races are the same
+pub race_like : (h g : List Event) (i k : ℕ) → SameButValues h g → Race h i k ↔ Race g i k
+race_like h g i k like = (race_there h g i k like, race_there g h i k (sym like))

@@ -1,0 +1,103 @@
+-- Histories that are alike: what stands at a place, and how many events of a kind stand before it.
+use Rattle.std.proofs.Common.{ℕ, ◌≡◌, ◌+◌, List, [], ◌∷◌, Bool, true, false, cond, Option, Some, None, map, take, slice_get, refl, sym, ap, ap₂, ◌∙◌}
+use Rattle.std.specs.Prelude.{◌==◌, ◌&&◌, option_map}
+use Rattle.std.proofs.lemmas.Bool.{false≢true}
+use Rattle.std.proofs.lemmas.List.{take-map}
+use Rattle.std.proofs.lemmas.Option.{slice_get-map, same_Some, none-some}
+use Rattle.journal.specs.declared.event.Event.{Event}
+use Rattle.journal.specs.declared.event.Kind.{Kind}
+use Rattle.journal.specs.declared.event.Kind.TheVariants.{Load, Store}
+use Rattle.journal.specs.Did.{event}
+use Rattle.journal.specs.Events.{At, count_of, is_arrive, is_depart}
+use Rattle.journal.specs.WellFormed.{Does}
+use Rattle.journal.proofs.Order.Places.{count_of-append}
+use Rattle.conformance.specs.Like.{valueless, without_value, SameButValues}
+
+-- whether a kind has a value
+abbrev pub has_value : Kind → Bool
+has_value (Load a v) = true
+has_value (Store a v) = true
+has_value k = false
+
+-- what is like a kind without a value is that kind
+pub exact : (k c : Kind) → valueless k ≡ valueless c → has_value c ≡ false → k ≡ c
+exact k c same none = back k (same ∙ plain c none)
+  where
+    plain : (x : Kind) → has_value x ≡ false → valueless x ≡ x
+    plain (Load a v) h = absurd (false≢true (sym h))
+    plain (Store a v) h = absurd (false≢true (sym h))
+    plain _ h = refl
+
+    back : (x : Kind) → valueless x ≡ c → x ≡ c
+    back (Load a v) e = absurd (false≢true (sym none ∙ ap has_value (sym e)))
+    back (Store a v) e = absurd (false≢true (sym none ∙ ap has_value (sym e)))
+    back _ e = e
+
+-- two events are the same but for their values
+pub record AreAlike (e f : Event) : Type 0 where
+  pub processors : e.processor ≡ f.processor
+  pub kinds : valueless e.kind ≡ valueless f.kind
+
+-- at the same place of histories that are alike
+pub record LikeAt (g : List Event) (i : ℕ) (e : Event) : Type 0 where
+  pub event : Event
+  pub at : At g i event
+  pub like : AreAlike e event
+
+-- an event of the one history has its like in the other
+pub like_at : (h g : List Event) (i : ℕ) (e : Event) → SameButValues h g → At h i e → LikeAt g i e
+like_at h g i e like at =
+    let there : option_map without_value (slice_get g i) ≡ Some (without_value e) =
+    sym (slice_get-map without_value g i) ∙ ap (λ es. slice_get es i) (sym like)
+    ∙ slice_get-map without_value h i ∙ ap (option_map without_value) at in
+    found (slice_get g i) refl there
+  where
+    found : (o : Option Event) → slice_get g i ≡ o → option_map without_value o ≡ Some (without_value e) → LikeAt g i e
+    found None here is = absurd (none-some (without_value e) is)
+    found (Some f) here is =
+        let same : without_value f ≡ without_value e = same_Some (without_value f) (without_value e) is in
+        record {
+          event = f;
+          at = here;
+          like = record {
+            processors = sym (ap (λ (x : Event). x.processor) same);
+            kinds =
+                sym (ap (λ (x : Event). x.kind) same);
+          };
+        }
+
+-- so what has no value is done in both
+pub does_like : (h g : List Event) (i p : ℕ) (k : Kind) → SameButValues h g → has_value k ≡ false → Does h i p k → Does g i p k
+does_like h g i p k like none does =
+    let l = like_at h g i (event p k) like does in
+    let kind : l.event.kind ≡ k = exact l.event.kind k (sym l.like.kinds) none in
+    let same : l.event ≡ event p k = ap₂ event (sym l.like.processors) kind in
+    l.at ∙ ap Some same
+
+-- fronts of histories that are alike are alike
+pub like_take : (h g : List Event) (i : ℕ) → SameButValues h g → SameButValues (take i h) (take i g)
+like_take h g i like = sym (take-map without_value i h) ∙ ap (take i) like ∙ take-map without_value i g
+
+-- as many events of a kind, where the kind doesn't tell values apart
+pub count_like : (is : Kind → Bool) (h g : List Event) (p : ℕ) → ((k : Kind) → is (valueless k) ≡ is k) → SameButValues h g
+    → count_of is h p ≡ count_of is g p
+count_like is h g p same like = sym (valueless_count h) ∙ ap (λ (es : List Event). count_of is es p) like
+    ∙ valueless_count g
+  where
+    valueless_count : (es : List Event) → count_of is (map without_value es) p ≡ count_of is es p
+    valueless_count [] = refl
+    valueless_count (e ∷ es) =
+        let one : Bool → ℕ = λ b. 0 + cond ((e.processor == p) && b) 1 0 in
+        count_of-append is (without_value e ∷ []) (map without_value es) p
+        ∙ ap (λ (n : ℕ). one (is (valueless e.kind)) + n) (valueless_count es)
+        ∙ ap (λ b. one b + count_of is es p) (same e.kind) ∙ sym (count_of-append is (e ∷ []) es p)
+
+pub arrive_valueless : (k : Kind) → is_arrive (valueless k) ≡ is_arrive k
+arrive_valueless (Load a v) = refl
+arrive_valueless (Store a v) = refl
+arrive_valueless _ = refl
+
+pub depart_valueless : (k : Kind) → is_depart (valueless k) ≡ is_depart k
+depart_valueless (Load a v) = refl
+depart_valueless (Store a v) = refl
+depart_valueless _ = refl

@@ -1,0 +1,38 @@
+-- How a run by turns may end.
+use Rattle.std.specs.Prelude.{◌≡◌, List, []}
+use Rattle.journal.specs.declared.event.Event.{Event}
+use Rattle.journal.specs.Counted.{AreCounted}
+use Rattle.journal.specs.Deadlocks.{IsDeadlock}
+use Rattle.journal.specs.Loads.{Explained}
+use Rattle.journal.specs.Log.{HoldsRest, Log}
+use Rattle.journal.specs.WellFormed.{WellFormed}
+use Rattle.lrc_script.specs.Lawful.{addresses}
+use Rattle.lrc_script.specs.Plan.{Plan}
+use Rattle.conformance.specs.Begins.{BeginsScript}
+use Rattle.conformance.specs.Follows.{plan_sizes}
+use Rattle.conformance.specs.declared.ended.Ended.{Ended}
+use Rattle.conformance.specs.declared.ended.Ended.TheVariants.{Halted, Whole}
+use Rattle.conformance.specs.Cuts.{HasNoCut}
+use Rattle.conformance.specs.Reports.{FetchesAreNeeded, IsReportOf}
+
+-- the journal has the script's sizes and holds what is left, after some of it was cut off, of a history that is well
+-- formed and explained, fetches what is missing, where an access wants it, and begins the script, and that is a deadlock:
+-- each processor waits, and none is ready; and nothing is cut off where the script has no cut
+pub record IsJournalSoFar (s : Plan) (j : Log) : Type 0 where
+  pub processors : j.processors ≡ s.processors
+  pub addresses_are : j.addresses ≡ addresses s
+  pub history : List Event
+  pub taken : List Event
+  pub holds : HoldsRest j taken history
+  pub uncut : HasNoCut s → taken ≡ []
+  pub well_formed : WellFormed (plan_sizes s) history
+  pub explained : Explained history
+  pub counted : AreCounted (plan_sizes s) history
+  pub fetches : FetchesAreNeeded s history
+  pub begins : BeginsScript s history
+  pub deadlock : IsDeadlock (plan_sizes s) history
+
+-- a report of the script, or such a journal, with the least processor that waits: in a deadlock that is processor 0
+abbrev pub IsEndOf : Plan → Ended → Type 0
+IsEndOf s (Whole report) = IsReportOf s report
+IsEndOf s (Halted halt) = IsJournalSoFar s halt.journal × (halt.processor ≡ 0)

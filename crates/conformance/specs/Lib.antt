@@ -1,0 +1,14 @@
+pub mod Instructions
+pub mod Follows
+pub mod Begins
+pub mod Like
+pub mod Recomputed
+pub mod Laws
+pub mod Prelude
+pub mod ByTurns
+pub mod Cuts
+pub mod Ends
+pub mod Fetches
+pub mod Orders
+pub mod Reports
+pub mod Turns

@@ -1,0 +1,84 @@
+//! What runs scripts.
+ghost use Rattle.std.specs.Prelude.{ℕ, ◌≡◌, ◌<◌, IfErr, IfOk, Option, Result};
+ghost use Rattle.std.specs.Thread.{IsSync};
+ghost use Rattle.lrc_script.specs.Prelude.{IsLawful, plan_of};
+ghost use Rattle.conformance.specs.Prelude.{IsEndBy, IsEndOf, IsReportBy, IsReportOf, IsStuckBy, orders_of};
+ghost use Rattle.conformance.specs.declared.cause.Cause.TheVariants as cause;
+
+use crate::cause::RunFault;
+use crate::ended::Ended;
+use lrc_report::Report;
+use lrc_script::script::Script;
+use std::alloc::Global;
+use std::sync::Wait;
+use std::thread::Threads;
+
+/// Which lock stands round the book.
+#[derive(Clone, Copy, Debug, PartialEq, Eq)]
+pub enum LockChoice {
+    /// The array lock.
+    Array,
+    /// The ticket lock.
+    Ticket,
+}
+
+/// Runs lawful scripts. Whatever report it answers is one of the script.
+///
+/// What comes of a run is told by `ran` and `stepped`, whose meaning is each implementor's own. So who promises one of them,
+/// whatever runs the scripts, had this very call made: on threads or by turns, with this lock, and these tries or this seed.
+pub trait Runs {
+    ghost use Rattle.lrc_script.specs.Plan.{Plan};
+    ghost use Rattle.lrc_report.specs.declared.report.Report.{Report};
+    ghost use Rattle.conformance.specs.declared.cause.RunFault.{RunFault};
+    ghost use Rattle.conformance.specs.declared.runs.LockChoice.{LockChoice};
+
+    // What comes of a script by `run` with this lock and so many tries.
+    ghost ran: { Plan → LockChoice → ℕ → Result Report RunFault → Type 0 } = { λ _ _ _ _. Unit {0} };
+
+    // What comes of it by `step` with this lock and this seed.
+    ghost stepped: { Plan → LockChoice → Option ℕ → Result Report RunFault → Type 0 } = { λ _ _ _ _. Unit {0} };
+
+    /// Runs the script with a thread for each processor, started by this handle. What a processor waits for is tried for `tries` times in a row.
+    fn run<R: Threads + Wait + Sync>(
+        &self,
+        rt: &R,
+        alloc: Global,
+        script: &Script,
+        lock: LockChoice,
+        tries: u64,
+    ) -> Result<Report, RunFault>
+        requires threads { IsSync R.row }
+        requires tries { 0 < tries }
+        requires lawful { IsLawful (plan_of script.now) }
+        ensures report { IfOk result (IsReportOf (plan_of script.now)) }
+        ensures ran { ran (plan_of script.now) lock tries result };
+
+    /// Runs the script by turns on one thread, in the orders that the seed draws, or by rising number without one.
+    fn step<R: Wait>(
+        &self,
+        rt: &R,
+        alloc: Global,
+        script: &Script,
+        lock: LockChoice,
+        seed: Option<u64>,
+    ) -> Result<Report, RunFault>
+        requires { IsLawful (plan_of script.now) }
+        ensures report { IfOk result (IsReportOf (plan_of script.now)) }
+        ensures stepped { stepped (plan_of script.now) lock seed result }
+        ensures turns { IfOk result (IsReportBy (plan_of script.now) (orders_of (plan_of script.now) seed)) }
+        ensures stuck { IfErr result (λ fault. fault.cause ≡ cause.Stuck
+            → IsStuckBy (plan_of script.now) (orders_of (plan_of script.now) seed) fault.processor) };
+
+    /// Runs the script as `step` does, but that a run that can't go on is no fault: it answers the journal so far.
+    fn step_as_far<R: Wait>(
+        &self,
+        rt: &R,
+        alloc: Global,
+        script: &Script,
+        lock: LockChoice,
+        seed: Option<u64>,
+    ) -> Result<Ended, RunFault>
+        requires { IsLawful (plan_of script.now) }
+        ensures end { IfOk result (IsEndOf (plan_of script.now)) }
+        ensures turns { IfOk result (IsEndBy (plan_of script.now) (orders_of (plan_of script.now) seed)) };
+}

@@ -1,9 +1,0 @@
-//! Scripts drawn from a generator, to be run under many schedules by tests.
-//!
-//! **What is proved.** `draw::guarded` and `draw::free` give lawful scripts by the stated draws: `drawn` says which plan
-//! the generator's words give.
-//!
-//! **What is only tested** (in `lrc_script_tests`): that a script is drawn from each number, up to the greatest.
-#![tactic(auto)]
-
-pub mod draw;

@@ -1,5 +1,0 @@
-use Rattle.embed.specs.Workers.{IsSameWorker}
-use Rattle.embed.proofs.worker.Worker.cool.Given as goal
-
-abbrev pub invariant-loop-count : goal.invariant-loop-count
-invariant-loop-count g l = IsSameWorker l.fn.self l.self

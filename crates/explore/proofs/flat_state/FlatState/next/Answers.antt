@@ -1,0 +1,130 @@
+use Rattle.std.proofs.Common.{ℕ, ◌≡◌, ◌<◌, ◌≤◌, ◌↔◌, List, Some, length, slice_get, slice_index, refl, sym, ap, subst, ◌∙◌, arith}
+use Rattle.std.specs.Global.{Vec}
+use Rattle.std.proofs.lemmas.Bool.{false≢true}
+use Rattle.std.proofs.lemmas.Option.{none-some, same_Some}
+use Rattle.journal.specs.declared.event.Event.{Event}
+use Rattle.journal.specs.declared.event.Kind.{Kind}
+use Rattle.journal.specs.Did.{did, event}
+use Rattle.journal.specs.Flat.{AnswersWord}
+use Rattle.journal.specs.WellFormed.{KindInRange, MayFollow}
+use Rattle.lrc_script.specs.Plan.{Plan}
+use Rattle.conformance.specs.Follows.{calls_of, plan_sizes}
+use Rattle.explore.specs.declared.prefixes.script_call.ScriptCall.{ScriptCall}
+use Rattle.explore.specs.Prefixes.Beginnings.{IsFlatBeginning}
+use Rattle.explore.specs.Prefixes.Calling.{IsStep, last_reply}
+use Rattle.explore.specs.declared.flat_state.FlatState.{FlatState}
+use Rattle.explore.specs.Machines.{AreLawfulSteps, Knows}
+use Rattle.explore.proofs.Machines.{at_step, memory_long, past_steps, read_at, row_steps, row_proper, rows_few, rows_many, sizes_small, step_range, step_word}
+use Rattle.explore.proofs.flat_state.FlatState.next.Goals as goal
+
+pub returns-then-done-len : goal.returns-then-done-len
+returns-then-done-len c = λ s g steps knows k.
+    let p = c.args.processor in
+    let few = rows_few s c.args.steps.now steps in
+    let lt = c.requires.processor in
+    let row = c.index-steps-processor.result in
+    let at = read_at c.args.steps.now p row lt c.index-steps-processor.is in
+    let of = row_steps s c.args.steps.now p row steps.are at in
+    let long = c.len.ensures in
+    let over = c.if-done-len.true in
+    let past : length row.items ≤ slice_index c.args.self.now.done p = omega arith in (
+      λ none. absurd (none-some k none),
+      λ h. absurd (past_steps s g c.args.self.now p row steps.lawful of (omega arith) knows past k h),
+    )
+
+pub call_of-kind-requires : goal.call_of-kind-requires
+call_of-kind-requires c =
+    let run = c.requires.running in
+    let m = c.args.self.now in
+    let p = c.args.processor in
+    let row = c.index-steps-processor.result in
+    let at = read_at c.args.steps.now p row c.requires.processor c.index-steps-processor.is in
+    let of = row_steps run.plan c.args.steps.now p row run.lawful.are at in
+    let long = c.len.ensures in
+    let under = c.if-done-len.false in
+    let n = slice_index m.done p in
+    let here = read_at row.items n c.index.result.now (omega arith) c.index.ensures in
+    step_word run.plan c.index.result.now (length c.deref.result.now)
+    (ap (λ (ws : List ℕ). length ws) c.deref.ensures.value ∙ memory_long run.plan run.events m run.knows)
+    (row_proper run.plan p row n c.index.result.now run.lawful.lawful of here)
+
+-- what the call is, by the words of the machine
+module _ (s : Plan) (g : List Event) (m : FlatState) (steps : List (Vec ScriptCall)) (p : ℕ) (row : Vec ScriptCall)
+    (lawful : AreLawfulSteps s steps) (knows : Knows s g m) (lt : p < length steps) (at : slice_get steps p ≡ Some row)
+    (x : ScriptCall) (here : slice_get row.items (slice_index m.done p) ≡ Some x) (reply : ℕ) (words : List ℕ)
+    (told : (t : Plan) (h : List Event) → Knows t h m → reply ≡ last_reply (calls_of h p))
+    (are : words ≡ m.memory.items) (c : Kind)
+    (says : (k : Kind) → (c ≡ k) ↔ (IsStep reply x k × AnswersWord words k)) where
+  in_range : KindInRange (plan_sizes s) c
+  in_range =
+      step_range s reply x c
+      (row_proper s p row (slice_index m.done p) x lawful.lawful (row_steps s steps p row lawful.are at) here)
+      ((says c).0 refl).0
+
+  goes : (k : Kind) → IsFlatBeginning s (did g p k) ↔ (MayFollow (plan_sizes s) g (event p c) × (c ≡ k))
+  goes =
+      let few = rows_few s steps lawful in
+      at_step s g m p row lawful.lawful (row_steps s steps p row lawful.are at) (omega arith) knows reply (told s g knows) x
+      here c (subst (λ ws. (k : Kind) → (c ≡ k) ↔ (IsStep reply x k × AnswersWord ws k)) are says)
+
+pub may_follow-requires : goal.may_follow-requires
+may_follow-requires c =
+    let run = c.requires.running in
+    let m = c.args.self.now in
+    let p = c.args.processor in
+    let row = c.index-steps-processor.result in
+    let lt = c.requires.processor in
+    let at = read_at c.args.steps.now p row lt c.index-steps-processor.is in
+    let long = c.len.ensures in
+    let under = c.if-done-len.false in
+    let here = read_at row.items (slice_index m.done p) c.index.result.now (omega arith) c.index.ensures in
+    record {
+      sizes = plan_sizes run.plan;
+      small = sizes_small run.plan run.lawful.lawful;
+      processors_are = rows_many run.plan c.args.steps.now run.lawful;
+      processor = lt;
+      in_range =
+          in_range run.plan run.events m c.args.steps.now p row run.lawful run.knows lt at c.index.result.now here
+          c.reply_before.result c.deref.result.now c.reply_before.ensures c.deref.ensures.value c.call_of-kind.result
+          c.call_of-kind.ensures;
+      events = run.events;
+      tells = run.knows.waiting;
+    }
+
+pub returns-then-may_follow : goal.returns-then-may_follow
+returns-then-may_follow c = λ s g lawful knows k.
+    let m = c.args.self.now in
+    let p = c.args.processor in
+    let row = c.index-steps-processor.result in
+    let lt = c.requires.processor in
+    let at = read_at c.args.steps.now p row lt c.index-steps-processor.is in
+    let long = c.len.ensures in
+    let under = c.if-done-len.false in
+    let here = read_at row.items (slice_index m.done p) c.index.result.now (omega arith) c.index.ensures in
+    let goes_on = goes s g m c.args.steps.now p row lawful knows lt at c.index.result.now here c.reply_before.result
+    c.deref.result.now c.reply_before.ensures c.deref.ensures.value c.call_of-kind.result c.call_of-kind.ensures k in
+    let range = in_range s g m c.args.steps.now p row lawful knows lt at c.index.result.now here c.reply_before.result
+    c.deref.result.now c.reply_before.ensures c.deref.ensures.value c.call_of-kind.result c.call_of-kind.ensures in
+    let may = c.may_follow.ensures (plan_sizes s) g (rows_many s c.args.steps.now lawful) range knows.waiting in (
+      λ is. goes_on.1 (may.0 c.if-may_follow.true, same_Some c.call_of-kind.result k is),
+      λ h. ap Some (goes_on.0 h).1,
+    )
+
+pub returns-else-may_follow : goal.returns-else-may_follow
+returns-else-may_follow c = λ s g lawful knows k.
+    let m = c.args.self.now in
+    let p = c.args.processor in
+    let row = c.index-steps-processor.result in
+    let lt = c.requires.processor in
+    let at = read_at c.args.steps.now p row lt c.index-steps-processor.is in
+    let long = c.len.ensures in
+    let under = c.if-done-len.false in
+    let here = read_at row.items (slice_index m.done p) c.index.result.now (omega arith) c.index.ensures in
+    let goes_on = goes s g m c.args.steps.now p row lawful knows lt at c.index.result.now here c.reply_before.result
+    c.deref.result.now c.reply_before.ensures c.deref.ensures.value c.call_of-kind.result c.call_of-kind.ensures k in
+    let range = in_range s g m c.args.steps.now p row lawful knows lt at c.index.result.now here c.reply_before.result
+    c.deref.result.now c.reply_before.ensures c.deref.ensures.value c.call_of-kind.result c.call_of-kind.ensures in
+    let may = c.may_follow.ensures (plan_sizes s) g (rows_many s c.args.steps.now lawful) range knows.waiting in (
+      λ none. absurd (none-some k none),
+      λ h. absurd (false≢true (sym c.if-may_follow.false ∙ may.1 (goes_on.0 h).0)),
+    )

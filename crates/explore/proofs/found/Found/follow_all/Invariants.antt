@@ -1,7 +1,0 @@
-use Rattle.lrc_script.specs.Plan.{Plan}
-use Rattle.explore.specs.Followed.{AreFollowed, MayFollowAll}
-use Rattle.explore.proofs.found.Found.follow_all.Given as goal
-
-abbrev pub invariant-loop-processor : goal.invariant-loop-processor
-invariant-loop-processor l = (s : Plan) → MayFollowAll s l.initial.self l.place l.nexts
-    → AreFollowed s l.initial.self l.self l.place l.processor

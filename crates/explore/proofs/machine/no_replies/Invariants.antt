@@ -1,6 +1,0 @@
-use Rattle.std.proofs.Common.{◌≡◌, [], replicate}
-use Rattle.explore.specs.Machines.{items_of}
-use Rattle.explore.proofs.machine.no_replies.Given as goal
-
-abbrev pub invariant-loop : goal.invariant-loop
-invariant-loop l = items_of l.all.items ≡ replicate l.counter []

@@ -1,0 +1,141 @@
+-- A shortest beginning that races, and the latest event that races with its last one.
+use Rattle.std.proofs.Common.{ℕ, zero, suc, ◌≡◌, ◌+◌, ◌<◌, ◌≤◌, inl, inr, List, [], ◌∷◌, ◌++◌, length, take, drop, sym, subst, ◌∙◌, length-append, take-append-drop, length-take-le, arith}
+use Rattle.std.proofs.lemmas.Bool.{cases_order}
+use Rattle.std.proofs.lemmas.Option.{none-some, same_Some}
+use Rattle.std.specs.Prelude.{Some, slice_get}
+use Rattle.journal.specs.declared.event.Event.{Event}
+use Rattle.journal.specs.Events.{At}
+use Rattle.journal.specs.Order.{HappensBefore}
+use Rattle.journal.specs.Order.HappensBefore.{edge, on}
+use Rattle.journal.specs.Races.{Race, RaceFree}
+use Rattle.journal.proofs.Order.Places.{at_within}
+use Rattle.journal.proofs.Order.HappensBefore.{goes_forward, ends_within, transitive, longer}
+use Rattle.base.proofs.Places.{slice_get-take}
+use Rattle.lrc_script.specs.Plan.{Plan}
+use Rattle.explore.specs.Prefixes.Beginnings.{IsFlatBeginning}
+use Rattle.explore.proofs.prefixes.Beginnings.{front_begins}
+use Rattle.explore.proofs.prefixes.Removal.Places.{lift, lift_before, lowered}
+use Rattle.explore.proofs.prefixes.Removal.Order.{race_left}
+use Rattle.explore.proofs.prefixes.Removal.Removed.{IsRemovable, others_behind, removable, removed}
+
+-- what holds of each list around the item x holds of a list where x stands
+pub around : {A : Type 0} (x : A) (P : List A → ℕ → Type 0) → ((a b : List A) → P (a ++ x ∷ b) (length a))
+    → (xs : List A) (k : ℕ) → slice_get xs k ≡ Some x → P xs k
+around x P h [] k at = absurd (none-some x at)
+around x P h (y ∷ xs) zero at = subst (λ z. P (z ∷ xs) 0) (sym (same_Some y x at)) (h [] xs)
+around x P h (y ∷ xs) (suc k) at = around x (λ ys n. P (y ∷ ys) (suc n)) (λ a b. h (y ∷ a) b) xs k at
+
+-- a front is a beginning
+pub begins_take : (s : Plan) (g : List Event) (n : ℕ) → IsFlatBeginning s g → IsFlatBeginning s (take n g)
+begins_take s g n h =
+    front_begins s (take n g) (drop n g) (subst (IsFlatBeginning s) (sym (take-append-drop n g)) h)
+
+-- and the front up to the second of two that race has their race
+pub race_take : (g : List Event) (i k : ℕ) → Race g i k → Race (take (suc k) g) i k
+race_take g i k race =
+    let less = race.before in
+    record {
+      before = race.before;
+      first = race.first;
+      second = race.second;
+      first_at = slice_get-take g (suc k) i (omega arith) ∙ race.first_at;
+      second_at = slice_get-take g (suc k) k (omega arith) ∙ race.second_at;
+      apart = race.apart;
+      conflict = race.conflict;
+      unordered = λ h. race.unordered (subst (λ es. HappensBefore es i k) (take-append-drop (suc k) g)
+          (longer (take (suc k) g) (drop (suc k) g) h));
+    }
+
+-- g's last event, at this place, races with that at i and with none between them, and no shorter beginning races
+pub record RacesLast (s : Plan) (g : List Event) (i last : ℕ) : Type 0 where
+  pub begins : IsFlatBeginning s g
+  pub long : length g ≡ suc last
+  pub shorter : (f : List Event) → length f ≤ last → IsFlatBeginning s f → RaceFree f
+  pub race : Race g i last
+  pub later : (m : ℕ) → i < m → ¬ Race g m last
+
+-- so no race ends before
+no_race_before : (s : Plan) (g : List Event) (i last m n : ℕ) → RacesLast s g i last → n < last → ¬ Race g m n
+no_race_before s g i last m n r lt race =
+    let within = at_within g n race.second race.second_at in
+    let long = length-take-le (suc n) g (omega arith) in
+    r.shorter (take (suc n) g) (omega arith) (begins_take s g (suc n) r.begins) m n (race_take g m n race)
+
+-- an event between that is reached from i, and is the last such one, could be left out
+nearest : (s : Plan) (a b : List Event) (x : Event) (i last : ℕ) → RacesLast s (a ++ x ∷ b) i last → length a < last
+    → HappensBefore (a ++ x ∷ b) i (length a)
+    → ((m : ℕ) → length a < m → m < last → ¬ HappensBefore (a ++ x ∷ b) i m) → ⊥
+nearest s a b x i last r before reached none =
+    r.shorter (a ++ b) (omega (arith, short)) (removed s a b x free r.begins) i low.0
+    (race_left a b x (others_behind a b x unreached) i low.0
+    (subst (λ m. Race (a ++ x ∷ b) m (lift (length a) low.0)) (sym (lift_before (length a) i forward))
+    (subst (Race (a ++ x ∷ b) i) (sym low.1) r.race)))
+  where
+    forward : i < length a
+    forward = goes_forward (a ++ x ∷ b) reached
+
+    low : (k : ℕ) × (lift (length a) k ≡ last)
+    low = lowered (length a) last (λ is. absurd (omega arith))
+
+    short : length (a ++ b) ≡ last
+    short =
+        let long = r.long in
+        let whole = length-append a (x ∷ b) in
+        let left = length-append a b in
+        omega arith
+
+    unreached : (m : ℕ) → ¬ HappensBefore (a ++ x ∷ b) (length a) m
+    unreached m h =
+        let ahead = goes_forward (a ++ x ∷ b) h in
+        let within = ends_within (a ++ x ∷ b) h in
+        let long = r.long in
+        let on_to = transitive (a ++ x ∷ b) reached h in
+        elim (cases_order m last) [
+          | inl is ↦ r.race.unordered (subst (HappensBefore (a ++ x ∷ b) i) is on_to)
+          | inr apart ↦ elim apart [ inl lt ↦ none m ahead lt on_to | inr lt ↦ absurd (omega arith) ]
+        ]
+
+    unraced : (m : ℕ) → ¬ Race (a ++ x ∷ b) (length a) m
+    unraced m race =
+        let within = at_within (a ++ x ∷ b) m race.second race.second_at in
+        let long = r.long in
+        elim (cases_order m last) [
+          | inl is ↦ r.later (length a) forward (subst (Race (a ++ x ∷ b) (length a)) is race)
+          | inr apart ↦ elim apart [
+            | inl lt ↦ no_race_before s (a ++ x ∷ b) i last (length a) m r lt race
+            | inr lt ↦ absurd (omega arith)
+          ]
+        ]
+
+    free : IsRemovable a b x
+    free = removable a b x unreached unraced
+
+-- what is reached stands in the history
+reached_at : (j : List Event) {i m : ℕ} → HappensBefore j i m → (f : Event) × At j m f
+reached_at j (edge e) = (e.to, e.to_at)
+reached_at j (on h e) = (e.to, e.to_at)
+
+-- so none between is reached from i
+unreached_between : (s : Plan) (g : List Event) (i last : ℕ) → RacesLast s g i last → (c m : ℕ) → m < last → last ≤ m + c
+    → ¬ HappensBefore g i m
+unreached_between s g i last r zero m lt le h = absurd (omega arith)
+unreached_between s g i last r (suc c) m lt le h =
+    let there = reached_at g h in
+    around there.0
+    (λ xs n. RacesLast s xs i last → n < last → HappensBefore xs i n
+    → ((k : ℕ) → n < k → k < last → ¬ HappensBefore xs i k) → ⊥)
+    (λ a b. nearest s a b there.0 i last) g m there.1 r lt h
+    (λ k above below. unreached_between s g i last r c k below (omega arith))
+
+-- and nothing at all
+pub unreached : (s : Plan) (g : List Event) (i last : ℕ) → RacesLast s g i last → (m : ℕ) → ¬ HappensBefore g i m
+unreached s g i last r m h =
+    let within = ends_within g h in
+    let long = r.long in
+    elim (cases_order m last) [
+      | inl is ↦ r.race.unordered (subst (HappensBefore g i) is h)
+      | inr apart ↦ elim apart [
+        | inl lt ↦ unreached_between s g i last r last m lt (omega arith) h
+        | inr lt ↦ absurd (omega arith)
+      ]
+    ]

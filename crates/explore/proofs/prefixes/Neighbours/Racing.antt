@@ -1,0 +1,92 @@
+-- Two accesses that may come next and conflict race where they come one after the other.
+use Rattle.std.proofs.Common.{ℕ, ◌≡◌, ◌≢◌, ◌+◌, inl, inr, List, [], ◌∷◌, length, replicate, Some, sym, ap, subst, ◌∙◌, length-append, arith}
+use Rattle.std.proofs.lemmas.Option.{none-some}
+use Rattle.journal.specs.declared.event.Event.{Event}
+use Rattle.journal.specs.declared.event.Kind.{Kind}
+use Rattle.journal.specs.declared.event.Kind.TheVariants.{Release, Set}
+use Rattle.journal.specs.Did.{did, event}
+use Rattle.journal.specs.Events.{At, address_of}
+use Rattle.journal.specs.Flat.{memory_after}
+use Rattle.journal.specs.Order.{LetsThrough, Link, Edge, HappensBefore}
+use Rattle.journal.specs.Order.Link.{same, lets, meets}
+use Rattle.journal.specs.Order.HappensBefore.{edge, on}
+use Rattle.journal.specs.Races.{Conflict}
+use Rattle.journal.proofs.Order.Places.{at_same, at_last, at_longer}
+use Rattle.journal.proofs.Order.HappensBefore.{goes_forward}
+use Rattle.base.proofs.Places.{push_cases}
+use Rattle.lrc_script.specs.Lawful.{addresses}
+use Rattle.explore.specs.Prefixes.Laws.{MayComeNext, RacingLaw}
+use Rattle.explore.proofs.prefixes.Beginnings.{next_begins}
+use Rattle.explore.proofs.prefixes.Neighbours.Replies.{replied, replied_replyless, conflict_second, access_over}
+
+-- an access lets nothing through
+lets_none : (j k : Kind) (w : ℕ) → address_of j ≡ Some w → ¬ LetsThrough j k
+lets_none (Release l) k w at h = none-some w at
+lets_none (Set f) k w at h = none-some w at
+lets_none _ _ w at h = h
+
+-- nothing leads from an access to the next event, of another
+no_link : (j : List Event) (i k : ℕ) (e f : Event) (w : ℕ) → address_of e.kind ≡ Some w → e.processor ≢ f.processor
+    → ¬ Link j i k e f
+no_link j i k e f w at apart (same s) = apart s
+no_link j i k e f w at apart (lets l) = lets_none e.kind f.kind w at l
+no_link j i k e f w at apart (meets m) = none-some w (sym (ap address_of m.arrives) ∙ at)
+
+no_edge : (j : List Event) (i k : ℕ) (e f : Event) (w : ℕ) → At j i e → At j k f → address_of e.kind ≡ Some w
+    → e.processor ≢ f.processor → ¬ Edge j i k
+no_edge j i k e f w here there at apart d =
+    no_link j i k e f w at apart
+    (subst (λ x. Link j i k x f) (at_same j i d.from e d.from_at here)
+    (subst (λ y. Link j i k d.from y) (at_same j k d.to f d.to_at there) d.link))
+
+-- one event happens before the next by an edge alone
+no_order : (j : List Event) (i : ℕ) → ¬ Edge j i (i + 1) → ¬ HappensBefore j i (i + 1)
+no_order j i none h = go (i + 1) (omega arith) none h
+  where
+    go : (k : ℕ) → k ≡ i + 1 → ¬ Edge j i k → ¬ HappensBefore j i k
+    go k is without (edge d) = without d
+    go k is without (on h d) = let lt = goes_forward j h in let less = d.before in absurd (omega arith)
+
+pub racing : RacingLaw
+racing s g p q a b first second apart conflict = record {
+  kind = kind;
+  call = replied_replyless memory b;
+  beginning = (next_begins s (did g p a) q kind).1 (first, next);
+  race = record {
+    before = omega arith;
+    first = event p a;
+    second = event q kind;
+    first_at = here;
+    second_at = there;
+    apart = apart;
+    conflict = conflicts;
+    unordered = no_order (did (did g p a) q kind) (length g)
+        (no_edge (did (did g p a) q kind) (length g) (length g + 1) (event p a) (event q kind) conflict.address here
+        there conflict.first apart);
+  };
+}
+  where
+    memory : List ℕ
+    memory = memory_after (replicate (addresses s) 0) (did g p a)
+
+    kind : Kind
+    kind = replied memory b
+
+    others : (m : ℕ) (f : Event) → At (event p a ∷ []) m f → f.processor ≢ q
+    others m f at is = elim (push_cases [] (event p a) m f at) [
+      | inl old ↦ absurd (none-some f old.1)
+      | inr new ↦ apart (ap (λ (e : Event). e.processor) new.1 ∙ is)
+    ]
+
+    next : MayComeNext s (did g p a) q kind
+    next = access_over s g (event p a ∷ []) q b conflict.address conflict.second others ((next_begins s g q b).0 second).1
+
+    here : At (did (did g p a) q kind) (length g) (event p a)
+    here = at_longer (did g p a) (event q kind ∷ []) (length g) (event p a) (at_last g (event p a))
+
+    there : At (did (did g p a) q kind) (length g + 1) (event q kind)
+    there = subst (λ n. At (did (did g p a) q kind) n (event q kind)) (length-append g (event p a ∷ []))
+        (at_last (did g p a) (event q kind))
+
+    conflicts : Conflict (event p a) (event q kind)
+    conflicts = conflict_second (event p a) q memory b conflict

@@ -1,0 +1,148 @@
+-- A beginning stays one where an event is left out that nothing behind it is reached from or conflicts with.
+use Rattle.std.proofs.Common.{ℕ, suc, ◌≡◌, ◌≢◌, ◌+◌, List, [], ◌∷◌, ◌++◌, length, take, replicate, sym, ap, subst, ◌∙◌, append_assoc, append-nil, length-append, take_at, arith}
+use Rattle.std.proofs.Math.Seq.{take-append_seam}
+use Rattle.journal.specs.declared.event.Event.{Event}
+use Rattle.journal.specs.Events.{At, count_of, is_arrive, is_depart}
+use Rattle.journal.specs.Order.{Link, HappensBefore}
+use Rattle.journal.specs.Order.Link.{same, lets, meets}
+use Rattle.journal.specs.Order.HappensBefore.{edge}
+use Rattle.journal.specs.Races.{Conflict, Race}
+use Rattle.journal.specs.WellFormed.{MayFollow}
+use Rattle.journal.proofs.Order.Places.{at_behind, at_last, at_longer}
+use Rattle.journal.proofs.Order.HappensBefore.{longer}
+use Rattle.base.proofs.Places.{push_induction}
+use Rattle.lrc_script.specs.Plan.{Plan}
+use Rattle.lrc_script.specs.Lawful.{addresses}
+use Rattle.conformance.specs.Follows.{plan_sizes, calls_of}
+use Rattle.conformance.proofs.Calls.{calls_of-append, calls_of_first-other}
+use Rattle.explore.specs.Prefixes.Beginnings.{IsFlatBeginning}
+use Rattle.explore.specs.Prefixes.Calling.{IsCalledNext, section_steps, shown_by}
+use Rattle.explore.specs.Prefixes.Laws.{MayComeNext}
+use Rattle.explore.proofs.prefixes.Beginnings.{front_begins, next_begins}
+use Rattle.explore.proofs.prefixes.Removal.Places.{item_out}
+use Rattle.explore.proofs.prefixes.Removal.Follows.{IsUnneeded, follows_left}
+use Rattle.explore.proofs.prefixes.Removal.Words.{answers_left}
+
+-- nothing in b is reached from the event x before it, or conflicts with it
+pub record IsRemovable (a b : List Event) (x : Event) : Type 0 where
+  pub unreached : (m : ℕ) → ¬ HappensBefore (a ++ x ∷ b) (length a) m
+  pub unopposed : (m : ℕ) (f : Event) → At b m f → ¬ Conflict x f
+
+module _ (a b : List Event) (x : Event) (unreached : (m : ℕ) → ¬ HappensBefore (a ++ x ∷ b) (length a) m) where
+  -- nothing leads from x to an event behind it
+  pub no_link : (m : ℕ) (f : Event) → At b m f → ¬ Link (a ++ x ∷ b) (length a) (length a + suc m) x f
+  no_link m f at link =
+      unreached (length a + suc m)
+      (edge (record {
+        before = omega arith;
+        from = x;
+        to = f;
+        from_at = item_out a b x;
+        to_at = at_behind a (x ∷ b) (suc m) f at;
+        link = link;
+      }))
+
+  -- so the events behind it are others'
+  pub others_behind : (m : ℕ) (f : Event) → At b m f → f.processor ≢ x.processor
+  others_behind m f at is = no_link m f at (same (sym is))
+
+  -- and where it doesn't race with any of them, it may be left out
+  pub removable : ((m : ℕ) → ¬ Race (a ++ x ∷ b) (length a) m) → IsRemovable a b x
+  removable free = record {
+    unreached = unreached;
+    unopposed = λ m f at conflict. free (length a + suc m) (record {
+      before = omega arith;
+      first = x;
+      second = f;
+      first_at = item_out a b x;
+      second_at = at_behind a (x ∷ b) (suc m) f at;
+      apart = λ is. no_link m f at (same is);
+      conflict = conflict;
+      unordered = unreached (length a + suc m);
+    });
+  }
+
+-- the last event behind it doesn't need it
+pub unneeded : (s : Plan) (a b : List Event) (x e : Event)
+    → ((m : ℕ) → ¬ HappensBefore (a ++ x ∷ (b ++ e ∷ [])) (length a) m) → MayFollow (plan_sizes s) a x
+    → IsUnneeded (plan_sizes s) a b x e
+unneeded s a b x e unreached may = record {
+  follows = may;
+  away = λ m f at. others_behind a (b ++ e ∷ []) x unreached m f (at_longer b (e ∷ []) m f at);
+  apart = λ is. none (same is);
+  lets = λ l. none (lets l);
+  meets = λ arrives departs is. none (meets (record { arrives = arrives; departs = departs; episode = counts is }));
+}
+  where
+    whole : List Event
+    whole = a ++ x ∷ (b ++ e ∷ [])
+
+    none : ¬ Link whole (length a) (length a + suc (length b)) x e
+    none = no_link a (b ++ e ∷ []) x unreached (length b) e (at_last b e)
+
+    front : take (length a + suc (length b)) whole ≡ a ++ x ∷ b
+    front =
+        ap (take (length a + suc (length b))) (sym (append_assoc a (x ∷ b) (e ∷ [])))
+        ∙ take_at (a ++ x ∷ b) (e ∷ []) (length a + suc (length b)) (length-append a (x ∷ b))
+
+    counts : count_of is_arrive a x.processor ≡ count_of is_depart (a ++ x ∷ b) e.processor
+        → count_of is_arrive (take (length a) whole) x.processor
+        ≡ count_of is_depart (take (length a + suc (length b)) whole) e.processor
+    counts is =
+        ap (λ (es : List Event). count_of is_arrive es x.processor) (take-append_seam a (x ∷ (b ++ e ∷ []))) ∙ is
+        ∙ ap (λ (es : List Event). count_of is_depart es e.processor) (sym front)
+
+-- others' calls are the same without it
+pub calls_left : (a b : List Event) (x : Event) (r : ℕ) → x.processor ≢ r → calls_of (a ++ x ∷ b) r ≡ calls_of (a ++ b) r
+calls_left a b x r apart =
+    calls_of-append a (x ∷ b) r ∙ ap (λ ks. calls_of a r ++ ks) (calls_of_first-other x.processor r x.kind b apart)
+    ∙ sym (calls_of-append a b r)
+
+-- so what comes next may do so without it
+next_left : (s : Plan) (a b : List Event) (x e : Event) → IsUnneeded (plan_sizes s) a b x e → ¬ Conflict x e
+    → MayComeNext s (a ++ x ∷ b) e.processor e.kind → MayComeNext s (a ++ b) e.processor e.kind
+next_left s a b x e u apart next = record {
+  may_follow = follows_left (plan_sizes s) a b x e u next.may_follow;
+  calls = record {
+    call = next.calls.call;
+    next = λ section at. subst
+        (λ calls. IsCalledNext (section_steps section (shown_by s e.processor)) calls e.kind)
+        (calls_left a b x e.processor u.apart) (next.calls.next section at);
+  };
+  answers = answers_left (replicate (addresses s) 0) a b x e.processor e.kind apart next.answers;
+}
+
+-- an event in a beginning may come next after what is before it
+pub follows_front : (s : Plan) (a b : List Event) (x : Event) → IsFlatBeginning s (a ++ x ∷ b)
+    → MayComeNext s a x.processor x.kind
+follows_front s a b x h =
+    ((next_begins s a x.processor x.kind).0
+    (front_begins s (a ++ x ∷ []) b (subst (IsFlatBeginning s) (sym (append_assoc a (x ∷ []) b)) h))).1
+
+-- a front behind x doesn't need it either
+removable_front : (a b : List Event) (x e : Event) → IsRemovable a (b ++ e ∷ []) x → IsRemovable a b x
+removable_front a b x e r = record {
+  unreached = λ m h. r.unreached m (subst (λ es. HappensBefore es (length a) m) (append_assoc a (x ∷ b) (e ∷ []))
+      (longer (a ++ x ∷ b) (e ∷ []) h));
+  unopposed = λ m f at. r.unopposed m f (at_longer b (e ∷ []) m f at);
+}
+
+-- a beginning stays one without it
+pub removed : (s : Plan) (a b : List Event) (x : Event) → IsRemovable a b x → IsFlatBeginning s (a ++ x ∷ b)
+    → IsFlatBeginning s (a ++ b)
+removed s a b x =
+    push_induction (λ es. IsRemovable a es x → IsFlatBeginning s (a ++ x ∷ es) → IsFlatBeginning s (a ++ es))
+    (λ r h. subst (IsFlatBeginning s) (sym (append-nil a)) (front_begins s a (x ∷ []) h)) step b
+  where
+    step : (es : List Event) (e : Event)
+        → (IsRemovable a es x → IsFlatBeginning s (a ++ x ∷ es) → IsFlatBeginning s (a ++ es))
+        → IsRemovable a (es ++ e ∷ []) x → IsFlatBeginning s (a ++ x ∷ (es ++ e ∷ []))
+        → IsFlatBeginning s (a ++ (es ++ e ∷ []))
+    step es e ih r h =
+        let both =
+        (next_begins s (a ++ x ∷ es) e.processor e.kind).0
+        (subst (IsFlatBeginning s) (sym (append_assoc a (x ∷ es) (e ∷ []))) h) in
+        let u = unneeded s a es x e r.unreached (follows_front s a (es ++ e ∷ []) x h).may_follow in
+        subst (IsFlatBeginning s) (append_assoc a es (e ∷ []))
+        ((next_begins s (a ++ es) e.processor e.kind).1
+        (ih (removable_front a es x e r) both.0, next_left s a es x e u (r.unopposed (length es) e (at_last es e)) both.1))

@@ -1,0 +1,68 @@
+-- An event left out: loads answer the same, where it doesn't store their word.
+use Rattle.std.proofs.Common.{ℕ, ◌≡◌, ◌≢◌, ◌<◌, inl, inr, List, [], ◌∷◌, ◌++◌, Option, Some, None, length, slice_get, slice_set, refl, sym, ap, ◌∙◌, arith}
+use Rattle.std.proofs.lemmas.Bool.{cases_eq}
+use Rattle.std.proofs.lemmas.Option.{slice_get_within}
+use Rattle.base.specs.Writes.{wrote, written}
+use Rattle.base.proofs.Sets.{slice_get-set_same, slice_get-set_other}
+use Rattle.base.proofs.LastWrites.{length-written, written-append}
+use Rattle.journal.specs.declared.event.Event.{Event}
+use Rattle.journal.specs.declared.event.Kind.{Kind}
+use Rattle.journal.specs.declared.event.Kind.TheVariants.{Load}
+use Rattle.journal.specs.Did.{event}
+use Rattle.journal.specs.Events.{address_of, is_store}
+use Rattle.journal.specs.Races.{Conflict}
+use Rattle.journal.specs.Flat.{flat_write, memory_after, AnswersWord}
+use Rattle.journal.proofs.Flat.Stores.{flat_store}
+
+-- words that agree at a place still do after the same write
+wrote_agree : (m n : List ℕ) (p : Option (ℕ × ℕ)) (o : ℕ) → o < length m → length m ≡ length n
+    → slice_get m o ≡ slice_get n o → slice_get (wrote m p) o ≡ slice_get (wrote n p) o
+wrote_agree m n None o lt long same = same
+wrote_agree m n (Some p) o lt long same = elim (cases_eq o p.0) [
+  | inl is ↦
+      (let in_m : p.0 < length m = omega arith in
+      let in_n : p.0 < length n = omega arith in
+      ap (slice_get (slice_set m p.0 p.1)) is ∙ slice_get-set_same m p.0 p.1 in_m
+      ∙ sym (slice_get-set_same n p.0 p.1 in_n) ∙ ap (slice_get (slice_set n p.0 p.1)) (sym is))
+  | inr isnt ↦ slice_get-set_other m p.0 o p.1 isnt ∙ same ∙ sym (slice_get-set_other n p.0 o p.1 isnt)
+]
+
+-- and after the same writes
+written_agree : {A : Type 0} (f : A → Option (ℕ × ℕ)) (m n : List ℕ) (xs : List A) (o : ℕ) → o < length m
+    → length m ≡ length n → slice_get m o ≡ slice_get n o
+    → slice_get (written f m xs) o ≡ slice_get (written f n xs) o
+written_agree f m n [] o lt long same = same
+written_agree f m n (x ∷ xs) o lt long same =
+    let long_m = length-written f m (x ∷ []) in
+    let long_n = length-written f n (x ∷ []) in
+    written_agree f (wrote m (f x)) (wrote n (f x)) xs o (omega arith) (omega arith)
+    (wrote_agree m n (f x) o lt long same)
+
+-- a write elsewhere leaves the place
+wrote_other : (m : List ℕ) (p : Option (ℕ × ℕ)) (o : ℕ) → ((u : ℕ) → p ≢ Some (o, u))
+    → slice_get (wrote m p) o ≡ slice_get m o
+wrote_other m None o h = refl
+wrote_other m (Some p) o h = slice_get-set_other m p.0 o p.1 (λ is. h p.1 (ap (λ (a : ℕ). Some (a, p.1)) (sym is)))
+
+-- so without it the same stands there in the end
+written_left : {A : Type 0} (f : A → Option (ℕ × ℕ)) (m : List ℕ) (xs ys : List A) (x : A) (o : ℕ) → o < length m
+    → ((u : ℕ) → f x ≢ Some (o, u)) → slice_get (written f m (xs ++ x ∷ ys)) o ≡ slice_get (written f m (xs ++ ys)) o
+written_left f m xs ys x o lt h =
+    let before : List ℕ = written f m xs in
+    let long_before = length-written f m xs in
+    let long_more = length-written f before (x ∷ []) in
+    ap (λ ws. slice_get ws o) (written-append f m xs (x ∷ ys))
+    ∙ written_agree f (wrote before (f x)) before ys o (omega arith) long_more (wrote_other before (f x) o h)
+    ∙ ap (λ ws. slice_get ws o) (sym (written-append f m xs ys))
+
+-- a load that doesn't conflict with the event answers the same without it
+pub answers_left : (memory : List ℕ) (a b : List Event) (x : Event) (q : ℕ) (k : Kind) → ¬ Conflict x (event q k)
+    → AnswersWord (memory_after memory (a ++ x ∷ b)) k → AnswersWord (memory_after memory (a ++ b)) k
+answers_left memory a b x q (Load w v) apart h =
+    let f : Event → Option (ℕ × ℕ) = λ e. flat_write e.kind in
+    let long = length-written f memory (a ++ x ∷ b) in
+    let within = slice_get_within (memory_after memory (a ++ x ∷ b)) w v h in
+    sym (written_left f memory a b x w (omega arith) (λ u writes.
+    (let is = flat_store x.kind w u writes in
+    apart (record { address = w; first = ap address_of is; second = refl; stores = inl (ap is_store is) })))) ∙ h
+answers_left memory a b x q _ apart h = h

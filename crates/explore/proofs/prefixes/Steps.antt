@@ -1,0 +1,71 @@
+-- Steps of sections, a part at a time.
+use Rattle.std.proofs.Common.{ℕ, zero, suc, inl, inr, length, subst, ◌≡◌, ◌+◌, List, [], ◌∷◌, ◌++◌, take, refl, sym, ap, ◌∙◌, Some, slice_get, append_assoc, append-nil, add-one}
+use Rattle.std.specs.Global.{Vec}
+use Rattle.std.proofs.lemmas.Option.{none-some, same_Some}
+use Rattle.base.proofs.Places.{push_cases, take-suc_at}
+use Rattle.journal.specs.declared.event.Kind.TheVariants as kind
+use Rattle.lrc_script.specs.declared.script.Instruction.{Instruction}
+use Rattle.lrc_script.specs.Plan.{Plan, items_of}
+use Rattle.explore.specs.declared.prefixes.script_call.ScriptCall.{ScriptCall}
+use Rattle.explore.specs.declared.prefixes.script_call.ScriptCall.TheVariants.{Call}
+use Rattle.explore.specs.Prefixes.Calling.{steps_of, steps_of_all, load_steps, section_steps, shown_by}
+
+steps_of_all-push : (is : List Instruction) (i : Instruction)
+    → steps_of_all (is ++ i ∷ []) ≡ steps_of_all is ++ steps_of i
+steps_of_all-push [] i = append-nil (steps_of i)
+steps_of_all-push (h ∷ is) i =
+    ap (λ rest. steps_of h ++ rest) (steps_of_all-push is i)
+    ∙ sym (append_assoc (steps_of h) (steps_of_all is) (steps_of i))
+
+load_steps-push : (shown : List ℕ) (a : ℕ) → load_steps (shown ++ a ∷ []) ≡ load_steps shown ++ Call (kind.Load a 0) ∷ []
+load_steps-push [] a = refl
+load_steps-push (b ∷ shown) a = ap (λ rest. Call (kind.Load b 0) ∷ rest) (load_steps-push shown a)
+
+-- the steps of one instruction more
+pub own_more : (is : List Instruction) (n : ℕ) (i : Instruction) → slice_get is n ≡ Some i
+    → steps_of_all (take (n + 1) is) ≡ steps_of_all (take n is) ++ steps_of i
+own_more is n i at = rw (add-one, take-suc_at is n i at) (steps_of_all-push (take n is) i)
+
+-- one load more, after other steps
+pub loads_more : (steps : List ScriptCall) (shown : List ℕ) (n a : ℕ) → slice_get shown n ≡ Some a
+    → steps ++ load_steps (take (n + 1) shown) ≡ (steps ++ load_steps (take n shown)) ++ Call (kind.Load a 0) ∷ []
+loads_more steps shown n a at =
+    rw (add-one, take-suc_at shown n a at) (ap (λ rest. steps ++ rest) (load_steps-push (take n shown) a)
+    ∙ sym (append_assoc steps (load_steps (take n shown)) (Call (kind.Load a 0) ∷ [])))
+
+-- the same, of what was collected
+pub own_next : (old new : List ScriptCall) (is : List Instruction) (n : ℕ) (i : Instruction) → slice_get is n ≡ Some i
+    → old ≡ steps_of_all (take n is) → new ≡ old ++ steps_of i → new ≡ steps_of_all (take (n + 1) is)
+own_next old new is n i at was now = now ∙ ap (λ steps. steps ++ steps_of i) was ∙ sym (own_more is n i at)
+
+pub loads_next : (steps old new : List ScriptCall) (shown : List ℕ) (n a : ℕ) → slice_get shown n ≡ Some a
+    → old ≡ steps ++ load_steps (take n shown) → new ≡ old ++ Call (kind.Load a 0) ∷ []
+    → new ≡ steps ++ load_steps (take (n + 1) shown)
+loads_next steps old new shown n a at was now =
+    now ∙ ap (λ xs. xs ++ Call (kind.Load a 0) ∷ []) was ∙ sym (loads_more steps shown n a at)
+
+-- each of these rows has the steps of its section
+abbrev pub AreRowsOf : Plan → List (Vec ScriptCall) → Type 0
+AreRowsOf s rows = (p : ℕ) (section : List Instruction) (row : Vec ScriptCall) → slice_get s.sections p ≡ Some section
+    → slice_get rows p ≡ Some row → row.items ≡ section_steps section (shown_by s p)
+
+-- and one row more
+pub rows_next : (s : Plan) (rows : List (Vec ScriptCall)) (row : Vec ScriptCall) (section : List Instruction)
+    → slice_get s.sections (length rows) ≡ Some section
+    → row.items ≡ section_steps section (shown_by s (length rows)) → AreRowsOf s rows → AreRowsOf s (rows ++ row ∷ [])
+rows_next s rows row section at is old p other found there here = elim (push_cases rows row p found here) [
+  | inl before ↦ old p other found there before.1
+  | inr now ↦
+      (let there_now = subst (λ q. slice_get s.sections q ≡ Some other) now.0 there in
+      let same = same_Some section other (sym at ∙ there_now) in
+      subst (λ (v : Vec ScriptCall). v.items ≡ section_steps other (shown_by s p)) now.1
+      (subst (λ q. row.items ≡ section_steps other (shown_by s q)) (sym now.0)
+      (subst (λ x. row.items ≡ section_steps x (shown_by s (length rows))) same is)))
+]
+
+-- a section of the plan is one in memory
+pub section_at : (sections : List (Vec Instruction)) (n : ℕ) (section : Vec Instruction)
+    → slice_get sections n ≡ Some section → slice_get (items_of sections) n ≡ Some section.items
+section_at [] n section at = absurd (none-some section at)
+section_at (first ∷ sections) zero section at = ap (λ (v : Vec Instruction). Some v.items) (same_Some first section at)
+section_at (first ∷ sections) (suc n) section at = section_at sections n section at

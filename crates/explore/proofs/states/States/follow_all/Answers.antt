@@ -1,0 +1,42 @@
+use Rattle.std.proofs.Common.{◌+◌, sym, subst}
+use Rattle.explore.specs.Followed.{AreFollowed}
+use Rattle.explore.proofs.FollowedAll.{goes_on, may_step, nobody_followed, none_followed, one_followed, small_still, within_still}
+use Rattle.explore.proofs.states.States.follow_all.Goals.{in-Some+in_ok-follow, in_default}
+use Rattle.explore.proofs.states.States.follow_all.Goals as goal
+
+pub loop-processor-init : goal.loop-processor-init
+loop-processor-init c = λ s may. none_followed s c.args.self.now c.args.self.now c.args.place c.args.nexts.now may
+
+pub follow-requires : goal.follow-requires
+follow-requires c =
+    let s = c.requires.0 in
+    let may = c.requires.1 in
+    let x = c.args.self.now in
+    let y = c.loop-processor.self in
+    let n = c.loop-processor.processor in
+    let old = c.loop-processor.invariant s may in
+    record {
+      place = within_still s x y c.args.place c.args.nexts.now may n old;
+      step = may_step s x y c.args.place c.args.nexts.now may n old c.in-Some.kind c.in-Some.is;
+    }
+
+pub loop-processor-preserved : goal.loop-processor-preserved
+loop-processor-preserved c = λ s may.
+    let x = c.args.self.now in
+    let y = c.loop-processor.self in
+    let n = c.loop-processor.processor in
+    let old = c.loop-processor.invariant s may in
+    let place = c.args.place in
+    let nexts = c.args.nexts.now in
+    elim c.match-nexts-processor.branch [
+      | in-Some+in_ok-follow w ↦
+          (let k = w.in-Some.kind in
+          let here = w.in-Some.is in
+          let followed = w.in_ok-follow.ensures s old.found (small_still s x y place nexts may n old k here)
+          (goes_on s x y place nexts may n old k here) in
+          subst (λ z. AreFollowed s x z place (n + 1)) (sym w.self-is)
+          (one_followed s x y place nexts may n old k here w.follow.new.self followed))
+      | in_default w ↦
+          subst (λ z. AreFollowed s x z place (n + 1)) (sym w.self-is)
+          (nobody_followed s x y place nexts may n old w.in_default.not-Some)
+    ]

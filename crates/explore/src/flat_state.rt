@@ -1,0 +1,191 @@
+//! A script's run on one flat memory, an event at a time.
+ghost use Rattle.std.specs.Prelude.{◌≡◌, ◌↔◌, ℕ, ◌+◌, ◌<◌, ◌≤◌, ◌++◌, [], ◌∷◌, List, Some, None, IfOk, OnOk, IsTrue};
+ghost use Rattle.std.specs.Prelude.{length, replicate, slice_index_or};
+ghost use Rattle.base.specs.Prelude.{wrote};
+ghost use Rattle.journal.specs.declared.event.Event.{Event as AnEvent};
+ghost use Rattle.journal.specs.declared.event.Kind.{Kind as AKind};
+ghost use Rattle.journal.specs.Prelude.{AddressInRange, AnswersWord, did, flat_write};
+ghost use Rattle.lrc_script.specs.Prelude.{IsLawful, Plan, plan_of};
+ghost use Rattle.conformance.specs.Follows.{Follows, calls_of};
+ghost use Rattle.explore.specs.Prefixes.Calling.{IsStep, last_reply};
+ghost use Rattle.explore.specs.Prefixes.Prelude.{IsFlatBeginning};
+ghost use Rattle.explore.specs.Machines.{AreLawfulSteps, StepReads, SameState, IsRunning, IsStepOf, Knows};
+ghost use Rattle.explore.specs.Machines.{items_of, last_or};
+ghost use Rattle.explore.specs.Outcomes.{AreReplies, replies_in};
+ghost use Rattle.explore.specs.Waiting.{AreAwaited};
+
+use crate::prefixes::ScriptCall;
+use crate::waiting::Waiting;
+use journal::Kind;
+use lrc_script::script::Script;
+use std::alloc::{AllocError, Global};
+
+/// A script's run on one flat memory, after some events. Machines that are equal go on alike.
+#[derive(Drop, PartialEq, Eq, Hash)]
+pub struct FlatState {
+    /// How many calls each processor has made.
+    done: [u16; 16],
+    /// What the loads of each have answered, in order.
+    replies: Vec<Vec<u32>>,
+    /// The words of the memory.
+    memory: Vec<u32>,
+    waiting: Waiting,
+}
+
+/// The call that the step says, after this reply, with the word of the memory where it loads.
+fn call_of(step: ScriptCall, reply: u32, memory: &[u32]) -> Kind
+    requires { StepReads (length memory.now) step }
+    ensures { (k : AKind) → (result ≡ k) ↔ (IsStep reply step k × AnswersWord memory.now k) }
+{
+    match step {
+        ScriptCall::Call(Kind::Load(address, _)) => Kind::Load(address, memory[address]),
+        ScriptCall::Call(kind) => kind,
+        ScriptCall::Adds(address, addend) => Kind::Store(address, reply.wrapping_add(addend)),
+    }
+}
+
+/// The last of these words, 0 where there is none.
+fn last_of(words: &[u32]) -> u32
+    ensures { result ≡ last_or 0 words.now }
+{
+    match words.last() {
+        Some(word) => *word,
+        None => 0,
+    }
+}
+
+/// Puts the reply of a load at the end.
+fn keep_reply(replies: &mut Vec<u32>, kind: Kind) -> Result<(), AllocError>
+    ensures { OnOk result (replies.new.items ≡ replies.old.items ++ replies_in (kind ∷ [])) }
+{
+    if let Kind::Load(_, word) = kind {
+        replies.push(word)?;
+    }
+    Ok(())
+}
+
+/// Writes a store's word.
+fn write(memory: &mut [u32], kind: Kind)
+    requires { AddressInRange (length memory.old) kind }
+    ensures { memory.new ≡ wrote memory.old (flat_write kind) }
+{
+    if let Kind::Store(address, value) = kind {
+        memory[address] = value;
+    }
+}
+
+/// No replies, of so many processors.
+fn no_replies(alloc: Global, processors: usize) -> Result<Vec<Vec<u32>>, AllocError>
+    ensures { IfOk result (λ v. items_of v.items ≡ replicate processors []) }
+{
+    let mut all = Vec::new(alloc);
+    for _ in 0..processors {
+        all.push(Vec::new(alloc))?;
+    }
+    Ok(all)
+}
+
+impl FlatState {
+    /// Before the first event of the script. The only error is running out of memory.
+    pub fn new(alloc: Global, script: &Script) -> Result<FlatState, AllocError>
+        requires { IsLawful (plan_of script.now) }
+        ensures { IfOk result (Knows (plan_of script.now) []) }
+    {
+        Ok(FlatState {
+            done: [0; 16],
+            replies: no_replies(alloc, script.processors)?,
+            memory: vec![in alloc; 0; script.pages * script.words]?,
+            waiting: Waiting::new(alloc),
+        })
+    }
+
+    /// Another one in the same state. The only error is running out of memory.
+    pub fn copy(&self) -> Result<FlatState, AllocError>
+        ensures { IfOk result (SameState self.now) }
+    {
+        Ok(FlatState {
+            done: self.done,
+            replies: self.replies()?,
+            memory: self.memory.clone()?,
+            waiting: self.waiting.copy()?,
+        })
+    }
+
+    /// What the processor's last load answered, 0 where there is none.
+    fn reply_before(&self, processor: usize) -> u32
+        requires { processor < length self.now.replies.items }
+        ensures { (s : Plan) (g : List AnEvent) → Knows s g self.now → result ≡ last_reply (calls_of g processor) }
+    {
+        last_of(&self.replies[processor])
+    }
+
+    /// What the processor may do next. Its steps are one of these rows.
+    pub fn next(&self, steps: &[Vec<ScriptCall>], processor: usize) -> Option<Kind>
+        requires processor { processor < length steps.now }
+        requires running { IsRunning self.now steps.now }
+        ensures { (s : Plan) (g : List AnEvent) → AreLawfulSteps s steps.now → Knows s g self.now
+            → (k : AKind) → (result ≡ Some k) ↔ IsFlatBeginning s (did g processor k) }
+    {
+        let row = &steps[processor];
+        let done = self.done[processor] as usize;
+        if done >= row.len() {
+            return None;
+        }
+        let kind = call_of(row[done], self.reply_before(processor), &self.memory);
+        if self.waiting.may_follow(steps.len(), processor, kind) {
+            Some(kind)
+        } else {
+            None
+        }
+    }
+
+    /// Does what the processor may do next. The only error is running out of memory, after which the machine may be of
+    /// no use.
+    pub fn step(&mut self, processor: usize, kind: Kind) -> Result<(), AllocError>
+        requires { IsStepOf self.old processor kind }
+        ensures { OnOk result ((s : Plan) (g : List AnEvent) → Knows s g self.old
+            → IsFlatBeginning s (did g processor kind) → processor < 16
+            → Knows s (did g processor kind) self.new) }
+    {
+        self.waiting.note(processor, kind)?;
+        keep_reply(&mut self.replies[processor], kind)?;
+        write(&mut self.memory, kind);
+        self.done[processor] += 1;
+        Ok(())
+    }
+
+    /// Whether each processor has made all its calls.
+    pub fn is_whole(&self, steps: &[Vec<ScriptCall>]) -> bool
+        requires { IsRunning self.now steps.now }
+        ensures { (s : Plan) (g : List AnEvent) → AreLawfulSteps s steps.now → Knows s g self.now
+            → IsTrue result ↔ Follows s g }
+    {
+        for processor in 0..steps.len() {
+            if (self.done[processor] as usize) < steps[processor].len() {
+                return false;
+            }
+        }
+        true
+    }
+
+    /// What the loads of each processor have answered.
+    pub fn replies(&self) -> Result<Vec<Vec<u32>>, AllocError>
+        ensures { IfOk result (λ v. items_of v.items ≡ items_of self.now.replies.items) }
+    {
+        self.replies.clone()
+    }
+
+    /// What each of so many processors waits for.
+    pub fn waits(&self, alloc: Global, processors: usize) -> Result<Vec<Option<Kind>>, AllocError>
+        requires { processors ≤ 16 }
+        ensures long { IfOk result (λ v. length v.items ≡ processors) }
+        ensures waits { IfOk result (λ v. (s : Plan) (g : List AnEvent) → s.processors ≡ processors
+            → Knows s g self.now → AreAwaited g v.items) }
+    {
+        let mut waits = Vec::new(alloc);
+        for processor in 0..processors {
+            waits.push(self.waiting.of(processor))?;
+        }
+        Ok(waits)
+    }
+}

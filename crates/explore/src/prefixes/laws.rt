@@ -1,0 +1,38 @@
+//! Laws of beginnings, as contracts of functions that do nothing: the check proves each by its name.
+ghost use Rattle.explore.specs.Prefixes.Prelude.{NeverRacesLaw, EmptyLaw, FrontLaw, NextLaw, WholeRunLaw};
+ghost use Rattle.explore.specs.Prefixes.Prelude.{NeighboursLaw, RacingLaw};
+
+/// A script of which no beginning on one flat memory races never races, so by the law of race-free scripts it doesn't
+/// race on the real memory either.
+pub fn never_races_law()
+    ensures { NeverRacesLaw }
+{}
+
+/// Nothing begins each script, and what begins a beginning is one.
+pub fn front_law()
+    ensures empty { EmptyLaw }
+    ensures front { FrontLaw }
+{}
+
+/// What may come next after a beginning: what its processor's section says, once it may, with the reply of the memory.
+pub fn next_law()
+    ensures { NextLaw }
+{}
+
+/// A beginning is whole exactly where each processor has made as many calls as its section says.
+pub fn whole_law()
+    ensures { WholeRunLaw }
+{}
+
+/// A script of which no two processors may access one word next, one of them storing, doesn't race in any beginning. So
+/// a search looks at what may come next in each state, and keeps no timestamps. The idea is that of adjacent conflicting
+/// actions: Boehm and Adve, Foundations of the C++ concurrency memory model (PLDI 2008), on equal definitions of a race.
+pub fn neighbours_law()
+    ensures { NeighboursLaw }
+{}
+
+/// Two processors that may access one word next, one of them storing, race once they do so one after the other: the
+/// converse of `neighbours_law`. A load that comes second answers the word that is there then.
+pub fn racing_law()
+    ensures { RacingLaw }
+{}

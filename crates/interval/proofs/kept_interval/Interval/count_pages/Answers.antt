@@ -1,0 +1,76 @@
+use Rattle.std.proofs.Common.{◌≡◌, ◌≤◌, ◌-◌, [], ◌∷◌, List, ℕ, map, length, ap, sym, ◌∙◌, subst, arith}
+use Rattle.std.specs.List.{flat_map}
+use Rattle.std.specs.Arc.{arc_value}
+use Rattle.std.proofs.lemmas.List.{take_all, length-map}
+use Rattle.std.proofs.lemmas.List.Concat.{flat_map_single}
+use Rattle.page.specs.Changes.{Changes}
+use Rattle.interval.specs.Counts.{CountsGrew, HasRoom}
+use Rattle.interval.proofs.Counts.Counted.{counted-nil, counted-one, counted-out, counted_more, room_one, room_more, mapped_at}
+use Rattle.interval.proofs.kept_interval.Interval.count_pages.Goals as goal
+use Rattle.interval.proofs.kept_interval.Interval.count_pages.Goals.{then-base-page+then-page-base, else-base-page, else-base-page-via-then-base-page+else-page-base, else-base-page-via-else-base-page}
+
+abbrev own : Changes → List ℕ
+own r = r.page ∷ []
+
+pub loop-record-init : goal.loop-record-init
+loop-record-init c = counted-nil _ _
+
+pub overflow_add-counts : goal.overflow_add-counts
+overflow_add-counts c =
+    let at =
+    mapped_at arc_value c.shared_records-record-items.result.now c.loop-record.record-index c.record-item.result
+    c.loop-record-test.true c.record-item.is in
+    let items = map arc_value c.shared_records-record-items.result.now in
+    let page : (arc_value c.record-item.result).page ≡ c.page-page.result =
+    ap (λ (r : Changes). r.page) (sym c.deref.ensures) ∙ sym c.page-page.ensures in
+    let Room : List ℕ → Type 0 = λ ps. HasRoom c.args.base ps c.args.counts.now in
+    let whole =
+    subst Room (sym (flat_map_single (λ (r : Changes). r.page) items
+    ∙ ap (map (λ (r : Changes). r.page)) c.shared_records-record-items.ensures))
+    c.requires in
+    let room =
+    room_more c.args.base own items c.loop-record.record-index (arc_value c.record-item.result) c.args.counts.now
+    c.loop-record.counts at.0 at.1 whole c.loop-record.invariant in
+    let Next : ℕ → Type 0 = λ p. HasRoom c.args.base (p ∷ []) c.loop-record.counts in
+    let fits =
+    room_one c.args.base c.page-page.result c.loop-record.counts c.if-base-page.true c.if-page-base.true
+    (subst Next page room) in
+    omega (arith, fits)
+
+pub loop-record-preserved : goal.loop-record-preserved
+loop-record-preserved c =
+    let at =
+    mapped_at arc_value c.shared_records-record-items.result.now c.loop-record.record-index c.record-item.result
+    c.loop-record-test.true c.record-item.is in
+    let items = map arc_value c.shared_records-record-items.result.now in
+    let page : c.page-page.result ≡ (arc_value c.record-item.result).page =
+    c.page-page.ensures ∙ ap (λ (r : Changes). r.page) c.deref.ensures in
+    let Now : List ℕ → Type 0 =
+    λ counts. CountsGrew c.args.base (c.page-page.result ∷ []) c.loop-record.counts counts in
+    let one = elim c.if-base-page.branch as (λ b. Now c.if-base-page.counts) [
+      | then-base-page+then-page-base w ↦ subst Now (sym w.counts-is)
+          (counted-one c.args.base c.page-page.result c.loop-record.counts w.if-base-page.true w.if-page-base.true)
+      | else-base-page w ↦
+          let out : c.args.base ≤ c.page-page.result
+          → length c.loop-record.counts
+          ≤ c.page-page.result - c.args.base = λ from. elim w.else-base-page.branch [
+            | else-base-page-via-then-base-page+else-page-base v ↦ v.if-page-base.false
+            | else-base-page-via-else-base-page v ↦ absurd (omega (arith, from, v.if-base-page.false))
+          ] in
+          subst Now (sym w.counts-is) (counted-out c.args.base c.page-page.result c.loop-record.counts out)
+    ] in
+    let Next : ℕ → Type 0 = λ p. CountsGrew c.args.base (p ∷ []) c.loop-record.counts c.if-base-page.counts in
+    counted_more c.args.base own items c.loop-record.record-index (arc_value c.record-item.result) c.args.counts.now
+    c.loop-record.counts c.if-base-page.counts at.0 at.1
+    c.loop-record.invariant (subst Next page one)
+
+pub returns : goal.returns
+returns c =
+    let items = map arc_value c.shared_records-record-items.result.now in
+    let long = length-map c.shared_records-record-items.result.now (arc_value {X = _} {Z = _}) in
+    let all = take_all c.loop-record.record-index items (omega arith) in
+    let pages =
+    ap (flat_map own) all ∙ flat_map_single (λ (r : Changes). r.page) items
+    ∙ ap (map (λ (r : Changes). r.page)) c.shared_records-record-items.ensures in
+    let Done : List ℕ → Type 0 = λ ps. CountsGrew c.args.base ps c.args.counts.now c.loop-record.counts in
+    subst Done pages c.loop-record.invariant

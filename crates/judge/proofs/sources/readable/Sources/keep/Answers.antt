@@ -1,0 +1,58 @@
+use Rattle.std.proofs.Common.{◌≡◌, ◌≢◌, ℕ, inl, inr, [], ◌∷◌, ◌++◌, List, vec_len, subst, sym, refl, ap, ◌∙◌, false, arith, length-append}
+use Rattle.journal.specs.declared.event.Event.{Event}
+use Rattle.journal.specs.declared.event.Kind.{Kind}
+use Rattle.journal.specs.declared.event.Kind.TheVariants.{Load, Store, Fetch}
+use Rattle.journal.specs.Events.{is_closing, is_taking}
+use Rattle.judge.specs.declared.sources.readable.Sources.{Sources}
+use Rattle.judge.specs.Sources.Tells.{StoresAreKept}
+use Rattle.judge.proofs.sources.Keeping.{AreRowsOf, rows_other, known_forgot, known_quiet}
+use Rattle.judge.proofs.sources.readable.Sources.keep.Goals as goal
+
+-- an event that is no store, and neither takes nor closes, changes nothing
+still : (j : List Event) (e : Event) (s : Sources) (k : Kind) → e.kind ≡ k → is_taking k ≡ false
+    → is_closing k ≡ false → ((a v : ℕ) → k ≢ Store a v) → StoresAreKept j s → StoresAreKept (j ++ e ∷ []) s
+still j e s k is quiet inner away kept = record {
+  known = known_quiet j e s.known (ap is_taking is ∙ quiet) (ap is_closing is ∙ inner) kept.known;
+  few = (let one = length-append j (e ∷ []) in let few = kept.few in omega arith);
+  long = kept.long;
+  stores =
+      rows_other j e s.known.times.items s.stores.items (λ a v same. away a v (sym is ∙ same)) kept.stores;
+}
+
+load_apart : (a v b w : ℕ) → Load a v ≡ Store b w → ⊥
+load_apart a v b w is = cc
+
+fetch_apart : (a b c d x y : ℕ) → Fetch a b c d ≡ Store x y → ⊥
+fetch_apart a b c d x y is = cc
+
+pub returns-in-Load-clause-kept : goal.returns-in-Load-clause-kept
+returns-in-Load-clause-kept c = λ j tells long.
+    let e = c.args.event in
+    let s = c.args.self.now in
+    elim c.in-Load.is [
+      | inl x ↦ still j e s (Load x.0 x.1) x.2 refl refl (load_apart x.0 x.1) tells.kept
+      | inr x ↦ still j e s (Fetch x.0 x.1 x.2 x.3) x.4 refl refl (fetch_apart x.0 x.1 x.2 x.3) tells.kept
+    ]
+
+pub returns-in_default : goal.returns-in_default
+returns-in_default c = record {
+  clocks = refl;
+  processors = refl;
+  addresses = refl;
+  kept = λ j tells long.
+      (let e = c.args.event in
+      let s = c.args.self.now in
+      let one = length-append j (e ∷ []) in
+      let few = tells.kept.few in
+      let times = c.forget.ensures.times in
+      let same = ap (λ v. vec_len v) times in
+      record {
+        known = known_forgot j e s.known c.forget.new.self times c.forget.ensures.changed c.forget.ensures.same
+            tells.kept.known;
+        few = omega arith;
+        long = tells.kept.long;
+        stores =
+            subst (λ v. AreRowsOf (j ++ e ∷ []) v.items s.stores.items) (sym times)
+            (rows_other j e s.known.times.items s.stores.items c.in_default.not-Store tells.kept.stores);
+      });
+}

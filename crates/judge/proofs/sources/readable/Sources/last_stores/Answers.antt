@@ -1,0 +1,97 @@
+use Rattle.std.proofs.Common.{◌≡◌, ℕ, ◌+◌, ◌*◌, ◌<◌, ◌≤◌, ◌∙◌, inl, inr, List, length, slice_index_or, subst, sym, refl, arith, length-set}
+use Rattle.std.specs.Prelude.{None}
+use Rattle.std.proofs.lemmas.Bool.{cases_lt}
+use Rattle.std.specs.Global.{Vec}
+use Rattle.std.proofs.lemmas.Option.{slice_get_read, slice_get_within}
+use Rattle.base.proofs.Sets.{slice_get-replicate_found, slice_get-set_other}
+use Rattle.journal.specs.declared.event.Event.{Event}
+use Rattle.journal.specs.declared.event.Kind.TheVariants.{Store}
+use Rattle.journal.specs.Did.{event}
+use Rattle.journal.specs.Entries.{entry}
+use Rattle.judge.specs.declared.sources.stored.Stored.{Stored}
+use Rattle.judge.specs.declared.sources.readable.Sources.{Sources}
+use Rattle.judge.specs.Sources.Last.{HasNone, IsLastOf}
+use Rattle.judge.specs.Sources.Stored.{AreStored}
+use Rattle.judge.specs.Sources.Tells.{AreStoresOf}
+use Rattle.judge.proofs.sources.Lasts.{intervals_rise, last_of, last_next}
+use Rattle.judge.proofs.sources.readable.Sources.last_stores.Goals as goal
+
+-- the row that is read has the stores of a processor to the address
+row_stored : (j : List Event) (s : Sources) (a q : ℕ) (row : Vec Stored) (xs : List Stored) → AreStoresOf j s
+    → a < s.addresses → q < 16 → row ≡ slice_index_or s.stores.items (a * 16 + q) row → xs ≡ row.items
+    → AreStored j s.known.times.items a q xs
+row_stored j s a q row xs tells lt few is same =
+    let long = tells.kept.long in
+    let within : a * 16 + q < length s.stores.items = omega (arith, s.stores.ok.0) in
+    subst (AreStored j s.known.times.items a q) (sym same)
+    (tells.kept.stores a q row few
+    (slice_get_read s.stores.items (length s.stores.items) (a * 16 + q) row refl within is))
+
+-- a processor that is none of the history's has no store
+none_of : (j : List Event) (s : Sources) (p a q : ℕ) → AreStoresOf j s → s.processors ≤ q → HasNone j p a q
+none_of j s p a q tells le i v does past =
+    let lt = tells.processors i (event q (Store a v)) does in
+    absurd (omega arith)
+
+pub loop-by-init : goal.loop-by-init
+loop-by-init c =
+    let tells = c.requires.tells.1 in
+    let few = tells.clocks.few in
+    let present = tells.present in
+    record {
+      long = refl;
+      few = omega arith;
+      last = λ j tells q o lt at. absurd (omega arith);
+      rest = λ q o le at. sym (slice_get-replicate_found 16 None o q at);
+    }
+
+pub last_below-requires : goal.last_below-requires
+last_below-requires c =
+    let s = c.args.self.now in
+    let j = c.requires.tells.0 in
+    let few = c.loop-by.invariant.few in
+    let within : c.loop-by.by < 16 = omega arith in
+    let are =
+    row_stored j s c.args.address c.loop-by.by c.index-stores.result.now c.deref.result.now c.requires.tells.1
+    c.requires.address within c.index-stores.ensures c.deref.ensures.value in
+    intervals_rise j s.known.times.items c.args.address c.loop-by.by c.deref.result.now are
+
+pub loop-by-preserved : goal.loop-by-preserved
+loop-by-preserved c = record {
+  long = (let long = c.loop-by.invariant.long in simp length-set long);
+  few = c.loop-by.invariant.few;
+  last = λ j tells q o lt at.
+      (let s = c.args.self.now in
+      let few = tells.clocks.few in
+      let present = tells.present in
+      let sixteen : c.args.processor < 16 = omega arith in
+      let within : c.loop-by.by < 16 = omega arith in
+      let are =
+      row_stored j s c.args.address c.loop-by.by c.index-stores.result.now c.deref.result.now tells
+      c.requires.address within c.index-stores.ensures c.deref.ensures.value in
+      let here = c.of-time.ensures c.loop-by.by in
+      let given = c.intervals.ensures in
+      let now =
+      last_of j s.known.times.items c.args.processor c.args.address c.loop-by.by c.deref.result.now
+      (entry s.clocks.processors.items c.args.processor)
+      c.intervals.result c.last_below.result
+      (tells.clocks.times c.args.processor sixteen) (omega arith) are c.last_below.ensures in
+      last_next j s.known.times.items c.args.processor c.args.address c.loop-by.by c.loop-by.last
+      c.last_below.result (c.loop-by.invariant.last j tells) now q o lt at);
+  rest = λ q o le at. c.loop-by.invariant.rest q o (omega arith)
+      (sym (slice_get-set_other c.loop-by.last c.loop-by.by q c.last_below.result (omega arith)) ∙ at);
+}
+
+pub returns : goal.returns
+returns c = λ j tells q o at.
+    let within = slice_get_within c.loop-by.last q o at in
+    let long = c.loop-by.invariant.long in
+    let over = c.loop-by-test.false in
+    let s = c.args.self.now in
+    elim (cases_lt q s.processors) [
+      | inl lt ↦ c.loop-by.invariant.last j tells q o (omega arith) at
+      | inr le ↦
+          subst (IsLastOf j s.known.times.items c.args.processor c.args.address q)
+          (sym (c.loop-by.invariant.rest q o (let end = c.loop-by.auto.by-end in omega arith) at))
+          (none_of j s c.args.processor c.args.address q tells le)
+    ]

@@ -1,0 +1,24 @@
+use Rattle.std.proofs.Common.{ℕ, [], ◌∷◌, ◌++◌, List, length, subst, sym}
+use Rattle.std.specs.Global.{Vec}
+use Rattle.std.proofs.lemmas.Result.{IfOk-weaker}
+use Rattle.journal.specs.declared.event.Event.{Event}
+use Rattle.journal.specs.Did.{event}
+use Rattle.judge.specs.Sources.Latest.{AreMarked, IsReadableRow}
+use Rattle.judge.specs.Sources.Tells.{AreStoresOf}
+use Rattle.judge.proofs.sources.InRows.{row_marked, row_other}
+use Rattle.judge.proofs.sources.rows.row.Goals as goal
+
+pub returns-in-Load : goal.returns-in-Load
+returns-in-Load c =
+    let e = c.args.event in
+    let marks = c.before-in-Load.result in
+    IfOk-weaker c.marked.result (λ (v : Vec ℕ). AreMarked marks v.items)
+    (λ (v : Vec ℕ). (j : List Event) → AreStoresOf j c.args.sources.now → IsReadableRow (j ++ e ∷ []) (length j) v.items)
+    (λ v are j tells. subst (λ k. IsReadableRow (j ++ event e.processor k ∷ []) (length j) v.items) (sym c.in-Load.is)
+    (row_marked j e.processor c.in-Load.address c.in-Load.field-1 marks v.items
+    (c.before-in-Load.ensures j tells c.in-Load.field-1) are)) c.marked.ensures
+
+pub returns-in_default : goal.returns-in_default
+returns-in_default c = λ j tells.
+    subst (IsReadableRow (j ++ c.args.event ∷ []) (length j)) (sym c.new.ensures.items)
+    (row_other j c.args.event c.in_default.not-Load)

@@ -1,0 +1,41 @@
+-- Each processor's last store to an address in a past, and which of them another follows.
+use Rattle.std.specs.Prelude.{ℕ, ◌≡◌, ◌<◌, ◌≤◌, List, Option, Some, MatchOption, slice_get}
+use Rattle.journal.specs.declared.event.Event.{Event}
+use Rattle.journal.specs.declared.event.Kind.TheVariants.{Store}
+use Rattle.journal.specs.WellFormed.{Does}
+use Rattle.journal.specs.Pasts.{InPast}
+use Rattle.journal.specs.Entries.{entry}
+use Rattle.judge.specs.declared.sources.stored.Stored.{Stored}
+use Rattle.judge.specs.Sources.Stored.{IsStoreOf}
+
+-- s is q's last store to a in p's past
+pub record IsLast (j : List Event) (times : List (List ℕ)) (p a q : ℕ) (s : Stored) : Type 0 where
+  pub stored : IsStoreOf j times a q s
+  pub past : InPast j p s.place
+  pub last : (i v : ℕ) → Does j i q (Store a v) → InPast j p i → i ≤ s.place
+
+-- p's past has no store of q to a
+abbrev pub HasNone : List Event → ℕ → ℕ → ℕ → Type 0
+HasNone j p a q = (i v : ℕ) → Does j i q (Store a v) → ¬ InPast j p i
+
+-- that store, where there is one
+abbrev pub IsLastOf : List Event → List (List ℕ) → ℕ → ℕ → ℕ → Option Stored → Type 0
+IsLastOf j times p a q o = MatchOption o (HasNone j p a q) (IsLast j times p a q)
+
+-- these are the last stores to a in p's past, by processor
+abbrev pub AreLast : List Event → List (List ℕ) → ℕ → ℕ → List (Option Stored) → Type 0
+AreLast j times p a last = (q : ℕ) (o : Option Stored) → slice_get last q ≡ Some o → IsLastOf j times p a q o
+
+-- the timestamp of one of these stores counts the interval of q's store s
+pub record IsFollowed (times : List (List ℕ)) (last : List (Option Stored)) (q : ℕ) (s : Stored) : Type 0 where
+  pub by : ℕ
+  pub store : Stored
+  pub at : slice_get last by ≡ Some (Some store)
+  pub counts : s.interval < entry times store.time q
+
+-- processor q has a last store at place i, and none of the others follows it
+pub record IsUnfollowed (times : List (List ℕ)) (last : List (Option Stored)) (q i : ℕ) : Type 0 where
+  pub store : Stored
+  pub at : slice_get last q ≡ Some (Some store)
+  pub place : store.place ≡ i
+  pub free : ¬ IsFollowed times last q store

@@ -1,0 +1,44 @@
+-- What is kept of stores and of timestamps.
+use Rattle.std.specs.Prelude.{ℕ, ◌≡◌, ◌≢◌, ◌<◌, ◌≤◌, ◌-◌, List, Some, length, slice_get, slice_index, take}
+use Rattle.base.specs.Places.{Has, InOrder}
+use Rattle.journal.specs.declared.event.Event.{Event}
+use Rattle.journal.specs.declared.event.Kind.TheVariants.{Store}
+use Rattle.journal.specs.Events.{interval_at}
+use Rattle.journal.specs.WellFormed.{Does}
+use Rattle.journal.specs.Times.{IsTimeOf}
+use Rattle.journal.specs.Entries.{entry}
+use Rattle.judge.specs.declared.sources.stored.Stored.{Stored}
+use Rattle.judge.specs.declared.sources.known.Known.{Known}
+
+-- s is q's store to a at its place, in its interval, with one of the timestamps: what q had before it
+pub record IsStoreOf (j : List Event) (times : List (List ℕ)) (a q : ℕ) (s : Stored) : Type 0 where
+  pub value : ℕ
+  pub does : Does j s.place q (Store a value)
+  pub interval : s.interval ≡ interval_at j q s.place
+  pub within : s.time < length times
+  pub time : IsTimeOf (take s.place j) q (entry times s.time)
+
+-- these are q's stores to a, in order
+pub record AreStored (j : List Event) (times : List (List ℕ)) (a q : ℕ) (stores : List Stored) : Type 0 where
+  pub each : (n : ℕ) (s : Stored) → slice_get stores n ≡ Some s → IsStoreOf j times a q s
+  pub rising : InOrder (λ (s t : Stored). s.place < t.place) stores
+  pub all : (i v : ℕ) → Does j i q (Store a v) → (s : Stored) × Has stores s × (s.place ≡ i)
+
+-- of these stores, s is the last one of an interval below the limit
+pub record IsLastBelow (stores : List Stored) (limit : ℕ) (s : Stored) : Type 0 where
+  pub index : ℕ
+  pub at : slice_get stores index ≡ Some s
+  pub below : s.interval < limit
+  pub later : (n : ℕ) (t : Stored) → index < n → slice_get stores n ≡ Some t → limit ≤ t.interval
+
+-- none of these stores is of an interval below the limit
+abbrev pub NoneBelow : List Stored → ℕ → Type 0
+NoneBelow stores limit = (n : ℕ) (s : Stored) → slice_get stores n ≡ Some s → limit ≤ s.interval
+
+-- the number n is one more than where p's timestamp stands, or 0
+abbrev pub IsRecent : List Event → List (List ℕ) → ℕ → ℕ → Type 0
+IsRecent j times p n = n ≢ 0 → (n ≤ length times) × IsTimeOf j p (entry times (n - 1))
+
+-- the numbers tell where each processor's timestamp stands
+pub record AreKnown (j : List Event) (known : Known) : Type 0 where
+  pub recent : (p : ℕ) → p < 16 → IsRecent j known.times.items p (slice_index known.recent p)

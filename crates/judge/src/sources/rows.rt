@@ -1,0 +1,67 @@
+//! What each load of a whole history may answer.
+ghost use Rattle.std.specs.Prelude.{◌≡◌, ℕ, ◌<◌, ◌≤◌, ◌+◌, ◌∷◌, ◌++◌, [], IfOk, List, length, vec_len};
+ghost use Rattle.base.specs.Prelude.{most_held, most_processors};
+ghost use Rattle.journal.specs.declared.event.Event.{Event};
+ghost use Rattle.journal.specs.Prelude.{AddressInRange, AddressesInRange, ProcessorsInRange};
+ghost use Rattle.judge.specs.Sources.Prelude.{AreMarked, AreReadableRows, IsReadableRow, AreStoresOf};
+
+use crate::sources::readable::Sources;
+use journal::{Event, Kind};
+use std::alloc::{AllocError, Global};
+
+/// The marked places, in order.
+fn marked(alloc: Global, marks: &[Option<usize>; 16]) -> Result<Vec<usize>, AllocError>
+    ensures { IfOk result (λ v. AreMarked marks.now v.items) }
+{
+    let mut places = Vec::new(alloc);
+    for mark in marks {
+        if let Some(place) = mark {
+            places.push(*place)?;
+        }
+    }
+    Ok(places)
+}
+
+/// The places of the latest stores of the event, which comes next.
+fn row(alloc: Global, sources: &Sources, event: Event) -> Result<Vec<usize>, AllocError>
+    requires tells { (j : List Event) × AreStoresOf j sources.now }
+    requires processor { event.processor < sources.now.processors }
+    requires address { AddressInRange sources.now.addresses event.kind }
+    ensures { IfOk result (λ v. (j : List Event) → AreStoresOf j sources.now
+        → IsReadableRow (j ++ event ∷ []) (length j) v.items) }
+{
+    match event.kind {
+        Kind::Load(address, _) => marked(alloc, &sources.before(event.processor, address)),
+        _ => Ok(Vec::new(alloc)),
+    }
+}
+
+/// Of each event of a history of `processors` processors, at most `MOST_PROCESSORS`, and `addresses` addresses: the
+/// places of the latest stores of its past to its address, by rising processor, where it is a load; no place where
+/// it is none. The only error is running out of memory.
+///
+/// A load that has no place may answer 0, and any other the value of each of its places. It takes time in the order
+/// of the events times the processors times (the processors and the logarithm of the events), and memory as
+/// `Sources` does, besides the answer.
+pub fn latest(
+    alloc: Global,
+    processors: usize,
+    addresses: usize,
+    events: &[Event],
+) -> Result<Vec<Vec<usize>>, AllocError>
+    requires few { length events.now ≤ most_held + most_processors }
+    requires few_processors { processors ≤ most_processors }
+    requires addresses { AddressesInRange addresses events.now }
+    requires processors { ProcessorsInRange processors events.now }
+    ensures long { IfOk result (λ v. vec_len v ≡ length events.now) }
+    ensures rows { IfOk result (λ v. AreReadableRows events.now v.items) }
+{
+    let mut sources = Sources::new(alloc, processors, addresses)?;
+    let mut rows = Vec::with_capacity(alloc, events.len())?;
+    for place in 0..events.len() {
+        let row = row(alloc, &sources, events[place])?;
+        rows.push(row)?;
+        sources.note(events, place)?;
+    }
+    Ok(rows)
+}

@@ -1,0 +1,54 @@
+//! Whether the loads of a whole history answer what they may.
+ghost use Rattle.std.specs.Prelude.{◌≡◌, ◌↔◌, ℕ, ◌<◌, ◌≤◌, ◌+◌, ◌∷◌, ◌++◌, [], IsTrue, IfOk, MatchOption, length};
+ghost use Rattle.base.specs.Prelude.{most_held, most_processors};
+ghost use Rattle.journal.specs.declared.event.Kind.TheVariants.{Load};
+ghost use Rattle.journal.specs.Loads.{Explained, IsAnswer};
+ghost use Rattle.journal.specs.Prelude.{AddressInRange, AddressesInRange, ProcessorsInRange};
+ghost use Rattle.judge.specs.Sources.Prelude.{IsFirstUnexplained, AreStoresOf};
+
+use crate::sources::readable::Sources;
+use journal::{Event, Kind};
+use std::alloc::{AllocError, Global};
+
+/// Whether the event, which comes after these, answers what it may, if it is a load.
+fn is_explained(sources: &Sources, front: &[Event], event: Event) -> bool
+    requires tells { AreStoresOf front.now sources.now }
+    requires processor { event.processor < sources.now.processors }
+    requires address { AddressInRange sources.now.addresses event.kind }
+    ensures { IsTrue result ↔ ((a v : ℕ) → event.kind ≡ Load a v
+        → IsAnswer (front.now ++ event ∷ []) (length front.now) a v) }
+{
+    match event.kind {
+        Kind::Load(address, value) => sources.may_answer(front, event.processor, address, value),
+        _ => true,
+    }
+}
+
+/// The place of the first load of a history of `processors` processors, at most `MOST_PROCESSORS`, and `addresses`
+/// addresses that answers what it may not: neither the value of a latest store of its past, nor 0 where there is
+/// none. None where each load answers what it may. The only error is running out of memory.
+///
+/// It takes time in the order of the events times the processors times (the processors and the logarithm of the
+/// events), and memory as `Sources` does.
+pub fn first_unexplained(
+    alloc: Global,
+    processors: usize,
+    addresses: usize,
+    events: &[Event],
+) -> Result<Option<usize>, AllocError>
+    requires few { length events.now ≤ most_held + most_processors }
+    requires few_processors { processors ≤ most_processors }
+    requires addresses { AddressesInRange addresses events.now }
+    requires processors { ProcessorsInRange processors events.now }
+    ensures { IfOk result (λ o. MatchOption o (Explained events.now) (IsFirstUnexplained events.now)) }
+{
+    let mut sources = Sources::new(alloc, processors, addresses)?;
+    for place in 0..events.len() {
+        let front = &events[..place];
+        if !is_explained(&sources, front, events[place]) {
+            return Ok(Some(place));
+        }
+        sources.note(events, place)?;
+    }
+    Ok(None)
+}

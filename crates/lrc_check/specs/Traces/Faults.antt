@@ -1,0 +1,124 @@
+-- What each fault says of the bytes.
+use Rattle.std.specs.Prelude.{◌≡◌, ◌≢◌, ℕ, ◌+◌, ◌<◌, ◌≤◌, ◌⊎◌, List, [], ◌∷◌, ◌++◌, length}
+use Rattle.base.specs.Limits.{most_held}
+use Rattle.journal.specs.declared.event.Event.{Event}
+use Rattle.journal.specs.declared.event.Kind.{Kind}
+use Rattle.journal.specs.declared.event.Kind.TheVariants as kind
+use Rattle.journal.specs.Sizes.{Sizes, addresses}
+use Rattle.lrc_script.specs.declared.fault.ScriptFault.{ScriptFault}
+use Rattle.lrc_script.specs.declared.fault.ScriptFault.TheVariants as script
+use Rattle.lrc_script.specs.Lawful.{AreSizes}
+use Rattle.lrc_script.specs.Front.{Nothing}
+use Rattle.lrc_script.specs.Faults.{HasLine, HasNoLineFeed, Says}
+use Rattle.lrc_script.specs.Reading.{IsCut}
+use Rattle.lrc_check.specs.declared.traces.fault.TraceFault.{TraceFault}
+use Rattle.lrc_check.specs.declared.traces.fault.TraceFault.TheVariants.{Truncated, Cut, BadLine, BadNumber, BadSize, BadPlace, BadProcessor, OutOfRange, BadLock, BadFlag, TooLong, NoMemory}
+use Rattle.lrc_check.specs.Traces.Sizes.{head}
+use Rattle.lrc_check.specs.Traces.Text.{head_line, trace_text}
+use Rattle.lrc_check.specs.Traces.Lawful.{IsTrace}
+use Rattle.lrc_check.specs.Traces.Lines.{HasBadNumber, HasNoShape, IsCutLine, IsEventLine}
+
+-- a fault of the first line, by what a script's reader calls it
+abbrev pub fault_from : ScriptFault → TraceFault
+fault_from script.BadNumber = BadNumber
+fault_from script.BadSize = BadSize
+fault_from script.NoMemory = NoMemory
+fault_from _ = BadLine
+
+-- what a fault says of the line of the sizes: the same as of a script's first line
+abbrev pub HeadSays : TraceFault → List ℕ → Type 0
+HeadSays BadLine line = Says script.BadLine Nothing line
+HeadSays BadNumber line = Says script.BadNumber Nothing line
+HeadSays BadSize line = Says script.BadSize Nothing line
+HeadSays _ line = ⊥
+
+-- the kind names an address, a page, a lock or a flag past the sizes, and this is its fault
+abbrev pub IsPast : TraceFault → Sizes → Kind → Type 0
+IsPast OutOfRange s (kind.Load a v) = addresses s ≤ a
+IsPast OutOfRange s (kind.Store a v) = addresses s ≤ a
+IsPast OutOfRange s (kind.Fetch w n r d) = s.pages ≤ n
+IsPast BadLock s (kind.Ask l) = s.locks ≤ l
+IsPast BadLock s (kind.Acquire l) = s.locks ≤ l
+IsPast BadLock s (kind.Release l) = s.locks ≤ l
+IsPast BadFlag s (kind.Set f) = s.flags ≤ f
+IsPast BadFlag s (kind.Watch f) = s.flags ≤ f
+IsPast BadFlag s (kind.Await f) = s.flags ≤ f
+IsPast _ s k = ⊥
+
+-- what a fault says of an event of this place behind that many others
+abbrev pub EventSays : TraceFault → Sizes → ℕ → ℕ → Event → Type 0
+EventSays BadPlace s count place e = place ≢ count
+EventSays BadProcessor s count place e = s.processors ≤ e.processor
+EventSays TooLong s count place e = most_held ≤ count
+EventSays fault s count place e = IsPast fault s e.kind
+
+-- what a fault says of a line behind these events
+abbrev pub LineSays : TraceFault → Sizes → List Event → List ℕ → Type 0
+LineSays Cut s es line = (es ≡ []) × IsCutLine line
+LineSays BadLine s es line = HasNoShape line × ((es ≡ []) → ¬ IsCutLine line)
+LineSays BadNumber s es line = HasBadNumber line
+LineSays fault s es line =
+    (place : ℕ) × (e : Event) × IsEventLine line place e × EventSays fault s (length es) place e
+
+-- why a line is no event's, unless memory ran out
+abbrev pub IsNoEvent : TraceFault → List ℕ → Type 0
+IsNoEvent NoMemory line = Unit {0}
+IsNoEvent BadLine line = HasNoShape line
+IsNoEvent BadNumber line = HasBadNumber line
+IsNoEvent _ line = ⊥
+
+-- why a line adds no event to these, unless memory ran out
+abbrev pub Refuses : TraceFault → Sizes → List Event → List ℕ → Type 0
+Refuses NoMemory s es line = Unit {0}
+Refuses fault s es line = LineSays fault s es line
+
+-- the line has sizes that a script may have
+pub record LineHasSizes (line : List ℕ) (s : Sizes) : Type 0 where
+  pub sizes : AreSizes (head s)
+  pub line_is : line ++ 10 ∷ [] ≡ head_line s
+
+-- why a line has no such sizes, unless memory ran out
+abbrev pub HasNoSizes : TraceFault → List ℕ → Type 0
+HasNoSizes NoMemory line = Unit {0}
+HasNoSizes fault line = HeadSays fault line × ((s : Sizes) → ¬ LineHasSizes line s)
+
+-- some trace has a text that begins so
+abbrev pub BeginsTraceText : List ℕ → Type 0
+BeginsTraceText bytes = (s : Sizes) × (es : List Event) × IsTrace s es × (more : List ℕ) × (trace_text s es ≡ bytes ++ more)
+
+-- behind these bytes, which are whole lines, stands a line of which this holds, and no trace has it there
+pub record IsBadLine (before rest : List ℕ) (Holds : List ℕ → Type 0) : Type 0 where
+  pub line : List ℕ
+  pub more : List ℕ
+  pub cut : IsCut rest line more
+  pub holds : Holds line
+  pub never : ¬ BeginsTraceText (before ++ (line ++ 10 ∷ []))
+
+-- the fault of the first line
+abbrev pub IsHeadFault : TraceFault → List ℕ → Type 0
+IsHeadFault Truncated bytes = HasNoLineFeed bytes
+IsHeadFault NoMemory bytes = HasLine bytes
+IsHeadFault fault bytes = IsBadLine [] bytes (HeadSays fault)
+
+-- the fault of the line behind these events, where this is left
+abbrev pub IsTraceFaultBehind : TraceFault → Sizes → List Event → List ℕ → Type 0
+IsTraceFaultBehind Truncated s es rest = HasNoLineFeed rest × (0 < length rest)
+IsTraceFaultBehind NoMemory s es rest = HasLine rest
+IsTraceFaultBehind fault s es rest = IsBadLine (trace_text s es) rest (LineSays fault s es)
+
+-- line n is the first that isn't due: the lines before it are the text of a trace, and the fault says what is wrong
+pub record IsTraceFaultAt (s : Sizes) (bytes : List ℕ) (n : ℕ) (fault : TraceFault) : Type 0 where
+  pub events : List Event
+  pub rest : List ℕ
+  pub begun : IsTrace s events
+  pub whole : bytes ≡ trace_text s events ++ rest
+  pub number : n ≡ length events + 2
+  pub behind : IsTraceFaultBehind fault s events rest
+
+-- line 1 has the fault, or a later line
+abbrev pub IsTraceFault : List ℕ → ℕ → TraceFault → Type 0
+IsTraceFault bytes n fault = ((n ≡ 1) × IsHeadFault fault bytes) ⊎ ((s : Sizes) × IsTraceFaultAt s bytes n fault)
+
+-- however the bytes go on, line n has the fault
+abbrev pub IsLastingFault : List ℕ → ℕ → TraceFault → Type 0
+IsLastingFault bytes n fault = (more : List ℕ) → IsTraceFault (bytes ++ more) n fault

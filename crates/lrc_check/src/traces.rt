@@ -1,0 +1,26 @@
+//! Traces: journals given as text, of anyone's making, and the reader of that text.
+//!
+//! A trace's text is a script's first line, which has the sizes, and then a line for each event, as a report prints
+//! them: `event 8 1 fetch 0 1 1 1`, numbered from 0, each with its line feed, and nothing else.
+//!
+//! **What contracts see.** A `Trace` as it is; its sizes as the journal's (`sizes_of`). `IsTrace` says which sizes
+//! and events a trace may have, `text` what its bytes are. `IsFault` says what a fault says of the bytes. A `Reader`, of a
+//! text that comes in pieces, is seen as the bytes that it was fed.
+//!
+//! **What is proved.** `trace::read` answers a trace only where it is one and the bytes are its text, and a fault
+//! only where they are no trace's, with the first line that isn't due. A `Reader` answers this of all its pieces'
+//! bytes, and a fault of a piece only where no trace has a text that begins so. Module `laws`: no two traces have one text;
+//! what is printed of a journal is, behind its sizes, the text of a trace of its events where nothing was cut off, and
+//! is refused as a cut journal's where something was; a well formed journal is a trace.
+//!
+//! **What is only tested** (in `test_lrc`): which fault is answered among several on one line, the texts of the
+//! faults, and that memory isn't wanted needlessly.
+
+mod begun;
+pub mod fault;
+pub mod laws;
+mod line;
+mod names;
+mod range;
+pub mod reader;
+pub mod trace;

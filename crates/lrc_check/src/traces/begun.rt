@@ -1,0 +1,114 @@
+//! The lines of a trace's text, as they come: what those so far are, and what comes next.
+ghost use Rattle.std.specs.Prelude.{◌≡◌, [], ◌∷◌, ◌++◌, IfOk, IfErr, OnOk};
+ghost use Rattle.lrc_script.specs.Prelude.{HasNoLineFeed};
+ghost use Rattle.lrc_check.specs.declared.traces.fault.TraceFault.TheVariants.{Truncated};
+ghost use Rattle.lrc_check.specs.Traces.Prelude.{HasNoSizes, LineHasSizes, IsTraceBegun, IsTraceFault, IsLastingFault, IsNoOther};
+ghost use Rattle.lrc_check.specs.Traces.Prelude.{IsNoTrace, IsTrace, begun_text, number_after, sizes_of, trace_text};
+
+use crate::traces::fault::TraceFault;
+use crate::traces::line::add;
+use crate::traces::trace::{Sizes, Trace};
+use lrc_script::line::split_line;
+use lrc_script::script::read_sizes;
+use std::alloc::Global;
+
+/// The trace without an event that begins with this line.
+fn begin(alloc: Global, line: &[u8]) -> Result<Trace, TraceFault>
+    ensures sizes { IfOk result (λ t. LineHasSizes line.now (sizes_of t.sizes)) }
+    ensures empty { IfOk result (λ t. t.events.items ≡ []) }
+    ensures fault { IfErr result (λ e. HasNoSizes e line.now) }
+{
+    match read_sizes(alloc, line) {
+        Ok(script) => Ok(Trace {
+            sizes: Sizes {
+                processors: script.processors,
+                pages: script.pages,
+                words: script.words,
+                locks: script.locks,
+                flags: script.flags,
+            },
+            events: Vec::new(alloc),
+        }),
+        Err(fault) => Err(TraceFault::from(fault)),
+    }
+}
+
+/// The number of the line that comes next, counted from 1.
+pub fn next_number(begun: &Option<Trace>) -> usize
+    requires { IsTraceBegun begun.now }
+    ensures { result ≡ number_after begun.now }
+{
+    match begun {
+        None => 1,
+        Some(trace) => trace.events.len() + 2,
+    }
+}
+
+/// Reads the next line, of which the line feed isn't there.
+fn read_line(
+    alloc: Global,
+    begun: &mut Option<Trace>,
+    line: &[u8],
+) -> Result<(), (usize, TraceFault)>
+    requires begun { IsTraceBegun begun.old }
+    requires one_line { HasNoLineFeed line.now }
+    ensures begun { OnOk result (IsTraceBegun begun.new) }
+    ensures text { OnOk result (begun_text begun.new ≡ begun_text begun.old ++ (line.now ++ 10 ∷ [])) }
+    ensures fault { IfErr result (λ e. IsLastingFault (begun_text begun.old ++ (line.now ++ 10 ∷ [])) e.0 e.1) }
+{
+    match begun {
+        None => match begin(alloc, line) {
+            Ok(trace) => {
+                *begun = Some(trace);
+                Ok(())
+            }
+            Err(fault) => Err((1, fault)),
+        },
+        Some(trace) => {
+            let number = trace.events.len() + 2;
+            match add(alloc, &trace.sizes, &mut trace.events, line) {
+                Ok(()) => Ok(()),
+                Err(fault) => Err((number, fault)),
+            }
+        }
+    }
+}
+
+/// Reads the lines that are whole, and answers what stands behind them.
+pub fn read_lines<'a>(
+    alloc: Global,
+    begun: &mut Option<Trace>,
+    bytes: &'a [u8],
+) -> Result<&'a [u8], (usize, TraceFault)>
+    requires { IsTraceBegun begun.old }
+    ensures begun { OnOk result (IsTraceBegun begun.new) }
+    ensures rest { IfOk result (λ rest. HasNoLineFeed rest.now) }
+    ensures text { IfOk result (λ rest. begun_text begun.new ++ rest.now ≡ begun_text begun.old ++ bytes.now) }
+    ensures fault { IfErr result (λ e. IsLastingFault (begun_text begun.old ++ bytes.now) e.0 e.1) }
+{
+    // This is the one call of `read_line`: so the compiler puts all that reads a line into the loop.
+    let mut rest = bytes;
+    while let Some((line, after)) = split_line(rest) {
+        read_line(alloc, begun, line)?;
+        rest = after;
+    }
+    Ok(rest)
+}
+
+/// The trace that the lines are, where nothing stands behind the last line feed.
+pub fn end(begun: Option<Trace>, rest: &[u8]) -> Result<Trace, (usize, TraceFault)>
+    requires begun { IsTraceBegun begun }
+    requires rest { HasNoLineFeed rest.now }
+    ensures found { IfOk result (λ t. IsTrace (sizes_of t.sizes) t.events.items
+        × (begun_text begun ++ rest.now ≡ trace_text (sizes_of t.sizes) t.events.items)) }
+    ensures again { IfOk result (λ t. IsNoOther (begun_text begun ++ rest.now) (sizes_of t.sizes) t.events.items) }
+    ensures only { IfErr result (λ _. IsNoTrace (begun_text begun ++ rest.now)) }
+    ensures truncated { IfErr result (λ e. e.1 ≡ Truncated) }
+    ensures fault { IfErr result (λ e. IsTraceFault (begun_text begun ++ rest.now) e.0 e.1) }
+{
+    if rest.is_empty() {
+        begun.ok_or((1, TraceFault::Truncated))
+    } else {
+        Err((next_number(&begun), TraceFault::Truncated))
+    }
+}

@@ -1,0 +1,173 @@
+//! One line of a trace.
+ghost use Rattle.std.specs.Prelude.{◌≡◌, IsTrue, ◌↔◌, [], ◌∷◌, IfOk, IfErr, IfSome, OnOk, MatchOption};
+ghost use Rattle.lrc_script.specs.Prelude.{AreSizes, parts_left};
+ghost use Rattle.lrc_check.specs.Traces.Prelude.{GivesKind, HasNoShape, EventRead, IsCutLine, IsEventLine, IsNoEvent, IsShaped};
+ghost use Rattle.lrc_check.specs.Traces.Prelude.{Refuses, head, sizes_of};
+
+use crate::traces::fault::TraceFault;
+use crate::traces::names::Name;
+use crate::traces::range::event_fault;
+use crate::traces::trace::Sizes;
+use journal::{Event, Kind};
+use lrc_script::line::{
+    few_numbers, is_separated, number, number_count, read_numbers, split_at_byte,
+};
+use std::alloc::Global;
+
+/// The words of an event's line, behind the first.
+#[derive(Clone, Copy)]
+struct Words<'a> {
+    place: &'a [u8],
+    processor: &'a [u8],
+    name: Name,
+    numbers: Option<&'a [u8]>,
+}
+
+/// The next of these words, and those behind it.
+fn next_word(words: Option<&[u8]>) -> Option<(&[u8], Option<&[u8]>)>
+    ensures { MatchOption result (parts_left 32 words.entry ≡ [])
+        (λ x. parts_left 32 words.entry ≡ x.0.now ∷ parts_left 32 x.1) }
+{
+    match words {
+        Some(words) => Some(split_at_byte(words, b' ')),
+        None => None,
+    }
+}
+
+/// The words of a line that has the shape of an event's.
+fn words_of(line: &[u8]) -> Option<Words<'_>>
+    ensures { MatchOption result (HasNoShape line.now)
+        (λ w. IsShaped line.now w.place.now w.processor.now w.name (parts_left 32 w.numbers)) }
+{
+    if !is_separated(line) {
+        return None;
+    }
+    let (first, rest) = split_at_byte(line, b' ');
+    if first != b"event".as_slice() {
+        return None;
+    }
+    let (place, rest) = next_word(rest)?;
+    let (processor, rest) = next_word(rest)?;
+    let (word, numbers) = next_word(rest)?;
+    let name = Name::of(word)?;
+    if number_count(numbers) != name.numbers() {
+        return None;
+    }
+    Some(Words {
+        place,
+        processor,
+        name,
+        numbers,
+    })
+}
+
+/// What an event of this name did, where the words are numbers, and as many as stand behind the name.
+// Within the loop over lines its answer doesn't go through memory, which is some 20 instructions a line.
+#[inline(always)]
+fn kind_of(alloc: Global, name: Name, words: Option<&[u8]>) -> Option<Kind>
+    ensures { IfSome result (GivesKind name (parts_left 32 words.entry)) }
+{
+    if let Some(few) = few_numbers(words) {
+        return name.kind(few.as_slice());
+    }
+    match read_numbers(alloc, words) {
+        Ok(numbers) => name.kind(numbers.as_slice()),
+        Err(_) => None,
+    }
+}
+
+/// The event of a line, and the place that the line gives it. It goes over each word twice at most, and doesn't say
+/// what is wrong: it answers None for each fault, and where memory runs out.
+fn quick_event(alloc: Global, line: &[u8]) -> Option<(usize, Event)>
+    ensures { IfSome result (λ x. IsEventLine line.now x.0 x.1) }
+{
+    let (first, rest) = split_at_byte(line, b' ');
+    if first != b"event".as_slice() {
+        return None;
+    }
+    let (place, rest) = next_word(rest)?;
+    let (processor, rest) = next_word(rest)?;
+    let (word, numbers) = next_word(rest)?;
+    let name = Name::of(word)?;
+    let at = number(place)?;
+    let by = number(processor)?;
+    let kind = kind_of(alloc, name, numbers)?;
+    let processor = by as usize;
+    Some((at as usize, Event { processor, kind }))
+}
+
+/// The event of a line, and the place that the line gives it, or what is wrong with the line.
+fn event_or_fault(alloc: Global, line: &[u8]) -> Result<(usize, Event), TraceFault>
+    ensures found { IfOk result (λ x. IsEventLine line.now x.0 x.1) }
+    ensures fault { IfErr result (λ e. IsNoEvent e line.now) }
+{
+    let Some(words) = words_of(line) else {
+        return Err(TraceFault::BadLine);
+    };
+    let Some(place) = number(words.place) else {
+        return Err(TraceFault::BadNumber);
+    };
+    let Some(processor) = number(words.processor) else {
+        return Err(TraceFault::BadNumber);
+    };
+    let numbers = match read_numbers(alloc, words.numbers) {
+        Ok(numbers) => numbers,
+        Err(fault) => return Err(TraceFault::from(fault)),
+    };
+    let Some(kind) = words.name.kind(numbers.as_slice()) else {
+        return Err(TraceFault::BadLine);
+    };
+    let processor = processor as usize;
+    Ok((place as usize, Event { processor, kind }))
+}
+
+/// The event of a line, and the place that the line gives it. Only a line that isn't read quickly is looked at for its
+/// fault.
+fn read_event(alloc: Global, line: &[u8]) -> Result<(usize, Event), TraceFault>
+    ensures found { IfOk result (λ x. IsEventLine line.now x.0 x.1) }
+    ensures fault { IfErr result (λ e. IsNoEvent e line.now) }
+{
+    match quick_event(alloc, line) {
+        Some(found) => Ok(found),
+        None => event_or_fault(alloc, line),
+    }
+}
+
+/// Whether the line tells how many events were cut off.
+fn is_cut(line: &[u8]) -> bool
+    ensures { IsTrue result ↔ IsCutLine line.now }
+{
+    let (word, rest) = split_at_byte(line, b' ');
+    if word != b"cut".as_slice() {
+        return false;
+    }
+    let Some(rest) = rest else {
+        return false;
+    };
+    match number(rest) {
+        Some(count) => count > 0,
+        None => false,
+    }
+}
+
+/// Adds the event of a line to those before it.
+pub fn add(
+    alloc: Global,
+    sizes: &Sizes,
+    events: &mut Vec<Event>,
+    line: &[u8],
+) -> Result<(), TraceFault>
+    requires { AreSizes (head (sizes_of sizes.now)) }
+    ensures found { OnOk result (EventRead (sizes_of sizes.now) events.old.items line.now events.new.items) }
+    ensures fault { IfErr result (λ e. Refuses e (sizes_of sizes.now) events.old.items line.now) }
+{
+    if events.is_empty() && is_cut(line) {
+        return Err(TraceFault::Cut);
+    }
+    let (place, event) = read_event(alloc, line)?;
+    if let Some(fault) = event_fault(sizes, events.len(), place, &event) {
+        return Err(fault);
+    }
+    events.push(event)?;
+    Ok(())
+}

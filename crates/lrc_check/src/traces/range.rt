@@ -1,0 +1,49 @@
+//! Whether an event is within a cluster's sizes, and stands where its number says.
+ghost use Rattle.std.specs.Prelude.{IfSome, IfNone};
+ghost use Rattle.lrc_check.specs.Traces.Prelude.{EventSays, IsDueEvent, IsPast, head, sizes_of};
+ghost use Rattle.journal.specs.WellFormed.{KindInRange};
+ghost use Rattle.lrc_script.specs.Prelude.{AreSizes};
+
+use crate::traces::fault::TraceFault;
+use crate::traces::trace::Sizes;
+use journal::{Event, Kind, MOST_HELD};
+
+/// The fault of a kind that names an address, a page, a lock or a flag past the sizes.
+fn kind_fault(sizes: &Sizes, kind: Kind) -> Option<TraceFault>
+    requires { AreSizes (head (sizes_of sizes.now)) }
+    ensures none { IfNone result (KindInRange (sizes_of sizes.now) kind) }
+    ensures some { IfSome result (λ f. IsPast f (sizes_of sizes.now) kind) }
+{
+    match kind {
+        Kind::Load(address, _) | Kind::Store(address, _) => {
+            (address >= sizes.pages * sizes.words).then_some(TraceFault::OutOfRange)
+        }
+        Kind::Fetch { page, .. } => (page >= sizes.pages).then_some(TraceFault::OutOfRange),
+        Kind::Ask(lock) | Kind::Acquire(lock) | Kind::Release(lock) => {
+            (lock >= sizes.locks).then_some(TraceFault::BadLock)
+        }
+        Kind::Set(flag) | Kind::Watch(flag) | Kind::Await(flag) => {
+            (flag >= sizes.flags).then_some(TraceFault::BadFlag)
+        }
+        Kind::Arrive | Kind::Depart => None,
+    }
+}
+
+/// Why the event of a line that gives this place can't stand behind `count` others.
+pub fn event_fault(sizes: &Sizes, count: usize, place: usize, event: &Event) -> Option<TraceFault>
+    requires { AreSizes (head (sizes_of sizes.now)) }
+    ensures none { IfNone result (IsDueEvent (sizes_of sizes.now) count place event.now) }
+    ensures some { IfSome result (λ f. EventSays f (sizes_of sizes.now) count place event.now) }
+{
+    if place != count {
+        Some(TraceFault::BadPlace)
+    } else if event.processor >= sizes.processors {
+        Some(TraceFault::BadProcessor)
+    } else if let Some(fault) = kind_fault(sizes, event.kind) {
+        Some(fault)
+    } else if count >= MOST_HELD {
+        Some(TraceFault::TooLong)
+    } else {
+        None
+    }
+}

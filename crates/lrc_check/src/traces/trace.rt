@@ -1,0 +1,50 @@
+//! A trace: the sizes of a cluster, and its events in order.
+ghost use Rattle.std.specs.Prelude.{◌≡◌, ◌≢◌, IfOk, IfErr};
+ghost use Rattle.lrc_check.specs.declared.traces.fault.TraceFault.TheVariants.{NoMemory};
+ghost use Rattle.lrc_check.specs.Traces.Prelude.{IsTraceFault, IsNoOther, IsNoTrace, IsTrace, sizes_of, trace_text};
+
+use crate::traces::begun::{end, read_lines};
+use crate::traces::fault::TraceFault;
+use journal::Event;
+use std::alloc::Global;
+
+/// The sizes of a cluster of `processors` processors that share `pages` pages of `words` words, `locks` locks and
+/// `flags` flags.
+#[derive(Clone, Copy, Debug, PartialEq, Eq)]
+pub struct Sizes {
+    pub processors: usize,
+    pub pages: usize,
+    pub words: usize,
+    pub locks: usize,
+    pub flags: usize,
+}
+
+/// What happened in a cluster, as somebody tells it: its sizes, and its events in order.
+#[derive(Debug, PartialEq, Eq, Drop)]
+pub struct Trace {
+    pub sizes: Sizes,
+    pub events: Vec<Event>,
+}
+
+/// The trace that has these bytes as its text, or the first line with a fault, counted from 1. On one line the
+/// faults are tested in the order that `TraceFault` tells. Reading takes time in the order of the bytes.
+///
+/// # Errors
+///
+/// Each but `NoMemory` comes only where no trace has these bytes as its text, and says what is wrong with its line.
+/// `NoMemory` comes where a growth was refused while that line was read.
+pub fn read(alloc: Global, bytes: &[u8]) -> Result<Trace, (usize, TraceFault)>
+    // What is read is a trace, and the bytes are its text.
+    ensures found { IfOk result (λ t. IsTrace (sizes_of t.sizes) t.events.items
+        × (bytes.now ≡ trace_text (sizes_of t.sizes) t.events.items)) }
+    // It is the one trace with this text.
+    ensures again { IfOk result (λ t. IsNoOther bytes.now (sizes_of t.sizes) t.events.items) }
+    // No trace is refused, unless memory runs out.
+    ensures only { IfErr result (λ e. e.1 ≢ NoMemory → IsNoTrace bytes.now) }
+    // The lines before the fault are a trace's text, or none; no trace has that line next, and the fault says why.
+    ensures fault { IfErr result (λ e. IsTraceFault bytes.now e.0 e.1) }
+{
+    let mut begun = None;
+    let rest = read_lines(alloc, &mut begun, bytes)?;
+    end(begun, rest)
+}

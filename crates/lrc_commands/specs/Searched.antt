@@ -1,0 +1,27 @@
+-- What the program does with a script whose schedules are all looked at.
+use Rattle.std.specs.Prelude.{ℕ, ◌≡◌, Bool, true, false, List, Option}
+use Rattle.lrc_script.specs.Plan.{Plan}
+use Rattle.explore.specs.Explored.{IsExplored}
+use Rattle.explore.specs.declared.explored.Explored.{Explored}
+use Rattle.explore.specs.declared.explored.Verdict.{Verdict}
+use Rattle.explore.specs.declared.explored.Verdict.TheVariants.{Undecided}
+use Rattle.lrc_explore.specs.Texts.{ExploreWritten}
+use Rattle.lrc_program.specs.Served.{IsRead}
+
+-- whether the search came to its end
+abbrev pub is_decided : Verdict → Bool
+is_decided Undecided = false
+is_decided _ = true
+
+-- the script's schedules were looked at, that many states at most, and what was found was written
+pub record IsSearchWritten (most : ℕ) (decided : Bool) (script : Plan) (old new : Option (List ℕ)) : Type 0 where
+  pub explored : Explored
+  pub is : IsExplored script most explored
+  pub decided_is : is_decided explored.verdict ≡ decided
+  pub written : ExploreWritten old new explored
+
+-- so were those of the script that the source had
+pub record SearchWritten (most : ℕ) (decided : Bool) (source old new : Option (List ℕ)) : Type 0 where
+  pub script : Plan
+  pub read : IsRead source script
+  pub search : IsSearchWritten most decided script old new

@@ -1,0 +1,165 @@
+//! The program that judges traces, over its reader and its writers.
+ghost use Rattle.std.specs.Prelude.{◌≡◌, ◌≢◌, ◌⊎◌, ℕ, ◌<◌, ◌≤◌, List, Option, IfErr, IfOk, length, take};
+ghost use Rattle.std.specs.Io.KnownBytes.{Consumes, IsAtEnd, Keeps};
+ghost use Rattle.lrc_check.specs.Traces.Prelude.{IsTrace, sizes_of};
+ghost use Rattle.lrc_check.specs.Prelude.{IsTraces};
+ghost use Rattle.lrc_commands.specs.Prelude.{HasText, IsBeforeAnswer, IsFaithfulTrace, IsInputs, IsJudgedAs, IsNoTraceOf};
+ghost use Rattle.lrc_commands.specs.Prelude.{IsReadSoFar, IsUnfaithfulTrace, is_faithful_of};
+
+use crate::fault::StudyFault;
+use lrc_check::traces::fault::TraceFault;
+use lrc_check::traces::reader::Reader;
+use lrc_check::traces::trace::Trace;
+use lrc_check::{CheckFault, Checked, check_trace};
+use lrc_options::options::TraceOptions;
+use std::alloc::{AllocError, Global};
+use std::io;
+use std::io::{ErrorKind, Read, Write};
+
+/// More bytes than the longest trace has, whose 2^21 events take less than 64 bytes each.
+const MOST_READ: usize = (1 << 27) + 128;
+
+/// How many bytes are read at once, at most.
+const PIECE: usize = 1 << 16;
+
+/// The exit status of a trace that isn't faithful.
+const UNFAITHFUL: u8 = 6;
+
+/// What is read of a trace so far, or its first line with a fault.
+type Reading = Result<Reader, (usize, TraceFault)>;
+
+/// Reads some bytes, and none at the end alone. A read that a signal broke off is made again.
+fn read_some<S: Read>(source: &mut S, piece: &mut [u8]) -> io::Result<usize>
+    requires { 0 < length piece.old }
+    ensures bound { IfOk result (λ n. n ≤ length piece.new) }
+    ensures bytes { IfOk result (λ n. Consumes (S.remaining source.old) (S.remaining source.new) (take n piece.new)) }
+    ensures end { IfOk result (λ n. n ≡ 0 → IsAtEnd (S.remaining source.new)) }
+{
+    for _ in 0..u64::MAX {
+        match source.read(piece) {
+            Ok(count) => return Ok(count),
+            Err(error) => {
+                if error.kind() != ErrorKind::Interrupted {
+                    return Err(error);
+                }
+            }
+        }
+    }
+    Err(io::Error::from(ErrorKind::Interrupted))
+}
+
+/// Takes the next piece of a trace. What comes behind a line with a fault changes nothing.
+fn feed(alloc: Global, reading: Reading, piece: &[u8]) -> Reading
+    ensures { (source left after : Option (List ℕ)) → IsReadSoFar source left reading
+        → Consumes left after piece.now → IsReadSoFar source after result }
+{
+    reading?.feed(alloc, piece)
+}
+
+/// What was read after the last piece.
+fn finish(reading: Reading) -> Result<Trace, CheckFault>
+    ensures trace { IfOk result (λ t. IsTrace (sizes_of t.sizes) t.events.items) }
+    ensures text { IfOk result (λ t. (source left : Option (List ℕ)) → IsReadSoFar source left reading
+        → IsAtEnd left → HasText source (sizes_of t.sizes) t.events.items) }
+    ensures refused { IfErr result (λ fault. IsTraces fault → (source left : Option (List ℕ))
+        → IsReadSoFar source left reading → IsAtEnd left → IsNoTraceOf source) }
+{
+    let trace = reading?.finish()?;
+    Ok(trace)
+}
+
+/// Reads a trace, all that the source has, a piece at a time. What is longer than any trace is refused without its rest.
+fn read_pieces<S: Read>(
+    alloc: Global,
+    source: &mut S,
+    piece: &mut [u8],
+) -> Result<Trace, StudyFault>
+    requires { 0 < length piece.old }
+    ensures trace { IfOk result (λ t. IsTrace (sizes_of t.sizes) t.events.items) }
+    ensures text { IfOk result (λ t. HasText (S.remaining source.old) (sizes_of t.sizes) t.events.items) }
+    ensures refused { IfErr result (λ fault. IsInputs fault → IsNoTraceOf (S.remaining source.old)) }
+{
+    let mut reading = Ok(Reader::new(alloc));
+    let mut total = 0;
+    while total < MOST_READ {
+        let count = read_some(source, piece)?;
+        if count == 0 {
+            return Ok(finish(reading)?);
+        }
+        reading = feed(alloc, reading, &piece[..count]);
+        total += count;
+    }
+    Err(StudyFault::Long)
+}
+
+/// Room for so many bytes.
+fn room(alloc: Global, size: usize) -> Result<Vec<u8>, AllocError>
+    ensures { IfOk result (λ v. length v.items ≡ size) }
+{
+    vec![in alloc; 0; size]
+}
+
+/// Reads a trace, so that its text is never there as a whole.
+fn read_trace<S: Read>(alloc: Global, source: &mut S) -> Result<Trace, StudyFault>
+    ensures trace { IfOk result (λ t. IsTrace (sizes_of t.sizes) t.events.items) }
+    ensures text { IfOk result (λ t. HasText (S.remaining source.old) (sizes_of t.sizes) t.events.items) }
+    ensures refused { IfErr result (λ fault. IsInputs fault → IsNoTraceOf (S.remaining source.old)) }
+{
+    let mut piece = room(alloc, PIECE)?;
+    read_pieces(alloc, source, &mut piece)
+}
+
+/// Whether what was found is that the trace is faithful.
+fn is_faithful(found: &Checked) -> bool
+    ensures { result ≡ is_faithful_of found.now }
+{
+    match found {
+        Checked::Faithful { .. } => true,
+        _ => false,
+    }
+}
+
+/// Reads a trace, judges it and writes what was found: whether it is faithful.
+fn check_source<S: Read, W: Write>(
+    alloc: Global,
+    lax: bool,
+    source: &mut S,
+    out: &mut W,
+) -> Result<bool, StudyFault>
+    ensures judged { IfOk result (IsJudgedAs lax (S.remaining source.old)) }
+    ensures refused { IfErr result (λ fault. IsInputs fault → IsNoTraceOf (S.remaining source.old)) }
+    ensures early { IfErr result
+        (λ fault. IsBeforeAnswer fault → Keeps (W.contents out.old) (W.contents out.new)) }
+{
+    let trace = read_trace(alloc, source)?;
+    let found = check_trace(alloc, &trace, lax, out)?;
+    Ok(is_faithful(&found))
+}
+
+/// Judges the trace of `source` as the options say: writes what was found to `out`, or one line to `err`, and answers
+/// the exit status. The file that the options name isn't opened here.
+pub fn check_program<S: Read, W: Write, E: Write>(
+    alloc: Global,
+    options: &TraceOptions,
+    source: &mut S,
+    out: &mut W,
+    err: &mut E,
+) -> u8
+    // The source had a trace, and it is faithful.
+    ensures faithful { result ≡ 0 → IsFaithfulTrace options.now.lax (S.remaining source.old) }
+    // The source had a trace, and it is not.
+    ensures unfaithful { result ≡ 6 → IsUnfaithfulTrace options.now.lax (S.remaining source.old) }
+    // What is refused as a trace is none.
+    ensures refused { result ≡ 2 → IsNoTraceOf (S.remaining source.old) }
+    // But for status 4, what was found is written whole or not at all.
+    ensures early { result ≢ 0 → result ≢ 6 → result ≢ 4
+        → Keeps (W.contents out.old) (W.contents out.new) }
+    // Where a trace was judged, no line goes to the error output.
+    ensures quiet { (result ≡ 0) ⊎ (result ≡ 6) → Keeps (E.contents err.old) (E.contents err.new) }
+{
+    match check_source(alloc, options.lax, source, out) {
+        Ok(true) => 0,
+        Ok(false) => UNFAITHFUL,
+        Err(fault) => fault.say(alloc, options.file.as_deref(), err),
+    }
+}

@@ -1,0 +1,161 @@
+//! The picture of a run.
+ghost use Rattle.std.specs.Prelude.{ℕ, ◌-◌, ◌<◌, ◌≤◌, All, IfErr, IfOk, IsTrue, OnOk, length};
+ghost use Rattle.std.specs.Io.KnownBytes.{Keeps};
+ghost use Rattle.base.specs.Prelude.{most_held, most_processors};
+ghost use Rattle.journal.specs.Prelude.{ProcessorsInRange};
+ghost use Rattle.lrc_picture.specs.Prelude.{ArePlaces};
+ghost use Rattle.lrc_commands.specs.Prelude.{IsBeforeAnswer, IsBehind, IsInputs};
+
+use crate::fault::StudyFault;
+use causes::incoming;
+use conformance::Ended;
+use journal::{Event, Journal, Kind, MOST_HELD, MOST_PROCESSORS};
+use lrc_picture::picture::render;
+use lrc_picture::story::Story;
+use std::alloc::{AllocError, Global};
+use std::io::Write;
+
+/// How many arrivals stand for what was cut off of a journal of so many processors: one of each, since each had arrived
+/// and none gone on.
+fn opening_of(processors: usize, journal: &Journal) -> usize {
+    if journal.cut_events() == 0 {
+        0
+    } else {
+        processors
+    }
+}
+
+/// The events of the journal behind so many arrivals, one of each processor.
+fn history_of(alloc: Global, opening: usize, journal: &Journal) -> Result<Vec<Event>, AllocError>
+    ensures { IfOk result (λ v. IsBehind opening journal.now.events v.items) }
+{
+    let mut history = Vec::new(alloc);
+    for processor in 0..opening {
+        history.push(Event {
+            processor,
+            kind: Kind::Arrive,
+        })?;
+    }
+    history.extend_from_slice(journal.events())?;
+    Ok(history)
+}
+
+/// Whether these are so few events of so few processors as a cluster has, and all of them by these processors.
+fn are_in_range(events: &[Event], processors: usize) -> bool
+    ensures few { IsTrue result → length events.now ≤ most_held }
+    ensures few_processors { IsTrue result → processors ≤ most_processors }
+    ensures processors { IsTrue result → ProcessorsInRange processors events.now }
+{
+    for event in events {
+        if event.processor >= processors {
+            return false;
+        }
+    }
+    events.len() <= MOST_HELD && processors <= MOST_PROCESSORS
+}
+
+/// Adds the place, counted from `opening` on, unless it stands before that.
+fn add_place(left: &mut Vec<usize>, place: usize, opening: usize) -> Result<(), AllocError>
+    ensures { OnOk result ((n : ℕ) → place < n → All (λ i. i < n - opening) left.old.items
+        → All (λ i. i < n - opening) left.new.items) }
+{
+    if place >= opening {
+        left.push(place - opening)?;
+    }
+    Ok(())
+}
+
+/// The places from `opening` on, counted from there.
+fn places_from(alloc: Global, places: &[usize], opening: usize) -> Result<Vec<usize>, AllocError>
+    ensures { IfOk result (λ v. (n : ℕ) → All (λ i. i < n) places.now
+        → All (λ i. i < n - opening) v.items) }
+{
+    let mut left = Vec::new(alloc);
+    for place in places {
+        add_place(&mut left, *place, opening)?;
+    }
+    Ok(left)
+}
+
+/// The rows from `opening` on, with the places from there on, counted from there.
+fn rows_from(
+    alloc: Global,
+    rows: &[Vec<usize>],
+    opening: usize,
+) -> Result<Vec<Vec<usize>>, AllocError>
+    requires opening { opening ≤ length rows.now }
+    requires places { ArePlaces (length rows.now) rows.now }
+    ensures { IfOk result (λ v. ArePlaces (length rows.now - opening) v.items) }
+{
+    let mut left = Vec::new(alloc);
+    for row in opening..rows.len() {
+        left.push(places_from(alloc, &rows[row], opening)?)?;
+    }
+    Ok(left)
+}
+
+/// For each event of the history behind so many the places, counted from there, of the other processors' events that let
+/// it through and that its processor had not heard of.
+fn arrows_of(
+    alloc: Global,
+    processors: usize,
+    opening: usize,
+    history: &[Event],
+) -> Result<Vec<Vec<usize>>, AllocError>
+    requires opening { opening ≤ length history.now }
+    requires few { length history.now ≤ most_held }
+    requires few_processors { processors ≤ most_processors }
+    requires processors { ProcessorsInRange processors history.now }
+    ensures { IfOk result (λ v. ArePlaces (length history.now - opening) v.items) }
+{
+    let rows = incoming(alloc, processors, history)?;
+    rows_from(alloc, &rows, opening)
+}
+
+/// Draws the run with this journal.
+fn draw_journal<W: Write>(
+    alloc: Global,
+    processors: usize,
+    journal: &Journal,
+    halted: bool,
+    out: &mut W,
+) -> Result<(), StudyFault>
+    ensures runs { IfErr result (λ fault. IsInputs fault → ⊥) }
+    ensures early { IfErr result
+        (λ fault. IsBeforeAnswer fault → Keeps (W.contents out.old) (W.contents out.new)) }
+{
+    let opening = opening_of(processors, journal);
+    let history = history_of(alloc, opening, journal)?;
+    if !are_in_range(&history, processors) {
+        return Err(StudyFault::Untold);
+    }
+    let arrows = arrows_of(alloc, processors, opening, &history)?;
+    let story = Story {
+        processors,
+        events: journal.events(),
+        incoming: &arrows,
+        first: journal.cut_events(),
+        race: journal.first_race()?,
+        halted,
+    };
+    render(alloc, &story, out)?;
+    Ok(())
+}
+
+/// Draws how a run of so many processors ended. The only faults are running out of memory, that of the output, and a
+/// journal that isn't of so many processors.
+pub(crate) fn draw<W: Write>(
+    alloc: Global,
+    processors: usize,
+    ended: &Ended,
+    out: &mut W,
+) -> Result<(), StudyFault>
+    ensures runs { IfErr result (λ fault. IsInputs fault → ⊥) }
+    ensures early { IfErr result
+        (λ fault. IsBeforeAnswer fault → Keeps (W.contents out.old) (W.contents out.new)) }
+{
+    match ended {
+        Ended::Whole(report) => draw_journal(alloc, processors, &report.journal, false, out),
+        Ended::Halted(halt) => draw_journal(alloc, processors, &halt.journal, true, out),
+    }
+}

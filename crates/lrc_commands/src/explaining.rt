@@ -1,0 +1,131 @@
+//! The program that explains a script's run, over its reader and its writers.
+ghost use Rattle.std.specs.Prelude.{◌≡◌, ◌≢◌, IfErr, IfOk, OnOk, is_some, false, true};
+ghost use Rattle.std.specs.Io.KnownBytes.{Keeps};
+ghost use Rattle.lrc_script.specs.Prelude.{IsLawful, plan_of};
+ghost use Rattle.lrc_program.specs.Prelude.{IsNoScript};
+ghost use Rattle.lrc_commands.specs.Prelude.{IsBeforeAnswer, IsExplained, IsInputs, IsRunTold, ExplanationWritten, is_halted};
+
+use crate::drawing::draw;
+use crate::fault::{HALTED, StudyFault};
+use crate::locks::lock_of;
+use conformance::{Cause, Ended, RunFault, Runs};
+use lrc_explain::render;
+use lrc_options::options::ExplainOptions;
+use lrc_program::fault::ProgramFault;
+use lrc_program::program::{read_script, say_line};
+use lrc_script::script::Script;
+use std::alloc::{AllocError, Global};
+use std::io::{Read, Write};
+use std::sync::Wait;
+
+/// The line that standard error gets of a run that can't go on; None where it ended.
+fn halt_line(alloc: Global, file: Option<&str>, ended: &Ended) -> Result<Option<String>, AllocError>
+    ensures { IfOk result (λ line. is_some line ≡ is_halted ended.now) }
+{
+    match ended {
+        Ended::Whole(_) => Ok(None),
+        Ended::Halted(halt) => {
+            let fault = ProgramFault::from(RunFault {
+                processor: halt.processor,
+                cause: Cause::Stuck,
+            });
+            Ok(Some(fault.line(alloc, file)?))
+        }
+    }
+}
+
+/// Tells how a run of the script ended, or draws it.
+fn print_end<W: Write>(
+    alloc: Global,
+    script: &Script,
+    picture: bool,
+    ended: &Ended,
+    out: &mut W,
+) -> Result<(), StudyFault>
+    ensures told { OnOk result (ExplanationWritten picture (W.contents out.old) (W.contents out.new) ended.now) }
+    ensures runs { IfErr result (λ fault. IsInputs fault → ⊥) }
+    ensures early { IfErr result
+        (λ fault. IsBeforeAnswer fault → Keeps (W.contents out.old) (W.contents out.new)) }
+{
+    if picture {
+        return draw(alloc, script.processors, ended, out);
+    }
+    render(alloc, script.processors, Some(script.words), ended, out)?;
+    Ok(())
+}
+
+/// Runs a script and tells the run, or draws it. Answers the line that standard error gets where it can't go on: there is
+/// memory for that before anything is written.
+fn print_run<T: Runs, R: Wait, W: Write>(
+    runs: &T,
+    rt: &R,
+    alloc: Global,
+    options: &ExplainOptions,
+    script: &Script,
+    out: &mut W,
+) -> Result<Option<String>, StudyFault>
+    requires { IsLawful (plan_of script.now) }
+    ensures told { IfOk result (λ line. IsRunTold options.now.picture (is_some line)
+        options.now.seed (plan_of script.now) (W.contents out.old) (W.contents out.new)) }
+    ensures runs { IfErr result (λ fault. IsInputs fault → ⊥) }
+    ensures early { IfErr result
+        (λ fault. IsBeforeAnswer fault → Keeps (W.contents out.old) (W.contents out.new)) }
+{
+    let lock = lock_of(options.ticket);
+    let ended = runs.step_as_far(rt, alloc, script, lock, options.seed)?;
+    let line = halt_line(alloc, options.file.as_deref(), &ended)?;
+    print_end(alloc, script, options.picture, &ended, out)?;
+    Ok(line)
+}
+
+/// Reads a script, runs it and tells the run, or draws it.
+fn explain_script<T: Runs, R: Wait, S: Read, W: Write>(
+    runs: &T,
+    rt: &R,
+    alloc: Global,
+    options: &ExplainOptions,
+    source: &mut S,
+    out: &mut W,
+) -> Result<Option<String>, StudyFault>
+    ensures explained { IfOk result (λ line. IsExplained options.now.picture (is_some line)
+        options.now.seed (S.remaining source.old) (W.contents out.old) (W.contents out.new)) }
+    ensures refused { IfErr result (λ fault. IsInputs fault → IsNoScript (S.remaining source.old)) }
+    ensures early { IfErr result
+        (λ fault. IsBeforeAnswer fault → Keeps (W.contents out.old) (W.contents out.new)) }
+{
+    let script = read_script(alloc, source)?;
+    print_run(runs, rt, alloc, options, &script, out)
+}
+
+/// Runs the script of `source` by turns as the options say, and tells the run on `out`, or draws it there. Where there is
+/// none, or where it can't go on, one line goes to `err`. Answers the exit status. The file that the options name isn't
+/// opened here.
+pub fn explain_program<T: Runs, R: Wait, S: Read, W: Write, E: Write>(
+    runs: &T,
+    rt: &R,
+    alloc: Global,
+    options: &ExplainOptions,
+    source: &mut S,
+    out: &mut W,
+    err: &mut E,
+) -> u8
+    // The script that was read was run by turns to its end, and the run was told whole.
+    ensures whole { result ≡ 0 → IsExplained options.now.picture false options.now.seed
+        (S.remaining source.old) (W.contents out.old) (W.contents out.new) }
+    // It was run so as far as it goes, and can't go on; so far it was told whole.
+    ensures halted { result ≡ 3 → IsExplained options.now.picture true options.now.seed
+        (S.remaining source.old) (W.contents out.old) (W.contents out.new) }
+    // What is refused as a script is none.
+    ensures refused { result ≡ 2 → IsNoScript (S.remaining source.old) }
+    // But for status 4, a run is told whole or not at all.
+    ensures early { result ≢ 0 → result ≢ 3 → result ≢ 4
+        → Keeps (W.contents out.old) (W.contents out.new) }
+    // Of a run that ended, no line goes to the error output.
+    ensures quiet { result ≡ 0 → Keeps (E.contents err.old) (E.contents err.new) }
+{
+    match explain_script(runs, rt, alloc, options, source, out) {
+        Ok(None) => 0,
+        Ok(Some(line)) => say_line(Ok(line), HALTED, err),
+        Err(fault) => fault.of_told().say(alloc, options.file.as_deref(), err),
+    }
+}

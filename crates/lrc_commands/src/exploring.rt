@@ -1,0 +1,98 @@
+//! The program that looks at all schedules of a script, over its reader and its writers.
+ghost use Rattle.std.specs.Prelude.{◌≡◌, ◌≢◌, IfErr, IfOk, false, true};
+ghost use Rattle.std.specs.Io.KnownBytes.{Keeps};
+ghost use Rattle.lrc_script.specs.Prelude.{IsLawful, plan_of};
+ghost use Rattle.lrc_program.specs.Prelude.{IsNoScript};
+ghost use Rattle.lrc_commands.specs.Prelude.{IsBeforeAnswer, IsInputs, IsSearchWritten, SearchWritten, is_decided};
+
+use crate::fault::StudyFault;
+use explore::{Progress, Verdict, explore};
+use lrc_explore::render;
+use lrc_options::options::ExploreOptions;
+use lrc_program::program::read_script;
+use lrc_script::script::Script;
+use std::alloc::Global;
+use std::io::{Read, Write};
+
+/// The exit status where the search was given up.
+const UNDECIDED: u8 = 7;
+
+/// Whether the search came to its end.
+fn is_decided(verdict: &Verdict) -> bool
+    ensures { result ≡ is_decided verdict.now }
+{
+    match verdict {
+        Verdict::Undecided => false,
+        _ => true,
+    }
+}
+
+/// Looks at all schedules of a script, and writes what was found. Answers whether the search came to its end.
+fn print_search<W: Write, P: Progress>(
+    alloc: Global,
+    options: &ExploreOptions,
+    script: &Script,
+    out: &mut W,
+    progress: &mut P,
+) -> Result<bool, StudyFault>
+    requires { IsLawful (plan_of script.now) }
+    ensures written { IfOk result (λ decided. IsSearchWritten options.now.most decided
+        (plan_of script.now) (W.contents out.old) (W.contents out.new)) }
+    ensures runs { IfErr result (λ fault. IsInputs fault → ⊥) }
+    ensures early { IfErr result
+        (λ fault. IsBeforeAnswer fault → Keeps (W.contents out.old) (W.contents out.new)) }
+{
+    let explored = explore(alloc, script, options.most as usize, progress)?;
+    render(alloc, script, &explored, out)?;
+    Ok(is_decided(&explored.verdict))
+}
+
+/// Reads a script, looks at all its schedules, and writes what was found.
+fn explore_script<S: Read, W: Write, P: Progress>(
+    alloc: Global,
+    options: &ExploreOptions,
+    source: &mut S,
+    out: &mut W,
+    progress: &mut P,
+) -> Result<bool, StudyFault>
+    ensures searched { IfOk result (λ decided. SearchWritten options.now.most decided
+        (S.remaining source.old) (W.contents out.old) (W.contents out.new)) }
+    ensures refused { IfErr result (λ fault. IsInputs fault → IsNoScript (S.remaining source.old)) }
+    ensures early { IfErr result
+        (λ fault. IsBeforeAnswer fault → Keeps (W.contents out.old) (W.contents out.new)) }
+{
+    let script = read_script(alloc, source)?;
+    print_search(alloc, options, &script, out, progress)
+}
+
+/// Looks at all schedules of the script of `source`, and writes what was found to `out`, or one line to `err`; answers the
+/// exit status. The file that the options name isn't opened here. `progress` is told now and then how many states were found.
+pub fn explore_program<S: Read, W: Write, E: Write, P: Progress>(
+    alloc: Global,
+    options: &ExploreOptions,
+    source: &mut S,
+    out: &mut W,
+    err: &mut E,
+    progress: &mut P,
+) -> u8
+    // All schedules of the script that was read were looked at, and what was found was written, whole.
+    ensures decided { result ≡ 0 → SearchWritten options.now.most true (S.remaining source.old)
+        (W.contents out.old) (W.contents out.new) }
+    // The search was given up after as many states as the options say, or as fit, and that was written.
+    ensures undecided { result ≡ 7 → SearchWritten options.now.most false (S.remaining source.old)
+        (W.contents out.old) (W.contents out.new) }
+    // What is refused as a script is none.
+    ensures refused { result ≡ 2 → IsNoScript (S.remaining source.old) }
+    // But for status 4, the text is written whole or not at all.
+    ensures early { result ≢ 0 → result ≢ 7 → result ≢ 4
+        → Keeps (W.contents out.old) (W.contents out.new) }
+    // Where it was written, no line goes to the error output.
+    ensures quiet { result ≡ 0 → Keeps (E.contents err.old) (E.contents err.new) }
+    ensures quiet_too { result ≡ 7 → Keeps (E.contents err.old) (E.contents err.new) }
+{
+    match explore_script(alloc, options, source, out, progress) {
+        Ok(true) => 0,
+        Ok(false) => UNDECIDED,
+        Err(fault) => fault.say(alloc, options.file.as_deref(), err),
+    }
+}

@@ -1,0 +1,86 @@
+//! The program that samples scripts, over its reader and its writers.
+ghost use Rattle.std.specs.Prelude.{◌≡◌, ◌≢◌, ◌+◌, IfErr, OnOk};
+ghost use Rattle.std.specs.Io.KnownBytes.{Keeps};
+ghost use Rattle.lrc_script.specs.Prelude.{IsLawful, plan_of};
+ghost use Rattle.lrc_program.specs.Prelude.{IsNoScript};
+ghost use Rattle.lrc_commands.specs.Prelude.{IsBeforeAnswer, IsInputs, IsSampleWritten, IsSampled};
+
+use crate::fault::StudyFault;
+use crate::locks::lock_of;
+use conformance::Runs;
+use lrc_options::options::SampleOptions;
+use lrc_program::program::read_script;
+use lrc_sample::sampling::sample;
+use lrc_sample::text::render;
+use lrc_script::script::Script;
+use std::alloc::Global;
+use std::io::{Read, Write};
+use std::sync::Wait;
+
+/// Runs a script under the seeds that the options ask for, and writes what that came to.
+fn print_sample<T: Runs, R: Wait, W: Write>(
+    runs: &T,
+    rt: &R,
+    alloc: Global,
+    options: &SampleOptions,
+    script: &Script,
+    out: &mut W,
+) -> Result<(), StudyFault>
+    requires { IsLawful (plan_of script.now) }
+    ensures written { OnOk result (IsSampleWritten (options.now.seeds + 1) (plan_of script.now)
+        (W.contents out.old) (W.contents out.new)) }
+    ensures runs { IfErr result (λ fault. IsInputs fault → ⊥) }
+    ensures early { IfErr result
+        (λ fault. IsBeforeAnswer fault → Keeps (W.contents out.old) (W.contents out.new)) }
+{
+    let lock = lock_of(options.ticket);
+    let sampled = sample(runs, rt, alloc, script, lock, options.seeds)?;
+    render(alloc, &sampled, out)?;
+    Ok(())
+}
+
+/// Reads a script, runs it under the seeds that the options ask for, and writes what that came to.
+fn sample_script<T: Runs, R: Wait, S: Read, W: Write>(
+    runs: &T,
+    rt: &R,
+    alloc: Global,
+    options: &SampleOptions,
+    source: &mut S,
+    out: &mut W,
+) -> Result<(), StudyFault>
+    ensures sampled { OnOk result (IsSampled (options.now.seeds + 1) (S.remaining source.old)
+        (W.contents out.old) (W.contents out.new)) }
+    ensures refused { IfErr result (λ fault. IsInputs fault → IsNoScript (S.remaining source.old)) }
+    ensures early { IfErr result
+        (λ fault. IsBeforeAnswer fault → Keeps (W.contents out.old) (W.contents out.new)) }
+{
+    let script = read_script(alloc, source)?;
+    print_sample(runs, rt, alloc, options, &script, out)
+}
+
+/// Runs the script of `source` by turns without a seed and with as many seeds as the options say: writes what that came
+/// to to `out`, or one line to `err`, and answers the exit status. The file that the options name isn't opened here.
+pub fn sample_program<T: Runs, R: Wait, S: Read, W: Write, E: Write>(
+    runs: &T,
+    rt: &R,
+    alloc: Global,
+    options: &SampleOptions,
+    source: &mut S,
+    out: &mut W,
+    err: &mut E,
+) -> u8
+    // The script that was read was run so often, and the text of what that came to was written, whole.
+    ensures sampled { result ≡ 0 → IsSampled (options.now.seeds + 1) (S.remaining source.old)
+        (W.contents out.old) (W.contents out.new) }
+    // What is refused as a script is none.
+    ensures refused { result ≡ 2 → IsNoScript (S.remaining source.old) }
+    // But for status 4, the text is written whole or not at all.
+    ensures early { result ≢ 0 → result ≢ 4 → Keeps (W.contents out.old) (W.contents out.new) }
+    // Where it was written, no line goes to the error output.
+    ensures quiet { result ≡ 0 → Keeps (E.contents err.old) (E.contents err.new) }
+{
+    match sample_script(runs, rt, alloc, options, source, out) {
+        Ok(()) => 0,
+        Err(fault) => fault.say(alloc, options.file.as_deref(), err),
+    }
+}

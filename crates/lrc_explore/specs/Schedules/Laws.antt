@@ -1,0 +1,91 @@
+-- What is promised of the runs of a script whose schedules were searched.
+use Rattle.std.specs.Prelude.{ℕ, ◌≡◌, ◌++◌, false, Option, Some, None, List, map, replicate, slice_get}
+use Rattle.std.specs.Global.{Vec}
+use Rattle.base.specs.Places.{Has}
+use Rattle.journal.specs.declared.event.Event.{Event}
+use Rattle.journal.specs.declared.event.Kind.{Kind}
+use Rattle.journal.specs.Did.{did}
+use Rattle.journal.specs.Flat.{Replays}
+use Rattle.journal.specs.Loads.{Explained}
+use Rattle.journal.specs.Races.{RaceFree}
+use Rattle.journal.specs.WellFormed.{WellFormed}
+use Rattle.lrc_script.specs.Plan.{Plan}
+use Rattle.lrc_script.specs.Lawful.{IsLawful, addresses}
+use Rattle.lrc_report.specs.declared.report.Report.{Report}
+use Rattle.conformance.specs.Begins.{BeginsScript}
+use Rattle.conformance.specs.Follows.{plan_sizes, is_fetch, Follows}
+use Rattle.conformance.specs.Reports.{IsReportOf}
+use Rattle.explore.specs.Prefixes.Beginnings.{IsFlatRaceFree}
+use Rattle.explore.specs.declared.explored.Explored.{Explored}
+use Rattle.explore.specs.declared.explored.Hang.{Hang}
+use Rattle.explore.specs.declared.explored.Outcome.{Outcome}
+use Rattle.explore.specs.declared.explored.Verdict.TheVariants as verdict
+use Rattle.explore.specs.Explored.{IsExplored, replies_of}
+use Rattle.explore.specs.Outcomes.{AreReplies}
+
+-- an explained history that only begins a script, of which no beginning on one flat memory races, has no race and replays
+abbrev pub BegunLaw : Type 0
+BegunLaw = (s : Plan) (h : List Event) → IsFlatRaceFree s → WellFormed (plan_sizes s) h → Explained h → BeginsScript s h
+    → RaceFree h × Replays (replicate (addresses s) 0) h
+
+-- a search has found the script race-free, with these outcomes
+pub record IsFoundRaceFree (s : Plan) (outcomes : Vec Outcome) (hang : Option Hang) : Type 0 where
+  pub most : ℕ
+  pub answer : Explored
+  pub explored : IsExplored s most answer
+  pub verdict : answer.verdict ≡ verdict.RaceFree outcomes hang
+
+-- the words end with these
+pub record EndsWith (words last : List ℕ) : Type 0 where
+  pub front : List ℕ
+  pub are : words ≡ front ++ last
+
+-- the words that a report shows
+abbrev pub words_shown : Report → List ℕ
+words_shown r = map (λ (x : ℕ × ℕ). x.1) r.shown.items
+
+-- what the loads of the history answered is one of the outcomes, and ends at processor 0 with what the report shows
+pub record IsListed (s : Plan) (outcomes : List Outcome) (r : Report) (h : List Event) : Type 0 where
+  pub replies : List (List ℕ)
+  pub are : AreReplies s h replies
+  pub listed : Has (map replies_of outcomes) replies
+  pub shown : (words : List ℕ) → slice_get replies 0 ≡ Some words → EndsWith words (words_shown r)
+
+-- the report says race-free, and its history is listed
+pub record IsForetold (s : Plan) (outcomes : List Outcome) (r : Report) (h : List Event) : Type 0 where
+  pub race_free : r.racy ≡ false
+  pub listed : IsListed s outcomes r h
+
+-- a search that finds a script race-free foretells each report of it, by its whole history
+abbrev pub ReportLaw : Type 0
+ReportLaw = (s : Plan) (outcomes : Vec Outcome) (hang : Option Hang) (r : Report) → IsFoundRaceFree s outcomes hang
+    → (is : IsReportOf s r) → IsForetold s outcomes.items r is.history
+
+-- the history has begun the script, and isn't whole
+pub record IsUnfinished (s : Plan) (h : List Event) : Type 0 where
+  pub well_formed : WellFormed (plan_sizes s) h
+  pub explained : Explained h
+  pub begins : BeginsScript s h
+  pub unfinished : ¬ Follows s h
+
+-- and no call may come next; fetches are no calls
+pub record IsStuck (s : Plan) (h : List Event) : Type 0 where
+  pub begun : IsUnfinished s h
+  pub stuck : (p : ℕ) (k : Kind) → is_fetch k ≡ false → WellFormed (plan_sizes s) (did h p k) → ¬ BeginsScript s (did h p k)
+
+-- where a search finds a script race-free and no hang, no history of it is stuck
+abbrev pub NeverStuckLaw : Type 0
+NeverStuckLaw = (s : Plan) (outcomes : Vec Outcome) (h : List Event) → IsFoundRaceFree s outcomes None → ¬ IsStuck s h
+
+-- this call may come next
+pub record CanContinue (s : Plan) (h : List Event) : Type 0 where
+  pub processor : ℕ
+  pub kind : Kind
+  pub call : is_fetch kind ≡ false
+  pub well_formed : WellFormed (plan_sizes s) (did h processor kind)
+  pub begins : BeginsScript s (did h processor kind)
+
+-- where a search finds a lawful script race-free and no hang, each history of it that isn't whole may go on by some call
+abbrev pub GoesOnLaw : Type 0
+GoesOnLaw = (s : Plan) (outcomes : Vec Outcome) (h : List Event) → IsLawful s → IsFoundRaceFree s outcomes None
+    → IsUnfinished s h → CanContinue s h

@@ -1,0 +1,47 @@
+//! A script's file.
+ghost use Rattle.std.specs.Prelude.{◌<◌};
+
+use crate::fault::ProgramFault;
+use crate::program::{program, say};
+use conformance::Runs;
+use lrc_options::options::Options;
+use std::fs::File;
+use std::sync::Wait;
+use std::thread::Threads;
+
+/// Runs the script of the file, or of standard input where no file is given, and answers the status. The handle is what
+/// threads are started by.
+pub fn run_file<T: Runs, R: Threads + Wait + Sync>(
+    rt: &HostRuntime,
+    handle: &R,
+    runs: &T,
+    options: &Options,
+) -> u8
+    requires { 0 < options.now.tries }
+{
+    let alloc = rt.alloc();
+    let (mut out, mut err) = (rt.stdout(), rt.stderr());
+    match options.file.as_deref() {
+        None => program(
+            runs,
+            handle,
+            alloc,
+            options,
+            &mut rt.stdin(),
+            &mut out,
+            &mut err,
+        ),
+        Some(path) => match File::open(rt, path) {
+            Ok(mut source) => program(
+                runs,
+                handle,
+                alloc,
+                options,
+                &mut source,
+                &mut out,
+                &mut err,
+            ),
+            Err(error) => say(alloc, Some(path), ProgramFault::from(error), &mut err),
+        },
+    }
+}

@@ -1,5 +1,0 @@
-//! Runs of whole scripts.
-
-mod faults;
-mod steps;
-mod threads;

@@ -1,0 +1,205 @@
+-- A tally of one run more.
+use Rattle.std.proofs.Common.{◌≡◌, ◌≢◌, ◌∙◌, ◌<◌, ◌≤◌, ℕ, inl, inr, zero, suc, List, [], ◌∷◌, ◌++◌, Some, Option, length, slice_get, slice_set, slice_index_or, ap, sym, subst, refl, arith}
+use Rattle.std.specs.List.{sum_by}
+use Rattle.std.proofs.lemmas.Bool.{cases_eq}
+use Rattle.std.proofs.lemmas.Option.{none-some, same_Some, slice_get-get_or, slice_get_within}
+use Rattle.std.proofs.lemmas.List.{length-append}
+use Rattle.std.proofs.lemmas.List.Sums.{sum_by-set, sum_by_push, get_or-le-sum_by}
+use Rattle.base.specs.Places.{Has}
+use Rattle.base.proofs.Places.{push_cases, slice_get-last}
+use Rattle.base.proofs.Joined.{in_order-append, in_order_single}
+use Rattle.base.proofs.Sets.{slice_get-set_found, slice_get-set_other, slice_get-set_same}
+use Rattle.lrc_sample.specs.declared.outcome.SampleOutcome.{SampleOutcome}
+use Rattle.lrc_sample.specs.declared.tally.TallyLine.{TallyLine}
+use Rattle.lrc_sample.specs.Tally.{IsLineOf, CountsRuns, run_of, times_of}
+use Rattle.lrc_sample.specs.Order.{AreSeenInOrder, TallyStarted}
+use Rattle.lrc_sample.proofs.Lines.{counted, line_again, line_new, line_other, run_before, stays}
+
+-- what a line was before one of them counted one run more
+record Was (lines : List TallyLine) (j : ℕ) (a : TallyLine) : Type 0 where
+  line : TallyLine
+  at : slice_get lines j ≡ Some line
+  outcome : line.outcome ≡ a.outcome
+  seed : line.seed ≡ a.seed
+
+was : (lines : List TallyLine) (k : ℕ) (line : TallyLine) → slice_get lines k ≡ Some line → (j : ℕ) (a : TallyLine)
+    → slice_get (slice_set lines k (counted line)) j ≡ Some a → Was lines j a
+was lines k line at j a has = elim (cases_eq j k) [
+  | inl is ↦
+      (let same : counted line ≡ a = slice_get-set_found lines k (counted line) a (subst (λ n. slice_get (slice_set lines k (counted line)) n ≡ Some a) is has) in
+      record {
+        line = line;
+        at = ap (slice_get lines) is ∙ at;
+        outcome = ap (λ (x : TallyLine). x.outcome) same;
+        seed = ap (λ (x : TallyLine). x.seed) same;
+      })
+  | inr isnt ↦ record {
+    line = a;
+    at = sym (slice_get-set_other lines k j (counted line) isnt) ∙ has;
+    outcome = refl;
+    seed = refl;
+  }
+]
+
+-- and a line of an outcome is still there
+becomes : (lines : List TallyLine) (k : ℕ) (line : TallyLine) → slice_get lines k ≡ Some line → (j : ℕ) (a : TallyLine)
+    → slice_get lines j ≡ Some a
+    → (b : TallyLine) × (Has (slice_set lines k (counted line)) b × (b.outcome ≡ a.outcome))
+becomes lines k line at j a has = elim (cases_eq j k) [
+  | inl is ↦
+      (let same : line ≡ a = same_Some line a (sym at ∙ ap (slice_get lines) (sym is) ∙ has) in
+      (counted line, ((k, slice_get-set_same lines k (counted line) (slice_get_within lines k line at)), ap (λ (x : TallyLine). x.outcome) same)))
+  | inr isnt ↦ (a, ((j, slice_get-set_other lines k j (counted line) isnt ∙ has), refl))
+]
+
+-- the item that is there
+pub item_at : (lines : List TallyLine) (k : ℕ) (line d : TallyLine) → slice_get lines k ≡ Some line
+    → slice_index_or lines k d ≡ line
+item_at lines k line d at =
+    same_Some _ _ (sym (slice_get-get_or lines k d (slice_get_within lines k line at)) ∙ at)
+
+-- no line counts more than all of them
+pub times_few : (lines : List TallyLine) (k : ℕ) (line : TallyLine) → slice_get lines k ≡ Some line
+    → line.times ≤ sum_by times_of lines
+times_few lines k line at =
+    let few = get_or-le-sum_by times_of lines k line (slice_get_within lines k line at) in
+    let is = ap times_of (item_at lines k line line at) in
+    omega (arith, few, is)
+
+-- a run that came to what the line at k has
+pub tally_again : (os : List SampleOutcome) (lines : List TallyLine) (o : SampleOutcome) (k : ℕ) (line : TallyLine)
+    → slice_get lines k ≡ Some line → line.outcome ≡ o → CountsRuns os lines
+    → CountsRuns (os ++ o ∷ []) (slice_set lines k (counted line))
+tally_again os lines o k line at same is = record { each = each; once = once; all = all; sum = sum }
+  where
+    each : (a : TallyLine) → Has (slice_set lines k (counted line)) a → IsLineOf (os ++ o ∷ []) a
+    each a (j, has) = elim (cases_eq j k) [
+      | inl here ↦
+          (let now : counted line ≡ a = slice_get-set_found lines k (counted line) a (subst (λ n. slice_get (slice_set lines k (counted line)) n ≡ Some a) here has) in
+          subst (IsLineOf (os ++ o ∷ [])) now (line_again os o line same (is.each line (k, at))))
+      | inr there ↦
+          (let old : slice_get lines j ≡ Some a = sym (slice_get-set_other lines k j (counted line) there) ∙ has in
+          line_other os o a (λ e. there (is.once j k a line old at (e ∙ sym same))) (is.each a (j, old)))
+    ]
+
+    once : (i j : ℕ) (a b : TallyLine) → slice_get (slice_set lines k (counted line)) i ≡ Some a
+        → slice_get (slice_set lines k (counted line)) j ≡ Some b → a.outcome ≡ b.outcome → i ≡ j
+    once i j a b first second e =
+        let x = was lines k line at i a first in
+        let y = was lines k line at j b second in
+        is.once i j x.line y.line x.at y.at (x.outcome ∙ e ∙ sym y.outcome)
+
+    all : (x : SampleOutcome) → Has (os ++ o ∷ []) x
+        → (b : TallyLine) × (Has (slice_set lines k (counted line)) b × (b.outcome ≡ x))
+    all x (i, has) = elim (push_cases os o i x has) [
+      | inl old ↦
+          (let r = is.all x (i, old.1) in
+          let b = becomes lines k line at r.1.0.0 r.0 r.1.0.1 in
+          (b.0, (b.1.0, b.1.1 ∙ r.1.1)))
+      | inr new ↦
+          (let b = becomes lines k line at k line at in
+          (b.0, (b.1.0, b.1.1 ∙ same ∙ new.1)))
+    ]
+
+    sum : sum_by times_of (slice_set lines k (counted line)) ≡ length (os ++ o ∷ [])
+    sum =
+        let set = sum_by-set times_of lines k (counted line) line (slice_get_within lines k line at) in
+        let it = ap times_of (item_at lines k line line at) in
+        omega (arith, set, it, is.sum, length-append os (o ∷ []))
+
+-- it keeps the order of the first runs
+seen_again : (lines : List TallyLine) (k : ℕ) (line : TallyLine) → slice_get lines k ≡ Some line → AreSeenInOrder lines
+    → AreSeenInOrder (slice_set lines k (counted line))
+seen_again lines k line at seen i j a b less first second =
+    let x = was lines k line at i a first in
+    let y = was lines k line at j b second in
+    let lt = seen i j x.line y.line less x.at y.at in
+    omega (arith, lt, ap run_of x.seed, ap run_of y.seed)
+
+-- the line that was found at k counts one run more
+pub again_at : (os : List SampleOutcome) (lines : List TallyLine) (o : SampleOutcome) (k : ℕ) (d now : TallyLine)
+    → now ≡ slice_index_or lines k d
+    → ((line : TallyLine) × ((slice_get lines k ≡ Some line) × (line.outcome ≡ o))) → TallyStarted os lines
+    → TallyStarted (os ++ o ∷ []) (slice_set lines k (counted now))
+again_at os lines o k d now read found is =
+    let same : found.0 ≡ now = sym (item_at lines k found.0 d found.1.0) ∙ sym read in
+    subst (λ l. TallyStarted (os ++ o ∷ []) (slice_set lines k (counted l))) same record {
+      tally = tally_again os lines o k found.0 found.1.0 found.1.1 is.tally;
+      seen = seen_again lines k found.0 found.1.0 is.seen;
+    }
+
+-- so it doesn't count too many
+pub few_at : (lines : List TallyLine) (o : SampleOutcome) (k : ℕ) (d now : TallyLine) → now ≡ slice_index_or lines k d
+    → ((line : TallyLine) × ((slice_get lines k ≡ Some line) × (line.outcome ≡ o)))
+    → now.times ≤ sum_by times_of lines
+few_at lines o k d now read found =
+    let same = ap times_of (sym (item_at lines k found.0 d found.1.0) ∙ sym read) in
+    omega (arith, same, times_few lines k found.0 found.1.0)
+
+-- the line of a first run
+abbrev pub noted : SampleOutcome → Option ℕ → TallyLine
+noted o seed = record { outcome = o; times = 1; seed = seed }
+
+-- a run that came to what no line has
+tally_new : (os : List SampleOutcome) (lines : List TallyLine) (o : SampleOutcome) (seed : Option ℕ)
+    → ((k : ℕ) (line : TallyLine) → slice_get lines k ≡ Some line → line.outcome ≢ o) → run_of seed ≡ length os
+    → CountsRuns os lines → CountsRuns (os ++ o ∷ []) (lines ++ noted o seed ∷ [])
+tally_new os lines o seed none place is = record { each = each; once = once; all = all; sum = sum }
+  where
+    unseen : ¬ Has os o
+    unseen has = let r = is.all o has in none r.1.0.0 r.0 r.1.0.1 r.1.1
+
+    each : (a : TallyLine) → Has (lines ++ noted o seed ∷ []) a → IsLineOf (os ++ o ∷ []) a
+    each a (j, has) = elim (push_cases lines (noted o seed) j a has) [
+      | inl old ↦ line_other os o a (none j a old.1) (is.each a (j, old.1))
+      | inr last ↦ subst (IsLineOf (os ++ o ∷ [])) last.1 (line_new os o seed unseen place)
+    ]
+
+    once : (i j : ℕ) (a b : TallyLine) → slice_get (lines ++ noted o seed ∷ []) i ≡ Some a
+        → slice_get (lines ++ noted o seed ∷ []) j ≡ Some b → a.outcome ≡ b.outcome → i ≡ j
+    once i j a b first second e = elim (push_cases lines (noted o seed) i a first) [
+      | inl x ↦
+          elim (push_cases lines (noted o seed) j b second) [
+            | inl y ↦ is.once i j a b x.1 y.1 e
+            | inr y ↦ absurd (none i a x.1 (e ∙ sym (ap (λ (l : TallyLine). l.outcome) y.1)))
+          ]
+      | inr x ↦
+          elim (push_cases lines (noted o seed) j b second) [
+            | inl y ↦ absurd (none j b y.1 (sym e ∙ sym (ap (λ (l : TallyLine). l.outcome) x.1)))
+            | inr y ↦ x.0 ∙ sym y.0
+          ]
+    ]
+
+    all : (x : SampleOutcome) → Has (os ++ o ∷ []) x → (b : TallyLine) × (Has (lines ++ noted o seed ∷ []) b × (b.outcome ≡ x))
+    all x (i, has) = elim (push_cases os o i x has) [
+      | inl old ↦
+          (let r = is.all x (i, old.1) in (r.0, ((r.1.0.0, stays lines (noted o seed) r.1.0.0 r.0 r.1.0.1), r.1.1)))
+      | inr last ↦ (noted o seed, ((length lines, slice_get-last lines (noted o seed)), last.1))
+    ]
+
+    sum : sum_by times_of (lines ++ noted o seed ∷ []) ≡ length (os ++ o ∷ [])
+    sum = omega (arith, sum_by_push times_of lines (noted o seed), is.sum, length-append os (o ∷ []))
+
+-- and it is seen last
+seen_new : (os : List SampleOutcome) (lines : List TallyLine) (new : TallyLine) → run_of new.seed ≡ length os → TallyStarted os lines
+    → AreSeenInOrder (lines ++ new ∷ [])
+seen_new os lines new place is =
+    in_order-append (λ (a b : TallyLine). run_of a.seed < run_of b.seed) lines (new ∷ []) is.seen
+    (in_order_single (λ (a b : TallyLine). run_of a.seed < run_of b.seed) new) before
+  where
+    before : (a b : TallyLine) → Has lines a → Has (new ∷ []) b → run_of a.seed < run_of b.seed
+    before a b has (zero, at) =
+        let line = is.tally.each a has in
+        let lt = run_before os a (run_of a.seed) line (0, line.first) in
+        let last = ap (λ (l : TallyLine). run_of l.seed) (same_Some new b at) in
+        omega (arith, lt, last, place)
+    before a b has (suc k, at) = absurd (none-some b at)
+
+-- both
+pub new_at : (os : List SampleOutcome) (lines : List TallyLine) (o : SampleOutcome) (seed : Option ℕ)
+    → ((k : ℕ) (line : TallyLine) → slice_get lines k ≡ Some line → line.outcome ≢ o) → run_of seed ≡ length os
+    → TallyStarted os lines → TallyStarted (os ++ o ∷ []) (lines ++ noted o seed ∷ [])
+new_at os lines o seed none place is = record {
+  tally = tally_new os lines o seed none place is.tally;
+  seen = seen_new os lines (noted o seed) place is;
+}

@@ -1,0 +1,23 @@
+-- What it is that a script's run came to.
+use Rattle.std.specs.Prelude.{ℕ, ◌≡◌, List, length}
+use Rattle.lrc_script.specs.Plan.{Plan}
+use Rattle.lrc_report.specs.declared.report.Report.{Report}
+use Rattle.conformance.specs.ByTurns.{IsReportBy, IsStuckBy}
+use Rattle.lrc_sample.specs.declared.outcome.SampleOutcome.{SampleOutcome}
+use Rattle.lrc_sample.specs.declared.outcome.SampleOutcome.TheVariants.{Ended, Stuck}
+use Rattle.lrc_sample.specs.Answered.{Answered}
+use Rattle.lrc_sample.specs.Replies.{replies_of}
+
+-- the shown words of a report, the replies of so many processors that its journal has, and its verdict
+abbrev pub answered : ℕ → Report → Answered
+answered processors r = record {
+  words = r.shown.items;
+  replies = replies_of (length r.shown.items) processors r.journal.events;
+  racy = r.racy;
+}
+
+-- the answers are those of a report of the script's run by turns in these orders; or that run gets into a deadlock, of
+-- which this is the least processor
+abbrev pub IsSampleOutcomeOf : Plan → (ℕ → List ℕ) → SampleOutcome → Type 0
+IsSampleOutcomeOf s orders (Ended answers) = (r : Report) × (IsReportBy s orders r × (answers ≡ answered s.processors r))
+IsSampleOutcomeOf s orders (Stuck processor) = IsStuckBy s orders processor

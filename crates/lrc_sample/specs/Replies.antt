@@ -1,0 +1,29 @@
+-- What the loads of a history answered.
+use Rattle.std.specs.Prelude.{ℕ, ◌==◌, ◌-◌, zero, suc, cond, List, [], ◌∷◌, ◌++◌, length, take}
+use Rattle.std.specs.List.{flat_map}
+use Rattle.journal.specs.declared.event.Event.{Event}
+use Rattle.journal.specs.declared.event.Kind.{Kind}
+use Rattle.journal.specs.declared.event.Kind.TheVariants.{Load}
+use Rattle.lrc_sample.specs.declared.outcome.Reply.{Reply}
+
+-- what an event of p answered, if it is a load
+abbrev pub reply_in : ℕ → Kind → List Reply
+reply_in p (Load address word) = record { processor = p; word = word } ∷ []
+reply_in p _ = []
+
+-- the same of an event of anyone
+abbrev pub reply_by : ℕ → Event → List Reply
+reply_by p e = cond (e.processor == p) (reply_in p e.kind) []
+
+-- what the loads of p answered, in order
+abbrev pub replies_by : ℕ → List Event → List Reply
+replies_by p h = flat_map (reply_by p) h
+
+-- the same without those that show the last words, which processor 0 makes at the end
+abbrev pub own_replies : ℕ → ℕ → List Event → List Reply
+own_replies shown p h = cond (p == 0) (take (length (replies_by p h) - shown) (replies_by p h)) (replies_by p h)
+
+-- those of so many processors, by rising number
+abbrev pub replies_of : ℕ → ℕ → List Event → List Reply
+replies_of shown zero h = []
+replies_of shown (suc p) h = replies_of shown p h ++ own_replies shown p h

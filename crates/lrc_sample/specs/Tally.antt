@@ -1,0 +1,35 @@
+-- Which outcomes came, how often, and where first.
+use Rattle.std.specs.Prelude.{ℕ, zero, suc, ◌≡◌, ◌<◌, ◌↔◌, ◌+◌, List, Option, Some, None, slice_get, length}
+use Rattle.std.specs.List.{sum_by}
+use Rattle.base.specs.Places.{Has, InOrder}
+use Rattle.lrc_sample.specs.declared.outcome.SampleOutcome.{SampleOutcome}
+use Rattle.lrc_sample.specs.declared.tally.TallyLine.{TallyLine}
+
+-- the run without a seed is the first, and those with the seeds from 0 on follow
+abbrev pub run_of : Option ℕ → ℕ
+run_of None = 0
+run_of (Some seed) = seed + 1
+
+-- the seed of a run
+abbrev pub seed_of : ℕ → Option ℕ
+seed_of zero = None
+seed_of (suc seed) = Some seed
+
+abbrev pub times_of : TallyLine → ℕ
+times_of line = line.times
+
+-- the line tells how many of the runs came to its outcome, and which did first
+pub record IsLineOf (outcomes : List SampleOutcome) (line : TallyLine) : Type 0 where
+  pub runs : List ℕ
+  pub rising : InOrder (λ (i k : ℕ). i < k) runs
+  pub exactly : (i : ℕ) → Has runs i ↔ (slice_get outcomes i ≡ Some line.outcome)
+  pub times_are : line.times ≡ length runs
+  pub first : slice_get runs 0 ≡ Some (run_of line.seed)
+
+-- each outcome that came has one line, and the lines count every run
+pub record CountsRuns (outcomes : List SampleOutcome) (lines : List TallyLine) : Type 0 where
+  pub each : (line : TallyLine) → Has lines line → IsLineOf outcomes line
+  pub once : (i k : ℕ) (a b : TallyLine) → slice_get lines i ≡ Some a → slice_get lines k ≡ Some b
+      → a.outcome ≡ b.outcome → i ≡ k
+  pub all : (o : SampleOutcome) → Has outcomes o → (line : TallyLine) × (Has lines line × (line.outcome ≡ o))
+  pub sum : sum_by times_of lines ≡ length outcomes

@@ -1,0 +1,56 @@
+-- The text of a sample.
+use Rattle.std.specs.Prelude.{ℕ, ◌==◌, ◌-◌, ◌^◌, List, [], ◌∷◌, ◌++◌, Option, Some, None, if◌then◌else◌, codes, min}
+use Rattle.std.specs.Fmt.{decimal}
+use Rattle.std.specs.List.{flat_map, sum_by}
+use Rattle.lrc_sample.specs.declared.outcome.SampleOutcome.{SampleOutcome}
+use Rattle.lrc_sample.specs.declared.outcome.SampleOutcome.TheVariants.{Ended, Stuck}
+use Rattle.lrc_sample.specs.declared.outcome.Reply.{Reply}
+use Rattle.lrc_sample.specs.declared.sampling.Sampled.{Sampled}
+use Rattle.lrc_sample.specs.declared.tally.TallyLine.{TallyLine}
+use Rattle.lrc_sample.specs.Answered.{Answered}
+use Rattle.lrc_sample.specs.Tally.{times_of}
+
+-- a shown address with its last word
+abbrev pub word_text : ℕ × ℕ → List ℕ
+word_text x = codes " " ++ (decimal x.0 ++ (codes " " ++ decimal x.1))
+
+-- a processor, where the reply before is another's
+abbrev pub owner_text : Option ℕ → ℕ → List ℕ
+owner_text None p = codes " p" ++ decimal p
+owner_text (Some last) p = if last == p then [] else codes " p" ++ decimal p
+
+-- replies behind one of this processor
+abbrev pub replies_text : Option ℕ → List Reply → List ℕ
+replies_text last [] = []
+replies_text last (r ∷ rs) =
+    owner_text last r.processor ++ ((codes " " ++ decimal r.word) ++ replies_text (Some r.processor) rs)
+
+-- the verdict, the words and the replies
+abbrev pub answers_text : Answered → List ℕ
+answers_text a =
+    (if a.racy then codes "racy words" else codes "race-free words")
+    ++ (flat_map word_text a.words ++ (codes " replies" ++ replies_text None a.replies))
+
+-- what a run came to
+abbrev pub outcome_text : SampleOutcome → List ℕ
+outcome_text (Ended answers) = answers_text answers
+outcome_text (Stuck processor) = codes "stuck " ++ decimal processor
+
+-- a seed, or that there is none
+abbrev pub seed_text : Option ℕ → List ℕ
+seed_text None = codes "-"
+seed_text (Some seed) = decimal seed
+
+-- how often, the first seed, and the outcome
+abbrev pub line_text : TallyLine → List ℕ
+line_text l =
+    (codes "result " ++ (decimal l.times ++ codes " "))
+    ++ (seed_text l.seed ++ (codes " " ++ (outcome_text l.outcome ++ codes "\n")))
+
+-- how many runs the lines count, as far as 64 bits hold
+abbrev pub runs_in : List TallyLine → ℕ
+runs_in lines = min (sum_by times_of lines) (2 ^ 64 - 1)
+
+-- how many runs there were, and each outcome in a line of its own
+abbrev pub sample_text : Sampled → List ℕ
+sample_text s = (codes "runs " ++ (decimal (runs_in s.lines.items) ++ codes "\n")) ++ flat_map line_text s.lines.items

@@ -1,0 +1,21 @@
+//! What a script may come to: it is run by turns under many seeds, and each kind of result is told once.
+//!
+//! **What contracts see.** The `Answers` of a run as plain lists (`Answered`), everything else as it is.
+//!
+//! **What is proved.** `sample` tells of outcomes of runs of the script (`IsSampleOf`), one for each seed and one without:
+//! each outcome that came has one line, with how often it came and where first, and the lines count every run. The most
+//! frequent stands first, and of as frequent ones the one that came first. The answers are those of a report of the
+//! script; of a run that is stuck nothing is known. Module `laws`: each line counts a run at least, the run that it tells
+//! came to its outcome and none before it did, and a script that never races on one flat memory has no racy outcome.
+//!
+//! **What is only tested** (in `test_lrc`): that the lock and the seeds are those that were asked for, that other faults
+//! than being stuck end a sample, and that the text is one write.
+#![tactic(auto)]
+
+pub mod laws;
+pub mod outcome;
+pub mod sampling;
+mod tally;
+pub mod text;
+
+pub use tally::TallyLine;

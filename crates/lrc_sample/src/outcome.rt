@@ -1,0 +1,178 @@
+//! What a run came to.
+ghost use Rattle.std.specs.Prelude.{ℕ, ◌≡◌, ◌↔◌, ◌++◌, IsTrue, IfOk, OnOk};
+ghost use Rattle.lrc_sample.specs.Prelude.{answered, own_replies, reply_by, replies_by, replies_of};
+
+use journal::{Event, Kind};
+use lrc_report::Report;
+use std::alloc::{AllocError, Global};
+use std::marker::Model;
+
+/// What a load answered: the processor that made it, and the word.
+#[derive(Clone, Copy, PartialEq, Eq)]
+pub struct Reply {
+    pub processor: usize,
+    pub word: u32,
+}
+
+/// What a run that ended has answered. Contracts see its words, its replies and its verdict.
+#[derive(Drop)]
+pub struct Answers {
+    words: Vec<(usize, u32)>,
+    replies: Vec<Reply>,
+    racy: bool,
+}
+
+impl Model for Answers {
+    ghost use Rattle.lrc_sample.specs.Answered.{Answered};
+
+    ghost Value = { Answered };
+
+    ghost view = { λ a. record { words = a.words.items; replies = a.replies.items; racy = a.racy } };
+}
+
+/// What a run came to.
+#[derive(Drop)]
+pub enum SampleOutcome {
+    /// It ended, with these answers.
+    Ended(Answers),
+    /// It is stuck: what this processor waits for doesn't come.
+    Stuck(usize),
+}
+
+/// Adds what the event answered, if it is a load of this processor.
+fn add_reply(replies: &mut Vec<Reply>, processor: usize, event: Event) -> Result<(), AllocError>
+    ensures { OnOk result (replies.new.items ≡ replies.old.items ++ reply_by processor event) }
+{
+    match event.kind {
+        Kind::Load(_, word) if event.processor == processor => {
+            replies.push(Reply { processor, word })?;
+        }
+        _ => {}
+    }
+    Ok(())
+}
+
+/// Adds the replies of the processor's loads, in order.
+fn add_replies(
+    replies: &mut Vec<Reply>,
+    processor: usize,
+    events: &[Event],
+) -> Result<(), AllocError>
+    ensures { OnOk result (replies.new.items ≡ replies.old.items ++ replies_by processor events.now) }
+{
+    for event in events {
+        add_reply(replies, processor, *event)?;
+    }
+    Ok(())
+}
+
+/// Adds the replies of the processor's own loads: of processor 0's without the last `shown`, which the closing barrier
+/// comes before.
+fn add_own(
+    replies: &mut Vec<Reply>,
+    processor: usize,
+    shown: usize,
+    events: &[Event],
+) -> Result<(), AllocError>
+    ensures { OnOk result (replies.new.items ≡ replies.old.items ++ own_replies shown processor events.now) }
+{
+    let before = replies.len();
+    add_replies(replies, processor, events)?;
+    if processor == 0 {
+        let loads = replies.len() - before;
+        replies.truncate(before + loads.saturating_sub(shown));
+    }
+    Ok(())
+}
+
+/// The replies of all loads that the script asks for, by rising processor. It takes time in the order of the events times
+/// the processors.
+fn replies_to(
+    alloc: Global,
+    processors: usize,
+    shown: usize,
+    events: &[Event],
+) -> Result<Vec<Reply>, AllocError>
+    ensures { IfOk result (λ v. v.items ≡ replies_of shown processors events.now) }
+{
+    let mut replies = Vec::new(alloc);
+    for processor in 0..processors {
+        add_own(&mut replies, processor, shown, events)?;
+    }
+    Ok(replies)
+}
+
+/// Whether they are the same words at the same addresses.
+fn are_same_words(words: &[(usize, u32)], others: &[(usize, u32)]) -> bool
+    ensures { IsTrue result ↔ (words.now ≡ others.now) }
+{
+    words == others
+}
+
+/// Whether they are the same replies.
+fn are_same_replies(replies: &[Reply], others: &[Reply]) -> bool
+    ensures { IsTrue result ↔ (replies.now ≡ others.now) }
+{
+    replies == others
+}
+
+impl Answers {
+    /// The answers of a report of so many processors. The only error is running out of memory.
+    pub fn of(alloc: Global, processors: usize, report: Report) -> Result<Answers, AllocError>
+        ensures { IfOk result (λ a. a ≡ answered processors report) }
+    {
+        let shown = report.shown.len();
+        let replies = replies_to(alloc, processors, shown, report.journal.events())?;
+        Ok(Answers {
+            words: report.shown,
+            replies,
+            racy: report.racy,
+        })
+    }
+
+    /// The shown addresses in order with their last words.
+    pub fn words(&self) -> &[(usize, u32)]
+        ensures { result.now ≡ self.now.words }
+    {
+        &self.words
+    }
+
+    /// What the loads answered, by rising processor, and those of a processor in their order.
+    pub fn replies(&self) -> &[Reply]
+        ensures { result.now ≡ self.now.replies }
+    {
+        &self.replies
+    }
+
+    /// Whether two accesses raced.
+    pub fn is_racy(&self) -> bool
+        ensures { result ≡ self.now.racy }
+    {
+        self.racy
+    }
+
+    /// Whether they are the same answers.
+    fn is_same(&self, other: &Answers) -> bool
+        ensures { IsTrue result ↔ (self.now ≡ other.now) }
+    {
+        if self.racy != other.racy || !are_same_words(&self.words, &other.words) {
+            return false;
+        }
+        are_same_replies(&self.replies, &other.replies)
+    }
+}
+
+impl SampleOutcome {
+    /// Whether it is the same outcome. It stops at the first word or reply that differs.
+    pub fn is_same(&self, other: &SampleOutcome) -> bool
+        ensures { IsTrue result ↔ (self.now ≡ other.now) }
+    {
+        match (self, other) {
+            (SampleOutcome::Ended(answers), SampleOutcome::Ended(others)) => answers.is_same(
+                others,
+            ),
+            (SampleOutcome::Stuck(processor), SampleOutcome::Stuck(others)) => processor == others,
+            _ => false,
+        }
+    }
+}

@@ -1,0 +1,62 @@
+//! Which outcomes came, how often, and where first.
+ghost use Rattle.std.specs.Prelude.{ℕ, ◌≡◌, ◌≢◌, ◌<◌, ◌-◌, ◌^◌, ◌∷◌, ◌++◌, [], List, Some, slice_get, length, MatchOption, OnOk};
+ghost use Rattle.std.specs.List.{sum_by};
+ghost use Rattle.lrc_sample.specs.declared.outcome.SampleOutcome.{SampleOutcome};
+ghost use Rattle.lrc_sample.specs.declared.tally.TallyLine.{TallyLine};
+ghost use Rattle.lrc_sample.specs.Prelude.{AreFrequentFirst, AreSeenInOrder, TallyStarted, CountsRuns, run_of, times_of};
+
+use crate::outcome::SampleOutcome;
+use std::alloc::AllocError;
+
+/// An outcome that came: of how many runs, and where first. None is the run without a seed.
+#[derive(Drop)]
+pub struct TallyLine {
+    pub outcome: SampleOutcome,
+    pub times: u64,
+    pub seed: Option<u64>,
+}
+
+/// The place of the outcome's line. It compares with each line: kinds are few.
+fn find(lines: &[TallyLine], outcome: &SampleOutcome) -> Option<usize>
+    ensures { MatchOption result
+        ((k : ℕ) (line : TallyLine) → slice_get lines.now k ≡ Some line → line.outcome ≢ outcome.now)
+        (λ k. (line : TallyLine) × ((slice_get lines.now k ≡ Some line) × (line.outcome ≡ outcome.now))) }
+{
+    for (place, line) in lines.iter().enumerate() {
+        if line.outcome.is_same(outcome) {
+            return Some(place);
+        }
+    }
+    None
+}
+
+/// Notes what one run more came to, the run of this seed.
+pub fn note(
+    lines: &mut Vec<TallyLine>,
+    outcome: SampleOutcome,
+    seed: Option<u64>,
+) -> Result<(), AllocError>
+    requires { sum_by times_of lines.old.items < 2 ^ 64 - 1 }
+    ensures { OnOk result ((outcomes : List SampleOutcome) → TallyStarted outcomes lines.old.items
+        → run_of seed ≡ length outcomes → TallyStarted (outcomes ++ outcome ∷ []) lines.new.items) }
+{
+    match find(lines, &outcome) {
+        Some(place) => lines[place].times += 1,
+        None => lines.push(TallyLine {
+            outcome,
+            times: 1,
+            seed,
+        })?,
+    }
+    Ok(())
+}
+
+/// Puts the most frequent first. Those that came as often stay in their order.
+pub fn sort(lines: &mut Vec<TallyLine>) -> Result<(), AllocError>
+    requires { sum_by times_of lines.old.items < 2 ^ 64 }
+    ensures tally { (outcomes : List SampleOutcome) → CountsRuns outcomes lines.old.items
+        → CountsRuns outcomes lines.new.items }
+    ensures order { OnOk result (AreSeenInOrder lines.old.items → AreFrequentFirst lines.new.items) }
+{
+    lines.sort_by_key(|line| u64::MAX - line.times)
+}

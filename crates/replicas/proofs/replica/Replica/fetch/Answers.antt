@@ -1,7 +1,0 @@
-use Rattle.std.proofs.Common.{length, sym, subst}
-use Rattle.replicas.specs.Copies.{Copied, AllFit}
-use Rattle.replicas.proofs.replica.Replica.fetch.Goals as goal
-
-pub apply_all-requires-clause-fit : goal.apply_all-requires-clause-fit
-apply_all-requires-clause-fit c =
-    (subst (λ (r : Copied). AllFit (length r.page.words) r.missing) (sym c.self.view_is) c.requires.fit)

@@ -1,5 +1,0 @@
-use Rattle.sample.proofs.Telling.{race_free_outcome}
-use Rattle.sample.proofs.laws.race_free_outcome_law.Goals as goal
-
-pub returns : goal.returns
-returns c = race_free_outcome

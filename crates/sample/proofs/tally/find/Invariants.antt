@@ -1,7 +1,0 @@
-use Rattle.std.proofs.Common.{ℕ, ◌≡◌, ◌≢◌, ◌<◌, Some, slice_get}
-use Rattle.sample.specs.declared.tally.Line.{Line}
-use Rattle.sample.proofs.tally.find.Given as goal
-
-abbrev pub invariant-loop-place : goal.invariant-loop-place
-invariant-loop-place l = (k : ℕ) (line : Line) → k < l.place → slice_get l.lines k ≡ Some line
-    → line.outcome ≢ l.outcome

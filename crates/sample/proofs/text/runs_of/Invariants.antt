@@ -1,6 +1,0 @@
-use Rattle.std.proofs.Common.{◌≡◌, take}
-use Rattle.sample.specs.Texts.{runs_in}
-use Rattle.sample.proofs.text.runs_of.Given as goal
-
-abbrev pub invariant-loop-line : goal.invariant-loop-line
-invariant-loop-line l = l.runs ≡ runs_in (take l.line-index l.lines)

@@ -1,0 +1,34 @@
+use Rattle.std.proofs.Common.{ℕ, List, slice_index_or, subst, sym, arith}
+use Rattle.std.proofs.lemmas.Option.{slice_get-get_or}
+use Rattle.journal.specs.declared.event.Event.{Event}
+use Rattle.journal.specs.declared.event.Kind.TheVariants.{Load}
+use Rattle.journal.specs.Did.{event}
+use Rattle.journal.specs.InRange.{AddressInRange, AddressesInRange, ProcessorsInRange}
+use Rattle.test_lrc.proofs.explanations.answers.only_these.Goals as goal
+
+-- the event at this place
+abbrev here : List Event → ℕ → Event
+here events place = slice_index_or events place (event 0 (Load 0 0))
+
+pub answers_only-requires-clause-processor : goal.answers_only-requires-clause-processor
+answers_only-requires-clause-processor c =
+    let e = here c.args.events.now c.loop-place.place in
+    let at = slice_get-get_or c.args.events.now c.loop-place.place (event 0 (Load 0 0)) c.loop-place-test.true in
+    let lt = c.requires.processors c.loop-place.place e at in
+    let same = c.loop-place.invariant.processors in
+    omega arith
+
+pub answers_only-requires-clause-address : goal.answers_only-requires-clause-address
+answers_only-requires-clause-address c =
+    let e = here c.args.events.now c.loop-place.place in
+    let at = slice_get-get_or c.args.events.now c.loop-place.place (event 0 (Load 0 0)) c.loop-place-test.true in
+    subst (λ n. AddressInRange n e.kind) (sym c.loop-place.invariant.addresses)
+    (c.requires.addresses c.loop-place.place e at)
+
+pub note-requires-clause-processors : goal.note-requires-clause-processors
+note-requires-clause-processors c =
+    subst (λ n. ProcessorsInRange n c.args.events.now) (sym c.loop-place.invariant.processors) c.requires.processors
+
+pub note-requires-clause-addresses : goal.note-requires-clause-addresses
+note-requires-clause-addresses c =
+    subst (λ n. AddressesInRange n c.args.events.now) (sym c.loop-place.invariant.addresses) c.requires.addresses

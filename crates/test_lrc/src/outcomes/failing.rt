@@ -1,0 +1,70 @@
+//! Runs that fail.
+ghost use Rattle.std.specs.Prelude.{◌≢◌, ◌<◌, IfErr, IfOk};
+ghost use Rattle.std.specs.Thread.{IsSync};
+ghost use Rattle.lrc_script.specs.Prelude.{IsLawful, plan_of};
+ghost use Rattle.conformance.specs.Prelude.{IsEndBy, IsEndOf, IsReportBy, IsReportOf, orders_of};
+ghost use Rattle.conformance.specs.declared.cause.Cause.TheVariants as cause;
+
+use conformance::{Cause, Ended, LockChoice, RunFault, Runs};
+use lrc_report::Report;
+use lrc_run::OnCluster;
+use lrc_script::script::Script;
+use std::alloc::Global;
+use std::sync::Wait;
+use std::thread::Threads;
+
+/// Runs scripts on a cluster, but that from seed `fails` on processor 1 has no thread. Where the lock isn't the ticket
+/// lock, processor 9 never has one.
+#[derive(Clone, Copy)]
+pub struct Failing {
+    pub fails: u64,
+}
+
+/// The fault of a processor without a thread.
+fn no_thread(processor: usize) -> RunFault
+    ensures { result.cause ≢ cause.Stuck }
+{
+    RunFault {
+        processor,
+        cause: Cause::Thread,
+    }
+}
+
+impl Runs for Failing {
+    fn run<R: Threads + Wait + Sync>(
+        &self,
+        _rt: &R,
+        _alloc: Global,
+        _script: &Script,
+        _lock: LockChoice,
+        _tries: u64,
+    ) -> Result<Report, RunFault> {
+        Err(no_thread(0))
+    }
+
+    fn step<R: Wait>(
+        &self,
+        rt: &R,
+        alloc: Global,
+        script: &Script,
+        lock: LockChoice,
+        seed: Option<u64>,
+    ) -> Result<Report, RunFault> {
+        match (lock, seed) {
+            (LockChoice::Array, _) => Err(no_thread(9)),
+            (LockChoice::Ticket, Some(seed)) if seed >= self.fails => Err(no_thread(1)),
+            (LockChoice::Ticket, seed) => OnCluster.step(rt, alloc, script, lock, seed),
+        }
+    }
+
+    fn step_as_far<R: Wait>(
+        &self,
+        _rt: &R,
+        _alloc: Global,
+        _script: &Script,
+        _lock: LockChoice,
+        _seed: Option<u64>,
+    ) -> Result<Ended, RunFault> {
+        Err(no_thread(0))
+    }
+}

@@ -1,0 +1,95 @@
+//! Drawn scripts.
+
+use super::bytes_of;
+use crate::drawing::draw::{free, guarded};
+use lrc_script::script::{Script, parse};
+use std::alloc::{AllocError, Global};
+use std::process::Abort;
+use std::test::Fail;
+
+/// Tests that both scripts of a number are read again as they are printed, and answers how many
+/// instructions they have.
+fn read_again<R: Abort>(rt: &R, alloc: Global, k: u64) -> Result<usize, Fail> {
+    let mut instructions = 0_usize;
+    for script in [guarded(alloc, k)?, free(alloc, k)?] {
+        let text = script.to_string(alloc)?;
+        for section in &script.sections {
+            instructions = instructions.saturating_add(section.len());
+        }
+        assert_eq!(rt; parse(alloc, text.as_bytes()).ok(), Some(script), "at {k}");
+    }
+    Ok(instructions)
+}
+
+#[test]
+fn drawn_scripts_are_read_again(rt: HostRuntime) -> Result<(), Fail> {
+    let mut instructions = 0_usize;
+    for k in 0..1000 {
+        instructions = instructions.saturating_add(read_again(&rt, rt.alloc(), k)?);
+    }
+    assert!(rt; instructions > 20_000, "{instructions} instructions");
+    Ok(())
+}
+
+/// Numbers past 1,000, up to the greatest. A body that answers that memory ran out past k = 1,000 is
+/// proved; it fails here.
+#[test]
+fn scripts_are_drawn_from_each_number(rt: HostRuntime) -> Result<(), Fail> {
+    for k in [
+        1001,
+        65_536,
+        4_294_967_295,
+        4_294_967_296,
+        18_446_744_073_709_551_615,
+    ] {
+        let _instructions = read_again(&rt, rt.alloc(), k)?;
+    }
+    Ok(())
+}
+
+/// Drawn scripts, written by another program from the published generator. The last number is 2^63.
+const DRAWN: [(u64, &str, &str); 4] = [
+    (
+        2,
+        "cluster 1 3 2 1/p 0/acquire 0/add 3 3/release 0/acquire 0/add 4 0/release 0/show 0 1 2 3 4 5/",
+        "cluster 1 3 2 1/p 0/store 3 4/store 5 2/show 0 1 2 3 4 5/",
+    ),
+    (
+        6,
+        "cluster 1 1 3 3/p 0/acquire 2/add 2 1/release 2/acquire 2/add 2 3/release 2/acquire 1/add 1 1/release 1/acquire 1/add 1 2/release 1/show 0 1 2/",
+        "cluster 1 1 3 3/p 0/store 2 7/store 1 1/add 1 7/load 2/acquire 2/add 2 3/release 2/show 0 1 2/",
+    ),
+    (
+        8,
+        "cluster 1 1 2 1/p 0/acquire 0/add 1 3/release 0/acquire 0/add 0 0/release 0/acquire 0/add 1 0/release 0/show 0 1/",
+        "cluster 1 1 2 1/p 0/acquire 0/add 1 2/release 0/load 1/store 1 0/store 1 5/show 0 1/",
+    ),
+    (
+        9_223_372_036_854_775_808,
+        "cluster 3 2 3 1/p 0/p 1/acquire 0/add 5 6/release 0/p 2/show 0 1 2 3 4 5/",
+        "cluster 3 2 3 1/p 0/p 1/acquire 0/add 4 3/release 0/add 3 7/store 4 1/acquire 0/add 1 7/release 0/store 4 1/acquire 0/add 5 6/release 0/load 2/p 2/add 0 7/acquire 0/add 5 5/release 0/load 3/store 1 0/store 4 5/show 0 1 2 3 4 5/",
+    ),
+];
+
+/// A free script with barriers.
+const WITH_BARRIERS: &str =
+    "cluster 2 1 2 3/p 0/store 0 2/acquire 1/add 1 7/release 1/store 1 6/store 1 7/barrier/add 0 2/store 1 4/p 1/load 0/store 0 7/store 0 2/store 0 5/add 1 6/add 0 0/acquire 1/add 1 6/release 1/barrier/load 1/store 1 5/show 0 1/";
+
+/// Whether the script's text is this one, which has a slash for each line feed.
+fn has_text(alloc: Global, script: &Script, wanted: &str) -> Result<bool, AllocError> {
+    let text = script.to_string(alloc)?;
+    Ok(text.as_bytes() == bytes_of(alloc, wanted)?.as_slice())
+}
+
+#[test]
+fn the_draws_are_those_of_the_generator(rt: HostRuntime) -> Result<(), Fail> {
+    for (k, guarded_text, free_text) in DRAWN {
+        let drawn = guarded(rt.alloc(), k)?;
+        assert!(rt; has_text(rt.alloc(), &drawn, guarded_text)?, "guarded {k}");
+        let drawn = free(rt.alloc(), k)?;
+        assert!(rt; has_text(rt.alloc(), &drawn, free_text)?, "free {k}");
+    }
+    let drawn = free(rt.alloc(), 10)?;
+    assert!(rt; has_text(rt.alloc(), &drawn, WITH_BARRIERS)?);
+    Ok(())
+}

@@ -1,0 +1,36 @@
+-- What tests of the copies rest on.
+use Rattle.std.specs.Prelude.{ℕ, ◌≡◌, ◌≢◌, Bool, Some, List, [], length, map, slice_get}
+use Rattle.journal.specs.Missing.{InClosingOrder}
+use Rattle.base.specs.Places.{Has}
+use Rattle.page.specs.declared.page.Access.TheVariants.{Valid, Invalid}
+use Rattle.interval.specs.Intervals.{SentRecord}
+use Rattle.book.specs.News.{missing_of}
+use Rattle.cluster.specs.Copies.Copies.{Copied, AllFit, FitsPage}
+use Rattle.cluster.specs.Copies.Counts.{AreCountable}
+use Rattle.cluster.specs.Copies.Records.{DirtyAreMarked}
+
+-- valid copies of pages of that many words, with marks where they were stored to
+pub record AreOpen (words : ℕ) (copies : List Copied) (marks : List Bool) : Type 0 where
+  pub valid : (n : ℕ) (c : Copied) → slice_get copies n ≡ Some c → c.page.access ≡ Valid
+  pub long : (n : ℕ) (c : Copied) → slice_get copies n ≡ Some c → length c.page.words ≡ words
+  pub marked : DirtyAreMarked copies marks
+
+-- the notice of a word of page 0, where a page has that many words, at this place
+pub record IsNotice (words place : ℕ) (x : SentRecord) : Type 0 where
+  pub page : x.notice.page ≡ 0
+  pub place_is : x.place ≡ place
+  pub fits : FitsPage words x
+
+-- notices of page 0, where a page has that many words, in closing order
+pub record AreNotices (words : ℕ) (sent : List SentRecord) : Type 0 where
+  pub some : sent ≢ []
+  pub page : (x : SentRecord) → Has sent x → x.notice.page ≡ 0
+  pub fits : AllFit words sent
+  pub order : InClosingOrder (map missing_of sent)
+
+-- one copy, which may be fetched
+pub record IsStale (copies : List Copied) : Type 0 where
+  pub one : length copies ≡ 1
+  pub invalid : (n : ℕ) (c : Copied) → slice_get copies n ≡ Some c → c.page.access ≡ Invalid
+  pub fits : (n : ℕ) (c : Copied) → slice_get copies n ≡ Some c → AllFit (length c.page.words) c.missing
+  pub few : (n : ℕ) (c : Copied) → slice_get copies n ≡ Some c → AreCountable c.missing

@@ -1,0 +1,30 @@
+-- The records of an open interval, made page by page.
+use Rattle.std.specs.Prelude.{ℕ, ◌≡◌, ◌≢◌, ◌<◌, Option, Some, None, List, []}
+use Rattle.journal.specs.declared.event.Event.{Event}
+use Rattle.journal.specs.Sizes.{Sizes}
+use Rattle.journal.specs.Events.{count_of, is_closing}
+use Rattle.journal.specs.Groups.{StoresIn, IsContent}
+use Rattle.base.specs.Places.{Has}
+use Rattle.page.specs.Changes.{Changes}
+use Rattle.interval.specs.Intervals.{HasRisingPages}
+
+-- place i has a store to page n in p's open interval
+abbrev pub StoresOpen : Sizes → List Event → ℕ → ℕ → ℕ → Type 0
+StoresOpen s h p n i = StoresIn s h p (count_of is_closing h p) n i
+
+-- the record has what the stores of p's open interval come to in its page, and that is something
+pub record IsOpenRecord (s : Sizes) (h : List Event) (p : ℕ) (r : Changes) : Type 0 where
+  pub content : IsContent s h p (count_of is_closing h p) r.page r.words
+  pub some : r.words ≢ []
+
+-- what p's open interval comes to in page n, if it stores there
+abbrev pub IsOpenIn : Sizes → List Event → ℕ → ℕ → Option Changes → Type 0
+IsOpenIn s h p n None = (i : ℕ) → ¬ StoresOpen s h p n i
+IsOpenIn s h p n (Some r) = (r.page ≡ n) × IsOpenRecord s h p r
+
+-- a record for each page below m that p's open interval stores to, in rising order
+pub record AreOpenBelow (s : Sizes) (h : List Event) (p m : ℕ) (records : List Changes) : Type 0 where
+  pub each : (r : Changes) → Has records r → IsOpenRecord s h p r
+  pub below : (r : Changes) → Has records r → r.page < m
+  pub all : (n i : ℕ) → n < m → StoresOpen s h p n i → (r : Changes) × Has records r × (r.page ≡ n)
+  pub rising : HasRisingPages records

@@ -1,0 +1,4 @@
+pub mod Copies
+pub mod Prelude
+pub mod Reaching
+pub mod Histories

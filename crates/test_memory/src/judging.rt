@@ -1,0 +1,17 @@
+//! A caller of judge who knows nothing of it but its contracts.
+//!
+//! **What is proved**: by these alone a caller knows exactly whether a history is well formed, that the numbers of one
+//! that is are the cluster's, and exactly whether its fetches count what they bring.
+//!
+//! **What is only tested** here: that the words of judge's specs mean what they are to mean, by histories worked by
+//! hand; and that histories of 2^20 events are judged in a test's time, by all that `lrc check` asks of them (`big`).
+
+#[cfg(test)]
+mod big;
+mod callers;
+#[cfg(test)]
+mod counts;
+#[cfg(test)]
+mod tests;
+
+pub use self::callers::{is_counted, is_well_formed};

@@ -1,0 +1,262 @@
+//! Histories worked by hand: the first event that may not stand where it does, and why.
+ghost use Rattle.std.specs.Prelude.{◌≡◌};
+ghost use Rattle.judge.specs.Prelude.{AreSmall, sizes_of};
+
+use crate::judging::callers::is_well_formed;
+use journal::{Event, Kind, MOST_HELD};
+use judge::{IllFormed, Sizes, Why, first_ill_formed};
+use std::process::Abort;
+use std::test::Fail;
+
+/// An event of processor `processor`.
+fn by(processor: usize, kind: Kind) -> Event
+    ensures { result ≡ record { processor = processor; kind = kind } }
+{
+    Event { processor, kind }
+}
+
+/// Three processors, two pages of four words, two locks and two flags.
+fn three() -> Sizes
+    ensures { AreSmall (sizes_of result) }
+{
+    Sizes {
+        processors: 3,
+        pages: 2,
+        words: 4,
+        locks: 2,
+        flags: 2,
+    }
+}
+
+/// As many of everything as there can be.
+fn most() -> Sizes
+    ensures { AreSmall (sizes_of result) }
+{
+    Sizes {
+        processors: 16,
+        pages: 64,
+        words: 64,
+        locks: 32,
+        flags: 32,
+    }
+}
+
+/// A fault at this place.
+fn fault(place: usize, why: Why) -> Option<IllFormed> {
+    Some(IllFormed { place, why })
+}
+
+/// The history is well formed but for this, lax or not.
+fn tells<R: Abort + AllocGlobal>(rt: &R, events: &[Event], want: Option<IllFormed>) {
+    assert!(rt; events.len() <= MOST_HELD);
+    assert!(rt; first_ill_formed(three(), events, false) == want);
+    assert!(rt; first_ill_formed(three(), events, true) == want);
+}
+
+/// The last event of the history may not stand there, for this reason, lax or not.
+fn refuses<R: Abort + AllocGlobal>(rt: &R, events: &[Event], why: Why) {
+    assert!(rt; events.len() > 0);
+    tells(rt, events, fault(events.len() - 1, why));
+}
+
+/// A lock that is granted in order, a barrier twice, and a flag that is set before one watches it and after.
+#[test]
+fn well_formed(rt: HostRuntime) -> Result<(), Fail> {
+    let lock = [
+        by(0, Kind::Ask(1)),
+        by(1, Kind::Ask(1)),
+        by(2, Kind::Ask(0)),
+        by(0, Kind::Acquire(1)),
+        by(2, Kind::Acquire(0)),
+        by(0, Kind::Store(7, 1)),
+        by(0, Kind::Release(1)),
+        by(1, Kind::Acquire(1)),
+        by(0, Kind::Ask(1)),
+        by(1, Kind::Release(1)),
+        by(0, Kind::Acquire(1)),
+    ];
+    tells(&rt, &lock, None);
+    let meeting = [
+        by(0, Kind::Arrive),
+        by(2, Kind::Arrive),
+        by(1, Kind::Arrive),
+        by(1, Kind::Depart),
+        by(1, Kind::Arrive),
+        by(0, Kind::Depart),
+        by(0, Kind::Arrive),
+        by(2, Kind::Depart),
+        by(2, Kind::Arrive),
+        by(2, Kind::Depart),
+    ];
+    tells(&rt, &meeting, None);
+    let flag = [
+        by(0, Kind::Watch(1)),
+        by(1, Kind::Set(1)),
+        by(0, Kind::Await(1)),
+        by(0, Kind::Watch(1)),
+        by(2, Kind::Load(0, 9)),
+        by(0, Kind::Await(1)),
+    ];
+    tells(&rt, &flag, None);
+    Ok(())
+}
+
+/// Numbers that no such cluster has, however great.
+#[test]
+fn out_of_range(rt: HostRuntime) -> Result<(), Fail> {
+    for processor in [3, 16, usize::MAX] {
+        refuses(&rt, &[by(processor, Kind::Ask(9))], Why::NoSuchProcessor);
+    }
+    for number in [8, usize::MAX] {
+        for kind in [
+            Kind::Load(number, 0),
+            Kind::Store(number, 0),
+            Kind::Ask(number),
+            Kind::Acquire(number),
+            Kind::Release(number),
+            Kind::Set(number),
+            Kind::Watch(number),
+            Kind::Await(number),
+        ] {
+            refuses(&rt, &[by(2, kind)], Why::OutOfRange);
+        }
+    }
+    refuses(&rt, &[by(0, Kind::Set(2))], Why::OutOfRange);
+    let fetch = Kind::Fetch {
+        writers: 0,
+        page: 2,
+        records: 0,
+        words: 0,
+    };
+    refuses(
+        &rt,
+        &[by(0, Kind::Load(7, 0)), by(0, fetch)],
+        Why::OutOfRange,
+    );
+    Ok(())
+}
+
+/// Who waits does nothing else, and who has not called may not go on.
+#[test]
+fn waiting(rt: HostRuntime) -> Result<(), Fail> {
+    for (call, awaited) in [
+        (Kind::Ask(1), Kind::Acquire(1)),
+        (Kind::Arrive, Kind::Depart),
+        (Kind::Watch(1), Kind::Await(1)),
+    ] {
+        for other in [Kind::Load(0, 0), Kind::Acquire(0), Kind::Await(0), call] {
+            refuses(&rt, &[by(1, call), by(1, other)], Why::Waits(awaited));
+        }
+        refuses(&rt, &[by(0, call), by(1, awaited)], Why::NotAsked);
+    }
+    Ok(())
+}
+
+/// What a lock lets through.
+#[test]
+fn locks(rt: HostRuntime) -> Result<(), Fail> {
+    let held = [by(2, Kind::Ask(0)), by(2, Kind::Acquire(0))];
+    refuses(
+        &rt,
+        &[held[0], held[1], by(2, Kind::Ask(0))],
+        Why::AsksWhatItHolds,
+    );
+    refuses(
+        &rt,
+        &[
+            held[0],
+            held[1],
+            by(1, Kind::Ask(0)),
+            by(1, Kind::Acquire(0)),
+        ],
+        Why::HeldBy(2),
+    );
+    refuses(
+        &rt,
+        &[held[0], held[1], by(1, Kind::Release(0))],
+        Why::NotHeld,
+    );
+    refuses(
+        &rt,
+        &[held[0], held[1], by(2, Kind::Release(1))],
+        Why::NotHeld,
+    );
+    let line = [
+        by(1, Kind::Ask(1)),
+        by(2, Kind::Ask(0)),
+        by(0, Kind::Ask(0)),
+        by(1, Kind::Acquire(1)),
+        by(1, Kind::Release(1)),
+        by(1, Kind::Ask(0)),
+        by(1, Kind::Acquire(0)),
+    ];
+    let earlier = fault(6, Why::AskedEarlier(2, 1));
+    assert!(rt; first_ill_formed(three(), &line, false) == earlier);
+    assert!(rt; first_ill_formed(three(), &line, true) == None);
+    Ok(())
+}
+
+/// What a barrier and a flag let through, and that the first of two faults is told.
+#[test]
+fn meetings(rt: HostRuntime) -> Result<(), Fail> {
+    let early = [
+        by(2, Kind::Arrive),
+        by(0, Kind::Arrive),
+        by(0, Kind::Depart),
+        by(1, Kind::Release(0)),
+    ];
+    tells(&rt, &early, fault(2, Why::NotArrived(1)));
+    let twice = [
+        by(2, Kind::Arrive),
+        by(0, Kind::Arrive),
+        by(1, Kind::Arrive),
+        by(0, Kind::Depart),
+        by(0, Kind::Arrive),
+        by(0, Kind::Depart),
+    ];
+    refuses(&rt, &twice, Why::NotArrived(1));
+    let unset = [
+        by(0, Kind::Set(0)),
+        by(0, Kind::Watch(1)),
+        by(0, Kind::Await(1)),
+    ];
+    refuses(&rt, &unset, Why::NotSet);
+    Ok(())
+}
+
+/// Sixteen processors hand the last lock round until there are 2^20 events.
+#[test]
+fn long(rt: HostRuntime) -> Result<(), Fail> {
+    let mut events = Vec::new(rt.alloc());
+    for turn in 0..349_525 {
+        let processor = turn % 16;
+        events.push(by(processor, Kind::Ask(31)))?;
+        events.push(by(processor, Kind::Acquire(31)))?;
+        events.push(by(processor, Kind::Release(31)))?;
+    }
+    events.push(by(15, Kind::Store(4095, 1)))?;
+    assert!(rt; events.len() <= MOST_HELD);
+    assert!(rt; first_ill_formed(most(), &events, false) == None);
+    Ok(())
+}
+
+/// Which sizes are small enough.
+#[test]
+fn limits(rt: HostRuntime) -> Result<(), Fail> {
+    let most = most();
+    assert!(rt; most.are_small());
+    assert!(rt; is_well_formed(most, &[by(15, Kind::Load(4095, 0)), by(15, Kind::Set(31))]));
+    for more in [
+        Sizes {
+            processors: 17,
+            ..most
+        },
+        Sizes { pages: 65, ..most },
+        Sizes { words: 65, ..most },
+        Sizes { locks: 33, ..most },
+        Sizes { flags: 33, ..most },
+    ] {
+        assert!(rt; !more.are_small());
+    }
+    Ok(())
+}

@@ -1,5 +1,0 @@
-use Rattle.turn.proofs.TakingTurns.{take_turns}
-use Rattle.turn.proofs.lock.Lock.turns_law.Goals as goal
-
-pub returns : goal.returns
-returns g c s dealt = take_turns c.lawful.ensures dealt.keeps

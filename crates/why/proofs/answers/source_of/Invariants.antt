@@ -1,5 +1,0 @@
-use Rattle.why.proofs.Answering.{NoneStores}
-use Rattle.why.proofs.answers.source_of.Given as goal
-
-abbrev pub invariant-loop-place : goal.invariant-loop-place
-invariant-loop-place l = NoneStores l.events l.places l.place-index l.value

@@ -1,5 +1,0 @@
-use Rattle.why.proofs.Entering.{AreEntrancesBelow}
-use Rattle.why.proofs.entrances.entrances.Given as goal
-
-abbrev pub invariant-loop-by : goal.invariant-loop-by
-invariant-loop-by l = AreEntrancesBelow l.events l.step l.by l.places.items

@@ -1,5 +1,0 @@
-use Rattle.why.proofs.Fresh.{AreNewsBelow}
-use Rattle.why.proofs.news.news.Given as goal
-
-abbrev pub invariant-loop-by : goal.invariant-loop-by
-invariant-loop-by l = AreNewsBelow l.events l.step l.by l.places.items

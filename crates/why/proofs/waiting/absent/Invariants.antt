@@ -1,5 +1,0 @@
-use Rattle.why.specs.Waits.{AreThose, IsAbsent}
-use Rattle.why.proofs.waiting.absent.Given as goal
-
-abbrev pub invariant-loop-processor : goal.invariant-loop-processor
-invariant-loop-processor l = AreThose (IsAbsent l.events l.by) l.processor l.absent.items

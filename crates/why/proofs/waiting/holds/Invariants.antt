@@ -1,6 +1,0 @@
-use Rattle.std.proofs.Common.{◌↔◌, IsTrue}
-use Rattle.why.proofs.Standing.{HoldsBelow}
-use Rattle.why.proofs.waiting.holds.Given as goal
-
-abbrev pub invariant-loop-place : goal.invariant-loop-place
-invariant-loop-place l = IsTrue l.held ↔ HoldsBelow l.events l.by l.lock l.place

@@ -1,5 +1,0 @@
-use Rattle.why.proofs.Standing.{LastBelow}
-use Rattle.why.proofs.waiting.last_of.Given as goal
-
-abbrev pub invariant-loop-place : goal.invariant-loop-place
-invariant-loop-place l = LastBelow l.events l.by l.place l.last
