@@ -4,9 +4,9 @@
 //! that is given.
 #![tactic(auto)]
 
-use lrc_program::{answer_words, refuse, run_file, words_of};
 use lrc_options::command_line::options;
 use lrc_options::options::{Asked, Commands};
+use lrc_program::{answer_words, refuse, run_file, words_of};
 use lrc_run::OnCluster;
 use std::process::ExitCode;
 use std::sync::Wait;

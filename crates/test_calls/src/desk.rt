@@ -8,10 +8,10 @@ use crate::line::Deed;
 use crate::look::{Look, seen_of};
 use book::Refused;
 use cluster::{BookTurn, Processor};
-use test_crews::crews::{Answer, Call, Crew};
 use journal::Journal;
 use std::alloc::Global;
 use std::sync::Wait;
+use test_crews::crews::{Answer, Call, Crew};
 
 /// The cluster that is open, and the journal at hand.
 #[derive(Drop)]

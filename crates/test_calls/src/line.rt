@@ -1,8 +1,8 @@
 //! The lines of a list.
 
 use crate::names::Name;
-use test_crews::crews::Call;
 use journal::{Event, Kind};
+use test_crews::crews::Call;
 
 /// What a line asks for.
 #[derive(Clone, Copy)]
