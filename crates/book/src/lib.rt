@@ -18,7 +18,7 @@ mod awaited;
 mod book;
 pub mod laws;
 mod messages;
-mod opening;
+mod empty;
 mod protocol;
 mod refused;
 mod room;

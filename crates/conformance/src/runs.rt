@@ -2,7 +2,7 @@
 ghost use Rattle.std.specs.Prelude.{ℕ, ◌≡◌, ◌<◌, IfErr, IfOk, Option, Result};
 ghost use Rattle.std.specs.Thread.{IsSync};
 ghost use Rattle.lrc_script.specs.Prelude.{IsLawful, plan_of};
-ghost use Rattle.conformance.specs.Prelude.{IsEndBy, IsEndOf, IsReportBy, IsReportOf, IsStuckBy, orders_of};
+ghost use Rattle.conformance.specs.Prelude.{IsEndByTurns, IsEndOf, IsReportByTurns, IsReportOf, IsStuckByTurns, turn_orders};
 ghost use Rattle.conformance.specs.declared.cause.Cause.TheVariants as cause;
 
 use crate::cause::RunFault;
@@ -65,9 +65,9 @@ pub trait Runs {
         requires { IsLawful (plan_of script.now) }
         ensures report { IfOk result (IsReportOf (plan_of script.now)) }
         ensures stepped { stepped (plan_of script.now) lock seed result }
-        ensures turns { IfOk result (IsReportBy (plan_of script.now) (orders_of (plan_of script.now) seed)) }
+        ensures turns { IfOk result (IsReportByTurns (plan_of script.now) (turn_orders (plan_of script.now) seed)) }
         ensures stuck { IfErr result (λ fault. fault.cause ≡ cause.Stuck
-            → IsStuckBy (plan_of script.now) (orders_of (plan_of script.now) seed) fault.processor) };
+            → IsStuckByTurns (plan_of script.now) (turn_orders (plan_of script.now) seed) fault.processor) };
 
     /// Runs the script as `step` does, but that a run that can't go on is no fault: it answers the journal so far.
     fn step_as_far<R: Wait>(
@@ -80,5 +80,5 @@ pub trait Runs {
     ) -> Result<Ended, RunFault>
         requires { IsLawful (plan_of script.now) }
         ensures end { IfOk result (IsEndOf (plan_of script.now)) }
-        ensures turns { IfOk result (IsEndBy (plan_of script.now) (orders_of (plan_of script.now) seed)) };
+        ensures turns { IfOk result (IsEndByTurns (plan_of script.now) (turn_orders (plan_of script.now) seed)) };
 }

@@ -4,9 +4,9 @@ use Rattle.journal.specs.declared.event.Event.{Event}
 use Rattle.lrc_script.specs.Plan.{Plan}
 use Rattle.conformance.specs.declared.ended.Ended.{Ended}
 use Rattle.conformance.specs.declared.ended.Ended.TheVariants.{Halted, Whole}
-use Rattle.conformance.specs.ByTurns.{IsEndBy, orders_of}
+use Rattle.conformance.specs.ByTurns.{IsEndByTurns, turn_orders}
 use Rattle.lrc_explain.specs.Texts.{ExplainWritten}
-use Rattle.lrc_program.specs.Served.{IsRead}
+use Rattle.lrc_program.specs.Served.{IsScriptRead}
 
 -- whether it is a run that can't go on
 abbrev pub is_halted : Ended → Bool
@@ -14,26 +14,26 @@ is_halted (Whole report) = false
 is_halted (Halted halt) = true
 
 -- what is told of a run was written; of its picture nothing is said
-abbrev pub ExplanationWritten : Bool → Option (List ℕ) → Option (List ℕ) → Ended → Type 0
-ExplanationWritten true old new ended = ⊤
-ExplanationWritten false old new ended = ExplainWritten old new ended
+abbrev pub ExplainedWritten : Bool → Option (List ℕ) → Option (List ℕ) → Ended → Type 0
+ExplainedWritten true old new ended = ⊤
+ExplainedWritten false old new ended = ExplainWritten old new ended
 
 -- the script was run by turns in the orders of this seed, as far as it goes, and the run was told or drawn
-pub record IsRunTold (picture halted : Bool) (seed : Option ℕ) (script : Plan) (old new : Option (List ℕ))
+pub record IsRunExplained (picture halted : Bool) (seed : Option ℕ) (script : Plan) (old new : Option (List ℕ))
     : Type 0 where
   pub ended : Ended
-  pub end : IsEndBy script (orders_of script seed) ended
+  pub end : IsEndByTurns script (turn_orders script seed) ended
   pub halted_is : is_halted ended ≡ halted
-  pub told : ExplanationWritten picture old new ended
+  pub told : ExplainedWritten picture old new ended
 
 -- so was the script that the source had
 pub record IsExplained (picture halted : Bool) (seed : Option ℕ) (source old new : Option (List ℕ)) : Type 0 where
   pub script : Plan
-  pub read : IsRead source script
-  pub run : IsRunTold picture halted seed script old new
+  pub read : IsScriptRead source script
+  pub run : IsRunExplained picture halted seed script old new
 
 -- a history is these events behind so many others
-pub record IsBehind (opening : ℕ) (events history : List Event) : Type 0 where
+pub record IsExplainedBehind (opening : ℕ) (events history : List Event) : Type 0 where
   pub front : List Event
   pub long : length front ≡ opening
   pub whole : history ≡ front ++ events

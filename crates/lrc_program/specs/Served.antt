@@ -18,19 +18,19 @@ lock_chosen o = cond o.ticket Ticket Array
 
 -- what came of a script by the command that the options ask for, with their lock, and their tries or their seed; `ran` and
 -- `stepped` are what comes by each command
-pub record IsAsAsked (ran : Plan → LockChoice → ℕ → Result Report RunFault → Type 0)
+pub record IsServedAsAsked (ran : Plan → LockChoice → ℕ → Result Report RunFault → Type 0)
     (stepped : Plan → LockChoice → Option ℕ → Result Report RunFault → Type 0) (o : Options) (s : Plan)
     (came : Result Report RunFault) : Type 0 where
   pub by_threads : o.step ≡ false → ran s (lock_chosen o) o.tries came
   pub by_turns : o.step ≡ true → stepped s (lock_chosen o) o.seed came
 
 -- the script that was read is lawful, and its text is all that the source had
-pub record IsRead (source : Option (List ℕ)) (s : Plan) : Type 0 where
+pub record IsScriptRead (source : Option (List ℕ)) (s : Plan) : Type 0 where
   pub lawful : IsLawful s
   pub text_is : IfSome source (λ xs. xs ≡ text s)
 
 -- the script was run as it was asked, and the text of the report of it was written
-pub record IsPrinted (asked : Plan → Result Report RunFault → Type 0) (journal : Bool) (script : Plan)
+pub record IsScriptPrinted (asked : Plan → Result Report RunFault → Type 0) (journal : Bool) (script : Plan)
     (old new : Option (List ℕ)) : Type 0 where
   pub report : Report
   pub came : asked script (Ok report)
@@ -41,7 +41,7 @@ pub record IsPrinted (asked : Plan → Result Report RunFault → Type 0) (journ
 pub record IsServed (asked : Plan → Result Report RunFault → Type 0) (journal : Bool)
     (source old new : Option (List ℕ)) : Type 0 where
   pub script : Plan
-  pub read : IsRead source script
+  pub read : IsScriptRead source script
   pub report : Report
   pub came : asked script (Ok report)
   pub tells : IsReportOf script report

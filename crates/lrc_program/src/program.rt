@@ -3,8 +3,8 @@ ghost use Rattle.std.specs.Prelude.{◌≡◌, ◌≢◌, ◌<◌, ◌⊎◌, If
 ghost use Rattle.std.specs.Io.KnownBytes.{Keeps};
 ghost use Rattle.lrc_script.specs.Prelude.{IsLawful, plan_of};
 ghost use Rattle.conformance.specs.Prelude.{IsReportOf};
-ghost use Rattle.lrc_program.specs.Prelude.{IsAsAsked, IsNoScript, IsPrinted, IsRead, IsServed, IsBeforeOutput};
-ghost use Rattle.lrc_program.specs.Prelude.{IsScripts, IsStatusOf, lock_chosen};
+ghost use Rattle.lrc_program.specs.Prelude.{IsServedAsAsked, IsNoScript, IsScriptPrinted, IsScriptRead, IsServed, IsStatusBeforeOutput};
+ghost use Rattle.lrc_program.specs.Prelude.{IsScriptsStatus, IsStatusOf, lock_chosen};
 
 use crate::fault::ProgramFault;
 use conformance::{LockChoice, RunFault, Runs};
@@ -42,7 +42,7 @@ fn report_of<T: Runs, R: Threads + Wait + Sync>(
     requires tries { 0 < options.now.tries }
     requires lawful { IsLawful (plan_of script.now) }
     ensures report { IfOk result (IsReportOf (plan_of script.now)) }
-    ensures asked { IsAsAsked T.ran T.stepped options.now (plan_of script.now) result }
+    ensures asked { IsServedAsAsked T.ran T.stepped options.now (plan_of script.now) result }
 {
     let lock = lock_of(options);
     if options.step {
@@ -54,8 +54,8 @@ fn report_of<T: Runs, R: Threads + Wait + Sync>(
 
 /// Reads a script: all that the source has.
 pub fn read_script<S: Read>(alloc: Global, source: &mut S) -> Result<Script, ProgramFault>
-    ensures read { IfOk result (λ s. IsRead (S.remaining source.old) (plan_of s)) }
-    ensures refused { IfErr result (λ fault. IsScripts fault → IsNoScript (S.remaining source.old)) }
+    ensures read { IfOk result (λ s. IsScriptRead (S.remaining source.old) (plan_of s)) }
+    ensures refused { IfErr result (λ fault. IsScriptsStatus fault → IsNoScript (S.remaining source.old)) }
 {
     let mut bytes = Vec::new(alloc);
     source.take(MOST_READ).read_to_end(&mut bytes)?;
@@ -74,11 +74,11 @@ fn print_report<T: Runs, R: Threads + Wait + Sync, W: Write>(
 ) -> Result<(), ProgramFault>
     requires tries { 0 < options.now.tries }
     requires lawful { IsLawful (plan_of script.now) }
-    ensures printed { OnOk result (IsPrinted (IsAsAsked T.ran T.stepped options.now) options.now.journal (plan_of script.now)
+    ensures printed { OnOk result (IsScriptPrinted (IsServedAsAsked T.ran T.stepped options.now) options.now.journal (plan_of script.now)
         (W.contents out.old) (W.contents out.new)) }
     ensures early { IfErr result
-        (λ fault. IsBeforeOutput fault → Keeps (W.contents out.old) (W.contents out.new)) }
-    ensures runs { IfErr result (λ fault. IsScripts fault → ⊥) }
+        (λ fault. IsStatusBeforeOutput fault → Keeps (W.contents out.old) (W.contents out.new)) }
+    ensures runs { IfErr result (λ fault. IsScriptsStatus fault → ⊥) }
 {
     let report = report_of(runs, rt, alloc, options, script)?;
     render(&report, options.journal, out)?;
@@ -95,11 +95,11 @@ fn run_script<T: Runs, R: Threads + Wait + Sync, S: Read, W: Write>(
     out: &mut W,
 ) -> Result<(), ProgramFault>
     requires { 0 < options.now.tries }
-    ensures served { OnOk result (IsServed (IsAsAsked T.ran T.stepped options.now) options.now.journal
+    ensures served { OnOk result (IsServed (IsServedAsAsked T.ran T.stepped options.now) options.now.journal
         (S.remaining source.old) (W.contents out.old) (W.contents out.new)) }
-    ensures refused { IfErr result (λ fault. IsScripts fault → IsNoScript (S.remaining source.old)) }
+    ensures refused { IfErr result (λ fault. IsScriptsStatus fault → IsNoScript (S.remaining source.old)) }
     ensures early { IfErr result
-        (λ fault. IsBeforeOutput fault → Keeps (W.contents out.old) (W.contents out.new)) }
+        (λ fault. IsStatusBeforeOutput fault → Keeps (W.contents out.old) (W.contents out.new)) }
 {
     let script = read_script(alloc, source)?;
     print_report(runs, rt, alloc, options, &script, out)
@@ -144,7 +144,7 @@ pub fn program<T: Runs, R: Threads + Wait + Sync, S: Read, W: Write, E: Write>(
 ) -> u8
     requires { 0 < options.now.tries }
     // The script that was read was run as the options ask, and the report of that run was written, whole.
-    ensures served { result ≡ 0 → IsServed (IsAsAsked T.ran T.stepped options.now) options.now.journal
+    ensures served { result ≡ 0 → IsServed (IsServedAsAsked T.ran T.stepped options.now) options.now.journal
         (S.remaining source.old) (W.contents out.old) (W.contents out.new) }
     // What is refused as a script is none.
     ensures refused { result ≡ 2 → IsNoScript (S.remaining source.old) }

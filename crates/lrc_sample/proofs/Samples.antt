@@ -3,9 +3,9 @@ use Rattle.std.proofs.Common.{◌≡◌, ◌∙◌, ◌+◌, ◌^◌, ◌<◌, �
 use Rattle.std.specs.List.{sum_by}
 use Rattle.std.proofs.lemmas.List.{length-append}
 use Rattle.std.proofs.lemmas.Option.{none-some}
-use Rattle.base.proofs.Places.{push_cases}
+use Rattle.base.proofs.SlicesAndCounts.{push_cases}
 use Rattle.lrc_script.specs.Plan.{Plan}
-use Rattle.conformance.specs.ByTurns.{orders_of}
+use Rattle.conformance.specs.ByTurns.{turn_orders}
 use Rattle.lrc_sample.specs.declared.outcome.SampleOutcome.{SampleOutcome}
 use Rattle.lrc_sample.specs.declared.tally.TallyLine.{TallyLine}
 use Rattle.lrc_sample.specs.declared.sampling.Sampled.{Sampled}
@@ -37,20 +37,20 @@ seed_run (Some seed) = rw add-one refl
 
 -- one run more
 pub made_next : (s : Plan) (n : ℕ) (o : SampleOutcome) (old new : List TallyLine) (is : IsMade s n old)
-    → IsSampleOutcomeOf s (orders_of s (seed_of n)) o → TallyStarted (is.outcomes ++ o ∷ []) new → IsMade s (n + 1) new
+    → IsSampleOutcomeOf s (turn_orders s (seed_of n)) o → TallyStarted (is.outcomes ++ o ∷ []) new → IsMade s (n + 1) new
 made_next s n o old new is one noted = record {
   outcomes = is.outcomes ++ o ∷ [];
   are = record { many = omega (arith, length-append is.outcomes (o ∷ []), is.are.many); each = each };
   noted = noted;
 }
   where
-    last : (run : ℕ) (x : SampleOutcome) → run ≡ length is.outcomes → o ≡ x → IsSampleOutcomeOf s (orders_of s (seed_of run)) x
+    last : (run : ℕ) (x : SampleOutcome) → run ≡ length is.outcomes → o ≡ x → IsSampleOutcomeOf s (turn_orders s (seed_of run)) x
     last run x at same =
-        let P : ℕ → SampleOutcome → Type 0 = λ k y. IsSampleOutcomeOf s (orders_of s (seed_of k)) y in
+        let P : ℕ → SampleOutcome → Type 0 = λ k y. IsSampleOutcomeOf s (turn_orders s (seed_of k)) y in
         subst₂ P (sym (at ∙ is.are.many)) same one
 
     each : (run : ℕ) (x : SampleOutcome) → slice_get (is.outcomes ++ o ∷ []) run ≡ Some x
-        → IsSampleOutcomeOf s (orders_of s (seed_of run)) x
+        → IsSampleOutcomeOf s (turn_orders s (seed_of run)) x
     each run x at = elim (push_cases is.outcomes o run x at)
         [ inl old ↦ is.are.each run x old.1 | inr new ↦ last run x new.0 new.1 ]
 

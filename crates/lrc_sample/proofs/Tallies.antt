@@ -5,10 +5,10 @@ use Rattle.std.proofs.lemmas.Bool.{cases_eq}
 use Rattle.std.proofs.lemmas.Option.{none-some, same_Some, slice_get-get_or, slice_get_within}
 use Rattle.std.proofs.lemmas.List.{length-append}
 use Rattle.std.proofs.lemmas.List.Sums.{sum_by-set, sum_by_push, get_or-le-sum_by}
-use Rattle.base.specs.Places.{Has}
-use Rattle.base.proofs.Places.{push_cases, slice_get-last}
+use Rattle.base.specs.InOrderOnce.{Has}
+use Rattle.base.proofs.SlicesAndCounts.{push_cases, slice_get-last}
 use Rattle.base.proofs.Joined.{in_order-append, in_order_single}
-use Rattle.base.proofs.Sets.{slice_get-set_found, slice_get-set_other, slice_get-set_same}
+use Rattle.base.proofs.SliceSets.{slice_get-set_found, slice_get-set_other, slice_get-set_same}
 use Rattle.lrc_sample.specs.declared.outcome.SampleOutcome.{SampleOutcome}
 use Rattle.lrc_sample.specs.declared.tally.TallyLine.{TallyLine}
 use Rattle.lrc_sample.specs.Tally.{IsLineOf, CountsRuns, run_of, times_of}

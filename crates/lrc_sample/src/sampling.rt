@@ -1,7 +1,7 @@
 //! A script under many seeds.
 ghost use Rattle.std.specs.Prelude.{ℕ, ◌≡◌, ◌≤◌, ◌+◌, ◌^◌, IfErr, IfOk, List, OnOk};
 ghost use Rattle.lrc_script.specs.Prelude.{IsLawful, plan_of};
-ghost use Rattle.conformance.specs.Prelude.{IsReportBy, IsStuckBy};
+ghost use Rattle.conformance.specs.Prelude.{IsReportByTurns, IsStuckByTurns};
 ghost use Rattle.conformance.specs.declared.cause.Cause.TheVariants as cause;
 ghost use Rattle.lrc_sample.specs.Prelude.{IsMade, IsSampleOutcomeOf, IsSampleOf, run_of};
 
@@ -34,9 +34,9 @@ fn outcome_of(
     script: &Script,
     answer: Result<Report, RunFault>,
 ) -> Result<SampleOutcome, RunFault>
-    ensures { (orders : ℕ → List ℕ) → IfOk answer (IsReportBy (plan_of script.now) orders)
+    ensures { (orders : ℕ → List ℕ) → IfOk answer (IsReportByTurns (plan_of script.now) orders)
         → IfErr answer (λ fault. fault.cause ≡ cause.Stuck
-        → IsStuckBy (plan_of script.now) orders fault.processor)
+        → IsStuckByTurns (plan_of script.now) orders fault.processor)
         → IfOk result (IsSampleOutcomeOf (plan_of script.now) orders) }
 {
     match answer {

@@ -1,9 +1,9 @@
 use Rattle.std.proofs.Common.{◌≡◌, ◌∙◌, [], ◌∷◌, sym, ap, subst, codes, map, rules, string_bytes}
 use Rattle.clap.specs.Words.{App, HasKind, fault_of, found_of, is_simple, is_simple_and_free, rows_of, subcommand_of, subcommand_rows_of}
 use Rattle.clap.specs.declared.builder.value_parser.ValueParser.TheVariants as vp
-use Rattle.lrc_options.specs.CommandLine.{lrc_app}
+use Rattle.lrc_options.specs.CommandLine.{lrc_rules}
 use Rattle.std.proofs.lemmas.Result.{err_from_is_err_and}
-use Rattle.lrc_options.proofs.CommandLine.{named_rows, no_fault, is_fault, out_of_memory, same_kind}
+use Rattle.lrc_options.proofs.CommandLine.{named_option_rows, no_fault, is_fault, out_of_memory, same_kind}
 use Rattle.lrc_options.proofs.command_line.options.Goals as goal
 
 pub returns-in_ok-asked_of-in-Some-clause-given : goal.returns-in_ok-asked_of-in-Some-clause-given
@@ -11,7 +11,7 @@ returns-in_ok-asked_of-in-Some-clause-given c =
     let app = c.in_ok-lrc_command.ensures.command.shape in
     let words = map (λ w. string_bytes w) c.args.words.now in
     let locks_are : map (λ s. s.now) c.as_slice.result.now ≡ codes "array" ∷ codes "ticket" ∷ [] = search rules in
-    let entered : subcommand_rows_of c.in-Ok.matches ≡ subcommand_of (lrc_app (vp.Names c.as_slice.result)) words =
+    let entered : subcommand_rows_of c.in-Ok.matches ≡ subcommand_of (lrc_rules (vp.Names c.as_slice.result)) words =
     (c.in-Ok.ensures.matches (ap is_simple app)).1 ∙ ap (λ (a : App). subcommand_of a words) app in
     let faults = no_fault _ _ _ c.in-Ok.is (c.try_get_matches_from.ensures.kinds (ap is_simple_and_free app)) in
     record {
@@ -20,7 +20,7 @@ returns-in_ok-asked_of-in-Some-clause-given c =
       faultless = sym (ap (λ (a : App). fault_of a words) app) ∙ faults;
       name = c.in-Some.name.now;
       rows = rows_of (found_of c.in-Some.given.now);
-      command = sym entered ∙ named_rows _ _ _ _ _ c.in-Some.ensures.name c.in-Some.ensures.rows;
+      command = sym entered ∙ named_option_rows _ _ _ _ _ c.in-Some.ensures.name c.in-Some.ensures.rows;
       asked = c.in_ok-asked_of-in-Some.ensures;
     }
 

@@ -1,21 +1,21 @@
 use Rattle.std.proofs.Common.{rules, ◌≡◌, false, refl, true}
 use Rattle.lrc_script.specs.Plan.{plan_of}
-use Rattle.lrc_run.proofs.ByTurns.{halt_by, report_by}
+use Rattle.lrc_run.proofs.ByTurns.{halt_by_turns, report_by_turns}
 use Rattle.lrc_run.proofs.Halting.{halted_all}
-use Rattle.lrc_run.proofs.Stepping.{all_passed}
+use Rattle.lrc_run.proofs.Stepping.{steps_passed}
 use Rattle.lrc_run.proofs.steps.step_as_far_with.Goals as goal
 
 pub conclude-requires-clause-walked : goal.conclude-requires-clause-walked
 conclude-requires-clause-walked g c κs within =
     let told = c.in_ok-go_round.ensures.ok in
     let whole : c.in_ok-go_round.field-0 ≡ true = search rules in
-    all_passed c.in_ok-cluster.cluster (plan_of c.args.script.now).sections _ told.0 told.1.way (told.2 whole)
+    steps_passed c.in_ok-cluster.cluster (plan_of c.args.script.now).sections _ told.0 told.1.way (told.2 whole)
 
 pub returns-in-Ok-clause-end : goal.returns-in-Ok-clause-end
 returns-in-Ok-clause-end g c =
     let told = c.in_ok-go_round.ensures.ok in
     let whole : c.in_ok-go_round.field-0 ≡ true = search rules in
-    report_by (plan_of c.args.script.now) c.in_ok-cluster.cluster c.args.seed _ _ told.0 _
+    report_by_turns (plan_of c.args.script.now) c.in_ok-cluster.cluster c.args.seed _ _ told.0 _
     c.in_ok-cluster.ensures.sizes c.in_ok-cluster.ensures.new told.1 (told.2 whole) c.in-Ok.ensures
 
 pub finish-journal-requires-after_bounds : goal.finish-journal-requires-after_bounds
@@ -28,5 +28,5 @@ pub returns-clause-end : goal.returns-clause-end
 returns-clause-end g c =
     let told = c.in_ok-go_round.ensures.ok in
     let stuck : c.in_ok-go_round.field-0 ≡ false = search rules in
-    halt_by (plan_of c.args.script.now) c.in_ok-cluster.cluster c.args.seed _ _ told.0 _ c.requires.lawful
+    halt_by_turns (plan_of c.args.script.now) c.in_ok-cluster.cluster c.args.seed _ _ told.0 _ c.requires.lawful
     c.in_ok-cluster.ensures.sizes c.in_ok-cluster.ensures.new told.1 (told.3 stuck) refl c.finish-journal.ensures
