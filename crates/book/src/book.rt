@@ -13,8 +13,8 @@ ghost use Rattle.book.specs.Prelude.{book_released, book_arrived, EndsClosed, En
 ghost use Rattle.book.specs.Prelude.{HasClosed, IsBlockOf, IsToldBySome, LetsWaitingOn, BookTakes};
 
 use crate::awaited::Awaited;
+use crate::empty::{empty_history, empty_locks, empty_timestamps};
 use crate::messages::{grant_to, has_come, post_all, receive};
-use crate::empty::{empty_history, empty_timestamps, empty_locks};
 use crate::protocol::{Protocol, leave, with_set};
 use crate::refused::Refused;
 use crate::room::{LIMIT, append_all, make_room};
@@ -215,7 +215,13 @@ impl Book {
         let interval = parts.open_interval(processor, records);
         let time = parts.closing_time(processor);
         let locks = &parts.locks;
-        let grant = grant_to(locks.next(lock), &parts.closed, &parts.times, &interval, &time)?;
+        let grant = grant_to(
+            locks.next(lock),
+            &parts.closed,
+            &parts.times,
+            &interval,
+            &time,
+        )?;
         parts.close(processor, Kind::Release(lock), block, interval)?;
         parts.locks.release(lock, processor, time);
         if let Some((next, message)) = grant {
@@ -388,7 +394,9 @@ impl Book {
     {
         let parts = &*self.parts;
         match parts.awaits[processor] {
-            Some(Awaited::Grant(_) | Awaited::Departure) => parts.count_page_by_message(processor, page),
+            Some(Awaited::Grant(_) | Awaited::Departure) => parts.count_page_by_message(
+                processor, page,
+            ),
             Some(Awaited::Signal(flag)) => parts.count_page_by_flag(processor, flag, page),
             None => 0,
         }
@@ -405,7 +413,9 @@ impl Book {
     {
         let parts = &*self.parts;
         match parts.awaits[processor] {
-            Some(Awaited::Grant(_) | Awaited::Departure) => parts.count_by_message(processor, counts),
+            Some(Awaited::Grant(_) | Awaited::Departure) => parts.count_by_message(
+                processor, counts,
+            ),
             Some(Awaited::Signal(flag)) => parts.count_by_flag(processor, flag, counts),
             None => counts.fill(0),
         }

@@ -87,7 +87,12 @@ pub(crate) fn post_all(transit: &mut Transit, messages: Vec<Message>)
 }
 
 /// Whether what `processor` waits for has come: the flag is set, or there is mail.
-pub(crate) fn has_come(flags: &[Option<VTime>], mail: &Transit, processor: usize, awaited: Awaited) -> bool
+pub(crate) fn has_come(
+    flags: &[Option<VTime>],
+    mail: &Transit,
+    processor: usize,
+    awaited: Awaited,
+) -> bool
     requires processor { processor < length mail.now }
     requires flag { (f : ℕ) → awaited ≡ Awaited.Signal f → f < length flags.now }
     ensures { result ≡ message_has_come flags.now mail.now processor (awaited_kind awaited) }

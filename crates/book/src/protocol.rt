@@ -12,8 +12,8 @@ ghost use Rattle.transit.specs.Prelude.{letter};
 ghost use Rattle.book.specs.Prelude.{awaited_kind, AllowsClosing, IsOpen, AllowsNotices, book_open_interval, book_closed_by, if_free};
 ghost use Rattle.book.specs.Prelude.{book_grant, book_barrier_left, book_flag_joined, departures_to, time_of, EndsClosed};
 
-mod named;
 mod counting;
+mod named;
 
 use crate::awaited::Awaited;
 use crate::messages::departures;
@@ -89,7 +89,11 @@ impl Protocol {
 
     /// The grant to `processor` of a lock that nobody holds. That `processor` is about to close its interval changes
     /// nothing in it: the lock's time doesn't cover that interval.
-    pub(crate) fn grant_if_free(&self, processor: usize, lock: usize) -> Result<Option<Message>, AllocError>
+    pub(crate) fn grant_if_free(
+        &self,
+        processor: usize,
+        lock: usize,
+    ) -> Result<Option<Message>, AllocError>
         requires lock { lock < length self.now.locks.locks }
         requires processor { processor < length self.now.times }
         requires keeps { KeepsClosingsBetween self.now.closed (time_of self.now processor) (lock_at self.now.locks lock).time }

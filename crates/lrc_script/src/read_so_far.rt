@@ -129,7 +129,11 @@ fn read_head(alloc: Global, numbers: &[u32]) -> Result<Script, ScriptFault>
     Ok(script)
 }
 
-fn read_first_section(alloc: Global, script: Script, numbers: &[u32]) -> Result<ReadSoFar, ScriptFault>
+fn read_first_section(
+    alloc: Global,
+    script: Script,
+    numbers: &[u32],
+) -> Result<ReadSoFar, ScriptFault>
     ensures { ReadGives front_read result (first_section_read (plan_of script) numbers.now) }
 {
     match numbers {

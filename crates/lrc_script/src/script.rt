@@ -4,10 +4,10 @@ ghost use Rattle.lrc_script.specs.Prelude.{Plan, plan_of, IsLawful, text, IsFaul
 ghost use Rattle.lrc_script.specs.Prelude.{AreLawfulSizes, IsHeadedFront, Nothing, SaysOfLine, cluster_line, line_bytes};
 ghost use Rattle.lrc_script.specs.declared.fault.ScriptFault.TheVariants.{NoMemory};
 
-use crate::uneven_barriers::uneven_line;
 use crate::fault::ScriptFault;
 use crate::line::split_line;
 use crate::read_so_far::ReadSoFar;
+use crate::uneven_barriers::uneven_line;
 use std::alloc::Global;
 
 /// The bytes of the longest text of a script.

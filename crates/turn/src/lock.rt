@@ -6,7 +6,7 @@ ghost use Rattle.turn.specs.declared.chair.ChairStage.TheVariants.{Outside, Wait
 
 use crate::chair::{Chair, ChairRun, ChairState, ChairToken, Held, Spent};
 use crate::contract::{Keeper, Outcome, Turn};
-use crate::lock_words::{Board, Change, TicketBoard, BoardLayout, ArrayBoard};
+use crate::lock_words::{ArrayBoard, Board, BoardLayout, Change, TicketBoard};
 use crate::sleepers::{Sleepers, low_half};
 use atomic_table::{Join, Play, Seat, Split, Table, TableRule};
 use crossbeam_utils::Backoff;

@@ -4,7 +4,7 @@ ghost use Rattle.turn.specs.Prelude.{entries, lock, lock_id, IsOutside, IsSameCh
 use super::{ArrayLock, TicketLock, TurnLock};
 use crate::chair::{Chair, Spent};
 use crate::contract::{Keeper, Outcome, Turn};
-use crate::lock_words::{Board, TicketBoard, ArrayBoard};
+use crate::lock_words::{ArrayBoard, Board, TicketBoard};
 use std::alloc::{AllocError, Global};
 use std::process::Abort;
 use std::sync::{Arc, Wait};
