@@ -6,11 +6,12 @@ ghost use Rattle.base.specs.Prelude.{most_processors};
 ghost use Rattle.vtime.specs.Times.{join};
 ghost use Rattle.barrier.specs.Episodes.{unmet_episodes, is_here, episode_full, episode_with_arrival, episode_arrived, episode_departed, HasGathered, Gathers};
 
+use base::MOST_PROCESSORS;
 use smallvec::SmallVec;
 use std::alloc::Global;
 use std::marker::Model;
 use std::mem;
-use vtime::{MOST_PROCESSORS, VTime};
+use vtime::VTime;
 
 /// Where a processor is.
 #[derive(Clone, Copy, Debug, Default, PartialEq, Eq)]
@@ -52,7 +53,7 @@ impl Model for Barrier {
 }
 
 impl Barrier {
-    /// The barrier of `processors` processors (1 to 16), none of which has arrived.
+    /// The barrier of `processors` processors (1 to `MOST_PROCESSORS`), none of which has arrived.
     pub fn new(alloc: Global, processors: usize) -> Self
         requires some { 1 ≤ processors }
         requires most { processors ≤ most_processors }

@@ -1,9 +1,25 @@
--- The limits of the product that contracts of several crates name.
+-- The limits of the memory, as contracts name them.
 use Rattle.std.specs.Prelude.{ℕ, ◌^◌}
 
 -- processors of a cluster
 abbrev pub most_processors : ℕ
 most_processors = 16
+
+-- pages of a cluster
+abbrev pub most_pages : ℕ
+most_pages = 64
+
+-- words of a page
+abbrev pub most_words : ℕ
+most_words = 64
+
+-- locks of a cluster
+abbrev pub most_locks : ℕ
+most_locks = 32
+
+-- flags of a cluster
+abbrev pub most_flags : ℕ
+most_flags = 32
 
 -- events of a processor's open block
 abbrev pub most_in_block : ℕ

@@ -4,6 +4,7 @@
 -- part's name before it (`mail_`, `barrier_`, `flag_`). A message is its kind and `_to`, of the closed intervals, the
 -- message's time and the receiver's timestamp.
 use Rattle.std.specs.Prelude.{ℕ, zero, suc, ◌≡◌, ◌-◌, ◌*◌, min, Bool, true, false, cond, Option, Some, None, List, [], ◌∷◌, ◌++◌, map, length, slice_get, slice_index, slice_index_or, slice_set, replicate, fold}
+use Rattle.base.specs.Limits.{most_in_block}
 use Rattle.journal.specs.declared.event.Event.{Event}
 use Rattle.journal.specs.declared.event.Kind.{Kind}
 use Rattle.journal.specs.declared.event.Kind.TheVariants.{Ask, Release, Arrive, Depart, Set, Watch}
@@ -27,11 +28,11 @@ use Rattle.book.specs.Messages.{message_for}
 abbrev pub no_closings : ℕ → Closings
 no_closings n = record { kept = []; first = replicate n 0; next = replicate n 0; pushed = 0 }
 
--- an empty book, with room for 256 last events of each processor
+-- an empty book, with room for a block of last events of each processor
 abbrev pub new_book : Sizes → State
 new_book s = record {
   words = s.words;
-  journal = record (new_log s.processors (addresses s)) { room = 256 * s.processors };
+  journal = record (new_log s.processors (addresses s)) { room = most_in_block * s.processors };
   closed = no_closings s.processors;
   times = replicate s.processors (replicate s.processors 0);
   locks = record { processors = s.processors; locks = replicate s.locks (unheld_lock s.processors) };

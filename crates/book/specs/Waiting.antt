@@ -39,7 +39,7 @@ IsNamed b p Arrive q = (message_has_come b.flags b.transit p Depart ≡ true) ×
 IsNamed b p (Set f) q = (q < most_processors) × IsDoneWaiting b (Await f) q
 IsNamed b p _ q = ⊥
 
--- p's block and the event after it let q go on, another of the first 16 processors, who couldn't before
+-- p's block and the event after it let q go on, another processor, who couldn't before
 pub record LetsWaitingOn (s : Sizes) (h block : List Event) (p : ℕ) (k : Kind) (q : ℕ) : Type 0 where
   pub other : q ≢ p
   pub few : q < most_processors

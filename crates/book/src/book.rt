@@ -2,7 +2,7 @@
 ghost use Rattle.std.specs.Prelude.{◌≡◌, ◌≢◌, ℕ, ◌+◌, ◌*◌, ◌^◌, ◌<◌, ◌≤◌, ◌↔◌, ◌⊎◌, EachIndex, IsTrue, Some, Err};
 ghost use Rattle.std.specs.Prelude.{OnOk, OnErr, IfErr, IfOk, List, ◌++◌, map, length, count_by, slice_get, slice_index};
 ghost use Rattle.std.specs.Arc.{arc_value};
-ghost use Rattle.base.specs.Prelude.{most_events, most_in_block, most_processors, Has};
+ghost use Rattle.base.specs.Prelude.{most_events, most_in_block, most_processors, Has, most_locks};
 ghost use Rattle.journal.specs.Prelude.{Sizes, Ready, IsCutFault, IsDeadlock, did};
 ghost use Rattle.journal.specs.declared.event.Event.{Event as AnEvent};
 ghost use Rattle.interval.specs.Prelude.{HasRisingPages, is_of_page};
@@ -17,11 +17,12 @@ use crate::empty::{empty_history, empty_locks, empty_timestamps};
 use crate::messages::{grant_to, has_come, post_all, receive};
 use crate::protocol::{Protocol, leave, with_set};
 use crate::refused::Refused;
-use crate::room::{LIMIT, append_all, make_room};
+use crate::room::{append_all, make_room};
 use crate::trims::trim;
 use crate::waiters::Waiters;
 use crate::waiting::all_wait_in_vain;
 use barrier::Barrier;
+use base::{MOST_EVENTS, MOST_IN_BLOCK};
 use journal::{CutFault, Event, Journal, Kind};
 use page::Record;
 use std::alloc::{AllocError, Global};
@@ -51,8 +52,8 @@ impl Model for Book {
 }
 
 impl Book {
-    /// The empty book of a cluster of these sizes: 1 to 16 processors, up to 32 locks, flags, pages and
-    /// words a page within the cluster's sizes. The only error is running out of memory.
+    /// The empty book of a cluster of these sizes: 1 to `MOST_PROCESSORS` processors, up to `MOST_LOCKS` locks, flags, pages
+    /// and words a page within the cluster's sizes. The only error is running out of memory.
     pub fn new(
         alloc: Global,
         processors: usize,
@@ -63,7 +64,7 @@ impl Book {
     ) -> Result<Book, AllocError>
         requires some { 1 ≤ processors }
         requires most { processors ≤ most_processors }
-        requires locks { locks ≤ 32 }
+        requires locks { locks ≤ most_locks }
         requires addresses { pages * words < 2 ^ 64 }
         ensures { IfOk result (λ b. b ≡ new_book (record {
           processors = processors;
@@ -73,7 +74,7 @@ impl Book {
           flags = flags;
         })) }
     {
-        let owing = 256 * processors;
+        let owing = MOST_IN_BLOCK * processors;
         let (journal, closed) = empty_history(alloc, processors, pages * words, owing)?;
         let (times, awaits) = empty_timestamps(alloc, processors)?;
         let (locks, flags, transit) = empty_locks(alloc, processors, locks, flags)?;
@@ -328,7 +329,7 @@ impl Book {
     pub fn is_full(&self) -> bool
         ensures { IsTrue result ↔ (most_events ≤ length self.now.journal.events) }
     {
-        self.parts.journal.len() >= LIMIT
+        self.parts.journal.len() >= MOST_EVENTS
     }
 
     /// Whether `processor` is ready: what it waits for has come, so that a take isn't answered NotYet. It takes no

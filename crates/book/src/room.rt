@@ -5,10 +5,8 @@ ghost use Rattle.journal.specs.Prelude.{AddressInRange};
 ghost use Rattle.book.specs.Prelude.{IsFullRefusal, IsRoomRefusal};
 
 use crate::refused::Refused;
+use base::MOST_EVENTS;
 use journal::{Event, Journal};
-
-/// Events that the journal holds at most, but for what `finish` hands in.
-pub(crate) const LIMIT: usize = 1 << 20;
 
 /// Makes room for `additional` more events and those that are owing.
 pub(crate) fn make_room(
@@ -25,7 +23,7 @@ pub(crate) fn make_room(
     ensures full { IsFullRefusal (length journal.old.events + additional) result }
     ensures only { IfErr result IsRoomRefusal }
 {
-    if journal.len() + additional > LIMIT {
+    if journal.len() + additional > MOST_EVENTS {
         return Err(Refused::JournalFull);
     }
     journal.reserve(owing + additional)?;

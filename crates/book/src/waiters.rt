@@ -4,8 +4,8 @@ ghost use Rattle.std.specs.List.{position_from};
 ghost use Rattle.std.specs.Iterator.{YieldsFirst, item_count};
 ghost use Rattle.base.specs.Prelude.{most_processors, Has};
 
+use base::MOST_PROCESSORS;
 use std::marker::Model;
-use vtime::MOST_PROCESSORS;
 
 /// Processors that wait, each of them once: an iterator over their numbers, from the least on. Contracts see the list
 /// of the numbers.
@@ -33,7 +33,7 @@ impl Waiters {
         }
     }
 
-    /// Adds a processor, if its number is below 16.
+    /// Adds a processor, if its number is below `MOST_PROCESSORS`.
     pub(crate) fn add(&mut self, processor: usize)
         ensures { (q : ℕ) → Has self.new q ↔ (((q ≡ processor) × (q < most_processors)) ⊎ Has self.old q) }
     {

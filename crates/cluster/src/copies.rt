@@ -2,7 +2,7 @@
 //! them (Keleher, Cox and Zwaenepoel 1992, sections 3 and 4).
 //!
 //! - `Replica` is a copy of a page with the records that it lacks (`Copied`, specs/Copies/Copies), `Marks` a set of numbers
-//!   below 64 as the list of 64 marks.
+//!   below `MOST_PAGES` as the list of as many marks.
 //! - `harvest` and `clean` are what a closing call does to the copies, `make_room` and `learn` what a taking one does
 //!   (specs/Copies/Records, specs/Copies/Steps). Where memory is refused, nothing but room has changed.
 //! - The laws of what calls do to a processor (`Local`, specs/Copies/Local) stand in proofs/: crate `cluster` cites them.

@@ -4,7 +4,7 @@ ghost use Rattle.std.specs.Prelude.{length, map, replicate, slice_index_or};
 ghost use Rattle.std.specs.Arc.{arc_value};
 ghost use Rattle.std.specs.Option.{option_map};
 ghost use Rattle.std.specs.Result.{result_err};
-ghost use Rattle.base.specs.Prelude.{most_in_block};
+ghost use Rattle.base.specs.Prelude.{most_in_block, most_pages};
 ghost use Rattle.turn.specs.Prelude.{lock};
 ghost use Rattle.journal.specs.Prelude.{event, is_closing};
 ghost use Rattle.cluster.specs.Copies.Prelude.{blank, DirtyAreMarked, cleaned, AreSoundSizes, calls, noted, new_local};
@@ -16,6 +16,7 @@ ghost use Rattle.cluster.specs.Prelude.{take_refusal, closing_refusal, HasWord, 
 use crate::copies::{Marks, Replica};
 use crate::keeper::{BookTurn, Rule};
 use crate::shape::Shape;
+use base::MOST_IN_BLOCK;
 use book::{Book, Refused};
 use journal::{Event, Kind};
 use page::Record;
@@ -24,9 +25,6 @@ use std::marker::{Model, PhantomData};
 use std::sync::Arc;
 use turn::Chair;
 use vtime::VTime;
-
-/// Events of an open block at most.
-const MOST_IN_BLOCK: usize = 256;
 
 /// What a processor has before it has a chair.
 #[derive(Drop)]
@@ -189,7 +187,7 @@ impl<T: BookTurn> Processor<T> {
         &self.time
     }
 
-    /// How many events still fit into its open block, at most 256.
+    /// How many events still fit into its open block, at most `MOST_IN_BLOCK`.
     pub fn room(&self) -> usize
         ensures { result + length self.now.block ≡ most_in_block }
     {
@@ -408,7 +406,7 @@ impl<T: BookTurn> Processor<T> {
 pub(crate) fn clean(replicas: &mut Vec<Replica>, stored: &mut Marks)
     requires { DirtyAreMarked replicas.old.items stored.old }
     ensures copies { replicas.new.items ≡ map cleaned replicas.old.items }
-    ensures stored { stored.new ≡ replicate 64 false }
+    ensures stored { stored.new ≡ replicate most_pages false }
 {
     crate::copies::clean(replicas.as_mut_slice(), stored);
 }

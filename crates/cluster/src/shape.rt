@@ -2,6 +2,7 @@
 ghost use Rattle.std.specs.Prelude.{◌↔◌, IsTrue};
 ghost use Rattle.cluster.specs.Copies.Prelude.{AreSoundSizes};
 
+use base::{MOST_FLAGS, MOST_LOCKS, MOST_PAGES, MOST_PROCESSORS, MOST_WORDS};
 use std::marker::Model;
 
 /// The sizes of a cluster: 1 to 16 processors, 1 to 64 pages of 1 to 64 words, and 0 to 32 locks and
@@ -42,10 +43,10 @@ impl Shape {
     pub(crate) fn is_lawful(&self) -> bool
         ensures { IsTrue result ↔ AreSoundSizes self.now }
     {
-        (1..=16).contains(&self.processors)
-            && (1..=64).contains(&self.pages)
-            && (1..=64).contains(&self.words)
-            && self.locks <= 32
-            && self.flags <= 32
+        (1..=MOST_PROCESSORS).contains(&self.processors)
+            && (1..=MOST_PAGES).contains(&self.pages)
+            && (1..=MOST_WORDS).contains(&self.words)
+            && self.locks <= MOST_LOCKS
+            && self.flags <= MOST_FLAGS
     }
 }

@@ -1,5 +1,6 @@
 -- What the race checker keeps of each address.
 use Rattle.std.specs.Prelude.{ℕ, ◌≡◌, ◌≢◌, ◌⊎◌, ◌<◌, ◌≤◌, ◌%◌, ◌==◌, cond, List, [], slice_index, slice_index_or, vec_len}
+use Rattle.base.specs.Limits.{most_processors}
 use Rattle.journal.specs.declared.event.Event.{Event}
 use Rattle.journal.specs.declared.event.Kind.{Kind}
 use Rattle.journal.specs.declared.event.Kind.TheVariants.{Load, Store}
@@ -14,7 +15,7 @@ use Rattle.journal.specs.Pasts.{UpTo}
 
 -- of each processor, the number of its access: only one made it
 abbrev pub epoch_entry : Epoch → ℕ → ℕ
-epoch_entry x q = cond (x.processor % 16 == q) x.number 0
+epoch_entry x q = cond (x.processor % most_processors == q) x.number 0
 
 -- of each processor, the number of its load
 abbrev pub loads_entry : Loads → List ℕ → ℕ → ℕ

@@ -22,13 +22,13 @@ pub record ClocksArrived (c d : Clocks) (p : ℕ) : Type 0 where
 -- the timestamps of the processors, locks, flags and episodes, and the counts of arrivals and departures, are those
 -- of the journal
 pub record AreClocks (j : List Event) (c : Clocks) : Type 0 where
-  pub long : vec_len c.processors ≡ 16
+  pub long : vec_len c.processors ≡ most_processors
   pub few : c.present ≤ most_processors
-  pub times : (p : ℕ) → p < 16 → IsTimeOf j p (entry c.processors.items p)
+  pub times : (p : ℕ) → p < most_processors → IsTimeOf j p (entry c.processors.items p)
   pub locks : (l : ℕ) → IsTimeIn j (UpToSome j (SomeDoes j (Release l))) (numbered_entry c.locks l)
   pub flags : (f : ℕ) → IsTimeIn j (UpToSome j (SomeDoes j (Set f))) (numbered_entry c.flags f)
   pub episodes : (n : ℕ) → c.gone ≤ n
       → IsTimeIn j (UpToSome j (SomeArrives j n)) (entry c.episodes.items (n - c.gone))
   pub left : (p : ℕ) → p < c.present → c.gone ≤ slice_index c.departures p
-  pub arrivals : (p : ℕ) → p < 16 → slice_index c.arrivals p ≡ count_of is_arrive j p
-  pub departures : (p : ℕ) → p < 16 → slice_index c.departures p ≡ count_of is_depart j p
+  pub arrivals : (p : ℕ) → p < most_processors → slice_index c.arrivals p ≡ count_of is_arrive j p
+  pub departures : (p : ℕ) → p < most_processors → slice_index c.departures p ≡ count_of is_depart j p

@@ -2,20 +2,22 @@
 ghost use Rattle.std.specs.Prelude.{◌≡◌, ℕ, ◌+◌, ◌<◌, ◌≤◌, ◌^◌, ◌≢◌, ◌↔◌, ◌==◌, IsTrue, IfOk, OnOk, cond, max};
 ghost use Rattle.std.specs.Prelude.{length, slice_index, slice_index_or, vec_len};
 ghost use Rattle.std.specs.VecDeque.{deque_len};
+ghost use Rattle.base.specs.Prelude.{most_processors};
 ghost use Rattle.journal.specs.Prelude.{entry, map_entry, EntryJoinedAt};
 
+use base::MOST_PROCESSORS;
 use std::alloc::{AllocError, Global};
 use std::collections::{BTreeMap, VecDeque};
 
 /// A vector timestamp: of each processor, how many of its closing events are counted.
-pub type Clock = [u32; 16];
+pub type Clock = [u32; MOST_PROCESSORS];
 
 /// As many timestamps, all zeros. The only error is running out of memory.
 pub(crate) fn zeros(alloc: Global, count: usize) -> Result<Vec<Clock>, AllocError>
     ensures long { IfOk result (λ v. vec_len v ≡ count) }
     ensures zeros { IfOk result (λ v. (n q : ℕ) → entry v.items n q ≡ 0) }
 {
-    vec![in alloc; [0; 16]; count]
+    vec![in alloc; [0; MOST_PROCESSORS]; count]
 }
 
 /// Raises each entry to the other timestamp's, where that is greater.
@@ -25,7 +27,7 @@ pub(crate) fn join(clock: &mut Clock, other: &Clock)
 {
     // All is read before anything is written, so that the compiler can join four entries at a time.
     let mut joined = *other;
-    for q in 0..16 {
+    for q in 0..MOST_PROCESSORS {
         joined[q] = joined[q].max(clock[q]);
     }
     *clock = joined;
@@ -33,7 +35,7 @@ pub(crate) fn join(clock: &mut Clock, other: &Clock)
 
 /// Counts one more closing event of the processor.
 pub(crate) fn tick(clock: &mut Clock, processor: usize)
-    requires processor { processor < 16 }
+    requires processor { processor < most_processors }
     requires room { slice_index clock.old processor < 2 ^ 22 }
     ensures { (q : ℕ) → slice_index clock.new q
         ≡ slice_index clock.old q + cond (processor == q) 1 0 }
@@ -47,7 +49,7 @@ pub(crate) fn others_are_within_clock(clock: &Clock, other: &Clock, processor: u
         → slice_index clock.now q ≤ slice_index other.now q) }
 {
     let mut within = true;
-    for q in 0..16 {
+    for q in 0..MOST_PROCESSORS {
         within &= q == processor || clock[q] <= other[q];
     }
     within
@@ -57,7 +59,7 @@ pub(crate) fn others_are_within_clock(clock: &Clock, other: &Clock, processor: u
 pub(crate) fn clock_at(clocks: &BTreeMap<usize, Clock>, number: usize) -> Clock
     ensures { (q : ℕ) → slice_index result q ≡ map_entry clocks.now number q }
 {
-    clocks.get(&number).copied().unwrap_or([0; 16])
+    clocks.get(&number).copied().unwrap_or([0; MOST_PROCESSORS])
 }
 
 /// Joins the timestamp into that which is kept under this number.
@@ -94,7 +96,7 @@ fn grow_clock_in(clocks: &mut VecDeque<Clock>, place: usize) -> Result<(), Alloc
     ensures same { OnOk result ((n q : ℕ) → entry clocks.new.items n q ≡ entry clocks.old.items n q) }
 {
     while clocks.len() <= place {
-        clocks.push_back([0; 16])?;
+        clocks.push_back([0; MOST_PROCESSORS])?;
     }
     Ok(())
 }

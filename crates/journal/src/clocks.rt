@@ -8,6 +8,7 @@ ghost use Rattle.journal.specs.Prelude.{ClocksArrived};
 use crate::clock::{Clock, join_from, join_in, tick, zeros};
 use crate::event::{Event, Kind};
 use crate::numbered::Numbered;
+use base::MOST_PROCESSORS;
 use std::alloc::{AllocError, Global};
 use std::collections::VecDeque;
 
@@ -19,8 +20,8 @@ pub struct Clocks {
     locks: Numbered,
     flags: Numbered,
     episodes: VecDeque<Clock>,
-    arrivals: [u32; 16],
-    departures: [u32; 16],
+    arrivals: [u32; MOST_PROCESSORS],
+    departures: [u32; MOST_PROCESSORS],
     /// The number of processors.
     present: usize,
     /// How many episodes every processor has departed from: `episodes` begins with the next one.
@@ -36,8 +37,8 @@ fn are_past(counts: &[u32], number: usize) -> bool
 
 /// Counts one more closing event of the processor in its timestamp.
 fn close(processors: &mut Vec<Clock>, processor: usize)
-    requires processor { processor < 16 }
-    requires long { vec_len processors.old ≡ 16 }
+    requires processor { processor < most_processors }
+    requires long { vec_len processors.old ≡ most_processors }
     requires room { entry processors.old.items processor processor < 2 ^ 22 }
     ensures long { vec_len processors.new ≡ vec_len processors.old }
     ensures closed { EntryClosedAt (entry processors.old.items) (entry processors.new.items) processor }
@@ -65,8 +66,8 @@ fn hand_over(
     kept: &mut Numbered,
     number: usize,
 ) -> Result<(), AllocError>
-    requires processor { processor < 16 }
-    requires long { vec_len processors.old ≡ 16 }
+    requires processor { processor < most_processors }
+    requires long { vec_len processors.old ≡ most_processors }
     requires room { entry processors.old.items processor processor < 2 ^ 22 }
     ensures long { vec_len processors.new ≡ vec_len processors.old }
     ensures closed { EntryClosedAt (entry processors.old.items) (entry processors.new.items) processor }
@@ -85,12 +86,12 @@ impl Clocks {
         ensures present { IfOk result (λ c. c.present ≡ processors) }
     {
         Ok(Clocks {
-            processors: zeros(alloc, 16)?,
+            processors: zeros(alloc, MOST_PROCESSORS)?,
             locks: Numbered::new(alloc),
             flags: Numbered::new(alloc),
             episodes: VecDeque::new(alloc),
-            arrivals: [0; 16],
-            departures: [0; 16],
+            arrivals: [0; MOST_PROCESSORS],
+            departures: [0; MOST_PROCESSORS],
             present: processors,
             gone: 0,
         })
@@ -107,8 +108,8 @@ impl Clocks {
     /// Takes note of the processor's arrival: closes its interval, and joins its timestamp into what the episode
     /// keeps.
     fn arrive(&mut self, processor: usize) -> Result<(), AllocError>
-        requires processor { processor < 16 }
-        requires long { vec_len self.old.processors ≡ 16 }
+        requires processor { processor < most_processors }
+        requires long { vec_len self.old.processors ≡ most_processors }
         requires room { entry self.old.processors.items processor processor < 2 ^ 22 }
         requires arrivals_room { slice_index self.old.arrivals processor < 2 ^ 22 }
         ensures rest { self.new ≡ record self.old {
@@ -133,8 +134,8 @@ impl Clocks {
 
     /// Takes note of the processor's departure: joins what the episode keeps into its timestamp.
     fn depart(&mut self, processor: usize)
-        requires processor { processor < 16 }
-        requires long { vec_len self.old.processors ≡ 16 }
+        requires processor { processor < most_processors }
+        requires long { vec_len self.old.processors ≡ most_processors }
         requires left { self.old.gone ≤ slice_index self.old.departures processor }
         requires room { slice_index self.old.departures processor < 2 ^ 22 }
         ensures rest { self.new ≡ record self.old {

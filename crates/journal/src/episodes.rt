@@ -6,12 +6,13 @@ ghost use Rattle.journal.specs.Prelude.{is_arrive, ProcessorsInRange, AreEpisode
 
 use crate::event::Event;
 use crate::kinds::arrives;
+use base::MOST_PROCESSORS;
 
 /// The episodes of the barrier in a journal's events.
 #[derive(Clone, Copy)]
 pub(crate) struct Episodes {
     /// How often each processor has arrived.
-    arrivals: [u32; 16],
+    arrivals: [u32; MOST_PROCESSORS],
     /// How many events there are up to the last arrival of the last complete episode; None where no episode is
     /// complete.
     pub(crate) last: Option<usize>,
@@ -27,7 +28,7 @@ fn all_reach_episode(counts: &[u32], number: u32) -> bool
 /// Counts the event if it is an arrival, and says whether it is the last one of its episode: whether
 /// every processor has arrived as often as the one that arrives.
 #[inline]
-fn ends_episode(arrivals: &mut [u32; 16], processors: usize, event: Event) -> bool
+fn ends_episode(arrivals: &mut [u32; MOST_PROCESSORS], processors: usize, event: Event) -> bool
     requires few { processors ≤ most_processors }
     requires processor { event.processor < processors }
     requires room { slice_index arrivals.old event.processor < 2 ^ 22 }
@@ -51,7 +52,7 @@ impl Episodes {
         ensures { (processors : ℕ) → AreEpisodes processors [] result }
     {
         Episodes {
-            arrivals: [0; 16],
+            arrivals: [0; MOST_PROCESSORS],
             last: None,
         }
     }

@@ -11,10 +11,10 @@ use crate::base_state::Kept;
 use crate::cut::CutFault;
 use crate::episodes::Episodes;
 use crate::event::{Event, Kind};
-use crate::limits::MOST_CUT;
 use crate::race::first_race_of;
 use crate::replay::replay_of;
 use crate::traffic::{Traffic, traffic_after};
+use base::MOST_CUT;
 use std::alloc::{AllocError, Global};
 use std::marker::Model;
 

@@ -22,7 +22,6 @@ mod event;
 mod journal;
 mod kinds;
 mod laws;
-mod limits;
 mod numbered;
 mod race;
 mod replay;
@@ -36,6 +35,8 @@ pub use journal::Journal;
 pub use laws::{
     copy_law, cut_law, deadlock_law, flat_law, history_law, same_law, uncut_law, well_formed_law,
 };
-pub use limits::{MOST_CUT, MOST_EVENTS, MOST_HELD, MOST_IN_BLOCK, MOST_PROCESSORS};
 pub use race::first_race_of;
 pub use traffic::{Traffic, traffic_of};
+
+// Its limits, so that who reads a journal need not name the crate below.
+pub use base::{MOST_CUT, MOST_EVENTS, MOST_HELD, MOST_IN_BLOCK, MOST_PROCESSORS};

@@ -12,6 +12,7 @@ use crate::clock::{Clock, others_are_within_clock, tick, zeros};
 use crate::clocks::Clocks;
 use crate::event::{Event, Kind};
 use crate::kinds::{closes, is_access};
+use base::MOST_PROCESSORS;
 use std::alloc::{AllocError, Global};
 
 /// An access, as FastTrack's epoch: who made it, and one more than the number of its interval; 0 where there
@@ -29,11 +30,11 @@ const NONE: Epoch = Epoch {
 };
 
 impl Epoch {
-    /// The processor, below 16.
+    /// The processor, below `MOST_PROCESSORS`.
     fn processor(self) -> usize
-        ensures { result ≡ self.processor % 16 }
+        ensures { result ≡ self.processor % most_processors }
     {
-        (self.processor % 16) as usize
+        self.processor as usize % MOST_PROCESSORS
     }
 
     /// Whether the access is the processor's own, or the timestamp counts its interval.
@@ -75,7 +76,7 @@ impl Access {
 
     /// Takes note of a load by the processor, whose timestamp is this before it.
     fn note_load(&mut self, several: &mut Clock, time: &Clock, processor: usize)
-        requires processor { processor < 16 }
+        requires processor { processor < most_processors }
         requires interval { slice_index time.now processor < 2 ^ 22 }
         ensures store { self.new.store ≡ self.old.store }
         ensures loads { AreLoadsAfter (loads_entry self.old.loads several.old)
@@ -88,7 +89,7 @@ impl Access {
                 self.loads = Loads::Last(Epoch { processor, number });
             }
             Loads::Last(load) => {
-                *several = [0; 16];
+                *several = [0; MOST_PROCESSORS];
                 several[load.processor()] = load.number;
                 several[processor] = number;
                 self.loads = Loads::Several;
@@ -100,7 +101,7 @@ impl Access {
     /// After a store by the processor, whose timestamp is this before it: all earlier accesses happen before
     /// it.
     fn of_store(time: &Clock, processor: usize) -> Access
-        requires processor { processor < 16 }
+        requires processor { processor < most_processors }
         requires interval { slice_index time.now processor < 2 ^ 22 }
         ensures { slice_index time.now processor < epoch_entry result.store processor }
     {
@@ -160,7 +161,7 @@ impl Accesses {
 
     /// Takes note of the event, whose processor has this timestamp before it.
     fn note(&mut self, event: Event, time: &Clock)
-        requires processor { event.processor < 16 }
+        requires processor { event.processor < most_processors }
         requires interval { slice_index time.now event.processor < 2 ^ 22 }
         requires last { AddressInRange (vec_len self.old.last) event.kind }
         requires loads { AddressInRange (vec_len self.old.loads) event.kind }
@@ -195,12 +196,12 @@ pub(crate) fn is_conflict(first: Event, second: Event) -> bool
 fn first_racing(events: &[Event], place: usize, event: Event, time: &Clock) -> Option<usize>
     requires at { slice_get events.now place ≡ Some event }
     requires few { length events.now ≤ most_held + most_processors }
-    requires processors { ProcessorsInRange 16 events.now }
+    requires processors { ProcessorsInRange most_processors events.now }
     requires time { IsTimeOf (take place events.now) event.processor (slice_index time.now) }
     ensures { MatchOption result ((i : ℕ) → ¬ Race events.now i place)
         (λ i. Race events.now i place × ((m : ℕ) → Race events.now m place → i ≤ m)) }
 {
-    let mut closings: Clock = [0; 16];
+    let mut closings: Clock = [0; MOST_PROCESSORS];
     for i in 0..place {
         let earlier = events[i];
         if is_conflict(earlier, event) && time[earlier.processor] <= closings[earlier.processor] {
@@ -219,7 +220,7 @@ impl Accesses {
     fn race_at(&self, events: &[Event], place: usize, event: Event, time: &Clock) -> Option<usize>
         requires at { slice_get events.now place ≡ Some event }
         requires few { length events.now ≤ most_held + most_processors }
-        requires processors { ProcessorsInRange 16 events.now }
+        requires processors { ProcessorsInRange most_processors events.now }
         requires last { AddressInRange (vec_len self.now.last) event.kind }
         requires loads { AddressInRange (vec_len self.now.loads) event.kind }
         requires time { IsTimeOf (take place events.now) event.processor (slice_index time.now) }

@@ -18,6 +18,7 @@ use Rattle.lrc_script.specs.declared.read_so_far.ReadSoFar.TheVariants as progre
 use Rattle.lrc_script.specs.Plan.{Plan, head_plan, plan_of}
 use Rattle.lrc_script.specs.Lawful.{plan_addresses, instruction_address, instruction_lock, instruction_flag, holds}
 use Rattle.lrc_script.specs.LineFaults.{HasNoLineFeed}
+use Rattle.lrc_script.specs.Text.{space}
 use Rattle.lrc_script.specs.Front.{Front, Nothing, Headed, Within, Whole}
 
 -- a function that runs out of memory may answer so; any other answer, seen by view, is what reading gives
@@ -228,7 +229,7 @@ read_after_words f (w ∷ ws) = if list_all has_bytes (w ∷ ws) then read_after
 
 -- what a line makes of what stands before it
 abbrev pub read_after : Front → List ℕ → Result Front ScriptFault
-read_after f line = read_after_words f (parts_of_line 32 line)
+read_after f line = read_after_words f (parts_of_line space line)
 
 -- what stands before the next line
 abbrev pub front_read : ReadSoFar → Front

@@ -3,7 +3,7 @@ pub use Rattle.lrc_script.specs.Plan.{Plan, plan_sections, plan_of}
 pub use Rattle.lrc_script.specs.Lawful.{AreLawfulSizes, IsEven, IsLawful, instruction_address, plan_addresses, barriers, instruction_flag}
 pub use Rattle.lrc_script.specs.Lawful.{is_barrier, instruction_lock}
 pub use Rattle.lrc_script.specs.Text.{cluster_line, instruction_line, line_bytes, line_text, section_line}
-pub use Rattle.lrc_script.specs.Text.{section_lines, show_line, spaced, text}
+pub use Rattle.lrc_script.specs.Text.{section_lines, show_line, space, spaced, text}
 pub use Rattle.lrc_script.specs.Front.{Headed, IsLawfulFront, IsHeadedFront, Nothing, Whole, Within}
 pub use Rattle.lrc_script.specs.LineFaults.{HasNoLineFeed, IsFault, IsUnevenAtLine, SaysOfLine}
 pub use Rattle.lrc_script.specs.LineReading.{ReadFails, ReadGives, ReadGoes, IsLineCut, IsOther, read_after, read_after_numbers, are_read_sizes, show_read}

@@ -10,9 +10,13 @@ pub record ScriptLine : Type 0 where
   pub word : List ℕ
   pub numbers : List ℕ
 
+-- the byte of a space
+abbrev pub space : ℕ
+space = 32
+
 -- a space, and the number in decimal
 abbrev pub spaced : ℕ → List ℕ
-spaced n = 32 ∷ decimal n
+spaced n = space ∷ decimal n
 
 -- the bytes of a line but its line feed
 abbrev pub line_bytes : ScriptLine → List ℕ

@@ -1,7 +1,7 @@
 //! One line of a script: a keyword, and numbers with one space before each.
 ghost use Rattle.std.specs.Prelude.{◌≡◌, ℕ, ◌<◌, List, ◌∷◌, [], length, IfSome, IfNone, MatchOption};
 ghost use Rattle.std.specs.List.{list_all};
-ghost use Rattle.lrc_script.specs.Prelude.{HasNoLineFeed, ReadGives, IsLineCut, parts_of_line, parts_left_of_line, has_bytes, keyword_read};
+ghost use Rattle.lrc_script.specs.Prelude.{HasNoLineFeed, ReadGives, IsLineCut, parts_of_line, parts_left_of_line, has_bytes, keyword_read, space};
 ghost use Rattle.lrc_script.specs.Prelude.{sum_of_digits, number_read, few_items, numbers_read_after};
 
 use crate::fault::ScriptFault;
@@ -85,7 +85,7 @@ pub fn split_line(bytes: &[u8]) -> Option<(&[u8], &[u8])>
 
 /// Whether exactly one space separates the words, with none at the beginning or end.
 pub fn is_separated(line: &[u8]) -> bool
-    ensures { result ≡ list_all has_bytes (parts_of_line 32 line.now) }
+    ensures { result ≡ list_all has_bytes (parts_of_line space line.now) }
 {
     line.split(|byte| *byte == b' ')
         .all(|word| !word.is_empty())
@@ -93,7 +93,7 @@ pub fn is_separated(line: &[u8]) -> bool
 
 /// How many words these are.
 pub fn number_count(words: Option<&[u8]>) -> usize
-    ensures { result ≡ length (parts_left_of_line 32 words.entry) }
+    ensures { result ≡ length (parts_left_of_line space words.entry) }
 {
     match words {
         Some(line) => line.split(|byte| *byte == b' ').count(),
@@ -148,10 +148,10 @@ impl Few {
 
 /// The numbers that the words are, where they are numbers and two at most.
 pub fn few_numbers(words: Option<&[u8]>) -> Option<Few>
-    ensures numbers { IfSome result (λ few. numbers_read_after [] (parts_left_of_line 32 words.entry)
+    ensures numbers { IfSome result (λ few. numbers_read_after [] (parts_left_of_line space words.entry)
         ≡ Ok (few_items few)) }
     ensures others { IfNone result ((ns : List ℕ)
-        → numbers_read_after [] (parts_left_of_line 32 words.entry) ≡ Ok ns → 2 < length ns) }
+        → numbers_read_after [] (parts_left_of_line space words.entry) ≡ Ok ns → 2 < length ns) }
 {
     let Some(line) = words else {
         return Some(Few::Zero);
@@ -171,7 +171,7 @@ pub fn few_numbers(words: Option<&[u8]>) -> Option<Few>
 
 /// The numbers that the words are.
 pub fn read_numbers(alloc: Global, words: Option<&[u8]>) -> Result<Numbers, ScriptFault>
-    ensures { ReadGives (λ ns. ns.items) result (numbers_read_after [] (parts_left_of_line 32 words.entry)) }
+    ensures { ReadGives (λ ns. ns.items) result (numbers_read_after [] (parts_left_of_line space words.entry)) }
 {
     let mut numbers = SmallVec::new(alloc);
     let mut rest = words;

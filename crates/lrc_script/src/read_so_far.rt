@@ -2,6 +2,7 @@
 ghost use Rattle.std.specs.Prelude.{◌≡◌, ◌≢◌, ℕ, ◌≤◌, ◌<◌, nat_le, [], length, Some, IfOk, IfErr, OnOk};
 ghost use Rattle.std.specs.Prelude.{IfSome, IfNone};
 ghost use Rattle.std.specs.List.{list_any};
+ghost use Rattle.base.specs.Prelude.{most_locks};
 ghost use Rattle.lrc_script.specs.Prelude.{Plan, plan_of, IsLawfulFront, Headed, Within, Whole, plan_addresses, ReadGives, ReadFails};
 ghost use Rattle.lrc_script.specs.Prelude.{ReadGoes, IsOther, front_read, is_line_due, is_read_with, are_read_sizes, head_read, first_section_read};
 ghost use Rattle.lrc_script.specs.Prelude.{next_section_read, show_read, instruction_of_line, is_past, line_refusal, with_instruction};
@@ -11,6 +12,7 @@ use crate::fault::ScriptFault;
 use crate::line::{Keyword, few_numbers, is_separated, number_count, read_numbers, split_at_byte};
 use crate::script::{Instruction, Script};
 use crate::section::Section;
+use base::{MOST_FLAGS, MOST_LOCKS, MOST_PAGES, MOST_PROCESSORS, MOST_WORDS};
 use std::alloc::{AllocError, Global};
 use std::mem;
 
@@ -49,13 +51,13 @@ fn are_sizes(script: &Script) -> bool
     ensures { result ≡ are_read_sizes (plan_of script.now) }
 {
     1 <= script.processors
-        && script.processors <= 16
+        && script.processors <= MOST_PROCESSORS
         && 1 <= script.pages
-        && script.pages <= 64
+        && script.pages <= MOST_PAGES
         && 1 <= script.words
-        && script.words <= 64
-        && script.locks <= 32
-        && script.flags <= 32
+        && script.words <= MOST_WORDS
+        && script.locks <= MOST_LOCKS
+        && script.flags <= MOST_FLAGS
 }
 
 fn instruction(keyword: Keyword, numbers: &[u32]) -> Option<Instruction>
@@ -84,7 +86,7 @@ fn is_past(place: Option<usize>, count: usize) -> bool
 /// Why an instruction can't stand after those of the section.
 fn refusal(script: &Script, section: &Section, instruction: Instruction) -> Option<ScriptFault>
     requires fits { plan_addresses (plan_of script.now) ≤ 4096 }
-    requires locks { script.now.locks ≤ 32 }
+    requires locks { script.now.locks ≤ most_locks }
     ensures { result ≡ line_refusal (plan_of script.now) section.now.instructions.items instruction }
 {
     if is_past(instruction.address(), script.pages * script.words) {
@@ -194,7 +196,7 @@ fn show(
 
 fn add(script: &Script, section: &mut Section, instruction: Instruction) -> Result<(), ScriptFault>
     requires fits { plan_addresses (plan_of script.now) ≤ 4096 }
-    requires locks { script.now.locks ≤ 32 }
+    requires locks { script.now.locks ≤ most_locks }
     ensures ok { OnOk result (ReadGoes (Within (plan_of script.now) section.new.instructions.items)
         (with_instruction (plan_of script.now) section.old.instructions.items (Some instruction))) }
     ensures err { IfErr result (λ e. ReadFails e

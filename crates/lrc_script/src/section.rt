@@ -1,18 +1,20 @@
 //! A section of a script while it is read.
 
 ghost use Rattle.std.specs.Prelude.{◌≡◌, ℕ, ◌<◌, false, slice_index_or};
+ghost use Rattle.base.specs.Limits.{most_locks};
 ghost use Rattle.lrc_script.specs.Lawful.{holds};
 
 use crate::fault::ScriptFault;
 use crate::script::Instruction;
+use base::MOST_LOCKS;
 use std::alloc::Global;
 
 /// The instructions of a section so far, and which locks it holds after them.
 #[derive(Drop)]
 pub struct Section {
     pub instructions: Vec<Instruction>,
-    held: [bool; 32],
-    ghost follows: { (l : ℕ) → l < 32 → slice_index_or held l false ≡ holds instructions.items l },
+    held: [bool; MOST_LOCKS],
+    ghost follows: { (l : ℕ) → l < most_locks → slice_index_or held l false ≡ holds instructions.items l },
 }
 
 impl Section {
@@ -24,13 +26,13 @@ impl Section {
     {
         Section {
             instructions: Vec::new(alloc),
-            held: [false; 32],
+            held: [false; MOST_LOCKS],
         }
     }
 
     /// Whether the section holds the lock.
     pub fn holds(&self, lock: usize) -> bool
-        requires { lock < 32 }
+        requires { lock < most_locks }
         ensures { result ≡ holds self.now.instructions.items lock }
     {
         self.held[lock]
@@ -44,8 +46,8 @@ impl Section {
     {
         self.instructions.push(instruction)?;
         match instruction {
-            Instruction::Acquire(lock) if lock < 32 => self.held[lock] = true,
-            Instruction::Release(lock) if lock < 32 => self.held[lock] = false,
+            Instruction::Acquire(lock) if lock < MOST_LOCKS => self.held[lock] = true,
+            Instruction::Release(lock) if lock < MOST_LOCKS => self.held[lock] = false,
             _ => {}
         }
         Ok(())

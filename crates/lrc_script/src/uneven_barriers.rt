@@ -1,5 +1,6 @@
 //! Whether the sections of a script have as many barriers.
 ghost use Rattle.std.specs.Prelude.{◌≤◌, ◌≡◌, length, All, IfSome, IfNone};
+ghost use Rattle.base.specs.Prelude.{most_processors};
 ghost use Rattle.lrc_script.specs.Prelude.{plan_of, barriers, is_barrier, IsEven, IsUnevenAtLine};
 
 use crate::script::{Instruction, Script};
@@ -21,7 +22,7 @@ fn barriers(section: &[Instruction]) -> usize
 
 /// The line of the first section that has another number of barriers than section 0.
 pub fn uneven_line(script: &Script) -> Option<usize>
-    requires sections { length script.now.sections.items ≤ 16 }
+    requires sections { length script.now.sections.items ≤ most_processors }
     requires instructions { All (λ section. length section.items ≤ 10000) script.now.sections.items }
     ensures even { IfNone result (IsEven (plan_of script.now)) }
     ensures uneven { IfSome result (IsUnevenAtLine (plan_of script.now)) }

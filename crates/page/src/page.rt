@@ -1,7 +1,7 @@
 //! A processor's copy of a page: its words, and a dirty bit for each.
 ghost use Rattle.std.specs.Prelude.{◌≡◌, ◌≤◌, ◌<◌, ◌^◌, ◌↔◌, IsTrue, IfOk, IfSome, IfNone, Some, None, Ok, true};
 ghost use Rattle.std.specs.Prelude.{length, replicate, slice_get, slice_set};
-ghost use Rattle.base.specs.Prelude.{record_applied, harvest};
+ghost use Rattle.base.specs.Prelude.{record_applied, harvest, most_words};
 ghost use Rattle.page.specs.Prelude.{marks_of, MarksBelow, IsClean, FitsIn, IsHarvest, CarriesStores};
 
 use crate::record::Record;
@@ -17,7 +17,7 @@ pub enum Access {
     Invalid,
 }
 
-/// A processor's copy of a page of 1 to 64 words.
+/// A processor's copy of a page of 1 to `MOST_WORDS` words.
 ///
 /// A word is dirty where it was stored to since the copy was made or last cleaned, also where the
 /// store wrote the value that was there: dirty bits stand in the place of the twins and diffs of
@@ -31,6 +31,7 @@ pub struct Page {
 
 impl Model for Page {
     ghost use Rattle.std.specs.Prelude.{◌≤◌, length};
+    ghost use Rattle.base.specs.Limits.{most_words};
     ghost use Rattle.page.specs.Contents.{Contents};
     ghost use Rattle.page.specs.Marks.{marks_of, MarksBelow};
 
@@ -42,15 +43,15 @@ impl Model for Page {
       access = p.access;
     } };
 
-    ghost invariant = { λ p. (length p.words.items ≤ 64) × MarksBelow (length p.words.items) p.dirty };
+    ghost invariant = { λ p. (length p.words.items ≤ most_words) × MarksBelow (length p.words.items) p.dirty };
 }
 
 impl Page {
-    /// A page of `words` words (1 to 64), valid and zero. Answers `AllocError` where memory for them
+    /// A page of `words` words (1 to `MOST_WORDS`), valid and zero. Answers `AllocError` where memory for them
     /// is refused.
     pub fn zero(alloc: Global, words: usize) -> Result<Self, AllocError>
         requires some { 0 < words }
-        requires few { words ≤ 64 }
+        requires few { words ≤ most_words }
         ensures words { IfOk result (λ p. p.words ≡ replicate words 0) }
         ensures clean { IfOk result (λ p. IsClean p) }
         ensures access { IfOk result (λ p. p.access ≡ Access.Valid) }
@@ -160,7 +161,7 @@ impl Page {
 /// Writes the word at this offset, and sets its bit.
 fn write_page(words: &mut [u32], dirty: &mut u64, offset: usize, value: u32)
     requires in_range { offset < length words.old }
-    requires few { length words.old ≤ 64 }
+    requires few { length words.old ≤ most_words }
     ensures words { words.new ≡ slice_set words.old offset value }
     ensures dirty { marks_of (length words.old) dirty.new
         ≡ slice_set (marks_of (length words.old) dirty.old) offset true }
@@ -173,7 +174,7 @@ fn write_page(words: &mut [u32], dirty: &mut u64, offset: usize, value: u32)
 /// Writes a record's words.
 fn overwrite(words: &mut [u32], changes: &[(usize, u32)])
     requires in_range { FitsIn (length words.old) changes.now }
-    requires few { length words.old ≤ 64 }
+    requires few { length words.old ≤ most_words }
     ensures { words.new ≡ record_applied words.old changes.now }
 {
     for (offset, value) in changes {

@@ -8,4 +8,4 @@
 
 mod vtime;
 
-pub use vtime::{MOST_PROCESSORS, VTime};
+pub use vtime::VTime;

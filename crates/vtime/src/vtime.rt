@@ -6,16 +6,14 @@ ghost use Rattle.std.specs.Cmp.Lexicographic.{pointwise, nat_list_eq_equiv};
 ghost use Rattle.base.specs.Prelude.{most_processors};
 ghost use Rattle.vtime.specs.Times.{tick, join, Covers};
 
+use base::MOST_PROCESSORS;
 use smallvec::SmallVec;
 use std::alloc::Global;
 use std::marker::Model;
 
-/// The most processors of a cluster, and so the most entries of a timestamp: `most_processors` of contracts.
-pub const MOST_PROCESSORS: usize = 16;
-
 /// A vector timestamp: entry q is how many of processor q's intervals have been performed here.
 ///
-/// It has 1 to 16 entries, and they lie in the value itself, so no call takes memory. The order that
+/// It has 1 to `MOST_PROCESSORS` entries, and they lie in the value itself, so no call takes memory. The order that
 /// `covers` and `join` are about is that of Mattern (Virtual Time and Global States of Distributed
 /// Systems, 1989); its use for intervals is that of Keleher, Cox and Zwaenepoel (Lazy Release
 /// Consistency for Software Distributed Shared Memory, ISCA 1992, section 3).
@@ -37,7 +35,7 @@ impl Model for VTime {
 }
 
 impl VTime {
-    /// The timestamp of `processors` processors (1 to 16) of which no interval has been performed.
+    /// The timestamp of `processors` processors (1 to `MOST_PROCESSORS`) of which no interval has been performed.
     pub fn zero(alloc: Global, processors: usize) -> VTime
         requires some { 1 ≤ processors }
         requires most { processors ≤ most_processors }

@@ -1,5 +1,6 @@
 -- What the calls that enter the book do to a processor.
 use Rattle.std.specs.Prelude.{ℕ, ◌≡◌, ◌≢◌, ◌<◌, ◌≤◌, ◌⊎◌, ◌↔◌, Bool, true, false, Some, None, List, [], ◌++◌, EachIndex, filter, length, map, replicate, slice_get, slice_index, slice_set}
+use Rattle.base.specs.Limits.{most_pages}
 use Rattle.journal.specs.declared.event.Event.{Event}
 use Rattle.journal.specs.declared.event.Kind.{Kind}
 use Rattle.journal.specs.declared.event.Kind.TheVariants.{Acquire, Release}
@@ -39,7 +40,7 @@ abbrev pub interval_closed : Local → Kind → Local
 interval_closed m k = record m {
   seen = did m.seen m.number k;
   copies = map cleaned m.copies;
-  stored = replicate 64 false;
+  stored = replicate most_pages false;
   time = tick m.time m.number;
   held = held_after k m.held;
   awaits = awaited k;

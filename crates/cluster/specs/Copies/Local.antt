@@ -1,5 +1,6 @@
 -- A processor as contracts see it.
 use Rattle.std.specs.Prelude.{ℕ, Bool, false, Option, None, List, [], ◌∷◌, ◌++◌, replicate}
+use Rattle.base.specs.Limits.{most_pages}
 use Rattle.journal.specs.declared.event.Event.{Event}
 use Rattle.journal.specs.declared.event.Kind.{Kind}
 use Rattle.journal.specs.Sizes.{Sizes}
@@ -51,7 +52,7 @@ new_local l p s = record {
   own_cut = 0;
   block = [];
   copies = replicate s.pages (blank s);
-  stored = replicate 64 false;
+  stored = replicate most_pages false;
   time = replicate s.processors 0;
   held = replicate s.locks false;
   awaits = None;

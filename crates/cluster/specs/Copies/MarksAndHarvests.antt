@@ -1,5 +1,6 @@
 -- What a processor's copies come to, for its closing interval.
 use Rattle.std.specs.Prelude.{ℕ, ◌≡◌, ◌<◌, ◌≤◌, Bool, true, false, Some, List, length, slice_get}
+use Rattle.base.specs.Limits.{most_pages}
 use Rattle.base.specs.InOrderOnce.{Has}
 use Rattle.page.specs.CarriedHarvests.{IsHarvest}
 use Rattle.page.specs.RisingChanges.{Changes}
@@ -15,11 +16,11 @@ pub record IsFirstMark (marks : List Bool) (start n : ℕ) : Type 0 where
 
 -- no number from `start` on has a mark
 abbrev pub HasNoMark : List Bool → ℕ → Type 0
-HasNoMark marks start = (i : ℕ) → start ≤ i → i < 64 → slice_get marks i ≡ Some false
+HasNoMark marks start = (i : ℕ) → start ≤ i → i < most_pages → slice_get marks i ≡ Some false
 
--- at most 64 copies, and those with a dirty word have marks
+-- at most as many copies as there may be pages, and those with a dirty word have marks
 pub record DirtyAreMarked (copies : List Copied) (marks : List Bool) : Type 0 where
-  pub few : length copies ≤ 64
+  pub few : length copies ≤ most_pages
   pub clean : (n : ℕ) (c : Copied) → slice_get copies n ≡ Some c → slice_get marks n ≡ Some false → IsClean c.page
 
 -- the record is the harvest of one of the copies, some word of which is dirty

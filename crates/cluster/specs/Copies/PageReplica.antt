@@ -1,5 +1,6 @@
 -- A processor's copy of a page, by what the processor has seen.
 use Rattle.std.specs.Prelude.{ℕ, ◌≡◌, ◌≢◌, ◌+◌, ◌<◌, ◌≤◌, Bool, true, false, Option, Some, None, List, [], ◌++◌, map, length, replicate, slice_set}
+use Rattle.base.specs.Limits.{most_pages, most_words}
 use Rattle.journal.specs.declared.event.Event.{Event}
 use Rattle.journal.specs.Sizes.{Sizes}
 use Rattle.journal.specs.MissingWords.{MissingInOrder}
@@ -68,11 +69,11 @@ replica_fetched c = record {
 abbrev pub IsOwner : List SentRecord → ℕ → Type 0
 IsOwner missing q = (x : SentRecord) × Has missing x × (x.notice.owner ≡ q)
 
--- the record has words of a page of n words alone, at most 64, and its owner's number is below 64
+-- the record has words of a page of n words alone, at most as many as a page may have, and its owner's number is one of a set
 pub record FitsPage (n : ℕ) (x : SentRecord) : Type 0 where
-  pub owner : x.notice.owner < 64
+  pub owner : x.notice.owner < most_pages
   pub fits : FitsIn n (record_words x)
-  pub short : length (record_words x) ≤ 64
+  pub short : length (record_words x) ≤ most_words
 
 -- each of them does
 abbrev pub AllFitPage : ℕ → List SentRecord → Type 0

@@ -7,7 +7,7 @@ use Rattle.journal.specs.WellFormed.{WellFormed, Holds}
 use Rattle.journal.specs.Pasts.{InPast}
 use Rattle.journal.specs.Blocks.{BlockAnswers}
 use Rattle.journal.specs.Counted.{BlockCounts}
-use Rattle.base.specs.Limits.{most_processors, most_events, most_cut, most_in_block}
+use Rattle.base.specs.Limits.{most_processors, most_events, most_cut, most_in_block, most_pages}
 use Rattle.page.specs.Contents.{IsClean}
 use Rattle.book.specs.Stamps.{EachAt, IsStamp, IsAwaited}
 use Rattle.book.specs.Calls.{IsInner}
@@ -42,9 +42,9 @@ pub record IsSound (m : Local) : Type 0 where
   pub answers : BlockAnswers m.sizes m.seen m.block m.number bases
   pub counts : BlockCounts m.sizes m.seen m.block m.number
   pub copies : EachAt m.sizes.pages (λ n c. IsReplica m.sizes m.seen m.block m.number n (bases n) c) m.copies
-  pub marks : length m.stored ≡ 64
+  pub marks : length m.stored ≡ most_pages
   pub clean : (n : ℕ) (c : Copied) → slice_get m.copies n ≡ Some c → slice_get m.stored n ≡ Some false → IsClean c.page
   pub held : EachAt m.sizes.locks (λ l b. (b ≡ true) ↔ Holds m.seen m.number l) m.held
   pub awaits : IsAwaited m.seen m.number m.awaits
   pub quiet : m.awaits ≢ None → m.block ≡ []
-  pub unstored : m.awaits ≢ None → m.stored ≡ replicate 64 false
+  pub unstored : m.awaits ≢ None → m.stored ≡ replicate most_pages false

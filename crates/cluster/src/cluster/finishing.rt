@@ -10,21 +10,19 @@ ghost use Rattle.cluster.specs.Finishing.{AreAllToFinish, AreTakenApart, AreBloc
 use super::Cluster;
 use crate::keeper::{BookTurn, Rule};
 use crate::processor::Processor;
+use base::MOST_PROCESSORS;
 use book::Book;
 use journal::{Event, Journal};
 use std::alloc::{AllocError, Global};
 use turn::Chair;
-
-/// Processors of a cluster at most.
-const MOST_PROCESSORS: usize = 16;
 
 /// Room for the chairs and the blocks of all processors, with which [`Cluster::finish`] takes no memory.
 #[derive(Drop)]
 pub(super) struct Spare {
     chairs: Vec<Chair<Book, Rule>>,
     blocks: Vec<Vec<Event>>,
-    ghost no_chairs: { (chairs.items ≡ []) × (16 ≤ vec_capacity chairs) },
-    ghost no_blocks: { (blocks.items ≡ []) × (16 ≤ vec_capacity blocks) },
+    ghost no_chairs: { (chairs.items ≡ []) × (most_processors ≤ vec_capacity chairs) },
+    ghost no_blocks: { (blocks.items ≡ []) × (most_processors ≤ vec_capacity blocks) },
 }
 
 impl Spare {

@@ -2,7 +2,7 @@
 ghost use Rattle.std.specs.Prelude.{◌≡◌, ◌≢◌, ◌↔◌, ◌⊎◌, ◌<◌, ◌≤◌, ◌+◌, Err, IfErr, IfOk, OnOk};
 ghost use Rattle.std.specs.Prelude.{OnErr, List, length, vec_len, true};
 ghost use Rattle.std.specs.Result.{result_err};
-ghost use Rattle.base.specs.Prelude.{most_events};
+ghost use Rattle.base.specs.Prelude.{most_events, most_pages};
 ghost use Rattle.journal.specs.Prelude.{is_taking, Sizes, Ready};
 ghost use Rattle.journal.specs.declared.event.Event.{Event};
 ghost use Rattle.vtime.specs.Times.{join};
@@ -15,6 +15,7 @@ use super::Cluster;
 use crate::copies::Replica;
 use crate::keeper::BookTurn;
 use crate::processor::Processor;
+use base::MOST_PAGES;
 use book::{Book, Refused};
 use interval::Sent;
 use journal::Kind;
@@ -22,9 +23,6 @@ use std::alloc::AllocError;
 use std::sync::Wait;
 use transit::Message;
 use vtime::VTime;
-
-/// Pages of a cluster at most.
-const MOST_PAGES: usize = 64;
 
 impl<T: BookTurn> Cluster<T> {
     /// Takes what the processor waits for, the lock, the end of the barrier's episode or the flag's signal: it gets to
@@ -55,7 +53,7 @@ impl<T: BookTurn> Cluster<T> {
 /// again, so it asks first whether that has come.
 fn receive(book: &mut Book, p: usize, replicas: &mut Vec<Replica>) -> Result<Message, Refused>
     requires call { AllowsSomeTake book.old p }
-    requires few { vec_len replicas.old ≤ 64 }
+    requires few { vec_len replicas.old ≤ most_pages }
     ensures same { AreSameCopies replicas.old.items replicas.new.items }
     ensures room { IfOk result (λ m. HasRoomToTake (letter m).notices replicas.new.items) }
     ensures ok { IfOk result (λ m. BookTakes book.old p (letter m) book.new) }
@@ -80,7 +78,7 @@ fn receive(book: &mut Book, p: usize, replicas: &mut Vec<Replica>) -> Result<Mes
 fn receive_ready(book: &mut Book, p: usize, replicas: &mut Vec<Replica>) -> Result<Message, Refused>
     requires call { AllowsSomeTake book.old p }
     requires ready { (s : Sizes) (h : List Event) → Represents s h book.old → Ready s h p }
-    requires few { vec_len replicas.old ≤ 64 }
+    requires few { vec_len replicas.old ≤ most_pages }
     ensures same { AreSameCopies replicas.old.items replicas.new.items }
     ensures room { IfOk result (λ m. HasRoomToTake (letter m).notices replicas.new.items) }
     ensures ok { IfOk result (λ m. BookTakes book.old p (letter m) book.new) }
@@ -98,7 +96,7 @@ fn receive_ready(book: &mut Book, p: usize, replicas: &mut Vec<Replica>) -> Resu
 /// Makes room in the copies' lists for what a take by `p` would bring now.
 fn prepare(book: &Book, p: usize, replicas: &mut Vec<Replica>) -> Result<(), AllocError>
     requires call { IsProcessor book.now p }
-    requires few { vec_len replicas.old ≤ 64 }
+    requires few { vec_len replicas.old ≤ most_pages }
     ensures same { AreSameCopies replicas.old.items replicas.new.items }
     ensures room { OnOk result (HasRoomToTake (brought book.now p) replicas.new.items) }
 {

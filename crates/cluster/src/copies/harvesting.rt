@@ -1,6 +1,7 @@
 //! What a closing call does to the copies: their dirty words become records, and no word is dirty any more.
 ghost use Rattle.std.specs.Prelude.{◌≡◌, IfOk, IsOk, false, map, replicate};
 ghost use Rattle.std.specs.Arc.{arc_value};
+ghost use Rattle.base.specs.Prelude.{most_pages};
 ghost use Rattle.cluster.specs.Copies.Prelude.{AreHarvests, DirtyAreMarked, cleaned};
 
 use crate::copies::marks::Marks;
@@ -21,7 +22,7 @@ pub fn harvest(
     requires { DirtyAreMarked replicas.now stored.now }
     ensures harvests { IfOk result (λ records. AreHarvests replicas.now
         (map arc_value records.items)) }
-    ensures unmarked { stored.now ≡ replicate 64 false → IsOk result }
+    ensures unmarked { stored.now ≡ replicate most_pages false → IsOk result }
 {
     let mut records = Vec::new(alloc);
     let mut next = 0;
@@ -42,7 +43,7 @@ pub fn harvest(
 pub fn clean(replicas: &mut [Replica], stored: &mut Marks)
     requires { DirtyAreMarked replicas.old stored.old }
     ensures copies { replicas.new ≡ map cleaned replicas.old }
-    ensures marks { stored.new ≡ replicate 64 false }
+    ensures marks { stored.new ≡ replicate most_pages false }
 {
     let mut next = 0;
     while let Some(page) = stored.first_from(next) {

@@ -1,12 +1,14 @@
 //! Sets of small numbers.
 ghost use Rattle.std.specs.Prelude.{◌≡◌, ◌<◌, ◌↔◌, IsTrue, IfSome, IfNone, Some, true, false, replicate, slice_get};
 ghost use Rattle.std.specs.Prelude.{slice_set};
+ghost use Rattle.base.specs.Prelude.{most_pages};
 ghost use Rattle.page.specs.Prelude.{marks_of};
 ghost use Rattle.cluster.specs.Copies.Prelude.{IsFirstMark, HasNoMark};
 
+use base::MOST_PAGES;
 use std::marker::Model;
 
-/// A set of numbers below 64, one bit each. Contracts see the list of 64 marks.
+/// A set of numbers below `MOST_PAGES`, one bit each. Contracts see the list of as many marks.
 #[derive(Debug, Drop)]
 pub struct Marks {
     bits: u64,
@@ -14,24 +16,25 @@ pub struct Marks {
 
 impl Model for Marks {
     ghost use Rattle.std.specs.Prelude.{List, Bool};
+    ghost use Rattle.base.specs.Limits.{most_pages};
     ghost use Rattle.page.specs.Marks.{marks_of};
 
     ghost Value = { List Bool };
 
-    ghost view = { λ m. marks_of 64 m.bits };
+    ghost view = { λ m. marks_of most_pages m.bits };
 }
 
 impl Marks {
     /// No number.
     pub fn none() -> Marks
-        ensures { result ≡ replicate 64 false }
+        ensures { result ≡ replicate most_pages false }
     {
         Marks { bits: 0 }
     }
 
     /// Whether the number is there.
     pub fn has(&self, number: usize) -> bool
-        requires { number < 64 }
+        requires { number < most_pages }
         ensures { slice_get self.now number ≡ Some result }
     {
         self.bits >> number & 1 == 1
@@ -42,7 +45,7 @@ impl Marks {
         ensures some { IfSome result (λ n. IsFirstMark self.now start n) }
         ensures none { IfNone result (HasNoMark self.now start) }
     {
-        if start >= 64 {
+        if start >= MOST_PAGES {
             return None;
         }
         let rest = self.bits >> start;
@@ -54,7 +57,7 @@ impl Marks {
 
     /// Adds the number.
     pub fn add(&mut self, number: usize)
-        requires { number < 64 }
+        requires { number < most_pages }
         ensures { self.new ≡ slice_set self.old number true }
     {
         self.bits |= 1 << number;

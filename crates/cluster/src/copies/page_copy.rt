@@ -2,7 +2,7 @@
 ghost use Rattle.std.specs.Prelude.{◌≡◌, ◌<◌, ◌≤◌, ◌^◌, Some, None, Ok, IfOk, IfSome, IfNone, OnOk, [], ◌∷◌, ◌+◌};
 ghost use Rattle.std.specs.Prelude.{length, map, slice_get, sum_by};
 ghost use Rattle.std.specs.Option.{option_map};
-ghost use Rattle.base.specs.Prelude.{records_applied, Has};
+ghost use Rattle.base.specs.Prelude.{records_applied, Has, most_pages, most_words};
 ghost use Rattle.journal.specs.Prelude.{HasCount, MissingInOrder};
 ghost use Rattle.page.specs.Prelude.{IsHarvest, IsClean};
 ghost use Rattle.page.specs.declared.page.Access.TheVariants.{Valid, Invalid};
@@ -51,10 +51,10 @@ impl Model for Replica {
 }
 
 impl Replica {
-    /// A valid copy of `words` zeros (1 to 64). Answers `AllocError` where memory for them is refused.
+    /// A valid copy of `words` zeros (1 to `MOST_WORDS`). Answers `AllocError` where memory for them is refused.
     pub fn zero(alloc: Global, words: usize) -> Result<Replica, AllocError>
         requires some { 0 < words }
-        requires few { words ≤ 64 }
+        requires few { words ≤ most_words }
         ensures { IfOk result (λ r. r ≡ zero_replica words) }
     {
         Ok(Replica {
@@ -178,7 +178,7 @@ fn apply_all(page: &mut Page, missing: &Backlog)
 /// How many owners the records have.
 fn writers_of(missing: &Backlog) -> u32
     requires few { length missing.now.records < 2 ^ 32 }
-    requires fit { (x : SentRecord) → Has missing.now.records x → x.notice.owner < 64 }
+    requires fit { (x : SentRecord) → Has missing.now.records x → x.notice.owner < most_pages }
     ensures { HasCount (IsOwner missing.now.records) result }
 {
     let mut owners = Marks::none();

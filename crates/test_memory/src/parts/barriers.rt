@@ -2,8 +2,9 @@
 ghost use Rattle.std.specs.Prelude.{◌≡◌, ◌<◌, Some, length, slice_get};
 
 use barrier::{Barrier, Stage};
+use base::MOST_PROCESSORS;
 use std::process::Abort;
-use vtime::{MOST_PROCESSORS, VTime};
+use vtime::VTime;
 
 /// The processor departs from the episode before, if there was one, and arrives once more.
 fn meets(rt: &(impl Abort + AllocGlobal), barrier: &mut Barrier, processor: usize, round: u64)

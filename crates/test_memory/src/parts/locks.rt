@@ -2,9 +2,10 @@
 ghost use Rattle.std.specs.Prelude.{◌≡◌, ◌<◌, Some, [], length};
 ghost use Rattle.lockq.specs.LockQueues.{lock_at};
 
+use base::MOST_PROCESSORS;
 use lockq::Locks;
 use std::test::Fail;
-use vtime::{MOST_PROCESSORS, VTime};
+use vtime::VTime;
 
 /// Whoever asks while the lock is held waits for those who asked before. Passes also where one
 /// growth, any of them, is refused.

@@ -1,11 +1,12 @@
 //! Messages, posted and taken.
 ghost use Rattle.std.specs.Prelude.{◌≡◌, None, Some, length, slice_get};
 
+use base::MOST_PROCESSORS;
 use std::alloc::Global;
 use std::process::Abort;
 use std::test::Fail;
 use transit::{Message, Transit};
-use vtime::{MOST_PROCESSORS, VTime};
+use vtime::VTime;
 
 /// The timestamp of two processors that has one interval of processor 1.
 fn stamp(alloc: Global) -> VTime {

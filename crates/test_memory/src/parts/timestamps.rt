@@ -2,9 +2,10 @@
 ghost use Rattle.std.specs.Prelude.{◌≡◌, ◌≤◌, length};
 ghost use Rattle.base.specs.Prelude.{most_processors};
 
+use base::MOST_PROCESSORS;
 use std::alloc::Global;
 use std::process::Abort;
-use vtime::{MOST_PROCESSORS, VTime};
+use vtime::VTime;
 
 /// The timestamp with these entries, each below 10.
 fn stamp(alloc: Global, counts: &[u64]) -> VTime

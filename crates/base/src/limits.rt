@@ -1,7 +1,19 @@
-//! The limits of the product. Contracts name them too (`most_processors` and so on, of lists' specs/Limits).
+//! The limits of the memory. Contracts have each by its name in small letters (`most_processors`; specs/Limits).
 
 /// Processors of a cluster.
 pub const MOST_PROCESSORS: usize = 16;
+
+/// Pages of a cluster.
+pub const MOST_PAGES: usize = 64;
+
+/// Words of a page.
+pub const MOST_WORDS: usize = 64;
+
+/// Locks of a cluster.
+pub const MOST_LOCKS: usize = 32;
+
+/// Flags of a cluster.
+pub const MOST_FLAGS: usize = 32;
 
 /// Events of a processor's open block.
 pub const MOST_IN_BLOCK: usize = 256;
