@@ -2,7 +2,7 @@
 use Rattle.std.specs.Prelude.{◌+◌, ◌^◌, ◌≤◌, length, map}
 use Rattle.std.specs.Option.{option_map}
 use Rattle.base.specs.Limits.{most_events}
-use Rattle.book.specs.Awaiting.{awaited_kind}
+use Rattle.journal.specs.Closing.{awaited_kind}
 use Rattle.book.specs.declared.protocol.Protocol.TheInside.{Inside}
 use Rattle.book.specs.State.{State}
 

@@ -2,7 +2,7 @@
 use Rattle.std.specs.Prelude.{ℕ, ◌≡◌, ◌≢◌, ◌<◌, ◌≤◌, false, Option, List, [], Some, None, length, slice_get, slice_index, slice_index_or, slice_set}
 use Rattle.journal.specs.declared.event.Event.{Event}
 use Rattle.journal.specs.declared.event.Kind.{Kind}
-use Rattle.journal.specs.declared.event.Kind.TheVariants.{Await}
+use Rattle.journal.specs.declared.event.Kind.TheVariants.{Ask, Release, Set, Await}
 use Rattle.journal.specs.Sizes.{Sizes}
 use Rattle.journal.specs.Events.{At, is_closing, is_taking}
 use Rattle.journal.specs.WellFormed.{KindInRange, Holds}
@@ -54,6 +54,13 @@ pub record AllowsRelease (b : State) (p l : ℕ) (block : List Event) : Type 0 w
   pub call : AllowsClosing b p block
   pub range : l < call.by.sizes.locks
   pub held : Holds call.by.history p l
+
+-- what is asked of p's call that closes its interval by this event
+abbrev pub MayClose : Kind → State → ℕ → List Event → Type 0
+MayClose (Ask l) b p block = AllowsAsk b p l block
+MayClose (Release l) b p block = AllowsRelease b p l block
+MayClose (Set f) b p block = AllowsClosing b p block × (f < length b.flags)
+MayClose _ b p block = AllowsClosing b p block
 
 -- by some history, p is a processor
 pub record IsProcessor (b : State) (p : ℕ) : Type 0 where

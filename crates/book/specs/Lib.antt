@@ -1,5 +1,4 @@
 pub mod Stamps
-pub mod Awaiting
 pub mod Lines
 pub mod Mail
 pub mod BarrierStages

@@ -150,6 +150,15 @@ book_set b p f records = record (book_closed_by b p (Set f) records) {
 abbrev pub book_watched : State → ℕ → ℕ → List Changes → State
 book_watched b p f records = book_closed_by b p (Watch f) records
 
+-- the book after p does this, which closes its interval, with the records of that
+abbrev pub book_closed : Kind → State → ℕ → List Changes → State
+book_closed (Ask l) b p records = book_asked b p l records
+book_closed (Release l) b p records = book_released b p l records
+book_closed Arrive b p records = book_arrived b p records
+book_closed (Set f) b p records = book_set b p f records
+book_closed (Watch f) b p records = book_watched b p f records
+book_closed _ b p records = b
+
 -- p does this, which takes this time over
 abbrev pub book_joined : State → ℕ → Kind → List ℕ → State
 book_joined b p k t = record (book_logged b p k) { times = slice_set b.times p (join (time_of b p) t) }

@@ -3,16 +3,15 @@ ghost use Rattle.std.specs.Prelude.{◌≡◌, ◌≢◌, ℕ, ◌+◌, ◌*◌,
 ghost use Rattle.std.specs.Prelude.{OnOk, OnErr, IfErr, IfOk, List, ◌++◌, map, length, count_by, slice_get, slice_index};
 ghost use Rattle.std.specs.Arc.{arc_value};
 ghost use Rattle.base.specs.Prelude.{most_events, most_in_block, most_processors, Has, most_locks};
-ghost use Rattle.journal.specs.Prelude.{Sizes, Ready, IsCutFault, IsDeadlock, did};
+ghost use Rattle.journal.specs.Prelude.{Sizes, Ready, IsCutFault, IsDeadlock, closing_kind, did};
 ghost use Rattle.journal.specs.declared.event.Event.{Event as AnEvent};
 ghost use Rattle.interval.specs.Prelude.{HasRisingPages, is_of_page};
 ghost use Rattle.transit.specs.Prelude.{letter};
 ghost use Rattle.book.specs.Prelude.{brought, WasBookCut, AllowsFlush, AllowsClosing, AllowsAsk, AllowsRelease, AllowsSomeTake};
 ghost use Rattle.book.specs.Prelude.{IsProcessor, new_book, book_handed_in, book_handed_last, book_watched, book_set, book_asked};
 ghost use Rattle.book.specs.Prelude.{book_released, book_arrived, EndsClosed, EndsHandedIn, IsFullRefusal, Represents, IsRoomRefusal};
-ghost use Rattle.book.specs.Prelude.{HasClosed, IsBlockOf, IsToldBySome, LetsWaitingOn, BookTakes};
+ghost use Rattle.book.specs.Prelude.{HasClosed, IsBlockOf, MayClose, book_closed, IsToldBySome, LetsWaitingOn, BookTakes};
 
-use crate::awaited::Awaited;
 use crate::empty::{empty_history, empty_locks, empty_timestamps};
 use crate::messages::{grant_to, has_come, post_all, receive};
 use crate::protocol::{Protocol, leave, with_set};
@@ -23,7 +22,7 @@ use crate::waiters::Waiters;
 use crate::waiting::all_wait_in_vain;
 use barrier::Barrier;
 use base::{MOST_EVENTS, MOST_IN_BLOCK};
-use journal::{CutFault, Event, Journal, Kind};
+use journal::{Awaited, Closing, CutFault, Event, Journal, Kind};
 use page::Record;
 use std::alloc::{AllocError, Global};
 use std::marker::Model;
@@ -124,6 +123,30 @@ impl Book {
         Ok(copy)
     }
 
+    /// Closes the interval of `processor` by this call, as [`ask`](Book::ask), [`release`](Book::release),
+    /// [`arrive`](Book::arrive), [`set`](Book::set) or [`watch`](Book::watch) does.
+    pub fn close(
+        &mut self,
+        processor: usize,
+        closing: Closing,
+        block: &[Event],
+        records: Vec<Arc<Record>>,
+    ) -> Result<(), Refused>
+        requires call { MayClose (closing_kind closing) self.old processor block.now }
+        requires short { length block.now ≤ most_in_block }
+        requires rising { HasRisingPages (map arc_value records.items) }
+        ensures { EndsClosed block.now (λ b. book_closed (closing_kind closing) b processor (map arc_value records.items))
+            self.old self.new result }
+    {
+        match closing {
+            Closing::Ask(lock) => self.ask(processor, lock, block, records),
+            Closing::Release(lock) => self.release(processor, lock, block, records),
+            Closing::Arrive => self.arrive(processor, block, records),
+            Closing::Set(flag) => self.set(processor, flag, block, records),
+            Closing::Watch(flag) => self.watch(processor, flag, block, records),
+        }
+    }
+
     /// Watches a flag: closes the interval, whose records these are, and from then on `processor` waits for the
     /// flag. Otherwise as `hand_in`, with one event more.
     pub fn watch(
@@ -141,7 +164,7 @@ impl Book {
     {
         let parts = &mut *self.parts;
         let interval = parts.open_interval(processor, records);
-        parts.close(processor, Kind::Watch(flag), block, interval)
+        parts.close(processor, Closing::Watch(flag), block, interval)
     }
 
     /// Sets a flag: closes the interval, and joins the timestamp of `processor` after that into the flag's.
@@ -162,7 +185,7 @@ impl Book {
     {
         let parts = &mut *self.parts;
         let interval = parts.open_interval(processor, records);
-        parts.close(processor, Kind::Set(flag), block, interval)?;
+        parts.close(processor, Closing::Set(flag), block, interval)?;
         let time = with_set(&parts.flags[flag], &parts.times[processor]);
         parts.flags[flag] = Some(time);
         Ok(())
@@ -188,7 +211,7 @@ impl Book {
         make_room(&mut parts.journal, parts.owing, block.len() + 1)?;
         let grant = parts.grant_if_free(processor, lock)?;
         let interval = parts.open_interval(processor, records);
-        parts.close(processor, Kind::Ask(lock), block, interval)?;
+        parts.close(processor, Closing::Ask(lock), block, interval)?;
         parts.locks.ask(lock, processor);
         if let Some(message) = grant {
             parts.transit.post(processor, message);
@@ -223,7 +246,7 @@ impl Book {
             &interval,
             &time,
         )?;
-        parts.close(processor, Kind::Release(lock), block, interval)?;
+        parts.close(processor, Closing::Release(lock), block, interval)?;
         parts.locks.release(lock, processor, time);
         if let Some((next, message)) = grant {
             parts.transit.post(next, message);
@@ -251,7 +274,7 @@ impl Book {
         let interval = parts.open_interval(processor, records);
         let time = parts.closing_time(processor);
         let departures = parts.departures_with(&interval, &time)?;
-        parts.close(processor, Kind::Arrive, block, interval)?;
+        parts.close(processor, Closing::Arrive, block, interval)?;
         parts.barrier.arrive(processor, &time);
         if let Some(messages) = departures {
             post_all(&mut parts.transit, messages);

@@ -2,14 +2,13 @@
 ghost use Rattle.std.specs.Prelude.{◌≡◌, ◌≤◌, IfOk, None, map, replicate};
 ghost use Rattle.std.specs.Option.{option_map};
 ghost use Rattle.base.specs.Prelude.{most_processors};
-ghost use Rattle.journal.specs.Prelude.{new_log};
+ghost use Rattle.journal.specs.Prelude.{new_log, awaited_kind};
 ghost use Rattle.interval.specs.Prelude.{Closings};
 ghost use Rattle.lockq.specs.LockQueues.{unheld_lock};
-ghost use Rattle.book.specs.Prelude.{awaited_kind, no_closings};
+ghost use Rattle.book.specs.Prelude.{no_closings};
 
-use crate::awaited::Awaited;
 use interval::Closed;
-use journal::Journal;
+use journal::{Awaited, Journal};
 use lockq::Locks;
 use std::alloc::{AllocError, Global};
 use transit::Transit;

@@ -14,7 +14,6 @@
 //! **What is only tested**: (in `test_memory`): the texts of [`Refused`], the rows of the book's calls.
 #![tactic(auto)]
 
-mod awaited;
 mod book;
 mod empty;
 pub mod laws;
@@ -26,7 +25,6 @@ mod trims;
 mod waiters;
 mod waiting;
 
-pub use awaited::Awaited;
 pub use book::Book;
 pub use refused::Refused;
 pub use waiters::Waiters;

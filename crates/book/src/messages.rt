@@ -2,13 +2,14 @@
 ghost use Rattle.std.specs.Prelude.{◌≡◌, ◌≢◌, ℕ, ◌<◌, ◌≤◌, IfOk, IfSome, IsSome, List, OnOk, OnErr, None, Some, true};
 ghost use Rattle.std.specs.Prelude.{length, map, replicate, slice_index, slice_set};
 ghost use Rattle.std.specs.Option.{option_map};
+ghost use Rattle.journal.specs.Prelude.{awaited_kind};
 ghost use Rattle.interval.specs.Prelude.{HasRisingPages, KeepsClosingsBetween, pushed};
 ghost use Rattle.transit.specs.Prelude.{letter};
-ghost use Rattle.book.specs.Prelude.{addressed, addressed_grant, departure_to, awaited_kind, message_has_come, message_among};
+ghost use Rattle.book.specs.Prelude.{addressed, addressed_grant, departure_to, message_has_come, message_among};
 ghost use Rattle.book.specs.Prelude.{signal_message, AllowsNotices, AllowsSignal};
 
-use crate::awaited::Awaited;
 use interval::{Closed, Interval};
+use journal::Awaited;
 use std::alloc::{AllocError, Global};
 use transit::{Message, Transit};
 use vtime::VTime;

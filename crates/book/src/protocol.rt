@@ -1,27 +1,26 @@
 //! What a book is made of, and the steps that its calls share.
-ghost use Rattle.std.specs.Prelude.{ℕ, ◌≡◌, ◌+◌, ◌^◌, ◌<◌, ◌≤◌, true, map, IfOk, IfSome, length, Some};
+ghost use Rattle.std.specs.Prelude.{ℕ, ◌≡◌, ◌+◌, ◌^◌, ◌<◌, ◌≤◌, map, IfOk, IfSome, length, Some};
 ghost use Rattle.std.specs.Prelude.{slice_get, slice_set, slice_index};
 ghost use Rattle.std.specs.Arc.{arc_value};
 ghost use Rattle.std.specs.Option.{option_map};
 ghost use Rattle.base.specs.Prelude.{most_in_block};
-ghost use Rattle.journal.specs.Prelude.{is_closing};
+ghost use Rattle.journal.specs.Prelude.{awaited_kind, closing_kind};
 ghost use Rattle.vtime.specs.Times.{tick};
 ghost use Rattle.interval.specs.Prelude.{HasRisingPages, KeepsClosingsBetween, pushed};
 ghost use Rattle.lockq.specs.LockQueues.{lock_at};
 ghost use Rattle.transit.specs.Prelude.{letter};
-ghost use Rattle.book.specs.Prelude.{awaited_kind, AllowsClosing, IsOpen, AllowsNotices, book_open_interval, book_closed_by, if_free};
+ghost use Rattle.book.specs.Prelude.{AllowsClosing, IsOpen, AllowsNotices, book_open_interval, book_closed_by, if_free};
 ghost use Rattle.book.specs.Prelude.{book_grant, book_barrier_left, book_flag_joined, departures_to, time_of, EndsClosed};
 
 mod counting;
 mod named;
 
-use crate::awaited::Awaited;
 use crate::messages::departures;
 use crate::refused::Refused;
 use crate::room::{append_all, make_room};
 use barrier::{Barrier, Stage};
 use interval::{Closed, Interval};
-use journal::{Event, Journal, Kind};
+use journal::{Awaited, Closing, Event, Journal};
 use lockq::Locks;
 use page::Record;
 use std::alloc::{AllocError, Global};
@@ -133,12 +132,12 @@ impl Protocol {
         time
     }
 
-    /// Hands the block in, closes the open interval of `processor` and appends the event that closes it. All growths
+    /// Hands the block in, closes the open interval of `processor` and appends the event of this call, which closes it. All growths
     /// come first.
     pub(crate) fn close(
         &mut self,
         processor: usize,
-        kind: Kind,
+        closing: Closing,
         block: &[Event],
         interval: Interval,
     ) -> Result<(), Refused>
@@ -146,15 +145,15 @@ impl Protocol {
         requires short { length block.now ≤ most_in_block }
         requires open { interval ≡ book_open_interval self.old processor interval.records }
         requires rising { HasRisingPages interval.records }
-        requires kind { is_closing kind ≡ true }
-        ensures { EndsClosed block.now (λ b. book_closed_by b processor kind interval.records) self.old self.new result }
+        ensures { EndsClosed block.now (λ b. book_closed_by b processor (closing_kind closing) interval.records) self.old self.new result }
     {
         make_room(&mut self.journal, self.owing, block.len() + 1)?;
         self.closed.push(interval)?;
         append_all(&mut self.journal, block);
+        let kind = closing.kind();
         self.journal.append(Event { processor, kind });
         self.times[processor].tick(processor);
-        self.awaits[processor] = Awaited::after(kind);
+        self.awaits[processor] = closing.awaits();
         Ok(())
     }
 }

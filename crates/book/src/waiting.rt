@@ -1,12 +1,13 @@
 //! Who waits, and who of them may go on.
 ghost use Rattle.std.specs.Prelude.{ℕ, ◌≡◌, ◌<◌, ◌↔◌, EachIndex, IfSome, IsTrue, Some, true, false, length, slice_get};
 ghost use Rattle.base.specs.Prelude.{most_processors, Has};
-ghost use Rattle.book.specs.Prelude.{message_has_come, awaited_kind};
-ghost use Rattle.book.specs.declared.awaited.Awaited.{Awaited as AnAwaited};
+ghost use Rattle.journal.specs.Prelude.{awaited_kind};
+ghost use Rattle.book.specs.Prelude.{message_has_come};
+ghost use Rattle.journal.specs.declared.closing.Awaited.{Awaited as AnAwaited};
 
-use crate::awaited::Awaited;
 use crate::messages::has_come;
 use crate::waiters::Waiters;
+use journal::Awaited;
 use transit::Transit;
 use vtime::VTime;
 

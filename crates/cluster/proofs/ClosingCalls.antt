@@ -14,7 +14,8 @@ use Rattle.page.specs.RisingChanges.{Changes}
 use Rattle.book.specs.State.{State}
 use Rattle.book.specs.Told.{Represents}
 use Rattle.book.specs.Waiting.{HasClosed}
-use Rattle.book.specs.Transitions.{book_handed_in}
+use Rattle.book.specs.Calls.{MayClose}
+use Rattle.book.specs.Transitions.{book_closed, book_handed_in}
 use Rattle.book.specs.declared.refused.Refused.{Refused}
 use Rattle.book.specs.Refusals.{IsFullRefusal}
 use Rattle.book.proofs.Told.Whole.{ask_law, release_law, arrive_law, set_law, watch_law}
@@ -30,7 +31,7 @@ use Rattle.cluster.proofs.copies.Records.{record_harvest_contents}
 use Rattle.cluster.specs.declared.keeper.View.{View}
 use Rattle.cluster.specs.Refusals.{flush_refusal}
 use Rattle.cluster.specs.Calls.{IsCall, Nothing}
-use Rattle.cluster.specs.Closing.{MayMake, MayHold, MayClose, IsClosedBy, book_closed}
+use Rattle.cluster.specs.Closing.{MayMake, MayHold, IsClosedBy}
 use Rattle.cluster.specs.Entering.{Finds, IsCallOf, entered}
 use Rattle.cluster.proofs.Found.{found_here_sound, found_may_hand_in, found_may_call}
 use Rattle.cluster.proofs.Handing.{handing_had_room, calls_handed}

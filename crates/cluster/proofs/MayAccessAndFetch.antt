@@ -1,5 +1,6 @@
 -- What it means that a call is not refused.
 use Rattle.std.proofs.Common.{ℕ, ◌≡◌, ◌<◌, ◌/◌, Bool, true, false, not, nat_le, cond, Option, Some, None, List, refl, sym, ap, ◌∙◌, length, slice_get, get_or, subst, subst₂, is_some}
+use Rattle.std.specs.Option.{option_map}
 use Rattle.std.proofs.lemmas.Option.{none-some, get_or_from_slice_get, slice_get_within}
 use Rattle.std.proofs.lemmas.Bool.{leb-false, not-false}
 use Rattle.page.specs.declared.page.Access.{Access}
@@ -10,6 +11,11 @@ use Rattle.base.specs.Limits.{most_in_block}
 use Rattle.cluster.specs.Copies.PageReplica.{Copied, may_use_replica}
 use Rattle.cluster.specs.Copies.Local.{Local}
 use Rattle.cluster.specs.Refusals.{serves, has_valid, is_waiting, block_full, access_refusal, fetch_refusal}
+
+-- what becomes of what is there is there
+pub is_some_mapped : {A B : Type 0} (f : A → B) (o : Option A) → is_some (option_map f o) ≡ is_some o
+is_some_mapped f None = refl
+is_some_mapped f (Some a) = refl
 
 -- the first doesn't apply, nor do the others
 pub due_none : (b : Bool) (r : Refused) (rest : Option Refused) → cond b (Some r) rest ≡ None

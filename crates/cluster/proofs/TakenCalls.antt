@@ -1,15 +1,15 @@
 -- A call that takes what the processor waits for.
-use Rattle.std.proofs.Common.{ℕ, ◌≡◌, ◌≢◌, ◌⊎◌, ◌↔◌, ◌+◌, ◌≤◌, true, true≢false, Option, Some, None, Result, Ok, Err, IfOk, OnErr, List, [], ◌∷◌, ◌++◌, length, slice_get, slice_index, refl, sym, ap, subst, ◌∙◌, append-nil, arith}
+use Rattle.std.proofs.Common.{ℕ, ◌≡◌, ◌≢◌, ◌⊎◌, ◌↔◌, ◌+◌, ◌≤◌, true, true≢false, Option, Some, None, Result, Ok, Err, IfOk, OnErr, List, [], ◌∷◌, ◌++◌, length, slice_get, slice_index, refl, sym, ap, subst, ◌∙◌, append-nil}
 use Rattle.std.proofs.lemmas.Bool.{eq-eqb}
 use Rattle.std.proofs.lemmas.Option.{none-some}
 use Rattle.std.proofs.lemmas.List.Elements.{filter-append}
 use Rattle.journal.specs.declared.event.Event.{Event}
 use Rattle.journal.specs.declared.event.Kind.{Kind}
-use Rattle.journal.specs.declared.event.Kind.TheVariants.{Load, Fetch, Ask, Acquire}
+use Rattle.journal.specs.declared.event.Kind.TheVariants.{Load, Fetch}
 use Rattle.journal.specs.DidEvent.{event, did}
 use Rattle.journal.specs.Events.{is_taking, events_of}
 use Rattle.journal.specs.MissingWords.{AreMissingNotices, MissingInOrder}
-use Rattle.journal.specs.WellFormed.{Allowed, Ready}
+use Rattle.journal.specs.WellFormed.{Ready}
 use Rattle.journal.specs.Sizes.{Sizes}
 use Rattle.base.specs.Limits.{most_events}
 use Rattle.turn.specs.declared.chair.ChairToken.{ChairToken}
@@ -39,7 +39,7 @@ use Rattle.cluster.specs.declared.keeper.View.{View}
 use Rattle.cluster.specs.Calls.{IsCall}
 use Rattle.cluster.specs.Entering.{Finds, IsCallOf, entered}
 use Rattle.cluster.specs.Refusals.{flush_refusal}
-use Rattle.cluster.specs.Taking.{IsTakeLate, IsTakeDone, HasRoomToTake, MayHoldOne, awaited_event}
+use Rattle.cluster.specs.Taking.{IsTakeLate, IsTakeDone, HasRoomToTake, awaited_event}
 use Rattle.cluster.proofs.Found.{found_here_sound, awaits_found, time_found}
 use Rattle.cluster.proofs.Handing.{handing_had_room}
 use Rattle.cluster.proofs.FaithfulHistory.{history_told_few}
@@ -202,17 +202,6 @@ module _ {m : Local} {b : State} {k : Kind} {x : Letter} {after : ChairToken Sta
 
   brings : IsMessage m.sizes (m.seen ++ f.rest) b m.number k x
   brings = message m sound b k t.waits x t.come f
-
-  -- a lock that it takes is one of those that it may hold
-  pub may_hold_taken : MayHoldOne (length m.held) k
-  may_hold_taken = go k brings.allowed
-    where
-      go : (j : Kind) → Allowed m.sizes (m.seen ++ f.rest) m.number j → MayHoldOne (length m.held) j
-      go (Acquire l) may =
-          let asked = (f.kept.told.well_formed may.0 (event m.number (Ask l)) may.1.does).in_range in
-          let long = sound.held.long in
-          omega arith
-      go _ may = tt
 
   -- the timestamp of what it takes has an entry for each processor
   pub taken_long : length x.time ≡ length m.time

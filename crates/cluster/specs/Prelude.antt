@@ -8,8 +8,8 @@ pub use Rattle.cluster.specs.KeptViews.{KeptWithViews, SeesView, view_of_nothing
 pub use Rattle.cluster.specs.Entering.{FindsBook, HasEntered, HasLeft, IsCallOf, IsChairOf}
 pub use Rattle.cluster.specs.Covers.{HasCoverage}
 pub use Rattle.cluster.specs.Calls.{IsHandingCall, IsSameProcessor}
-pub use Rattle.cluster.specs.Closing.{IsClosingCall, MayClose, MayHold, MayMake, book_closed}
-pub use Rattle.cluster.specs.Taking.{HasRoomToTake, IsTakingCall, MayHoldOne}
+pub use Rattle.cluster.specs.Closing.{IsClosingCall, MayMake}
+pub use Rattle.cluster.specs.Taking.{HasRoomToTake, IsTakingCall}
 pub use Rattle.cluster.specs.Waiting.{IsWaitingCall, waited_answer}
 pub use Rattle.cluster.specs.Cutting.{IsCuttingCall, IsCuttingFault}
 pub use Rattle.cluster.specs.FaithfulJournals.{IsAudit}

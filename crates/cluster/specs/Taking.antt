@@ -1,8 +1,7 @@
 -- What a take does to its processor.
-use Rattle.std.specs.Prelude.{ℕ, ◌≡◌, Option, Some, None, List, [], ◌∷◌, ◌<◌, ◌≤◌, count_by, slice_get, slice_index}
+use Rattle.std.specs.Prelude.{ℕ, ◌≡◌, Option, Some, None, List, [], ◌∷◌, ◌≤◌, count_by, slice_get, slice_index}
 use Rattle.journal.specs.declared.event.Event.{Event}
 use Rattle.journal.specs.declared.event.Kind.{Kind}
-use Rattle.journal.specs.declared.event.Kind.TheVariants.{Acquire}
 use Rattle.journal.specs.DidEvent.{event}
 use Rattle.journal.specs.Brings.{Brings}
 use Rattle.journal.specs.MissingWords.{AreMissingNotices}
@@ -42,11 +41,6 @@ pub record IsTakeDone (m n : Local) : Type 0 where
       (news_of_page page sent)
   pub told : AreAfterNews m.copies sent n.copies
   pub after : n ≡ took_news m kind time n.copies
-
--- the lock that this acquires is one of n
-abbrev pub MayHoldOne : ℕ → Kind → Type 0
-MayHoldOne n (Acquire l) = l < n
-MayHoldOne n _ = Unit {0}
 
 -- each copy has room for what these bring of its page
 abbrev pub HasRoomToTake : List SentRecord → List Copied → Type 0

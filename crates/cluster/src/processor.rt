@@ -1,14 +1,14 @@
 //! Processors.
-ghost use Rattle.std.specs.Prelude.{◌≡◌, ◌<◌, ◌+◌, ◌/◌, ◌%◌, ◌++◌, ◌∷◌, [], OnErr, OnOk, IfOk, Some, false, true};
-ghost use Rattle.std.specs.Prelude.{length, map, replicate, slice_index_or};
+ghost use Rattle.std.specs.Prelude.{◌≡◌, ◌<◌, ◌+◌, ◌/◌, ◌%◌, ◌++◌, ◌∷◌, [], OnErr, OnOk, IfOk, Some, false};
+ghost use Rattle.std.specs.Prelude.{length, map, replicate, slice_index_or, slice_set};
 ghost use Rattle.std.specs.Arc.{arc_value};
 ghost use Rattle.std.specs.Option.{option_map};
 ghost use Rattle.std.specs.Result.{result_err};
 ghost use Rattle.base.specs.Prelude.{most_in_block, most_pages};
 ghost use Rattle.turn.specs.Prelude.{lock};
-ghost use Rattle.journal.specs.Prelude.{event, is_closing};
+ghost use Rattle.journal.specs.Prelude.{awaited_kind, closing_kind, event};
 ghost use Rattle.cluster.specs.Copies.Prelude.{blank, DirtyAreMarked, cleaned, AreSoundSizes, calls, noted, new_local};
-ghost use Rattle.cluster.specs.Copies.Prelude.{AreHarvests};
+ghost use Rattle.cluster.specs.Copies.Prelude.{AreHarvests, held_after};
 ghost use Rattle.cluster.specs.Prelude.{AreClusterParts, IsNewChair, page_of, has_valid, is_waiting, access_refusal};
 ghost use Rattle.cluster.specs.Prelude.{fetch_refusal, event_refusal, arrive_refusal, ask_refusal, release_refusal, flag_refusal};
 ghost use Rattle.cluster.specs.Prelude.{take_refusal, closing_refusal, HasWord, StoreDone, FetchDone, HasCoverage, IsTakenApart};
@@ -18,7 +18,7 @@ use crate::keeper::{BookTurn, Rule};
 use crate::shape::Shape;
 use base::MOST_IN_BLOCK;
 use book::{Book, Refused};
-use journal::{Event, Kind};
+use journal::{Awaited, Closing, Event, Kind};
 use page::Record;
 use std::alloc::{AllocError, Global};
 use std::marker::{Model, PhantomData};
@@ -74,14 +74,16 @@ pub struct Processor<T: BookTurn> {
     pub(crate) stored: Marks,
     pub(crate) time: VTime,
     pub(crate) held: Vec<bool>,
-    pub(crate) awaits: Option<Kind>,
+    pub(crate) awaits: Option<Awaited>,
     turn: PhantomData<T>,
 }
 
 impl<T: BookTurn> Model for Processor<T> {
     ghost use Rattle.std.specs.Prelude.{◌≡◌, ◌≤◌, vec_capacity};
+    ghost use Rattle.std.specs.Option.{option_map};
     ghost use Rattle.turn.specs.Chairs.{lock, view, entries, place, IsOutside};
     ghost use Rattle.base.specs.Limits.{most_in_block};
+    ghost use Rattle.journal.specs.Closing.{awaited_kind};
     ghost use Rattle.cluster.specs.Copies.Local.{Local};
     ghost use Rattle.cluster.specs.Seats.{local};
     ghost use Rattle.cluster.specs.Copies.Sound.{IsSound};
@@ -90,10 +92,11 @@ impl<T: BookTurn> Model for Processor<T> {
     ghost Value = { Local };
 
     ghost view = { λ m. local m.chair m.number m.shape m.block.items m.replicas.items m.stored
-        m.time m.held.items m.awaits };
+        m.time m.held.items (option_map awaited_kind m.awaits) };
 
     ghost invariant = { λ m.
-        IsSound (local m.chair m.number m.shape m.block.items m.replicas.items m.stored m.time m.held.items m.awaits)
+        IsSound (local m.chair m.number m.shape m.block.items m.replicas.items m.stored m.time m.held.items
+        (option_map awaited_kind m.awaits))
         × IsSeated m.chair m.number m.shape
         × (most_in_block ≤ vec_capacity m.block) };
 }
@@ -174,6 +177,7 @@ impl<T: BookTurn> Processor<T> {
     }
 
     /// Whether it has asked, arrived or watched, and not yet taken.
+    #[tactic(auto, using(crate::proofs::MayAccessAndFetch::is_some_mapped))]
     pub fn waiting(&self) -> bool
         ensures { result ≡ is_waiting self.now }
     {
@@ -296,7 +300,7 @@ impl<T: BookTurn> Processor<T> {
     fn admit_event(&self) -> Result<(), Refused>
         ensures { result_err result ≡ event_refusal self.now }
     {
-        if self.awaits.is_some() {
+        if self.waiting() {
             return Err(Refused::Waiting);
         }
         if self.block.len() == MOST_IN_BLOCK {
@@ -305,17 +309,15 @@ impl<T: BookTurn> Processor<T> {
         Ok(())
     }
 
-    /// Whether the processor may make the call that closes its interval by this event.
-    pub(crate) fn admit_closing(&self, kind: Kind) -> Result<(), Refused>
-        requires { is_closing kind ≡ true }
-        ensures { result_err result ≡ closing_refusal self.now kind }
+    /// Whether the processor may make the call that closes its interval.
+    pub(crate) fn admit_closing(&self, closing: Closing) -> Result<(), Refused>
+        ensures { result_err result ≡ closing_refusal self.now (closing_kind closing) }
     {
-        match kind {
-            Kind::Ask(lock) => self.admit_ask(lock),
-            Kind::Release(lock) => self.admit_release(lock),
-            Kind::Arrive => self.admit_arrival(),
-            Kind::Set(flag) | Kind::Watch(flag) => self.admit_flag(flag),
-            _ => unreachable!("the event closes an interval"),
+        match closing {
+            Closing::Ask(lock) => self.admit_ask(lock),
+            Closing::Release(lock) => self.admit_release(lock),
+            Closing::Arrive => self.admit_arrival(),
+            Closing::Set(flag) | Closing::Watch(flag) => self.admit_flag(flag),
         }
     }
 
@@ -323,9 +325,10 @@ impl<T: BookTurn> Processor<T> {
     fn admit_arrival(&self) -> Result<(), Refused>
         ensures { result_err result ≡ arrive_refusal self.now }
     {
-        match self.awaits {
-            Some(_) => Err(Refused::Waiting),
-            None => Ok(()),
+        if self.waiting() {
+            Err(Refused::Waiting)
+        } else {
+            Ok(())
         }
     }
 
@@ -335,7 +338,7 @@ impl<T: BookTurn> Processor<T> {
     {
         if lock >= self.shape.locks {
             Err(Refused::BadLock)
-        } else if self.awaits.is_some() {
+        } else if self.waiting() {
             Err(Refused::Waiting)
         } else if self.holds(lock) {
             Err(Refused::AlreadyHeld)
@@ -350,7 +353,7 @@ impl<T: BookTurn> Processor<T> {
     {
         if lock >= self.shape.locks {
             Err(Refused::BadLock)
-        } else if self.awaits.is_some() {
+        } else if self.waiting() {
             Err(Refused::Waiting)
         } else if !self.holds(lock) {
             Err(Refused::NotHeld)
@@ -365,7 +368,7 @@ impl<T: BookTurn> Processor<T> {
     {
         if flag >= self.shape.flags {
             Err(Refused::BadFlag)
-        } else if self.awaits.is_some() {
+        } else if self.waiting() {
             Err(Refused::Waiting)
         } else {
             Ok(())
@@ -373,12 +376,12 @@ impl<T: BookTurn> Processor<T> {
     }
 
     /// What it waits for.
-    pub(crate) fn admit_take(&self) -> Result<Kind, Refused>
+    pub(crate) fn admit_take(&self) -> Result<Awaited, Refused>
         ensures test { result_err result ≡ take_refusal self.now }
-        ensures kind { IfOk result (λ k. self.now.awaits ≡ Some k) }
+        ensures waits { IfOk result (λ awaited. self.now.awaits ≡ Some (awaited_kind awaited)) }
     {
         match self.awaits {
-            Some(kind) => Ok(kind),
+            Some(awaited) => Ok(awaited),
             None => Err(Refused::NothingAwaited),
         }
     }
@@ -409,4 +412,25 @@ pub(crate) fn clean(replicas: &mut Vec<Replica>, stored: &mut Marks)
     ensures stored { stored.new ≡ replicate most_pages false }
 {
     crate::copies::clean(replicas.as_mut_slice(), stored);
+}
+
+/// The locks held after the event: a grant gives one, and a release gives one away.
+pub(crate) fn mark_held(held: &mut Vec<bool>, kind: Kind)
+    ensures { held.new.items ≡ held_after kind held.old.items }
+{
+    match kind {
+        Kind::Acquire(lock) => mark_lock(held, lock, true),
+        Kind::Release(lock) => mark_lock(held, lock, false),
+        _ => {}
+    }
+}
+
+/// Says whether the lock is held; past the last lock it does nothing.
+#[tactic(auto, using(std::proofs::lemmas::List::set_past))]
+fn mark_lock(held: &mut Vec<bool>, lock: usize, is_held: bool)
+    ensures { held.new.items ≡ slice_set held.old.items lock is_held }
+{
+    if lock < held.len() {
+        held[lock] = is_held;
+    }
 }

@@ -9,3 +9,4 @@ pub mod Balance
 pub mod ProcessorsAndAddresses
 pub mod History
 pub mod Deadlocks
+pub mod Closings

@@ -18,6 +18,7 @@ pub mod InRange
 pub mod JournalInvariant
 pub mod Brings
 pub mod Waits
+pub mod Closing
 pub mod ClockEntry
 pub mod Clocks
 pub mod AccessEntry

@@ -14,6 +14,7 @@ pub use Rattle.journal.specs.Log.{Log, new_log}
 pub use Rattle.journal.specs.InRange.{AddressInRange, AddressesInRange, ProcessorsInRange}
 pub use Rattle.journal.specs.JournalInvariant.{JournalInvariant, log_of}
 pub use Rattle.journal.specs.Waits.{awaited}
+pub use Rattle.journal.specs.Closing.{awaited_kind, closing_kind}
 pub use Rattle.journal.specs.ClockEntry.{EntryClosedAt, EntryJoinedAt, entry, map_entry}
 pub use Rattle.journal.specs.Clocks.{AreClocks, ClocksArrived}
 pub use Rattle.journal.specs.AccessEntry.{AreAccessEntries, AreLoadsAfter, AreWithin, ConflictsAreCounted, AccessNoted}

@@ -16,6 +16,7 @@
 mod base_state;
 mod clock;
 mod clocks;
+mod closing;
 mod cut;
 mod episodes;
 mod event;
@@ -29,6 +30,7 @@ mod traffic;
 
 pub use clock::Clock;
 pub use clocks::Clocks;
+pub use closing::{Awaited, Closing};
 pub use cut::CutFault;
 pub use event::{Event, Kind};
 pub use journal::Journal;

@@ -15,9 +15,9 @@ use Rattle.journal.specs.WellFormed.{KindInRange, MayFollow}
 use Rattle.journal.specs.Deadlocks.{IsDeadlock}
 use Rattle.journal.proofs.Journals.WellFormedLast.{each_push}
 use Rattle.lockq.specs.LockQueues.{lock_at, unheld_lock, lock_line}
-use Rattle.book.specs.declared.awaited.Awaited.{Awaited}
-use Rattle.book.specs.declared.awaited.Awaited.TheVariants.{Grant, Departure, Signal}
-use Rattle.book.specs.Awaiting.{awaited_kind}
+use Rattle.journal.specs.declared.closing.Awaited.{Awaited}
+use Rattle.journal.specs.declared.closing.Awaited.TheVariants.{Grant, Departure, Signal}
+use Rattle.journal.specs.Closing.{awaited_kind}
 use Rattle.book.specs.Lines.{IsLock}
 use Rattle.book.specs.State.{State}
 use Rattle.book.specs.Messages.{message_has_come}

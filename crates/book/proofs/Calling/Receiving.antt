@@ -22,8 +22,8 @@ use Rattle.barrier.specs.declared.barrier.Stage.{Stage}
 use Rattle.barrier.specs.declared.barrier.Stage.TheVariants.{Away, Free}
 use Rattle.transit.specs.Letters.{Letter}
 use Rattle.journal.specs.DidEvent.{event}
-use Rattle.book.specs.declared.awaited.Awaited.{Awaited}
-use Rattle.book.specs.Awaiting.{awaited_kind}
+use Rattle.journal.specs.declared.closing.Awaited.{Awaited}
+use Rattle.journal.specs.Closing.{awaited_kind}
 use Rattle.book.specs.Flags.{IsFlag}
 use Rattle.book.specs.ClosedIntervals.{AreClosedFromFirst, IsTight}
 use Rattle.book.specs.BarrierStages.{IsAtBarrierStage}

@@ -9,9 +9,9 @@ use Rattle.base.specs.InOrderOnce.{Has}
 use Rattle.base.proofs.Joined.{has-nil, has-cons}
 use Rattle.base.proofs.SliceSets.{slice_get-set_same, slice_get-set_other}
 use Rattle.transit.specs.Letters.{Letter}
-use Rattle.book.specs.declared.awaited.Awaited.{Awaited}
-use Rattle.book.specs.declared.awaited.Awaited.TheVariants.{Grant, Departure, Signal}
-use Rattle.book.specs.Awaiting.{awaited_kind}
+use Rattle.journal.specs.declared.closing.Awaited.{Awaited}
+use Rattle.journal.specs.declared.closing.Awaited.TheVariants.{Grant, Departure, Signal}
+use Rattle.journal.specs.Closing.{awaited_kind}
 use Rattle.book.specs.Messages.{message_has_come}
 use Rattle.book.specs.Waiters.{waiters_from}
 

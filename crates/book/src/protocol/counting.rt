@@ -5,8 +5,8 @@ ghost use Rattle.interval.specs.Prelude.{is_of_page};
 ghost use Rattle.book.specs.Prelude.{brought, message_for, sent_with_message, IsSignalled, IsProcessor, AllowsTake};
 
 use super::Protocol;
-use crate::awaited::Awaited;
 use interval::Sent;
+use journal::Awaited;
 use vtime::VTime;
 
 impl Protocol {

@@ -4,10 +4,9 @@ ghost use Rattle.base.specs.Prelude.{Has};
 ghost use Rattle.book.specs.Prelude.{HasClosed, IsNamed};
 
 use super::Protocol;
-use crate::awaited::Awaited;
 use crate::waiters::Waiters;
 use crate::waiting::{all_who_may_go_on, one_who_may_go_on};
-use journal::Kind;
+use journal::{Awaited, Kind};
 
 impl Protocol {
     /// Whom `processor` has let go on by this event, with which it has just closed its interval.

@@ -2,13 +2,14 @@
 //! with reasons of refusal of its own.
 ghost use Rattle.std.specs.Prelude.{◌≡◌};
 ghost use Rattle.std.specs.Result.{result_err};
+ghost use Rattle.journal.specs.declared.event.Kind.TheVariants.{Ask, Release, Arrive, Set, Watch};
 ghost use Rattle.cluster.specs.Prelude.{arrive_refusal, ask_refusal, release_refusal, flag_refusal, IsClosingCall};
 
 use super::Cluster;
 use crate::keeper::BookTurn;
 use crate::processor::Processor;
 use book::Refused;
-use journal::Kind;
+use journal::Closing;
 use std::sync::Wait;
 
 impl<T: BookTurn> Cluster<T> {
@@ -28,10 +29,10 @@ impl<T: BookTurn> Cluster<T> {
         lock: usize,
     ) -> Result<(), Refused>
         requires own { processor.old.lock ≡ self.now.lock }
-        ensures { IsClosingCall (ask_refusal processor.old lock) (Kind.Ask lock)
+        ensures { IsClosingCall (ask_refusal processor.old lock) (Ask lock)
             processor.old processor.new (result_err result) }
     {
-        self.close(rt, processor, Kind::Ask(lock))
+        self.close(rt, processor, Closing::Ask(lock))
     }
 
     /// Releases a lock that the processor holds: hands its open block in and closes its interval, which the next
@@ -45,10 +46,10 @@ impl<T: BookTurn> Cluster<T> {
         lock: usize,
     ) -> Result<(), Refused>
         requires own { processor.old.lock ≡ self.now.lock }
-        ensures { IsClosingCall (release_refusal processor.old lock) (Kind.Release lock)
+        ensures { IsClosingCall (release_refusal processor.old lock) (Release lock)
             processor.old processor.new (result_err result) }
     {
-        self.close(rt, processor, Kind::Release(lock))
+        self.close(rt, processor, Closing::Release(lock))
     }
 
     /// Arrives at the barrier: hands the open block in and closes the interval, and from then on the processor
@@ -57,10 +58,10 @@ impl<T: BookTurn> Cluster<T> {
     /// Refused as [`ask`](Cluster::ask) is, with none of the reasons that name the lock.
     pub fn arrive<R: Wait>(&self, rt: &R, processor: &mut Processor<T>) -> Result<(), Refused>
         requires own { processor.old.lock ≡ self.now.lock }
-        ensures { IsClosingCall (arrive_refusal processor.old) Kind.Arrive
+        ensures { IsClosingCall (arrive_refusal processor.old) Arrive
             processor.old processor.new (result_err result) }
     {
-        self.close(rt, processor, Kind::Arrive)
+        self.close(rt, processor, Closing::Arrive)
     }
 
     /// Sets a flag, which stays set: hands the open block in and closes the interval, which whoever awaits the
@@ -75,10 +76,10 @@ impl<T: BookTurn> Cluster<T> {
         flag: usize,
     ) -> Result<(), Refused>
         requires own { processor.old.lock ≡ self.now.lock }
-        ensures { IsClosingCall (flag_refusal processor.old flag) (Kind.Set flag)
+        ensures { IsClosingCall (flag_refusal processor.old flag) (Set flag)
             processor.old processor.new (result_err result) }
     {
-        self.close(rt, processor, Kind::Set(flag))
+        self.close(rt, processor, Closing::Set(flag))
     }
 
     /// Watches a flag: hands the open block in and closes the interval, and from then on the processor waits
@@ -92,9 +93,9 @@ impl<T: BookTurn> Cluster<T> {
         flag: usize,
     ) -> Result<(), Refused>
         requires own { processor.old.lock ≡ self.now.lock }
-        ensures { IsClosingCall (flag_refusal processor.old flag) (Kind.Watch flag)
+        ensures { IsClosingCall (flag_refusal processor.old flag) (Watch flag)
             processor.old processor.new (result_err result) }
     {
-        self.close(rt, processor, Kind::Watch(flag))
+        self.close(rt, processor, Closing::Watch(flag))
     }
 }

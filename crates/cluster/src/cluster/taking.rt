@@ -1,24 +1,23 @@
 //! Calls that take what a processor waits for.
 ghost use Rattle.std.specs.Prelude.{◌≡◌, ◌≢◌, ◌↔◌, ◌⊎◌, ◌<◌, ◌≤◌, ◌+◌, Err, IfErr, IfOk, OnOk};
-ghost use Rattle.std.specs.Prelude.{OnErr, List, length, vec_len, true};
+ghost use Rattle.std.specs.Prelude.{OnErr, List, length, vec_len};
 ghost use Rattle.std.specs.Result.{result_err};
 ghost use Rattle.base.specs.Prelude.{most_events, most_pages};
-ghost use Rattle.journal.specs.Prelude.{is_taking, Sizes, Ready};
+ghost use Rattle.journal.specs.Prelude.{Sizes, Ready};
 ghost use Rattle.journal.specs.declared.event.Event.{Event};
 ghost use Rattle.vtime.specs.Times.{join};
 ghost use Rattle.transit.specs.Prelude.{letter};
 ghost use Rattle.book.specs.Prelude.{brought, IsProcessor, AllowsSomeTake, BookTakes, IsFullRefusal, IsRoomRefusal, Represents};
-ghost use Rattle.cluster.specs.Copies.Prelude.{AreAfterNews, AreSameCopies, HaveRoomForNews, MayLearnNews, held_after};
-ghost use Rattle.cluster.specs.Prelude.{IsTakingCall, MayHoldOne, HasRoomToTake};
+ghost use Rattle.cluster.specs.Copies.Prelude.{AreAfterNews, AreSameCopies, HaveRoomForNews, MayLearnNews};
+ghost use Rattle.cluster.specs.Prelude.{IsTakingCall, HasRoomToTake};
 
 use super::Cluster;
 use crate::copies::Replica;
 use crate::keeper::BookTurn;
-use crate::processor::Processor;
+use crate::processor::{Processor, mark_held};
 use base::MOST_PAGES;
 use book::{Book, Refused};
 use interval::Sent;
-use journal::Kind;
 use std::alloc::AllocError;
 use std::sync::Wait;
 use transit::Message;
@@ -38,12 +37,12 @@ impl<T: BookTurn> Cluster<T> {
         requires own { processor.old.lock ≡ self.now.lock }
         ensures { IsTakingCall processor.old processor.new (result_err result) }
     {
-        let kind = processor.admit_take()?;
+        let awaited = processor.admit_take()?;
         let (held, mut book) = self.take_book(rt, &mut processor.chair)?;
         let received = receive(&mut book, processor.number, &mut processor.replicas);
         self.give_book(&mut processor.chair, held, book);
         accept(received?, &mut processor.replicas, &mut processor.time);
-        mark_held(&mut processor.held, kind);
+        mark_held(&mut processor.held, awaited.kind());
         processor.awaits = None;
         Ok(())
     }
@@ -134,15 +133,4 @@ fn learn(replicas: &mut Vec<Replica>, notices: Vec<Sent>)
     ensures { AreAfterNews replicas.old.items notices.items replicas.new.items }
 {
     crate::copies::learn(replicas.as_mut_slice(), notices);
-}
-
-/// The locks held after what was taken: a grant gives one.
-fn mark_held(held: &mut Vec<bool>, kind: Kind)
-    requires takes { is_taking kind ≡ true }
-    requires lock { MayHoldOne (length held.old.items) kind }
-    ensures { held.new.items ≡ held_after kind held.old.items }
-{
-    if let Kind::Acquire(lock) = kind {
-        held[lock] = true;
-    }
 }

@@ -1,6 +1,6 @@
 use Rattle.std.proofs.Common.{◌≡◌, ℕ, zero, suc, ◌∷◌, map, replicate, refl, ap, ◌∙◌}
 use Rattle.std.specs.Option.{option_map}
-use Rattle.book.specs.Awaiting.{awaited_kind}
+use Rattle.journal.specs.Closing.{awaited_kind}
 use Rattle.book.proofs.empty.empty_timestamps.Goals as goal
 
 module _ {A B : Type 0} (f : A → B) (a : A) where

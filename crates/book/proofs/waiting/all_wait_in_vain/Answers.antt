@@ -1,6 +1,6 @@
 use Rattle.std.proofs.Common.{Some, ap, ◌∙◌, sym, below_more}
 use Rattle.book.proofs.Calling.WaitingPlaces.{WaitsInVainAt, read_at, idle_waits_not, done_waiting_not_vain}
-use Rattle.book.specs.declared.awaited.Awaited.{Awaited}
+use Rattle.journal.specs.declared.closing.Awaited.{Awaited}
 use Rattle.book.proofs.waiting.all_wait_in_vain.Goals as goal
 
 pub returns-in_default : goal.returns-in_default

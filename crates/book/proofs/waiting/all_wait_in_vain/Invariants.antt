@@ -1,8 +1,8 @@
 -- Those before p wait for what has not come.
 use Rattle.std.proofs.Common.{◌≡◌, ℕ, ◌<◌, Some, false, slice_get}
 use Rattle.book.specs.Messages.{message_has_come}
-use Rattle.book.specs.Awaiting.{awaited_kind}
-use Rattle.book.specs.declared.awaited.Awaited.{Awaited}
+use Rattle.journal.specs.Closing.{awaited_kind}
+use Rattle.journal.specs.declared.closing.Awaited.{Awaited}
 use Rattle.book.proofs.waiting.all_wait_in_vain.Given as goal
 
 abbrev pub invariant-loop-p : goal.invariant-loop-p

@@ -1,8 +1,8 @@
 use Rattle.std.proofs.Common.{◌≡◌, ◌<◌, ◌∙◌, Option, Some, List, length, map, slice_get, ap, sym, subst}
 use Rattle.std.specs.Option.{option_map}
-use Rattle.book.specs.declared.awaited.Awaited.{Awaited}
-use Rattle.book.specs.declared.awaited.Awaited.TheVariants.{Signal}
-use Rattle.book.specs.Awaiting.{awaited_kind}
+use Rattle.journal.specs.declared.closing.Awaited.{Awaited}
+use Rattle.journal.specs.declared.closing.Awaited.TheVariants.{Signal}
+use Rattle.journal.specs.Closing.{awaited_kind}
 use Rattle.book.specs.BookInvariant.{book_state}
 use Rattle.book.proofs.Calling.WaitingPlaces.{waits_map}
 use Rattle.book.proofs.Calling.NamedWaiting.{IsWaitingRead, StandsWaiting, stands_waiting, waiting_deadlocked}

@@ -1,7 +1,7 @@
 use Rattle.std.proofs.Common.{◌≡◌, ◌∙◌, ◌<◌, length, refl, ap, sym, subst, arith}
 use Rattle.std.proofs.lemmas.List.{length-map}
 use Rattle.std.specs.Option.{option_map}
-use Rattle.book.specs.Awaiting.{awaited_kind}
+use Rattle.journal.specs.Closing.{awaited_kind}
 use Rattle.book.specs.BookInvariant.{book_state}
 use Rattle.book.specs.State.{State}
 use Rattle.book.proofs.Calling.Receiving.{IsReceiving, reads_receiving, IsComeRead, comes, receiving, receiving_not_idle}

@@ -10,7 +10,7 @@ use Rattle.journal.specs.Log.{Log}
 use Rattle.vtime.specs.Times.{join}
 use Rattle.transit.specs.Letters.{letter}
 use Rattle.book.specs.declared.refused.Refused.TheVariants.{NotYet, NoMemory}
-use Rattle.book.specs.Awaiting.{awaited_kind}
+use Rattle.journal.specs.Closing.{awaited_kind}
 use Rattle.book.specs.Messages.{message_for}
 use Rattle.book.specs.Calls.{AllowsSignal}
 use Rattle.book.specs.BookInvariant.{book_state}

@@ -1,4 +1,4 @@
-use Rattle.std.proofs.Common.{◌≡◌, ◌<◌, length, map, slice_index, slice_set, subst, sym, refl, ap, ◌∙◌, arith, rules}
+use Rattle.std.proofs.Common.{◌≡◌, ◌<◌, true, length, map, slice_index, slice_set, subst, sym, refl, ap, ◌∙◌, arith, rules}
 use Rattle.std.proofs.lemmas.List.{length-map, map-set}
 use Rattle.std.specs.Option.{option_map}
 use Rattle.journal.specs.Log.{Log}
@@ -6,7 +6,10 @@ use Rattle.vtime.specs.Times.{tick}
 use Rattle.interval.specs.SentIntervals.{ClosedInterval}
 use Rattle.interval.specs.Closings.{pushed}
 use Rattle.journal.specs.DidEvent.{event}
-use Rattle.book.specs.Awaiting.{awaited_kind}
+use Rattle.journal.specs.Closing.{awaited_kind}
+use Rattle.journal.specs.Events.{is_closing}
+use Rattle.journal.specs.Waits.{awaited}
+use Rattle.journal.proofs.Journals.Closings.{closing_closes}
 use Rattle.book.specs.State.{State, time_of}
 use Rattle.book.specs.Transitions.{book_handed_in, book_open_interval, book_closed_by}
 use Rattle.book.specs.BookInvariant.{book_state}
@@ -62,7 +65,8 @@ append-requires-clause-processor c =
     omega arith
 
 pub append-requires-clause-address : goal.append-requires-clause-address
-append-requires-clause-address c = closing_address c.append_all.new.journal.addresses c.args.kind c.requires.kind
+append-requires-clause-address c = closing_address c.append_all.new.journal.addresses c.kind-kind.result
+    (subst (λ k. is_closing k ≡ true) (sym c.kind-kind.ensures) (closing_closes c.args.closing))
 
 pub index_mut-requires : goal.index_mut-requires
 index_mut-requires c =
@@ -96,20 +100,22 @@ returns c =
     let records = c.args.interval.records in
     let log = logs_are c.self.inside.journal c.make_room.new.journal c.append_all.new.journal c.append.new.self
     c.self.inside.owing c.args.block.now
-    (event c.args.processor c.args.kind) c.in_ok-make_room.ensures.same c.append_all.ensures c.append.ensures in
+    (event c.args.processor c.kind-kind.result) c.in_ok-make_room.ensures.same c.append_all.ensures c.append.ensures in
     let closed = c.in_ok-push.ensures.ok ∙ ap (λ (i : ClosedInterval). pushed c.self.inside.closed i) c.requires.open
     ∙ ap (λ (b : State). pushed c.self.inside.closed (book_open_interval b c.args.processor records)) (sym c.self.view_is) in
     let time = c.tick.ensures ∙ ap (λ ts. tick ts c.args.processor) (own at.After-index_mut (standing at.After-self)) in
-    let waits = map-set (option_map awaited_kind) c.self.inside.awaits.items c.args.processor c.after.result
-    ∙ ap (λ w. slice_set (map (option_map awaited_kind) c.self.inside.awaits.items) c.args.processor w) c.after.ensures in
+    let waits = map-set (option_map awaited_kind) c.self.inside.awaits.items c.args.processor c.awaits.result
+    ∙ ap (λ w. slice_set (map (option_map awaited_kind) c.self.inside.awaits.items) c.args.processor w)
+    (c.awaits.ensures ∙ ap awaited (sym c.kind-kind.ensures)) in
     record {
-      ok = closing_is (book_state c.self.inside) c.args.processor c.args.kind c.args.block.now records _ (record {
+      ok = closing_is (book_state c.self.inside) c.args.processor c.kind-kind.result c.args.block.now records _ (record {
         journal = log;
         closed = closed;
         times = ap (λ t. slice_set c.self.inside.times.items c.args.processor t) time;
         awaits = waits;
         others = refl;
-      }) ∙ ap (λ (b : State). book_closed_by (book_handed_in b c.args.block.now) c.args.processor c.args.kind records) c.self.view_is;
+      }) ∙ ap (λ (b : State). book_closed_by (book_handed_in b c.args.block.now) c.args.processor c.kind-kind.result records) c.self.view_is
+          ∙ ap (λ k. book_closed_by (book_handed_in c.args.self.now c.args.block.now) c.args.processor k records) c.kind-kind.ensures;
       err = search rules;
       full = search rules;
       only = search rules;

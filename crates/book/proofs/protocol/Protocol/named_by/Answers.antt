@@ -2,7 +2,7 @@ use Rattle.std.proofs.Common.{◌≡◌, ◌<◌, ◌↔◌, ℕ, List, Option, 
 use Rattle.std.specs.Option.{option_map}
 use Rattle.base.specs.InOrderOnce.{Has}
 use Rattle.journal.specs.declared.event.Kind.{Kind}
-use Rattle.book.specs.Awaiting.{awaited_kind}
+use Rattle.journal.specs.Closing.{awaited_kind}
 use Rattle.book.specs.BookInvariant.{book_state}
 use Rattle.book.specs.State.{State}
 use Rattle.book.specs.Waiting.{IsNamed}

@@ -1,5 +1,7 @@
 -- The goals are those of each call that enters, over records of this one's steps: proofs/Visiting has what they share.
 use Rattle.std.proofs.Common.{refl, arith}
+use Rattle.std.specs.Option.{option_map}
+use Rattle.journal.specs.Closing.{awaited_kind}
 use Rattle.cluster.specs.Seats.{local}
 use Rattle.cluster.proofs.Found.{found_may_flush}
 use Rattle.cluster.proofs.Visiting.{visited_book_found, visit_gives_back, visited, visit_left_as}
@@ -45,7 +47,7 @@ returns-in_err-journal-clause-call g c =
 -- the block was handed in
 handed : (g : given.Over) (c : After-clear g)
     → let x = c.processor.inside in
-    Handed (local x.chair x.number x.shape x.block.items x.replicas.items x.stored x.time x.held.items x.awaits)
+    Handed (local x.chair x.number x.shape x.block.items x.replicas.items x.stored x.time x.held.items (option_map awaited_kind x.awaits))
     c.in_ok-held.book c.audit-audited.new.self c.give_book.new.chair
 handed g c =
     let m = c.processor.invariant in

@@ -1,4 +1,6 @@
 use Rattle.std.proofs.Common.{refl, sym}
+use Rattle.journal.specs.Closing.{closing_kind}
+use Rattle.journal.proofs.Journals.Closings.{closing_closes}
 use Rattle.book.specs.declared.refused.Refused.TheVariants.{SeatSpent, NoMemory}
 use Rattle.cluster.proofs.Admitting.{admitted_may_make}
 use Rattle.cluster.proofs.UnchangedCalls.{call_refused_with, call_outside, call_unmade}
@@ -24,7 +26,8 @@ returns-in_err-records g c =
 
 pub close_with-requires-clause-may : goal.close_with-requires-clause-may
 close_with-requires-clause-may g c κs within =
-    admitted_may_make c.args.processor.now c.args.kind c.requires.closes (sym c.in_ok-admit_closing.ensures)
+    admitted_may_make c.args.processor.now (closing_kind c.args.closing) (closing_closes c.args.closing)
+    (sym c.in_ok-admit_closing.ensures)
 
 pub returns : goal.returns
 returns g c = rw (← c.in_ok-admit_closing.ensures) c.close_with.ensures

@@ -1,10 +1,12 @@
 -- The goals are those of each call that enters, over records of this one's steps: proofs/Visiting has what they share.
 use Rattle.std.proofs.Common.{map, refl, sym, subst, arith}
 use Rattle.std.specs.Arc.{arc_value}
+use Rattle.std.specs.Option.{option_map}
+use Rattle.journal.specs.Closing.{awaited_kind, closing_kind}
 use Rattle.cluster.specs.Copies.MarksAndHarvests.{AreHarvests}
 use Rattle.cluster.specs.Copies.Local.{Local}
 use Rattle.cluster.specs.Seats.{local}
-use Rattle.cluster.specs.Closing.{MayHold, MayMake}
+use Rattle.cluster.specs.Closing.{MayMake}
 use Rattle.cluster.proofs.ClosingCalls.{marked_well, may_close, has_closed, call_of_close, Closed, closed_visit, closed_good, closed_done}
 use Rattle.cluster.proofs.Visiting.{visited_book_found, visit_gives_back, visited, visit_left_as}
 use Rattle.cluster.proofs.UnchangedCalls.{alike_all, call_refused_with, call_spent, call_refused, unchanged_sound}
@@ -22,19 +24,19 @@ pub close_in-closed-requires-clause-call : goal.close_in-closed-requires-clause-
 close_in-closed-requires-clause-call g c =
     let m = c.processor.invariant in
     let finds = visited_book_found m.0 m.1 refl c.in_ok-held.book c.in_ok-held.ensures.finds in
-    let may = subst (λ (l : Local). MayMake l c.args.kind) (sym c.processor.view_is) c.requires.may in
-    rw (c.as_slice-block.ensures.value) (may_close _ m.0 c.in_ok-held.book finds c.args.kind may)
+    let may = subst (λ (l : Local). MayMake l (closing_kind c.args.closing)) (sym c.processor.view_is) c.requires.may in
+    rw (c.as_slice-block.ensures.value) (may_close _ m.0 c.in_ok-held.book finds (closing_kind c.args.closing) may)
 
 pub give_book-requires-clause-call : goal.give_book-requires-clause-call
 give_book-requires-clause-call g c κs within =
     let m = c.processor.invariant in
     let made = c.close_in-closed.ensures in
-    let may = subst (λ (l : Local). MayMake l c.args.kind) (sym c.processor.view_is) c.requires.may in
+    let may = subst (λ (l : Local). MayMake l (closing_kind c.args.closing)) (sym c.processor.view_is) c.requires.may in
     let are =
     subst (λ (l : Local). AreHarvests l.copies (map arc_value c.args.records.items)) (sym c.processor.view_is)
     c.requires.records in
     visit_gives_back m.0 m.1 refl c.in_ok-held.ensures.entered
-    (call_of_close _ m.0 c.in_ok-held.book c.args.kind may _ are c.close_in-closed.result _ _
+    (call_of_close _ m.0 c.in_ok-held.book (closing_kind c.args.closing) may _ are c.close_in-closed.result _ _
     c.as_slice-block.ensures.value made.ok made.err made.full)
 
 pub invariant_of-processor-in_err-closed : goal.invariant_of-processor-in_err-closed
@@ -54,12 +56,12 @@ returns-in_err-closed g c =
 -- the interval was closed
 closed : (g : given.Over) (c : After-clear g)
     → let x = c.processor.inside in
-    Closed (local x.chair x.number x.shape x.block.items x.replicas.items x.stored x.time x.held.items x.awaits)
-    c.in_ok-held.book c.args.kind (map arc_value c.args.records.items) c.give_book.new.chair
+    Closed (local x.chair x.number x.shape x.block.items x.replicas.items x.stored x.time x.held.items (option_map awaited_kind x.awaits))
+    c.in_ok-held.book (closing_kind c.args.closing) (map arc_value c.args.records.items) c.give_book.new.chair
 closed g c =
     let m = c.processor.invariant in
     let visit = visited m.0 m.1 refl c.in_ok-held.ensures.entered c.give_book.ensures in
-    let may = subst (λ (l : Local). MayMake l c.args.kind) (sym c.processor.view_is) c.requires.may in
+    let may = subst (λ (l : Local). MayMake l (closing_kind c.args.closing)) (sym c.processor.view_is) c.requires.may in
     let are =
     subst (λ (l : Local). AreHarvests l.copies (map arc_value c.args.records.items)) (sym c.processor.view_is)
     c.requires.records in
@@ -75,7 +77,8 @@ invariant_of-processor-2 g c =
         c.clean.ensures.stored,
         c.tick.ensures,
         c.mark_held.ensures,
-        c.awaited-processor-inside.ensures,
+        c.kind.ensures,
+        c.awaits-processor-inside.ensures,
       ) (closed_good t),
       t.visit.seated,
       (let was = c.processor.invariant.2 in let same = c.clear.ensures.capacity in omega arith),
@@ -89,15 +92,13 @@ returns g c =
       c.clean.ensures.stored,
       c.tick.ensures,
       c.mark_held.ensures,
-      c.awaited-processor-inside.ensures,
+      c.kind.ensures,
+      c.awaits-processor-inside.ensures,
       ← c.processor.view_is,
     ) (closed_done (closed g (goal.at.returns g c).After-clear))
 
 pub clean-requires : goal.clean-requires
 clean-requires g c = marked_well _ c.processor.invariant.0
-
-pub close_in-closed-requires-clause-closes : goal.close_in-closed-requires-clause-closes
-close_in-closed-requires-clause-closes g c = c.requires.may.closes
 
 pub close_in-closed-requires-clause-short : goal.close_in-closed-requires-clause-short
 close_in-closed-requires-clause-short g c = rw (c.as_slice-block.ensures.value) c.processor.invariant.0.short
@@ -111,19 +112,12 @@ tick-requires-clause-in_range g c =
     let mine = c.processor.invariant.0.mine in
     omega arith
 
-pub mark_held-requires-clause-closes : goal.mark_held-requires-clause-closes
-mark_held-requires-clause-closes g c = c.requires.may.closes
-
-pub mark_held-requires-clause-may : goal.mark_held-requires-clause-may
-mark_held-requires-clause-may g c =
-    subst (λ (l : Local). MayHold l.held c.args.kind) (sym c.processor.view_is) c.requires.may.held
-
 pub close_in-closed-requires-clause-told : goal.close_in-closed-requires-clause-told
 close_in-closed-requires-clause-told g c =
     let m = c.processor.invariant in
     let finds = visited_book_found m.0 m.1 refl c.in_ok-held.book c.in_ok-held.ensures.finds in
-    let may = subst (λ (l : Local). MayMake l c.args.kind) (sym c.processor.view_is) c.requires.may in
+    let may = subst (λ (l : Local). MayMake l (closing_kind c.args.closing)) (sym c.processor.view_is) c.requires.may in
     let are =
     subst (λ (l : Local). AreHarvests l.copies (map arc_value c.args.records.items)) (sym c.processor.view_is)
     c.requires.records in
-    rw (c.as_slice-block.ensures.value) (has_closed _ m.0 c.in_ok-held.book finds c.args.kind _ may are)
+    rw (c.as_slice-block.ensures.value) (has_closed _ m.0 c.in_ok-held.book finds (closing_kind c.args.closing) _ may are)

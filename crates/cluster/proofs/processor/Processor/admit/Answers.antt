@@ -1,5 +1,7 @@
 use Rattle.std.proofs.Common.{◌≡◌, ◌/◌, Some, slice_get, sym, ap, ◌∙◌, subst, rules, refl}
+use Rattle.std.specs.Option.{option_map}
 use Rattle.std.specs.Result.{result_err}
+use Rattle.journal.specs.Closing.{awaited_kind}
 use Rattle.cluster.specs.Copies.Local.{Local}
 use Rattle.cluster.specs.Seats.{local}
 use Rattle.cluster.specs.declared.processor.Processor.TheInside.{Inside}
@@ -13,7 +15,7 @@ use Rattle.cluster.proofs.processor.Processor.admit.Goals.{In-Some}
 abbrev local_of : (g : given.Over) → Inside g.row.T.Denot → Local
 local_of g i =
     local i.chair i.number i.shape i.block.items i.replicas.items i.stored i.time i.held.items
-    i.awaits
+    (option_map awaited_kind i.awaits)
 
 -- the copy that is found is the processor's
 found : (g : given.Over) (c : In-Some g)
