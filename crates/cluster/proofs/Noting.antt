@@ -214,11 +214,11 @@ module _ (m : Local) (a v : ℕ) (c : Copied) (free : access_refusal m a ≡ Non
       ]
 
 -- the parts of a processor after a store
-pub store_noted_done : (was m : Local) (a v page offset : ℕ) (x y : Copied) (block : List Event) (marks : List Bool)
-    → was ≡ m → page ≡ a / m.sizes.words → offset ≡ a % m.sizes.words → y ≡ replica_written_at x offset v
+pub store_noted_done : {was m : Local} {page offset : ℕ} {y : Copied} {block : List Event} {marks : List Bool}
+    (a v : ℕ) (x : Copied) → was ≡ m → page ≡ a / m.sizes.words → offset ≡ a % m.sizes.words → y ≡ replica_written_at x offset v
     → block ≡ was.block ++ event was.number (Store a v) ∷ [] → marks ≡ slice_set was.stored page true
     → record was { block = block; copies = slice_set was.copies page y; stored = marks } ≡ stored_at m a v x
-store_noted_done was m a v page offset x y block marks same page_is offset_is y_is block_is marks_are =
+store_noted_done {m = m} a v x same page_is offset_is y_is block_is marks_are =
     rw (
       y_is,
       block_is,

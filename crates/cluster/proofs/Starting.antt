@@ -135,11 +135,19 @@ start_allowed l p s mine = record {
   kept = start_kept s (omega arith);
 }
 
--- the parts of a new processor
-made : (l : LockId) (e p : ℕ) (s : Sizes) (v : View) (block : List Event) (copies : List Copied) (stored : List Bool)
-    (time : List ℕ) (held : List Bool) → e ≡ 0 → v ≡ view_of_nothing s → block ≡ []
-    → copies ≡ replicate s.pages (blank s) → stored ≡ replicate 64 false → time ≡ replicate s.processors 0
-    → held ≡ replicate s.locks false
+-- what a new processor has: an empty block, zero copies and marks, and a zero timestamp; and it holds no lock
+pub record AreNewParts (s : Sizes) (block : List Event) (copies : List Copied) (stored : List Bool) (time : List ℕ)
+    (held : List Bool) : Type 0 where
+  pub block_is : block ≡ []
+  pub copies_are : copies ≡ replicate s.pages (blank s)
+  pub stored_is : stored ≡ replicate 64 false
+  pub time_is : time ≡ replicate s.processors 0
+  pub held_is : held ≡ replicate s.locks false
+
+-- with a view of nothing it is a new processor
+new_parts_local : {s : Sizes} {block : List Event} {copies : List Copied} {stored : List Bool} {time : List ℕ}
+    {held : List Bool} (l : LockId) (e p : ℕ) (v : View) → e ≡ 0 → v ≡ view_of_nothing s
+    → AreNewParts s block copies stored time held
     → ◌≡◌ {A = Local} (record {
       lock = l;
       entries = e;
@@ -155,15 +163,15 @@ made : (l : LockId) (e p : ℕ) (s : Sizes) (v : View) (block : List Event) (cop
       held = held;
       awaits = None;
     }) (new_local l p s)
-made l e p s v block copies stored time held f g a b c d h = rw (f, g, a, b, c, d, h)
+new_parts_local l e p v none nothing are =
+    rw (none, nothing, are.block_is, are.copies_are, are.stored_is, are.time_is, are.held_is) refl
 
-pub start_parts : (chair : ChairToken State View) (p : ℕ) (s : Sizes) (block : List Event) (copies : List Copied)
-    (stored : List Bool) (time : List ℕ) (held : List Bool) → IsNewChair (lock chair) s p chair → block ≡ []
-    → copies ≡ replicate s.pages (blank s) → stored ≡ replicate 64 false → time ≡ replicate s.processors 0
-    → held ≡ replicate s.locks false → local chair p s block copies stored time held None ≡ new_local (lock chair) p s
-start_parts chair p s block copies stored time held new a b c d e =
-    made (lock chair) (entries chair) p s (view chair) block copies stored time held new.entries_are new.view_is a b c
-    d e
+pub start_parts : {s : Sizes} {block : List Event} {copies : List Copied} {stored : List Bool} {time : List ℕ}
+    {held : List Bool} (chair : ChairToken State View) (p : ℕ) → IsNewChair (lock chair) s p chair
+    → AreNewParts s block copies stored time held
+    → local chair p s block copies stored time held None ≡ new_local (lock chair) p s
+start_parts chair p new are =
+    new_parts_local (lock chair) (entries chair) p (view chair) new.entries_are new.view_is are
 
 -- new processors may have some book, and are covered
 pub start_covered : (c : SharedCluster) (ms : List Local) → AreSoundSizes c.sizes → IsNewCluster c ms → IsClusterCovered ms

@@ -93,16 +93,27 @@ module _ {m : Local} {old : ChairToken State View} (sound : IsSound m) (seated :
             (let own = sees.own_cut in let same = ap (λ (v : View). v.own_cut) chair.view_is in omega arith);
       }
 
+-- what chairs tell of their processors, and that two tell the same
+record Telling : Type 0 where
+  lock_of : LockId
+  times : ℕ
+  history : List Event
+  cut_off : ℕ
+  own_cut_off : ℕ
+
+record TellSame (t u : Telling) : Type 0 where
+  lock_is : t.lock_of ≡ u.lock_of
+  times_are : t.times ≡ u.times
+  history_is : t.history ≡ u.history
+  cut_off_is : t.cut_off ≡ u.cut_off
+  own_cut_off_is : t.own_cut_off ≡ u.own_cut_off
+
+abbrev telling : Local → Telling → Local
+telling n t = record n { lock = t.lock_of; entries = t.times; seen = t.history; cut = t.cut_off; own_cut = t.own_cut_off }
+
 -- a processor whose chair tells the same
-same_told : (n : Local) (l l' : LockId) (e e' : ℕ) (h h' : List Event) (k k' o o' : ℕ) → l ≡ l' → e ≡ e' → h ≡ h'
-    → k ≡ k' → o ≡ o' → record n { lock = l; entries = e; seen = h; cut = k; own_cut = o } ≡ record n {
-      lock = l';
-      entries = e';
-      seen = h';
-      cut = k';
-      own_cut = o';
-    }
-same_told n l l' e e' h h' k k' o o' a b c d f = rw (a, b, c, d, f) refl
+same_told : (n : Local) (t u : Telling) → TellSame t u → telling n t ≡ telling n u
+same_told n t u is = rw (is.lock_is, is.times_are, is.history_is, is.cut_off_is, is.own_cut_off_is) refl
 
 module _ {m : Local} {b new : State} {after : ChairToken State View} (v : Visit m b new after) (es : List Event)
     (call : IsCallOf m b es new) where
@@ -126,10 +137,27 @@ module _ {m : Local} {b new : State} {after : ChairToken State View} (v : Visit 
       }
   visit_local_after n own =
       let seen_is = v.seen ∙ ap (λ (xs : List Event). (m.seen ++ v.finds.rest) ++ xs) call.adds in
-      own
-      ∙ same_told (record n { number = m.number; sizes = m.sizes }) (lock after) m.lock (entries after) (m.entries + 1)
-      (view after).seen visit_seen_then (view after).cut new.journal.base.cut (view after).own_cut (m.own_cut + call.taken)
-      v.same_lock v.once_more seen_is v.cut own_cut_is
+      let told : Telling = record {
+        lock_of = lock after;
+        times = entries after;
+        history = (view after).seen;
+        cut_off = (view after).cut;
+        own_cut_off = (view after).own_cut;
+      } in
+      let then : Telling = record {
+        lock_of = m.lock;
+        times = m.entries + 1;
+        history = visit_seen_then;
+        cut_off = new.journal.base.cut;
+        own_cut_off = m.own_cut + call.taken;
+      } in
+      own ∙ same_told (record n { number = m.number; sizes = m.sizes }) told then (record {
+        lock_is = v.same_lock;
+        times_are = v.once_more;
+        history_is = seen_is;
+        cut_off_is = v.cut;
+        own_cut_off_is = own_cut_is;
+      })
 
   -- the lock's fact allows what it has seen
   pub visit_allowed_after : (n : Local) → n.number ≡ m.number → n.sizes ≡ m.sizes → n.seen ≡ visit_seen_then

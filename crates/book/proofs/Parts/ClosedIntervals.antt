@@ -114,17 +114,25 @@ closed_quiet s h p k c quiet x = record {
       | inr new ↦ absurd (true≢false (sym new.2 ∙ quiet))
     ]
 
+-- p closes its interval by this event: what the closed intervals are before, and what the new one has
+pub record IsClosing (s : Sizes) (h : List Event) (p : ℕ) (k : Kind) (c : Closings) (n : ℕ) (records : List Changes) : Type 0 where
+  pub closes : is_closing k ≡ true
+  pub mine : p < s.processors
+  pub number : n ≡ count_of is_closing h p
+  pub covered : slice_index c.first p ≤ n
+  pub stored : AreIntervalContents s h p n records
+  pub before : AreClosed s h c
+
 -- a closing event closes its processor's interval
-pub closed_closing : (s : Sizes) (h : List Event) (p : ℕ) (k : Kind) (c : Closings) (n : ℕ) (records : List Changes)
-    → is_closing k ≡ true → p < s.processors → n ≡ count_of is_closing h p → slice_index c.first p ≤ n
-    → AreIntervalContents s h p n records → AreClosed s h c
+pub closed_closing : {s : Sizes} {h : List Event} {p : ℕ} {k : Kind} {c : Closings} {n : ℕ} {records : List Changes}
+    → IsClosing s h p k c n records
     → AreClosed s (did h p k) (pushed c (record { owner = p; number = n; records = records }))
-closed_closing s h p k c n records closes lt number covered stored x = record {
-  count = let sum = closings_did h p k in let one = ap (λ (b : Bool). cond {A = ℕ} b 1 0) closes in let was =
-      x.count in omega arith;
-  next_long = length-set c.next p (n + 1) ∙ x.next_long;
+closed_closing {s} {h} {p} {k} {c} {n} {records} now = record {
+  count = let sum = closings_did h p k in let one = ap (λ (b : Bool). cond {A = ℕ} b 1 0) now.closes in let was =
+      now.before.count in omega arith;
+  next_long = length-set c.next p (n + 1) ∙ now.before.next_long;
   next = next;
-  first_long = x.first_long;
+  first_long = now.before.first_long;
   from = from;
   each = each;
   all = all;
@@ -139,30 +147,31 @@ closed_closing s h p k c n records closes lt number covered stored x = record {
     next q less = elim (cases_eq q p) [
       | inl is ↦ (
           let P : ℕ → Type 0 = λ r. slice_index (slice_set c.next p (n + 1)) r ≡ count_of is_closing (did h p k) r in
-          let long = x.next_long in
-          let here = get_or-set_same c.next p (n + 1) 0 (omega arith) in
+          let long = now.before.next_long in
+          let here = get_or-set_same c.next p (n + 1) 0 (omega (arith, now.mine)) in
           let sum = count_did is_closing h p k in
-          let one = ap (λ (b : Bool). cond {A = ℕ} b 1 0) closes in
+          let one = ap (λ (b : Bool). cond {A = ℕ} b 1 0) now.closes in
+          let number = now.number in
           subst P (sym is) (omega arith))
-      | inr isnt ↦ get_or-set_other c.next p q (n + 1) 0 isnt ∙ x.next q less
+      | inr isnt ↦ get_or-set_other c.next p q (n + 1) 0 isnt ∙ now.before.next q less
           ∙ sym (count_others is_closing h p k q isnt)
     ]
 
     front : interval_at (did h p k) p (length h) ≡ n
-    front = ap (λ (xs : List Event). count_of is_closing xs p) (take-append_seam h (event p k ∷ [])) ∙ sym number
+    front = ap (λ (xs : List Event). count_of is_closing xs p) (take-append_seam h (event p k ∷ [])) ∙ sym now.number
 
     is_new : IsPlaced (did h p k) p n c.pushed
-    is_new = subst₂ (IsPlaced (did h p k) p) (sym number) (sym x.count) (placed_now h (event p k) closes)
+    is_new = subst₂ (IsPlaced (did h p k) p) (sym now.number) (sym now.before.count) (placed_now h (event p k) now.closes)
 
     from : (j : KeptInterval) → Has (c.kept ++ new ∷ []) j → slice_index c.first j.interval.owner ≤ j.interval.number
     from j has = elim (push_cases c.kept new has.0 j has.1) [
-      | inl old ↦ x.from j (has.0, old.1)
-      | inr last ↦ subst (λ (y : KeptInterval). slice_index c.first y.interval.owner ≤ y.interval.number) last.1 covered
+      | inl old ↦ now.before.from j (has.0, old.1)
+      | inr last ↦ subst (λ (y : KeptInterval). slice_index c.first y.interval.owner ≤ y.interval.number) last.1 now.covered
     ]
 
     each : (j : KeptInterval) → Has (c.kept ++ new ∷ []) j → IsPlaced (did h p k) j.interval.owner j.interval.number j.place
     each j has = elim (push_cases c.kept new has.0 j has.1) [
-      | inl old ↦ placed_longer h (event p k ∷ []) j.interval.owner j.interval.number j.place (x.each j (has.0, old.1))
+      | inl old ↦ placed_longer h (event p k ∷ []) j.interval.owner j.interval.number j.place (now.before.each j (has.0, old.1))
       | inr last ↦ subst (λ (y : KeptInterval). IsPlaced (did h p k) y.interval.owner y.interval.number y.place) last.1 is_new
     ]
 
@@ -173,7 +182,7 @@ closed_closing s h p k c n records closes lt number covered stored x = record {
       | inl old ↦ (
           let less = old.0 in
           let same = count_of-front is_closing h (event p k ∷ []) i q (omega arith) in
-          let j = x.all q i old.1 (omega arith) in (
+          let j = now.before.all q i old.1 (omega arith) in (
             j.0,
             (
               j.1.0,
@@ -196,25 +205,25 @@ closed_closing s h p k c n records closes lt number covered stored x = record {
         → AreIntervalContents s (did h p k) j.interval.owner j.interval.number j.interval.records
     contents j has = elim (push_cases c.kept new has.0 j has.1) [
       | inl old ↦ interval_contents_on s h (event p k ∷ []) j.interval.owner j.interval.number j.interval.records
-          (kept_interval_number h j (x.each j (has.0, old.1))) (x.contents j (has.0, old.1))
+          (kept_interval_number h j (now.before.each j (has.0, old.1))) (now.before.contents j (has.0, old.1))
       | inr last ↦ subst (λ (y : KeptInterval). AreIntervalContents s (did h p k)
           y.interval.owner y.interval.number y.interval.records) last.1
-          (contents_closing s h p k p n records closes stored)
+          (contents_closing s h p k p n records now.closes now.stored)
     ]
 
     below : (j : KeptInterval) → Has c.kept j → j.place < c.pushed
     below j has =
-        let old = x.each j has in
+        let old = now.before.each j has in
         let within = count_by-within (λ (e : Event). is_closing e.kind) h old.at
         (event j.interval.owner old.closes.kind) old.closes.does old.closes.closes in
         let place = old.before in
-        let count = x.count in
+        let count = now.before.count in
         omega arith
 
     rising : InOrder (λ (a b : KeptInterval). a.place < b.place) (c.kept ++ new ∷ [])
     rising y z a b less at to = elim (push_cases c.kept new z b to) [
       | inl two ↦ elim (push_cases c.kept new y a at) [
-        | inl one ↦ x.rising y z a b less one.1 two.1
+        | inl one ↦ now.before.rising y z a b less one.1 two.1
         | inr one ↦ absurd (omega (arith, one.0, two.0))
       ]
       | inr two ↦ elim (push_cases c.kept new y a at) [

@@ -32,7 +32,7 @@ use Rattle.book.proofs.Parts.Each.{each_set, each_is_at}
 use Rattle.book.proofs.Parts.Mail.{idle_mail}
 use Rattle.book.proofs.Parts.LastAndCounts.{awaits_idle, awaited_last_on, awaited_last_now}
 use Rattle.book.proofs.Parts.Stamps.{stamp_others, stamp_closing, stamp_taking}
-use Rattle.book.proofs.Parts.ClosedIntervals.{closed_closing}
+use Rattle.book.proofs.Parts.ClosedIntervals.{IsClosing, closed_closing}
 use Rattle.interval.proofs.News.BetweenUnchanged.{closings_between-pushed}
 
 -- whose number is found is a processor
@@ -151,9 +151,15 @@ module _ (s : Sizes) (h : List Event) (b : State) (p : ℕ) (told : Represents s
         → AreIntervalContents s h p (count_of is_closing h p) records
         → AreClosed s (did h p k) (pushed b.closed (book_open_interval b p records))
     closed_now k records closes stored =
-        closed_closing s h p k b.closed (slice_index (time_of b p) p) records closes lt own_time_number
-        (told.within p p (time_of b p) (slice_get-get_or b.times p [] timed))
-        (subst (λ n. AreIntervalContents s h p n records) (sym own_time_number) stored) told.closed
+        let now : IsClosing s h p k b.closed (slice_index (time_of b p) p) records = record {
+          closes = closes;
+          mine = lt;
+          number = own_time_number;
+          covered = told.within p p (time_of b p) (slice_get-get_or b.times p [] timed);
+          stored = subst (λ n. AreIntervalContents s h p n records) (sym own_time_number) stored;
+          before = told.closed;
+        } in
+        closed_closing now
 
     pub times_within_closing : DropsOnlyCoveredIntervals b.closed.first (slice_set b.times p (tick (time_of b p) p))
     times_within_closing =

@@ -97,28 +97,35 @@ module _ (s : Sizes) (h : List Event) (b : State) (p : ℕ) (told : Represents s
       })
       (times_tight_closing s h b p told lt) is
 
--- p takes over this timestamp, and what everyone covers then is trimmed
-pub told_taking : (s : Sizes) (h : List Event) (b : State) (p : ℕ) → Represents s h b → p < s.processors → (k : Kind)
-    → MayFollow s h (event p k) → (c : State) → AreAfter s (did h p k) c → is_closing k ≡ false → (u : List ℕ)
-    → IsStamp s.processors h (Brings h p k) u
-    → c ≡ record (book_joined b p k u) {
-      locks = record b.locks { locks = c.locks.locks };
-      barrier = c.barrier;
-      flags = c.flags;
-      transit = c.transit;
-    }
-    → Represents s (did h p k) (book_trimmed c)
-told_taking s h b p told lt k may c after quiet u brings is =
-    told_event s h b p told lt k may (book_trimmed c) (after_trimmed s (did h p k) c after)
+-- p does this, which takes over the timestamp u, and the book is c then
+pub record IsTaking (s : Sizes) (h : List Event) (b : State) (p : ℕ) (k : Kind) (u : List ℕ) (c : State) : Type 0 where
+  pub told : Represents s h b
+  pub mine : p < s.processors
+  pub may : MayFollow s h (event p k)
+  pub quiet : is_closing k ≡ false
+  pub brings : IsStamp s.processors h (Brings h p k) u
+  pub after : AreAfter s (did h p k) c
+  pub is : c ≡ record (book_joined b p k u) {
+    locks = record b.locks { locks = c.locks.locks };
+    barrier = c.barrier;
+    flags = c.flags;
+    transit = c.transit;
+  }
+
+-- what everyone covers then is trimmed
+pub told_taking : {s : Sizes} {h : List Event} {b : State} {p : ℕ} {k : Kind} {u : List ℕ} {c : State}
+    → IsTaking s h b p k u c → Represents s (did h p k) (book_trimmed c)
+told_taking {s} {h} {b} {p} {k} {u} {c} now =
+    told_event s h b p now.told now.mine k now.may (book_trimmed c) (after_trimmed s (did h p k) c now.after)
     (trimmed_by b.closed times (length times)) times (timed_trimmed s (did h p k) b.closed times timed)
-    (λ more. timed_trimmed_tight s (did h p k) b.closed times timed (omega arith)) (ap book_trimmed is)
+    (λ more. timed_trimmed_tight s (did h p k) b.closed times timed (omega arith)) (ap book_trimmed now.is)
   where
     times : List (List ℕ)
     times = slice_set b.times p (join (time_of b p) u)
 
     timed : AreTimed s (did h p k) b.closed times
     timed = record {
-      closed = closed_quiet s h p k b.closed quiet told.closed;
-      times = times_taking s h b p told lt k u quiet brings;
-      within = times_within_taking s h b p told lt u;
+      closed = closed_quiet s h p k b.closed now.quiet now.told.closed;
+      times = times_taking s h b p now.told now.mine k u now.quiet now.brings;
+      within = times_within_taking s h b p now.told now.mine u;
     }

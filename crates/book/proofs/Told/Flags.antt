@@ -31,7 +31,7 @@ use Rattle.book.proofs.Parts.Flags.{flag_kept, flags_kept, flag_set}
 use Rattle.book.proofs.Parts.BarrierStages.{barrier_kept}
 use Rattle.book.proofs.Parts.LastAndCounts.{unlike}
 use Rattle.book.proofs.Parts.TimesAndAwaits.{is_processor, idle_awaits_none, awaits_none_no_mail, own_time_stamp, follows, old_notices}
-use Rattle.book.proofs.Told.Events.{told_closing, told_taking}
+use Rattle.book.proofs.Told.Events.{IsTaking, told_closing, told_taking}
 use Rattle.book.proofs.Told.Locks.{locks_kept}
 
 -- the event closes its interval, and neither locks nor the barrier know of it
@@ -136,21 +136,7 @@ pub told_signal : (s : Sizes) (h : List Event) (b : State) (p f : ℕ) (t : List
     → slice_get b.awaits p ≡ Some (Some (Await f)) → slice_get b.flags f ≡ Some (Some t)
     → Represents s (did h p (Await f)) (book_trimmed (book_joined b p (Await f) t))
 told_signal s h b p f t told waits set =
-    told_taking s h b p told (is_processor s h b p (Some (Await f)) told waits) (Await f) may
-    (book_joined b p (Await f) t)
-    (record {
-      locks = locks_kept s h p (Await f) b.locks.locks (λ l e. absurd cc) (λ l e. absurd cc) (λ l e. absurd cc)
-          (λ l i ask. absurd (cc ((last_unique h p last.0 i (Watch f) (Ask l) last.1 ask).1))) told.locks;
-      barrier = barrier_kept s h p (Await f) b.barrier refl refl told.barrier;
-      flags = flags_kept s h p (Await f) b.flags (λ g e. absurd cc) told.flags;
-      transit = each_own s.processors (IsMail s h) (IsMail s (did h p (Await f))) b.transit p told.transit
-          (λ r o isnt at is. mail_kept s h p (Await f) may r isnt o (λ m e. absurd cc) (λ e. absurd cc) is)
-          (λ o at is. subst (λ x. IsMail s (did h p (Await f)) p x) (watching_mail s h p last.0 f o last.1 is)
-          (own_mail_none s h p (Await f) (λ m e. absurd cc) (λ e. absurd cc)));
-      notices = λ r m u at now. told.notices r m u at
-          (sym (slice_get-set_other b.times p r (join (time_of b p) t) (apart r m at)) ∙ now);
-    })
-    refl t flag.1 refl
+    told_taking now
   where
     last : (i : ℕ) × LastIs h p i (Watch f)
     last = last_flag_watch h p f (told.awaits.each p (Some (Await f)) waits)
@@ -165,6 +151,28 @@ told_signal s h b p f t told waits set =
     apart r m at is =
         let P : ℕ → Type 0 = λ x. slice_get b.transit x ≡ Some (Some m) in
         none-some m (watching_mail s h p last.0 f (Some m) last.1 (told.transit.each p (Some m) (subst P is at)))
+
+    now : IsTaking s h b p (Await f) t (book_joined b p (Await f) t)
+    now = record {
+      told = told;
+      mine = is_processor s h b p (Some (Await f)) told waits;
+      may = may;
+      quiet = refl;
+      brings = flag.1;
+      after = record {
+        locks = locks_kept s h p (Await f) b.locks.locks (λ l e. absurd cc) (λ l e. absurd cc) (λ l e. absurd cc)
+            (λ l i ask. absurd (cc ((last_unique h p last.0 i (Watch f) (Ask l) last.1 ask).1))) told.locks;
+        barrier = barrier_kept s h p (Await f) b.barrier refl refl told.barrier;
+        flags = flags_kept s h p (Await f) b.flags (λ g e. absurd cc) told.flags;
+        transit = each_own s.processors (IsMail s h) (IsMail s (did h p (Await f))) b.transit p told.transit
+            (λ r o isnt at is. mail_kept s h p (Await f) may r isnt o (λ m e. absurd cc) (λ e. absurd cc) is)
+            (λ o at is. subst (λ x. IsMail s (did h p (Await f)) p x) (watching_mail s h p last.0 f o last.1 is)
+            (own_mail_none s h p (Await f) (λ m e. absurd cc) (λ e. absurd cc)));
+        notices = λ r m u at now. told.notices r m u at
+            (sym (slice_get-set_other b.times p r (join (time_of b p) t) (apart r m at)) ∙ now);
+      };
+      is = refl;
+    }
 
 -- who waits for a flag may go on exactly where it is set
 pub flag_signal_ready : (s : Sizes) (h : List Event) (b : State) (p f : ℕ) (o : Option (List ℕ)) → Represents s h b

@@ -226,33 +226,43 @@ released_lock_free s h p l well held q after = elim (holds_cases h (event p (Rel
   | inr new ↦ absurd (cc (ap (λ e. e.kind) new))
 ]
 
+-- p releases a lock that it holds: who stands in its line then, and its timestamp then
+record IsReleased (s : Sizes) (h : List Event) (p l : ℕ) (xs u : List ℕ) : Type 0 where
+  well : WellFormed s h
+  may : MayFollow s h (event p (Release l))
+  idle : IsIdle h p
+  held : Holds h p l
+  line : IsLine (did h p (Release l)) l xs
+  time : IsStamp s.processors (did h p (Release l))
+      (UpToSome (did h p (Release l)) (SomeDoes (did h p (Release l)) (Release l))) u
+
 -- everyone's mail after a release
-mail_released : (s : Sizes) (h : List Event) (c : State) (p l : ℕ) (xs u : List ℕ) → WellFormed s h
-    → MayFollow s h (event p (Release l)) → IsIdle h p → Holds h p l → IsLine (did h p (Release l)) l xs
-    → IsStamp s.processors (did h p (Release l))
-    (UpToSome (did h p (Release l)) (SomeDoes (did h p (Release l)) (Release l))) u
+mail_released : (s : Sizes) (h : List Event) (c : State) (p l : ℕ) (xs u : List ℕ) → IsReleased s h p l xs u
     → EachAt s.processors (IsMail s h) c.transit
     → EachAt s.processors (IsMail s (did h p (Release l))) (book_mail_passed c xs u)
-mail_released s h c p l [] u well may idle held lock_line time all =
+mail_released s h c p l [] u now all =
     each_own s.processors (IsMail s h) (IsMail s (did h p (Release l))) c.transit p all
-    (λ r o isnt at is. released_mail s h p l r [] o may isnt lock_line (none-some r) is)
-    (λ o at is. own_mail_idle s h p (Release l) o idle (λ m e. absurd cc) (λ e. absurd cc) is)
-mail_released s h c p l (q ∷ xs) u well may idle held lock_line time all =
+    (λ r o isnt at is. released_mail s h p l r [] o now.may isnt now.line (none-some r) is)
+    (λ o at is. own_mail_idle s h p (Release l) o now.idle (λ m e. absurd cc) (λ e. absurd cc) is)
+mail_released s h c p l (q ∷ xs) u now all =
     each_set s.processors (IsMail s h) (IsMail s (did h p (Release l))) c.transit q (Some (book_grant c q u))
     all others
     (record {
       kind = Acquire l;
       lets = tt;
-      allowed = allowed_first_in_line (did h p (Release l)) q l (q ∷ xs) (released_lock_free s h p l well held) refl lock_line;
-      time = time;
+      allowed =
+          allowed_first_in_line (did h p (Release l)) q l (q ∷ xs) (released_lock_free s h p l now.well now.held) refl
+          now.line;
+      time = now.time;
     })
   where
     others : (r : ℕ) (o : Option Letter) → r ≢ q → slice_get c.transit r ≡ Some o → IsMail s h r o
         → IsMail s (did h p (Release l)) r o
     others r o isnt at is = elim (cases_eq r p) [
       | inl own ↦ (let P : ℕ → Type 0 = λ x. IsMail s h x o → IsMail s (did h p (Release l)) x o in
-          subst P (sym own) (own_mail_idle s h p (Release l) o idle (λ m e. absurd cc) (λ e. absurd cc)) is)
-      | inr apart ↦ released_mail s h p l r (q ∷ xs) o may apart lock_line (λ e. isnt (sym (same_Some q r e))) is
+          subst P (sym own) (own_mail_idle s h p (Release l) o now.idle (λ m e. absurd cc) (λ e. absurd cc)) is)
+      | inr apart ↦
+          released_mail s h p l r (q ∷ xs) o now.may apart now.line (λ e. isnt (sym (same_Some q r e))) is
     ]
 
 -- the notices of messages that were there, and of the one that is posted
@@ -286,7 +296,8 @@ told_release s h b p l records told range idle held stored =
       barrier = barrier_kept s h p (Release l) b.barrier refl refl told.barrier;
       flags = flags_kept s h p (Release l) b.flags (λ f e. absurd cc) told.flags;
       transit = mail_released s h (book_closed_by b p (Release l) records) p l (lock_at b.locks l).queue now
-          told.well_formed may free held line_now time told.transit;
+          (record { well = told.well_formed; may = may; idle = free; held = held; line = line_now; time = time })
+          told.transit;
       notices = λ r m t at read. passed_notices (book_closed_by b p (Release l) records) (lock_at b.locks l).queue
           now r m t at read
           (λ there. old_notices s h b p told lt records r m t (awaits_none_no_mail s h b p told idle r m there) there read);

@@ -38,7 +38,7 @@ use Rattle.book.proofs.Parts.Flags.{flags_kept}
 use Rattle.book.proofs.Parts.BarrierStages.{barrier_kept, barrier_departed}
 use Rattle.book.proofs.Parts.LastAndCounts.{unlike}
 use Rattle.book.proofs.Parts.TimesAndAwaits.{is_processor}
-use Rattle.book.proofs.Told.Events.{told_taking}
+use Rattle.book.proofs.Told.Events.{IsTaking, told_taking}
 use Rattle.book.proofs.Told.Locks.{lock_kept, lock_taken}
 use Rattle.book.proofs.Told.Flags.{last_flag_watch, watching_mail, told_signal, flag_signal_ready}
 
@@ -123,18 +123,7 @@ module _ (s : Sizes) (h : List Event) (b : State) (p : ℕ) (told : Represents s
   told_take : (k : Kind) (m : Letter) → slice_get b.awaits p ≡ Some (Some k)
       → slice_get b.transit p ≡ Some (Some m) → Represents s (did h p k) (book_taken b p k m)
   told_take k m waits mail =
-      told_taking s h b p told lt k may (book_received b p k m)
-      (record {
-        locks = each_kept s.locks (IsLock s.processors h) (IsLock s.processors (did h p k)) b.locks.locks told.locks
-            (λ l x at is. taking_lock s h p k l x lets.0 lets.1 is);
-        barrier = taking_barrier k lt lets.0 lets.1;
-        flags = flags_kept s h p k b.flags (λ f. other (Set f) refl) told.flags;
-        transit = each_set s.processors (IsMail s h) (IsMail s (did h p k)) b.transit p None told.transit
-            (λ r o isnt at is. mail_kept s h p k may r isnt o (λ l. other (Release l) refl) (other Arrive refl) is)
-            (own_mail_none s h p k (λ l. other (Ask l) refl) (other Arrive refl));
-        notices = notices;
-      })
-      quiet m.time lets.2 refl
+      told_taking now
     where
       lt : p < s.processors
       lt = is_processor s h b p (Some k) told waits
@@ -160,6 +149,26 @@ module _ (s : Sizes) (h : List Event) (b : State) (p : ℕ) (told : Represents s
         | inr isnt ↦ told.notices r n t (sym (slice_get-set_other b.transit p r None isnt) ∙ at)
             (sym (slice_get-set_other b.times p r (join (time_of b p) m.time) isnt) ∙ now)
       ]
+
+      now : IsTaking s h b p k m.time (book_received b p k m)
+      now = record {
+        told = told;
+        mine = lt;
+        may = may;
+        quiet = quiet;
+        brings = lets.2;
+        after = record {
+          locks = each_kept s.locks (IsLock s.processors h) (IsLock s.processors (did h p k)) b.locks.locks told.locks
+              (λ l x at is. taking_lock s h p k l x lets.0 lets.1 is);
+          barrier = taking_barrier k lt lets.0 lets.1;
+          flags = flags_kept s h p k b.flags (λ f. other (Set f) refl) told.flags;
+          transit = each_set s.processors (IsMail s h) (IsMail s (did h p k)) b.transit p None told.transit
+              (λ r o isnt at is. mail_kept s h p k may r isnt o (λ l. other (Release l) refl) (other Arrive refl) is)
+              (own_mail_none s h p k (λ l. other (Ask l) refl) (other Arrive refl));
+          notices = notices;
+        };
+        is = refl;
+      }
 
   -- who waits for a grant or a departure may go on exactly where its message is there
   mail_ready : (k : Kind) (o : Option Letter) → slice_get b.awaits p ≡ Some (Some k) → ComesByMail k

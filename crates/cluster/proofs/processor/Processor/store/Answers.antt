@@ -57,8 +57,8 @@ returns-clause-ok g c = record {
   at = (read g (goal.at.returns-clause-ok g c).After-index_mut).0;
   after =
       let place = c.in_ok-page.ensures.place in
-      store_noted_done _ _ _ _ _ _ _ _ _ _ c.self.view_is place.0 place.1 c.store.ensures c.push_reserved.ensures.items
-      c.add.ensures;
+      store_noted_done c.args.address c.args.value c.index_mut.result.now c.self.view_is place.0 place.1 c.store.ensures
+      c.push_reserved.ensures.items c.add.ensures;
 }
 
 pub invariant_of-self : goal.invariant_of-self
@@ -66,8 +66,7 @@ invariant_of-self g c =
     let r = read g (goal.at.invariant_of-self g c).After-index_mut in
     let place = c.in_ok-page.ensures.place in
     let after =
-    store_noted_done _ c.args.self.now c.args.address c.args.value _ _ c.index_mut.result.now _ _ _ c.self.view_is place.0
-    place.1 c.store.ensures c.push_reserved.ensures.items c.add.ensures in
+    store_noted_done c.args.address c.args.value c.index_mut.result.now c.self.view_is place.0 place.1 c.store.ensures c.push_reserved.ensures.items c.add.ensures in
     let sound =
     stored _ c.args.address c.args.value _ (sym c.in_ok-page.ensures.refused) r.0
     (subst IsSound c.self.view_is c.self.invariant.0) in (
