@@ -32,7 +32,7 @@ AreOpenRecords s h p records = AreIntervalContents s h p (count_of is_closing h 
 abbrev pub NewLaw : Type 0
 NewLaw = (s : Sizes) → 0 < s.processors → Represents s [] (new_book s)
 
--- a block that is handed in, also by one who waits if it is empty
+-- a block that is handed in, also by a processor that waits, if it is empty
 abbrev pub HandInLaw : Type 0
 HandInLaw = (s : Sizes) (h block : List Event) (b : State) (p : ℕ) → Represents s h b → AllowsBlock s b p block
     → Represents s (h ++ block) (book_handed_in b block)
@@ -78,7 +78,7 @@ pub record IsMessage (s : Sizes) (h : List Event) (b : State) (p : ℕ) (k : Kin
   pub time : IsStamp s.processors h (Brings h p k) m.time
   pub notices : m.notices ≡ closings_between b.closed (time_of b p) m.time
 
--- what has come for one who waits
+-- what has come for a processor that waits
 abbrev pub MessageLaw : Type 0
 MessageLaw = (s : Sizes) (h : List Event) (b : State) (p : ℕ) (k : Kind) (m : Letter) → Represents s h b
     → slice_get b.awaits p ≡ Some (Some k) → message_for b p k ≡ Some m

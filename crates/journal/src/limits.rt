@@ -1,4 +1,4 @@
-//! The limits of the product. Contracts name them too (`most_processors` and so on, of lists' specs/Limits).
+//! The limits of the product. Contracts name them too (`most_processors` and so on, of base/specs/Limits).
 
 /// Processors of a cluster.
 pub const MOST_PROCESSORS: usize = 16;

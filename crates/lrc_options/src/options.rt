@@ -66,13 +66,13 @@ pub struct TraceOptions {
     pub lax: bool,
 }
 
-/// The tries where none are given.
+/// The tries if none are given.
 pub(crate) const DEFAULT_TRIES: u64 = 1_000_000;
 
-/// The seeds where none are given.
+/// The seeds if none are given.
 pub(crate) const DEFAULT_SEEDS: u32 = 1000;
 
-/// The states where no number is given.
+/// The states if no number is given.
 pub(crate) const DEFAULT_MOST: u32 = 1_000_000;
 
 /// How a script is to be run.

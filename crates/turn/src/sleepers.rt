@@ -7,7 +7,7 @@
 //! that hasn't begun by then doesn't begin, since the kernel finds another word.
 //!
 //! The kernel compares the low half of a word. So no thread sleeps on a low half that its own number has: a sleep never
-//! begins once the number is there, whatever the word was before. The two differ anyway where a lock has fewer than 2^32
+//! begins once the number is there, whatever the word was before. The two differ anyway if a lock has fewer than 2^32
 //! chairs, since the word is behind the number by at most the number of chairs.
 //!
 //! A sleep may also end for no reason, or by a wake that is for another thread at the same word. Then the thread looks, and

@@ -16,9 +16,9 @@ impl<T: BookTurn> Cluster<T> {
     /// from then on it waits for the lock until a [`take`](Cluster::take) succeeds.
     ///
     /// The first of these that applies: [`BadLock`](Refused::BadLock) past the last lock,
-    /// [`Waiting`](Refused::Waiting) where it waits already, [`AlreadyHeld`](Refused::AlreadyHeld),
-    /// [`SeatSpent`](Refused::SeatSpent) where it has entered the book as often as it may; else
-    /// [`JournalFull`](Refused::JournalFull) exactly where the journal would have more than 2^20 events, or
+    /// [`Waiting`](Refused::Waiting) if it waits already, [`AlreadyHeld`](Refused::AlreadyHeld),
+    /// [`SeatSpent`](Refused::SeatSpent) if it has entered the book as often as it may; else
+    /// [`JournalFull`](Refused::JournalFull) exactly if the journal would have more than 2^20 events, or
     /// [`NoMemory`](Refused::NoMemory). A refused call leaves the processor as it was, but that it may have seen
     /// more of the journal.
     pub fn ask<R: Wait>(

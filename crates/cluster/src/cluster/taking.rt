@@ -32,8 +32,8 @@ impl<T: BookTurn> Cluster<T> {
     /// It costs what it is sent.
     ///
     /// The first of these that applies: [`NothingAwaited`](Refused::NothingAwaited),
-    /// [`SeatSpent`](Refused::SeatSpent), [`NotYet`](Refused::NotYet) exactly where that hasn't come yet;
-    /// else [`JournalFull`](Refused::JournalFull) exactly where the journal has 2^20 events, or
+    /// [`SeatSpent`](Refused::SeatSpent), [`NotYet`](Refused::NotYet) exactly if that hasn't come yet;
+    /// else [`JournalFull`](Refused::JournalFull) exactly if the journal has 2^20 events, or
     /// [`NoMemory`](Refused::NoMemory). A refused call leaves the processor as it was, but that it may have seen
     /// more of the journal.
     pub fn take<R: Wait>(&self, rt: &R, processor: &mut Processor<T>) -> Result<(), Refused>
@@ -74,8 +74,8 @@ fn receive(book: &mut Book, p: usize, replicas: &mut Vec<Replica>) -> Result<Mes
     receive_ready(book, p, replicas)
 }
 
-/// The same where that has come. Where the journal is full nothing is taken, so no growth is tried. It is called, since
-/// whoever comes too early would else set up all its locals.
+/// The same if that has come. If the journal is full nothing is taken, so no growth is tried. It is called, since
+/// otherwise an early take pays for these locals.
 #[inline(never)]
 fn receive_ready(book: &mut Book, p: usize, replicas: &mut Vec<Replica>) -> Result<Message, Refused>
     requires call { AllowsSomeTake book.old p }

@@ -34,7 +34,7 @@ impl<T: BookTurn> Promise<Result<Processor<T>, Cause>> for SectionWalked<T> {
     ghost kept_by = { λ p r. IfOk r (λ m. Walks p.was.value m p.section.value.items) };
 }
 
-/// A processor's thread, where it could be started. Contracts see it as what it was started with.
+/// A processor's thread, if it could be started. Contracts see it as what it was started with.
 #[derive(Drop)]
 struct Thread<T: BookTurn> {
     handle: Option<PromisedHandle<Result<Processor<T>, Cause>, SectionWalked<T>>>,
