@@ -1,4 +1,4 @@
--- When a call of the book may be made: what some history that tells the book says.
+-- When a call of the book may be made: by some history that the book represents.
 use Rattle.std.specs.Prelude.{ℕ, ◌≡◌, ◌≢◌, ◌<◌, ◌≤◌, false, Option, List, [], Some, None, length, slice_get, slice_index, slice_index_or, slice_set}
 use Rattle.journal.specs.declared.event.Event.{Event}
 use Rattle.journal.specs.declared.event.Kind.{Kind}
@@ -60,7 +60,7 @@ pub record IsProcessor (b : State) (p : ℕ) : Type 0 where
   pub by : IsToldBySome b
   pub processor : p < by.sizes.processors
 
--- some history tells the book, and p waits for this
+-- the book represents some history, and p waits for this
 pub record AllowsTake (b : State) (p : ℕ) (k : Kind) : Type 0 where
   pub by : IsToldBySome b
   pub waits : slice_get b.awaits p ≡ Some (Some k)

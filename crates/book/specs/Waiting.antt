@@ -24,7 +24,7 @@ pub record WaitsInVain (b : State) (p : ℕ) : Type 0 where
   pub waits : slice_get b.awaits p ≡ Some (Some kind)
   pub come : message_has_come b.flags b.transit p kind ≡ false
 
--- some history that ends with this closing event of p tells the book
+-- the book represents some history that ends with this closing event of p
 pub record HasClosed (b : State) (p : ℕ) (k : Kind) : Type 0 where
   pub sizes : Sizes
   pub history : List Event

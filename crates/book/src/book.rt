@@ -260,7 +260,7 @@ impl Book {
 
     /// Takes what `processor` waits for: its grant, its departure, or the signal of its flag as the flag stands now,
     /// with what it is to perform. NotYet exactly if that hasn't come: if `processor` isn't ready in any history
-    /// that tells the book. Else JournalFull exactly if the journal would have more than 2^20 events.
+    /// that the book represents. Else JournalFull exactly if the journal would have more than 2^20 events.
     /// Intervals that everyone has performed are dropped then; a refused call drops none.
     pub fn take(&mut self, processor: usize) -> Result<Message, Refused>
         requires call { AllowsSomeTake self.old processor }
@@ -356,7 +356,7 @@ impl Book {
 
     /// Whom `processor` has let go on by this event, with which it has just closed its interval: who holds the lock
     /// next that it released, all that wait for the departure if it completed the episode, all that wait for the flag
-    /// that it set. Of the others nobody has begun to be ready by this event. It takes no memory. It costs nothing
+    /// that it set. No other processor becomes ready by this event. It takes no memory. It costs nothing
     /// after an ask, a watch, and an arrival that completes nothing, and the same however many processors there are
     /// after a release.
     pub fn let_on(&self, processor: usize, kind: Kind) -> Waiters

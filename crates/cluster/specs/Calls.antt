@@ -10,7 +10,7 @@ use Rattle.cluster.specs.Refusals.{flush_refusal}
 use Rattle.cluster.specs.Entering.{EnteredAndDid}
 use Rattle.cluster.specs.Covers.{HasCoverage, IsAllowed}
 
--- all is the same, but that lists of missing records may have memory for more
+-- all is the same, except that lists of missing records may have memory for more
 pub record IsSameAfterCall (m n : Local) : Type 0 where
   pub copies : AreSameCopies m.copies n.copies
   pub same : n ≡ record m { copies = n.copies }

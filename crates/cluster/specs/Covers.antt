@@ -15,7 +15,7 @@ use Rattle.cluster.specs.Copies.PageReplica.{Copied}
 use Rattle.cluster.specs.Copies.Local.{Local, calls}
 use Rattle.cluster.specs.KeptViews.{LockInvariant, view_having_seen}
 
--- the lock may have a book that is told by this history, with what p has seen at p's place
+-- the lock may have a book that represents this history, with what p has seen at p's place
 pub record LockAllows (m : Local) (h : List Event) : Type 0 where
   pub book : State
   pub views : List View

@@ -90,7 +90,7 @@ impl Bell {
         }
     }
 
-    /// Sleeps until it is told, or for no reason for a shorter time. If it was told, it doesn't sleep.
+    /// Sleeps until it is told; it may wake earlier for no reason. If it was told, it doesn't sleep.
     fn sleep<R: Wait>(&self, rt: &R) {
         let _found = self
             .word
@@ -128,7 +128,7 @@ impl Bells {
         }
     }
 
-    /// These are ready: they wait in vain no more. Called inside the book, by whoever let them go on.
+    /// These are ready: they wait in vain no more. Called inside the book, by the processor that let them go on.
     pub(crate) fn ready(&self, waiters: Waiters) {
         for p in waiters {
             if let Some(bell) = self.bells.get(p) {
@@ -137,7 +137,7 @@ impl Bells {
         }
     }
 
-    /// Tells these. Called after leaving the book, by whoever let them go on.
+    /// Tells these. Called after leaving the book, by the processor that let them go on.
     pub(crate) fn tell(&self, waiters: Waiters) {
         for p in waiters {
             if let Some(bell) = self.bells.get(p) {

@@ -1,4 +1,4 @@
--- Fetches of a script's run: none is made but for the access right after it.
+-- Fetches of a script's run: each is made right before an access that wants its page.
 use Rattle.std.specs.Prelude.{ℕ, ◌≡◌, ◌/◌, List, [], ◌∷◌}
 use Rattle.journal.specs.declared.event.Event.{Event}
 use Rattle.journal.specs.declared.event.Kind.{Kind}

@@ -69,7 +69,7 @@ pub trait Runs {
         ensures stuck { IfErr result (λ fault. fault.cause ≡ cause.Stuck
             → IsStuckByTurns (plan_of script.now) (turn_orders (plan_of script.now) seed) fault.processor) };
 
-    /// Runs the script as `step` does, but that a run that can't go on is no fault: it answers the journal so far.
+    /// Runs the script as `step` does, except that a run that can't go on is no fault: it answers the journal so far.
     fn step_as_far<R: Wait>(
         &self,
         rt: &R,

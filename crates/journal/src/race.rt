@@ -246,7 +246,7 @@ impl Accesses {
 /// too; only if these are unordered, the last one of each processor is looked at. The least first place is
 /// looked for once, at the end.
 ///
-/// An access takes a constant time, but for unordered loads; such a load, and an event of a lock, a flag or the
+/// An access takes a constant time, except for unordered loads; such a load, and an event of a lock, a flag or the
 /// barrier, takes time in the order of the processors, and for a lock or a flag of a number from 1024 on the
 /// logarithm of how many of these occur besides. It takes memory in the order of the addresses, the locks and
 /// flags that occur and the open episodes, times the processors, and a table of 64 KiB at most for the locks

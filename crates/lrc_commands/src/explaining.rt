@@ -117,7 +117,7 @@ pub fn explain_program<T: Runs, R: Wait, S: Read, W: Write, E: Write>(
         (S.remaining source.old) (W.contents out.old) (W.contents out.new) }
     // What is refused as a script is none.
     ensures refused { result ≡ 2 → IsNoScript (S.remaining source.old) }
-    // But for status 4, a run is told whole or not at all.
+    // At any status but 4, a run is told whole or not at all.
     ensures early { result ≢ 0 → result ≢ 3 → result ≢ 4
         → Keeps (W.contents out.old) (W.contents out.new) }
     // Of a run that ended, no line goes to the error output.

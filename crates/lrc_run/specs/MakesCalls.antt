@@ -53,7 +53,7 @@ pub record MadeCalls (old new : Local) (kinds : List Kind) : Type 0 where
   pub wanted : AreCallsWanted old → AreCallsWanted new
   pub uncut : new.own_cut ≡ old.own_cut
 
--- the same, but that it may have cut something off if this is so
+-- the same, except that it may have cut something off if this is so
 pub record MakesBut (cuts : Type 0) (old new : Local) (kinds : List Kind) : Type 0 where
   pub same : IsSameProcessor old new
   pub sees : SeesMoreCalls old new

@@ -67,7 +67,7 @@ pub fn step_with<T: BookTurn + Drop, R: Wait>(
     }
 }
 
-/// The same with the array lock, but that a script that can't go on is no fault: then it answers the journal so far.
+/// The same with the array lock, except that a script that can't go on is no fault: then it answers the journal so far.
 pub fn step_as_far<R: Wait>(
     rt: &R,
     alloc: Global,

@@ -24,7 +24,7 @@ impl<T: BookTurn> Cluster<T> {
     /// answered as ever. [`Deserted`](Waited::Deserted) if each processor waits so or has [`ended`](Cluster::end).
     ///
     /// The only refusal is [`SeatSpent`](Refused::SeatSpent), exactly if it awaits something and has entered the book
-    /// as often as it may. The processor stays as it was, but that it may have seen more of the journal.
+    /// as often as it may. The processor stays as it was, except that it may have seen more of the journal.
     pub fn wait<R: Wait>(&self, rt: &R, processor: &mut Processor<T>) -> Result<Waited, Refused>
         requires own { processor.old.lock ≡ self.now.lock }
         ensures { IsWaitingCall processor.old processor.new result }
@@ -39,7 +39,7 @@ impl<T: BookTurn> Cluster<T> {
     }
 
     /// Says that the processor with this number makes no more calls, so that nobody waits for it in vain: a thread that
-    /// ends early says it, and who could not start one. It waits for nothing, enters nothing and takes no memory.
+    /// ends early says it, and code that could not start one. It waits for nothing, enters nothing and takes no memory.
     pub fn end(&self, processor: usize) {
         self.bells.end(processor);
     }
