@@ -57,7 +57,7 @@ impl Closed {
         requires fits { self.old.pushed < 2 ^ 64 - 1 }
         ensures ok { OnOk result (self.new ≡ pushed self.old interval) }
 
-        // Who is not to perform the interval is sent what was sent before.
+        // A processor that isn't to perform the interval is sent what was sent before.
         ensures same_news { OnOk result ((old new : List ℕ) → slice_index new interval.owner ≤ interval.number
             → closings_between self.new old new ≡ closings_between self.old old new) }
         ensures err { OnErr result (self.new ≡ self.old) }
@@ -190,7 +190,7 @@ impl Closed {
         requires { owner < length self.old.first }
         ensures value { self.new ≡ trimmed self.old owner to }
 
-        // Who has performed the intervals that are dropped is sent what was sent before.
+        // A processor that has performed the dropped intervals is sent what was sent before.
         ensures same_news { (old new : List ℕ) → to ≤ slice_index old owner
             → closings_between self.new old new ≡ closings_between self.old old new }
     {

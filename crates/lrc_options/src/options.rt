@@ -14,7 +14,7 @@ pub enum Commands {
 pub enum Asked {
     /// A script is to be run, by `run` or `step`.
     Script(Options),
-    /// A run of a script by turns is to be told, by `explain`.
+    /// A run of a script by turns is to be explained, by `explain`.
     Explain(ExplainOptions),
     /// A script is to be run by turns under many seeds, by `sample`.
     Sample(SampleOptions),
@@ -24,7 +24,7 @@ pub enum Asked {
     Trace(TraceOptions),
 }
 
-/// Which run of a script is to be told, and how.
+/// Which run of a script is to be explained, and how.
 #[derive(Drop)]
 pub struct ExplainOptions {
     /// The file to read the script from, or None for standard input.

@@ -6,7 +6,7 @@ use clap::error::ErrorKind;
 use clap::{Command, Error};
 use std::alloc::{AllocError, Global};
 
-/// Each command with each option that it has. Of the commands that have an option the first one is told.
+/// Each command with each option that it has. Of the commands that have an option the first one is named.
 const OPTIONS: [(&str, &str); 13] = [
     ("run", "--tries"),
     ("run", "--lock"),

@@ -262,7 +262,7 @@ impl<B, K: Keeper<B>, W: Board, const ENTRIES: u64> TurnLock<B, K, W, ENTRIES> {
         W::pass::<_, _, _, _, StepOut<M>>(&self.table.shared, seat, self.layout.seats, number);
     }
 
-    // Wakes whoever sleeps at the next number's word. It comes after the step 'leave': who sleeps is looked for last.
+    // Wakes the thread that sleeps at the next number's word. It comes after the step 'leave': sleepers are looked for last.
     fn wake_next_turn(&self, number: u64)
         requires { number + 1 < 2 ^ 64 }
     {

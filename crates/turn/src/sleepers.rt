@@ -17,7 +17,7 @@ use std::sync::atomic::AtomicU64;
 use std::sync::atomic::Ordering::SeqCst;
 
 /// How many threads sleep, or are about to. The count stands beside the lock's table, and no rule speaks of it. It has a
-/// cache line of its own, which whoever leaves reads.
+/// cache line of its own, which each leave reads.
 #[derive(Drop)]
 pub struct Sleepers {
     count: CachePadded<AtomicU64>,

@@ -160,7 +160,7 @@ fn start_threads<'s, 'x: 's, T: BookTurn + Send + Drop, R: Threads + Wait + Sync
 
 /// Moves each processor into a thread of its own, which walks the processor's section, and waits for all threads:
 /// what came of the processors, in their order. [`Thread`](Cause::Thread) came of one whose thread couldn't be
-/// started; the others go their way.
+/// started; the others run on.
 pub(super) fn walk_all<'x, T: BookTurn + Send + Drop, R: Threads + Wait + Sync, G: Gate + Sync>(
     rt: &'x R,
     alloc: Global,
