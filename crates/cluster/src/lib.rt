@@ -4,7 +4,7 @@
 //!
 //! **What contracts see.** A `Processor` is a `Local` (specs/Copies/Local): its lock and entries, number, sizes, what
 //! it has seen of the journal, its open block, copies, marks, timestamp, locks held and what it waits for. A `Cluster`
-//! is a `Shared`: its lock and sizes. What the book's lock keeps is `LockInvariant`.
+//! is a `SharedCluster`: its lock and sizes. What the book's lock keeps is `LockInvariant`.
 //!
 //! **What is proved.** The accesses: the answer and each refusal exactly. The calls that enter: `IsCall`. After each,
 //! `HasCoverage`: what holds of the processor in every journal that the lock allows; `allowed_law`: there is one.

@@ -1,4 +1,4 @@
-//! When a history of events follows a script, and what a run of a script is: definitions, laws of them, and the trait
+//! When a history of events follows a script, and what a run of a script is: definitions, their laws, faults, and the trait
 //! `Runs` of what runs scripts.
 //!
 //! **What contracts see.** A history follows a script's plan (`Follows`) if each processor's calls, its fetches
