@@ -5,7 +5,7 @@
 //!   of numbers below 64 as the list of 64 marks.
 //! - `harvest` and `clean` are what a closing call does to the copies, `make_room` and `learn` what a taking one does
 //!   (specs/Copies/MarksAndHarvests, specs/Copies/AfterNews). If memory is refused, nothing but room has changed.
-//! - The laws of what calls do to a processor (`Local`, specs/Copies/Local) stand in proofs/Copies.
+//! - The laws of what calls do to a processor (`Local`, specs/Copies/Local) stand in proofs/copies.
 
 mod harvesting;
 mod learning;
