@@ -18,7 +18,7 @@ pub const MOST_FLAGS: usize = 32;
 /// Events of a processor's open block.
 pub const MOST_IN_BLOCK: usize = 256;
 
-/// Events of a journal, but for what `finish` hands in.
+/// Events of a journal, except what `finish` hands in.
 pub const MOST_EVENTS: usize = 1 << 20;
 
 /// Events that a journal can hold: those, what `finish` hands in, and room to spare.

@@ -13,7 +13,7 @@ use base::MOST_PROCESSORS;
 pub(crate) struct Episodes {
     /// How often each processor has arrived.
     arrivals: [u32; MOST_PROCESSORS],
-    /// How many events there are up to the last arrival of the last complete episode; None where no episode is
+    /// How many events there are up to the last arrival of the last complete episode; None if no episode is
     /// complete.
     pub(crate) last: Option<usize>,
 }
