@@ -6,3 +6,4 @@ pub mod Script
 pub mod Recomputing
 pub mod Fetchless
 pub mod Fetches
+pub mod Schedules

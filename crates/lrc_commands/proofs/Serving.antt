@@ -7,6 +7,7 @@ use Rattle.lrc_explain.specs.declared.fault.ExplainFault.{ExplainFault}
 use Rattle.lrc_explain.specs.declared.fault.ExplainFault.TheVariants as explain
 use Rattle.lrc_explain.specs.Texts.{ExplainUnwritten}
 use Rattle.lrc_program.specs.Served.{IsNoScript, IsRead}
+use Rattle.lrc_options.specs.declared.options.ExplainOptions.{ExplainOptions}
 use Rattle.lrc_commands.specs.declared.fault.StudyFault.{StudyFault}
 use Rattle.lrc_commands.specs.Explained.{IsExplained, IsRunTold}
 use Rattle.lrc_commands.specs.Sampled.{IsSampleWritten, IsSampled}
@@ -21,12 +22,14 @@ sampled_by runs script source old new (Ok x) read written = record { script = sc
 sampled_by runs script source old new (Err fault) read written = tt
 
 -- it was explained
-pub explained_by : {A : Type 0} (picture : Bool) (seed : Option ℕ) (script : Plan) (source old new : Option (List ℕ))
+pub explained_by : {A : Type 0} (picture : Bool) (o : ExplainOptions) (script : Plan)
+    (source old new : Option (List ℕ))
     (result : Result (Option A) StudyFault) → IsRead source script
-    → IfOk result (λ line. IsRunTold picture (is_some line) seed script old new)
-    → IfOk result (λ line. IsExplained picture (is_some line) seed source old new)
-explained_by picture seed script source old new (Ok line) read told = record { script = script; read = read; run = told }
-explained_by picture seed script source old new (Err fault) read told = tt
+    → IfOk result (λ line. IsRunTold picture (is_some line) o script old new)
+    → IfOk result (λ line. IsExplained picture (is_some line) o source old new)
+explained_by picture o script source old new (Ok line) read told =
+    record { script = script; read = read; run = told }
+explained_by picture o script source old new (Err fault) read told = tt
 
 -- its schedules were looked at
 pub searched_by : (most : ℕ) (script : Plan) (source old new : Option (List ℕ)) (result : Result Bool StudyFault)

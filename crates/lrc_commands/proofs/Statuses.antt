@@ -42,6 +42,7 @@ program_small : (fault : ProgramFault) → status_of fault ≤ 5
 program_small (program.Words reason) = omega arith
 program_small (program.Unreadable reason) = omega arith
 program_small (program.Script line fault) = omega arith
+program_small (program.Schedule turn misfit) = omega arith
 program_small (program.Run fault) = cause_small fault.cause
 program_small program.Output = omega arith
 program_small program.NoMemory = omega arith

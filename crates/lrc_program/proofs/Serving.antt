@@ -3,13 +3,12 @@ use Rattle.std.proofs.Common.{ℕ, Bool, List, Option, Result, Ok, Err, OnOk}
 use Rattle.std.specs.Prelude.{IfErr}
 use Rattle.lrc_report.specs.declared.report.Report.{Report}
 use Rattle.lrc_script.specs.Plan.{Plan}
-use Rattle.conformance.specs.declared.cause.RunFault.{RunFault}
 use Rattle.lrc_program.specs.declared.fault.ProgramFault.{ProgramFault}
 use Rattle.lrc_program.specs.Served.{IsNoScript, IsPrinted, IsRead, IsServed}
 use Rattle.lrc_program.specs.Statuses.{IsScripts}
 
 -- its report was written
-pub served_by : {A : Type 0} (asked : Plan → Result Report RunFault → Type 0) (journal : Bool) (script : Plan)
+pub served_by : {A : Type 0} (asked : Plan → Report → Type 0) (journal : Bool) (script : Plan)
     (source old new : Option (List ℕ)) (result : Result A ProgramFault) → IsRead source script
     → OnOk result (IsPrinted asked journal script old new) → OnOk result (IsServed asked journal source old new)
 served_by asked journal script source old new (Ok x) read printed = record {

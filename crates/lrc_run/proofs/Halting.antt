@@ -32,6 +32,7 @@ use Rattle.conformance.specs.Ends.{IsJournalSoFar}
 use Rattle.conformance.specs.declared.progress.TurnProgress.{TurnProgress}
 use Rattle.conformance.specs.declared.progress.TurnProgress.TheVariants.{Next, Passed, Waits}
 use Rattle.conformance.specs.Turns.{instruction_at}
+use Rattle.lrc_run.specs.Endings.{IsJournalWith}
 use Rattle.lrc_run.specs.Steps.{AreOnTheirWay, IsAt}
 use Rattle.lrc_run.specs.Turns.{SeesDeadlock}
 use Rattle.lrc_run.specs.Walks.{AreWanted, made, new_at}
@@ -134,11 +135,6 @@ deadlock_last s h front well_formed (e ∷ rest, is) stuck =
     ∙ ap (slice_get (front ++ e ∷ rest)) (sym none) ∙ slice_get-append_right front (e ∷ rest) 0 in
     let before : take (length front) h ≡ front = ap (take (length front)) is ∙ take-append_seam front (e ∷ rest) in
     absurd (deadlock_law s front e stuck (subst (λ es. MayFollow s es e) before (well_formed (length front) e at)))
-
--- the journal so far is of the script, and its history has the calls of these processors
-pub record IsJournalWith (s : Plan) (j : Log) (ms : List Local) : Type 0 where
-  pub is : IsJournalSoFar s j
-  pub each : (p : ℕ) (m : Local) → slice_get ms p ≡ Some m → HasCallsOf is.history m
 
 -- the journal of a finished cluster whose processors are on their way
 pub halted_is : (s : Plan) (c : Shared) (ms : List Local) (all : List TurnProgress) (j : Log) → IsLawful s → c.sizes ≡ plan_sizes s

@@ -6,5 +6,6 @@ pub mod Orders
 pub mod Endings
 pub mod Laws
 pub mod Faults
+pub mod Scheduled
 pub mod Threads
 pub mod Prelude

@@ -34,4 +34,7 @@ pub use gate::{Gate, Open, Stopped};
 pub use on_cluster::OnCluster;
 pub use orders::order;
 pub use running::{run, run_with};
-pub use steps::{step, step_as_far, step_as_far_with, step_with};
+pub use steps::{
+    step, step_as_far, step_as_far_with, step_by, step_by_with, step_drawn, step_drawn_with,
+    step_with,
+};
